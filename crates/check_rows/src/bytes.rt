@@ -1,4 +1,4 @@
-//! Each byte of two certificates, one of each version, set to each other value.
+//! Sets each byte of two certificates, one of each version, to each other value.
 
 use crate::given::{RESOLE, RESOLE_ROWS, STRIP, environment, program, resole_text, strip_text};
 use dp_cert::decode;
@@ -7,7 +7,7 @@ use dp_lang::print;
 use dp_model::{Entry, Env};
 use std::test::Fail;
 
-/// Whether a text of so many rows is refused, or the program is accepted with it as it stands.
+/// Whether a text of `n` rows is refused, or the program is accepted with it.
 fn is_harmless(
     rt: &HostRuntime,
     node: &str,
@@ -32,7 +32,7 @@ fn is_harmless(
     }
 }
 
-/// How many of the texts with another byte at these places do harm.
+/// How many of the texts with another byte at these offsets do harm.
 fn harmful(
     rt: &HostRuntime,
     node: &str,
@@ -65,7 +65,7 @@ fn harmful_to_strip(rt: &HostRuntime, from: usize, to: usize) -> Result<u64, Fai
     harmful(rt, STRIP, text.as_str(), 6, from, to)
 }
 
-/// The same of resole's, which has a sharing group.
+/// The same for resole's, which has a sharing group.
 fn harmful_to_resole(rt: &HostRuntime, from: usize, to: usize) -> Result<u64, Fail> {
     let text = resole_text(rt, "dpv-cert 2\n", RESOLE_ROWS[1].0)?;
     harmful(rt, RESOLE, text.as_str(), 9, from, to)

@@ -36,7 +36,7 @@ const STRIP_ROWS: [(&str, &str); 6] = [
     ("01", "0000"),
 ];
 
-/// Clones a packet, frees the clone and stores to the packet, which is sole again.
+/// Clones a packet, frees the clone, and stores to the packet, which is sole again.
 pub const RESOLE: &str =
     "clone p1,p0,0,d\nfree p1\niflen p0,1,d\nset r1,7\nstore p0,0,1,r1\ntx p0,r0,d\nexit\nd: free p0\nexit\n";
 
@@ -53,7 +53,7 @@ pub const RESOLE_ROWS: [(&str, &str); 9] = [
     ("01", "0007"),
 ];
 
-/// A fact that promises nothing but a packet.
+/// A fact that says only that there is a packet.
 const ANY_PACKET: Fact = Fact::Held {
     share: 0,
     head: 0,
@@ -63,7 +63,7 @@ const ANY_PACKET: Fact = Fact::Held {
     segs: 64,
 };
 
-/// One pool, one table, one ring and one port that takes packets of so many segments.
+/// One pool, one table, one ring and one port whose packets have at most `segs` segments.
 pub fn environment(segs: u32) -> Result<Env, Fail> {
     Ok(Env::new(
         &[PoolSpec {
@@ -84,7 +84,7 @@ pub fn environment(segs: u32) -> Result<Env, Fail> {
     )?)
 }
 
-/// Two pools, of which the second has buffers without room, and two ports.
+/// Two pools, the second with buffers without room, and two ports.
 pub fn two_ports() -> Result<Env, Fail> {
     let pools = [
         PoolSpec {
@@ -111,12 +111,12 @@ pub fn program(rt: &HostRuntime, text: &str) -> Result<Program, Fail> {
     Ok(assemble(rt.alloc(), text.as_bytes())?)
 }
 
-/// The certificate of a text, at port 0.
+/// The certificate inferred for a text, at port 0.
 pub fn inferred(rt: &HostRuntime, text: &str, env: &Env) -> Result<Cert, Fail> {
     Ok(infer(rt.alloc(), &program(rt, text)?, env, Entry::Port(0))?)
 }
 
-/// The rule for which there is no certificate at port 0, or 0.
+/// The rule by which inference fails at port 0, or 0.
 pub fn missing(rt: &HostRuntime, text: &str, env: &Env) -> Result<u8, Fail> {
     match infer(rt.alloc(), &program(rt, text)?, env, Entry::Port(0)) {
         Ok(_) => Ok(0),
@@ -133,8 +133,8 @@ pub fn refusal(program: Program, cert: Cert, env: &Env, entry: Entry) -> Option<
     }
 }
 
-/// The text of a certificate with this first line, whose rows begin with these digits: what is known of p0, p1 and so on.
-/// The last four digits of r1's bound come with them, and all others are zeros.
+/// The text of a certificate with this first line, and rows that begin with these digits: the facts of p0, p1 and so on. The last four digits of r1's
+/// bound are given with them, and all others are zeros.
 pub fn cert_text(rt: &HostRuntime, head: &str, rows: &[(&str, &str)]) -> Result<String, Fail> {
     let mut text = String::from_str(rt.alloc(), head)?;
     for (packets, bound) in rows {
@@ -151,7 +151,7 @@ pub fn cert_text(rt: &HostRuntime, head: &str, rows: &[(&str, &str)]) -> Result<
     Ok(text)
 }
 
-/// Strip's certificate, where one row may have other digits.
+/// Strip's certificate, with other digits in one row.
 pub fn strip_text(rt: &HostRuntime, label: usize, digits: &str) -> Result<String, Fail> {
     let mut rows = STRIP_ROWS;
     if label < 6 {
@@ -167,7 +167,7 @@ pub fn resole_text(rt: &HostRuntime, head: &str, digits: &str) -> Result<String,
     cert_text(rt, head, rows.as_slice())
 }
 
-/// The line and the cause for which a text of n rows is no certificate, or nothing.
+/// The line and the cause for which a text is no certificate of n rows, or nothing.
 pub fn fault(rt: &HostRuntime, text: &[u8], n: usize) -> Option<(usize, u8)> {
     match decode(rt.alloc(), text, n) {
         Ok(_) => None,

@@ -81,7 +81,7 @@ fn a_raised_certificate_serves_as_well(rt: HostRuntime) -> Result<(), Fail> {
     Ok(())
 }
 
-/// After one of three packets of a group is sent, the other two are loose: a store to one of them is refused.
+/// After one of three packets of a group is sent, the other two are loose: storing to one of them is refused.
 #[test]
 fn a_sent_packet_dissolves_its_group(rt: HostRuntime) -> Result<(), Fail> {
     let env = environment(1)?;
@@ -100,7 +100,7 @@ fn a_sent_packet_dissolves_its_group(rt: HostRuntime) -> Result<(), Fail> {
     Ok(())
 }
 
-/// A loop that clones a packet, frees the clone and stores to the packet: it is sole again each time.
+/// A loop that clones a packet, frees the clone and stores to the packet, which is sole again each time.
 #[test]
 fn a_packet_is_sole_again_in_a_loop(rt: HostRuntime) -> Result<(), Fail> {
     let env = environment(1)?;

@@ -85,27 +85,27 @@ fn the_longest_program(rt: HostRuntime) -> Result<(), Fail> {
 fn loops_get_certificates(rt: HostRuntime) -> Result<(), Fail> {
     let env = environment(64)?;
     for text in [
-        // to itself
+        // jumps to itself
         "a: jmp a\n",
         // a bound that grows up to a test
         "set r1,0\na: add r1,1\njlt r1,257,a\ntx p0,r0,d\nexit\nd: free p0\nexit\n",
         "set r1,0\na: add r1,1\njlt r1,258,a\ntx p0,r0,d\nexit\nd: free p0\nexit\n",
         // two of them, one inside the other
         "set r1,0\na: set r2,0\nb: add r2,3\njlt r2,50,b\nadd r1,1\njlt r1,9,a\nfree p0\nexit\n",
-        // bytes at a place that grows
+        // bytes at an offset that grows
         "iflen p0,64,d\nset r1,0\na: loadx r2,p0,r1,0,1\nstorex p0,r1,0,1,r2\nadd r1,1\njlt r1,64,a\nd: free p0\nexit\n",
         // a packet that gets shorter
         "a: iflen p0,14,d\nadj p0,14\njmp a\nd: free p0\nexit\n",
-        // and one that gets longer, by a test
+        // one that gets longer, by a test
         "a: ifhead p0,4,d\nprepend p0,4\nstore p0,0,4,r1\njmp a\nd: free p0\nexit\n",
         // tries until there is a buffer
         "a: alloc p1,0,a\nfree p1\nfree p0\nexit\n",
-        // clones until there is none
+        // clones until it is refused
         "a: clone p1,p0,0,d\nfree p1\njmp a\nd: free p0\nexit\n",
-        // into a list until it takes the packet
+        // tries until the list takes the packet
         "a: tx p0,r0,a\nexit\n",
         "a: enq p0,0,b\nexit\nb: jmp a\n",
-        // back to a label that control did not come to before
+        // back to a label that control had not reached before
         "jmp b\na: free p0\nexit\nb: iflen p0,1,a\njmp a\n",
         // look-ups
         "set r1,5\na: lookup r1,0,r1,d\njmp a\nd: free p0\nexit\n",
@@ -127,7 +127,7 @@ fn loops_get_certificates(rt: HostRuntime) -> Result<(), Fail> {
 #[test]
 fn the_longest_loops(rt: HostRuntime) -> Result<(), Fail> {
     let env = environment(1)?;
-    // each label leads back to the first, with a bound of its own
+    // each label leads back to the first, with its own bound
     let mut text = String::from_str(rt.alloc(), "a: set r1,0\n")?;
     for k in 1..1021 {
         text.push_str(if k % 2 == 0 {

@@ -1,5 +1,5 @@
-//! Worked examples of the texts of programs, of certificates, of the checker and of the inferrer, as tests over the four crates,
-//! so that they cost those no time.
+//! Tests of programs' texts, of certificates, of the checker and of the inferrer: worked examples in a crate of their own, so that changing them does
+//! not prove the four crates again.
 #![tactic(auto)]
 
 #[cfg(test)]

@@ -1,11 +1,11 @@
-//! What the inferrer finds for programs that come back to labels.
+//! What the inferrer finds for programs with loops.
 
 use crate::given::{cert_text, environment, inferred, missing, program, refusal};
 use dp_cert::{Cert, encode};
 use dp_model::Entry;
 use std::test::Fail;
 
-/// A loop as one would write it, and the rule for which no certificate is found, or 0.
+/// A loop as one would write it, and the rule by which inference fails, or 0.
 struct Loop {
     does: &'static str,
     node: &'static str,
@@ -56,7 +56,7 @@ static LOOPS: [Loop; 14] = [
              add r1,1\njlt r1,64,a\ntx p1,r0,b\nd: free p0\nexit\nb: free p1\njmp d\n",
         rule: 0,
     },
-    // the bounds say nothing of numbers that are even
+    // bounds cannot say that numbers are even
     Loop {
         does: "adds up the words of a header",
         node: "iflen p0,20,d\nset r1,0\na: loadx r3,p0,r1,0,2\nadd r2,r3\nadd r1,2\njlt r1,20,a\nd: free p0\nexit\n",
@@ -78,13 +78,13 @@ static LOOPS: [Loop; 14] = [
         node: "iflen p0,16,d\nset r1,16\na: sub r1,1\nand r1,15\nloadx r2,p0,r1,0,1\njeq r1,0,d\njmp a\nd: free p0\nexit\n",
         rule: 0,
     },
-    // where two numbers differ, nothing is known of either
+    // a test for unequal numbers says nothing about either
     Loop {
         does: "goes up to a number from the packet",
         node: "iflen p0,255,d\nload r1,p0,0,1\nset r2,0\na: jeq r2,r1,d\nloadx r3,p0,r2,0,1\nadd r2,1\njmp a\nd: free p0\nexit\n",
         rule: 6,
     },
-    // no number of segments stays
+    // no number of segments is stable
     Loop {
         does: "chains four buffers",
         node: "set r1,0\na: alloc p1,0,d\nchain p0,p1\nadd r1,1\njlt r1,4,a\nd: free p0\nexit\n",
@@ -104,7 +104,7 @@ fn loops_as_one_would_write_them(rt: HostRuntime) -> Result<(), Fail> {
 /// Counts to 257 before it sends.
 const COUNT: &str = "set r1,0\na: add r1,1\njlt r1,257,a\ntx p0,r0,d\nexit\nd: free p0\nexit\n";
 
-/// The rows of its certificate: r1 is at most 256 before it grows, and 257 from then on.
+/// The rows of its certificate: r1 is at most 256 before it grows, and 257 after.
 const COUNT_ROWS: [(&str, &str); 7] = [
     ("010102008000000000000001", "0000"),
     ("010102008000000000000001", "0100"),

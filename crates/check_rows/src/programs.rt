@@ -1,10 +1,10 @@
-//! Texts of programs: what they read as, how they are printed, and their faults.
+//! Texts of programs: how they read, how they print, and their faults.
 
 use dp_lang::{AsmError, assemble, print};
 use dp_model::Instr;
 use std::test::*;
 
-/// The line and the cause of a text, (0, 0) where it is a program.
+/// The line and the cause of a text; (0, 0) where it is a program.
 fn fault(rt: &HostRuntime, text: &str) -> (usize, u8) {
     match assemble(rt.alloc(), text.as_bytes()) {
         Ok(_) => (0, 0),
@@ -35,7 +35,7 @@ fn strip_reads_as_its_instructions(rt: HostRuntime) -> Result<(), Fail> {
     Ok(())
 }
 
-/// Programs as a person writes them, and as they are printed.
+/// Programs as a person writes them, and as they print.
 #[test]
 fn programs_are_printed(rt: HostRuntime) -> Result<(), Fail> {
     let forward = (
@@ -65,7 +65,7 @@ fn programs_are_printed(rt: HostRuntime) -> Result<(), Fail> {
     Ok(())
 }
 
-/// Each of the 32 forms, with the greatest numbers that it has.
+/// Each of the 32 forms, with the largest numbers that it has.
 #[test]
 fn every_form_comes_back(rt: HostRuntime) -> Result<(), Fail> {
     let text =
@@ -84,7 +84,7 @@ fn every_form_comes_back(rt: HostRuntime) -> Result<(), Fail> {
 #[test]
 fn faults_have_a_line_and_a_cause(rt: HostRuntime) {
     let cases = [
-        // a byte counts in a comment too, and before all else
+        // a byte in a comment counts too, and before everything else
         ("exit # \x01", (1, 1)),
         ("exit\n\x7fzz p9,,:", (2, 1)),
         ("exit # \t~\r", (0, 0)),
@@ -93,7 +93,7 @@ fn faults_have_a_line_and_a_cause(rt: HostRuntime) {
         ("Exit", (1, 2)),
         ("jmp a:b", (1, 2)),
         ("exit\nfoo p9", (2, 2)),
-        // how many operands
+        // numbers of operands
         ("exit p0", (1, 3)),
         ("free", (1, 3)),
         ("free p0,", (1, 3)),
@@ -136,7 +136,7 @@ fn faults_have_a_line_and_a_cause(rt: HostRuntime) {
         ("  tx p0 , r0,x", (1, 8)),
         ("exit\njmp x\njmp y", (2, 8)),
         ("tx p0,r0,d\nd:", (1, 8)),
-        // a later line with a fault of its own comes before an unknown label
+        // a fault of a later line's own comes before an unknown label
         ("jmp x\nfree p9", (2, 4)),
         ("", (0, 9)),
         ("# nothing\n\na:\n", (0, 9)),
@@ -149,7 +149,7 @@ fn faults_have_a_line_and_a_cause(rt: HostRuntime) {
     }
 }
 
-/// A text of so many instructions, all `exit`.
+/// A text of `count` instructions, all `exit`.
 fn exits(rt: &HostRuntime, count: usize) -> Result<String, Fail> {
     let mut text = String::new(rt.alloc());
     for _ in 0..count {

@@ -14,7 +14,7 @@ use dp_lang::Program;
 use dp_model::{Entry, Env, Row};
 use std::test::Fail;
 
-/// The refusal of a program with the certificate of another.
+/// The refusal of a program with another program's certificate.
 fn with_that_of(
     rt: &HostRuntime,
     text: &str,
@@ -134,14 +134,14 @@ fn each_rule_once(rt: HostRuntime) -> Result<(), Fail> {
     Ok(())
 }
 
-/// Whether a certificate can have these rows.
+/// Whether a certificate may have these rows.
 fn are_well_formed(rows: &[Row]) -> bool
     ensures { result ≡ list_all is_well_formed_row rows.now }
 {
     rows.iter().all(|row| row.is_well_formed())
 }
 
-/// The certificate of these rows, if there is one.
+/// The certificate of these rows, if they are well formed.
 fn cert_of(rows: Vec<Row>) -> Option<Cert> {
     if are_well_formed(&rows) {
         Some(Cert::new(rows))
@@ -150,7 +150,7 @@ fn cert_of(rows: Vec<Row>) -> Option<Cert> {
     }
 }
 
-/// The certificate of one row, the entry's.
+/// A certificate of one row, the entry's.
 fn entry_cert(rt: &HostRuntime, env: &Env) -> Result<Option<Cert>, Fail> {
     let mut rows = Vec::new(rt.alloc());
     if let Some(row) = env.entry_row(Entry::Port(0)) {
@@ -230,7 +230,7 @@ fn places_that_are_not_there(rt: HostRuntime) -> Result<(), Fail> {
     Ok(())
 }
 
-/// What a check hands out, of a program that it accepts.
+/// The length of an accepted program, as the check hands it out.
 fn accepted_length(
     program: Program,
     cert: Cert,

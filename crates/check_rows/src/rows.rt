@@ -1,4 +1,4 @@
-//! What follows from facts and rows, and what instructions leave of them, on known values.
+//! Entailment of facts and rows, and rows after instructions, with known values.
 
 use dp_check::{Leads, entails, fact_entails, leads_of, owns_head, reshared, shares_group};
 use dp_model::{
@@ -29,12 +29,12 @@ fn rows_are_compared(rt: HostRuntime) {
     assert!(rt; !entails(&higher, &entry));
 }
 
-/// The row that is known at the next instruction after one in the first row of strip.
+/// The row after an instruction in the first row of strip.
 fn row_after(instr: Instr) -> Option<Row> {
     next_row(&at_port(), instr)
 }
 
-/// The row that is known at the next instruction after one in this row.
+/// The row after an instruction in this row.
 fn next_row(row: &Row, instr: Instr) -> Option<Row> {
     let pools = [PoolSpec {
         count: 64,
@@ -113,7 +113,7 @@ fn groups_are_compared(rt: HostRuntime) {
     }
 }
 
-/// A clone of one register's packet into another.
+/// An instruction that clones one register's packet into another.
 fn clone(into: PacketRegister, from: PacketRegister) -> Instr {
     Instr::Clone {
         into,
@@ -123,7 +123,7 @@ fn clone(into: PacketRegister, from: PacketRegister) -> Instr {
     }
 }
 
-/// What a clone, a free and a send leave of shares.
+/// How a clone, a free and a send change shares.
 #[test]
 fn groups_come_and_go(rt: HostRuntime) {
     let p0 = PacketRegister::new(0);

@@ -1,3 +1,3 @@
--- The lemma files.
+-- Lists the lemma files.
 pub mod Objects
 pub mod Packets

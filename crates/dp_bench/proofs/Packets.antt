@@ -1,4 +1,4 @@
--- Packets that come and go, and rounds that leave all as it was.
+-- Packets that come and go, and rounds that leave everything as it was.
 use Rattle.std.proofs.Common.{◌≡◌, ℕ, zero, suc, ◌+◌, ◌-◌, ◌/◌, ◌<◌, ◌≤◌, false, List, [], ◌∷◌, length, Option, Some, None, refl, sym, ◌∙◌, ap, ap₂}
 use Rattle.std.proofs.Common.{subst, arith, get_or}
 use Rattle.std.specs.Prelude.{max, replicate, slice_get, slice_set}
@@ -16,7 +16,7 @@ use Rattle.dp_mbuf.specs.Objects.{present, PoolsFirst, pool_in, zones_of}
 use Rattle.dp_mbuf.specs.Mbufs.{MbufsView, AreReady, IsNew}
 use Rattle.dp_bench.specs.Mbufs.{HasFront, HasRoom, IsReadyPool, IsOnePool}
 
--- ---- a place that is filled and emptied
+-- ---- a slot that is filled and emptied
 
 put_back : (xs : List (Option Packet)) (h : ℕ) (o x : Option Packet) → slice_get xs h ≡ Some o → slice_set (slice_set xs h x) h o ≡ xs
 put_back [] h o x is = refl
@@ -28,7 +28,7 @@ get_put [] h o x is = absurd (none-some o is)
 get_put (y ∷ xs) zero o x is = refl
 get_put (y ∷ xs) (suc h) o x is = get_put xs h o x is
 
--- what is given is live, and once it is given up the packets are as before
+-- what is allocated is live, and once it is freed the packets are as before
 module _ (s s' : Store) (pool need h : ℕ) (packet : List Number → Packet) (Changes : List Number → Buffers → Buffers →
     Type 0) (g : Gives s pool need packet Changes s' (Some h)) where
   given_live : IsLive s' h
@@ -74,7 +74,7 @@ module _ (s s' : Store) (pool h : ℕ) (bytes : List ℕ) (g : ReceivesInto s po
 pub needs_one : (s : Store) → HasRoom s → needed s.pools 0 60 ≡ 1
 needs_one s room = ap (λ r. max 1 ((60 + (r - 128 - 1)) / (r - 128))) room
 
--- ---- bytes in front
+-- ---- prepending bytes
 
 longer : (k : Packet) (n : ℕ) → 0 < n → n ≤ headroom k → n ≤ first_len (at_front (more_before n) k)
 longer [] n some le = absurd (omega (arith, some, le))
@@ -112,7 +112,7 @@ pub head_sole : (live : List Segment) (k : Packet) (r : ℕ) → ((s : Segment) 
 head_sole live [] r f one = tt
 head_sole live (s ∷ k) r f one = sym (f s refl) ∙ one
 
--- ---- what rests on packets alone
+-- ---- what depends on packets alone
 
 pub live_kept : (s s' : Store) (h : ℕ) → s'.slots ≡ s.slots → IsLive s h → IsLive s' h
 live_kept s s' h e live = (live.0, ap (λ l. slice_get l h) e ∙ live.1, tt)
@@ -152,7 +152,7 @@ ready_one home p r = record {
 pub new_room : (p : PoolView) (v : MbufsView) → IsNew (one_of p) v → p.size ≡ 2304 → HasRoom v.store
 new_room p v new size = ap (λ ps. room_at ps 0) new.pools_are ∙ ap (λ n. n - 128) size
 
--- the only pool that comes back stands in the first slot
+-- the only pool that comes back is in the first slot
 
 all_none : (xs : List (Option PoolView)) → AllByRecursion (λ o. o ≡ None) xs → xs ≡ replicate (length xs) None
 all_none [] all = refl
@@ -178,7 +178,7 @@ back_one region p (Some q ∷ xs) long first zones home =
     head_of [] = p.zones
     head_of (z ∷ zs) = z
 
--- a packet that was taken goes when the others are as before
+-- a packet that was allocated is freed when the others are as before
 pub returned : (s s1 s2 s3 : Store) (pool h : ℕ) → Allocates s pool s1 (Some h) → s2.slots ≡ s1.slots → s2.pools ≡ s1.pools → s3 ≡ with_slot h None s2 →
     (s3.slots ≡ s.slots) × (s3.pools ≡ s.pools)
 returned s s1 s2 s3 pool h g slots pools e =

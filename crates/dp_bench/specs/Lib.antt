@@ -1,2 +1,2 @@
--- What the contracts of the rounds name.
+-- The definitions that contracts of the rounds name.
 pub mod Mbufs

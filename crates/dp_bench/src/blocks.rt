@@ -1,14 +1,14 @@
-//! Blocks of a heap.
+//! Benchmarks of a heap's blocks.
 ghost use Rattle.std.specs.Prelude.{◌≡◌, ◌≤◌};
 
 use crate::heaps::heap;
 use dp_heap::Heap;
 use std::alloc::Global;
 
-// How many bytes a block has.
+// The size of a block, in bytes.
 const SIZE: u32 = 64;
 
-// Takes a block and frees it, so many times, and answers how often there was one.
+// Takes a block and frees it, `rounds` times; returns how many succeeded.
 fn pairs(heap: &mut Heap, rounds: u32) -> u32
     ensures served { result ≤ rounds }
     ensures same { heap.new ≡ heap.old }
@@ -23,7 +23,7 @@ fn pairs(heap: &mut Heap, rounds: u32) -> u32
     served
 }
 
-// The same with so many other blocks out.
+// The same with `others` other blocks out.
 fn pairs_beside(heap: &mut Heap, others: u32, rounds: u32) -> u32
     ensures served { result ≤ rounds }
     ensures same { heap.new ≡ heap.old }

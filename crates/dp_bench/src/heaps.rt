@@ -1,4 +1,4 @@
-//! The heap in which a bench works.
+//! The heap of a benchmark.
 ghost use Rattle.std.specs.Prelude.{◌≡◌, IfSome};
 ghost use Rattle.dp_heap.specs.Elements.{count_of, is_busy};
 ghost use Rattle.dp_region.specs.Region.{IsRegionSize};
@@ -7,10 +7,10 @@ use dp_heap::Heap;
 use dp_region::Region;
 use std::alloc::Global;
 
-// How many bytes it has.
+// Its size, in bytes.
 const SIZE: u32 = 2_097_152;
 
-// A heap of so many bytes, if there is memory for it.
+// A heap of this size, if there is memory for it.
 fn heap_of(alloc: Global, size: u32) -> Option<Heap>
     requires { IsRegionSize size }
     ensures { IfSome result (λ h. count_of is_busy h.elements ≡ 0) }

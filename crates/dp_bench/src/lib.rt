@@ -1,6 +1,6 @@
-//! What the benches in C call. Each call makes a thing in memory of its own, does so many rounds of one operation on it,
-//! gives all back, and answers how many rounds did what they should: 0 where there is no memory. The cost of a round is
-//! the difference of two calls, of which only the number of rounds differs.
+//! The benchmarks that C programs call. Each call makes something in memory of its own, does `rounds` rounds of one operation on it, gives everything
+//! back, and returns how many rounds succeeded: 0 where there is no memory. The cost of a round is the difference between two calls with different
+//! numbers of rounds.
 #![tactic(auto)]
 
 mod blocks;
@@ -15,7 +15,7 @@ ghost use Rattle.std.specs.Prelude.{◌≡◌, ◌+◌, ◌≤◌, ◌⊎◌};
 
 use std::alloc::Global;
 
-/// A block of 64 bytes is taken and freed, with so many others out.
+/// Takes and frees a block of 64 bytes in each round, with `others` other blocks out.
 #[unsafe(no_mangle)]
 pub extern "C" fn dpv_blocks(alloc: Global, others: u32, rounds: u32) -> u32
     ensures { result ≤ rounds }
@@ -23,7 +23,7 @@ pub extern "C" fn dpv_blocks(alloc: Global, others: u32, rounds: u32) -> u32
     blocks::served(alloc, others, rounds)
 }
 
-/// A number goes into an empty ring of 1,024 places and comes out.
+/// Puts a number into an empty ring of 1,024 slots and takes it out.
 #[unsafe(no_mangle)]
 pub extern "C" fn dpv_ring(alloc: Global, rounds: u32) -> u32
     ensures { (result ≡ rounds) ⊎ (result ≡ 0) }
@@ -31,7 +31,7 @@ pub extern "C" fn dpv_ring(alloc: Global, rounds: u32) -> u32
     rings::moved(alloc, rings::Way::One, rounds)
 }
 
-/// 32 numbers go into an empty ring of 1,024 places and come out, all in one call.
+/// Puts 32 numbers into an empty ring of 1,024 slots and takes them out, each in one call.
 #[unsafe(no_mangle)]
 pub extern "C" fn dpv_ring_bulk(alloc: Global, rounds: u32) -> u32
     ensures { (result ≡ rounds) ⊎ (result ≡ 0) }
@@ -39,7 +39,7 @@ pub extern "C" fn dpv_ring_bulk(alloc: Global, rounds: u32) -> u32
     rings::moved(alloc, rings::Way::Bulk, rounds)
 }
 
-/// An object of a pool of 8,191 comes out and goes back, with a cache for 256 or for none.
+/// Takes an object of a pool of 8,191 and puts it back, with a cache for 256 or for none.
 #[unsafe(no_mangle)]
 pub extern "C" fn dpv_pool(alloc: Global, cached: bool, rounds: u32) -> u32
     ensures { (result ≡ rounds) ⊎ (result ≡ 0) }
@@ -47,7 +47,7 @@ pub extern "C" fn dpv_pool(alloc: Global, cached: bool, rounds: u32) -> u32
     pools::served(alloc, cached, rounds)
 }
 
-/// 32 objects of a pool of 8,191 come out and go back, each in one call, with a cache for 256.
+/// Takes 32 objects of a pool of 8,191 and puts them back, each in one call, with a cache for 256.
 #[unsafe(no_mangle)]
 pub extern "C" fn dpv_pool_bulk(alloc: Global, rounds: u32) -> u32
     ensures { result ≤ rounds }
@@ -55,9 +55,8 @@ pub extern "C" fn dpv_pool_bulk(alloc: Global, rounds: u32) -> u32
     pools::bulks(alloc, rounds)
 }
 
-/// A packet of one segment without bytes is taken from a pool with a cache for 256 and given up; the numbers 1 to 3 stand
-/// for a clone of such a packet, for 16 bytes that come in front of it and are cut off, and for a packet of 60 bytes that
-/// is received and given up.
+/// Allocates an empty packet of one segment from a pool with a cache for 256 and frees it. The numbers 1 to 3 stand for cloning such a packet, for
+/// prepending 16 bytes and cutting them off, and for receiving 60 bytes and freeing the packet.
 #[unsafe(no_mangle)]
 pub extern "C" fn dpv_mbufs(alloc: Global, deed: u32, rounds: u32) -> u32
     ensures { result ≤ rounds }
@@ -71,8 +70,8 @@ pub extern "C" fn dpv_mbufs(alloc: Global, deed: u32, rounds: u32) -> u32
     mbufs::served(alloc, deed, rounds)
 }
 
-/// A table for 65,536 rules gets `rules` random ones, is asked for `addresses` random ones, and loses the first
-/// `deletes` of its rules. It answers how many of all these calls found what they looked for.
+/// Adds `rules` random rules to a table for 65,536, looks `addresses` random addresses up, and deletes the first `deletes` of its rules.
+/// Returns how many of all these calls succeeded.
 #[unsafe(no_mangle)]
 pub extern "C" fn dpv_routes(alloc: Global, rules: u32, addresses: u32, deletes: u32) -> u64
     ensures { result ≤ rules + addresses + deletes }

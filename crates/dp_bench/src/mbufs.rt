@@ -1,4 +1,4 @@
-//! Mbufs over one pool.
+//! Benchmarks of mbufs over one pool.
 ghost use Rattle.std.specs.Prelude.{◌≡◌, ◌+◌, ◌<◌, ◌≤◌, length, true, IfSome, MatchOption};
 ghost use Rattle.dp_heap.specs.Elements.{count_of, is_busy};
 ghost use Rattle.dp_model.specs.Stores.{IsLive};
@@ -12,30 +12,30 @@ use dp_pool::Pool;
 use dp_zone::Zones;
 use std::alloc::Global;
 
-// How many objects the pool has, how many bytes each of them, and how many indexes its cache is for.
+// The number of the pool's objects, their size in bytes, and the size of its cache.
 const OBJECTS: u32 = 400;
 
 const SIZE: u32 = 2304;
 
 const CACHE: u32 = 256;
 
-// How many bytes come in front of a packet and are cut off again.
+// The bytes that are prepended and cut off again.
 const FRONT: u16 = 16;
 
-/// What is done with mbufs in a round.
+/// What a round does with mbufs.
 #[derive(Clone, Copy)]
 pub enum Deed {
-    /// A packet is taken and given up.
+    /// Allocates a packet and frees it.
     Alloc,
-    /// A clone of a packet is taken and given up.
+    /// Clones a packet and frees the clone.
     Clone,
-    /// 16 bytes come in front of a packet and are cut off.
+    /// Prepends 16 bytes to a packet and cuts them off.
     Front,
-    /// 60 bytes are received into a packet, which is given up.
+    /// Receives 60 bytes and frees the packet.
     Receive,
 }
 
-// Takes a packet and gives it up, and answers whether there was one.
+// Allocates a packet and frees it; returns whether there was one.
 #[inline(never)]
 fn taken(m: &mut Mbufs) -> bool
     requires { 0 < length m.old.store.pools }
@@ -50,7 +50,7 @@ fn taken(m: &mut Mbufs) -> bool
     }
 }
 
-// Takes a clone and gives it up, and answers whether there was one.
+// Clones a packet and frees the clone; returns whether there was one.
 #[inline(never)]
 fn cloned(m: &mut Mbufs, packet: &Packet) -> bool
     requires pools { 0 < length m.old.store.pools }
@@ -66,7 +66,7 @@ fn cloned(m: &mut Mbufs, packet: &Packet) -> bool
     }
 }
 
-// Receives bytes into a packet and gives it up, and answers whether there was one.
+// Receives bytes and frees the packet; returns whether there was one.
 #[inline(never)]
 fn received(m: &mut Mbufs, bytes: &[u8; 60]) -> bool
     requires pools { 0 < length m.old.store.pools }
@@ -82,7 +82,7 @@ fn received(m: &mut Mbufs, bytes: &[u8; 60]) -> bool
     }
 }
 
-// Puts bytes in front of a packet and cuts them off.
+// Prepends bytes to a packet and cuts them off.
 #[inline(never)]
 fn fronted(m: &mut Mbufs, packet: &Packet) -> bool
     requires { HasFront m.old.store packet.now 16 }
@@ -152,7 +152,7 @@ fn all_fronted(m: &mut Mbufs, packet: &Packet, rounds: u32) -> u32
     served
 }
 
-// Whether bytes may come in front of the packet.
+// Whether bytes can be prepended to the packet.
 fn has_front(m: &Mbufs, packet: &Packet) -> bool
     requires { IsLive m.now.store packet.now }
     ensures { result ≡ true → HasFront m.now.store packet.now 16 }
@@ -167,7 +167,7 @@ fn has_front(m: &Mbufs, packet: &Packet) -> bool
     m.headroom(packet) >= FRONT
 }
 
-// So many rounds beside a packet.
+// Does `rounds` rounds, beside a packet.
 fn served_beside(m: &mut Mbufs, packet: &Packet, deed: Deed, rounds: u32) -> u32
     requires pools { 0 < length m.old.store.pools }
     requires room { HasRoom m.old.store }
@@ -189,7 +189,7 @@ fn served_beside(m: &mut Mbufs, packet: &Packet, deed: Deed, rounds: u32) -> u32
     }
 }
 
-// The same beside a new packet, which then goes.
+// The same beside a new packet, which is then freed.
 fn served_by(m: &mut Mbufs, deed: Deed, rounds: u32) -> u32
     requires pools { 0 < length m.old.store.pools }
     requires room { HasRoom m.old.store }

@@ -1,4 +1,4 @@
-//! Pools of objects.
+//! Benchmarks of pools of objects.
 ghost use Rattle.std.specs.Prelude.{◌≡◌, ◌<◌, ◌≤◌, ◌⊎◌, true};
 ghost use Rattle.dp_heap.specs.Elements.{count_of, is_busy};
 ghost use Rattle.dp_pool.specs.Queues.{in_count};
@@ -9,12 +9,12 @@ use dp_pool::Pool;
 use dp_zone::Zones;
 use std::alloc::Global;
 
-// How many objects a pool has, and how many bytes each of them.
+// The number of a pool's objects, and their size in bytes.
 const OBJECTS: u32 = 8191;
 
 const SIZE: u32 = 64;
 
-// Takes an object and puts it back, and answers whether there was one.
+// Takes an object and puts it back; returns whether there was one.
 #[inline(never)]
 #[tactic(auto, using(crate::proofs::Objects::taken_is_out, crate::proofs::Objects::back_taken))]
 fn pair(pool: &mut Pool) -> bool
@@ -31,7 +31,7 @@ fn pair(pool: &mut Pool) -> bool
     }
 }
 
-// The same so many times, and answers how often there was one.
+// Repeats it `rounds` times; returns how many succeeded.
 fn pairs(pool: &mut Pool, rounds: u32) -> u32
     requires { 0 < in_count pool.old.out }
     ensures all { result ≡ rounds }
@@ -46,7 +46,7 @@ fn pairs(pool: &mut Pool, rounds: u32) -> u32
     served
 }
 
-// Takes 32 objects in one call and puts them back in another, and answers whether there were so many.
+// Takes 32 objects in one call and puts them back in another; returns whether there were that many.
 #[inline(never)]
 fn bulk(pool: &mut Pool, indexes: &mut [u32; 32]) -> bool
     ensures { pool.new.zones ≡ pool.old.zones }
@@ -58,7 +58,7 @@ fn bulk(pool: &mut Pool, indexes: &mut [u32; 32]) -> bool
     true
 }
 
-// The same so many times, and answers how often there were so many.
+// Repeats it `rounds` times; returns how many succeeded.
 fn in_bulk(pool: &mut Pool, rounds: u32) -> u32
     ensures most { result ≤ rounds }
     ensures zones { pool.new.zones ≡ pool.old.zones }
@@ -100,7 +100,7 @@ pub fn served(alloc: Global, cached: bool, rounds: u32) -> u32
     served
 }
 
-// Bulks of a pool in a heap, with a cache for 256 indexes.
+// Bulks on a pool in a heap, with a cache for 256 indexes.
 fn bulks_in(heap: &mut Heap, rounds: u32) -> u32
     ensures most { result ≤ rounds }
     ensures counted { count_of is_busy heap.new.elements ≡ count_of is_busy heap.old.elements }
@@ -114,7 +114,7 @@ fn bulks_in(heap: &mut Heap, rounds: u32) -> u32
     served
 }
 
-/// So many bulks in a heap of its own, and how many were whole.
+/// `rounds` bulks in a heap of its own; returns how many succeeded.
 pub fn bulks(alloc: Global, rounds: u32) -> u32
     ensures { result ≤ rounds }
 {

@@ -1,4 +1,4 @@
-//! Numbers that look random, the same in each run.
+//! Random numbers, the same in each run.
 /// A sequence of such numbers.
 #[derive(Clone, Copy)]
 pub struct Numbers {
@@ -6,12 +6,12 @@ pub struct Numbers {
 }
 
 impl Numbers {
-    /// The sequence that begins from a seed.
+    /// The sequence that starts with a seed.
     pub fn new(seed: u64) -> Numbers {
         Numbers { state: seed }
     }
 
-    /// The next one. No clause says which: safety is all that is claimed.
+    /// The next number. No clause says which: only safety is claimed.
     pub fn next(&mut self) -> u32 {
         self.state = self
             .state

@@ -1,4 +1,4 @@
-//! Rings of numbers.
+//! Benchmarks of rings.
 ghost use Rattle.std.specs.Prelude.{◌≡◌, ◌+◌, ◌<◌, ◌≤◌, ◌⊎◌, [], true};
 ghost use Rattle.dp_heap.specs.Elements.{count_of, is_busy};
 ghost use Rattle.dp_ring.specs.Rings.{room_in};
@@ -9,7 +9,7 @@ use dp_ring::Ring;
 use dp_zone::Zones;
 use std::alloc::Global;
 
-// How many places a ring has.
+// The number of a ring's slots.
 const PLACES: u32 = 1024;
 
 /// How numbers go in and come out.
@@ -21,7 +21,7 @@ pub enum Way {
     Bulk,
 }
 
-// Puts a number in and takes it out, and answers whether it was the same.
+// Puts a number in and takes it out; returns whether it was the same.
 #[inline(never)]
 fn one(ring: &mut Ring, number: u32) -> bool
     requires empty { ring.old.entries ≡ [] }
@@ -32,7 +32,7 @@ fn one(ring: &mut Ring, number: u32) -> bool
     ring.enqueue(number) && ring.dequeue() == Some(number)
 }
 
-// The same so many times, and answers how often it was so.
+// Repeats it `rounds` times; returns how many succeeded.
 fn one_by_one(ring: &mut Ring, rounds: u32) -> u32
     requires empty { ring.old.entries ≡ [] }
     requires room { 0 < room_in ring.old }
@@ -48,7 +48,7 @@ fn one_by_one(ring: &mut Ring, rounds: u32) -> u32
     moved
 }
 
-// Puts 32 numbers in and takes them out, and answers whether that was done.
+// Puts 32 numbers in and takes them out; returns whether both succeeded.
 #[inline(never)]
 fn bulk(ring: &mut Ring, numbers: &mut [u32; 32]) -> bool
     requires empty { ring.old.entries ≡ [] }
@@ -59,7 +59,7 @@ fn bulk(ring: &mut Ring, numbers: &mut [u32; 32]) -> bool
     ring.enqueue_bulk(numbers) && ring.dequeue_bulk(numbers)
 }
 
-// The same so many times, and answers how often it was so.
+// Repeats it `rounds` times; returns how many succeeded.
 fn in_bulk(ring: &mut Ring, rounds: u32) -> u32
     requires empty { ring.old.entries ≡ [] }
     requires room { 32 ≤ room_in ring.old }

@@ -1,4 +1,4 @@
-//! Tables of longest prefixes.
+//! Benchmarks of longest-prefix tables.
 ghost use Rattle.std.specs.Prelude.{◌≡◌, ◌+◌, ◌≤◌, is_some};
 ghost use Rattle.dp_model.specs.Prefixes.{hop_for};
 
@@ -6,7 +6,7 @@ use crate::random::Numbers;
 use dp_lpm::{Lpm, MAX_GROUPS, MAX_RULES};
 use std::alloc::Global;
 
-// The first of the numbers of which rules and addresses are made.
+// The seed of the numbers from which rules and addresses are made.
 const OF_RULES: u64 = 1;
 
 const OF_ADDRESSES: u64 = 2;
@@ -19,7 +19,7 @@ struct Rule {
     hop: u32,
 }
 
-// A depth for a number: 24 for 60 of 100, 16 to 23 for 35 and 8 to 15 for 5.
+// A depth from a number: 24 for 60 of 100, 16 to 23 for 35, and 8 to 15 for 5.
 fn depth_of(number: u32) -> u8 {
     let eighth = (number / 256 % 8) as u8;
     match number % 100 {
@@ -29,7 +29,7 @@ fn depth_of(number: u32) -> u8 {
     }
 }
 
-// The next rule. No clause says which: safety is all that is claimed.
+// The next rule. No clause says which: only safety is claimed.
 fn next_rule(numbers: &mut Numbers) -> Rule {
     let ip = numbers.next();
     let depth = depth_of(numbers.next());
@@ -37,7 +37,7 @@ fn next_rule(numbers: &mut Numbers) -> Rule {
     Rule { ip, depth, hop }
 }
 
-// Adds so many rules, and answers how many went in.
+// Adds `rules` rules; returns how many were added.
 fn add_all(table: &mut Lpm, rules: u32) -> u32
     ensures { result ≤ rules }
 {
@@ -60,7 +60,7 @@ fn is_routed(table: &Lpm, ip: u32) -> bool
     table.lookup(ip).is_some()
 }
 
-// Looks so many addresses up, and answers for how many there was a rule.
+// Looks `addresses` addresses up; returns for how many there was a rule.
 fn look_up_all(table: &Lpm, addresses: u32) -> u32
     ensures { result ≤ addresses }
 {
@@ -74,7 +74,7 @@ fn look_up_all(table: &Lpm, addresses: u32) -> u32
     found
 }
 
-// Deletes the first so many rules, and answers how many were there.
+// Deletes the first `rules` rules; returns how many there were.
 fn delete_all(table: &mut Lpm, rules: u32) -> u32
     ensures { result ≤ rules }
 {

@@ -1,4 +1,4 @@
--- What is spelled is read again.
+-- What is spelled is read back.
 use Rattle.std.proofs.Common.{◌≡◌, ℕ, ◌+◌, ◌-◌, ◌*◌, ◌/◌, ◌%◌, ◌<◌, Bool, true, false, eqb, List, [], ◌∷◌, ◌++◌, length, take, drop, get_or, Ok, refl, ap}
 use Rattle.std.proofs.Common.{◌∙◌, eq-eqb, arith}
 use Rattle.std.specs.List.{flat_map, AllByRecursion, list_all}

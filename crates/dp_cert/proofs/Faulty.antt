@@ -18,7 +18,7 @@ use Rattle.dp_cert.specs.Reading.{◌>>=◌, at_line, onto, row_of, rows_of, ver
 use Rattle.dp_cert.proofs.Found.{row_found, from_line, head_found, Spells}
 use Rattle.dp_cert.proofs.LineFaults.{wrong, same_error, line_wrong, next_wrong}
 
--- after some rows, the first of which is at this line
+-- the fault after some rows, the first of which is on this line
 record Stops (version : Version) (start n : ℕ) (bytes : List ℕ) (fault : Fault) : Type 0 where
   pub rows : List Row
   pub rest : List ℕ
@@ -27,7 +27,7 @@ record Stops (version : Version) (start n : ℕ) (bytes : List ℕ) (fault : Fau
   pub line : fault.line ≡ length rows + start
   pub wrong : IsWrong version n rows rest fault.cause
 
--- with one row more in front
+-- with one row more at the front
 later : (version : Version) (n : ℕ) (row : Row) (rows : List Row) (rest : List ℕ) (cause : Cause) → IsWrong version n rows rest cause →
     IsWrong version (suc n) (row ∷ rows) rest cause
 later version n row rows rest BadHead h = h

@@ -1,4 +1,4 @@
--- What is read is spelled so.
+-- What is read is spelled by the text.
 use Rattle.std.proofs.Common.{◌≡◌, ℕ, zero, suc, ◌+◌, ◌&&◌, Bool, true, false, cond, List, [], ◌∷◌, ◌++◌, length, take, drop, Result, Ok, Err, refl, sym, ap}
 use Rattle.std.proofs.Common.{subst, ◌∙◌}
 use Rattle.std.specs.Prelude.{IfOk, IsTrue, nat_eq, Option, Some, None}
@@ -70,7 +70,7 @@ module _ (version : Version) where
   row_found line row h = bytes_found line (decode_sized (digits_in line) 153) row
       (chosen (is_line line) (of_bytes version line (decode_sized (digits_in line) 153)) BadLine row h).1
 
-  -- the bytes spell so many rows
+  -- the bytes spell n rows
   pub record SpellAll (n : ℕ) (bytes : List ℕ) (rows : List Row) : Type 0 where
     pub text : bytes ≡ flat_map row_line rows
     pub count : length rows ≡ n
@@ -96,7 +96,7 @@ module _ (version : Version) where
         well_formed = (one.well_formed, others.well_formed);
       })
 
--- the version that the first line tells
+-- the version in the first line
 pub head_found : (text : List ℕ) (version : Version) → version_in text ≡ Some version → text ≡ head_line version ++ drop 11 text
 head_found text version h = one (starts_with nat_eq text (head_line One)) refl
   where

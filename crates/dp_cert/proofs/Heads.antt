@@ -1,4 +1,4 @@
--- What a text is read as, by its first line.
+-- How a text is read, by its first line.
 use Rattle.std.proofs.Common.{◌≡◌, ℕ, List, drop, Some, None, Ok, Err, refl, sym, ap, ◌∙◌}
 use Rattle.dp_model.specs.declared.row.Row.{Row}
 use Rattle.dp_cert.specs.declared.error.Cause.TheVariants.{BadHead}

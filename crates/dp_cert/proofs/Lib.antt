@@ -1,4 +1,4 @@
--- The lemma files.
+-- Lists the lemma files.
 pub mod Parts
 pub mod Loop
 pub mod Rows

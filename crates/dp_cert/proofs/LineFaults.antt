@@ -36,7 +36,7 @@ not_spelled version line cause h row fits e = let other : row_of version line �
 pub same_error : {A E : Type 0} (x y : E) → wrong {A = A} x ≡ wrong y → x ≡ y
 same_error x y h = cc
 
--- one of the two tests is enough
+-- one of the two tests suffices
 pub some_value : (a b d : Bool) (x y z : ℕ) → (d || b) ≡ true → is_some (cond a (Some x) (cond b (Some y) (cond d (Some z) None))) ≡ true
 some_value true b d x y z h = refl
 some_value false true d x y z h = refl
@@ -52,7 +52,7 @@ all_hex (c ∷ digits) h =
     let p = both_true (is_digit c) (list_all is_digit digits) h in
     rw (is_hex c p.0, all_hex digits p.1) refl
 
--- a line of digits gives bytes
+-- a line of digits decodes to bytes
 pub has_bytes : (line : List ℕ) → is_line line ≡ true → IsOk (decode_sized (digits_in line) 153)
 has_bytes line h =
     let p = both_true (eqb (length line) 307 && list_all is_digit (digits_in line)) (eqb (get_or line (length line - 1) 0) 10) h in

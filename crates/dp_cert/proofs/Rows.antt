@@ -1,4 +1,4 @@
--- A line and its row, a front of a text that may be too short.
+-- A line and its row; the front of a text that may be too short.
 use Rattle.std.proofs.Common.{◌≡◌, ℕ, min, true, List, length, take, drop, Option, Some, None, Result, Ok, Err, refl, sym, ap, inl, inr, arith}
 use Rattle.std.specs.Prelude.{MatchResult}
 use Rattle.std.proofs.lemmas.Bool.{cases_lt}

@@ -1,4 +1,4 @@
--- Rows that a certificate of a version can have.
+-- Rows that a certificate of a version may have.
 use Rattle.std.proofs.Common.{◌≡◌, Bool, true, false, cond, not, List, [], ◌∷◌, refl, sym, ap, subst, IsTrue}
 use Rattle.std.specs.List.{list_all, list_any}
 use Rattle.std.proofs.lemmas.Bool.{and_parts, or_parts}
@@ -16,7 +16,7 @@ rows_well_formed One (row ∷ rows) h =
     rw ((and_parts (is_well_formed_row row) (not (have_groups row.facts)) here).0, rows_well_formed One rows rest) refl
 rows_well_formed Two (row ∷ rows) h = h
 
--- version 2 can have them
+-- version 2 may have them
 pub raised_rows : (version : Version) (rows : List Row) → IsTrue (list_all (is_row_of version) rows) → IsTrue (list_all (is_row_of Two) rows)
 raised_rows version rows h = rows_well_formed version rows h
 
@@ -28,7 +28,7 @@ plain_rows (row ∷ rows) h none =
     let (one, more) = or_parts (have_groups row.facts) (list_any (λ row. have_groups row.facts) rows) none in
     rw (here, one, plain_rows rows rest more) refl
 
--- so can the version that is theirs
+-- so may their own version
 pub rows_of_version : (rows : List Row) → IsTrue (list_all is_well_formed_row rows) → IsTrue (list_all (is_row_of (version_for rows)) rows)
 rows_of_version rows h = go (list_any (λ row. have_groups row.facts) rows) refl
   where

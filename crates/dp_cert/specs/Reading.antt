@@ -1,4 +1,4 @@
--- Reading line by line, with the first fault that is met.
+-- Reading line by line up to the first fault.
 use Rattle.std.specs.Prelude.{◌≡◌, ℕ, zero, suc, ◌+◌, ◌&&◌, ◌==◌, nat_eq, List, [], ◌∷◌, take, drop, slice_index, Result, Ok, Err, if◌then◌else◌}
 use Rattle.std.specs.List.{starts_with}
 use Rattle.std.specs.Int.{w16, w64, from_be_bytes}
@@ -20,7 +20,7 @@ use Rattle.dp_cert.specs.declared.error.CertError.TheVariants as errors
 pub use Rattle.dp_cert.specs.Spelling.{is_digit, digits_in, is_line}
 use Rattle.dp_cert.specs.Spelling.{Certificate, head_line, is_row_of, row_line}
 
--- ---- the row that some bytes would be, if they were spelled as a row is
+-- ---- the row in some bytes, if they spell one
 
 unfoldable pub fact_in : List ℕ → Fact
 fact_in bytes =
@@ -33,7 +33,7 @@ fact_in bytes =
     (from_be_bytes w16 (take 2 (drop 8 bytes)))
     (slice_index bytes 10)
 
--- so many parts of this width from the front
+-- n parts of this width, from the front
 unfoldable pub parts_in : {A : Type 0} → (List ℕ → A) → ℕ → ℕ → List ℕ → List A
 parts_in part width zero bytes = []
 parts_in part width (suc n) bytes = part (take width bytes) ∷ parts_in part width n (drop width bytes)
@@ -52,7 +52,7 @@ row_in bytes = record { live = slice_index bytes 0 == 1; facts = facts_in (drop 
 
 -- ---- lines
 
--- the line is the one spelling of a row that a certificate of the version can have
+-- the line spells a row that a certificate of the version may have
 abbrev pub spelled_row : Version → List ℕ → Row → Result Row Cause
 spelled_row version line row = if bytes_eq (row_line row) line && is_row_of version row then Ok row else Err BadRow
 
@@ -75,7 +75,7 @@ at_line line (Err cause) = Err (record { line = line; cause = cause })
 abbrev pub onto : Row → List Row → Result (List Row) Fault
 onto row rows = Ok (row ∷ rows)
 
--- so many rows, from a line on, and nothing behind them
+-- n rows from a line on, and nothing after them
 unfoldable pub rows_of : Version → ℕ → ℕ → List ℕ → Result (List Row) Fault
 rows_of version line zero [] = Ok []
 rows_of version line zero (b ∷ bytes) = Err (record { line = line; cause = BadCount })
@@ -83,7 +83,7 @@ rows_of version line (suc n) [] = Err (record { line = line; cause = BadCount })
 rows_of version line (suc n) (b ∷ bytes) =
     at_line line (row_of version (take 307 (b ∷ bytes))) >>= λ row. rows_of version (line + 1) n (drop 307 (b ∷ bytes)) >>= onto row
 
--- the version that the first line tells
+-- the version in the first line
 abbrev pub version_in : List ℕ → Option Version
 version_in text =
     if starts_with nat_eq text (head_line One) then Some One else
@@ -97,7 +97,7 @@ unfoldable pub cert_of : ℕ → List ℕ → Result Certificate Fault
 cert_of n text =
     option_map_or (λ version. certified version (rows_of version 2 n (drop 11 text))) (version_in text) (Err (record { line = 1; cause = BadHead }))
 
--- What a function returned, seen by view, is what reading gives, unless memory ran out.
+-- The code returns what the definition does, or memory runs out.
 abbrev pub Fails : {Y : Type 0} → CertError → Result Y Fault → Type 0
 Fails errors.Memory read = Unit {0}
 Fails (errors.Fault f) read = read ≡ Err f

@@ -36,16 +36,16 @@ abbrev pub number_of_version : Version → ℕ
 number_of_version One = 1
 number_of_version Two = 2
 
--- whether a certificate of the version can have the row: one of version 1 has no groups
+-- whether a certificate of the version may have the row: one of version 1 has no groups
 abbrev pub is_row_of : Version → Row → Bool
 is_row_of One row = is_well_formed_row row && not (have_groups row.facts)
 is_row_of Two row = is_well_formed_row row
 
--- the version of rows: 1 exactly where none has a group
+-- the version for rows: 1 exactly where none has a group
 abbrev pub version_for : List Row → Version
 version_for rows = if list_any (λ row. have_groups row.facts) rows then Two else One
 
--- the certificate of rows, of the version that is theirs
+-- the certificate of rows, in their version
 abbrev pub certificate_of : List Row → Certificate
 certificate_of rows = record { version = version_for rows; rows = rows }
 
@@ -61,7 +61,7 @@ row_line row = encode_lower (row_bytes row) ++ 10 ∷ []
 abbrev pub spelling : Certificate → List ℕ
 spelling cert = head_line cert.version ++ flat_map row_line cert.rows
 
--- the bytes are the spelling of this certificate, with so many rows that its version can have
+-- the bytes spell this certificate, with n rows that its version may have
 pub record CertText (n : ℕ) (bytes : List ℕ) (cert : Certificate) : Type 0 where
   pub text : bytes ≡ spelling cert
   pub count : length cert.rows ≡ n
@@ -73,7 +73,7 @@ FactInRange Empty = Unit {0}
 FactInRange (Held share head tail first last segs) =
     (share < 2 ^ 8) × (head < 2 ^ 16) × (tail < 2 ^ 16) × (first < 2 ^ 16) × (last < 2 ^ 16) × (segs < 2 ^ 8)
 
--- a row as the code can hold it, which a certificate of the version can have
+-- a row within the ranges of its fields that a certificate of the version may have
 pub record IsRow (version : Version) (row : Row) : Type 0 where
   pub eight_facts : length row.facts ≡ 8
   pub eight_bounds : length row.bounds ≡ 8
@@ -81,7 +81,7 @@ pub record IsRow (version : Version) (row : Row) : Type 0 where
   pub bounds : AllByRecursion (λ n. n < 2 ^ 64) row.bounds
   pub well_formed : is_row_of version row ≡ true
 
--- a certificate as the code can hold it
+-- a certificate within the ranges of its fields
 abbrev pub IsCertificate : Certificate → Type 0
 IsCertificate cert = AllByRecursion (IsRow cert.version) cert.rows
 
@@ -91,7 +91,7 @@ IsCertificate cert = AllByRecursion (IsRow cert.version) cert.rows
 abbrev pub is_digit : ℕ → Bool
 is_digit c = (nat_le 48 c && nat_le c 57) || (nat_le 97 c && nat_le c 102)
 
--- what stands before the last byte
+-- all bytes but the last
 abbrev pub digits_in : List ℕ → List ℕ
 digits_in line = take (length line - 1) line
 

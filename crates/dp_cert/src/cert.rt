@@ -1,4 +1,4 @@
-//! Certificates.
+//! Certificates and their versions.
 
 ghost use Rattle.std.specs.Prelude.{◌≡◌, ◌==◌, IsTrue};
 ghost use Rattle.std.specs.List.{list_all, list_any};
@@ -8,7 +8,7 @@ ghost use Rattle.dp_cert.specs.Spelling.{is_row_of, version_for, certificate_of,
 use dp_model::Row;
 use std::marker::Model;
 
-/// Which texts a certificate has: in version 1 no register belongs to a sharing group.
+/// The version of a certificate. In version 1 no register belongs to a sharing group.
 #[derive(Clone, Copy, Debug, PartialEq, Eq)]
 pub enum Version {
     One,
@@ -26,7 +26,7 @@ impl Version {
         }
     }
 
-    /// Whether a certificate of this version can have the row.
+    /// Whether a certificate of this version may have the row.
     pub(crate) fn can_have(self, row: &Row) -> bool
         ensures { result ≡ is_row_of self row.now }
     {
@@ -43,7 +43,7 @@ fn have_groups(rows: &[Row]) -> bool
     rows.iter().any(|row| row.has_groups())
 }
 
-/// The version of rows: 1 exactly where none has a group.
+/// The version for these rows: 1 exactly where none has a group.
 fn version_for(rows: &[Row]) -> Version
     ensures { result ≡ version_for rows.now }
 {
@@ -54,7 +54,7 @@ fn version_for(rows: &[Row]) -> Version
     }
 }
 
-/// A certificate: what is known before each instruction of a program, as a list of well-formed rows, and its version.
+/// A certificate: a version, and a list of well-formed rows that say what is known before each instruction of a program.
 #[derive(Drop)]
 pub struct Cert {
     version: Version,
@@ -74,8 +74,8 @@ impl Model for Cert {
 }
 
 impl Cert {
-    /// The certificate of these rows, each of which is well formed, as `Row::is_well_formed` tells. It has version 1
-    /// exactly where none of them has a group.
+    /// Makes a certificate of these rows, each of which has to be well formed (`Row::is_well_formed`). It has version 1 exactly where no row has a
+    /// group.
     #[tactic(auto, using(crate::proofs::Versions::rows_of_version))]
     pub fn new(rows: Vec<Row>) -> Cert
         requires { IsTrue (list_all is_well_formed_row rows.items) }
@@ -85,7 +85,7 @@ impl Cert {
         Cert { version, rows }
     }
 
-    /// The certificate of a version, which can have each of the rows.
+    /// Makes a certificate of a version that may have each of the rows.
     pub(crate) fn of_version(version: Version, rows: Vec<Row>) -> Cert
         requires { IsTrue (list_all (is_row_of version) rows.items) }
         ensures rows { result.rows ≡ rows.items }
@@ -94,21 +94,21 @@ impl Cert {
         Cert { version, rows }
     }
 
-    /// Its version, 1 or 2.
+    /// The version, 1 or 2.
     pub fn version(&self) -> u8
         ensures { result ≡ number_of_version self.now.version }
     {
         self.version.number()
     }
 
-    /// Which version that is.
+    /// The version.
     pub(crate) fn version_kind(&self) -> Version
         ensures { result ≡ self.now.version }
     {
         self.version
     }
 
-    /// The certificate of version 2 with the same rows.
+    /// The same rows in version 2.
     #[tactic(auto, using(crate::proofs::Versions::raised_rows))]
     pub fn raise(self) -> Cert
         ensures { result ≡ raised self }
@@ -120,7 +120,7 @@ impl Cert {
         }
     }
 
-    /// Its rows, one for each instruction, in the order of the instructions.
+    /// The rows, one for each instruction, in the order of the instructions.
     #[tactic(auto, using(crate::proofs::Versions::rows_well_formed))]
     pub fn rows(&self) -> &[Row]
         ensures same { result.now ≡ self.now.rows }

@@ -1,4 +1,4 @@
-//! From text to rows.
+//! Reads text as rows.
 
 ghost use Rattle.std.specs.Prelude.{◌≡◌, ◌<◌, length, IsTrue, IfOk, IfErr, MatchResult, Some, None, List, Ok};
 ghost use Rattle.std.specs.List.{list_all, AllByRecursion};
@@ -31,7 +31,7 @@ fn digits_in(line: &[u8]) -> &[u8]
     &line[..line.len() - 1]
 }
 
-/// Whether a line has 306 digits and a newline.
+/// Whether a line is 306 digits and a newline.
 fn is_line(line: &[u8]) -> bool
     ensures shape { result ≡ spec.is_line line.now }
     ensures len { IsTrue result → length line.now ≡ 307 }
@@ -42,7 +42,7 @@ fn is_line(line: &[u8]) -> bool
     are_digits(digits_in(line)) && line[line.len() - 1] == b'\n'
 }
 
-/// The row of a line's bytes, if the line is its spelling and the version can have it.
+/// Parses one line as a row, if the line spells it and the version may have it.
 fn spelled_row(
     alloc: Global,
     version: Version,
@@ -63,7 +63,7 @@ fn spelled_row(
     }
 }
 
-/// The bytes of a line's digits.
+/// Decodes a line's digits to 153 bytes.
 fn bytes_of(digits: &[u8]) -> Option<[u8; 153]>
     ensures { MatchResult (decode_sized digits.now 153) (λ bytes. result ≡ Some bytes) (λ _. result ≡ None) }
 {
@@ -74,7 +74,7 @@ fn bytes_of(digits: &[u8]) -> Option<[u8; 153]>
     }
 }
 
-/// The row that a line spells, or the fault, with the number of the line.
+/// Parses one line, or returns the fault with the line's number.
 #[tactic(auto, unfolding(crate::specs::Reading::row_of))]
 fn row_of(alloc: Global, version: Version, number: usize, line: &[u8]) -> Result<Row, CertError>
     ensures { spec.Gives (λ row. row) result (spec.at_line number (spec.row_of version line.now)) }
@@ -94,7 +94,7 @@ fn row_of(alloc: Global, version: Version, number: usize, line: &[u8]) -> Result
     }
 }
 
-/// So many rows, one a line, or the first fault.
+/// Parses `n` lines, or returns the first fault.
 fn rows_of(alloc: Global, version: Version, n: usize, text: &[u8]) -> Result<Vec<Row>, CertError>
     ensures { spec.Gives (λ v. v.items) result (spec.rows_of version 2 n text.now) }
 {
@@ -122,7 +122,7 @@ fn rows_of(alloc: Global, version: Version, n: usize, text: &[u8]) -> Result<Vec
     }
 }
 
-/// So many rows that the version can have, or the first fault.
+/// Parses `n` lines as rows that the version may have, or returns the first fault.
 fn read_rows(alloc: Global, version: Version, n: usize, text: &[u8]) -> Result<Vec<Row>, CertError>
     ensures well_formed { IfOk result (λ v. IsTrue (list_all (is_row_of version) v.items)) }
     ensures exact { spec.Gives (λ v. v.items) result (spec.rows_of version 2 n text.now) }
@@ -130,7 +130,7 @@ fn read_rows(alloc: Global, version: Version, n: usize, text: &[u8]) -> Result<V
     rows_of(alloc, version, n, text)
 }
 
-/// The version that the first line tells.
+/// The version in the first line.
 fn version_in(text: &[u8]) -> Option<Version>
     ensures { result ≡ spec.version_in text.now }
 {
@@ -143,7 +143,7 @@ fn version_in(text: &[u8]) -> Option<Version>
     }
 }
 
-/// The certificate that a text spells, or the first fault.
+/// Parses a text, or returns the first fault.
 fn read(alloc: Global, text: &[u8], n: usize) -> Result<Cert, CertError>
     ensures { spec.Gives (λ c. c) result (spec.cert_of n text.now) }
 {
@@ -157,20 +157,20 @@ fn read(alloc: Global, text: &[u8], n: usize) -> Result<Cert, CertError>
     Ok(Cert::of_version(version, rows))
 }
 
-/// The certificate that a text spells, with `n` rows, or the first fault of the text.
+/// Reads a text as a certificate with `n` rows, or returns its first fault.
 ///
 /// # Errors
-/// `CertError::Memory` where the memory for the rows is refused, else `CertError::Fault` with the first line that is
-/// at fault, from 1, and the cause.
+/// `CertError::Memory` where the allocator refuses the memory for the rows, else `CertError::Fault` with the first faulty line, from 1, and
+/// its cause.
 pub fn decode(alloc: Global, text: &[u8], n: usize) -> Result<Cert, CertError>
-    // What is read is spelled so.
+    // The text spells the certificate that is returned.
     ensures found { IfOk result (λ cert. CertText n text.now cert) }
-    // What is spelled so is read, unless memory runs out.
+    // A text that spells a certificate is read as that, unless memory runs out.
     ensures only { (cert : Certificate) → IsCertificate cert → length cert.rows ≡ n → text.now ≡ spelling cert
         → spec.Gives (λ c. c) result (Ok cert) }
-    // Why nothing is read, in words.
+    // The fault is one that the text has.
     ensures fault { IfErr result (λ e. IsFaultOf n text.now e) }
-    // Which fault it is: the lines judged one after the other.
+    // The exact fault: lines are judged one after the other.
     ensures exact { spec.Gives (λ c. c) result (spec.cert_of n text.now) }
 {
     read(alloc, text, n)

@@ -1,4 +1,4 @@
-//! From rows to text.
+//! Writes rows as text.
 
 ghost use Rattle.std.specs.Prelude.{◌≡◌, ◌++◌, IfOk, OnOk};
 ghost use Rattle.std.specs.List.{flat_map};
@@ -54,7 +54,7 @@ fn row_bytes(alloc: Global, row: &Row) -> Result<Vec<u8>, AllocError>
     Ok(bytes)
 }
 
-/// The line of a row: its bytes as digits, and a newline.
+/// The line of a row: the digits of its bytes, and a newline.
 pub fn row_line(alloc: Global, row: &Row) -> Result<Vec<u8>, AllocError>
     ensures { IfOk result (λ v. v.items ≡ spec.row_line row.now) }
 {
@@ -76,7 +76,7 @@ pub(crate) fn head_line(version: Version) -> &'static [u8]
     }
 }
 
-/// The text of the rows behind a first line.
+/// The rows' lines after a first line.
 fn encode_rows(alloc: Global, head: &[u8], rows: &[Row]) -> Result<Vec<u8>, AllocError>
     ensures { IfOk result (λ v. v.items ≡ head.now ++ flat_map spec.row_line rows.now) }
 {
@@ -88,10 +88,10 @@ fn encode_rows(alloc: Global, head: &[u8], rows: &[Row]) -> Result<Vec<u8>, Allo
     Ok(out)
 }
 
-/// The one text that spells the certificate.
+/// Returns the text that spells the certificate.
 ///
 /// # Errors
-/// `AllocError` where the memory for the text is refused.
+/// `AllocError` where the allocator refuses the memory for the text.
 pub fn encode(alloc: Global, cert: &Cert) -> Result<Vec<u8>, AllocError>
     ensures { IfOk result (λ v. v.items ≡ spec.spelling cert.now) }
 {

@@ -6,7 +6,7 @@ ghost use Rattle.dp_cert.specs.Faults.{number_of};
 use std::alloc::{AllocError, AllocFailed};
 use thiserror::Error;
 
-/// What is wrong with a line of a text.
+/// What is wrong with a line.
 #[derive(Clone, Copy, Debug, PartialEq, Eq, Error)]
 pub enum Cause {
     /// The first line is neither `dpv-cert 1` nor `dpv-cert 2` and a newline.
@@ -15,8 +15,8 @@ pub enum Cause {
     /// The line is not 306 lower-case hexadecimal digits and a newline.
     #[error("this is not a line of 306 hexadecimal digits")]
     BadLine,
-    /// The digits give no row of this version: values are out of their ranges, a sharing group is not well formed, or in version 1
-    /// there is one, or zeros are missing.
+    /// The digits spell no row of this version: a value is out of range, a sharing group is not well formed or version 1 has one, or unused bytes are
+    /// not 0.
     #[error("this is not a row")]
     BadRow,
     /// A line is missing, or bytes follow the last.
@@ -25,7 +25,7 @@ pub enum Cause {
 }
 
 impl Cause {
-    /// Its number, from 1.
+    /// The number of the cause, from 1.
     pub fn number(self) -> u8
         ensures { result ≡ number_of self }
     {
@@ -46,10 +46,10 @@ pub struct Fault {
     pub cause: Cause,
 }
 
-/// Why there is no certificate.
+/// Why no certificate is returned.
 #[derive(Debug, Drop, Error)]
 pub enum CertError {
-    /// The memory for the rows was refused.
+    /// The allocator refused the memory for the rows.
     #[error("out of memory")]
     Memory,
     /// The text is no certificate.

@@ -1,10 +1,10 @@
-//! What holds of all certificates, as contracts of functions that do nothing.
+//! Laws of certificates, as contracts of functions that do nothing.
 
 ghost use Rattle.std.specs.Prelude.{◌≡◌, Ok, length};
 ghost use Rattle.dp_cert.specs.Spelling.{Certificate, IsCertificate, spelling};
 ghost use Rattle.dp_cert.specs.Reading.{cert_of};
 
-/// The text of a certificate is read as that certificate.
+/// The text of a certificate reads as that certificate.
 pub fn encoded_certificates_are_read_again()
     ensures { (cert : Certificate) → IsCertificate cert → cert_of (length cert.rows) (spelling cert) ≡ Ok cert }
 {}

@@ -1,6 +1,7 @@
-//! Certificates: a row for each instruction of a program, and their text.
+//! Certificates: a row for each instruction of a program, with `decode` from text and `encode` back.
 //!
-//! The format is described in docs/certificate.md of the repository.
+//! A `Cert` owns its rows, each of which is well formed. `decode`, `Cert::new` and the inferrer make one; whether a program is accepted with it
+//! is for dp_check to say. docs/reference/certificate.md of the repository describes the text.
 #![tactic(auto)]
 
 mod cert;

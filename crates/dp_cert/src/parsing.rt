@@ -1,4 +1,4 @@
-//! From bytes to the row that they would be.
+//! Parses one 153-byte row of a certificate.
 
 ghost use Rattle.std.specs.Prelude.{◌≡◌, ◌≤◌, length};
 ghost use Rattle.dp_cert.specs.Reading as spec;
@@ -57,7 +57,7 @@ fn bounds_in(bytes: &[u8]) -> [u64; 8]
     bounds
 }
 
-/// The row that 153 bytes would be, whether it is well formed or not.
+/// The row in 153 bytes, well formed or not.
 #[tactic(auto, unfolding(crate::specs::Reading::row_in))]
 pub fn row_in(bytes: &[u8]) -> Row
     requires { length bytes.now ≡ 153 }

@@ -1,4 +1,4 @@
--- Rows that change.
+-- Changes of rows.
 use Rattle.std.proofs.Common.{◌≡◌, ℕ, ◌+◌, ◌*◌, ◌/◌, ◌^◌, ◌<◌, ◌≤◌, false, ◌&&◌, ◌||◌, ◌==◌, ◌≢◌, IsTrue, min, lit<, nat_le, subst, mul_comm, true, Bool}
 use Rattle.std.proofs.Common.{List, [], ◌∷◌, Some, refl, ap, sym, ◌∙◌, arith, slice_get, zero, suc}
 use Rattle.std.specs.List.{list_all}
@@ -55,7 +55,7 @@ far_right n k below far =
     let power : 2 ^ 64 ≤ 2 ^ k = pow_mono {i = 64} {j = k} far in
     sym (div-eq_of_lt {n = n} {m = 2 ^ k} (omega (arith, power)))
 
--- what a row says of a packet has at most 64 segments
+-- a packet in a row has at most 64 segments
 pub few_segs : (row : Row) (p : ℕ) (h : Holding) → held_at row p ≡ Some h → IsTrue (list_all is_fact_of_row row.facts) → h.segs ≤ 64
 few_segs row p h e fits = go (slice_get row.facts p) refl
   where
@@ -69,7 +69,7 @@ few_segs row p h e fits = go (slice_get row.facts p) refl
         let same : segs ≡ h.segs = ap (λ o. option_map_or (λ (k : Holding). k.segs) o 0) there in
         subst (λ n. n ≤ 64) same (leb-true segs 64 most)
 
--- the facts of a row are in their ranges where groups are dissolved
+-- the facts of a row are in their ranges after groups are dissolved
 loose_fits : (g : ℕ) (fact : Fact) → is_fact_of_row fact ≡ true → is_fact_of_row (reshared_fact g 0 fact) ≡ true
 loose_fits g Empty e = refl
 loose_fits g (Held share head tail first last segs) e = go (share == share_of_group g) refl
@@ -102,7 +102,7 @@ dissolved_fits row p q e =
     (row.live || (list_all is_empty row.facts && list_all (λ b. b == 0) row.bounds)) e).0).0 in
     one_dissolved_fits (dissolved row p) q (one_dissolved_fits row p fits)
 
--- the share of a register of the group, and of one that is not of it
+-- the share of a register in the group, and of one outside it
 pub reshared_in : (fact : Fact) (g share : ℕ) (h : Holding) → holding fact ≡ Some h → is_in g fact ≡ true →
     held (shared share h) ≡ reshared_fact g share fact
 reshared_in Empty g share h e t = cc
@@ -127,7 +127,7 @@ pub cloned_is : (row : Row) (p q : ℕ) (h : Holding) (o : Option ℕ) → held_
     option_map_or (joins row p q h) o (twin row p q h (twin_share p q h)) ≡ after_clone row p q
 cloned_is row p q h o e t = rw (e, t) refl
 
--- from an empty register follows only that it is empty
+-- an empty register entails only an empty one
 pub empty_entails : (fact other : Fact) → holding fact ≡ None → is_empty other ≡ entails_fact fact other
 empty_entails Empty Empty e = refl
 empty_entails Empty (Held a b c d x y) e = refl

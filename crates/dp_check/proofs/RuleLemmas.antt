@@ -1,4 +1,4 @@
--- What the rules say of all labels.
+-- The rules at all labels.
 use Rattle.std.proofs.Common.{◌≡◌, ℕ, zero, suc, ◌≤◌, ◌<◌, true, false, List, [], ◌∷◌, length, Some, None, refl, ◌∙◌, ◌+◌, inl, inr, arith}
 use Rattle.std.specs.Prelude.{slice_get, IsTrue}
 use Rattle.std.specs.List.{list_all}
@@ -18,12 +18,12 @@ well_formed_at (r ∷ rows) zero row h e = let here = (and_parts (is_well_formed
 well_formed_at (r ∷ rows) (suc k) row h e = well_formed_at rows k row (and_parts (is_well_formed_row r) (list_all is_well_formed_row rows) h).1 e
 well_formed_at [] k row h e = cc
 
--- with J1 and J2 the rules of each label are the later ones
+-- after J1 and J2 the rules of each label are the later ones
 pub later_is : (q : Question) (label : ℕ) → holds q 0 J1 ≡ true → holds q 0 J2 ≡ true → fault_at q label ≡ later_fault q label
 later_is q zero one two = rw (one, two)
 later_is q (suc label) one two = refl
 
--- no rule fails where no instruction is
+-- no rule fails where there is no instruction
 pub later_past : (q : Question) (label : ℕ) → length q.program ≤ label → later_fault q label ≡ None
 later_past q label past = rw (slice_get_past q.program label past)
 

@@ -1,9 +1,9 @@
--- What a diagnosis says of a program that is refused: what is known, and what the rule wants.
+-- What a diagnosis says of a refused program: what is known, and what the rule wants.
 use Rattle.std.specs.Prelude.{◌≡◌, ◌≢◌, ◌⊎◌, ℕ, ◌+◌, ◌<◌, ◌≤◌, Bool, true, false, not, ◌&&◌, if◌then◌else◌, nat_lt, nat_le, List, [], ◌∷◌, length, replicate}
 use Rattle.std.specs.Prelude.{Option, Some, None, MatchOption, slice_get}
 use Rattle.std.specs.List.{find, position_from}
 use Rattle.std.proofs.Math.Bool.{beq}
-use Rattle.std.specs.Option.{option_map_or}
+use Rattle.std.specs.Option.{option_and_then, option_map_or}
 use Rattle.dp_model.specs.declared.row.Fact.{Fact}
 use Rattle.dp_model.specs.declared.row.Fact.TheVariants.{Empty, Held}
 use Rattle.dp_model.specs.declared.row.Row.{Row}
@@ -13,10 +13,11 @@ use Rattle.dp_model.specs.declared.registers.Operand.TheVariants.{Register}
 use Rattle.dp_model.specs.declared.instr.Instr.{Instr}
 use Rattle.dp_model.specs.declared.instr.Instr.TheVariants.{Chain, Exit}
 use Rattle.dp_model.specs.Environments.{Environment}
-use Rattle.dp_model.specs.Groups.{group_of, is_in, keeps_groups}
+use Rattle.dp_model.specs.Groups.{group_of, is_in, keeps_groups, same_registers}
 use Rattle.dp_model.specs.Limits.{most_segments}
-use Rattle.dp_model.specs.Rows.{is_empty, holding, held, held_at, entails_fact, entails_option, entails_share, entry_row, fact_of_ring, bound, leads}
-use Rattle.dp_model.specs.Rules.{Question, is_held, is_empty_at, holds_with, uses, indices_exist, targets_fit, bytes_fit, share_fits, may_leave, IsRefused}
+use Rattle.dp_model.specs.Rows.{is_empty, holding, held, held_at, entails_fact, entails_option, entails_share, entry_row, fact_of_ring, bound, entails, leads}
+use Rattle.dp_model.specs.Rules.{Question, is_held, is_empty_at, holds_with, uses, indices_exist, targets_fit, bytes_fit, share_fits, may_leave}
+use Rattle.dp_model.specs.Rules.{row_passes, IsRefused}
 use Rattle.dp_model.specs.declared.rule.Rule.{Rule}
 use Rattle.dp_model.specs.declared.rule.Rule.TheVariants.{J1, J2, J3, J4, J5, J6, J7, J8, J9, J10, J11}
 use Rattle.dp_check.specs.declared.reason.Measure.{Measure}
@@ -28,7 +29,7 @@ use Rattle.dp_check.specs.declared.reason.Reason.TheVariants.{RowCount, NoEntry,
 use Rattle.dp_check.specs.declared.reason.Reason.TheVariants.{OneRegister, TooLittle, NotAlone, TooLong, NoPort, LessThanRing, LeftOver, Successor}
 use Rattle.dp_check.specs.declared.diagnosis.Diagnosis.{Diagnosis}
 
--- ---- which rule a reason belongs to
+-- ---- the rule of a reason
 
 abbrev pub rule_of : Reason → Rule
 rule_of (RowCount known wanted) = J1
@@ -51,30 +52,33 @@ rule_of (Successor to gap) = J11
 
 -- ---- words
 
--- one of a list is such
-abbrev pub SomeOf : {A : Type 0} → (A → Type 0) → List A → Type 0
-SomeOf P [] = ⊥
-SomeOf P (x ∷ xs) = P x ⊎ SomeOf P xs
-
--- there is one, and it is such
+-- there is one, and it satisfies this
 abbrev pub Is : {A : Type 0} → Option A → (A → Type 0) → Type 0
 Is o P = MatchOption o ⊥ P
 
--- the first place, counted from a number, at which the test of two lists fails
+-- the first index, counted from a number, at which the test of two lists fails
 abbrev pub first_failing : {A : Type 0} → (A → A → Bool) → ℕ → List A → List A → Option ℕ
 first_failing test k [] ys = None
 first_failing test k (x ∷ xs) [] = None
 first_failing test k (x ∷ xs) (y ∷ ys) = if test x y then first_failing test (k + 1) xs ys else Some k
 
--- the first register of which the first facts do not say all that the second do
+-- the first register whose fact does not entail the second's
 abbrev pub first_weaker : List Fact → List Fact → Option ℕ
 first_weaker facts others = first_failing entails_fact 0 facts others
 
--- the first that belongs to the group in one of the two alone
+-- the first register that belongs to the group in one of the two only
 abbrev pub first_outside : ℕ → List Fact → List Fact → Option ℕ
 first_outside g facts others = first_failing (λ fact other. beq (is_in g fact) (is_in g other)) 0 facts others
 
--- the first number that the first bounds let be greater than the second
+-- whether a register's group, if it has one, has the same registers in the first facts
+abbrev pub is_kept : List Fact → List Fact → Fact → Bool
+is_kept facts others other = option_map_or (same_registers facts others) (group_of other) true
+
+-- the group of the first register of the second facts whose group is not kept
+abbrev pub first_regrouped : List Fact → List Fact → Option ℕ
+first_regrouped facts others = option_and_then group_of (find (λ other. not (is_kept facts others other)) others)
+
+-- the first number whose bound is greater than the second's
 abbrev pub first_greater : List ℕ → List ℕ → Option ℕ
 first_greater bounds others = first_failing nat_le 0 bounds others
 
@@ -82,17 +86,17 @@ first_greater bounds others = first_failing nat_le 0 bounds others
 abbrev pub first_held : List Fact → Option ℕ
 first_held facts = position_from (λ fact. not (is_empty fact)) 0 facts
 
--- ---- two rows, the first of which does not entail the second
+-- ---- two rows, where the first does not entail the second
 
--- of a packet register the first row says not all that the second does
+-- the first row does not say all that the second does of a packet register
 abbrev pub IsFactGap : List Fact → List Fact → ℕ → Fact → Fact → Type 0
 IsFactGap facts others p known wanted =
     (first_weaker facts others ≡ Some p) × (slice_get facts p ≡ Some known) × (slice_get others p ≡ Some wanted) × (entails_fact known wanted ≡ false)
 
--- the register is in a group of the second row in one of them alone
+-- the first group of the second row that is not kept, and the first register that is in it in one of the rows only
 abbrev pub IsGroupGap : List Fact → List Fact → ℕ → ℕ → Fact → Fact → Type 0
 IsGroupGap facts others g p known wanted =
-    SomeOf (λ other. group_of other ≡ Some g) others × (first_outside g facts others ≡ Some p)
+    (first_regrouped facts others ≡ Some g) × (first_outside g facts others ≡ Some p)
     × (slice_get facts p ≡ Some known) × (slice_get others p ≡ Some wanted) × (beq (is_in g known) (is_in g wanted) ≡ false)
 
 -- the number can be greater in the first row than in the second
@@ -100,7 +104,7 @@ abbrev pub IsBoundGap : List ℕ → List ℕ → ℕ → ℕ → ℕ → Type 0
 IsBoundGap bounds others r known wanted =
     (first_greater bounds others ≡ Some r) × (slice_get bounds r ≡ Some known) × (slice_get others r ≡ Some wanted) × (wanted < known)
 
--- what the first row does not say of what the second does: first of a packet register, then of a group, then of a number
+-- what the first row lacks of the second: first of a packet register, then of a group, then of a number
 abbrev pub IsGap : Row → Row → Gap → Type 0
 IsGap a b gap.Dead = (a.live && b.live) ≡ false
 IsGap a b (gap.Packet p known wanted) = ((a.live && b.live) ≡ true) × IsFactGap a.facts b.facts p known wanted
@@ -109,9 +113,9 @@ IsGap a b (gap.Group g p known wanted) =
 IsGap a b (gap.Number r known wanted) =
     ((a.live && b.live) ≡ true) × (first_weaker a.facts b.facts ≡ None) × (keeps_groups a.facts b.facts ≡ true) × IsBoundGap a.bounds b.bounds r known wanted
 
--- ---- words of facts
+-- ---- words on facts
 
--- what a fact says of a part
+-- what a fact says of a measure
 abbrev pub measured : Measure → Fact → ℕ
 measured part Empty = 0
 measured measure.Headroom (Held share head tail first last segs) = head
@@ -119,7 +123,7 @@ measured measure.Tailroom (Held share head tail first last segs) = tail
 measured measure.First (Held share head tail first last segs) = first
 measured measure.Last (Held share head tail first last segs) = last
 
--- what a row says of a part of the packet in a register
+-- what a row says of a measure of the packet in a register
 abbrev pub measured_at : Row → ℕ → Measure → ℕ
 measured_at row p part = option_map_or (measured part) (slice_get row.facts p) 0
 
@@ -146,11 +150,11 @@ AsksRing i ring = (env : Environment) → indices_exist env i ≡ nat_lt ring (l
 abbrev pub AsksEmpty : Instr → ℕ → Type 0
 AsksEmpty i p = (row : Row) → targets_fit row i ≡ is_empty_at row p
 
--- so many bytes of a packet, or room at it, where the numbers have these greatest values
+-- this many bytes of a packet, or room at it, where the numbers have these greatest values
 abbrev pub AsksBytes : List ℕ → Instr → ℕ → Measure → ℕ → Type 0
 AsksBytes bounds i p part n = (row : Row) → row.bounds ≡ bounds → bytes_fit row i ≡ holds_with row p (λ h. nat_le n (measured part (held h)))
 
--- a share of a packet that has at most so many segments
+-- a share, of a packet with at most this many segments
 abbrev pub AsksShare : Instr → ℕ → ℕ → ℕ → Type 0
 AsksShare i p segs wanted = (row : Row) (h : Holding) → held_at row p ≡ Some h → h.segs ≡ segs → share_fits row i ≡ entails_share h.share wanted
 
@@ -165,18 +169,25 @@ AsksAtRing i p ring = (env : Environment) (row : Row) → may_leave env row i �
 
 -- ---- what a reason says
 
--- the row at a label wants what is not known where control comes there by one of these ways
-abbrev pub IsUnmet : List Row → List Lead → Reason → Type 0
-IsUnmet rows ways (Successor to gap) = SomeOf (λ lead. (lead.to ≡ to) × Is (slice_get rows to) (λ there. IsGap lead.row there gap)) ways
-IsUnmet rows ways _ = ⊥
+-- the first successor past the end of a program of that length
+abbrev pub first_past : ℕ → List Lead → Option Lead
+first_past count ways = find (λ lead. not (nat_lt lead.to count)) ways
 
--- a reason of the rules that belong to an instruction with its row. Of bytes, `count` are asked for even where each number is 0
+-- the first successor whose row wants more than is known there
+abbrev pub first_unmet : List Row → List Lead → Option Lead
+first_unmet rows ways = find (λ lead. not (row_passes rows lead.to (entails lead.row))) ways
+
+-- that successor has the label, and the gap is what its row wants in addition
+abbrev pub IsUnmet : List Row → List Lead → ℕ → Gap → Type 0
+IsUnmet rows ways to gap = Is (first_unmet rows ways) (λ lead. (lead.to ≡ to) × Is (slice_get rows to) (λ there. IsGap lead.row there gap))
+
+-- a reason of the rules at an instruction with its row. Of bytes, `count` are asked for even where each number is 0
 abbrev pub Says : Question → ℕ → Instr → Row → Reason → Type 0
 Says q label i row (NoPool pool known) = AsksPool i pool × (known ≡ length q.env.pools) × (known ≤ pool)
 Says q label i row (NoTable table known) = AsksTable i table × (known ≡ q.env.tables) × (known ≤ table)
 Says q label i row (NoRing ring known) = AsksRing i ring × (known ≡ length q.env.rings) × (known ≤ ring)
 Says q label i row (NoInstruction to known) =
-    SomeOf (λ lead. lead.to ≡ to) (leads q.env label row i) × (known ≡ length q.program) × (known ≤ to)
+    Is (first_past (length q.program) (leads q.env label row i)) (λ lead. lead.to ≡ to) × (known ≡ length q.program) × (known ≤ to)
 Says q label i row (NotHeld p) = (find (λ used. not (is_held row used)) (uses i) ≡ Some p) × (is_held row p ≡ false)
 Says q label i row (NotEmpty p known) = AsksEmpty i p × (slice_get row.facts p ≡ Some known) × (is_empty known ≡ false)
 Says q label i row (OneRegister p) = i ≡ Chain p p
@@ -193,17 +204,17 @@ Says q label i row (LessThanRing p ring known wanted) =
     AsksAtRing i p ring × (slice_get row.facts p ≡ Some known) × (fact_of_ring q.env.rings ring ≡ Some wanted)
     × (entails_fact known wanted ≡ false)
 Says q label i row (LeftOver p known) = (i ≡ Exit) × (first_held row.facts ≡ Some p) × (slice_get row.facts p ≡ Some known) × (is_empty known ≡ false)
-Says q label i row (Successor to gap) = IsUnmet q.rows (leads q.env label row i) (Successor to gap)
+Says q label i row (Successor to gap) = IsUnmet q.rows (leads q.env label row i) to gap
 Says q label i row _ = ⊥
 
--- a reason of the rules that belong to the whole program
+-- a reason of the rules about the whole program
 abbrev pub SaysOfWhole : Question → Reason → Type 0
 SaysOfWhole q (RowCount known wanted) = (known ≡ length q.rows) × (wanted ≡ length q.program) × (known ≢ wanted)
 SaysOfWhole q NoEntry = entry_row q.env q.entry ≡ None
 SaysOfWhole q (EntryRow gap) = Is (entry_row q.env q.entry) (λ row. Is (slice_get q.rows 0) (λ there. IsGap row there gap))
 SaysOfWhole q _ = ⊥
 
--- a reason at a label: what it says is known is, what it says is wanted the rule wants, and the first is not enough
+-- a reason at a label: what it says is known is known, what it says is wanted the rule wants, and the first is not enough
 abbrev pub Explains : Question → ℕ → Reason → Type 0
 Explains q label reason =
     SaysOfWhole q reason ⊎ Is (slice_get q.program label) (λ i. Is (slice_get q.rows label) (λ row. Says q label i row reason))

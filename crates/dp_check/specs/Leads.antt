@@ -1,4 +1,4 @@
--- The leads of an instruction, as the program has them, and what is known where a test holds.
+-- The successors of an instruction as the code has them, and what a passed test shows.
 use Rattle.std.specs.Prelude.{ℕ, max, List, [], ◌∷◌}
 use Rattle.dp_model.specs.declared.row.Holding.{Holding}
 use Rattle.dp_model.specs.declared.row.Lead.{Lead}
@@ -7,7 +7,7 @@ use Rattle.dp_check.specs.declared.after.Leads.TheVariants.{Ends, One, Two}
 use Rattle.dp_check.specs.declared.reason.Measure.{Measure}
 use Rattle.dp_check.specs.declared.reason.Measure.TheVariants as measure
 
--- the greatest label that 16 bits number: no instruction is next to it
+-- the greatest label of 16 bits: it has no next instruction
 abbrev pub last_label : ℕ
 last_label = 65535
 
@@ -17,7 +17,7 @@ listed Ends = []
 listed (One a) = a ∷ []
 listed (Two a b) = a ∷ b ∷ []
 
--- a part of a packet is at least that
+-- with a measure at least that
 abbrev pub raised : Measure → ℕ → Holding → Holding
 raised measure.Headroom n h = record h { head = max h.head n }
 raised measure.Tailroom n h = record h { tail = max h.tail n }

@@ -1,4 +1,4 @@
-//! Where an instruction leads, and what is known there.
+//! The successors of an instruction, each with the row there.
 
 ghost use Rattle.std.specs.Prelude.{◌≡◌, ◌<◌, IsTrue};
 ghost use Rattle.dp_model.specs.Rows.{is_well_formed_row, onward, fork, leads};
@@ -10,7 +10,7 @@ use crate::holding::{allocated, appended, cut_behind, cut_in_front, prepended, w
 use crate::reason::Measure;
 use dp_model::{Env, Instr, LARGEST_HOP, Lead, Row, by_instr};
 
-/// Where an instruction leads.
+/// The successors of an instruction.
 #[derive(Clone, Copy, Debug, PartialEq, Eq)]
 pub enum Leads {
     Ends,
@@ -19,7 +19,7 @@ pub enum Leads {
 }
 
 impl Leads {
-    /// To the next instruction alone.
+    /// To the next instruction only.
     fn onward(label: u16, row: Row) -> Leads
         requires { label < last_label }
         ensures { listed result ≡ onward label row }
@@ -36,7 +36,7 @@ impl Leads {
     }
 }
 
-/// Where the instruction at a label leads, and what is known there.
+/// The successors of the instruction at a label, each with the row there.
 pub fn leads_of(instr: Instr, env: &Env, label: u16, row: &Row) -> Leads
     requires in_range { label < last_label }
     requires well_formed { IsTrue (is_well_formed_row row.now) }

@@ -6,7 +6,7 @@ ghost use Rattle.dp_model.specs.Rows.{bound, with_bound};
 
 use dp_model::{NumberRegister, Operand, Row};
 
-/// With another bound of the register.
+/// The row with another bound of the register.
 pub(crate) fn with_bound(row: &Row, register: NumberRegister, bound: u64) -> Row
     ensures { result ≡ with_bound row.now register bound }
 {
@@ -15,7 +15,7 @@ pub(crate) fn with_bound(row: &Row, register: NumberRegister, bound: u64) -> Row
     changed
 }
 
-/// The least number of ones, in binary, that is at least this.
+/// The least 2^k - 1 that is at least `number`.
 #[tactic(auto, using(crate::proofs::RowLemmas::ones_shift))]
 fn all_ones(number: u64) -> u64
     ensures { result ≡ all_ones number }
@@ -27,7 +27,7 @@ fn all_ones(number: u64) -> u64
     }
 }
 
-/// The number after a shift to the left, at most the greatest of 64 bits.
+/// The number shifted left, at most the greatest of 64 bits.
 #[tactic(auto, using(crate::proofs::RowLemmas::far_left))]
 fn shifted_left(number: u64, by: u8) -> u64
     ensures { result ≡ min (number * 2 ^ by) greatest }
@@ -41,7 +41,7 @@ fn shifted_left(number: u64, by: u8) -> u64
     }
 }
 
-/// The number after a shift to the right.
+/// The number shifted right.
 #[tactic(auto, using(crate::proofs::RowLemmas::far_right))]
 fn shifted_right(number: u64, by: u8) -> u64
     ensures { result ≡ number / 2 ^ by }
@@ -49,7 +49,7 @@ fn shifted_right(number: u64, by: u8) -> u64
     if by < 64 { number >> by } else { 0 }
 }
 
-/// With any bits that the operand and the register can have.
+/// The row after any bits that operand and register can have are set in the register.
 pub(crate) fn with_bits(row: &Row, register: NumberRegister, operand: Operand) -> Row
     ensures { result ≡ with_bound row.now register (all_ones (max (bound row.now (Operand.Register register)) (bound row.now operand))) }
 {
@@ -57,14 +57,14 @@ pub(crate) fn with_bits(row: &Row, register: NumberRegister, operand: Operand) -
     with_bound(row, register, bits)
 }
 
-/// With the register shifted to the left.
+/// The row after the register is shifted left.
 pub(crate) fn with_left_shift(row: &Row, register: NumberRegister, by: u8) -> Row
     ensures { result ≡ with_bound row.now register (min (bound row.now (Operand.Register register) * 2 ^ by) greatest) }
 {
     with_bound(row, register, shifted_left(row.bound_of(register), by))
 }
 
-/// With the register shifted to the right.
+/// The row after the register is shifted right.
 pub(crate) fn with_right_shift(row: &Row, register: NumberRegister, by: u8) -> Row
     ensures { result ≡ with_bound row.now register (bound row.now (Operand.Register register) / 2 ^ by) }
 {

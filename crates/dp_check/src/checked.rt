@@ -1,4 +1,4 @@
-//! The check of a program with its certificate.
+//! Checks a program with its certificate.
 
 ghost use Rattle.std.specs.Prelude.{◌≡◌, ◌≤◌, length, IsTrue, IfSome, IfNone, IfOk, IfErr};
 ghost use Rattle.std.specs.List.{list_all};
@@ -15,7 +15,7 @@ use dp_model::{Entry, Env, Rule};
 use std::fmt::{self, Display, Formatter, Write};
 use std::marker::Model;
 
-/// A program that is accepted with its certificate, for an environment and an entry: only `check` makes one.
+/// A program that is accepted with its certificate, for an environment and an entry. Only `check` makes one.
 #[derive(Drop)]
 pub struct Checked {
     program: Program,
@@ -48,7 +48,7 @@ impl Checked {
         &self.program
     }
 
-    /// Its certificate, of the version in which it was handed in.
+    /// The certificate, in the version in which it was handed in.
     #[tactic(auto, using(crate::proofs::Versions::same_certificate))]
     pub fn cert(&self) -> &Cert
         ensures is { IsWith self.now result.now }
@@ -57,7 +57,7 @@ impl Checked {
         &self.cert
     }
 
-    /// The program alone, for one who has no more use for the certificate.
+    /// Takes the program out and drops the certificate.
     pub fn into_program(self) -> Program
         ensures same { result ≡ self.program }
         ensures checked { IsChecked self }
@@ -71,14 +71,14 @@ impl Checked {
         program
     }
 
-    /// The environment that it is accepted for.
+    /// The environment for which it is accepted.
     pub fn env(&self) -> &Env
         ensures { result.now ≡ self.now.env }
     {
         &self.env
     }
 
-    /// The entry that it is accepted for.
+    /// The entry for which it is accepted.
     pub fn entry(&self) -> Entry
         ensures { result ≡ self.now.entry }
     {
@@ -86,8 +86,8 @@ impl Checked {
     }
 }
 
-/// A program that is refused: the least failing label, from 0, the number of its first failing rule, 1 to 11, and
-/// what was handed in. It is displayed as `refused at 4 by J11`.
+/// A refused program: the least failing label, from 0, the number of its first failing rule, 1 to 11, and what was handed in. It is displayed as
+/// `refused at 4 by J11`.
 #[derive(Drop)]
 pub struct Refused {
     pub label: u16,
@@ -107,7 +107,7 @@ impl Display for Refused {
     }
 }
 
-/// The least failing label with its first failing rule.
+/// The least failing label and its first failing rule.
 fn first_fault(program: &Program, cert: &Cert, env: &Env, entry: Entry) -> Option<(u16, Rule)>
     ensures none { IfNone result (IsAccepted (question program.now cert.now env.now entry)) }
     ensures some { IfSome result (λ f. IsRefused (question program.now cert.now env.now entry) f.0 f.1) }
@@ -119,8 +119,8 @@ fn first_fault(program: &Program, cert: &Cert, env: &Env, entry: Entry) -> Optio
     }
 }
 
-/// Why a program would be refused: the least failing label and its first failing rule, or nothing where it would be
-/// accepted. This is what `check` finds, for one who only wants to know.
+/// What `check` finds, without taking the program: the least failing label and its first failing rule, or nothing where the program would be
+/// accepted.
 pub fn fault_of(program: &Program, cert: &Cert, env: &Env, entry: Entry) -> Option<(u16, Rule)>
     ensures none { IfNone result (IsAccepted (question program.now cert.now env.now entry)) }
     ensures some { IfSome result (λ f. IsRefused (question program.now cert.now env.now entry) f.0 f.1) }
@@ -128,8 +128,8 @@ pub fn fault_of(program: &Program, cert: &Cert, env: &Env, entry: Entry) -> Opti
     first_fault(program, cert, env, entry)
 }
 
-/// Whether a program may be run in an environment at an entry, as its certificate shows. Each instruction is looked
-/// at once, and nothing is allocated.
+/// Decides whether a program may run in an environment at an entry, as its certificate shows. It looks at each instruction once, and takes
+/// no memory.
 ///
 /// # Errors
 /// `Refused` where a rule fails, with the least failing label and the first rule that fails there. An entry that the

@@ -1,4 +1,4 @@
-//! Why a program is refused.
+//! Diagnoses why a program is refused.
 
 ghost use Rattle.std.specs.Prelude.{◌≡◌, ◌<◌, ◌≤◌, true, false, length, IsTrue, IfSome, IfNone};
 ghost use Rattle.std.specs.List.{list_all};
@@ -18,14 +18,14 @@ use dp_cert::Cert;
 use dp_lang::Program;
 use dp_model::{Entry, Env, Instr, Row};
 
-/// Why a program is refused: the least label that fails, from 0, and why the first rule that fails there does.
+/// Why a program is refused: the least failing label, from 0, and the reason of the first rule that fails there.
 #[derive(Clone, Copy, Debug, PartialEq, Eq)]
 pub struct Diagnosis {
     pub label: u16,
     pub reason: Reason,
 }
 
-/// Why the entry's row does not entail the first, if it does not.
+/// Why the entry's row does not entail the first row, if it does not.
 fn entry_reason(program: &[Instr], rows: &[Row], env: &Env, entry: Entry) -> Option<Reason>
     requires { 0 < length rows.now }
     ensures none { (version : Version) → IfNone result (begins_well (question program.now (record { version = version; rows = rows.now }) env.now entry)
@@ -45,7 +45,7 @@ fn entry_reason(program: &[Instr], rows: &[Row], env: &Env, entry: Entry) -> Opt
     }
 }
 
-/// Why a program with its rows is refused, if it is.
+/// Why a program with these rows is refused, if it is.
 #[tactic(auto, using(crate::proofs::RuleLemmas::later_is, crate::proofs::RuleLemmas::later_past))]
 pub(crate) fn first_reason(
     program: &[Instr],
@@ -77,8 +77,8 @@ pub(crate) fn first_reason(
     None
 }
 
-/// Why [`check`](crate::check) refuses a program, or nothing where it accepts it. Label and rule are those that `check`
-/// answers; the reason says what is known there and what the rule wants. Nothing is allocated.
+/// Says why [`check`](crate::check) refuses a program, or nothing where it accepts it. Label and rule are those of `check`; the reason says what is
+/// known there and what the rule wants. It takes no memory.
 pub fn diagnose(program: &Program, cert: &Cert, env: &Env, entry: Entry) -> Option<Diagnosis>
     ensures accepted { IfNone result (IsAccepted (question program.now cert.now env.now entry)) }
     ensures refused { IfSome result (IsDiagnosis (question program.now cert.now env.now entry)) }

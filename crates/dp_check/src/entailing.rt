@@ -1,4 +1,4 @@
-//! What follows from what: whether one fact, or one row, says all that another does.
+//! Entailment: whether one fact, or one row, says all that another does.
 
 ghost use Rattle.std.specs.Prelude.{◌≡◌, nat_le};
 ghost use Rattle.dp_model.specs.Groups.{at_each_index, same_registers, keeps_groups};
@@ -6,7 +6,7 @@ ghost use Rattle.dp_model.specs.Rows.{entails_share, entails_holding, entails_fa
 
 use dp_model::{Fact, Holding, Row};
 
-/// Whether a share promises all that the other does.
+/// Whether a share says all that the other does.
 pub(crate) fn share_entails(share: u8, other: u8) -> bool
     ensures { result ≡ entails_share share other }
 {
@@ -39,7 +39,7 @@ pub fn fact_entails(fact: Fact, other: Fact) -> bool
     }
 }
 
-/// Whether each fact says all that the other's at its place does.
+/// Whether each fact entails the other's at its index.
 #[tactic(auto, using(dp_model::specs::Laws::Lists::each_index_drop))]
 fn facts_entail(facts: &[Fact; 8], others: &[Fact; 8]) -> bool
     ensures { result ≡ at_each_index entails_fact facts.now others.now }
@@ -52,7 +52,7 @@ fn facts_entail(facts: &[Fact; 8], others: &[Fact; 8]) -> bool
     true
 }
 
-/// Whether each bound is at most the other's at its place.
+/// Whether each bound is at most the other's at its index.
 #[tactic(auto, using(dp_model::specs::Laws::Lists::each_index_drop))]
 fn bounds_entail(bounds: &[u64; 8], others: &[u64; 8]) -> bool
     ensures { result ≡ at_each_index nat_le bounds.now others.now }
@@ -78,7 +78,7 @@ pub(crate) fn same_registers(facts: &[Fact; 8], others: &[Fact; 8], group: u8) -
     true
 }
 
-/// Whether each group of the second is a group of the same registers in the first.
+/// Whether each group of the second row is a group of the same registers in the first.
 fn keep_groups(facts: &[Fact; 8], others: &[Fact; 8]) -> bool
     ensures { result ≡ keeps_groups facts.now others.now }
 {

@@ -1,17 +1,16 @@
-//! What one row says and another does not.
+//! The first difference between two rows, of which one should entail the other.
 
 ghost use Rattle.std.specs.Prelude.{◌≡◌, ◌<◌, true, false, Some, nat_le, slice_get, IfSome, IfNone};
 ghost use Rattle.std.proofs.Math.Bool.{beq};
 ghost use Rattle.dp_model.specs.Groups.{at_each_index, group_of, is_in, keeps_groups, same_registers};
 ghost use Rattle.dp_model.specs.Rows.{entails, entails_fact};
-ghost use Rattle.std.specs.Option.{option_map_or};
-ghost use Rattle.dp_check.specs.Diagnoses.{Is, IsGap, SomeOf, first_weaker, first_outside, first_greater};
+ghost use Rattle.dp_check.specs.Diagnoses.{Is, IsGap, first_weaker, first_outside, first_greater, first_regrouped, is_kept};
 
 use crate::entailing::fact_entails;
 use crate::reason::Gap;
 use dp_model::{Fact, NumberRegister, PacketRegister, Row};
 
-/// The first register of which the first facts do not say all that the second do.
+/// The first register whose fact does not entail the wanted one.
 #[tactic(auto, using(dp_model::specs::Laws::Lists::each_index_drop, crate::proofs::GapLemmas::failing_drop))]
 fn fact_gap(facts: &[Fact; 8], others: &[Fact; 8]) -> Option<PacketRegister>
     ensures first { result ≡ first_weaker facts.now others.now }
@@ -26,11 +25,12 @@ fn fact_gap(facts: &[Fact; 8], others: &[Fact; 8]) -> Option<PacketRegister>
     None
 }
 
-/// The first register that belongs to the group in one of the two alone.
+/// The first register that belongs to the group in one of the two rows only.
 #[tactic(auto, using(dp_model::specs::Laws::Lists::each_index_drop, crate::proofs::GapLemmas::failing_drop))]
 fn member_gap(facts: &[Fact; 8], others: &[Fact; 8], group: u8) -> Option<PacketRegister>
     ensures first { result ≡ first_outside group facts.now others.now }
     ensures none { IfNone result (same_registers facts.now others.now group ≡ true) }
+    ensures differ { IfSome result (λ p. same_registers facts.now others.now group ≡ false) }
     ensures some { IfSome result (λ p. Is (slice_get facts.now p) (λ known.
         Is (slice_get others.now p) (λ wanted. beq (is_in group known) (is_in group wanted) ≡ false))) }
 {
@@ -42,7 +42,7 @@ fn member_gap(facts: &[Fact; 8], others: &[Fact; 8], group: u8) -> Option<Packet
     None
 }
 
-/// The first number that the first bounds let be greater than the second.
+/// The first number whose bound is greater than the wanted one.
 #[tactic(auto, using(dp_model::specs::Laws::Lists::each_index_drop, crate::proofs::GapLemmas::failing_drop))]
 fn bound_gap(bounds: &[u64; 8], others: &[u64; 8]) -> Option<NumberRegister>
     ensures first { result ≡ first_greater bounds.now others.now }
@@ -57,16 +57,16 @@ fn bound_gap(bounds: &[u64; 8], others: &[u64; 8]) -> Option<NumberRegister>
     None
 }
 
-/// The group of a register, and the first register that belongs to it in one of the two alone, where there is one.
+/// The group of a register, with the first register that belongs to it in one of the two rows only, if there is one.
 fn group_of_gap(
     facts: &[Fact; 8],
     others: &[Fact; 8],
     member: usize,
 ) -> Option<(u8, PacketRegister)>
     requires { member < 8 }
-    ensures none { IfNone result (Is (slice_get others.now member) (λ other. option_map_or (same_registers facts.now others.now) (group_of other) true
-        ≡ true)) }
-    ensures group { IfSome result (λ found. SomeOf (λ other. group_of other ≡ Some found.0) others.now) }
+    ensures none { IfNone result (Is (slice_get others.now member) (λ other. is_kept facts.now others.now other ≡ true)) }
+    ensures group { IfSome result (λ found. Is (slice_get others.now member)
+        (λ other. (is_kept facts.now others.now other ≡ false) × (group_of other ≡ Some found.0))) }
     ensures first { IfSome result (λ found. first_outside found.0 facts.now others.now ≡ Some found.1) }
     ensures some { IfSome result (λ found. Is (slice_get facts.now found.1)
         (λ known. Is (slice_get others.now found.1) (λ wanted. beq (is_in found.0 known) (is_in found.0 wanted) ≡ false))) }
@@ -76,10 +76,10 @@ fn group_of_gap(
     Some((group, packet))
 }
 
-/// The first group of the second facts that has not the same registers in the first, and a register in which they differ.
+/// The first group of the wanted facts that has other registers in the known ones, and a register in which they differ.
 fn groups_gap(facts: &[Fact; 8], others: &[Fact; 8]) -> Option<(u8, PacketRegister)>
     ensures none { IfNone result (keeps_groups facts.now others.now ≡ true) }
-    ensures group { IfSome result (λ found. SomeOf (λ other. group_of other ≡ Some found.0) others.now) }
+    ensures group { IfSome result (λ found. first_regrouped facts.now others.now ≡ Some found.0) }
     ensures first { IfSome result (λ found. first_outside found.0 facts.now others.now ≡ Some found.1) }
     ensures some { IfSome result (λ found. Is (slice_get facts.now found.1)
         (λ known. Is (slice_get others.now found.1) (λ wanted. beq (is_in found.0 known) (is_in found.0 wanted) ≡ false))) }
@@ -92,7 +92,7 @@ fn groups_gap(facts: &[Fact; 8], others: &[Fact; 8]) -> Option<(u8, PacketRegist
     None
 }
 
-/// What the row does not say of what the other wants.
+/// What `row` does not say of what `there` wants.
 pub(crate) fn gap(row: &Row, there: &Row) -> Gap
     requires { entails row.now there.now ≡ false }
     ensures { IsGap row.now there.now result }

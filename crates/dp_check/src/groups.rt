@@ -27,7 +27,7 @@ pub fn reshared(fact: Fact, group: u8, share: u8) -> Fact
     }
 }
 
-/// With another share of each register of the group.
+/// The facts with another share for each register of the group.
 fn all_reshared(facts: &[Fact; 8], group: u8, share: u8) -> [Fact; 8]
     ensures { result ≡ reshared group share facts.now }
 {
@@ -38,7 +38,7 @@ fn all_reshared(facts: &[Fact; 8], group: u8, share: u8) -> [Fact; 8]
     changed
 }
 
-/// The row with another share of each register of the group.
+/// The row with another share for each register of the group.
 fn with_shares(row: &Row, group: u8, share: u8) -> Row
     ensures { result ≡ with_shares row.now group share }
 {
@@ -57,7 +57,7 @@ fn share_of_group(group: u8) -> u8
     8 + group
 }
 
-/// The share of the registers that are left of a group.
+/// The share of the registers that remain of a group.
 fn share_left(row: &Row, group: u8) -> u8
     ensures { result ≡ share_left row.now.facts group }
 {
@@ -77,7 +77,7 @@ fn group_at(row: &Row, packet: PacketRegister) -> Option<u8>
     row.fact(packet).group()
 }
 
-/// With all registers of the register's group loose.
+/// The row with all registers of the register's group loose.
 fn dissolved(row: &Row, packet: PacketRegister) -> Row
     ensures { result ≡ dissolved row.now packet }
 {
@@ -87,14 +87,14 @@ fn dissolved(row: &Row, packet: PacketRegister) -> Row
     }
 }
 
-/// With the name, or none, that what is left of a group has.
+/// The row after the rest of a group gets its new name, or none.
 fn renamed(row: &Row, group: u8) -> Row
     ensures { result ≡ renamed row.now group }
 {
     with_shares(row, group, share_left(row, group))
 }
 
-/// With the register's packet freed.
+/// The row after the register's packet is freed.
 pub(crate) fn freed(row: &Row, packet: PacketRegister) -> Row
     ensures { result ≡ after_free row.now packet }
 {
@@ -104,14 +104,14 @@ pub(crate) fn freed(row: &Row, packet: PacketRegister) -> Row
     }
 }
 
-/// With the register's packet taken into a list.
+/// The row after the register's packet moves into a list.
 pub(crate) fn sent(row: &Row, packet: PacketRegister) -> Row
     ensures { result ≡ after_leave row.now packet }
 {
     emptied(&dissolved(row, packet), packet)
 }
 
-/// With the second packet's segments behind the first's, and their groups dissolved.
+/// The row after the second packet's segments are appended to the first's, and their groups are dissolved.
 #[tactic(auto, using(crate::proofs::RowLemmas::dissolved_fits))]
 pub(crate) fn chained(row: &Row, front: PacketRegister, back: PacketRegister) -> Row
     requires { IsTrue (is_well_formed_row row.now) }
@@ -121,7 +121,7 @@ pub(crate) fn chained(row: &Row, front: PacketRegister, back: PacketRegister) ->
     joined(&loose, front, back)
 }
 
-/// The share of a packet that belongs to no group, and of its clone.
+/// The share of an ungrouped packet and of its clone.
 fn twin_share(into: PacketRegister, from: PacketRegister, holding: Holding) -> u8
     ensures { result ≡ twin_share into from holding }
 {
@@ -132,7 +132,7 @@ fn twin_share(into: PacketRegister, from: PacketRegister, holding: Holding) -> u
     }
 }
 
-/// With a clone of a register's packet in another, and the same share of both.
+/// The row with a clone of a register's packet in another, both with this share.
 fn with_twin(
     row: &Row,
     into: PacketRegister,
@@ -149,7 +149,7 @@ fn with_twin(
     )
 }
 
-/// With a clone of a register's packet in another, which joins the group.
+/// The row with a clone of a register's packet in another, which joins the group.
 fn with_member(
     row: &Row,
     into: PacketRegister,
@@ -163,8 +163,7 @@ fn with_member(
     with_twin(&with_shares(row, group, name), into, from, holding, name)
 }
 
-/// With a clone of a register's packet in another: it joins the group of its source, or makes one with a source that is
-/// sole.
+/// The row after a register's packet is cloned into another: the clone joins the group of its source, or makes one with a sole source.
 #[tactic(auto, using(crate::proofs::RowLemmas::cloned_is))]
 pub(crate) fn cloned(row: &Row, into: PacketRegister, from: PacketRegister) -> Row
     ensures { result ≡ after_clone row.now into from }

@@ -1,4 +1,4 @@
-//! What is known of the packet in a register, and how an instruction on one packet changes it.
+//! The fact of the packet in a register, and how an instruction on one packet changes it.
 
 ghost use Rattle.std.specs.Prelude.{◌≡◌, ◌≤◌, IsTrue};
 ghost use Rattle.std.specs.List.{list_all};
@@ -18,7 +18,7 @@ pub(crate) fn held_at(row: &Row, packet: PacketRegister) -> Option<Holding>
     row.fact(packet).holding()
 }
 
-/// With another fact of the register.
+/// The row with another fact of the register.
 fn with_fact(row: &Row, packet: PacketRegister, fact: Fact) -> Row
     ensures { result ≡ with_fact row.now packet fact }
 {
@@ -27,21 +27,21 @@ fn with_fact(row: &Row, packet: PacketRegister, fact: Fact) -> Row
     changed
 }
 
-/// With that known of the register's packet.
+/// The row with this known of the register's packet.
 pub(crate) fn with_held(row: &Row, packet: PacketRegister, holding: Holding) -> Row
     ensures { result ≡ with_fact row.now packet (held holding) }
 {
     with_fact(row, packet, Fact::from(holding))
 }
 
-/// With the register empty.
+/// The row with the register empty.
 pub(crate) fn emptied(row: &Row, packet: PacketRegister) -> Row
     ensures { result ≡ emptied row.now packet }
 {
     with_fact(row, packet, Fact::Empty)
 }
 
-/// After so many bytes before the first segment.
+/// The fact after `prepend packet, count`.
 pub(crate) fn prepended(row: &Row, packet: PacketRegister, count: u16) -> Row
     ensures { result ≡ changed row.now packet (after_prepend count) }
 {
@@ -57,7 +57,7 @@ pub(crate) fn prepended(row: &Row, packet: PacketRegister, count: u16) -> Row
     with_held(row, packet, after)
 }
 
-/// After a cut of so many bytes in front.
+/// The fact after `adj packet, count`.
 pub(crate) fn cut_in_front(row: &Row, packet: PacketRegister, count: u16) -> Row
     ensures { result ≡ changed row.now packet (after_adj count) }
 {
@@ -73,7 +73,7 @@ pub(crate) fn cut_in_front(row: &Row, packet: PacketRegister, count: u16) -> Row
     with_held(row, packet, after)
 }
 
-/// After so many bytes behind the last segment.
+/// The fact after `append packet, count`.
 pub(crate) fn appended(row: &Row, packet: PacketRegister, count: u16) -> Row
     ensures { result ≡ changed row.now packet (after_append count) }
 {
@@ -89,7 +89,7 @@ pub(crate) fn appended(row: &Row, packet: PacketRegister, count: u16) -> Row
     with_held(row, packet, after)
 }
 
-/// After a cut of so many bytes behind.
+/// The fact after `trim packet, count`.
 pub(crate) fn cut_behind(row: &Row, packet: PacketRegister, count: u16) -> Row
     ensures { result ≡ changed row.now packet (after_trim count) }
 {
@@ -105,7 +105,7 @@ pub(crate) fn cut_behind(row: &Row, packet: PacketRegister, count: u16) -> Row
     with_held(row, packet, after)
 }
 
-/// With a part of the packet at least that.
+/// The holding, with a measure at least that.
 fn raised(h: Holding, part: Measure, least: u16) -> Holding
     ensures { result ≡ raised part least h }
 {
@@ -129,7 +129,7 @@ fn raised(h: Holding, part: Measure, least: u16) -> Holding
     }
 }
 
-/// Where a part of the register's packet is at least that.
+/// The row where a measure of the register's packet is at least that.
 pub(crate) fn with_least(row: &Row, packet: PacketRegister, part: Measure, least: u16) -> Row
     ensures { result ≡ changed row.now packet (raised part least) }
 {
@@ -139,7 +139,7 @@ pub(crate) fn with_least(row: &Row, packet: PacketRegister, part: Measure, least
     with_held(row, packet, raised(h, part, least))
 }
 
-/// With another share of the register's packet.
+/// The row with another share of the register's packet.
 pub(crate) fn with_share(row: &Row, packet: PacketRegister, share: u8) -> Row
     ensures { result ≡ changed row.now packet (shared share) }
 {
@@ -149,7 +149,7 @@ pub(crate) fn with_share(row: &Row, packet: PacketRegister, share: u8) -> Row
     with_held(row, packet, Holding { share, ..h })
 }
 
-/// With a new packet in the register, of a pool with this room.
+/// The row with a new packet in the register, of a pool with this data room.
 pub(crate) fn allocated(row: &Row, packet: PacketRegister, room: u16) -> Row
     ensures { result ≡ with_fact row.now packet (after_alloc room) }
 {
@@ -172,7 +172,7 @@ pub fn owns_head(share: u8) -> bool
     share == 1 || share == 2
 }
 
-/// The share of two packets that are chained.
+/// The share of two chained packets.
 fn chained_share(front: u8, back: u8) -> u8
     ensures { result ≡ chained_share front back }
 {
@@ -185,7 +185,7 @@ fn chained_share(front: u8, back: u8) -> u8
     }
 }
 
-/// With these segments behind those of the register's packet.
+/// The row with these segments appended to those of the register's packet.
 #[tactic(auto, using(crate::proofs::RowLemmas::few_segs))]
 fn with_behind(row: &Row, packet: PacketRegister, behind: Holding) -> Row
     requires in_range { IsTrue (list_all is_fact_of_row row.now.facts) }
@@ -205,7 +205,7 @@ fn with_behind(row: &Row, packet: PacketRegister, behind: Holding) -> Row
     with_held(row, packet, after)
 }
 
-/// With the second packet's segments behind the first's, where neither belongs to a group.
+/// The row after the second packet's segments are appended to the first's, where neither belongs to a group.
 #[tactic(auto, using(crate::proofs::RowLemmas::few_segs))]
 pub(crate) fn joined(row: &Row, front: PacketRegister, back: PacketRegister) -> Row
     requires { IsTrue (list_all is_fact_of_row row.now.facts) }

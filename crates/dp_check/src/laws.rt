@@ -1,4 +1,4 @@
-//! What holds of all checks, as a contract of a function that does nothing.
+//! A law of checks, as a contract of a function that does nothing.
 
 ghost use Rattle.std.specs.Prelude.{◌↔◌, ℕ, List};
 ghost use Rattle.dp_model.specs.declared.env.Entry.{Entry};
@@ -9,8 +9,7 @@ ghost use Rattle.dp_model.specs.Rules.{IsAccepted, IsRefused};
 ghost use Rattle.dp_cert.specs.Spelling.{Certificate, raised};
 ghost use Rattle.dp_check.specs.Faults.{question};
 
-/// A certificate and what `Cert::raise` makes of it get the same answer, and where that is a refusal, at the same label by
-/// the same rule.
+/// A certificate and its `Cert::raise` get the same answer, and a refusal is at the same label by the same rule.
 pub fn raised_certificates_get_the_same_answer()
     ensures accepted { (program : List Instr) (cert : Certificate) (env : Environment) (entry : Entry) →
         (IsAccepted (question program cert env entry)) ↔ (IsAccepted (question program (raised cert) env entry)) }

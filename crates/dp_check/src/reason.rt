@@ -1,16 +1,16 @@
-//! Why a rule fails: what is known, and what is wanted.
+//! The reasons for which rules fail: what is known, and what is wanted.
 
 ghost use Rattle.std.specs.Prelude.{◌≡◌};
 ghost use Rattle.dp_check.specs.Diagnoses.{rule_of};
 
 use dp_model::{Fact, NumberRegister, PacketRegister, Rule};
 
-/// What of a packet an instruction takes, in bytes.
+/// What an instruction takes of a packet, in bytes.
 #[derive(Clone, Copy, Debug, PartialEq, Eq)]
 pub enum Measure {
-    /// The room before the first segment.
+    /// The room before the first segment's data.
     Headroom,
-    /// The room behind the last segment.
+    /// The room after the last segment's data.
     Tailroom,
     /// The length of the first segment.
     First,
@@ -18,26 +18,26 @@ pub enum Measure {
     Last,
 }
 
-/// A part of a row that another row wants and that does not follow from what is known.
+/// A part of a row that another row wants and this row does not entail.
 #[derive(Clone, Copy, Debug, PartialEq, Eq)]
 pub enum Gap {
-    /// The certificate says that control never comes there.
+    /// The certificate says that control never reaches the instruction.
     Dead,
-    /// Of this packet register more is wanted than is known.
+    /// More is wanted of this packet register than is known.
     Packet {
         packet: PacketRegister,
         known: Fact,
         wanted: Fact,
     },
-    /// This register belongs to the sharing group, which is wanted with just its registers, in one of the rows alone. A
-    /// group is named by its least register, 0 to 7.
+    /// The sharing group is wanted with exactly its registers, and this register belongs to it in one of the rows only. A group is named by its least
+    /// register, 0 to 7.
     Group {
         group: u8,
         packet: PacketRegister,
         known: Fact,
         wanted: Fact,
     },
-    /// This number can be greater than is wanted.
+    /// The number can be greater than is wanted.
     Number {
         register: NumberRegister,
         known: u64,
@@ -48,7 +48,7 @@ pub enum Gap {
 /// Why a rule fails at an instruction: what is known there, and what the rule wants.
 #[derive(Clone, Copy, Debug, PartialEq, Eq)]
 pub enum Reason {
-    /// J1: the certificate has another number of rows than the program has instructions.
+    /// J1: the certificate's rows are more or fewer than the instructions.
     RowCount {
         known: usize,
         wanted: usize,
@@ -57,22 +57,22 @@ pub enum Reason {
     NoEntry,
     /// J2: the first row wants more than is known at the entry.
     EntryRow(Gap),
-    /// J3: the environment has only so many pools.
+    /// J3: the environment has no such pool.
     NoPool {
         pool: u8,
         known: usize,
     },
-    /// J3: the environment has only so many tables.
+    /// J3: the environment has no such table.
     NoTable {
         table: u8,
         known: u8,
     },
-    /// J3: the environment has only so many rings.
+    /// J3: the environment has no such ring.
     NoRing {
         ring: u8,
         known: usize,
     },
-    /// J3: control goes to a label behind the last instruction.
+    /// J3: control goes to a label after the last instruction.
     NoInstruction {
         to: u16,
         known: usize,
@@ -81,7 +81,7 @@ pub enum Reason {
     NotHeld {
         packet: PacketRegister,
     },
-    /// J5: the register that gets a packet holds one.
+    /// J5: the register that gets a packet already holds one.
     NotEmpty {
         packet: PacketRegister,
         known: Fact,
@@ -90,8 +90,7 @@ pub enum Reason {
     OneRegister {
         packet: PacketRegister,
     },
-    /// J6: the packet has so few bytes of that; wanted are `count` bytes from `start` on, which is the index's greatest
-    /// value.
+    /// J6: the packet has too few bytes: `count` are wanted from `start` on, the greatest value of the index.
     TooLittle {
         packet: PacketRegister,
         part: Measure,
@@ -99,20 +98,20 @@ pub enum Reason {
         start: u64,
         count: u32,
     },
-    /// J7: what is written may be shared; the share that is wanted is 1, or 2 behind several segments.
+    /// J7: what is written may be shared; the wanted share is 1, or 2 at the end of several segments.
     NotAlone {
         packet: PacketRegister,
         known: Fact,
         wanted: u8,
     },
-    /// J8: the two packets can have so many segments, more than 64 together.
+    /// J8: the two packets can have more than 64 segments together.
     TooLong {
         front: PacketRegister,
         back: PacketRegister,
         known: u8,
         more: u8,
     },
-    /// J9: the number can be as great as that, and there are only so many ports.
+    /// J9: the number can exceed the ports of the environment.
     NoPort {
         register: NumberRegister,
         known: u64,
@@ -125,12 +124,12 @@ pub enum Reason {
         known: Fact,
         wanted: Fact,
     },
-    /// J10: the register holds a packet at the end.
+    /// J10: the register holds a packet at the exit.
     LeftOver {
         packet: PacketRegister,
         known: Fact,
     },
-    /// J11: the row at this label, where control goes, wants more than is known after the instruction.
+    /// J11: the row of this successor wants more than is known after the instruction.
     Successor {
         to: u16,
         gap: Gap,

@@ -1,18 +1,18 @@
-//! What an instruction wants and does not get, for each rule that fails at it.
+//! Tests what an instruction needs, rule by rule, and says what is missing.
 
 ghost use Rattle.std.specs.Prelude.{◌≡◌, ℕ, ◌+◌, ◌<◌, ◌≤◌, true, false, not, find, length, IfSome, IfNone, MatchOption, slice_get};
 ghost use Rattle.std.specs.List.{list_all};
 ghost use Rattle.dp_model.specs.declared.rule.Rule.TheVariants.{J3, J5, J6, J7, J8, J9, J10};
 ghost use Rattle.dp_model.specs.Rows.{entails_share, is_empty};
 ghost use Rattle.dp_model.specs.Rules.{Question, indices_exist, is_held, uses, targets_fit, bytes_fit, share_fits, segments_fit, may_leave, may_end};
-ghost use Rattle.dp_check.specs.Diagnoses.{Is, Says, SomeOf, first_held, measured, measured_at, rule_of, segs_in, share_in};
+ghost use Rattle.dp_check.specs.Diagnoses.{Is, Says, first_held, measured, measured_at, rule_of, segs_in, share_in};
 
 use crate::entailing::{fact_entails, share_entails};
 use crate::reason::Measure::{self, First, Headroom, Last, Tailroom};
 use crate::reason::Reason;
 use dp_model::{Env, Fact, Instr, MOST_SEGMENTS, PacketRegister, Row};
 
-/// The pool, the table or the ring that is not there, if the instruction names one.
+/// The pool, table or ring that the instruction names and the environment does not have.
 pub(crate) fn missing_index(env: &Env, instr: Instr) -> Option<Reason>
     ensures none { IfNone result (indices_exist env.now instr ≡ true) }
     ensures some { IfSome result (λ reason. (indices_exist env.now instr ≡ false) × (rule_of reason ≡ J3)) }
@@ -57,12 +57,11 @@ fn not_held(row: &Row, packet: PacketRegister) -> Option<PacketRegister>
     }
 }
 
-/// A packet register that is used and empty, if there is one.
+/// The first packet register that is used and empty, if there is one.
 pub(crate) fn empty_use(row: &Row, instr: Instr) -> Option<PacketRegister>
     ensures first { result ≡ find (λ p. not (is_held row.now p)) (uses instr) }
     ensures none { IfNone result (list_all (is_held row.now) (uses instr) ≡ true) }
-    ensures some { IfSome result (λ p. (list_all (is_held row.now) (uses instr) ≡ false)
-        × SomeOf (λ used. used ≡ p) (uses instr) × (is_held row.now p ≡ false)) }
+    ensures some { IfSome result (λ p. (list_all (is_held row.now) (uses instr) ≡ false) × (is_held row.now p ≡ false)) }
 {
     match instr {
         Instr::Free { packet }
@@ -89,7 +88,7 @@ pub(crate) fn empty_use(row: &Row, instr: Instr) -> Option<PacketRegister>
     }
 }
 
-/// The register that should be empty, or that is chained to itself, if there is one.
+/// The target that is not empty, or the register that is chained to itself, if there is one.
 pub(crate) fn unfit_target(row: &Row, instr: Instr) -> Option<Reason>
     ensures none { IfNone result (targets_fit row.now instr ≡ true) }
     ensures some { IfSome result (λ reason. (targets_fit row.now instr ≡ false) × (rule_of reason ≡ J5)) }
@@ -118,7 +117,7 @@ pub(crate) fn unfit_target(row: &Row, instr: Instr) -> Option<Reason>
     }
 }
 
-/// What a fact says of a part, in bytes.
+/// What a fact says of a measure, in bytes.
 fn measured(part: Measure, fact: Fact) -> u16
     ensures { result ≡ measured part fact }
 {
@@ -139,7 +138,7 @@ fn measured(part: Measure, fact: Fact) -> u16
     }
 }
 
-/// Too little of a part of a packet, if it is too little.
+/// The reason, if a measure of a packet is too small.
 fn too_little(
     row: &Row,
     packet: PacketRegister,
@@ -163,7 +162,7 @@ fn too_little(
     })
 }
 
-/// What is taken and is not there, if it is not.
+/// The reason, if bytes or room that the instruction takes are not there.
 pub(crate) fn unfit_bytes(row: &Row, instr: Instr) -> Option<Reason>
     requires held { list_all (is_held row.now) (uses instr) ≡ true }
     ensures none { IfNone result (bytes_fit row.now instr ≡ true) }
@@ -211,7 +210,7 @@ pub(crate) fn unfit_bytes(row: &Row, instr: Instr) -> Option<Reason>
     }
 }
 
-/// How many segments a fact lets the packet have.
+/// The most segments that a fact lets the packet have.
 fn segs_in(fact: Fact) -> u8
     ensures { result ≡ segs_in fact }
 {
@@ -221,7 +220,7 @@ fn segs_in(fact: Fact) -> u8
     }
 }
 
-/// The share that a fact promises.
+/// The share in a fact.
 fn share_in(fact: Fact) -> u8
     ensures { result ≡ share_in fact }
 {
@@ -231,7 +230,7 @@ fn share_in(fact: Fact) -> u8
     }
 }
 
-/// The packet that is written with less than the share that is wanted, if it is less.
+/// The reason, if a packet that is written has a smaller share than wanted.
 fn not_alone(packet: PacketRegister, known: Fact, wanted: u8) -> Option<Reason>
     ensures { MatchOption result (entails_share (share_in known) wanted ≡ true)
         (λ reason. (entails_share (share_in known) wanted ≡ false) × (reason ≡ Reason.NotAlone packet known wanted)) }
@@ -246,7 +245,7 @@ fn not_alone(packet: PacketRegister, known: Fact, wanted: u8) -> Option<Reason>
     })
 }
 
-/// The packet that is written though others may have it, if they may.
+/// The reason, if a packet that is written may be shared.
 pub(crate) fn unfit_share(row: &Row, instr: Instr) -> Option<Reason>
     requires held { list_all (is_held row.now) (uses instr) ≡ true }
     ensures none { IfNone result (share_fits row.now instr ≡ true) }
@@ -266,7 +265,7 @@ pub(crate) fn unfit_share(row: &Row, instr: Instr) -> Option<Reason>
     }
 }
 
-/// The packets that are too long together, if they are.
+/// The reason, if two packets can be too long together.
 pub(crate) fn unfit_segments(row: &Row, instr: Instr) -> Option<Reason>
     requires held { list_all (is_held row.now) (uses instr) ≡ true }
     ensures none { IfNone result (segments_fit row.now instr ≡ true) }
@@ -291,7 +290,7 @@ pub(crate) fn unfit_segments(row: &Row, instr: Instr) -> Option<Reason>
     }
 }
 
-/// The port that is not there, or what the ring declares, if there is less.
+/// The reason, if the port does not exist or the ring declares more than is known.
 pub(crate) fn unfit_exit(env: &Env, row: &Row, instr: Instr) -> Option<Reason>
     requires places { indices_exist env.now instr ≡ true }
     ensures none { IfNone result (may_leave env.now row.now instr ≡ true) }
@@ -344,7 +343,7 @@ fn first_held(facts: &[Fact; 8]) -> Option<PacketRegister>
     None
 }
 
-/// The packet that is held at the end, if one is.
+/// The reason, if a packet is held at the exit.
 pub(crate) fn unfit_end(row: &Row, instr: Instr) -> Option<Reason>
     ensures none { IfNone result (may_end row.now instr ≡ true) }
     ensures some { IfSome result (λ reason. (may_end row.now instr ≡ false) × (rule_of reason ≡ J10)) }

@@ -1,4 +1,4 @@
--- Lines that stand behind one another, where the last of them may not be told.
+-- Lines one after another, the last of which may be unknown.
 use Rattle.std.proofs.Common.{ℕ, List, ◌++◌, Option, Some, None}
 use Rattle.std.specs.Prelude.{IfSome, option_map}
 use Rattle.std.specs.Io.KnownBytes.{Appends}
@@ -10,7 +10,7 @@ pub told_behind : (a b c : Option (List ℕ)) (front : List ℕ) (behind : Optio
 told_behind a b c front None p q = tt
 told_behind a b c front (Some line) p q = Appends-trans a b c front line p q
 
--- two texts, and then another
+-- two texts, then another
 pub told_behind_both : (a b c d : Option (List ℕ)) (front middle : List ℕ) (behind : Option (List ℕ)) → Appends a b front → Appends b c middle →
     IfSome behind (Appends c d)
     → IfSome (option_map (λ line. front ++ (middle ++ line)) behind) (Appends a d)

@@ -79,7 +79,7 @@ is_taken zeros n a old new block offset before after own_offset asked filled tak
       printed = rw here.1 at at;
     }
 
--- ---- the first block of a number
+-- ---- the first block with a number
 
 record Parts (p : Held → Bool) (xs : List Held) (k : ℕ) (x : Held) : Type 0 where
   none : list_any p (take k xs) ≡ false

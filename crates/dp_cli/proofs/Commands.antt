@@ -15,7 +15,7 @@ use Rattle.std.proofs.lemmas.Slice.Eq.{bytes_eq-Decides}
 use Rattle.std.proofs.lemmas.Str.{IsAscii-append, IsUtf8-from_ascii}
 use Rattle.std.proofs.lemmas.Str.Ascii.{IsAscii-cons, IsAscii-nil}
 use Rattle.std.proofs.lemmas.Str.Parse.{numerals_by_value, tells_all_ascii_digits, parse_digits}
-use Rattle.dp_cli.specs.declared.script.Command.{Command}
+use Rattle.dp_cli.specs.declared.mem.script.Command.{Command}
 use Rattle.dp_cli.specs.Commands.{command_in, command_of_words, number_in, with_number, with_numbers}
 
 -- ---- one number
@@ -122,6 +122,6 @@ no_command line None bad e = refl
 no_command line (Some x) bad e =
     absurd (bad (IsUtf8-from_ascii line (subst IsAscii (join_with_byte-slice_split 32 line) (words_ascii (slice_split (λ b. b == 32) line) x e))))
 
--- what is no text is no command
+-- what is not UTF-8 is no command
 pub no_text : (line : List ℕ) → (IsUtf8 line → ⊥) → None ≡ command_in line
 no_text line bad = no_command line (command_in line) bad refl

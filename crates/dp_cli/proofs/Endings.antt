@@ -1,4 +1,4 @@
--- With which statuses a verdict ends.
+-- The statuses with which a verdict ends.
 use Rattle.std.proofs.Common.{◌≡◌, ◌⊎◌, ℕ, Option, Result, Ok, Err, inl, inr}
 use Rattle.std.specs.Prelude.{IfErr}
 use Rattle.dp_model.specs.Environments.{Environment}
@@ -9,7 +9,7 @@ use Rattle.dp_pipe.specs.Nodes.{Node}
 use Rattle.dp_cli.specs.Judging.{IsNodeTold}
 use Rattle.dp_cli.specs.Told.{IsTold, status_of}
 
--- what holds of an error, where there is one
+-- what holds of an error, if there is one
 pub if_err : {A E : Type 0} (r : Result A E) (P Q : E → Type 0) → ((e : E) → P e → Q e) → IfErr r P → IfErr r Q
 if_err (Ok a) P Q f h = tt
 if_err (Err e) P Q f h = f e h
@@ -27,7 +27,7 @@ told_error (Refused _ _ _) s told = told_one s told
 told_error _ s (inl e) = inl (inr (inl e))
 told_error _ s (inr other) = inl (inr other)
 
--- what is told of a node ends with 0 or 1, or 3 or 4
+-- a node's report ends with 0 or 1, or 3 or 4
 pub node_ends : (known : Option FileMap) (env : Environment) (node : Node) (s : ℕ) → IsNodeTold known env node s → IsTold 0 s ⊎ (s ≡ 1)
 node_ends known env node s (inl told) = elim told.verdict [
   | inl v ↦ inl v.1

@@ -3,7 +3,12 @@ pub mod Counts
 pub mod Endings
 mod Lines
 mod Numbers
-pub mod Lowering
 pub mod Blocks
 pub mod Commands
 pub mod Playing
+pub mod Closing
+pub mod Took
+pub mod Devices
+pub mod Found
+pub mod Names
+pub mod Guarding

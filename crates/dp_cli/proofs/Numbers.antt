@@ -51,11 +51,11 @@ unread word e = rw e refl
 
 -- ---- several numbers
 
--- those so far, and those behind
+-- those so far, then the others
 abbrev pub continued : List ℕ → Option (List ℕ) → Option (List ℕ)
 continued front rest = option_map (λ ns. front ++ ns) rest
 
--- those of the words from one on
+-- the numbers of the words from one on
 abbrev pub left : ℕ → ℕ → List (Bor (List ℕ)) → Option (List ℕ)
 left last i words = ascending_in last (map (λ word. word.now) (drop i words))
 

@@ -1,4 +1,4 @@
--- The lines of a script, one after the other.
+-- The lines of a script, one after another.
 use Rattle.std.proofs.Common.{Bor, ◌≡◌, ℕ, zero, suc, ◌+◌, ◌-◌, ◌^◌, ◌<◌, ◌≤◌, min, Bool, true, false, List, [], ◌∷◌, ◌++◌, length, drop, take, Option, Some}
 use Rattle.std.proofs.Common.{None, inl, inr, refl, sym, ◌∙◌, ap, subst, arith, append_assoc, append-nil}
 use Rattle.std.specs.Prelude.{◌==◌, IfSome, cond, nat_lt, not, option_map, replicate}
@@ -11,7 +11,7 @@ use Rattle.std.proofs.lemmas.Option.{same_Some}
 use Rattle.dp_region.specs.Region.{IsRegionSize}
 use Rattle.dp_cli.specs.declared.mem.Ending.{Ending}
 use Rattle.dp_cli.specs.declared.mem.Ending.TheVariants as ending
-use Rattle.dp_cli.specs.declared.script.Command.TheVariants.{Region}
+use Rattle.dp_cli.specs.declared.mem.script.Command.TheVariants.{Region}
 use Rattle.dp_cli.specs.Commands.{command_in}
 use Rattle.dp_cli.specs.Scripts.{IsBad, IsEnding, IsLineDone, IsNoRegion, IsPrinted, Plays, Runs, Stage, first_from, fresh, lines_left, script_lines}
 
@@ -95,7 +95,7 @@ pub first_found : (k : ℕ) (lines rest : List (List ℕ)) (line : List ℕ) (o 
     → first_from k lines ≡ o → Some (k, (line, rest)) ≡ o
 first_found k lines rest line o is some so_far = sym (first_here k line rest some) ∙ sym (ap (first_from k) is) ∙ so_far
 
--- ---- what is run from there
+-- ---- what runs from there
 
 pub runs_none : (k : ℕ) (lines : List (List ℕ)) → first_from k lines ≡ None → Runs k lines [] None
 runs_none k [] e = (refl, refl)
@@ -124,9 +124,9 @@ runs_on k n ((b ∷ bs) ∷ lines) rest line size text fault e is fits plays =
           (subst (λ m. Plays (suc m) rest (fresh size) text fault) (sym (ap (λ t. t.0) same)) plays),
     )
 
--- ---- lines that are played
+-- ---- lines that run
 
--- from the first of all, in the stage s, up to those behind the one with the number n, in the stage t
+-- from the first of all, in the state s, up to those after the one with the number n, in the state t
 pub record Played (base : ℕ) (all : List (List ℕ)) (s : Stage) (n : ℕ) (lines : List (List ℕ)) (t : Stage) (before after : Option (List ℕ)) : Type 0 where
   pub so_far : List ℕ
   pub goes_on : (text : List ℕ) (fault : Option ℕ) → Plays (suc n) lines t text fault → Plays base all s (so_far ++ text) fault
@@ -180,7 +180,7 @@ played_bad base all s k n lines rest line t a b d e is some bad same played = re
   printed = subst (λ o. Appends a o played.so_far) same played.printed;
 }
 
--- ---- what is left, in a loop
+-- ---- the rest, in a loop
 
 abbrev left : Option (Bor (List ℕ)) → List (List ℕ)
 left rest = lines_left (option_map (λ more. more.now) rest)

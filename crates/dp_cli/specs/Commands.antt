@@ -1,13 +1,13 @@
--- Which command a line of a heap script is.
+-- Lines of heap scripts as commands.
 use Rattle.std.specs.Prelude.{ℕ, ◌^◌, List, [], ◌∷◌, ◌==◌, ◌&&◌, Option, Some, None, codes, length, nat_lt, option_and_then, if◌then◌else◌}
 use Rattle.std.specs.Char.{is_ascii_digit}
 use Rattle.std.specs.List.{list_all, slice_split}
 use Rattle.std.specs.Str.{bytes_eq}
 use Rattle.std.specs.Str.Parse.{digits_value}
-use Rattle.dp_cli.specs.declared.script.Command.{Command}
-use Rattle.dp_cli.specs.declared.script.Command.TheVariants.{Region, Malloc, Zmalloc, Free, List as ListAll, Stats}
+use Rattle.dp_cli.specs.declared.mem.script.Command.{Command}
+use Rattle.dp_cli.specs.declared.mem.script.Command.TheVariants.{Region, Malloc, Zmalloc, Free, List as ListAll, Stats}
 
--- the number that a word is: one decimal digit or more, and below 2^32
+-- a word as a number: one or more decimal digits, below 2^32
 abbrev pub number_in : List ℕ → Option ℕ
 number_in word = if list_all is_ascii_digit word && (nat_lt 0 (length word) && nat_lt (digits_value 10 word) (2 ^ 32)) then Some (digits_value 10 word) else
     None
@@ -31,6 +31,6 @@ command_of_words (word ∷ first ∷ []) = option_and_then (with_number word) (n
 command_of_words (word ∷ first ∷ second ∷ []) = option_and_then (λ n. option_and_then (with_numbers word n) (number_in second)) (number_in first)
 command_of_words _ = None
 
--- that of a line, whose words are parted by one space
+-- the command of a line, whose words have one space between them
 abbrev pub command_in : List ℕ → Option Command
 command_in line = command_of_words (slice_split (λ b. b == 32) line)

@@ -28,11 +28,11 @@ element_text e = elim e.state [
 abbrev pub element_line : Element → List ℕ
 element_line e = element_text e ++ 10 ∷ []
 
--- those of a heap, from the lowest offset
+-- the lines of a heap's elements, in order of offsets
 abbrev pub list_text : List Element → List ℕ
 list_text es = flat_map element_line es
 
--- the line of a success: its number, the offset of its data, and the element of these
+-- the line of an allocation: its number, the offset of its data, and the element of these
 abbrev pub block_line : ℕ → ℕ → Element → List ℕ
 block_line number offset e =
     (decimal number ++ (codes " data " ++ (decimal offset ++ (codes " element " ++ (decimal e.offset ++ (codes " + " ++ decimal e.size)))))) ++ 10 ∷ []

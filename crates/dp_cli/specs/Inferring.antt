@@ -1,4 +1,4 @@
--- What `dpv infer-one` prints and tells of a program by itself.
+-- What `dpv infer-one` prints and reports of a program by itself.
 use Rattle.std.specs.Prelude.{◌≡◌, ℕ, ◌⊎◌, List, Option, None}
 use Rattle.std.specs.Io.KnownBytes.{Appends}
 use Rattle.dp_model.specs.declared.env.Entry.{Entry}
@@ -11,11 +11,12 @@ use Rattle.dp_pipe.specs.Files.{FileMap}
 use Rattle.dp_pipe.specs.Nodes.{Node, IsProgramOf, Fails}
 use Rattle.dp_cli.specs.Told.{IsTold, refusal_line, status_of}
 
--- a node with this program file, and none for a certificate
+-- a node with this program file and no certificate
 abbrev pub by_itself : Entry → List ℕ → Node
 by_itself entry name = record { entry = entry; program = name; cert = None }
 
--- the certificate of a node's program: it is accepted with it, no other says more, if it is forward, and it has the version of its rows
+-- the certificate of a node's program: the program is accepted with it, no other says more if the program is forward, and it has the version of its
+-- rows
 pub record IsInferred (known : Option FileMap) (env : Environment) (node : Node) (cert : Certificate) : Type 0 where
   pub program : List Instr
   pub read : IsProgramOf known node.program program
@@ -35,7 +36,7 @@ pub record HasInferred (known : Option FileMap) (env : Environment) (node : Node
   pub inferred : IsInferred known env node cert
   pub told : IsTold 0 status
 
--- why there is none was told
+-- why there is none was reported
 pub record IsNoneTold (known : Option FileMap) (env : Environment) (node : Node) (status : ℕ) : Type 0 where
   pub error : PipeError
   pub fails : Fails known env node error

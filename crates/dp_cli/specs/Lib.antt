@@ -1,10 +1,18 @@
+pub mod Closing
 pub mod Commands
+pub mod Counting
 pub mod FaultReasons
+pub mod Guarding
 pub mod Heaps
 pub mod Inferring
+pub mod Inputs
 pub mod Judging
+pub mod Names
 pub mod Operands
+pub mod Outlets
+pub mod Outputs
 pub mod Pipelines
+pub mod Printing
 pub mod Progress
 pub mod Report
 pub mod Run
@@ -12,3 +20,4 @@ pub mod Scripts
 pub mod SinglePort
 pub mod Told
 pub mod Tracing
+pub mod Truncated

@@ -18,20 +18,20 @@ abbrev pub word_of : Entry → List ℕ
 word_of (Port number) = codes "port" ++ (48 + number) ∷ []
 word_of (Ring number) = codes "ring" ++ (48 + number) ∷ []
 
--- the number that a word is: one decimal digit or more, and below 2^64
+-- a word as a number: one or more decimal digits, below 2^64
 abbrev pub number_in : List ℕ → Option ℕ
 number_in word = if list_all is_ascii_digit word && (nat_lt 0 (length word) && nat_lt (digits_value 10 word) (2 ^ 64)) then Some (digits_value 10 word)
     else None
 
--- the number of records that a word is: from 1 to the most turns of a run
+-- a word as a number of records: from 1 to the most turns of a run
 abbrev pub records_in : List ℕ → Option ℕ
 records_in word = option_and_then (λ n. if nat_lt 0 n && nat_le n MOST_TURNS then Some n else None) (number_in word)
 
--- the port that a word is: below 8
+-- a word as a port: below 8
 abbrev pub port_in : List ℕ → Option ℕ
 port_in word = option_and_then (λ n. if nat_lt n 8 then Some n else None) (number_in word)
 
--- the numbers of words, each above the one before it
+-- words as numbers, ascending
 abbrev pub ascending_in : ℕ → List (List ℕ) → Option (List ℕ)
 ascending_in last [] = Some []
 ascending_in last (word ∷ words) =
@@ -41,6 +41,11 @@ ascending_in last (word ∷ words) =
 abbrev pub words_in : List ℕ → List (List ℕ)
 words_in list = slice_split (λ b. b == 44) list
 
--- the numbers of a list, from 1 on, each above the one before it
+-- the numbers of a list, from 1 on, ascending
 abbrev pub numbers_in : List ℕ → Option (List ℕ)
 numbers_in list = ascending_in 0 (words_in list)
+
+-- the calls that a run refuses: those of the list that is given, where there is one
+abbrev pub calls_refused : Option (List ℕ) → Option (List ℕ)
+calls_refused None = Some []
+calls_refused (Some list) = numbers_in list

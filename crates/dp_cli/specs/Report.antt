@@ -24,7 +24,7 @@ ring_line k left = codes "ring " ++ (decimal k ++ (codes " left " ++ (decimal le
 abbrev pub pool_line : ℕ → PoolReport → List ℕ
 pool_line k p = codes "pool " ++ (decimal k ++ (codes " free " ++ (decimal p.free ++ (codes " of " ++ (decimal p.count ++ 10 ∷ [])))))
 
--- a line for each, which are numbered from k on
+-- a line for each, numbered from k on
 abbrev pub lines_from : {A : Type 0} → (ℕ → A → List ℕ) → ℕ → List A → List ℕ
 lines_from line k [] = []
 lines_from line k (x ∷ xs) = line k x ++ lines_from line (suc k) xs
@@ -42,7 +42,7 @@ pool_lines pools = lines_from pool_line 0 pools
 abbrev pub calls_line : ℕ → ℕ → List ℕ
 calls_line calls refused = codes "calls " ++ (decimal calls ++ (codes " refused " ++ (decimal refused ++ 10 ∷ [])))
 
--- the node runs that were cut, where there are any
+-- the node runs that were cut, if there are any
 abbrev pub cut_line : ℕ → List ℕ
 cut_line cut = if nat_lt 0 cut then codes "cut " ++ (decimal cut ++ 10 ∷ []) else []
 

@@ -1,4 +1,4 @@
--- What the commands of a heap script do, and what they print.
+-- What the commands of a heap script do and print.
 use Rattle.std.specs.Prelude.{◌≡◌, ℕ, suc, ◌+◌, ◌<◌, ◌⊎◌, min, MatchOption, Bool, true, false, List, [], ◌∷◌, ◌++◌, length, replicate, Option, Some, None}
 use Rattle.std.specs.Prelude.{◌==◌, ⊤}
 use Rattle.std.specs.List.{list_any, slice_split}
@@ -13,13 +13,13 @@ use Rattle.dp_cli.specs.declared.fault.Fault.TheVariants as fault
 use Rattle.dp_cli.specs.declared.mem.Ending.{Ending}
 use Rattle.dp_cli.specs.declared.mem.Ending.TheVariants as ending
 use Rattle.dp_cli.specs.declared.mem.Held.{Held}
-use Rattle.dp_cli.specs.declared.script.Command.{Command}
-use Rattle.dp_cli.specs.declared.script.Command.TheVariants as command
+use Rattle.dp_cli.specs.declared.mem.script.Command.{Command}
+use Rattle.dp_cli.specs.declared.mem.script.Command.TheVariants as command
 use Rattle.dp_cli.specs.Commands.{command_in}
 use Rattle.dp_cli.specs.Heaps.{element_at, block_line, refusal_line, freed_line, list_text, stats_line}
 use Rattle.dp_cli.specs.Told.{TellsMemory, text_of_fault}
 
--- how far a script is played: the elements of its heap, the blocks that it holds, and how many it took
+-- the state of a script: the elements of its heap, the blocks that it holds, and how many it allocated
 pub record Stage : Type 0 where
   pub elements : List Element
   pub held : List Held
@@ -29,16 +29,16 @@ pub record Stage : Type 0 where
 abbrev pub stage : List Element → List Held → ℕ → Stage
 stage elements held taken = record { elements = elements; held = held; taken = taken }
 
--- the number of the next success: one more, and from 4,294,967,295 on the same
+-- the number of the next allocation: one more, and from 4,294,967,295 on the same
 abbrev pub next_number : ℕ → ℕ
 next_number taken = min (taken + 1) 4294967295
 
--- the bytes of a block of n bytes, all 0 where that was asked for
+-- the bytes of a block of n bytes, all 0 if that was asked for
 abbrev pub IsFilled : Bool → ℕ → List ℕ → Type 0
 IsFilled true n bytes = bytes ≡ replicate (rounded n) 0
 IsFilled false n bytes = length bytes ≡ rounded n
 
--- a block of n bytes, aligned to a, is taken and held, and the line of the element around it told
+-- a block of n bytes, aligned to a, is taken and held, and the line of its element printed
 pub record IsTaken (zeros : Bool) (n a : ℕ) (old : Stage) (text : List ℕ) (new : Stage) : Type 0 where
   pub block : BlockView
   pub element : Element
@@ -50,7 +50,7 @@ pub record IsTaken (zeros : Bool) (n a : ℕ) (old : Stage) (text : List ℕ) (n
   pub around : element_at new.elements block.offset ≡ Some element
   pub told : text ≡ block_line new.taken block.offset element
 
--- the request is refused, and its cause told
+-- the request is refused, and its cause printed
 pub record IsRefusalTold (n a : ℕ) (old : Stage) (text : List ℕ) (new : Stage) : Type 0 where
   pub error : HeapError
   pub refused : IsRefused error n a old.elements
@@ -80,7 +80,7 @@ IsDone (command.Free number) old text new = IsFreed number old text new
 IsDone command.List old text new = (text ≡ list_text old.elements) × (new ≡ old)
 IsDone command.Stats old text new = (text ≡ stats_line old.elements) × (new ≡ old)
 
--- a command that is none where it stands: a region, or a block that is not held
+-- a command that is wrong here: a region, or a block that is not held
 abbrev pub IsWrong : Command → Stage → Type 0
 IsWrong (command.Region size) s = ⊤
 IsWrong (command.Free number) s = is_held number s.held ≡ false
@@ -92,7 +92,7 @@ pub record IsPrinted (tells : List ℕ → Type 0) (before after : Option (List 
   pub done : tells text
   pub printed : Appends before after text
 
--- a line that is no command where it stands
+-- a line that is no command here
 abbrev pub IsBad : List ℕ → Stage → Type 0
 IsBad line s = MatchOption (command_in line) ⊤ (λ c. IsWrong c s)
 
@@ -100,8 +100,8 @@ IsBad line s = MatchOption (command_in line) ⊤ (λ c. IsWrong c s)
 abbrev pub IsLineDone : List ℕ → Stage → List ℕ → Stage → Type 0
 IsLineDone line old text new = (c : Command) × (command_in line ≡ Some c) × IsDone c old text new
 
--- lines, numbered from k on, are played from a stage on, and print a text: each that is not empty does what its command does, up to
--- the first that is bad, whose number is the fault, or up to the end
+-- lines, numbered from k on, run from a state on and print a text: each that is not empty does what its command does, up to the first that is bad,
+-- whose number is the fault, or up to the end
 abbrev pub Plays : ℕ → List (List ℕ) → Stage → List ℕ → Option ℕ → Type 0
 Plays k [] s text fault = (text ≡ []) × (fault ≡ None)
 Plays k ([] ∷ lines) s text fault = Plays (suc k) lines s text fault
@@ -109,15 +109,15 @@ Plays k ((b ∷ bs) ∷ lines) s text fault =
     (IsBad (b ∷ bs) s × (text ≡ []) × (fault ≡ Some k))
     ⊎ ((head : List ℕ) × (tail : List ℕ) × (t : Stage) × IsLineDone (b ∷ bs) s head t × Plays (suc k) lines t tail fault × (text ≡ head ++ tail))
 
--- a heap of all of a region of this size, of which nothing was taken yet
+-- a heap of a whole region of this size, of which nothing was taken yet
 abbrev pub fresh : ℕ → Stage
 fresh size = stage (record { offset = 0; size = size; state = Free; pad = 0 } ∷ []) [] 0
 
--- a line that is no region of a size that one may have
+-- a line that is no region of a permitted size
 abbrev pub IsNoRegion : List ℕ → Type 0
 IsNoRegion line = (size : ℕ) → IsRegionSize size → command_in line ≡ Some (command.Region size) → ⊥
 
--- the lines of a script, numbered from k on: the first that is not empty is a region, in which those behind it are played
+-- the lines of a script, numbered from k on: the first that is not empty is a region, in which those after it run
 abbrev pub Runs : ℕ → List (List ℕ) → List ℕ → Option ℕ → Type 0
 Runs k [] text fault = (text ≡ []) × (fault ≡ None)
 Runs k ([] ∷ lines) text fault = Runs (suc k) lines text fault
@@ -129,31 +129,31 @@ Runs k ((b ∷ bs) ∷ lines) text fault =
 abbrev pub script_lines : List ℕ → List (List ℕ)
 script_lines script = slice_split (λ b. b == 10) script
 
--- how a script ended: it was played to its end, or up to the line that is at fault, and the text of that was printed
+-- how a script ended: at its end, or at the line that is at fault, and its text was printed
 abbrev pub IsEnding : (List ℕ → Option ℕ → Type 0) → Option (List ℕ) → Option (List ℕ) → Ending → Type 0
 IsEnding plays before after ending.Done = IsPrinted (λ text. plays text None) before after
 IsEnding plays before after (ending.Line line) = IsPrinted (λ text. plays text (Some line)) before after
 IsEnding plays before after _ = ⊤
 
--- the status of an ending, and what is told of it: nothing where all was played, and else the line of its fault
+-- the status of an ending, and the line that is reported: none at the end of a script, otherwise that of its fault
 abbrev pub IsEndingTold : Ending → Option (List ℕ) → Option (List ℕ) → ℕ → Type 0
 IsEndingTold ending.Done old new status = (status ≡ 0) × (new ≡ old)
 IsEndingTold ending.Memory old new status = (status ≡ 4) × TellsMemory old new
 IsEndingTold (ending.Line line) old new status = (status ≡ 3) × Appends old new (text_of_fault (fault.Line line) ++ 10 ∷ [])
 IsEndingTold ending.Unwritten old new status = ⊥
 
--- how a script ended, from its first line on, what was told of that, and the status
+-- how a script ended, from its first line on, the line that was reported, and the status
 pub record IsScriptTold (script : List ℕ) (before after old new : Option (List ℕ)) (status : ℕ) : Type 0 where
   pub ending : Ending
   pub is : IsEnding (Runs 1 (script_lines script)) before after ending
   pub told : IsEndingTold ending old new status
 
--- the lines of what is left of a script, where there is more
+-- the lines of the rest of a script, if there is more
 abbrev pub lines_left : Option (List ℕ) → List (List ℕ)
 lines_left None = []
 lines_left (Some text) = script_lines text
 
--- the first line that is not empty, its number from k on, and the lines behind it
+-- the first line that is not empty, its number from k on, and the lines after it
 abbrev pub first_from : ℕ → List (List ℕ) → Option (ℕ × (List ℕ × List (List ℕ)))
 first_from k [] = None
 first_from k ([] ∷ lines) = first_from (suc k) lines

@@ -1,4 +1,4 @@
--- What `dpv one` runs in.
+-- The environment of `dpv one`.
 use Rattle.std.specs.Prelude.{[], ◌∷◌}
 use Rattle.dp_model.specs.Environments.{Environment}
 

@@ -1,24 +1,30 @@
--- What `dpv trace` tells of a traced run.
-use Rattle.std.specs.Prelude.{◌≡◌, ℕ, ◌<◌, ◌⊎◌, ◌↔◌, List, Option, Result, Ok, Err, IfErr, ⊤}
+-- What `dpv trace` prints of a traced run, and how it ends.
+use Rattle.std.specs.Prelude.{◌≡◌, ◌<◌, ◌⊎◌, ◌↔◌, ℕ, List, Option, None, Result, Err, IfErr, ⊤}
 use Rattle.dp_engine.specs.Needs.{bytes_needed}
 use Rattle.dp_pipe.specs.declared.forwarding.RunCause.{RunCause}
 use Rattle.dp_pipe.specs.declared.forwarding.RunCause.TheVariants.{Memory, NoRoom}
 use Rattle.dp_pipe.specs.Pipelines.{Plan}
-use Rattle.dp_cli.specs.Run.{status_of_cause}
-use Rattle.dp_cli.specs.Told.{IsTold}
+use Rattle.dp_cli.specs.declared.fault_reasons.Finding.{Finding}
+use Rattle.dp_cli.specs.declared.run.findings.CaptureNames.{CaptureNames}
+use Rattle.dp_cli.specs.declared.run.watched.Seen.{Seen}
+use Rattle.dp_cli.specs.Printing.{Paper, IsEnded}
+use Rattle.dp_cli.specs.Run.{status_of_answer, IsFound, IsStopReported}
 
--- that of a traced run: 0 where nothing stopped it
-abbrev pub status_of_trace : Result ⊤ RunCause → ℕ
-status_of_trace (Ok done) = 0
-status_of_trace (Err cause) = status_of_cause cause
-
--- A traced run of a pipeline, what it read, and what it answered.
+-- A traced run of a pipeline, the bytes that it read, and its result.
 pub record IsTraced (p : Plan) (olds news : List (Option (List ℕ))) (answer : Result ⊤ RunCause) : Type 0 where
   pub no_room : (answer ≡ Err Memory) ⊎ ((answer ≡ Err NoRoom) ↔ (p.region < bytes_needed p.env))
   pub untouched : IfErr answer (λ cause. (cause ≡ Memory) ⊎ (cause ≡ NoRoom) → news ≡ olds)
 
--- Such a run, and the status that was told of it.
-pub record IsTraceTold (p : Plan) (olds news : List (Option (List ℕ))) (status : ℕ) : Type 0 where
+-- a traced run was reported after its trace: why it stopped, if it did
+abbrev pub IsTraceReported : Result ⊤ RunCause → Option Finding → Paper → Paper → Paper → Paper → ℕ → Type 0
+IsTraceReported answer found out out' err err' status =
+    IsEnded (status_of_answer answer) ((out'.failed ≡ out.failed) × IsStopReported answer found err err') out' err err' status
+
+-- Such a run, and the text that was printed after its trace.
+pub record IsTraceTold (p : Plan) (olds news : List (Option (List ℕ))) (names : List CaptureNames) (saw : List (Option Seen)) (out out' err err' : Paper)
+    (status : ℕ) : Type 0 where
   pub answer : Result ⊤ RunCause
   pub traced : IsTraced p olds news answer
-  pub told : IsTold (status_of_trace answer) status
+  pub found : Option Finding
+  pub is_found : IsFound names saw answer None found
+  pub reported : IsTraceReported answer found out out' err err' status

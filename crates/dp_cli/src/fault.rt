@@ -1,12 +1,14 @@
-//! What is told of a fault, and the status that the program ends with.
+//! Reporting faults, and the program's exit statuses.
 
 ghost use Rattle.std.specs.Prelude.{◌≡◌, ◌≢◌, ◌⊎◌, ◌++◌, ◌∷◌, [], IfOk, IfSome, OnErr, OnOk};
 ghost use Rattle.std.specs.Fmt.{with_newline};
 ghost use Rattle.std.specs.Io.KnownBytes.{Appends};
 ghost use Rattle.dp_cli.specs.Told.{IsTold, TellsMemory, finding_of, lines_behind, lines_of_fault, no_node_line, refusal_line, status_of, status_of_fault};
 ghost use Rattle.dp_cli.specs.Told.{text_of_fault};
+ghost use Rattle.dp_cli.specs.Printing.{Notes, PrintsFault, WritesFault, paper};
 
 use crate::fault_reasons::{Finding, Reason, reason_of, write_finding};
+use crate::printer::Printer;
 use dp_model::Entry;
 use dp_pcap::PcapError;
 use dp_pipe::{NodeName, PipeError};
@@ -14,57 +16,67 @@ use std::fmt::Display;
 use std::io::Write;
 use std::{fmt, io};
 
-/// All was done.
+/// Everything was done.
 pub const DONE: u8 = 0;
 
 /// A program is refused.
 pub const REFUSED: u8 = 1;
 
-/// The words of the command line are wrong.
+/// The command line is wrong.
 pub const USAGE: u8 = 2;
 
 /// A file or its format is at fault, or a text could not be written.
 pub const FAULT: u8 = 3;
 
-/// There is not enough memory.
+/// Memory was refused.
 pub const MEMORY: u8 = 4;
 
-/// The status of a command; an error where a fault that was told ended it before its work began.
+/// The exit status of a command; an error where a fault, already reported, ended it before its work began.
 pub type Status = Result<u8, u8>;
 
-/// What went wrong. Ports and nodes are named by their numbers, lines count from 1.
+/// What went wrong. Ports and nodes are given by number, and lines count from 1.
 #[derive(Clone, Copy, Debug)]
 pub enum Fault<'a> {
-    /// There is not enough memory.
+    /// Memory was refused.
     Memory,
-    /// A file that cannot be opened, made or read, is too long, or is not to be made, with the reason.
+    /// A file cannot be opened, made or read, is too long, or may not be made, with the reason.
     File(&'a str, Reason),
-    /// A pipeline that is not loaded, with its cause: one of the first seven.
+    /// An output is another file of the run, given by its name there, with the reason.
+    Clash {
+        output: &'a str,
+        other: &'a str,
+        reason: Reason,
+    },
+    /// A pipeline is not loaded, with its cause: one of the first seven.
     Pipeline(PipeError),
-    /// A pipeline's region that is smaller than it needs.
+    /// A pipeline's region is smaller than it needs.
     Region,
-    /// An input that is no capture, or whose reader failed.
+    /// An input is no capture, or its reader failed.
     Input {
         port: u8,
         cause: PcapError,
         found: Finding<'a>,
     },
-    /// An output whose writer failed.
+    /// An output's writer failed.
     Output {
         port: u8,
         found: Finding<'a>,
     },
-    /// A line of a heap script that is no command.
+    /// A line of a heap script is no command.
     Line(u64),
 }
 
 impl<'a> Fault<'a> {
-    /// What is told behind its line.
+    /// What is reported after its line.
     fn finding(self) -> Option<Finding<'a>>
         ensures { result ≡ finding_of self.entry }
     {
         match self {
             Fault::File(_, reason) => Some(Finding { file: None, reason }),
+            Fault::Clash { other, reason, .. } => Some(Finding {
+                file: Some(other),
+                reason,
+            }),
             Fault::Pipeline(error) => {
                 reason_of(error).map(|reason| Finding { file: None, reason })
             }
@@ -74,7 +86,7 @@ impl<'a> Fault<'a> {
         }
     }
 
-    /// The status that the program ends with.
+    /// The exit status for it.
     pub fn status(self) -> u8
         ensures { result ≡ status_of_fault self.entry }
     {
@@ -88,6 +100,7 @@ impl<'a> Fault<'a> {
 impl fmt::Display for Fault<'_> {
     ghost use Rattle.std.specs.Prelude.{Some};
     ghost use Rattle.dp_cli.specs.Told.{text_of_fault};
+    ghost use Rattle.dp_cli.specs.Printing.{Notes, PrintsFault, WritesFault, paper};
 
     ghost output = { λ fault. Some (text_of_fault fault) };
 
@@ -95,6 +108,7 @@ impl fmt::Display for Fault<'_> {
         match self {
             Fault::Memory => write!(f, "fault: memory"),
             Fault::File(name, _) => write!(f, "fault: file {name}"),
+            Fault::Clash { output, .. } => write!(f, "fault: file {output}"),
             Fault::Pipeline(error) => write!(f, "fault: pipeline {error}"),
             Fault::Region => write!(f, "fault: region"),
             Fault::Input { port, cause, .. } => {
@@ -106,7 +120,7 @@ impl fmt::Display for Fault<'_> {
     }
 }
 
-/// The status of what was written, or 4 or 3 where that failed for memory or else.
+/// The status, if the text was written; else 4 for want of memory, or 3.
 pub fn status_of_write(written: io::Result<()>, status: u8) -> u8
     ensures done { OnOk written (result ≡ status) }
     ensures failed { OnErr written ((result ≡ FAULT) ⊎ (result ≡ MEMORY)) }
@@ -118,7 +132,7 @@ pub fn status_of_write(written: io::Result<()>, status: u8) -> u8
     }
 }
 
-/// Writes a text as a line, and answers the status, or 4 or 3 where the write fails for memory or else.
+/// Writes a text as a line; returns the status, or 4 or 3 where the write fails, for want of memory or otherwise.
 pub fn tell<W: Write, T: Display + Drop>(to: &mut W, text: T, status: u8) -> u8
     ensures status { IsTold status result }
     ensures printed { result ≢ FAULT → result ≢ MEMORY → IfSome (with_newline (T.output text)) (Appends (W.contents to.old) (W.contents to.new)) }
@@ -126,7 +140,7 @@ pub fn tell<W: Write, T: Display + Drop>(to: &mut W, text: T, status: u8) -> u8
     status_of_write(writeln!(to, "{text}"), status)
 }
 
-/// Writes the lines behind that of a fault, where there are any.
+/// Writes the lines after that of a fault, if there are any.
 fn write_behind<W: Write>(to: &mut W, finding: Option<Finding<'_>>) -> io::Result<()>
     ensures { OnOk result (IfSome (lines_behind finding.entry) (Appends (W.contents to.old) (W.contents to.new))) }
 {
@@ -143,19 +157,46 @@ fn write_line<W: Write>(to: &mut W, fault: Fault<'_>) -> io::Result<()>
     writeln!(to, "{fault}")
 }
 
-/// Writes the line of a fault, and behind it the file and the reason.
+/// Writes the line of a fault, and after it the file and the reason.
 fn write_fault<W: Write>(to: &mut W, fault: Fault<'_>) -> io::Result<()>
-    ensures { OnOk result (IfSome (lines_of_fault fault.entry) (Appends (W.contents to.old) (W.contents to.new))) }
+    ensures lines { OnOk result (IfSome (lines_of_fault fault.entry) (Appends (W.contents to.old) (W.contents to.new))) }
+    ensures each { OnOk result (WritesFault fault.entry (W.contents to.old) (W.contents to.new)) }
 {
     write_line(to, fault)?;
     write_behind(to, fault.finding())
+}
+
+/// Prints the line of a fault, and after it the file and the reason.
+///
+/// # Errors
+///
+/// The writer's.
+pub fn print_fault<W: Write>(to: &mut Printer<W>, fault: Fault<'_>) -> io::Result<()>
+    ensures printed { OnOk result (PrintsFault fault.entry (paper W.contents to.old) (paper W.contents to.new)) }
+    ensures noted { Notes to.old to.new result }
+{
+    let written = write_fault(&mut to.to, fault);
+    to.note(written)
+}
+
+/// The status if a text could not be written: 4 for lack of memory, which is reported, and otherwise 3.
+pub fn status_unwritten<W: Write>(error: io::Error, err: &mut Printer<W>) -> u8
+    ensures { (result ≡ FAULT) ⊎ ((result ≡ MEMORY) × TellsMemory (W.contents err.old.to) (W.contents err.new.to)) }
+{
+    if error.kind() != io::ErrorKind::OutOfMemory {
+        return FAULT;
+    }
+    match print_fault(err, Fault::Memory) {
+        Ok(()) => MEMORY,
+        Err(_) => FAULT,
+    }
 }
 
 /// A text could not be written.
 #[derive(Clone, Copy, Debug, PartialEq, Eq, Drop)]
 pub struct Unwritten;
 
-/// Writes a fault with its reason, and answers its status.
+/// Reports a fault with its reason, and returns its status.
 ///
 /// # Errors
 ///
@@ -170,7 +211,7 @@ pub fn try_tell_fault<W: Write>(to: &mut W, fault: Fault<'_>) -> Result<u8, Unwr
     }
 }
 
-/// Writes a fault with its reason, and answers its status, or 3 where that cannot be written. So with 4 it was told that memory ran out.
+/// Reports a fault with its reason; returns its status, or 3 where it cannot be written. So 4 means that want of memory was reported.
 pub fn tell_fault<W: Write>(to: &mut W, fault: Fault<'_>) -> u8
     ensures status { IsTold (status_of_fault fault.entry) result }
     ensures memory { result ≡ MEMORY → TellsMemory (W.contents to.old) (W.contents to.new) }
@@ -181,7 +222,7 @@ pub fn tell_fault<W: Write>(to: &mut W, fault: Fault<'_>) -> u8
     }
 }
 
-/// Writes what is wrong with the words of the command line as a line, and answers the status, or 3 where it cannot be written.
+/// Reports what is wrong with the command line, and returns the status, or 3 where it cannot be written.
 pub fn tell_usage<W: Write, T: Display + Drop>(to: &mut W, text: T) -> u8
     ensures status { IsTold USAGE result }
     ensures printed { result ≡ USAGE → IfSome (with_newline (T.output text)) (Appends (W.contents to.old) (W.contents to.new)) }
@@ -193,7 +234,7 @@ pub fn tell_usage<W: Write, T: Display + Drop>(to: &mut W, text: T) -> u8
     }
 }
 
-/// Tells that a pipeline has no such node.
+/// Reports that a pipeline has no such node.
 pub fn tell_no_node<E: Write>(node: Entry, err: &mut E) -> u8
     ensures status { IsTold USAGE result }
     ensures printed { result ≡ USAGE → Appends (E.contents err.old) (E.contents err.new) (no_node_line node) }
@@ -203,7 +244,7 @@ pub fn tell_no_node<E: Write>(node: Entry, err: &mut E) -> u8
     tell_usage(err, format_args!("error: the pipeline has no {name}"))
 }
 
-/// The status of what was printed. Where memory ran out, that is told.
+/// The status of a print. Lack of memory is reported.
 pub fn tell_if_memory<W: Write>(to: &mut W, status: u8) -> u8
     ensures status { IsTold status result }
     ensures silent { status ≢ MEMORY → to.new ≡ to.old }
@@ -216,8 +257,7 @@ pub fn tell_if_memory<W: Write>(to: &mut W, status: u8) -> u8
     }
 }
 
-/// Tells why a pipeline is not loaded, and answers the status: a program that is refused or has no certificate on `out`, all
-/// else on `err`.
+/// Reports why a pipeline is not loaded, and returns the status: a program that is refused or has no certificate on `out`, everything else on `err`.
 pub fn tell_unloaded<O: Write, E: Write>(error: PipeError, out: &mut O, err: &mut E) -> u8
     ensures status { IsTold (status_of error) result }
     ensures refused { result ≡ REFUSED → err.new ≡ err.old }

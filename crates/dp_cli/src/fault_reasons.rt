@@ -15,15 +15,17 @@ use std::{fmt, io};
 pub enum Reason {
     /// The system's error.
     System(io::Error),
-    /// A file that has more bytes than are read.
+    /// The file has more bytes than are read.
     TooLong,
-    /// A file to be made that the same run reads.
-    IsInput,
-    /// What is wrong with a capture.
+    /// The output is read by the same run.
+    IsRead,
+    /// The output is another port's too.
+    IsOutput,
+    /// What is wrong with the capture.
     Capture(PcapError),
-    /// An input in another format, which can be turned into a capture.
+    /// The input has another format, which can be converted to a capture.
     IsPcapng,
-    /// What is wrong with a pipeline.
+    /// What is wrong with the pipeline.
     Pipeline(PipeError),
 }
 
@@ -36,7 +38,8 @@ impl fmt::Display for Reason {
         match self {
             Reason::System(error) => write!(f, "{error}"),
             Reason::TooLong => write!(f, "it is longer than 1048576 bytes"),
-            Reason::IsInput => write!(f, "it is an input too"),
+            Reason::IsRead => write!(f, "the run reads this file, so it is not overwritten"),
+            Reason::IsOutput => write!(f, "another port writes this file, too"),
             Reason::Capture(error) => write!(f, "{error}"),
             Reason::IsPcapng => write!(
                 f,
@@ -47,7 +50,7 @@ impl fmt::Display for Reason {
     }
 }
 
-/// What is wrong with a line of a program.
+/// The description of a fault in a line of a program.
 fn line_words(cause: Cause) -> &'static str {
     match cause {
         Cause::BadByte => "there is a byte that no program has",
@@ -98,7 +101,7 @@ impl fmt::Display for PipeWords {
     }
 }
 
-/// The words for a pipeline's fault; but none for a file, of which the files themselves tell.
+/// The words for a pipeline's fault; none for a file's, for which the files have a reason.
 pub fn reason_of(error: PipeError) -> Option<Reason>
     ensures { result ≡ reason_of error }
 {
@@ -111,13 +114,13 @@ pub fn reason_of(error: PipeError) -> Option<Reason>
 /// Why something is at fault, and the file that is.
 #[derive(Clone, Copy, Debug)]
 pub struct Finding<'a> {
-    /// The file's name, where it is to be told.
+    /// The file's name, if it is to be reported.
     pub file: Option<&'a str>,
     /// Why.
     pub reason: Reason,
 }
 
-/// Writes a line with a file's name, where it is to be told.
+/// Writes a line with a file's name, if it is to be reported.
 fn write_file<W: Write>(to: &mut W, file: Option<&str>) -> io::Result<()>
     ensures { OnOk result (Appends (W.contents to.old) (W.contents to.new) (file_line (option_map (λ name. name.now) file.entry))) }
 {
@@ -127,7 +130,7 @@ fn write_file<W: Write>(to: &mut W, file: Option<&str>) -> io::Result<()>
     }
 }
 
-/// Writes the lines that stand behind the line of a fault.
+/// Writes the lines that follow the line of a fault.
 #[tactic(auto, using(crate::proofs::Behind::told_behind_both))]
 pub fn write_finding<W: Write>(to: &mut W, finding: Finding<'_>) -> io::Result<()>
     ensures { OnOk result (IfSome (finding_lines finding.entry) (Appends (W.contents to.old) (W.contents to.new))) }

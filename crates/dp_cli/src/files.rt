@@ -1,4 +1,4 @@
-//! Files of bounded length, read whole; and what stands in for standard streams that are closed.
+//! Reads whole files of bounded length; fills closed standard streams.
 
 ghost use Rattle.std.specs.Prelude.{◌≡◌, ◌≢◌};
 ghost use Rattle.dp_cli.specs.Told.{finding_of, read_finding, read_text, text_of_fault};
@@ -14,14 +14,14 @@ use std::{fs, io};
 /// Why a file was not read.
 #[derive(Clone, Copy, Debug)]
 pub enum ReadFault {
-    /// There is not enough memory.
+    /// Memory was refused.
     Memory,
     /// It cannot be opened or read, or is longer than 1,048,576 bytes, with the reason.
     File(Reason),
 }
 
 impl ReadFault {
-    /// What is told of it.
+    /// The fault to report for it.
     pub fn of_file<'a>(self, name: &'a str) -> Fault<'a>
         ensures line { text_of_fault result ≡ read_text self name.now }
         ensures reason { finding_of result ≡ read_finding self }
@@ -49,7 +49,7 @@ impl From<io::Error> for ReadFault {
     }
 }
 
-/// The bytes of a file of at most [`LONGEST_FILE`].
+/// Reads a file of at most [`LONGEST_FILE`] bytes.
 pub fn read<R: Files>(rt: &R, alloc: Global, name: &str) -> Result<Vec<u8>, ReadFault> {
     let file = fs::open(rt, name)?;
     let mut bytes = Vec::new(alloc);
@@ -60,10 +60,10 @@ pub fn read<R: Files>(rt: &R, alloc: Global, name: &str) -> Result<Vec<u8>, Read
     Ok(bytes)
 }
 
-/// The null device, read alone: a write to it fails.
+/// The null device, opened for reading: a write to it fails.
 const NOTHING: &str = "/dev/null";
 
-/// Opens the null device, where there is one.
+/// Opens the null device, if there is one.
 fn open_nothing<R: Files>(rt: &R) -> Result<Option<R::File>, AllocError> {
     match fs::open(rt, NOTHING) {
         Ok(file) => Ok(Some(file)),
@@ -72,8 +72,20 @@ fn open_nothing<R: Files>(rt: &R) -> Result<Option<R::File>, AllocError> {
     }
 }
 
-/// Files to be held to the program's end, one for each standard stream. A file that is opened takes the least number that is free,
-/// so these have the numbers of the streams that are closed, and no capture gets what is printed or told.
-pub fn fill_streams<R: Files>(rt: &R) -> Result<[Option<R::File>; 3], AllocError> {
-    Ok([open_nothing(rt)?, open_nothing(rt)?, open_nothing(rt)?])
+/// Files that stay open until the program ends, as many as there are standard streams.
+#[derive(Drop)]
+pub struct Held<F> {
+    pub first: Option<F>,
+    pub second: Option<F>,
+    pub third: Option<F>,
+}
+
+/// Opens the null device once for each standard stream. An opened file takes the least free number, so these take the numbers of closed streams, and
+/// no capture gets what is printed or reported.
+pub fn fill_streams<R: Files>(rt: &R) -> Result<Held<R::File>, AllocError> {
+    Ok(Held {
+        first: open_nothing(rt)?,
+        second: open_nothing(rt)?,
+        third: open_nothing(rt)?,
+    })
 }

@@ -1,13 +1,15 @@
-//! The files of the host, by the names of a pipeline, and why one of them was not fetched.
+//! Fetches the host's files by the names of a pipeline, and keeps the reason if one was not fetched.
 
 ghost use Rattle.std.specs.Prelude.{◌≡◌, ◌≢◌};
 
+use crate::counting::programs::Kept;
 use crate::fault::FAULT;
 use crate::fault_reasons::{Finding, Reason, write_finding};
 use crate::files::{self, ReadFault};
+use crate::run::same_file::{ReadFile, note_read};
 use crate::single_port::Naming;
 use dp_pipe::{FetchFault, Files};
-use std::alloc::Global;
+use std::alloc::{AllocError, Global};
 use std::io::Write;
 use std::rt;
 
@@ -23,25 +25,53 @@ pub struct Unfetched {
 /// The files of the host.
 #[derive(Drop)]
 pub struct HostFiles<'a, R> {
-    /// Where they are.
+    /// The host.
     rt: &'a R,
-    /// By which names.
+    /// How names become files.
     naming: Naming<'a>,
-    /// The one that was not fetched last.
+    /// The plain files that were fetched, in order.
+    reads: Vec<ReadFile>,
+    /// The fetched files, if they are needed again.
+    kept: Kept,
+    /// The last file that was not fetched.
     unfetched: Option<Unfetched>,
 }
 
 impl<'a, R> HostFiles<'a, R> {
-    /// The files that names stand for.
-    pub fn new(rt: &'a R, naming: Naming<'a>) -> HostFiles<'a, R> {
+    /// The host's files under these names.
+    pub fn new(rt: &'a R, alloc: Global, naming: Naming<'a>) -> HostFiles<'a, R> {
         HostFiles {
             rt,
             naming,
+            reads: Vec::new(alloc),
+            kept: Kept::new(alloc),
             unfetched: None,
         }
     }
 
-    /// Tells behind a fault's line why a file was not fetched, and answers the status.
+    /// Keeps files that are fetched from now on, if `is_wanted`.
+    pub fn keep(&mut self, is_wanted: bool) {
+        self.kept.want(is_wanted);
+    }
+
+    /// The fetched files, if they were kept.
+    pub fn kept(&self) -> &Kept {
+        &self.kept
+    }
+
+    /// The plain files that were fetched, in order.
+    pub fn into_reads(self) -> Vec<ReadFile> {
+        let HostFiles {
+            rt: _,
+            naming: _,
+            reads,
+            kept: _,
+            unfetched: _,
+        } = self;
+        reads
+    }
+
+    /// Reports, after a fault's line, why a file was not fetched, and returns the status.
     pub fn tell_unfetched<E: Write>(&self, status: u8, err: &mut E) -> u8
         ensures status { result ≡ status }
         ensures silent { status ≢ FAULT → err.new ≡ err.old }
@@ -60,16 +90,37 @@ impl<'a, R> HostFiles<'a, R> {
     }
 }
 
+impl<R: rt::Files> HostFiles<'_, R> {
+    /// Notes that a file was fetched, by the name that the pipeline has for it and by its own.
+    fn note(
+        &mut self,
+        alloc: Global,
+        given: &str,
+        name: &str,
+        bytes: &[u8],
+    ) -> Result<(), AllocError> {
+        self.kept.note(alloc, given, bytes)?;
+        match note_read(self.rt, alloc, &mut self.reads, name) {
+            Ok(()) => Ok(()),
+            Err(_) => Err(AllocError),
+        }
+    }
+}
+
 impl<R: rt::Files> Files for HostFiles<'_, R> {
     ghost use Rattle.std.specs.Prelude.{None};
 
-    // What the host's files hold is not told.
+    // The contents of the host's files are unknown to contracts.
     ghost known = { λ _. None };
 
     fn fetch(&mut self, alloc: Global, name: &str) -> Result<Vec<u8>, FetchFault> {
-        let name = self.naming.file(name);
+        let given = name;
+        let name = self.naming.file(given);
         match files::read(self.rt, alloc, name) {
-            Ok(bytes) => Ok(bytes),
+            Ok(bytes) => match self.note(alloc, given, name, bytes.as_slice()) {
+                Ok(()) => Ok(bytes),
+                Err(AllocError) => Err(FetchFault::Memory),
+            },
             Err(ReadFault::Memory) => Err(FetchFault::Memory),
             Err(ReadFault::File(reason)) => {
                 let Ok(name) = String::from_str(alloc, name) else {

@@ -13,21 +13,24 @@ ghost use Rattle.dp_cli.specs.Scripts.{IsScriptTold, IsTaken};
 ghost use Rattle.dp_cli.specs.Scripts.{IsWrong, Plays, Runs, first_from, fresh, is_held, lines_left, script_lines, stage};
 ghost use Rattle.dp_cli.specs.Told.{IsTold, TellsMemory};
 
+pub mod files;
+pub mod script;
+
 use crate::fault::{DONE, Fault, MEMORY, Unwritten, tell, try_tell_fault};
-use crate::script::{Command, command_of};
+use crate::mem::script::{Command, command_of};
 use dp_heap::{Element, Heap, HeapError, State};
 use dp_region::{Block, CACHE_LINE, LARGEST_REGION, LEAST_REGION, Region};
 use std::alloc::Global;
 use std::fmt;
 use std::io::Write;
 
-/// A block that a script holds, by the number of its success.
+/// A block that a script holds, by the number of its allocation.
 struct Held {
     number: u32,
     block: Block,
 }
 
-/// A heap and the blocks that a script holds of it, in the order of their numbers.
+/// A heap and the blocks that a script holds of it, ordered by number.
 struct Session {
     heap: Heap,
     held: Vec<Held>,
@@ -36,7 +39,7 @@ struct Session {
     ghost counted: { count_of is_busy heap.elements ≡ length held.items },
 }
 
-/// An element as `list` prints it.
+/// An element, as `list` prints it.
 #[derive(Drop)]
 struct ElementLine(Element);
 
@@ -66,7 +69,7 @@ fn element_around(heap: &Heap, offset: u32) -> Option<Element>
     heap.iter().find(|element| offset >= element.offset && offset - element.offset < element.size)
 }
 
-/// Prints what became of the block of a success.
+/// Prints the line of a block that was allocated.
 fn tell_block<O: Write>(heap: &Heap, number: u32, offset: u32, out: &mut O) -> u8
     ensures status { IsTold DONE result }
     ensures printed { result ≡ DONE → IfSome (spec.element_at heap.now.elements offset)
@@ -98,7 +101,7 @@ fn tell_refusal<O: Write>(error: HeapError, out: &mut O) -> u8
     tell(out, format_args!("refused {} {name}", error.number()), DONE)
 }
 
-/// A block of these many bytes and this alignment, all its bytes 0 where that is asked for.
+/// Allocates a block of this size and alignment, zeroed if asked for.
 fn request(heap: &mut Heap, size: u32, align: u32, zeros: bool) -> Result<Block, HeapError>
     ensures { Answered (IsFilled zeros size) heap.old heap.new size align result }
 {
@@ -218,7 +221,7 @@ impl Session {
         )
     }
 
-    /// A command; `None` where it is none here.
+    /// Runs a command; `None` where it is none here.
     fn run<O: Write>(&mut self, command: Command, out: &mut O) -> Option<u8>
         ensures wrong { MatchOption result (IsWrong command (stage self.old.heap.elements self.old.held.items self.old.taken) × (self.new ≡ self.old)
             × (out.new ≡ out.old)) (λ status. ¬ IsWrong command (stage self.old.heap.elements self.old.held.items self.old.taken) × IsTold DONE status) }
@@ -243,7 +246,7 @@ fn is_region_size(size: u32) -> bool
     size >= LEAST_REGION && size <= LARGEST_REGION && size % CACHE_LINE == 0
 }
 
-/// The first line of a text, and what stands behind its newline, where it has one.
+/// The first line of a text, and what follows its newline, if it has one.
 struct Cut<'a> {
     line: &'a [u8],
     behind: Option<&'a [u8]>,
@@ -274,7 +277,7 @@ fn cut_line<'a>(text: &'a [u8]) -> Cut<'a>
     }
 }
 
-/// A line of a script, its number, and what stands behind it.
+/// A line of a script, its number, and what follows it.
 struct Numbered<'a> {
     number: usize,
     line: &'a [u8],
@@ -304,7 +307,7 @@ fn first_line<'a>(script: &'a [u8]) -> Option<Numbered<'a>>
     None
 }
 
-/// The size of the region that a line asks for, where a region may have it.
+/// The size of the region in a line, if it is permitted.
 fn region_size(line: &[u8]) -> Option<u32>
     ensures { MatchOption result (IsNoRegion line.now) (λ size. (command_in line.now ≡ Some (Command.Region size)) × IsRegionSize size) }
 {
@@ -314,7 +317,7 @@ fn region_size(line: &[u8]) -> Option<u32>
     }
 }
 
-/// Plays a line that is not empty; `None` where it is no command there.
+/// Runs a line that is not empty; `None` where it is no command there.
 fn play_line<O: Write>(session: &mut Session, line: &[u8], out: &mut O) -> Option<u8>
     ensures bad { MatchOption result (IsBad line.now (stage session.old.heap.elements session.old.held.items session.old.taken) × (session.new ≡ session.old)
         × (out.new ≡ out.old)) (λ status. ¬ IsBad line.now (stage session.old.heap.elements session.old.held.items session.old.taken) × IsTold DONE status) }
@@ -330,17 +333,17 @@ fn play_line<O: Write>(session: &mut Session, line: &[u8], out: &mut O) -> Optio
 /// How a script ended.
 #[derive(Clone, Copy, Debug, PartialEq, Eq, Drop)]
 enum Ending {
-    /// All its commands were done.
+    /// All its commands ran.
     Done,
-    /// There was not enough memory.
+    /// Memory was refused.
     Memory,
-    /// What a command prints could not be written.
+    /// The output of a command could not be written.
     Unwritten,
     /// This line is at fault.
     Line(u64),
 }
 
-/// Plays what is left of a script behind the line of this number, up to the first line that is at fault or cannot be told of.
+/// Runs the rest of a script after the line with this number, up to the first line that is at fault or whose output cannot be written.
 fn play<O: Write>(
     session: &mut Session,
     behind: Option<&[u8]>,
@@ -370,7 +373,7 @@ fn play<O: Write>(
     Ending::Done
 }
 
-/// Plays a script.
+/// Runs a script.
 fn ending_of<O: Write>(alloc: Global, script: &[u8], out: &mut O) -> Ending
     ensures { IsEnding (Runs 1 (script_lines script.now)) (O.contents out.old) (O.contents out.new) result }
 {
@@ -396,7 +399,7 @@ fn ending_of<O: Write>(alloc: Global, script: &[u8], out: &mut O) -> Ending
     ending
 }
 
-/// Tells how a script ended, where it did not come to its end, and answers the status.
+/// Reports how a script ended, if not at its end, and returns the status.
 fn tell_ending<E: Write>(ending: Ending, err: &mut E) -> Result<u8, Unwritten>
     ensures ending { IfOk result (IsEndingTold ending (E.contents err.old) (E.contents err.new)) }
     ensures silent { IfOk result (λ status. status ≡ DONE → err.new ≡ err.old) }
@@ -409,8 +412,8 @@ fn tell_ending<E: Write>(ending: Ending, err: &mut E) -> Result<u8, Unwritten>
     }
 }
 
-/// Runs a heap script, and answers the status: 0; 3 where a line is at fault, which is told; 4 for want of memory, which is told
-/// too. What the commands before a fault print stands in `out`.
+/// Runs a heap script, and returns the status: 0; 3 where a line is at fault, which is reported; 4 for want of memory, which is reported
+/// too. The output of the commands before a fault is in `out`.
 ///
 /// # Errors
 ///

@@ -1,4 +1,4 @@
-//! Operands of the command line, from words to values.
+//! Reads operands of the command line.
 
 ghost use Rattle.std.specs.Prelude.{◌≡◌, ◌<◌, ◌≤◌, map, Some, IfSome, IfOk, option_map};
 ghost use Rattle.std.specs.Char.{is_ascii_digit};
@@ -24,14 +24,14 @@ pub fn node_named(word: &str) -> Option<Entry>
     }
 }
 
-/// Whether a word has decimal digits alone.
+/// Whether a word has only decimal digits.
 pub fn are_digits(word: &str) -> bool
     ensures { result ≡ list_all is_ascii_digit word.now }
 {
     word.as_bytes().iter().all(|b| b.is_ascii_digit())
 }
 
-/// The number that a word is: decimal digits, at most 18,446,744,073,709,551,615.
+/// A word as a number: decimal digits, at most 18,446,744,073,709,551,615.
 fn number_in(word: &str) -> Option<u64>
     ensures { result ≡ spec.number_in word.now }
 {
@@ -42,7 +42,7 @@ fn number_in(word: &str) -> Option<u64>
     }
 }
 
-/// The number of records that a word is: from 1 to [`MOST_TURNS`].
+/// A word as a number of records: from 1 to [`MOST_TURNS`].
 pub fn records_in(word: &str) -> Option<u32>
     ensures number { result ≡ spec.records_in word.now }
     ensures range { IfSome result (λ records. (1 ≤ records) × (records ≤ MOST_TURNS)) }
@@ -53,7 +53,7 @@ pub fn records_in(word: &str) -> Option<u32>
     }
 }
 
-/// The port that a word is: a number from 0 to 7.
+/// A word as a port: a number from 0 to 7.
 pub fn port_in(word: &str) -> Option<u8>
     ensures { result ≡ spec.port_in word.now }
 {
@@ -70,7 +70,7 @@ fn words_in<'a>(alloc: Global, list: &'a str) -> Result<Vec<&'a str>, AllocError
     list.split(',').collect(alloc)
 }
 
-/// The numbers of a list: one or more, from 1 on, each above the one before it, joined by commas.
+/// A list of numbers: one or more, from 1 on, ascending, with commas between them.
 pub fn numbers_in(alloc: Global, list: &str) -> Result<Option<Vec<u64>>, AllocError>
     ensures numbers { IfOk result (λ numbers. option_map (λ given. given.items) numbers ≡ spec.numbers_in list.now) }
     ensures ascending { IfOk result (λ numbers. IfSome numbers (λ given. IsAscending 0 given.items)) }

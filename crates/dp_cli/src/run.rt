@@ -1,22 +1,45 @@
-//! `dpv run`: a pipeline, from captures to captures.
+//! `dpv run`: runs a pipeline from captures to captures, and reports the run.
 
-ghost use Rattle.std.specs.Prelude.{◌≡◌, ◌≢◌, length, map, None, IfOk, IfSome};
-ghost use Rattle.std.specs.Io.KnownBytes.{Appends};
+ghost use Rattle.std.specs.Prelude.{◌≡◌, ◌≤◌, IfSome, None, OnOk, length, map, option_map};
 ghost use Rattle.dp_engine.specs.Engines.{IsAscending};
-ghost use Rattle.dp_cli.specs.Report.{report_text};
-ghost use Rattle.dp_cli.specs.Run.{IsRunTold, status_of_cause, status_of_run, stop_text};
-ghost use Rattle.dp_cli.specs.Told.{IsTold, TellsMemory, finding_of, status_of_fault, text_of_fault};
+ghost use Rattle.dp_pipe.specs.Devices.{seen};
+ghost use Rattle.dp_pipe.specs.Running.{answer_of};
+ghost use Rattle.dp_cli.specs.Printing.{Notes, paper};
+ghost use Rattle.dp_cli.specs.Run as spec;
+ghost use Rattle.dp_cli.specs.Run.{status_of_answer, status_of_cause, stop_text};
+ghost use Rattle.dp_cli.specs.Told.{finding_of, status_of_fault, text_of_fault};
 
-use crate::fault::{DONE, Fault, MEMORY, status_of_write, tell_fault, tell_if_memory};
+pub mod captures;
+pub mod closing;
+pub mod drops;
+pub mod files;
+pub mod findings;
+pub mod guarded;
+pub mod inlet;
+pub mod outlet;
+pub mod output_file;
+pub mod progress;
+pub mod report;
+pub mod same_file;
+pub mod truncated;
+pub mod watched;
+
+use crate::fault::{DONE, FAULT, Fault, MEMORY, print_fault, status_unwritten};
 use crate::fault_reasons::{Finding, Reason};
-use crate::report::print_report;
-use dp_engine::Report;
-use dp_pcap::{Feed, PcapError, Sink};
-use dp_pipe::{Pipeline, RunCause, RunFault, run};
+use crate::printer::Printer;
+use crate::run::closing::{Settled, settle};
+use crate::run::findings::{CaptureNames, finding_of};
+use crate::run::inlet::Inlet;
+use crate::run::outlet::Outlet;
+use crate::run::progress::tell_totals;
+use crate::run::report::print_report;
+use dp_engine::{Known, Report, Watch};
+use dp_pcap::PcapError;
+use dp_pipe::{Pipeline, RunCause, RunFault, run_watched};
 use std::alloc::Global;
-use std::io::Write;
+use std::io::{self, Error, Write};
 
-/// What is told of a run that stopped, where nothing more is found.
+/// The finding for a run that stopped, if there is no other.
 fn words_of<'a>(error: PcapError) -> Finding<'a>
     ensures reason { result.reason ≡ Reason.Capture error }
     ensures file { result.file ≡ None }
@@ -27,11 +50,11 @@ fn words_of<'a>(error: PcapError) -> Finding<'a>
     }
 }
 
-/// What is told of a run that stopped, with what is found of the capture at which it did.
+/// The fault of a run that stopped, with the finding for the capture at which it stopped.
 pub fn fault_of<'a>(cause: RunCause, found: Option<Finding<'a>>) -> Fault<'a>
     ensures status { status_of_fault result ≡ status_of_cause cause }
     ensures line { text_of_fault result ≡ stop_text cause }
-    ensures found { IfSome (finding_of result) (λ f. IfSome found.entry (λ given. f ≡ given)) }
+    ensures fault { result ≡ spec.stop_fault cause found.entry }
 {
     match cause {
         RunCause::Memory => Fault::Memory,
@@ -48,75 +71,193 @@ pub fn fault_of<'a>(cause: RunCause, found: Option<Finding<'a>>) -> Fault<'a>
     }
 }
 
-/// Prints the report of a run, and answers the status.
-fn tell_report<O: Write, E: Write>(report: &Report, out: &mut O, err: &mut E) -> u8
-    ensures status { IsTold DONE result }
-    ensures printed { result ≡ DONE → Appends (O.contents out.old) (O.contents out.new) (report_text report.now) }
-    ensures silent { result ≡ DONE → err.new ≡ err.old }
-    ensures memory { result ≡ MEMORY → TellsMemory (E.contents err.old) (E.contents err.new) }
-{
-    let status = status_of_write(print_report(report, out), DONE);
-    tell_if_memory(err, status)
-}
-
-/// Tells of a run that stopped, and answers the status: its report on `out`, but for want of memory, and then the fault on `err`.
-fn tell_stopped<O: Write, E: Write>(
-    fault: RunFault,
-    found: Option<Finding<'_>>,
-    out: &mut O,
-    err: &mut E,
-) -> u8
-    ensures status { IsTold (status_of_cause fault.cause) result }
-    ensures fails { result ≢ DONE }
-    ensures memory { result ≡ MEMORY → TellsMemory (E.contents err.old) (E.contents err.new) }
-{
-    let RunFault { cause, report } = fault;
-    if cause != RunCause::Memory {
-        let status = tell_report(&report, out, err);
-        if status != DONE {
-            return status;
-        }
-    }
-    tell_fault(err, fault_of(cause, found))
-}
-
-/// Tells what a run answered: prints the report, also of a run that stopped, and then tells why it did, with what is found of the
-/// capture at which it stopped; answers the status.
-pub fn tell_run<O: Write, E: Write>(
-    answer: Result<Report, RunFault>,
-    found: Option<Finding<'_>>,
-    out: &mut O,
-    err: &mut E,
-) -> u8
-    ensures status { IsTold (status_of_run answer) result }
-    ensures printed { result ≡ DONE → IfOk answer (λ report. Appends (O.contents out.old) (O.contents out.new) (report_text report)) }
-    ensures silent { result ≡ DONE → err.new ≡ err.old }
-    ensures memory { result ≡ MEMORY → TellsMemory (E.contents err.old) (E.contents err.new) }
+/// The report to print, also of a run that stopped; none for one that found no memory.
+fn printed_of(answer: &Result<Report, RunFault>) -> Option<&Report>
+    ensures { option_map (λ report. report.now) result ≡ spec.printed_of answer.now }
 {
     match answer {
-        Ok(report) => tell_report(&report, out, err),
-        Err(fault) => tell_stopped(fault, found, out, err),
+        Ok(report) => Some(report),
+        Err(fault) => match fault.cause {
+            RunCause::Memory => None,
+            _ => Some(&fault.report),
+        },
     }
 }
 
-/// Runs a pipeline from captures to captures, one reader and one writer for each port, with these allocation calls refused.
-/// Prints the report, also of a run that stopped, and then tells why it did; answers the status.
-pub fn run_line<R: Feed, W: Sink, O: Write, E: Write>(
+/// Prints the report of a run, if there is one.
+fn print_answer<O: Write>(answer: &Result<Report, RunFault>, out: &mut Printer<O>) -> io::Result<()>
+    ensures printed { OnOk result (spec.IsReported answer.now (paper O.contents out.old) (paper O.contents out.new)) }
+    ensures noted { Notes out.old out.new result }
+{
+    let Some(report) = printed_of(answer) else {
+        return Ok(());
+    };
+    let written = print_report(report, &mut out.to);
+    out.note(written)
+}
+
+/// The cause for which a run stopped, if it did.
+fn stop_of(answer: &Result<Report, RunFault>) -> Result<(), RunCause>
+    ensures { result ≡ answer_of answer.now }
+{
+    match answer {
+        Ok(_) => Ok(()),
+        Err(fault) => Err(fault.cause),
+    }
+}
+
+/// Reports why a run stopped, if it did, with the finding for the capture at which it stopped.
+pub fn print_stop<E: Write>(
+    answer: Result<(), RunCause>,
+    found: Option<Finding<'_>>,
+    err: &mut Printer<E>,
+) -> io::Result<()>
+    ensures printed { OnOk result (spec.IsStopReported answer found.entry (paper E.contents err.old) (paper E.contents err.new)) }
+    ensures noted { Notes err.old err.new result }
+{
+    match answer {
+        Ok(()) => Ok(()),
+        Err(cause) => print_fault(err, fault_of(cause, found)),
+    }
+}
+
+/// The status of a run.
+pub fn status_of(answer: Result<(), RunCause>) -> u8
+    ensures { result ≡ status_of_answer answer }
+{
+    match answer {
+        Ok(()) => DONE,
+        Err(RunCause::Memory) => MEMORY,
+        Err(_) => FAULT,
+    }
+}
+
+/// Reports a run: prints its report, and then why it stopped, if it did. Returns the status.
+fn report_run<O: Write, E: Write>(
+    answer: &Result<Report, RunFault>,
+    found: Option<Finding<'_>>,
+    out: &mut Printer<O>,
+    err: &mut Printer<E>,
+) -> u8
+    ensures { spec.IsRunReported answer.now found.entry (paper O.contents out.old) (paper O.contents out.new) (paper E.contents err.old)
+        (paper E.contents err.new) result }
+{
+    if let Err(error) = print_answer(answer, out) {
+        return status_unwritten(error, err);
+    }
+    let stop = stop_of(answer);
+    match print_stop(stop, found, err) {
+        Ok(()) => status_of(stop),
+        Err(_) => FAULT,
+    }
+}
+
+/// Runs a pipeline from captures to captures under a watcher, and then writes out the bytes that its outputs hold back.
+fn run_to_end<K: Known, V: Watch, I: Inlet, O: Outlet>(
     alloc: Global,
     pipeline: Pipeline,
-    ins: &mut [R],
-    outs: &mut [W],
+    ins: &mut [I],
+    outs: &mut [O],
     pattern: Vec<u64>,
-    out: &mut O,
-    err: &mut E,
-) -> u8
+    watch: &mut V,
+) -> Settled
     requires readers { length ins.old ≡ length pipeline.env.ports }
     requires writers { length outs.old ≡ length pipeline.env.ports }
     requires pattern { IsAscending 0 pattern.items }
-    ensures answer { IsRunTold pipeline pattern.items (map R.remaining ins.old) (map R.remaining ins.new) (map W.contents outs.old) (map W.contents outs.new)
-        (O.contents out.old) (O.contents out.new) result }
-    ensures silent { result ≡ DONE → err.new ≡ err.old }
-    ensures memory { result ≡ MEMORY → TellsMemory (E.contents err.old) (E.contents err.new) }
+    requires few { length outs.old ≤ 8 }
+    ensures { spec.IsRun V.sees watch.old watch.new pipeline pattern.items (map (seen I.remaining I.calls) ins.old) (map (seen I.remaining I.calls) ins.new)
+        (map (seen O.contents O.calls) outs.old) (map O.taken outs.new) result }
 {
-    tell_run(run(alloc, pipeline, ins, outs, pattern), None, out, err)
+    let answer = run_watched::<K, I, O, V>(alloc, pipeline, ins, outs, pattern, watch);
+    settle(outs, answer)
+}
+
+/// The finding for the capture at which a run stopped, if it stopped at one.
+pub fn found_of<'a, I: Inlet>(
+    names: &'a [CaptureNames],
+    ins: &[I],
+    answer: Result<(), RunCause>,
+    failure: Option<Error>,
+) -> Option<Finding<'a>>
+    ensures { spec.IsFound names.now (map I.saw ins.now) answer failure result }
+{
+    match answer {
+        Ok(()) => None,
+        Err(cause) => finding_of(names, ins, cause, failure),
+    }
+}
+
+/// Prints the number of records that the run processed for each port, if requested. If that cannot be written, the rest is still printed.
+fn print_totals<E: Write>(is_told: bool, answer: &Result<Report, RunFault>, err: &mut Printer<E>)
+    ensures { spec.AreTotals is_told answer.now (paper E.contents err.old) (paper E.contents err.new) }
+{
+    if is_told {
+        let written = tell_totals(is_told, answer, &mut err.to);
+        let _noted = err.note(written);
+    }
+}
+
+/// What is printed for a run besides its report.
+#[derive(Clone, Copy)]
+pub struct Reporting<'a> {
+    /// The file names of its captures, in port order.
+    pub names: &'a [CaptureNames],
+    /// Whether the records of each port are printed at its end.
+    pub counts: bool,
+}
+
+/// How a run ended.
+#[derive(Drop)]
+pub struct Ended {
+    /// The status that the program ends with.
+    pub status: u8,
+    /// The result of the run once its captures were written out.
+    pub settled: Settled,
+}
+
+/// Reports a run with this result: prints the records of each port, if requested, the report, and why the run stopped, if it did. Returns the status.
+fn report_settled<I: Inlet, P: Write, E: Write>(
+    settled: &Settled,
+    ins: &[I],
+    reporting: Reporting<'_>,
+    out: &mut Printer<P>,
+    err: &mut Printer<E>,
+) -> u8
+    ensures { spec.IsRunTold reporting.entry.names.now (map I.saw ins.now) reporting.entry.counts (paper P.contents out.old) (paper P.contents out.new)
+        (paper E.contents err.old) (paper E.contents err.new) settled.now result }
+{
+    print_totals(reporting.counts, &settled.answer, err);
+    let stop = stop_of(&settled.answer);
+    let found = found_of(reporting.names, ins, stop, settled.failure);
+    report_run(&settled.answer, found, out, err)
+}
+
+/// Runs a pipeline from captures to captures, one input and one output for each port, with these allocation calls refused, under a watcher.
+/// Writes the outputs out, prints the report, also of a run that stopped, and then why it did. Programs that are among `K` run as machine code of
+/// their own; nothing else depends on `K`.
+///
+/// The status is 0 where all was forwarded and written out, 4 for want of memory, and else 3; or 3 or 4 where a text could not be written.
+pub fn run_line<K: Known, V: Watch, I: Inlet, O: Outlet, P: Write, E: Write>(
+    alloc: Global,
+    pipeline: Pipeline,
+    ins: &mut [I],
+    outs: &mut [O],
+    pattern: Vec<u64>,
+    watch: &mut V,
+    reporting: Reporting<'_>,
+    out: &mut Printer<P>,
+    err: &mut Printer<E>,
+) -> Ended
+    requires readers { length ins.old ≡ length pipeline.env.ports }
+    requires writers { length outs.old ≡ length pipeline.env.ports }
+    requires pattern { IsAscending 0 pattern.items }
+    requires few { length outs.old ≤ 8 }
+    ensures run { spec.IsRun V.sees watch.old watch.new pipeline pattern.items (map (seen I.remaining I.calls) ins.old)
+        (map (seen I.remaining I.calls) ins.new) (map (seen O.contents O.calls) outs.old) (map O.taken outs.new) result.settled }
+    ensures told { spec.IsRunTold reporting.entry.names.now (map I.saw ins.new) reporting.entry.counts (paper P.contents out.old) (paper P.contents out.new)
+        (paper E.contents err.old) (paper E.contents err.new) result.settled result.status }
+{
+    let settled = run_to_end::<K, V, I, O>(alloc, pipeline, ins, outs, pattern, watch);
+    let status = report_settled(&settled, ins, reporting, out, err);
+    Ended { status, settled }
 }

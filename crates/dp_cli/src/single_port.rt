@@ -1,6 +1,7 @@
 //! `dpv one`: a pipeline of one port.
 
 ghost use Rattle.std.specs.Prelude.{◌≡◌};
+ghost use Rattle.dp_cli.specs.Names.{file_named};
 ghost use Rattle.dp_cli.specs.SinglePort.{one_port};
 
 use dp_model::{Env, PoolSpec, PortSpec};
@@ -56,18 +57,20 @@ pub struct OneFiles<'a> {
     pub output: &'a str,
 }
 
-/// Which files the names of a pipeline stand for.
+/// Which files the names of a pipeline mean.
 #[derive(Clone, Copy)]
 pub enum Naming<'a> {
-    /// Those of these names.
+    /// The names are used as they are written.
     AsTheyStand,
-    /// Those of `dpv one`.
+    /// The files of `dpv one`.
     One(OneFiles<'a>),
 }
 
 impl<'a> Naming<'a> {
-    /// The file that a name stands for.
-    pub fn file(self, name: &'a str) -> &'a str {
+    /// The file that a name means.
+    pub fn file(self, name: &'a str) -> &'a str
+        ensures { result.now ≡ file_named self.entry name.now }
+    {
         match self {
             Naming::AsTheyStand => name,
             Naming::One(files) => match name {

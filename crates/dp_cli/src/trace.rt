@@ -1,18 +1,30 @@
 //! `dpv trace`: the first records of a pipeline's captures, instruction by instruction.
 
-ghost use Rattle.std.specs.Prelude.{◌≡◌, ◌≤◌, ◌⊎◌, length, map, IsErr, IfOk, OnErr};
+ghost use Rattle.std.specs.Prelude.{◌≡◌, ◌≤◌, length, map, IsErr, IfOk};
 ghost use Rattle.dp_engine.specs.Engines.{IsAscending};
-ghost use Rattle.dp_cli.specs.Tracing.{IsTraceTold, IsTraced, status_of_trace};
-ghost use Rattle.dp_cli.specs.Told.{IsTold, TellsMemory};
+ghost use Rattle.dp_cli.specs.Printing.{paper};
+ghost use Rattle.dp_cli.specs.Tracing.{IsTraceReported, IsTraceTold, IsTraced};
 
-use crate::fault::{DONE, FAULT, Fault, MEMORY, status_of_write, tell_fault, tell_if_memory};
+pub mod became;
+pub mod files;
+pub mod snapshot;
+pub mod tracer;
+pub mod written;
+
+use crate::fault::{FAULT, status_unwritten};
 use crate::fault_reasons::Finding;
-use crate::listing::instructions;
-use crate::run::fault_of;
-use crate::tracer::{Listing, Printing};
+use crate::printer::Printer;
+use crate::run::findings::CaptureNames;
+use crate::run::inlet::Inlet;
+use crate::run::{found_of, print_stop, status_of};
+use crate::trace::became::Picked;
+use crate::trace::tracer::{Listing, NodeListing, Printing};
+use dp_counts::NodeSource;
+use dp_engine::Known;
 use dp_lang::print;
 use dp_pcap::Feed;
 use dp_pipe::{MOST_TURNS, Pipeline, RunCause, Traced, trace};
+use dp_words::instructions;
 use std::alloc::{AllocError, Global};
 use std::io::{self, Write};
 
@@ -25,35 +37,69 @@ fn programs_of(alloc: Global, pipeline: &Pipeline) -> Result<Vec<String>, AllocE
     Ok(texts)
 }
 
-/// The texts of the instructions of each program.
-fn instructions_of<'a>(
+/// The texts of a program's instructions as in its source, if that is known.
+fn texts_of<'a>(
     alloc: Global,
+    source: Option<&NodeSource<'a>>,
+    program: &'a String,
+) -> Result<Vec<&'a str>, AllocError> {
+    let Some(source) = source else {
+        return instructions(alloc, program.as_str());
+    };
+    let mut texts = Vec::new(alloc);
+    for line in source.lines.as_slice() {
+        if line.step.is_some() {
+            texts.push(std::str::from_utf8(line.text).unwrap_or("").trim())?;
+        }
+    }
+    Ok(texts)
+}
+
+/// The instructions of each program.
+fn listings_of<'a>(
+    alloc: Global,
+    pipeline: &Pipeline,
+    sources: &[NodeSource<'a>],
     programs: &'a [String],
-) -> Result<Vec<Vec<&'a str>>, AllocError> {
+) -> Result<Vec<NodeListing<'a>>, AllocError> {
     let mut nodes = Vec::new(alloc);
-    for program in programs {
-        nodes.push(instructions(alloc, program.as_str())?)?;
+    let count = pipeline.nodes();
+    for (k, program) in programs.iter().take(count).enumerate() {
+        nodes.push(NodeListing {
+            texts: texts_of(alloc, sources.get(k), program)?,
+            instrs: Vec::from_slice(alloc, pipeline.node(k).program().instrs())?,
+        })?;
     }
     Ok(nodes)
 }
 
+/// How a trace is printed.
+#[derive(Clone, Copy)]
+pub struct Shown<'a, 's> {
+    /// The sources of the programs, in the order of the nodes; none if instructions are shown as dp_lang's `print` writes them.
+    pub sources: &'a [NodeSource<'s>],
+    /// Which records are printed.
+    pub picked: Picked<'a>,
+}
+
 /// What a traced run came to.
 #[derive(Debug)]
-pub struct TracedRun {
+struct TracedRun {
     /// What stopped it, if anything did.
-    pub answer: Result<(), RunCause>,
+    answer: Result<(), RunCause>,
     /// Whether all of its text was printed.
-    pub written: io::Result<()>,
+    written: io::Result<()>,
 }
 
 /// Traces the first records of a pipeline's captures, one reader for each port, with these allocation calls refused: prints what each
 /// instruction did. No capture is written.
-pub fn print_trace<R: Feed, O: Write>(
+fn print_trace<K: Known, R: Feed, O: Write>(
     alloc: Global,
     pipeline: Pipeline,
     ins: &mut [R],
     pattern: Vec<u64>,
     which: Traced,
+    shown: Shown<'_, '_>,
     out: &mut O,
 ) -> Result<TracedRun, AllocError>
     requires readers { length ins.old ≡ length pipeline.env.ports }
@@ -64,56 +110,82 @@ pub fn print_trace<R: Feed, O: Write>(
 {
     let ports = pipeline.ports();
     let programs = programs_of(alloc, &pipeline)?;
-    let nodes = instructions_of(alloc, programs.as_slice())?;
+    let nodes = listings_of(alloc, &pipeline, shown.sources, programs.as_slice())?;
     let listing = Listing {
         ports,
         nodes: nodes.as_slice(),
     };
-    let mut printing = Printing::new(out, listing);
-    let answer = trace(alloc, pipeline, ins, pattern, which, &mut printing);
+    let mut printing = Printing::new(alloc, out, listing, shown.picked);
+    let answer = trace::<K, _, _>(alloc, pipeline, ins, pattern, which, &mut printing);
     Ok(TracedRun {
         answer,
         written: printing.into_written(),
     })
 }
 
-/// Tells what a traced run came to, with what is found of the capture at which it stopped; answers the status.
-pub fn tell_trace<E: Write>(run: TracedRun, found: Option<Finding<'_>>, err: &mut E) -> u8
-    ensures status { IsTold (status_of_trace run.answer) result }
-    ensures failed { OnErr run.written ((result ≡ FAULT) ⊎ (result ≡ MEMORY)) }
-    ensures silent { result ≡ DONE → err.new ≡ err.old }
-    ensures memory { result ≡ MEMORY → TellsMemory (E.contents err.old) (E.contents err.new) }
-{
-    let TracedRun { answer, written } = run;
-    let status = status_of_write(written, DONE);
-    if status != DONE {
-        return tell_if_memory(err, status);
-    }
-    match answer {
-        Ok(()) => DONE,
-        Err(cause) => tell_fault(err, fault_of(cause, found)),
-    }
-}
-
-/// Traces a pipeline as [`print_trace`] does, tells why the run stopped, where it did, and answers the status.
-pub fn trace_line<R: Feed, O: Write, E: Write>(
+/// Traces as [`print_trace`] does. If there is no memory for the texts of instructions, the run stopped for lack of memory.
+fn traced<K: Known, R: Feed, O: Write>(
     alloc: Global,
     pipeline: Pipeline,
     ins: &mut [R],
     pattern: Vec<u64>,
     which: Traced,
+    shown: Shown<'_, '_>,
     out: &mut O,
-    err: &mut E,
+) -> TracedRun
+    requires readers { length ins.old ≡ length pipeline.env.ports }
+    requires pattern { IsAscending 0 pattern.items }
+    requires limit { which.records ≤ MOST_TURNS }
+    ensures { IsTraced pipeline (map R.remaining ins.old) (map R.remaining ins.new) result.answer }
+{
+    match print_trace::<K, R, O>(alloc, pipeline, ins, pattern, which, shown, out) {
+        Ok(run) => run,
+        Err(AllocError) => TracedRun {
+            answer: Err(RunCause::Memory),
+            written: Ok(()),
+        },
+    }
+}
+
+/// Reports a traced run after its trace: why it stopped, if it did, with the finding for the capture at which it stopped. Returns the status.
+fn report_trace<O: Write, E: Write>(
+    run: TracedRun,
+    found: Option<Finding<'_>>,
+    out: &mut Printer<O>,
+    err: &mut Printer<E>,
+) -> u8
+    ensures { IsTraceReported run.answer found.entry (paper O.contents out.old) (paper O.contents out.new) (paper E.contents err.old)
+        (paper E.contents err.new) result }
+{
+    let TracedRun { answer, written } = run;
+    if let Err(error) = out.note(written) {
+        return status_unwritten(error, err);
+    }
+    match print_stop(answer, found, err) {
+        Ok(()) => status_of(answer),
+        Err(_) => FAULT,
+    }
+}
+
+/// Traces a pipeline as [`print_trace`] does, reports why the run stopped, if it did, and returns the status.
+pub fn trace_line<K: Known, I: Inlet, O: Write, E: Write>(
+    alloc: Global,
+    pipeline: Pipeline,
+    ins: &mut [I],
+    pattern: Vec<u64>,
+    which: Traced,
+    shown: Shown<'_, '_>,
+    names: &[CaptureNames],
+    out: &mut Printer<O>,
+    err: &mut Printer<E>,
 ) -> u8
     requires readers { length ins.old ≡ length pipeline.env.ports }
     requires pattern { IsAscending 0 pattern.items }
     requires limit { which.records ≤ MOST_TURNS }
-    ensures answer { IsTraceTold pipeline (map R.remaining ins.old) (map R.remaining ins.new) result }
-    ensures silent { result ≡ DONE → err.new ≡ err.old }
-    ensures memory { result ≡ MEMORY → TellsMemory (E.contents err.old) (E.contents err.new) }
+    ensures { IsTraceTold pipeline (map I.remaining ins.old) (map I.remaining ins.new) names.now (map I.saw ins.new) (paper O.contents out.old)
+        (paper O.contents out.new) (paper E.contents err.old) (paper E.contents err.new) result }
 {
-    match print_trace(alloc, pipeline, ins, pattern, which, out) {
-        Ok(run) => tell_trace(run, None, err),
-        Err(_) => tell_fault(err, Fault::Memory),
-    }
+    let run = traced::<K, I, O>(alloc, pipeline, ins, pattern, which, shown, &mut out.to);
+    let found = found_of(names, ins, run.answer, None);
+    report_trace(run, found, out, err)
 }

@@ -1,29 +1,35 @@
-//! `dpv explain` and `dpv show`: the verdicts on the programs of a pipeline, as they are wanted.
+//! `dpv explain` and `dpv show`: the verdicts on the programs of a pipeline.
 
 ghost use Rattle.std.specs.Prelude.{◌≡◌, ◌⊎◌};
 ghost use Rattle.std.specs.Io.KnownBytes.{Appends};
 ghost use Rattle.dp_cli.specs.Judging.{asked_node, accepted_text, entry_at, IsNodeTold, EndedAt, AreAllTold, IsToldAt, IsPipelineTold};
 ghost use Rattle.dp_cli.specs.Told.{IsTold, TellsMemory};
 
-use crate::explain::explain;
+pub mod explain;
+pub mod files;
+pub mod judged;
+pub mod show;
+pub mod verdict;
+
 use crate::fault::{DONE, MEMORY, REFUSED, tell_no_node, tell_unloaded};
-use crate::judged::{Asked, asked_of, judge};
-use crate::show::{Form, show};
+use crate::verdicts::explain::explain;
+use crate::verdicts::judged::{Asked, asked_of, judge};
+use crate::verdicts::show::{Form, show};
 use dp_model::{Entry, Env};
 use dp_pipe::{Files, Survey, survey_of};
 use std::alloc::Global;
 use std::io::Write;
 
-/// What is told of a program beside the verdict on it.
+/// What is printed of a program besides the verdict.
 #[derive(Clone, Copy, Debug, PartialEq, Eq)]
 pub enum Wanted {
     /// Why it is refused, if it is.
     Reason,
-    /// All of it, with what is known before each instruction.
+    /// The whole program, with the facts known before each instruction.
     Program(Form),
 }
 
-/// Tells the verdict on a node's program as it is wanted, and answers the status: 1 where the program is refused.
+/// Prints the verdict on a node's program with what is wanted, and returns the status: 1 where the program is refused.
 pub fn tell_node<F: Files, O: Write, E: Write>(
     alloc: Global,
     files: &mut F,
@@ -49,7 +55,7 @@ pub fn tell_node<F: Files, O: Write, E: Write>(
     }
 }
 
-/// The nodes that a pipeline can have, by an index: eight ports, and then eight rings.
+/// The nodes that a pipeline can have, by index: eight ports, then eight rings.
 fn entry_at(index: u8) -> Entry
     ensures { result ≡ entry_at index }
 {
@@ -60,7 +66,7 @@ fn entry_at(index: u8) -> Entry
     }
 }
 
-/// Tells the verdict on the node of an index, and answers the status: 0 also where the pipeline has no such node.
+/// Prints the verdict on the node with this index, and returns the status: 0 also where the pipeline has no such node.
 #[tactic(auto, using(crate::proofs::Endings::node_ends))]
 fn tell_nth<F: Files, O: Write, E: Write>(
     alloc: Global,
@@ -83,7 +89,7 @@ fn tell_nth<F: Files, O: Write, E: Write>(
     }
 }
 
-/// Tells the verdict on each node of a pipeline: 1 where one is refused, unless a fault ends it before.
+/// Prints the verdict on each node of a pipeline; returns 1 where one is refused, unless a fault ends it before.
 fn tell_all<F: Files, O: Write, E: Write>(
     alloc: Global,
     files: &mut F,
@@ -109,7 +115,7 @@ fn tell_all<F: Files, O: Write, E: Write>(
     worst
 }
 
-/// Tells the verdict on the node of a pipeline with this entry.
+/// Prints the verdict on the node of a pipeline with this entry.
 fn tell_at<F: Files, O: Write, E: Write>(
     alloc: Global,
     files: &mut F,
@@ -130,8 +136,8 @@ fn tell_at<F: Files, O: Write, E: Write>(
     }
 }
 
-/// Tells the verdict on the nodes of a pipeline, or on the one that is named, as it is wanted, and answers the status: 1 where one is
-/// refused, 2 where the pipeline has no such node.
+/// Prints the verdict on the nodes of a pipeline, or on the one that is named, with what is wanted, and returns the status: 1 where one is refused, 2
+/// where the pipeline has no such node.
 pub fn tell_pipeline<F: Files, O: Write, E: Write>(
     alloc: Global,
     text: &[u8],

@@ -1,4 +1,4 @@
--- The steps that call for buffers: alloc and clone.
+-- Steps that take buffers: alloc and clone.
 use Rattle.std.proofs.Common.{◌≡◌, ℕ, ◌+◌, Bool, false, List, [], ◌∷◌, length, map, Some, refl, ◌∙◌, ap, arith, true, sym}
 use Rattle.std.specs.Prelude.{slice_set, option_map, MatchBool}
 use Rattle.std.specs.List.{AllByRecursion}
@@ -17,7 +17,7 @@ use Rattle.dp_copies.proofs.Unchanged.{Same, held_same, listed_same}
 use Rattle.dp_copies.proofs.Taking.{alloc_copy, cloned_copy, fresh_same}
 use Rattle.dp_copies.proofs.Moves.{Does, by, held_step, empty_step}
 
--- a register set, with buffers that differ only where no live segment is
+-- a register is set, with buffers that differ only outside live segments
 set_copies : (pools : List PoolSpec) (st : State) (p : ℕ) (k : Packet) (c : Copy) (buffers : Buffers) (answers : List Bool) →
     Same pools st.world.buffers buffers (live st) → copy_of pools buffers k ≡ c → copied pools (with_call (with_packet p k (with_buffers buffers st))) answers
     ≡ copy_put p (Some c) (copied pools st answers)
@@ -31,7 +31,7 @@ set_copies pools st p k c buffers answers same is =
     let outboxes = listed_same pools old buffers st.world.outboxes (λ b one. same b (omega (arith, one, live_parts st b))) in
     λ i. record { packets = held i; numbers = st.numbers; jumps = st.jumps; rings = rings i; outboxes = outboxes i; to_answer = answers; cuts = st.world.cuts }
 
--- the instruction calls for a packet with this copy, for an empty register
+-- the instruction asks for a packet with this copy, for an empty register
 abbrev Asks : Setting → ℕ → State → Instr → ℕ → ℕ → Copy → Type 0
 Asks c label s i p l new = (answers : List Bool) → copy_step c.env c.tables label (copied c.env.pools s answers) i
     ≡ with_empty (copied c.env.pools s answers) p (are_answered (copied c.env.pools s answers) (λ t. copy_on label (copy_put p (Some new) t)) (λ t. (At l, t)))
@@ -41,14 +41,14 @@ module _ (c : Setting) (label : ℕ) (s : State) (i : Instr) (m : Move) (later :
   refused : (new : Copy) → Asks c label s i p l new → IsEmpty s p → m ≡ is_refused l s → Does c label s i later m
   refused new asks empty is = by c label s i later m _ is (asks (false ∷ later) ∙ empty_step c.env.pools s (false ∷ later) p _ empty)
 
-  -- the call is given a packet
+  -- the call gets a packet
   given : (k : Packet) (new : Copy) (buffers : Buffers) → Asks c label s i p l new → IsEmpty s p → Same c.env.pools s.world.buffers buffers (live s) →
       copy_of c.env.pools buffers k ≡ new → m ≡ is_given label (with_packet p k (with_buffers buffers s)) → Does c label s i later m
   given k new buffers asks empty same copies is = by c label s i later m _ is
       (asks (true ∷ later) ∙ empty_step c.env.pools s (true ∷ later) p _ empty
       ∙ ap (λ t. Some (At (label + 1), t)) (sym (set_copies c.env.pools s p k new buffers later same copies)))
 
-  -- a new packet: given or refused, as the call is answered
+  -- alloc: granted or refused, as the answer says
   pub allocates : (pool : ℕ) → Asks c label s i p l (copy_allocated c.env.pools pool) → IsEmpty s p → MatchBool (is_denied c s pool 1)
       (m ≡ is_refused l s)
       ((ns : List Number) × (buffers : Buffers) × AreFresh c.env.pools (live s) pool 1 ns × ChangesOnly ns s.world.buffers buffers
@@ -64,7 +64,7 @@ module _ (c : Setting) (label : ℕ) (s : State) (i : Instr) (m : Move) (later :
           (fresh_same c.env.pools s n buffers pool each.0 changes) (alloc_copy c.env.pools buffers pool n each.0.of_pool) is
       one (n ∷ o ∷ ns) buffers count each changes is = absurd (omega (arith, count))
 
-  -- a clone: the packet's copy again
+  -- clone: the packet's copy again
   pub clones : (q pool : ℕ) (k : Packet) → ((answers : List Bool) → copy_step c.env c.tables label (copied c.env.pools s answers) i
       ≡ with_held (copied c.env.pools s answers) q (λ k. with_empty (copied c.env.pools s answers) p
       (are_answered (copied c.env.pools s answers) (λ t. copy_on label (copy_put p (Some k) t)) (λ t. (At l, t))))) → Holds s q k → IsEmpty s p →

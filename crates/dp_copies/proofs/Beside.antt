@@ -1,4 +1,4 @@
--- A packet beside the one that an instruction works on has references of its own.
+-- Packets other than the one that an instruction writes have references of their own.
 use Rattle.std.proofs.Common.{◌≡◌, ◌≢◌, ℕ, zero, suc, ◌+◌, ◌≤◌, List, [], ◌∷◌, Some, sym, ◌∙◌, ap, arith, inl, inr}
 use Rattle.std.specs.Prelude.{Contains, flat_map}
 use Rattle.dp_model.specs.declared.instr.Instr.{Instr}
@@ -37,12 +37,12 @@ pub refs_queued : (w : World) (k : Packet) (b : Number) → IsQueued w k → ref
 refs_queued w k b (inl ring) = omega (arith, refs_listed w.rings k b ring)
 refs_queued w k b (inr outbox) = omega (arith, refs_listed w.outboxes k b outbox)
 
--- the references of a packet beside count among those of all
+-- its references are among all
 pub refs_beside : (i : Instr) (s : State) (k : Packet) (b : Number) → IsBeside i s k → refs k b ≤ refs (live s) b
 refs_beside i s k b (inl (q, other, holds)) = omega (arith, live_parts s b, refs_held s.packets q (Some k) b holds)
 refs_beside i s k b (inr queued) = omega (arith, live_parts s b, refs_queued s.world k b queued)
 
--- and do so together with those of the packet that is written
+-- and so are both packets' together
 pub refs_beside_written : (i : Instr) (s : State) (p : ℕ) (j k : Packet) (b : Number) → written_register i ≡ Some p → Holds s p j → IsBeside i s k →
     refs j b + refs k b ≤ refs (live s) b
 refs_beside_written i s p j k b written held (inl (q, other, holds)) =

@@ -10,7 +10,7 @@ use Rattle.dp_model.specs.Laws.Steps.{budget_keeps}
 use Rattle.dp_copies.proofs.States.{copied}
 use Rattle.dp_copies.proofs.Steps.{StepsCopy}
 
--- what the budget makes of a move
+-- the budgeted move
 budget_copies : (pools : List PoolSpec) (label : ℕ) (m : Move) (answers : List Bool) → copy_budgeted label (m.next, copied pools m.state answers)
     ≡ ((budgeted label m).next, copied pools (budgeted label m).state answers)
 budget_copies pools label m answers = go (is_backward label m.next) (nat_lt m.state.jumps jump_budget)
@@ -22,7 +22,7 @@ budget_copies pools label m answers = go (is_backward label m.next) (nat_lt m.st
     go true false = refl
     go false d = refl
 
--- a step of a program is that of the copies
+-- a step of a program is a step of the copies
 pub step_copies : (c : Setting) → StepsCopy c → (program : List Instr) (label : ℕ) (s : State) (m : Move) (later : List Bool) →
     IsWithin c.env.pools s.world.buffers (live s) → Step c program label s m →
     option_map (copy_budgeted label) (option_and_then (copy_step c.env c.tables label (copied c.env.pools s (m.answers ++ later))) (slice_get program label))

@@ -1,4 +1,4 @@
--- The law for environments that `Env::new` accepts, and that two runs that are answered alike write the same.
+-- The law for environments that `Env::new` accepts; two runs with the same answers write the same.
 use Rattle.std.proofs.Common.{◌≡◌, List, None, subst}
 use Rattle.dp_model.specs.Environments.{fault_of}
 use Rattle.dp_model.specs.Machine.{Setting, World}

@@ -14,11 +14,11 @@ use Rattle.dp_model.specs.Packets.{needed}
 use Rattle.dp_model.specs.Runs.{Got, Oversize, Waiting, first_waiting, Nodes, Arrival, joined}
 use Rattle.dp_copies.proofs.NodeRuns.{goes_more}
 
--- what the first gives, so does the second
+-- where the first has a value, the second has the same
 abbrev Less : {R : Type 0} → Option R → Option R → Type 0
 Less {R} o o' = (r : R) → o ≡ Some r → o' ≡ Some r
 
--- the parts of a run, from the least to the whole
+-- the parts of a run, from the smallest to the whole
 then_less : {A B : Type 0} (f g : A → Option B) (o o' : Option A) → ((a : A) → Less (f a) (g a)) → Less o o' → Less (option_and_then f o) (option_and_then g o')
 then_less f g None o' less from r e = cc
 then_less f g (Some a) o' less from r e = ap (option_and_then g) (from a refl) ∙ less a r e
@@ -40,7 +40,7 @@ module _ (env : Environment) (tables : List (List Route)) (fuel more : ℕ) (le 
   node_less program k number x t e = goes_more env tables program fuel 0
       (record x { packets = Some k ∷ replicate 7 None; numbers = number ∷ replicate 7 0; jumps = 0 }) t e more le
 
-  -- the runs of rings
+  -- node runs on packets of rings
   serves_less : (programs : List (List Instr)) (n : ℕ) (x : CopyState) →
       Less (copy_serves env tables fuel programs n x) (copy_serves env tables more programs n x)
   serves_less programs zero x t e = e

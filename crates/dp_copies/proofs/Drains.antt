@@ -42,7 +42,7 @@ none_listed : (P : Segment → Type 0) (lists : List (List Packet)) → AllByRec
 none_listed P [] = tt
 none_listed P (l ∷ lists) = none_listed P lists
 
--- what is left lies within the buffers
+-- what remains lies within the buffers
 pub drained_inside : (c : Setting) (w : World) → IsInside c (between w) → IsInside c (between (with_empty_outboxes w))
 drained_inside c w well =
     record {

@@ -1,4 +1,4 @@
--- The steps that change, join or free packets.
+-- Steps that change, join or free packets.
 use Rattle.std.proofs.Common.{◌≡◌, ◌≢◌, ℕ, ◌+◌, ◌≤◌, Bool, List, ◌++◌, length, Some, None, ◌∙◌, ap, arith, true, sym, not, ◌&&◌}
 use Rattle.std.specs.Prelude.{nat_le, ◌==◌}
 use Rattle.std.proofs.lemmas.Bool.{le-leb, ne_eqb}
@@ -27,7 +27,7 @@ edits_step pools st st' answers p label test f k holds passes same =
     ∙ (ap (λ b. provided b (copy_on label (copy_put p (Some (f (copy_of pools st.world.buffers k))) (copied pools st answers)))) passes
     ∙ ap (λ t. Some (At (label + 1), t)) (sym same))
 
--- an instruction that edits a packet so
+-- an instruction with such an edit
 pub edited : (c : Setting) (label : ℕ) (s s' : State) (i : Instr) (m : Move) (later : List Bool) (p : ℕ) (test : Copy → Bool) (f : Copy → Copy) (k : Packet) →
     ((answers : List Bool) → copy_step c.env c.tables label (copied c.env.pools s answers) i ≡ copy_edits (copied c.env.pools s answers) p label test f) →
     m ≡ goes_on label s' → Holds s p k → test (copy_of c.env.pools s.world.buffers k) ≡ true → copied c.env.pools s' later
@@ -35,7 +35,7 @@ pub edited : (c : Setting) (label : ℕ) (s s' : State) (i : Instr) (m : Move) (
 edited c label s s' i m later p test f k step is holds passes same =
     by c label s i later m _ is (step later ∙ edits_step c.env.pools s s' later p label test f k holds passes same)
 
--- a packet that loses bytes in front, or behind
+-- adj and trim: a packet loses bytes
 pub adj_copies : (c : Setting) (s : State) (p : ℕ) (k : Packet) (n : ℕ) (later : List Bool) → Holds s p k → n ≤ first_len k → IsInside c s →
     copied c.env.pools (with_packet p (at_front (less_before n) k) s) later
     ≡ copy_put p (Some (at_front (without_front n) (copy_of c.env.pools s.world.buffers k))) (copied c.env.pools s later)

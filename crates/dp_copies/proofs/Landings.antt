@@ -1,4 +1,4 @@
--- What the copies make of a world, with enough steps allowed.
+-- What the copies do in a world, with enough steps allowed.
 use Rattle.std.proofs.Common.{◌≡◌, ℕ, ◌≤◌, Bool, List, [], ◌∷◌, ◌++◌, map, Option, Some, None, refl, ◌∙◌, ap, subst, sym, replicate}
 use Rattle.dp_model.specs.declared.env.PoolSpec.{PoolSpec}
 use Rattle.dp_model.specs.Packets.{Packet, Lies}
@@ -13,14 +13,14 @@ use Rattle.dp_copies.proofs.States.{copied}
 use Rattle.dp_copies.proofs.Steps.{steps_copy}
 use Rattle.dp_copies.proofs.NodeRuns.{goes_more, goes_copies, goes_within}
 
--- a state of the copies shows a world, before calls with these answers
+-- a state of the copies that shows a world, with these answers to come
 pub record Shows (pools : List PoolSpec) (w : World) (answers : List Bool) (x : CopyState) : Type 0 where
   pub rings : x.rings ≡ map (map (copy_of pools w.buffers)) w.rings
   pub outboxes : x.outboxes ≡ map (map (copy_of pools w.buffers)) w.outboxes
   pub to_answer : x.to_answer ≡ answers
   pub cuts : x.cuts ≡ w.cuts
 
--- with enough steps the copies make this of a state that shows the world
+-- with enough steps the copies do this from a state that shows the world
 pub record Lands {R : Type 0} (c : Setting) (w : World) (later : List Bool) (go : ℕ → Option R) (made : CopyState → R) : Type 0 where
   pub state : CopyState
   pub shows : Shows c.env.pools w later state

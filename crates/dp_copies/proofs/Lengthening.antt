@@ -1,4 +1,4 @@
--- A packet that gains bytes in front or behind: so does its copy.
+-- A packet that gains bytes at its front or end: so does its copy.
 use Rattle.std.proofs.Common.{◌≡◌, ℕ, ◌+◌, ◌-◌, ◌≤◌, Bool, false, List, [], ◌∷◌, ◌++◌, length, Some, refl, ◌∙◌, ap, subst, arith, sym, replicate}
 use Rattle.std.specs.Prelude.{slice_range}
 use Rattle.std.specs.List.{AllByRecursion}
@@ -21,9 +21,9 @@ use Rattle.dp_copies.proofs.Lengths.{IsThere, there}
 use Rattle.dp_copies.proofs.Writes.{wrote, rest_same}
 use Rattle.dp_copies.proofs.Moves.{put_copies}
 
--- ---- in front
+-- ---- at the front
 
--- the first segment with zeros in front
+-- the first segment with zeros before it
 pub prepend_piece : (pools : List PoolSpec) (buffers : Buffers) (s : Segment) (n : ℕ) → n ≤ s.offset → IsThere pools buffers s →
     piece_of pools (written buffers s.buffer (s.offset - n) (replicate n 0)) (more_before n s) ≡ with_front n (piece_of pools buffers s)
 prepend_piece pools buffers s n le there =
@@ -51,9 +51,9 @@ prepend_copies c st p (s ∷ rest) n answers holds le sole well =
     ∙ ap (λ xs. with_front n (piece_of pools old s) ∷ xs) (rest_same pools st p (s ∷ rest) rest s.buffer new holds changes sole
     (λ b. omega (arith, refs-cons s rest b))))
 
--- ---- behind
+-- ---- at the end
 
--- the last segment with zeros behind
+-- the last segment with zeros after it
 pub append_piece : (pools : List PoolSpec) (buffers : Buffers) (s : Segment) (n : ℕ) → s.offset + s.len + n ≤ length (bytes_of buffers s.buffer) →
     piece_of pools (written buffers s.buffer (s.offset + s.len) (replicate n 0)) (more_behind n s) ≡ with_back n (piece_of pools buffers s)
 append_piece pools buffers s n fits =
@@ -78,13 +78,13 @@ ends segments s (t ∷ rest) sole =
     let e = ends segments t rest sole in
     record { front = s ∷ e.front; last = e.last; is = ap (λ k. s ∷ k) e.is; sole = e.sole }
 
--- what an edit behind does to the last segment
+-- what an edit at the end does to the last segment
 pub at_end-push : {A : Type 0} (f : A → A) (front : List A) (x : A) → at_end f (front ++ x ∷ []) ≡ front ++ f x ∷ []
 at_end-push f [] x = refl
 at_end-push f (a ∷ []) x = refl
 at_end-push f (a ∷ b ∷ front) x = ap (λ k. a ∷ k) (at_end-push f (b ∷ front) x)
 
--- the zeros behind the last segment
+-- the zeros after the last segment
 pub zeroed_behind-push : (n : ℕ) (front : Packet) (s : Segment) (buffers : Buffers) → zeroed_behind n (front ++ s ∷ []) buffers
     ≡ written buffers s.buffer (s.offset + s.len) (replicate n 0)
 zeroed_behind-push n [] s buffers = refl

@@ -21,7 +21,7 @@ length_segment pools buffers s h = omega (
 )
 
 module _ (pools : List PoolSpec) (buffers : Buffers) where
-  -- the segment's bytes are all there
+  -- the segment's bytes all exist
   abbrev pub IsThere : Segment → Type 0
   IsThere s = (s.offset + s.len ≤ room_at pools s.buffer.pool) × (s.offset + s.len ≤ length (bytes_of buffers s.buffer))
 
@@ -47,13 +47,13 @@ module _ (pools : List PoolSpec) (buffers : Buffers) where
   last_length (s ∷ []) all = length_segment pools buffers s all.0.1
   last_length (s ∷ t ∷ rest) all = last_length (t ∷ rest) all.1
 
--- a packet within the buffers is all there
+-- all bytes of a packet within the buffers exist
 there_all : (pools : List PoolSpec) (buffers : Buffers) (segments : List Segment) (k : Packet) → IsWithin pools buffers segments →
     AllByRecursion (Lies pools) k → AllByRecursion (IsThere pools buffers) k
 there_all pools buffers segments [] well all = tt
 there_all pools buffers segments (s ∷ k) well all =
     ((all.0.fits, omega (arith, all.0.fits, well.rooms s.buffer all.0.number)), there_all pools buffers segments k well all.1)
 
--- so is each packet in a register
+-- so do those of each register's packet
 pub there : (c : Setting) (st : State) (p : ℕ) (k : Packet) → IsInside c st → Holds st p k → AllByRecursion (IsThere c.env.pools st.world.buffers) k
 there c st p k well holds = there_all c.env.pools st.world.buffers (live st) k well (inside_held c st p k well holds)

@@ -1,9 +1,9 @@
--- Lists that differ in one place, and lists of empty lists.
+-- Lists that differ at one index, and lists of empty lists.
 use Rattle.std.proofs.Common.{◌≡◌, ◌≢◌, ℕ, zero, suc, List, [], ◌∷◌, map, Some, refl, ◌∙◌, ap, arith}
 use Rattle.std.specs.Prelude.{slice_get, slice_set}
 use Rattle.std.proofs.lemmas.Option.{same_Some}
 
--- two functions that differ at one place of a list
+-- two functions that differ at one index of a list
 pub map_one : {X Y : Type 0} (f g : X → Y) (xs : List X) (p : ℕ) (x : X) → slice_get xs p ≡ Some x →
     ((i : ℕ) (u : X) → i ≢ p → slice_get xs i ≡ Some u → g u ≡ f u) → map g xs ≡ slice_set (map f xs) p (g x)
 map_one f g [] p x h others = cc
@@ -17,7 +17,7 @@ map_one f g (y ∷ xs) (suc p) x h others =
     ap (λ v. v ∷ map g xs) (others 0 y (λ e. absurd (omega (arith, e))) refl)
     ∙ ap (λ vs. f y ∷ vs) (map_one f g xs p x h (λ i u ne. others (suc i) u (λ e. ne (omega (arith, e)))))
 
--- the same with that place set
+-- the same with that index set
 pub set_one : {X Y : Type 0} (f g : X → Y) (xs : List X) (p : ℕ) (y : Y) → ((i : ℕ) (u : X) → i ≢ p → slice_get xs i ≡ Some u → g u ≡ f u) →
     slice_set (map g xs) p y ≡ slice_set (map f xs) p y
 set_one f g [] p y others = refl

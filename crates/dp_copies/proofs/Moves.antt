@@ -16,7 +16,7 @@ use Rattle.dp_copies.proofs.States.{copied}
 abbrev pub Does : Setting → ℕ → State → Instr → List Bool → Move → Type 0
 Does c label s i later m = copy_step c.env c.tables label (copied c.env.pools s (m.answers ++ later)) i ≡ Some (m.next, copied c.env.pools m.state later)
 
--- a move by another name
+-- a move that is equal
 pub by : (c : Setting) (label : ℕ) (s : State) (i : Instr) (later : List Bool) (m m' : Move) → m ≡ m' → Does c label s i later m' → Does c label s i later m
 by c label s i later m m' is h = subst (λ m. Does c label s i later m) (sym is) h
 
@@ -26,7 +26,7 @@ pub either : (c : Setting) (label : ℕ) (s : State) (i : Instr) (later : List B
 either c label s i later true x y f g = f refl
 either c label s i later false x y f g = g refl
 
--- a register that holds a packet holds its copy
+-- a register with a packet has its copy
 pub held_step : (pools : List PoolSpec) (st : State) (answers : List Bool) (p : ℕ) (k : Packet) (go : Copy → Option CopyMove) → Holds st p k →
     with_held (copied pools st answers) p go ≡ go (copy_of pools st.world.buffers k)
 held_step pools st answers p k go holds =

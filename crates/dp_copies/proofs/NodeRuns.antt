@@ -14,7 +14,7 @@ use Rattle.dp_copies.proofs.States.{copied}
 use Rattle.dp_copies.proofs.Steps.{StepsCopy}
 use Rattle.dp_copies.proofs.Budget.{step_copies}
 
--- where a step leads, with more steps allowed
+-- the run after a step, with more steps allowed
 pub then_more : (o : Option CopyMove) (f g : ℕ → CopyState → Option CopyState) (t : CopyState) →
     ((l : ℕ) (s t : CopyState) → f l s ≡ Some t → g l s ≡ Some t) → copy_then o f ≡ Some t → copy_then o g ≡ Some t
 then_more None f g t more e = e

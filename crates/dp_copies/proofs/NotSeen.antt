@@ -1,4 +1,4 @@
--- What an instruction writes is not seen through the packets beside, nor are the bytes of buffers that it takes.
+-- What an instruction writes is not seen through other packets, nor are the bytes of buffers that it takes.
 use Rattle.std.proofs.Common.{◌≡◌, ℕ, ◌+◌, ◌-◌, ◌≤◌, Bool, List, [], ◌∷◌, replicate, Some, refl, ◌∙◌, ap, arith, inl, inr}
 use Rattle.std.specs.Prelude.{◌⊎◌}
 use Rattle.dp_model.specs.declared.instr.Instr.{Instr}
@@ -79,11 +79,11 @@ behind_written segments n (s ∷ t ∷ rest) old sole = further (behind_written 
       part = omega (arith, w.part, refs-cons s (t ∷ rest) w.buffer);
     })
 
--- the packet is as it was after a move
+-- the packet is the same after a move
 abbrev pub Stays : Setting → State → Packet → Move → Type 0
 Stays c s k m = copy_of c.env.pools m.state.world.buffers k ≡ copy_of c.env.pools s.world.buffers k
 
--- a write is not seen through a packet beside
+-- a write is not seen through another packet
 write_stays : (pools : List PoolSpec) (i : Instr) (s : State) (p : ℕ) (j k : Packet) (new : Buffers) → written_register i ≡ Some p → Holds s p j →
     IsBeside i s k → (new ≡ s.world.buffers) ⊎ Writes (live s) j s.world.buffers new → copy_of pools new k ≡ copy_of pools s.world.buffers k
 unfolding Same
@@ -99,7 +99,7 @@ moved : (c : Setting) (s s' : State) (k : Packet) (m : Move) → m.state ≡ s' 
     Stays c s k m
 moved c s s' k m is e = ap (λ (s : State). copy_of c.env.pools s.world.buffers k) is ∙ e
 
--- nor is what an instruction does
+-- nor is any other effect of an instruction
 effect_stays : (c : Setting) (s : State) (i : Instr) (m : Move) (k : Packet) (effect : Effect c s m) → WritesAt (written_register i) effect → IsBeside i s k →
     Stays c s k m
 unfolding Same
@@ -126,7 +126,7 @@ effect_stays c s i m k (Queued p ring j packets holds there is _) at beside = mo
 names_written : NamesWritten written_register
 names_written = record { prepend = λ p n. refl; append = λ p n. refl; store = λ p off w r. refl; store_x = λ p x off w r. refl }
 
--- no packet beside changes by a step
+-- no step changes another packet
 pub beside_stays : (c : Setting) (label : ℕ) (s : State) (i : Instr) (m : Move) (k : Packet) → Acts c label s i m → IsBeside i s k → Stays c s k m
 beside_stays c label s i m k acts beside =
     let it = did_of c label s i m acts in

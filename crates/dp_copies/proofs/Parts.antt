@@ -1,4 +1,4 @@
--- Parts of lists of bytes that were written over.
+-- Parts of lists of bytes that were overwritten.
 use Rattle.std.proofs.Common.{◌≡◌, ℕ, zero, suc, ◌+◌, ◌-◌, ◌<◌, ◌≤◌, List, [], ◌∷◌, ◌++◌, length, drop, refl, ◌∙◌, ap, arith, ⊎_elim, take, sym, rules}
 use Rattle.std.specs.Prelude.{slice_range}
 use Rattle.std.proofs.lemmas.Bool.{cases_lt}
@@ -7,7 +7,7 @@ use Rattle.dp_model.specs.Arithmetic.{big_endian}
 use Rattle.dp_model.specs.Buffers.{Number, Buffers, bytes_of, overwritten, written}
 use Rattle.dp_model.specs.Laws.Stored.{bytes_same, bytes_either}
 
--- zeros written before a part, and behind it
+-- zeros written before a part, and after it
 pub range_before : (old new : List ℕ) (offset len n : ℕ) → length new ≡ n → n ≤ offset → offset + len ≤ length old →
     slice_range (overwritten old (offset - n) new) (offset - n) (offset - n + (len + n)) ≡ new ++ slice_range old offset (offset + len)
 range_before old new offset len n is short long = same_lists _ _ (search (rules, places)) (λ k d h. grind (arith, places))
@@ -48,7 +48,7 @@ written_at buffers n start new fits =
     nothing [] (x ∷ new) start a b = absurd (omega (arith, a))
     nothing (x ∷ old) new start a b = absurd (omega (arith, b))
 
--- the bytes of a number are as many as asked for
+-- a number of w bytes has w bytes
 pub length-big_endian : (w n : ℕ) → length (big_endian w n) ≡ w
 length-big_endian zero n = refl
 length-big_endian (suc w) n = ap suc (length-big_endian w n)

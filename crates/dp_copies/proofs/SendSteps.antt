@@ -1,4 +1,4 @@
--- The steps by which packets leave for transmit lists and rings, and the end of a node run.
+-- Steps that move packets to transmit lists and rings, and the end of a node run.
 use Rattle.std.proofs.Common.{◌≡◌, ℕ, ◌+◌, Bool, false, List, [], ◌∷◌, ◌++◌, length, map, Option, Some, None, refl, ◌∙◌, ap, true, cond, sym}
 use Rattle.std.specs.Prelude.{slice_get, slice_set, option_map, nat_lt}
 use Rattle.std.proofs.lemmas.Option.{slice_get-map}
@@ -16,7 +16,7 @@ use Rattle.dp_model.specs.declared.env.RingSpec.{RingSpec}
 use Rattle.dp_copies.proofs.States.{copied}
 use Rattle.dp_copies.proofs.Moves.{Does, by, either, held_step, put_copies}
 
--- a packet leaves for a list
+-- a packet moves to a list
 leaves_step : (c : Setting) (label : ℕ) (st : State) (i : Instr) (later : List Bool) (count : ℕ) (packets : List Packet) (k : Packet) (p l : ℕ)
     (put : List Packet → State → State) (put' : List Copy → CopyState → CopyState) →
     ((answers : List Bool) → copy_step c.env c.tables label (copied c.env.pools st answers) i

@@ -1,4 +1,4 @@
--- A packet that loses bytes in front or behind: so does its copy.
+-- A packet that loses bytes at its front or end: so does its copy.
 use Rattle.std.proofs.Common.{◌≡◌, ℕ, ◌+◌, ◌-◌, ◌≤◌, List, [], ◌∷◌, refl, ◌∙◌, ap, arith, take, sym}
 use Rattle.std.specs.List.{AllByRecursion}
 use Rattle.dp_model.specs.declared.env.PoolSpec.{PoolSpec}

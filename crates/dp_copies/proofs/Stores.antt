@@ -21,7 +21,7 @@ use Rattle.dp_copies.proofs.Parts.{length-big_endian}
 use Rattle.dp_copies.proofs.Lengths.{there}
 use Rattle.dp_copies.proofs.Writes.{apart}
 
--- the packet's first segment written, as the copy's first piece is
+-- the packet's first segment is written, and so is the copy's first piece
 stored_copy : (pools : List PoolSpec) (st : State) (s : Segment) (rest : Packet) (off w n : ℕ) → 0 < w → off + w ≤ s.len →
     s.offset + s.len ≤ room_at pools s.buffer.pool → length (bytes_of st.world.buffers s.buffer) ≡ room_at pools s.buffer.pool →
     Same pools st.world.buffers (stored off w n (s ∷ rest) st.world.buffers) rest → copy_of pools (stored off w n (s ∷ rest) st.world.buffers) (s ∷ rest)
@@ -42,7 +42,7 @@ stored_copy pools st s rest off w n some short fits room same =
     } ∷ c)
     (copy_same pools st.world.buffers (stored off w n (s ∷ rest) st.world.buffers) rest same)
 
--- and no other packet is changed by it
+-- and no other packet changes
 pub store_copies : (pools : List PoolSpec) (st : State) (p : ℕ) (k : Packet) (off w n : ℕ) (answers : List Bool) → Holds st p k → 0 < w
     → off + w ≤ first_len k →
     IsHeadSole (live st) k → IsWithin pools st.world.buffers (live st) → copied pools (with_buffers (stored off w n k st.world.buffers) st) answers

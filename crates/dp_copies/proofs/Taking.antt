@@ -70,7 +70,7 @@ cloned_copy pools buffers [] (s ∷ k) e = absurd (omega arith)
 cloned_copy pools buffers (n ∷ ns) [] e = absurd (omega arith)
 cloned_copy pools buffers (n ∷ ns) (s ∷ k) e = ap (λ c. piece_of pools buffers s ∷ c) (cloned_copy pools buffers ns k (omega arith))
 
--- free buffers are of no live segment
+-- free buffers belong to no live segment
 pub quiet : (pools : List PoolSpec) (segments : List Segment) (pool : ℕ) (ns : List Number) (b : Number) → AllByRecursion (IsFresh pools segments pool) ns →
     1 ≤ refs segments b → list_any (same_number b) ns ≡ false
 quiet pools segments pool [] b all one = refl
@@ -91,7 +91,7 @@ roomy pools old new segments pool (n ∷ ns) lengths well all =
     let room : room_at pools n.pool ≡ room_at pools pool = ap (room_at pools) all.0.of_pool in
     ((room, lengths n ∙ (well.rooms n all.0.exists ∙ room)), roomy pools old new segments pool ns lengths well all.1)
 
--- the bytes of a free buffer are seen by no one
+-- nobody sees the bytes of a free buffer
 pub fresh_same : (pools : List PoolSpec) (st : State) (n : Number) (buffers : Buffers) (pool : ℕ) → IsFresh pools (live st) pool n →
     ChangesOnly (n ∷ []) st.world.buffers buffers → Same pools st.world.buffers buffers (live st)
 unfolding Same

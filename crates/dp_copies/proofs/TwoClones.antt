@@ -77,7 +77,7 @@ shared_run = (
   (Got, answers, 1, m11.state.world, record { answers = []; outcomes = []; captures = [] ∷ [] }, turns, (refl, refl), refl),
 )
 
--- with a list of bytes for each packet: computed
+-- computed with a list of bytes for each packet
 pub copy_captures : Captures {T = ℕ} one_port [] nodes arrivals answers captures 0
 copy_captures = (
   12,

@@ -1,4 +1,4 @@
--- Packets whose buffers stay as they were have the copies that they had.
+-- Packets whose buffers are the same have the same copies.
 use Rattle.std.proofs.Common.{◌≡◌, ◌+◌, ◌-◌, ◌≤◌, List, [], ◌∷◌, map, Option, Some, None, refl, ◌∙◌, ap, arith}
 use Rattle.std.specs.Prelude.{slice_range, flat_map, option_map}
 use Rattle.dp_model.specs.declared.env.PoolSpec.{PoolSpec}
@@ -10,7 +10,7 @@ use Rattle.dp_model.specs.Copies.{piece_of, copy_of}
 use Rattle.dp_model.specs.Laws.References.{refs-append, refs-cons, refs_first}
 
 module _ (pools : List PoolSpec) (old new : Buffers) where
-  -- the buffers that these segments have are as they were
+  -- the buffers of these segments are the same
   unfoldable pub Same : List Segment → Type 0
   Same segments = (b : Number) → 1 ≤ refs segments b → bytes_of new b ≡ bytes_of old b
 

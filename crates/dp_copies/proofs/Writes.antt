@@ -1,4 +1,4 @@
--- A write to a buffer that has one reference changes the copy of one packet.
+-- A write to a buffer with one reference changes the copy of one packet.
 use Rattle.std.proofs.Common.{◌≡◌, ◌≢◌, ℕ, ◌+◌, ◌≤◌, Bool, false, List, map, Option, Some, None, refl, ◌∙◌, ap, subst, arith, ⊎_elim, sym}
 use Rattle.std.specs.Prelude.{slice_get, slice_set, option_map}
 use Rattle.std.proofs.lemmas.Bool.{cases_Bool}
@@ -27,7 +27,7 @@ apart st n b other one both there = ⊎_elim
     (λ no. no)
     (cases_Bool (same_number n b))
 
--- a packet that has a buffer counts among its references
+-- a packet that has a buffer is counted among its references
 pub counts : (k : Packet) (n b : Number) → 1 ≤ refs k n → one_if (same_number n b) ≤ refs k b
 counts k n b one = ⊎_elim
     (λ yes. let e : refs k b ≡ refs k n = ap (refs k) (sym (same_is n b yes)) in
@@ -35,7 +35,7 @@ counts k n b one = ⊎_elim
     (λ no. let none : one_if (same_number n b) ≡ 0 = ap one_if no in omega (arith, none))
     (cases_Bool (same_number n b))
 
--- a packet edited, and a buffer of it written
+-- a packet is edited, and one of its buffers written
 pub wrote : (pools : List PoolSpec) (st : State) (p : ℕ) (k k' : Packet) (n : Number) (new : Buffers) (c : Copy) (answers : List Bool) → Holds st p k →
     ((b : Number) → same_number n b ≡ false → bytes_of new b ≡ bytes_of st.world.buffers b) → refs (live st) n ≡ 1 → 1 ≤ refs k n → copy_of pools new k' ≡ c →
     copied pools (with_packet p k' (with_buffers new st)) answers ≡ copy_put p (Some c) (copied pools st answers)
@@ -71,7 +71,7 @@ wrote pools st p k k' n new c answers holds changes sole one is =
         ap Some (copy_same pools st.world.buffers new j (others j (λ b.
         omega (arith, live_parts st b, refs_two st.packets i p (Some j) (Some k) b ne there holds))))
 
--- the rest of the packet is as it was
+-- the rest of the packet is the same
 pub rest_same : (pools : List PoolSpec) (st : State) (p : ℕ) (k rest : Packet) (n : Number) (new : Buffers) → Holds st p k →
     ((b : Number) → same_number n b ≡ false → bytes_of new b ≡ bytes_of st.world.buffers b) → refs (live st) n ≡ 1 →
     ((b : Number) → one_if (same_number n b) + refs rest b ≤ refs k b) → copy_of pools new rest ≡ copy_of pools st.world.buffers rest

@@ -1,4 +1,4 @@
--- Packets beside the one that an instruction works on.
+-- Packets other than the one that an instruction writes.
 use Rattle.std.specs.Prelude.{◌≢◌, ℕ, ◌⊎◌, List, Option, Some, None, Contains}
 use Rattle.dp_model.specs.declared.instr.Instr.{Instr}
 use Rattle.dp_model.specs.declared.instr.Instr.TheVariants.{Prepend, Append, Store, StoreX}
@@ -13,14 +13,14 @@ written_register (Store p off w r) = Some p
 written_register (StoreX p x off w r) = Some p
 written_register i = None
 
--- the packet stands in one of the lists
+-- the packet is in one of the lists
 abbrev pub IsListed : List (List Packet) → Packet → Type 0
 IsListed lists k = (packets : List Packet) × Contains lists packets × Contains packets k
 
--- the packet stands in a ring or in a transmit list
+-- the packet is in a ring or in a transmit list
 abbrev pub IsQueued : World → Packet → Type 0
 IsQueued w k = IsListed w.rings k ⊎ IsListed w.outboxes k
 
--- the packet stands in a ring, in a transmit list, or in a register other than the one that the instruction writes
+-- the packet is in a ring, in a transmit list, or in a register other than the one that the instruction writes
 abbrev pub IsBeside : Instr → State → Packet → Type 0
 IsBeside i s k = ((q : ℕ) × (written_register i ≢ Some q) × Holds s q k) ⊎ IsQueued s.world k

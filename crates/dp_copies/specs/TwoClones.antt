@@ -1,5 +1,5 @@
--- A run by hand. The record's packet is cloned, then loses a byte, goes behind its clone and is sent. Another packet is
--- cloned too; when that clone is free again, it is written and sent. Its buffer held other bytes before.
+-- A run by hand. The record's packet is cloned, loses a byte, is appended to its clone and sent. Another packet is cloned too; after that clone is
+-- freed, it is written and sent. Its buffer held other bytes before.
 use Rattle.std.specs.Prelude.{ℕ, Bool, true, List, [], ◌∷◌, replicate}
 use Rattle.dp_model.specs.declared.instr.Instr.{Instr}
 use Rattle.dp_model.specs.declared.instr.Instr.TheVariants.{Alloc, Free, Clone, Adj, Append, Chain, Set, Store, Tx, Exit}

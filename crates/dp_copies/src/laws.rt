@@ -13,17 +13,17 @@ ghost use Rattle.dp_model.specs.Copies.{copy_of};
 ghost use Rattle.dp_model.specs.CopyMachine.{Captures};
 ghost use Rattle.dp_copies.specs.Seen.{IsQueued, IsBeside};
 
-/// Clones are copies: a whole run over shared buffers, in which no node run is stuck, has the captures of the
-/// machine in which each packet has bytes of its own, where the allocation calls are answered alike, and as many node runs
-/// are cut. No row, rule or certificate occurs. The environment is one that `Env::new` accepts. A `T` is the time of a record.
+/// Clones are copies: a whole run over shared buffers in which no node run is stuck has the captures, and the number of cuts, of the machine in which
+/// each packet has its own bytes, given the same answers to allocation calls. No row, rule or certificate is involved. The environment is one that
+/// `Env::new` accepts. `T` is the time of a record.
 pub fn clones_are_copies<T>()
     ensures { (c : Setting) (nodes : Nodes) (arrivals : List (Arrival T)) (w w' : World) (shown : Shown T) →
         fault_of c.env ≡ None → IsStart c.env w → Run c nodes arrivals w shown w' →
         Captures c.env c.tables nodes arrivals shown.answers shown.captures w'.cuts }
 {}
 
-/// The machine of copies is deterministic: on the same records, with the same answers to its allocation calls, it has
-/// one list of captures, and one number of cuts.
+/// The machine of copies is deterministic: given the same records and the same answers to its allocation calls, it has one list of captures and one
+/// number of cuts.
 pub fn copies_are_deterministic<T>()
     ensures { (env : Environment) (tables : List (List Route)) (nodes : Nodes) (arrivals : List (Arrival T)) (answers : List Bool)
         (captures captures' : List (List (T × List ℕ))) (cuts cuts' : ℕ) →
@@ -31,8 +31,8 @@ pub fn copies_are_deterministic<T>()
         (captures ≡ captures') × (cuts ≡ cuts') }
 {}
 
-/// Two runs on the same records, whose allocation calls are answered alike, have the same captures and as many cuts,
-/// whatever buffers were taken and whatever they held.
+/// Two runs on the same records with the same answers to allocation calls have the same captures and the same number of cuts, whatever buffers were
+/// taken and whatever these held.
 pub fn buffers_are_not_seen<T>()
     ensures { (c d : Setting) (nodes : Nodes) (arrivals : List (Arrival T)) (w w' v v' : World) (shown shown' : Shown T) →
         c.env ≡ d.env → c.tables ≡ d.tables → fault_of c.env ≡ None → IsStart c.env w → IsStart c.env v →
@@ -40,9 +40,9 @@ pub fn buffers_are_not_seen<T>()
         (shown.captures ≡ shown'.captures) × (w'.cuts ≡ v'.cuts) }
 {}
 
-/// No store, prepend or append is seen through another packet, nor is a buffer that was used before: a packet in a
-/// ring, in a transmit list, or in a register other than the one that an instruction writes has the same bytes and
-/// rooms before and after each step, and before and after a record is received.
+/// No store, prepend or append is seen through another packet, nor are old bytes of a buffer: a packet in a ring, in a transmit list, or in a
+/// register other than the one that an instruction writes has the same bytes and rooms before and after each step, and before and after a record is
+/// received.
 pub fn writes_are_not_seen()
     ensures steps { (c : Setting) (program : List Instr) (label : ℕ) (s : State) (m : Move) (step : Step c program label s m) (k : Packet) →
         IsBeside step.instr s k →

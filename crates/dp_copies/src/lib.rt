@@ -1,4 +1,4 @@
-//! Clones are copies: runs over shared buffers write what a machine without shared buffers writes.
+//! Proves that clones are copies: a run over shared buffers writes what a machine without shared buffers writes. It has laws only; nothing here runs.
 #![tactic(auto)]
 
 mod examples;

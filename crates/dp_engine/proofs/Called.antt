@@ -15,11 +15,11 @@ pub length_head : (unit : TimeUnit) (time : Time) (len : ℕ) → length (head_t
 unfolding head_text
 length_head unit time len = refl
 
--- the 16 bytes in front alone
+-- the 16 bytes before the record's alone
 pub called_head : (a d : ℕ) (unit : TimeUnit) (time : Time) (len : ℕ) (rest : List ℕ) → d ≤ a + 16 → d ≤ a + length (head_text unit time len ++ rest)
 called_head a d unit time len rest le = omega (arith, le, length_head unit time len, length-append (head_text unit time len) rest)
 
--- one piece more, with at most one call a byte
+-- one piece more, with at most one call for each byte
 pub called_piece : {A : Type 0} (a b d : ℕ) (head : List ℕ) (f : A → List ℕ) (xs : List A) (i : ℕ) (x : A) (bytes : List ℕ) → slice_get xs i ≡ Some x
     → bytes ≡ f x → b ≤ a + length (head ++ flat_map f (take i xs)) → d ≤ b + length bytes → d ≤ a + length (head ++ flat_map f (take (i + 1) xs))
 called_piece a b d head f xs i x bytes here is before now =

@@ -1,4 +1,4 @@
--- All packets of a list are given up, and the first that waits is taken.
+-- Freeing all packets of a list, and taking the first that waits.
 use Rattle.std.proofs.Common.{◌≡◌, ℕ, zero, suc, ◌-◌, ◌<◌, ◌≤◌, List, [], ◌∷◌, length, map, replicate, Option, Some, None, refl, sym, ◌∙◌, ap, subst, arith}
 use Rattle.std.specs.Prelude.{slice_get, slice_set, MatchOption}
 use Rattle.dp_model.specs.Packets.{Packet}
@@ -16,12 +16,12 @@ use Rattle.dp_engine.proofs.Waits.{in_rings, IsFirst}
 
 -- ---- the first that waits
 
--- it stands in a register then
+-- it is in a register then
 pub stand_first : (slots : List (Option Packet)) (registers : List (Option ℕ)) (lists : Lists) (i h : ℕ) (xs : List ℕ) → Idle slots registers lists
     → slice_get lists.rings i ≡ Some (h ∷ xs) → StandOnce slots (Some h ∷ replicate 7 None) (record lists { rings = slice_set lists.rings i xs })
 stand_first slots registers lists i h xs idle there x = omega (arith, idle.each x, left_less lists i h x xs there)
 
--- this is what a machine does with the first that waits, if one does
+-- what a machine does with the first that waits, if one does
 abbrev pub StartsWith : Option (Waiting Packet) → Option ℕ → Core → Core → Type 0
 StartsWith first result old new =
     MatchOption first
@@ -57,7 +57,7 @@ starts_first s frames registers numbers rings outboxes calls steps core i h xs i
 
 -- ---- all packets of a list
 
--- so many packets of a transmit list are left, of those at the start
+-- this many of the packets that a transmit list had at the start are left
 pub record SentLeft (start core : Core) (port left : ℕ) : Type 0 where
   pub packets : List Packet
   pub count : length packets ≡ left
@@ -118,7 +118,7 @@ none_left (k ∷ packets) left e le = absurd (omega (arith, e, le))
 pub sent_end : (start core : Core) (port left : ℕ) → SentLeft start core port left → left ≤ 0 → core ≡ moved (with_outbox port [] start.state) start
 sent_end start core port left l le = l.is ∙ ap (λ packets. moved (with_outbox port packets start.state) start) (none_left l.packets left l.count le)
 
--- so many packets of a ring are left, of those at the start
+-- this many of the packets that a ring had at the start are left
 pub record RingLeft (start core : Core) (ring left : ℕ) : Type 0 where
   pub packets : List Packet
   pub count : length packets ≡ left

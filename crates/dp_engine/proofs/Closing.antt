@@ -17,7 +17,7 @@ all_empty (packets ∷ lists) = (refl, all_empty lists)
 pub flushed_empty : (e : EngineState) → IsFlushed (flushed e)
 flushed_empty e = record { rings = all_empty e.world.rings; outboxes = all_empty e.world.outboxes }
 
--- ---- without a packet every buffer is free
+-- ---- without packets every buffer is free
 
 all_free : (pool n : ℕ) → free_below [] pool n ≡ n
 all_free pool zero = refl

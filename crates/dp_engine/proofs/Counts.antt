@@ -1,4 +1,4 @@
--- The live segments of a machine between two runs are those of its layer.
+-- The live segments of a machine between two runs are those of its store.
 use Rattle.std.proofs.Common.{◌≡◌, ◌≢◌, ℕ, zero, suc, ◌+◌, Bool, true, false, not, ◌||◌, List, [], ◌∷◌, ◌++◌, map, Option, Some, None, refl, sym, ◌∙◌, ap}
 use Rattle.std.proofs.Common.{arith, nat_eq, zero-add}
 use Rattle.std.specs.Prelude.{slice_get, slice_set, ◌==◌, flat_map}
@@ -193,7 +193,7 @@ held_at slots [] = refl
 held_at slots (None ∷ registers) = held_at slots registers
 held_at slots (Some h ∷ registers) = ap (λ l. packet_at slots h ++ l) (held_at slots registers)
 
--- the packets of the registers and the lists are all that there are
+-- the packets of registers and lists are all that there are
 pub live_counts : (slots : List (Option Packet)) (registers : List (Option ℕ)) (lists : Lists) → StandOnce slots registers lists →
     CountSame (segments_held (map (register_at slots) registers) ++ (segments_listed (packets_in slots lists.rings)
     ++ segments_listed (packets_in slots lists.outboxes))) (segments_held slots)

@@ -1,4 +1,4 @@
--- The first packet of a list is given up.
+-- Freeing the first packet of a list.
 use Rattle.std.proofs.Common.{◌≡◌, ◌≢◌, ℕ, ◌+◌, Bool, true, false, List, ◌∷◌, map, Option, Some, None, refl, sym, ◌∙◌, ap, subst, arith}
 use Rattle.std.specs.Prelude.{slice_get, slice_set, ◌==◌}
 use Rattle.std.proofs.lemmas.Bool.{eq-eqb, eqb-true}
@@ -10,7 +10,7 @@ use Rattle.dp_engine.specs.Handles.{packet_at, handles_held, once, occurs, in_sl
 use Rattle.dp_engine.proofs.Handles.{is_one, in_slot_some, not_held, not_in, occurs_less, waits, map_set}
 use Rattle.dp_engine.proofs.Machines.{list_of}
 
--- a handle waits no more, and its slot is empty
+-- a handle leaves the lists, and its slot is empty
 pub stand_less : (slots : List (Option Packet)) (registers : List (Option ℕ)) (lists lists' : Lists) (h : ℕ) (k : Packet) →
     ((x : ℕ) → occurs x (waiting lists') + once (h == x) ≡ occurs x (waiting lists)) → slice_get slots h ≡ Some (Some k) → StandOnce slots registers lists →
     StandOnce (slice_set slots h None) registers lists'

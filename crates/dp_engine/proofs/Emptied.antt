@@ -1,4 +1,4 @@
--- Engines of which rings and transmit lists are emptied.
+-- Engines whose rings and transmit lists are emptied.
 use Rattle.std.proofs.Common.{◌≡◌, ℕ, zero, suc, ◌+◌, ◌*◌, ◌<◌, ◌≤◌, List, [], ◌∷◌, length, map, Some, refl, sym, ◌∙◌, ap, subst, arith, add-zero}
 use Rattle.std.specs.Prelude.{slice_get, slice_set, slice_index_or}
 use Rattle.std.specs.List.{AllZip}
@@ -14,6 +14,7 @@ use Rattle.dp_engine.specs.Spaces.{SpaceView}
 use Rattle.dp_engine.specs.Tallies.{listed_count}
 use Rattle.dp_engine.specs.Engines.{EngineState, engine_of, IsEngine, over_ports, sent_by, records_of, sum, tallies_at, sent_at, drained, left_at, with_left}
 use Rattle.dp_engine.specs.Engines.{flushed}
+use Rattle.dp_engine.specs.Batches.{with_sent, all_drained}
 use Rattle.dp_engine.proofs.Writing.{at_slot}
 use Rattle.dp_engine.proofs.Resting.{length_set, left_rests, sent_rests}
 use Rattle.dp_engine.specs.Laws.{known}
@@ -64,7 +65,7 @@ pub record HasAll (e : EngineState) : Type 0 where
 
 module _ (s : Scheme) (core : Core) (space : SpaceView) (turns : ℕ) (tallies : List Tallies) (left : List ℕ)
     (is : IsEngine s core space turns tallies left) where
-  -- each ring and each port of the environment has a slot among the engine's
+  -- each ring and each port of the environment has a slot in the engine
   pub ring_within : (i : ℕ) → i < length s.setting.env.rings → i < 8
   ring_within i lt = omega (arith, lt, (known s.setting.env is.within).rings)
 
@@ -81,7 +82,7 @@ module _ (s : Scheme) (core : Core) (space : SpaceView) (turns : ℕ) (tallies :
   pub box_at : (i : ℕ) → i < length s.setting.env.ports → (packets : List Packet) × (slice_get core.state.world.outboxes i ≡ Some packets)
   box_at i lt = at_slot core.state.world.outboxes i (omega (arith, lt, is.rests.rest.ready.world.outboxes))
 
-  -- a transmit list is emptied, and so many of its packets are counted as written
+  -- a transmit list is emptied, and some of its packets are counted as written
   pub sent_kept : (port sent : ℕ) (packets : List Packet) → port < 8 → slice_get core.state.world.outboxes port ≡ Some packets → sent ≤ length packets
       → IsEngine s (moved (with_outbox port [] core.state) core) space turns (sent_at port sent tallies) left
   sent_kept port sent packets lt box le =
@@ -105,9 +106,9 @@ module _ (s : Scheme) (core : Core) (space : SpaceView) (turns : ℕ) (tallies :
         );
       }
 
-  -- the sum of what a port wrote has room for its transmit list
+  -- the sum of what ports wrote has room for the transmit list
   pub sent_fits : (port sent : ℕ) (packets : List Packet) → port < 8 → slice_get core.state.world.outboxes port ≡ Some packets → sent ≤ length packets
-      → (tallies_at tallies port).sent + sent ≤ 134217728 * 8684545
+      → (tallies_at tallies port).sent + sent ≤ 1099511627776 * 8684545
   sent_fits port sent packets lt box le =
       omega (
         arith,
@@ -138,7 +139,7 @@ module _ (s : Scheme) (core : Core) (space : SpaceView) (turns : ℕ) (tallies :
       }
 
   pub left_fits : (ring : ℕ) (packets : List Packet) → slice_get core.state.world.rings ring ≡ Some packets
-      → slice_index_or left ring 0 + length packets ≤ 134217728 * 8684545
+      → slice_index_or left ring 0 + length packets ≤ 1099511627776 * 8684545
   left_fits ring packets there =
       omega (arith, is.packets, is.calls, is.limit, listed_less core.state.world.rings ring packets there, sum_at left ring)
 
@@ -160,7 +161,7 @@ leaves s core core' space turns tallies left e ring n packets is becomes there c
     ∙ ap (λ m. engine_of s (moved (with_ring ring [] core.state) core) space turns tallies (slice_set left ring (slice_index_or left ring 0 + m))) same
     ∙ ap (left_at ring) is
 
--- no record more that a port wrote
+-- no more records that a port wrote
 sent_none : (tallies : List Tallies) (port : ℕ) → sent_at port 0 tallies ≡ tallies
 sent_none [] port = refl
 sent_none (t ∷ tallies) zero = ap (λ n. record t { sent = n } ∷ tallies) (add-zero t.sent)
@@ -184,13 +185,13 @@ dropped_kept s core space turns tallies left port is lt =
 
 -- ---- the first slots, and all
 
--- so many lists are emptied
+-- the first n lists are emptied
 abbrev pub emptied_to : ℕ → List (List Packet) → List (List Packet)
 emptied_to zero lists = lists
 emptied_to (suc n) [] = []
 emptied_to (suc n) (l ∷ lists) = [] ∷ emptied_to n lists
 
--- and so many counts are added
+-- and the first n counts are added
 abbrev pub added_to : ℕ → List ℕ → List (List Packet) → List ℕ
 added_to zero left rings = left
 added_to (suc n) [] rings = []
@@ -227,11 +228,11 @@ added_all (suc n) [] rings le = refl
 added_all (suc n) (x ∷ left) [] le = refl
 added_all (suc n) (x ∷ left) (r ∷ rings) le = ap (λ l. (x + length r) ∷ l) (added_all n left rings (omega (arith, le)))
 
--- an engine of which the first rings are emptied, and what was left in them counted
+-- an engine of which the first rings are emptied and counted as left
 abbrev pub left_to : ℕ → EngineState → EngineState
 left_to n e = record e { world = record e.world { rings = emptied_to n e.world.rings }; left = added_to n e.left e.world.rings }
 
--- and an engine of which the first transmit lists are emptied
+-- and one of which the first transmit lists are emptied
 abbrev pub dropped_to : ℕ → EngineState → EngineState
 dropped_to n e = record e { world = record e.world { outboxes = emptied_to n e.world.outboxes } }
 
@@ -264,3 +265,53 @@ nothing_lives e =
     let r : segments_listed (map (λ _. []) e.world.rings) ≡ [] = nothing_listed e.world.rings in
     let b : segments_listed (map (λ _. []) e.world.outboxes) ≡ [] = nothing_listed e.world.outboxes in
     rw (r, b) refl
+
+-- ---- lists that are emptied and counted as sent
+
+-- the first counts, with as many more records sent
+abbrev pub sent_to : ℕ → List Tallies → List (List Packet) → List Tallies
+sent_to zero tallies lists = tallies
+sent_to (suc n) [] lists = []
+sent_to (suc n) (t ∷ tallies) [] = t ∷ tallies
+sent_to (suc n) (t ∷ tallies) (l ∷ lists) = record t { sent = t.sent + length l } ∷ sent_to n tallies lists
+
+sent_next : (n : ℕ) (tallies : List Tallies) (lists : List (List Packet)) (packets : List Packet) → slice_get lists n ≡ Some packets
+    → sent_at n (length packets) (sent_to n tallies lists) ≡ sent_to (suc n) tallies lists
+sent_next n tallies [] packets e = cc
+sent_next zero [] (l ∷ lists) packets e = refl
+sent_next zero (t ∷ tallies) (l ∷ lists) packets e =
+    ap (λ (p : List Packet). record t { sent = t.sent + length p } ∷ tallies) (sym (same_Some l packets e))
+sent_next (suc n) [] (l ∷ lists) packets e = refl
+sent_next (suc n) (t ∷ tallies) (l ∷ lists) packets e = ap (λ x. record t { sent = t.sent + length l } ∷ x) (sent_next n tallies lists packets e)
+
+sent_all : (n : ℕ) (tallies : List Tallies) (lists : List (List Packet)) → length lists ≤ n → sent_to n tallies lists ≡ with_sent tallies (map length lists)
+sent_all zero [] [] le = refl
+sent_all zero (t ∷ tallies) [] le = refl
+sent_all zero tallies (l ∷ lists) le = absurd (omega (arith, le))
+sent_all (suc n) [] lists le = refl
+sent_all (suc n) (t ∷ tallies) [] le = refl
+sent_all (suc n) (t ∷ tallies) (l ∷ lists) le = ap (λ x. record t { sent = t.sent + length l } ∷ x) (sent_all n tallies lists (omega (arith, le)))
+
+-- the next list is as it was
+pub emptied_at : (n : ℕ) (lists : List (List Packet)) → slice_get (emptied_to n lists) n ≡ slice_get lists n
+emptied_at zero lists = refl
+emptied_at (suc n) [] = refl
+emptied_at (suc n) (l ∷ lists) = emptied_at n lists
+
+-- an engine of which the first transmit lists are emptied, and counted as sent
+abbrev pub drained_to : ℕ → EngineState → EngineState
+drained_to n e = record e { world = record e.world { outboxes = emptied_to n e.world.outboxes }; tallies = sent_to n e.tallies e.world.outboxes }
+
+pub drained_next : (n : ℕ) (e : EngineState) (packets : List Packet) → slice_get e.world.outboxes n ≡ Some packets
+    → drained n (length packets) (drained_to n e) ≡ drained_to (suc n) e
+drained_next n e packets there =
+    ap (λ l. record e { world = record e.world { outboxes = l }; tallies = sent_at n (length packets) (sent_to n e.tallies e.world.outboxes) })
+    (emptied_next n e.world.outboxes)
+    ∙ ap (λ l. record e { world = record e.world { outboxes = emptied_to (suc n) e.world.outboxes }; tallies = l })
+    (sent_next n e.tallies e.world.outboxes packets there)
+
+pub drained_all : (ports : ℕ) (e : EngineState) → length e.world.outboxes ≤ ports → drained_to ports e ≡ all_drained e
+drained_all ports e le =
+    let f = emptied_all ports e.world.outboxes le in
+    let h = sent_all ports e.tallies e.world.outboxes le in
+    rw (f, h) refl

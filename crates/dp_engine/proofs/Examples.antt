@@ -1,4 +1,4 @@
--- How many bytes small engines need.
+-- The bytes that small engines need.
 use Rattle.std.proofs.Common.{◌≡◌, ℕ, [], ◌∷◌, refl}
 use Rattle.dp_model.specs.Environments.{Environment}
 use Rattle.dp_engine.specs.Needs.{power_above, bytes_needed}

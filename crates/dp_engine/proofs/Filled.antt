@@ -1,4 +1,4 @@
--- Lists of slots of which the first are filled, and sums over lists.
+-- Lists whose first slots are filled, and sums over lists.
 use Rattle.std.proofs.Common.{◌≡◌, ℕ, zero, suc, ◌+◌, ◌<◌, ◌≤◌, List, [], ◌∷◌, length, take, drop, get_or, Option, Some, None, refl, sym, ap, subst, arith}
 use Rattle.std.specs.Prelude.{slice_set, IfSome}
 use Rattle.std.specs.List.{AllByRecursion}
@@ -21,7 +21,7 @@ fills_next P (x ∷ xs) (o ∷ slots) (suc i) d v inside room are holds = (
   fills_next P xs slots i d v (omega (arith, inside)) (omega (arith, room)) are.1 holds,
 )
 
--- which was empty
+-- it was empty
 pub next_empty : {X V : Type 0} → (P : X → V → Type 0) (xs : List X) (slots : List (Option V)) (i : ℕ) (o : Option V) → i < length xs → i < length slots →
     AreFilled P (take i xs) slots → get_or slots i o ≡ None
 next_empty P [] slots i o inside room are = absurd (omega (arith, inside))

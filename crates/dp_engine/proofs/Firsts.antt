@@ -1,4 +1,4 @@
--- The first ring that has an entry, where rings change.
+-- The first ring with an entry, as rings change.
 use Rattle.std.proofs.Common.{◌≡◌, ◌≢◌, ℕ, suc, ◌+◌, ◌<◌, ◌≤◌, cond, Bool, true, false, not, List, length, Some, None, refl, sym, ◌∙◌, ap, arith, set, ltb}
 use Rattle.std.proofs.Common.{[], ◌∷◌, ◌++◌, length-append}
 use Rattle.std.specs.Prelude.{◌==◌, nat_lt, if◌then◌else◌}
@@ -9,7 +9,7 @@ use Rattle.std.proofs.lemmas.Bool.{ltb-true, ltb-false, eqb-true}
 use Rattle.dp_ring.specs.Rings.{RingView, room_in, with_more}
 use Rattle.dp_engine.specs.Queues.{no_ring, ring_at, is_waiting}
 
--- the number of the first that waits, or how many there are
+-- the number of the first that waits; the number of rings where none does
 abbrev pub first_slot : List RingView → ℕ
 first_slot rings = position_or_len is_waiting rings
 
@@ -33,7 +33,7 @@ behind rings k there idle = cases (ltb (first_slot rings) k) refl
         let here : is_waiting (ring_at rings (first_slot rings)) ≡ true = passes_at_first is_waiting rings no_ring (omega (arith, lt, there)) in
         absurd (true_false (sym here ∙ idle (first_slot rings) lt))
 
--- one that does not wait is stepped over
+-- one that does not wait is skipped
 pub stepped : (rings : List RingView) (k : ℕ) → k ≤ first_slot rings → k < length rings → is_waiting (ring_at rings k) ≡ false → suc k ≤ first_slot rings
 stepped rings k from there idle = behind rings (suc k) (omega arith) below
   where
@@ -88,7 +88,7 @@ stays rings k r lt there =
     (λ l. ap is_waiting (get_or-set_other rings k (first_slot rings) r no_ring (λ e. omega (arith, lt, e)))
     ∙ passes_at_first is_waiting rings no_ring (omega (arith, lt, there)))
 
--- it does not come before a changed one, where it did not
+-- it does not come before a changed one, if it did not
 pub not_before : (rings : List RingView) (k : ℕ) (r : RingView) → k ≤ first_slot rings → k < length rings → k ≤ first_slot (set rings k r)
 not_before rings k r from there =
     behind (set rings k r) k (omega (arith, length-set rings k r, there)) (λ j l. below rings k j r l (omega (arith, l, from)))
@@ -136,7 +136,7 @@ none_found rings le = go (ltb (first_slot rings) (length rings)) refl
 
 -- ---- an entry more, or one less
 
--- a ring that took an entry waits, so it is the first where it comes before the first; where it took none all is as before
+-- a ring that took an entry waits, so it is the first where it comes before the first; where it took none nothing changes
 pub record IsPut (rings : List RingView) (k entry : ℕ) (taken : Bool) : Type 0 where
   pub earlier : taken ≡ true → k < first_slot rings → k ≡ first_slot
       (set rings k (if nat_lt 0 (room_in (ring_at rings k)) then with_more (ring_at rings k) (entry ∷ []) else ring_at rings k))

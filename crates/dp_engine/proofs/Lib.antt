@@ -1,9 +1,11 @@
+pub mod Arms
 pub mod Counts
 pub mod Draining
 pub mod Filled
 pub mod Firsts
 pub mod Handles
 pub mod Machines
+pub mod Midways
 pub mod NameLemmas
 pub mod Plans
 pub mod Powers
@@ -14,6 +16,7 @@ pub mod Refusals
 pub mod Registers
 pub mod Returned
 pub mod Runs
+pub mod Shown
 pub mod Slots
 pub mod StackLemmas
 pub mod Stacking
@@ -37,3 +40,5 @@ pub mod Emptied
 pub mod Reporting
 pub mod Served
 pub mod Turning
+pub mod Few
+pub mod Batches

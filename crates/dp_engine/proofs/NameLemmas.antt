@@ -1,4 +1,4 @@
--- The names of zones, and which come after which.
+-- The names of zones, and their order.
 use Rattle.std.proofs.Common.{◌≡◌, ℕ, zero, suc, ◌+◌, ◌*◌, ◌<◌, ◌≤◌, Bool, true, false, cond, ◌||◌, List, [], ◌∷◌, ◌++◌, length, refl, sym, ap, subst, ◌∙◌}
 use Rattle.std.proofs.Common.{arith}
 use Rattle.std.specs.Prelude.{codes}
@@ -14,7 +14,7 @@ use Rattle.dp_engine.specs.declared.names.Kind.TheVariants.{Port, Ring}
 use Rattle.dp_engine.specs.Names.{pool_name, ring_name, rank, AllBefore, first_of, first_pool, IsNext}
 use Rattle.dp_engine.specs.Stacks.{names_of}
 
--- ---- what computes for each digit
+-- ---- computed for each digit
 
 each_digit : (P : ℕ → Type 0) → P 0 → P 1 → P 2 → P 3 → P 4 → P 5 → P 6 → P 7 → (k : ℕ) → k < 8 → P k
 each_digit P a b c d e f g h zero low = a

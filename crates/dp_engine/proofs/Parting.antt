@@ -1,17 +1,17 @@
--- Programs that are parted into those of the ports and those of the rings.
-use Rattle.std.proofs.Common.{◌≡◌, ℕ, zero, suc, ◌<◌, ◌≤◌, List, [], ◌∷◌, ◌++◌, length, get_or, map, take, drop, sym, ◌∙◌, ap, arith}
+-- Splitting programs into those of the ports and those of the rings.
+use Rattle.std.proofs.Common.{◌≡◌, ℕ, zero, suc, ◌<◌, ◌≤◌, List, [], ◌∷◌, ◌++◌, length, get_or, take, drop, sym, ◌∙◌, ap, arith}
 use Rattle.std.specs.List.{AllByRecursion}
 use Rattle.std.proofs.lemmas.List.{map-append, take-append-le, drop-append-le, take_all, drop_all, length-append}
 use Rattle.dp_model.specs.Rules.{Question}
 use Rattle.dp_engine.specs.Schemes.{programs_of}
 
--- fewer than so many are all of them
+-- a part shorter than n is all of it
 all_taken : {X : Type 0} → (n : ℕ) (xs : List X) → length (take n xs) < n → length xs < n
 all_taken zero xs few = absurd (omega (arith, few))
 all_taken (suc n) [] few = omega arith
 all_taken (suc n) (x ∷ xs) few = let rest = all_taken n xs (omega (arith, few)) in omega (arith, rest)
 
--- where the first part has so many, there are so many
+-- where the first part has n, the list has n
 enough : {X : Type 0} → (n : ℕ) (xs : List X) → n ≤ length (take n xs) → n ≤ length xs
 enough zero xs many = omega arith
 enough (suc n) [] many = many
@@ -44,8 +44,8 @@ module _ (ports : ℕ) (nodes : List Question) (node : Question) where
         ap (drop ports) now ∙ drop-append-le ports (programs_of nodes) (node.program ∷ []) more,
       )
 
--- what holds of the items of all holds of those at an index
-pub items_at : {X Y : Type 0} (f : X → Y) (P : Y → Type 0) (xs : List X) (k : ℕ) (d : X) → k < length xs → AllByRecursion P (map f xs) → P (f (get_or xs k d))
-items_at f P [] k d lt all = absurd (omega (arith, lt))
-items_at f P (x ∷ xs) zero d lt all = all.0
-items_at f P (x ∷ xs) (suc k) d lt all = items_at f P xs k d (omega (arith, lt)) all.1
+-- what holds of all holds of the one at an index
+pub item_at : {X : Type 0} (P : X → Type 0) (xs : List X) (k : ℕ) (d : X) → k < length xs → AllByRecursion P xs → P (get_or xs k d)
+item_at P [] k d lt all = absurd (omega (arith, lt))
+item_at P (x ∷ xs) zero d lt all = all.0
+item_at P (x ∷ xs) (suc k) d lt all = item_at P xs k d (omega (arith, lt)) all.1

@@ -1,4 +1,4 @@
--- The pools and rings of a space, as an engine takes them and gives them back.
+-- The pools and rings of a space, as an engine takes them over and gives them back.
 use Rattle.std.proofs.Common.{◌≡◌, ℕ, List, [], ◌∷◌, length, map, Option, Some, None, refl, sym, ◌∙◌, ap, subst, arith}
 use Rattle.std.specs.List.{AllByRecursion}
 use Rattle.std.proofs.lemmas.Option.{none-some}
@@ -44,7 +44,7 @@ counts_in home (n ∷ counts) (Some r ∷ slots) are =
     ap (λ c. c ∷ map (λ (r : RingView). r.count) (map without_entries (rings_in slots))) are.0.count_is
     ∙ ap (λ cs. n ∷ cs) (counts_in home counts slots are.1)
 
--- ---- where they stand
+-- ---- where they lie
 
 same_length : (rings : List RingView) → length (map without_entries rings) ≡ length rings
 same_length [] = refl
@@ -101,7 +101,7 @@ pools_stay home [] first all = tt
 pools_stay home (None ∷ slots) first all = (tt, no_pools home slots first)
 pools_stay home (Some p ∷ slots) first all = (all.0, pools_stay home slots first.1 all.1)
 
--- what is laid out stands in the space
+-- what is laid out lies in the space
 pub stand_in : (space : SpaceView) (parts : Parts) → HeadersFirst parts.pools → RingsFirst parts.rings → RingsFirst parts.lists → PartsIn space.home parts
     → zones_in parts ≡ space.out
     → StandIn space (frames_of (zones_of (present parts.pools)) (rings_in parts.rings) (rings_in parts.lists))

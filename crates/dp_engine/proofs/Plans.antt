@@ -1,4 +1,4 @@
--- What the zones of an environment take of a region, and what is laid out in it.
+-- What the zones of an environment take of a region, and what is laid out there.
 use Rattle.std.proofs.Common.{◌≡◌, ℕ, ◌+◌, ◌*◌, ◌<◌, ◌≤◌, true, List, length, take, get_or, Option, Some, None, sym, ap, subst, ◌∙◌, arith}
 use Rattle.std.specs.Prelude.{slice_set}
 use Rattle.std.specs.List.{AllByRecursion}
@@ -17,7 +17,7 @@ use Rattle.dp_engine.proofs.Filled.{total_last, all_at, all_take, filled_count, 
 use Rattle.dp_engine.proofs.Ready.{ready, specs_are}
 use Rattle.dp_engine.proofs.Refusals.{within, long}
 
--- the last pool is s, behind i others, and all have room in a region of this size
+-- the last pool is s, after i others, and all have room in a region of this size
 pub record IsPlan (specs : List PoolSpec) (lists rings : List ℕ) (size i : ℕ) (s : PoolSpec) : Type 0 where
   pub number : (i + 1 ≡ length specs) × (length specs ≤ 8)
   pub fits : pool_fits s ≡ true
@@ -107,6 +107,6 @@ last_filled home first here specs wanted slots i d v o last room at back ps are 
     (subst (λ (xs : List PoolSpec). AreFilled (IsNewPool first) xs (slice_set slots i o)) (take_all (i + 1) specs (omega arith) ∙ ps)
     (pool_filled first here specs slots i d v o (omega arith) room at are new is))
 
--- where there is no pool
+-- stands for a missing pool
 abbrev pub no_spec : PoolSpec
 no_spec = record { count = 0; cache = 0; room = 0 }

@@ -1,4 +1,4 @@
--- Handles that go into a ring or come out of one.
+-- Handles that enter or leave a ring.
 use Rattle.std.proofs.Common.{◌≡◌, ℕ, ◌+◌, ◌-◌, ◌<◌, Bool, true, false, List, [], ◌∷◌, ◌++◌, length, drop, map, Option, Some, None, refl, sym, ◌∙◌, ap, arith}
 use Rattle.std.specs.Prelude.{slice_get, slice_set, nat_lt, if◌then◌else◌}
 use Rattle.std.proofs.lemmas.Bool.{ltb-true, ltb-false, lt-ltb, le-ltb}
@@ -21,7 +21,7 @@ room_test n count = go (nat_lt (n + 1) count) refl
     go true e = lt-ltb 0 (count - 1 - n) (omega (arith, ltb-true (n + 1) count e)) ∙ sym e
     go false e = le-ltb 0 (count - 1 - n) (omega (arith, ltb-false (n + 1) count e)) ∙ sym e
 
--- the packets of a ring are as many as its entries
+-- a ring has as many packets as entries
 pub many_in : (slots : List (Option Packet)) (rings : List RingView) (i : ℕ) (packets : List Packet) → i < length rings
     → slice_get (packets_in slots (map entries_of rings)) i ≡ Some packets → length packets ≡ length (ring_at rings i).entries
 many_in slots rings i packets there box =
@@ -38,7 +38,7 @@ room_is slots rings i packets there box =
     ∙ ap (λ n. nat_lt (n + 1) r.count) (sym (many_in slots rings i packets there box))
     ∙ ap (nat_lt (length packets + 1)) (sym (frame_count rings i))
 
--- rings before and behind an entry that went into one or came out of one: that ring has these entries then
+-- rings before and after an entry entered or left one of them, which has these entries then
 pub record Became (rings rings' : List RingView) (i : ℕ) (entries : List ℕ) : Type 0 where
   pub frames : map without_entries rings' ≡ map without_entries rings
   pub lists : map entries_of rings' ≡ slice_set (map entries_of rings) i entries
@@ -86,7 +86,7 @@ listed_in slots i n rings lists there is many =
     let here = map_get (map (packet_at slots)) (map entries_of rings) i xs (entries_at rings i there) in
     (map (packet_at slots) xs, ap (λ l. slice_get l i) (sym is) ∙ here, many ∙ sym (length-map xs (packet_at slots)))
 
--- ---- by what is seen of a machine
+-- ---- in terms of what a view shows of a machine
 
 module _ (s : Store) (zones : List PoolZones) (rings outboxes : List RingView) (registers : List (Option ℕ)) (numbers : List ℕ) (calls : ℕ) (steps : Ran)
     (core : Core) (is : core_of s (frames_of zones rings outboxes) registers numbers (lists_of rings outboxes) calls steps ≡ core) where
@@ -118,7 +118,7 @@ module _ (s : Store) (zones : List PoolZones) (rings outboxes : List RingView) (
       room_is s.slots rings i packets (ring_there i there) (ring_packets i packets box)
       ∙ ap (λ (c : Core). nat_lt (length packets + 1) (ring_at c.frames.rings i).count) is
 
-  -- how many packets wait, and that they fit
+  -- the number of packets that wait, and that they fit
   pub outbox_list : (i n : ℕ) → i < length core.frames.outboxes → n ≡ length (ring_at outboxes i).entries
       → (packets : List Packet) × (slice_get core.state.world.outboxes i ≡ Some packets) × (n ≡ length packets)
   outbox_list i n there many =

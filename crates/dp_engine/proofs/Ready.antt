@@ -1,4 +1,4 @@
--- Pools that are as they were wanted are those that mbufs stand over.
+-- Pools as an environment wants them are pools of mbufs.
 use Rattle.std.proofs.Common.{◌≡◌, ℕ, zero, suc, ◌-◌, ◌≤◌, false, List, [], ◌∷◌, length, get_or, Option, Some, None, refl, sym, ap, ◌∙◌, arith}
 use Rattle.std.specs.Prelude.{replicate, sum_by}
 use Rattle.std.specs.List.{AllByRecursion}

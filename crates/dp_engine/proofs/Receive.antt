@@ -1,4 +1,4 @@
--- A record that comes to a machine that rests.
+-- A record that comes to a machine at rest.
 use Rattle.std.proofs.Common.{◌≡◌, ℕ, ◌+◌, ◌<◌, ◌≤◌, Bool, true, false, ◌||◌, List, [], ◌∷◌, length, replicate, Option, Some, None, refl, sym, ◌∙◌, ap, subst}
 use Rattle.std.proofs.Common.{arith, nat_eq, nat_lt}
 use Rattle.std.specs.Prelude.{slice_get, slice_set}
@@ -55,7 +55,7 @@ state_received s frames registers numbers lists calls steps core port h k buffer
     ≡ first_state k port (record c.state.world { buffers = buffers; calls = c.state.world.calls + 1 })) is
     (rw (f, g, here) refl)
 
--- ---- what the layer answers, and what that is for a machine
+-- ---- what the store returns, and what that is for a machine
 
 or_false : (a b : Bool) → a ≡ false → b ≡ false → (a || b) ≡ false
 or_false false b e f = f
@@ -95,7 +95,7 @@ pub buffers_of : (s : Store) (frames : Frames) (registers : List (Option ℕ)) (
     core_of s frames registers numbers lists calls steps ≡ core → s.buffers ≡ core.state.world.buffers
 buffers_of s frames registers numbers lists calls steps core is = ap (λ (c : Core). c.state.world.buffers) is
 
--- a machine behind a call that was given
+-- a machine after a call that was granted
 pub record Given (c : Setting) (s' : Store) (frames : Frames) (registers : List (Option ℕ)) (lists : Lists) (calls : ℕ) (steps : Ran) (core : Core)
     (pool port h : ℕ) (bytes : List ℕ) : Type 0 where
   pub stand : StandOnce s'.slots (Some h ∷ replicate 7 None) lists

@@ -19,7 +19,7 @@ use Rattle.dp_engine.specs.Stacks.{names_of}
 use Rattle.dp_engine.proofs.NameLemmas.{fresh, names_counted, name_reserved}
 use Rattle.dp_engine.proofs.Powers.{power_is, power_low}
 
--- a zone, where there is room for it
+-- a zone is not refused where there is room for it
 pub zone_never : (e : ZoneError) (name : List ℕ) (len : ℕ) (table : List Reserved) (es : List Element) → IsNext name (names_of table) → IsLength len →
     (NothingFits (rounded len) 64 es → ⊥) → IsZoneRefused e name len 0 table es → ⊥
 zone_never BadName name len table es next fits room refused = true≢false (sym next.named ∙ refused)
@@ -29,7 +29,7 @@ zone_never Exists name len table es next fits room refused = true≢false (sym r
 zone_never Full name len table es next fits room refused = let many = refused.4 in let few = next.few in let same = names_counted table in omega arith
 zone_never NoRoom name len table es next fits room refused = room refused.5
 
--- the numbers of a pool that is within the limits
+-- the numbers of a pool within the limits
 pub record IsWithin (s : PoolSpec) : Type 0 where
   pub count : IsPoolCount s.count
   pub cache : IsCacheSize s.count s.cache
@@ -48,7 +48,7 @@ within s fits =
       room = leb-true s.room 4096 room;
     }
 
--- how long its zones are: its objects take more than its queue
+-- the lengths of its zones: its objects take more than its queue
 pub long : (s : PoolSpec) → pool_fits s ≡ true → (128 * s.count ≤ objects_len s) × (objects_len s ≤ 276819840) × (queue_len s ≤ 8 * s.count) × (0 < queue_len s)
 long s fits =
     let w = within s fits in
@@ -60,7 +60,7 @@ long s fits =
     let power = power_low s.count some in
     (omega arith, omega arith, omega arith, omega arith)
 
--- a pool, where there is room for its objects, and then for its queue
+-- a pool is not refused where there is room for its objects, and then for its queue
 pub pool_never : (e : PoolError) (name : List ℕ) (s : PoolSpec) (size : ℕ) (table : List Reserved) (es : List Element) → pool_fits s ≡ true →
     size ≡ s.room + 128
     → IsNext (object_name name) (names_of table) → IsNext (queue_name name) (names_of table ++ object_name name ∷ [])

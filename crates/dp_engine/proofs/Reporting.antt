@@ -43,7 +43,7 @@ get_there [] i d lt = absurd (omega (arith, lt))
 get_there (x ∷ xs) zero d lt = refl
 get_there (x ∷ xs) (suc i) d lt = get_there xs i d (omega (arith, lt))
 
--- one pool's numbers more
+-- one more pool's counts
 pub pools_more : (free : ℕ → ℕ) (j : ℕ) (specs : List PoolSpec) (i n : ℕ) (p : PoolSpec) → slice_get specs i ≡ Some p → n ≡ j + i
     → pool_reports free j (take (suc i) specs) ≡ pool_reports free j (take i specs) ++ record { free = free n; count = p.count } ∷ []
 pools_more free j [] i n p e same = cc

@@ -1,4 +1,4 @@
--- A world of which one ring or one transmit list is emptied is at rest, where it was before.
+-- A world at rest stays at rest when one ring or one transmit list is emptied.
 use Rattle.std.proofs.Common.{◌≡◌, ℕ, zero, suc, ◌+◌, ◌≤◌, Bool, List, [], ◌∷◌, length, refl, ◌∙◌, arith}
 use Rattle.std.specs.Prelude.{slice_set}
 use Rattle.std.specs.List.{AllByRecursion, AllZip, flat_map}

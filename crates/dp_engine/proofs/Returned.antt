@@ -1,4 +1,4 @@
--- Zones come back to a space.
+-- Zones that come back to a space.
 use Rattle.std.proofs.Common.{◌≡◌, ℕ, ◌+◌, ap, ◌∙◌}
 use Rattle.dp_heap.specs.Elements.{merged, count_of, is_busy}
 use Rattle.dp_heap.specs.Laid.{HeapView}

@@ -1,4 +1,4 @@
--- Rings by their numbers, and what waits in them.
+-- Rings by number, and what waits in them.
 use Rattle.std.proofs.Common.{◌≡◌, ℕ, zero, suc, ◌<◌, List, [], ◌∷◌, length, drop, map, Some, refl, sym, ap, arith}
 use Rattle.std.specs.Prelude.{slice_get, slice_set}
 use Rattle.dp_ring.specs.Rings.{RingView}
@@ -11,7 +11,7 @@ entries_at [] k lt = absurd (omega (arith, lt))
 entries_at (r ∷ rings) zero lt = refl
 entries_at (r ∷ rings) (suc k) lt = entries_at rings k (omega (arith, lt))
 
--- apart from what waits in it a ring stays
+-- a ring without its entries stays
 pub frames_kept : (rings : List RingView) (k : ℕ) (entries : List ℕ) →
     map without_entries (slice_set rings k (record (ring_at rings k) { entries = entries })) ≡ map without_entries rings
 frames_kept [] k entries = refl

@@ -1,4 +1,4 @@
--- Node runs of a plan: on a record, and on packets that wait in rings.
+-- Node runs of a plan, on a record and on packets in rings.
 use Rattle.std.proofs.Common.{◌≡◌, ℕ, zero, suc, ◌+◌, ◌-◌, ◌*◌, ◌<◌, ◌≤◌, Bool, true, false, List, [], ◌∷◌, ◌++◌, length, Option, Some, None, inl}
 use Rattle.std.proofs.Common.{refl, sym, ◌∙◌, ap, subst, arith, append_assoc}
 use Rattle.std.specs.Prelude.{slice_get, slice_index_or, option_map, MatchOption}
@@ -30,7 +30,7 @@ use Rattle.dp_engine.specs.Tallies.{held_count, listed_count, packet_count}
 use Rattle.dp_engine.specs.Turns.{IsReceived}
 use Rattle.dp_engine.proofs.Refusals.{within}
 
--- ---- a setting by its parts
+-- ---- a setting from its parts
 
 pub setting_is : (c : Setting) (env : Environment) (tables : List RouteTable) (pattern : List ℕ) → env ≡ c.env → routes_of tables ≡ c.tables
     → pattern ≡ c.pattern → setting_of env tables pattern ≡ c
@@ -38,26 +38,26 @@ setting_is c env tables pattern is_env is_tables is_pattern = rw (is_env, is_tab
 
 -- ---- a node run
 
--- no data room of an environment is larger than one may be
+-- no data room of an environment is larger than permitted
 small_room : (pools : List PoolSpec) (k : ℕ) → AllByRecursion (λ s. pool_fits s ≡ true) pools → room_at pools k ≤ 4096
 small_room [] k fit = omega arith
 small_room (s ∷ pools) zero fit = (within s fit.0).room
 small_room (s ∷ pools) (suc k) fit = small_room pools k fit.1
 
--- nor is a segment that lies within one
+-- so no segment within one is
 short_first : (c : Setting) (s : State) → fault_of c.env ≡ None → IsInside c s → (p : ℕ) (k : Packet) → Holds s p k → first_len k ≤ 4096
 short_first c s limits inside p [] holds = omega arith
 short_first c s limits inside p (t ∷ k) holds =
     let fits = (inside_held c s p (t ∷ k) inside holds).0.fits in
     omega (arith, fits, small_room c.env.pools t.buffer.pool (known c.env limits).pools_fit)
 
--- so it is wherever a safe one comes
+-- wherever a safe run is
 firsts_short : (c : Setting) (b : Beginning) → fault_of c.env ≡ None → IsSafeBeginning c b
     → KeepsFirstsShort c b.program (first_state b.packet b.number b.world)
 firsts_short c b limits safe = subst (λ p. KeepsFirstsShort c p (first_state b.packet b.number b.world)) safe.program_is
     (λ n label answers s goes. short_first c s limits (safe.safe.stays n label answers s goes).well_formed.within)
 
--- a safe one
+-- a safe run can run
 can_run : (c : Setting) (nodes : Nodes) (b : Beginning) → KeepsSafe c nodes → fault_of c.env ≡ None → IsSafeBeginning c b
     → CanRun c b.program (first_state b.packet b.number b.world)
 can_run c nodes b keeps limits safe = record {
@@ -94,7 +94,7 @@ at_port c nodes ports port d pipeline same less =
       segs = segs_small c.env port spec.segs pipeline.limits (ap (option_map (λ (p : PortSpec). p.segs)) is_spec);
     }
 
--- what was received with one setting was received with each of the same environment
+-- what was received in one setting was received in each with the same environment
 pub received_with : (c d : Setting) (pool port : ℕ) (bytes : List ℕ) (w : World) (s : State) → d.env ≡ c.env → IsReceived d pool port bytes w s
     → IsReceived c pool port bytes w s
 received_with c d pool port bytes w s same r = record {
@@ -167,7 +167,7 @@ pub record Next (c : Setting) (nodes : Nodes) (m m' : Core) (ring : ℕ) : Type 
   pub taken : m' ≡ moved (first_state next.packet next.ring (record m.state.world { rings = next.rings })) m
   pub there : ring < length c.env.rings
 
--- what is told of a machine from which one is taken
+-- what is known of a machine from which a packet is taken
 abbrev IsTaken : Core → Core → ℕ → Option (Waiting Packet) → Type 0
 IsTaken m m' ring o =
     MatchOption o ((Some ring ≡ None) × (m' ≡ m))
@@ -225,7 +225,7 @@ served_rests s m m' run keeps rest (next, program, answers, e, is_program, is_ru
     let b : Beginning = record { entry = Ring next.ring; program = program; packet = next.packet; number = next.ring; world = w } in
     safe_rests s.setting b answers m'.state.world (keeps.waiting next program m.state.world rest e is_program) is_run
 
--- no packet comes or goes as it is taken
+-- taking it changes no set of packets
 listed_waiting : (rings : List (List Packet)) (next : Waiting Packet) → first_waiting rings ≡ Some next → listed_count next.rings + 1 ≡ listed_count rings
 listed_waiting [] next h = cc
 listed_waiting ([] ∷ rings) next h = go (first_waiting rings) refl h (listed_waiting rings)
@@ -256,11 +256,11 @@ next_count c nodes m m' ring idle n =
 
 -- ---- one after the other
 
-where_none : (A : Type 0) (B : Waiting Packet → Type 0) (o : Option (Waiting Packet)) → o ≡ None → A → MatchOption o A B
+pub where_none : (A : Type 0) (B : Waiting Packet → Type 0) (o : Option (Waiting Packet)) → o ≡ None → A → MatchOption o A B
 where_none A B None e a = a
 where_none A B (Some w) e a = cc
 
-where_some : (A : Type 0) (B : Waiting Packet → Type 0) (o : Option (Waiting Packet)) (next : Waiting Packet) → o ≡ Some next → B next → MatchOption o A B
+pub where_some : (A : Type 0) (B : Waiting Packet → Type 0) (o : Option (Waiting Packet)) (next : Waiting Packet) → o ≡ Some next → B next → MatchOption o A B
 where_some A B None next e b = cc
 where_some A B (Some w) next e b = subst B (sym (same_Some w next e)) b
 
@@ -335,13 +335,13 @@ one_round s m0 m m' i runs steps cuts run less r o few_steps few_cuts k =
       frames = k.frames ∙ r.frames;
     }
 
--- the rounds that there were are what is served
+-- the rounds so far are what is served
 rounds_end : (s : Scheme) (m0 m : Core) (i runs steps cuts : ℕ) (w : World) → Rounds s m0 m i runs steps cuts
     → Serves s.setting s.nodes.rings (32 - i) m.state.world [] 0 w → (answers : List Bool) × Serves s.setting s.nodes.rings 32 m0.state.world answers runs w
 rounds_end s m0 m i runs steps cuts w r last =
     (r.answers ++ [], subst (λ n. Serves s.setting s.nodes.rings 32 m0.state.world (r.answers ++ []) n w) (omega arith) (r.serves [] 0 w last))
 
--- because none waits any more
+-- because no packet waits any more
 pub rounds_none : (s : Scheme) (m0 m : Core) (i runs steps cuts : ℕ) (w : World) → Rounds s m0 m i runs steps cuts → ServesOne s m.state.world None w
     → (answers : List Bool) × Serves s.setting s.nodes.rings 32 m0.state.world answers runs w
 rounds_none s m0 m i runs steps cuts w r (none, is) =

@@ -1,4 +1,4 @@
--- Slots for rings, and the rings that stand in them.
+-- Slots for rings, and the rings in them.
 use Rattle.std.proofs.Common.{◌≡◌, ℕ, zero, suc, ◌+◌, ◌<◌, ◌≤◌, cond, Bool, true, false, List, [], ◌∷◌, length, Option, Some, None, refl, sym, ◌∙◌, ap, subst}
 use Rattle.std.proofs.Common.{arith, get_or, set, drop, ltb}
 use Rattle.std.specs.Prelude.{is_none, unwrap_or, slice_get, IsSome, IfSome, IfNone}
@@ -52,7 +52,7 @@ pub set_where : (b : Bool) (rings : List RingView) (k : ℕ) (r : RingView) → 
 set_where true rings k r = refl
 set_where false rings k r = set-get_or rings k no_ring
 
--- without its first entry a list without entries is as it was
+-- a list without entries is unchanged without its first
 no_first : (entries : List ℕ) → slice_get entries 0 ≡ None → drop 1 entries ≡ entries
 no_first [] none = refl
 no_first (e ∷ entries) none = absurd (none-some e (sym none))
@@ -65,7 +65,7 @@ kept rings k None rings' first rest =
     ∙ (ap (λ es. set rings k (record r { entries = es })) (no_first r.entries (sym first)) ∙ set-get_or rings k no_ring)
 kept rings k (Some e) rings' first rest = tt
 
--- the first that waits is one, and it waits
+-- the first that waits exists, and it waits
 pub waits_there : (rings : List RingView) (result : Option ℕ) → result ≡ position is_waiting rings → IfSome result (λ k. k < length rings)
     × IfSome result (λ k. is_waiting (ring_at rings k) ≡ true)
 waits_there rings result is = subst (λ o. IfSome o (λ k. k < length rings)
@@ -109,7 +109,7 @@ module _ (slots : List (Option RingView)) (rings : List RingView) (same : rings_
   pub ring_is : (j k : ℕ) (d : Option RingView) → j ≡ k → k < length rings → ring_of (get_or slots j d) ≡ ring_at rings k
   ring_is j k d at there = ap ring_of (filled_at j k d at there)
 
-  -- what is left of the rings where one of them has changed
+  -- the rings after one of them has changed
   pub changed : (j k : ℕ) (d o : Option RingView) (f : RingView → RingView) → j ≡ k → k < length rings → o ≡ Some (f (ring_of (get_or slots j d))) →
       ((length (set slots j o) ≡ 8) × RingsFirst (set slots j o)) × (rings_in (set slots j o) ≡ set rings k (f (ring_at rings k)))
   changed j k d o f at there is =
@@ -124,7 +124,7 @@ module _ (slots : List (Option RingView)) (rings : List RingView) (same : rings_
             ∙ (set_in slots k (f (ring_at rings k)) inside ∙ ap (λ rs. set rs k (f (ring_at rings k))) same),
       )
 
-  -- where one of them has changed, the number of the first that waits is another
+  -- the first that waits after one of them has changed
   pub renewed : (j k : ℕ) (d o : Option RingView) (f : RingView → RingView) (count first : ℕ) → j ≡ k → k < length rings
       → o ≡ Some (f (ring_of (get_or slots j d))) → count ≡ length (rings_in slots) → first ≡ first_slot (set rings k (f (ring_at rings k)))
       → ((length (set slots j o) ≡ 8) × RingsFirst (set slots j o)) × (count ≡ length (rings_in (set slots j o)))

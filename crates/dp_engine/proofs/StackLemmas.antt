@@ -1,4 +1,4 @@
--- What is taken from a stack, and what is given back to it.
+-- Taking blocks from a stack, and giving them back.
 use Rattle.std.proofs.Common.{◌≡◌, ℕ, ◌+◌, ◌-◌, ◌%◌, ◌<◌, ◌≤◌, Bool, true, false, cond, ◌&&◌, ◌⊎◌, inl, inr, List, [], ◌∷◌, ◌++◌, refl, sym, ap, subst, ◌∙◌}
 use Rattle.std.proofs.Common.{arith, ltb, eqb}
 use Rattle.std.specs.Prelude.{not}
@@ -10,7 +10,7 @@ use Rattle.dp_heap.specs.Elements.{is_free, is_busy, end_of, data_of, CanHold, N
 use Rattle.dp_heap.specs.Elements.{merged, count_of}
 use Rattle.dp_engine.specs.Stacks.{bottom, block_at, LieUnder, IsStacked, left_in, size_of, Has}
 
--- ---- what is taken at the bottom
+-- ---- taking from the bottom
 
 spare_some : (offset size : ℕ) → 128 < size → spare offset size ≡ record { offset = offset; size = size; state = Free; pad = 0 } ∷ []
 spare_some offset size above = ap (λ (b : Bool). cond b (record { offset = offset; size = size; state = Free; pad = 0 } ∷ []) []) (lt-ltb 128 size above)
@@ -59,7 +59,7 @@ none_free : (es before : List Element) (e : Element) (after : List Element) → 
 none_free es [] e after all is free = let here : is_free e ≡ false = (subst AreBusy is all).0 in true≢false (sym free ∙ here)
 none_free es (x ∷ before) e after all is free = none_free (before ++ e ∷ after) before e after (subst AreBusy is all).1 refl free
 
--- at the bottom of a heap with no other free element
+-- from the bottom of a heap without another free element
 bottom_taken : (f n d : ℕ) (rest new : List Element) → AreBusy rest → f % 64 ≡ 0 → n % 64 ≡ 0 → 192 + n < f → Taken (bottom f ∷ rest) n 64 d new
     → (new ≡ bottom (f - (64 + n)) ∷ block_at (f - (64 + n)) n ∷ rest) × (d ≡ f - n)
 bottom_taken f n d rest new all even steps room (e, high, (before, after, old_is, new_is)) = go before old_is new_is
@@ -87,7 +87,7 @@ more_under : (t b : Element) (es : List Element) → is_free b ≡ false → dat
 more_under t b [] taken low lie = absurd lie
 more_under t b (x ∷ es) taken low lie = (taken, low, lie)
 
--- ---- a zone is taken
+-- ---- taking a zone
 
 -- from a heap that is one free element
 pub first_taken : (size n d : ℕ) (new : List Element) → size % 64 ≡ 0 → n % 64 ≡ 0 → 192 + n < size → Taken (bottom size ∷ []) n 64 d new
@@ -118,7 +118,7 @@ stack_fits t [] n stacked steps room none = stacked
 stack_fits t (e ∷ es) n (first, even, under, lie) steps room none =
     none.0 (e.size - n) (subst (λ (x : Element). CanHold x n 64 (e.size - n)) (sym first) (holds e.size n even steps room))
 
--- ---- the last of a stack is given back
+-- ---- giving the last of a stack back
 
 busy_joined : (e : Element) (es : List Element) → is_free e ≡ false → joined e es ≡ e ∷ es
 busy_joined e [] taken = refl
@@ -146,7 +146,7 @@ top_has p n e (x ∷ es) lie =
     let t = block_at p n in
     subst (λ (zs : List Element). Has (freed t) zs) (sym (past (data_of t) e (x ∷ es) lie.0 lie.1)) (inr (top_has p n x es lie.2))
 
--- then both the bottom and its own offset are free
+-- both the bottom and its own offset are free then
 pub top_freed : (p n : ℕ) (es : List Element) → IsStacked (block_at p n) es → 2 ≤ count_of is_busy es
     → Has (bottom (left_in es)) (merged (data_of (block_at p n)) es) × Has (freed (block_at p n)) (merged (data_of (block_at p n)) es)
 top_freed p n [] stacked more = absurd stacked
@@ -166,7 +166,7 @@ top_freed p n (f ∷ e ∷ x ∷ es) (first, even, under, lie) more =
 
 -- ---- free elements
 
--- one that can hold a block keeps it from being refused
+-- one that has room for a block keeps it from being refused
 pub has_fits : (e : Element) (es : List Element) (n a d : ℕ) → Has e es → CanHold e n a d → NothingFits n a es → ⊥
 has_fits e [] n a d has can none = has
 has_fits e (x ∷ es) n a d (inl same) can none = none.0 d (subst (λ (y : Element). CanHold y n a d) (sym same) can)
@@ -186,7 +186,7 @@ has_parts e [] fs has = inr has
 has_parts e (x ∷ es) fs (inl same) = inl (inl same)
 has_parts e (x ∷ es) fs (inr has) = elim (has_parts e es fs has) [ inl here ↦ inl (inr here) | inr there ↦ inr there ]
 
--- one that cannot is not taken
+-- one that has none is not taken
 pub has_stays : (e : Element) (es new : List Element) (n a d : ℕ) → Has e es → (CanHold e n a d → ⊥) → Taken es n a d new → Has e new
 has_stays e es new n a d has never (x, high, (before, after, old_is, new_is)) =
     subst (Has e) (sym new_is) (elim (has_parts e before (x ∷ after) (subst (Has e) old_is has)) [
@@ -205,7 +205,7 @@ joined_size e (x ∷ es) = go (is_free e && is_free x)
     go true = omega arith
     go false = refl
 
--- what comes back keeps it
+-- freeing keeps it
 pub merged_size : (d : ℕ) (es : List Element) → size_of (merged d es) ≡ size_of es
 merged_size d [] = refl
 merged_size d (e ∷ es) = go (not (is_free e) && eqb (data_of e) d) (merged_size d es)
@@ -233,7 +233,7 @@ pieces_size e n a d can =
     let whole = append_size (spare e.offset (d - 64 - e.offset)) (busy e n d ∷ spare (d + n) (end_of e - (d + n))) in
     omega arith
 
--- and so does what is taken
+-- and so does taking
 pub taken_size : (n a d : ℕ) (old new : List Element) → Taken old n a d new → size_of new ≡ size_of old
 taken_size n a d old new (e, high, (before, after, old_is, new_is)) =
     let same = pieces_size e n a d high.0 in

@@ -1,4 +1,4 @@
--- Zones and pools are taken from a stack, and its spare zone is given back.
+-- Taking zones and pools from a stack, and giving its spare zone back.
 use Rattle.std.proofs.Common.{◌≡◌, ℕ, ◌+◌, ◌-◌, ◌*◌, ◌/◌, ◌%◌, ◌<◌, ◌≤◌, true, List, [], ◌∷◌, ◌++◌, length, refl, sym, ap, subst, ◌∙◌, arith}
 use Rattle.dp_region.specs.Ownership.{Home}
 use Rattle.dp_heap.specs.declared.elements.Element.{Element}
@@ -99,7 +99,7 @@ queue_fits heap table spare s left offset mid is at room taken none =
     let less = once.1 in
     stack_fits t mid (rounded (queue_len s)) once.0 (omega arith) (omega arith) none
 
--- ---- the spare zone is given back
+-- ---- giving the spare zone back
 
 stacked_even : (t : Element) (es : List Element) → IsStacked t es → left_in es % 64 ≡ 0
 stacked_even t [] stacked = absurd stacked
@@ -120,7 +120,7 @@ released heap table spare left new is at some new_is =
       ap (λ (n : ℕ). n % 64) (sym at) ∙ stacked_even (block_at (p - 64) (length spare.bytes)) heap.elements is.stacked,
     )
 
--- then the objects of the last pool have room below, and its queue does where the spare zone was
+-- then the objects of the last pool have room below, and its queue where the spare zone was
 pub last_objects : (left len : ℕ) (es : List Element) → Has (bottom left) es → left % 64 ≡ 0 → zone_bytes len ≤ left → NothingFits (rounded len) 64 es → ⊥
 last_objects left len es has even room none = has_fits (bottom left) es (rounded len) 64 (left - rounded len) has
     (holds left (rounded len) even (omega arith) (omega arith)) none

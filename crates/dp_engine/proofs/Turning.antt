@@ -44,6 +44,12 @@ port_small s port pipeline less =
     let (_, _, few) = numbers_known s.setting.env (numbers_pass s.setting.env pipeline.limits) in
     omega (arith, few, less)
 
+-- and so is a ring
+pub ring_small : (s : Scheme) (ring : ℕ) → IsPipeline s.setting s.nodes → ring < length s.setting.env.rings → ring < 8
+ring_small s ring pipeline less =
+    let (_, few, _) = numbers_known s.setting.env (numbers_pass s.setting.env pipeline.limits) in
+    omega (arith, few, less)
+
 -- ---- counts
 
 -- one port's count is part of the sum
@@ -52,7 +58,7 @@ one_of_all f [] port less = absurd (omega (arith, less))
 one_of_all f (t ∷ tallies) zero less = omega arith
 one_of_all f (t ∷ tallies) (suc port) less = omega (arith, one_of_all f tallies port (omega (arith, less)))
 
--- where one port counts anew
+-- if the counts of one port change
 pub one_changed : (f : Tallies → ℕ) (tallies : List Tallies) (port : ℕ) (t' : Tallies) → port < length tallies
     → over_ports f (slice_set tallies port t') + f (tallies_at tallies port) ≡ over_ports f tallies + f t'
 one_changed f [] port t' less = absurd (omega (arith, less))
@@ -74,11 +80,11 @@ counted_sent runs.Outcome.Got t = refl
 counted_sent runs.Outcome.NoBuffer t = refl
 counted_sent runs.Outcome.Oversize t = refl
 
--- ---- what is true of an engine
+-- ---- what holds of an engine
 
--- behind a turn
+-- after a turn
 pub turned : (s : Scheme) (m m' : Core) (space : SpaceView) (turns : ℕ) (tallies : List Tallies) (left : List ℕ) (port : ℕ) (outcome : runs.Outcome)
-    → IsEngine s m space turns tallies left → turns < 134217728 → port < 8 → Rests s m' → m'.frames ≡ m.frames
+    → IsEngine s m space turns tallies left → turns < 1099511627776 → port < 8 → Rests s m' → m'.frames ≡ m.frames
     → m'.state.world.calls ≤ m.state.world.calls + 8684545
     → m'.state.world.cuts ≤ m.state.world.cuts + 33 → packet_count m'.state + m.state.world.calls ≤ packet_count m.state + m'.state.world.calls
     → IsEngine s m' space (turns + 1) (counted_at port outcome tallies) left

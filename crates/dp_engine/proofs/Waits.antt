@@ -15,7 +15,7 @@ use Rattle.dp_engine.specs.Handles.{packet_at, packets_in, entries_of}
 abbrev pub in_rings : List (Option Packet) → List RingView → List (List Packet)
 in_rings slots rings = packets_in slots (map entries_of rings)
 
--- the j-th ring is the first that has an entry
+-- the j-th ring is the first with an entry
 pub record IsFirst (slots : List (Option Packet)) (rings : List RingView) (j : ℕ) : Type 0 where
   pub there : j < length rings
   pub is : (h : ℕ) (xs : List ℕ) → (ring_at rings j).entries ≡ h ∷ xs → first_waiting (in_rings slots rings)
@@ -51,7 +51,7 @@ positive n = go (suc n == 0) refl
 waits : (r : RingView) (h : ℕ) (xs : List ℕ) → r.entries ≡ h ∷ xs → is_waiting r ≡ true
 waits r h xs some = ap (λ (es : List ℕ). not (length es == 0)) some ∙ ap not (positive (length xs))
 
--- what the search answers, from a number on
+-- what the search returns, from a number on
 found_from : (slots : List (Option Packet)) (rings : List RingView) (n i : ℕ) → position_from is_waiting n rings ≡ Some i →
     (j : ℕ) × (i ≡ n + j) × IsFirst slots rings j
 found_from slots [] n i e = cc

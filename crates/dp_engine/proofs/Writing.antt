@@ -47,7 +47,7 @@ take_all [] (suc n) le = refl
 take_all (x ∷ xs) zero le = absurd (omega arith)
 take_all (x ∷ xs) (suc n) le = ap (λ l. x ∷ l) (take_all xs n (omega arith))
 
--- the pieces before one, it, and those behind
+-- the pieces before one, it, and those after it
 pieces : {A : Type 0} (f : A → List ℕ) (xs : List A) (i : ℕ) (x : A) → slice_get xs i ≡ Some x
     → flat_map f xs ≡ (flat_map f (take i xs) ++ f x) ++ flat_map f (drop (suc i) xs)
 pieces f [] i x e = cc
@@ -89,7 +89,7 @@ part_piece a b d head f xs i x bytes here is before now =
     subst (AppendsPart a d) e (part_before a d _ (flat_map f (drop (suc i) xs))
     (AppendsPart-after a b d (head ++ flat_map f (take i xs)) (f x) before (subst (AppendsPart b d) is now)))
 
--- a device that took a piece is sound behind it, if it was before
+-- a device that took a piece is sound after it, if it was before
 pub sound_after : {W : Type 0} (is_broken : W → Bool) (w w' : W) (bytes : List ℕ) → is_broken w ≡ false → (0 < length bytes → is_broken w' ≡ false)
     → (length bytes ≡ 0 → w' ≡ w) → is_broken w' ≡ false
 sound_after is_broken w w' [] sound some none = ap is_broken (none refl) ∙ sound
@@ -115,7 +115,7 @@ slot_of : (slots : List (Option Packet)) (h : ℕ) (k : Packet) → 1 ≤ in_slo
 slot_of slots h k one named =
     let (k', has) = in_slot_some (slice_get slots h) one in has ∙ ap (λ k. Some (Some k)) (sym (ap held_of has) ∙ named)
 
--- a packet in a transmit list has a handle at its slot
+-- a packet in a transmit list has a handle at its index
 pub waits_at : (s : Store) (zones : List PoolZones) (registers : List (Option ℕ)) (numbers : List ℕ) (rings boxes : List RingView) (calls : ℕ) (steps : Ran)
     (core : Core) (port i : ℕ) (packets : List Packet) (k : Packet)
     → core_of s (frames_of zones rings boxes) registers numbers (lists_of rings boxes) calls steps ≡ core
@@ -152,7 +152,7 @@ map_take f zero xs = refl
 map_take f (suc n) [] = refl
 map_take f (suc n) (x ∷ xs) = ap (λ l. f x ∷ l) (map_take f n xs)
 
--- the texts of so many packets' records
+-- the texts of the first k packets' records
 pub taken_records : (unit : TimeUnit) (time : Time) (buffers : Buffers) (packets : List Packet) (m n : ℕ) → m ≡ n
     → flat_map (record_of unit time buffers) (take n packets) ≡ flat_map (record_text unit) (take m (map (packet_record time buffers) packets))
 taken_records unit time buffers packets m n is =

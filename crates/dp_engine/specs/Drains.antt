@@ -1,4 +1,4 @@
--- What drains write.
+-- What a drain writes: one record for each packet of a transmit list.
 use Rattle.std.specs.Prelude.{◌≡◌, ℕ, ◌+◌, ◌<◌, ◌≤◌, List, ◌++◌, length, map, take, Option, Some, slice_get, flat_map, Result, Ok, Err}
 use Rattle.std.specs.Io.KnownBytes.{Appends}
 use Rattle.dp_pcap.specs.declared.time.Time.{Time}
@@ -15,7 +15,7 @@ use Rattle.dp_engine.specs.Handles.{Core}
 abbrev pub record_of : TimeUnit → Time → Buffers → Packet → List ℕ
 record_of unit time buffers k = record_text unit (record { time = time; bytes = packet_bytes buffers k })
 
--- this holds of the packet at a slot of a transmit list
+-- this holds of the packet at an index of a transmit list
 abbrev pub AtPacket : Core → ℕ → ℕ → (Packet → Type 0) → Type 0
 AtPacket core port at P = (packets : List Packet) (k : Packet) → slice_get core.state.world.outboxes port ≡ Some packets → slice_get packets at ≡ Some k → P k
 
@@ -27,7 +27,7 @@ captured (time, bytes) = record { time = time; bytes = bytes }
 abbrev pub Written : TimeUnit → Time → ℕ → World → (List capture.PacketRecord → Type 0) → Type 0
 Written unit time port w P = (records : List (Time × List ℕ)) × (slice_get (records_at time w) port ≡ Some records) × P (map captured records)
 
--- so many records were written whole, and a part of the next that is not all of it
+-- n records were written whole, and a proper part of the next
 pub record WrotePart (old new : Option (List ℕ)) (unit : TimeUnit) (records : List capture.PacketRecord) (sent : ℕ) : Type 0 where
   pub next : capture.PacketRecord
   pub next_is : slice_get records sent ≡ Some next

@@ -1,19 +1,18 @@
--- What an engine is, how it begins, and what its calls do.
+-- Engines: what one is, how it begins, and what its calls do.
 use Rattle.std.specs.Prelude.{◌≡◌, ℕ, ◌+◌, ◌*◌, ◌≤◌, Bool, List, [], ◌∷◌, length, replicate, slice_index_or, slice_set, None}
 use Rattle.std.specs.List.{AllByRecursion}
 use Rattle.dp_region.specs.Ownership.{Home}
 use Rattle.dp_pool.specs.Pools.{PoolZones}
 use Rattle.dp_ring.specs.Rings.{RingView}
-use Rattle.dp_pcap.specs.declared.format.TheConstants.{MOST_RECORDS}
 use Rattle.dp_lpm.specs.Routes.{RouteTable}
 use Rattle.dp_model.specs.Limits.{most_ring_runs}
 use Rattle.dp_model.specs.Environments.{Environment, fault_of}
 use Rattle.dp_model.specs.Packets.{Packet}
 use Rattle.dp_model.specs.Rules.{Question}
-use Rattle.dp_model.specs.Machine.{Setting, World}
+use Rattle.dp_model.specs.Machine.{Setting, World, jump_budget}
 use Rattle.dp_model.specs.Runs as runs
 use Rattle.dp_model.specs.Runs.{Turn as IsTurn, Took, NeverStuck, Nodes, with_empty_outboxes, with_empty_rings, left_in_rings}
-use Rattle.dp_model.specs.Safety.{Beginning, IsOfTurn}
+use Rattle.dp_model.specs.Safety.{Beginning, IsOfTurn, AreShort}
 use Rattle.dp_model.specs.Starts.{IsStart}
 use Rattle.dp_engine.specs.declared.engine.Turn.{Turn}
 use Rattle.dp_engine.specs.declared.report.Tallies.{Tallies}
@@ -24,8 +23,8 @@ use Rattle.dp_engine.specs.Serving.{Rests}
 use Rattle.dp_engine.specs.Spaces.{SpaceView}
 use Rattle.dp_engine.specs.Tallies.{counted, packet_count}
 
--- what contracts see of an engine: what stays, its programs, its world, what it has counted of each port and each ring (eight
--- slots, of which the first are in use), and its region
+-- an engine as contracts see it: what never changes, its programs, its world, its counts for each port and each ring (eight slots, the first of them
+-- in use), and its region
 pub record EngineState : Type 0 where
   pub setting : Setting
   pub nodes : Nodes
@@ -48,9 +47,9 @@ engine_of s core space turns tallies left = record {
   size = space.size;
 }
 
--- ---- what is true of every engine
+-- ---- what holds of every engine
 
--- the sum of some count over the ports
+-- the sum of a count over the ports
 abbrev pub over_ports : (Tallies → ℕ) → List Tallies → ℕ
 over_ports f [] = 0
 over_ports f (t ∷ tallies) = f t + over_ports f tallies
@@ -65,19 +64,19 @@ abbrev pub sum : List ℕ → ℕ
 sum [] = 0
 sum (n ∷ ns) = n + sum ns
 
--- pools, rings and transmit lists stand in zones of the space, and in no others
+-- pools, rings and transmit lists lie in zones of the space, and nothing else does
 pub record StandIn (space : SpaceView) (frames : Frames) : Type 0 where
   pub pools : AllByRecursion (λ (z : PoolZones). z.home ≡ space.home) frames.zones
   pub rings : AllByRecursion (λ (r : RingView). r.home ≡ space.home) frames.rings
   pub outboxes : AllByRecursion (λ (r : RingView). r.home ≡ space.home) frames.outboxes
   pub out : 2 * length frames.zones + length frames.rings + length frames.outboxes ≡ space.out
 
--- the most turns of an engine: as many as the captures of eight ports have records at most
+-- the most turns of an engine: 2^40, so that its counts of calls stay below 2^64
 abbrev pub most_turns : ℕ
-most_turns = 8 * MOST_RECORDS
+most_turns = 1099511627776
 
--- its environment is within the limits; a turn has the node run of its record and those on packets of rings; each step and each
--- record make at most one allocation call, each node run is cut at most once, and each packet that was sent or left comes from a call
+-- its environment is within the limits; a turn has the node run of its record and those on packets of rings; each step and each record make at most
+-- one allocation call, each node run is cut at most once, and each packet that was sent or left comes from a call
 pub record IsEngine (s : Scheme) (core : Core) (space : SpaceView) (turns : ℕ) (tallies : List Tallies) (left : List ℕ) : Type 0 where
   pub within : fault_of s.setting.env ≡ None
   pub rests : Rests s core
@@ -95,7 +94,7 @@ pub record IsEngine (s : Scheme) (core : Core) (space : SpaceView) (turns : ℕ)
 abbrev pub no_tallies : Tallies
 no_tallies = record { received = 0; nobuf = 0; oversize = 0; sent = 0 }
 
--- an engine before its first turn, in a region of so many bytes: no call is refused, no packet is there, nothing is counted
+-- an engine before its first turn, in a region of this size: no call is refused, there are no packets, and all counts are 0
 pub record IsOpened (home : Home) (size : ℕ) (env : Environment) (tables : List RouteTable) (questions : List Question) (e : EngineState) : Type 0 where
   pub setting : e.setting ≡ (scheme_of env tables questions []).setting
   pub nodes : e.nodes ≡ (scheme_of env tables questions []).nodes
@@ -116,46 +115,48 @@ IsAscending least (n ∷ ns) = (least + 1 ≤ n) × IsAscending n ns
 abbrev pub tallies_at : List Tallies → ℕ → Tallies
 tallies_at tallies port = slice_index_or tallies port no_tallies
 
--- one record more at a port, of which that became
+-- one more record at a port, with this outcome
 abbrev pub counted_at : ℕ → runs.Outcome → List Tallies → List Tallies
 counted_at port outcome tallies = slice_set tallies port (counted outcome (tallies_at tallies port))
 
--- What a turn of a port with a record is, of an engine that was `old` and is `new`, which answered that: a turn of the definitions,
--- none of whose node runs is stuck, and behind which each port has its transmit list.
+-- A turn of a port with a record takes an engine from `old` to `new` with this result: a turn of the definitions, no node run of which is stuck, and
+-- after which each port has its transmit list.
 pub record TakesTurn (old new : EngineState) (port : ℕ) (bytes : List ℕ) (answer : Turn) : Type 0 where
   pub turn : (answers : List Bool) × IsTurn old.setting old.nodes port bytes old.world (outcome_of answer.outcome) answer.runs answers new.world
   pub never_stuck : (b : Beginning) → IsOfTurn old.setting old.nodes port bytes old.world b → NeverStuck old.setting b.program b.packet b.number b.world
   pub took : Took old.world new.world answer.steps answer.cuts
   pub few : answer.steps ≤ answer.runs * most_steps
+  -- each node run takes at most 257 times as many steps as the longest program has instructions
+  pub short : (most : ℕ) → AreShort most old.nodes.ports → AreShort most old.nodes.rings → answer.steps ≤ answer.runs * ((jump_budget + 1) * most)
   pub lists : length new.world.outboxes ≡ length new.setting.env.ports
   pub rest : new ≡ record old { world = new.world; turns = old.turns + 1; tallies = counted_at port (outcome_of answer.outcome) old.tallies }
 
--- so many records more that a port wrote whole
+-- that many more records of a port written whole
 abbrev pub sent_at : ℕ → ℕ → List Tallies → List Tallies
 sent_at port sent tallies =
     slice_set tallies port (record (tallies_at tallies port) { sent = (tallies_at tallies port).sent + sent })
 
--- an engine behind the drain of a port that wrote so many records whole
+-- an engine after the drain of a port that wrote that many records whole
 abbrev pub drained : ℕ → ℕ → EngineState → EngineState
 drained port sent e = record e {
   world = record e.world { outboxes = slice_set e.world.outboxes port [] };
   tallies = sent_at port sent e.tallies;
 }
 
--- an engine of which one ring was emptied, and what was left there counted
+-- an engine after one ring is emptied and its packets are counted as left
 abbrev pub left_at : ℕ → EngineState → EngineState
 left_at ring e = record e {
   world = record e.world { rings = slice_set e.world.rings ring [] };
   left = slice_set e.left ring (slice_index_or e.left ring 0 + slice_index_or (left_in_rings e.world) ring 0);
 }
 
--- each count, with that of a ring added where there is one
+-- adds the count of each ring
 abbrev pub with_left : List ℕ → List ℕ → List ℕ
 with_left [] counts = []
 with_left (n ∷ ns) [] = n ∷ ns
 with_left (n ∷ ns) (x ∷ counts) = (n + x) ∷ with_left ns counts
 
--- an engine behind a flush: nothing waits, and what waited in rings is counted as left there
+-- an engine after a flush: nothing waits, and what waited in rings is counted as left
 abbrev pub flushed : EngineState → EngineState
 flushed e = record e {
   world = with_empty_rings (with_empty_outboxes e.world);

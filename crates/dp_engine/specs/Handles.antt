@@ -1,4 +1,4 @@
--- The packets that handles name, and that each handle stands once.
+-- The packets that handles name. Each handle occurs once.
 use Rattle.std.specs.Prelude.{◌≡◌, ℕ, ◌+◌, ◌==◌, Bool, true, false, List, [], ◌∷◌, ◌++◌, map, Option, Some, None, slice_get}
 use Rattle.dp_model.specs.declared.env.PoolSpec.{PoolSpec}
 use Rattle.dp_model.specs.Packets.{Packet}
@@ -30,7 +30,7 @@ abbrev pub once : Bool → ℕ
 once true = 1
 once false = 0
 
--- how often a handle stands in a list
+-- how often a handle occurs in a list
 abbrev pub occurs : ℕ → List ℕ → ℕ
 occurs h [] = 0
 occurs h (x ∷ xs) = once (x == h) + occurs h xs
@@ -42,7 +42,7 @@ in_slot None = 0
 
 -- ---- what waits
 
--- the handles that wait: in each ring, and in each transmit list
+-- the handles that wait, in each ring and in each transmit list
 pub record Lists : Type 0 where
   pub rings : List (List ℕ)
   pub outboxes : List (List ℕ)
@@ -59,7 +59,7 @@ waiting lists = joined lists.rings ++ joined lists.outboxes
 abbrev pub packets_in : List (Option Packet) → List (List ℕ) → List (List Packet)
 packets_in slots lists = map (map (packet_at slots)) lists
 
--- what a machine's packets stand in: the zones of its pools, and its rings and transmit lists apart from what waits in them
+-- where a machine's packets are: the zones of its pools, and its rings and transmit lists without their entries
 pub record Frames : Type 0 where
   pub zones : List PoolZones
   pub rings : List RingView
@@ -77,18 +77,18 @@ frames_of zones rings outboxes = record { zones = zones; rings = map without_ent
 abbrev pub lists_of : List RingView → List RingView → Lists
 lists_of rings outboxes = record { rings = map entries_of rings; outboxes = map entries_of outboxes }
 
--- each packet of the layer stands once in a register or a list, and nothing else stands there
+-- each packet of the store has its handle once in a register or a list, and there are no other handles
 abbrev pub StandOnce : List (Option Packet) → List (Option ℕ) → Lists → Type 0
 StandOnce slots registers lists =
     (h : ℕ) → occurs h (handles_held registers) + occurs h (waiting lists) ≡ in_slot (slice_get slots h)
 
--- what a machine is: its pools, its rings and transmit lists apart from what waits there, and a state
+-- a machine: its pools, its rings and transmit lists without their entries, and a state
 pub record Core : Type 0 where
   pub pools : List PoolSpec
   pub frames : Frames
   pub state : State
 
--- what a machine counts beside its allocation calls: steps, cut node runs, and the backward jumps of the node run
+-- what a machine counts besides allocation calls: steps, cut node runs, and the backward jumps of the node run
 pub record Ran : Type 0 where
   pub steps : ℕ
   pub cuts : ℕ

@@ -1,4 +1,4 @@
--- Internal: laws of plans, what is known of an environment, and that checked programs are a pipeline.
+-- Internal: plans, facts about environments, and that checked programs make a pipeline.
 use Rattle.std.proofs.Common.{◌≡◌, ℕ, ◌+◌, ◌≤◌, Bool, true, false, not, cond, ◌&&◌, List, [], ◌∷◌, length, map, Option, Some, None, refl, sym, ◌∙◌, zero, suc}
 use Rattle.std.proofs.Common.{ap, arith, ◌<◌, take, drop, subst}
 use Rattle.std.specs.Prelude.{nat_le, position, sum_by, if◌then◌else◌, slice_get}
@@ -28,7 +28,7 @@ use Rattle.dp_model.specs.Laws.{Checked, AreChecked}
 use Rattle.dp_model.specs.Laws.Limits.{if_none, or_none, map_none, not_false, ports_have_room}
 use Rattle.dp_model.specs.Laws.Lists.{each_at}
 
--- where no element fails, neither the first one does nor one behind it
+-- where no element fails, neither the first nor a later one does
 step_none : (b : Bool) (i : ℕ) (r : Option ℕ) → cond b (Some i) r ≡ None → (b ≡ false) × (r ≡ None)
 step_none true i r h = cc
 step_none false i r h = (refl, h)
@@ -37,14 +37,14 @@ step_none false i r h = (refl, h)
 abbrev AllPass : {X : Type 0} → (X → Bool) → List X → Type 0
 AllPass test xs = AllByRecursion (λ x. test x ≡ true) xs
 
--- all pass where none is the first that fails, counted from an index on
+-- all pass where none fails, counted from an index on
 from_none : {X : Type 0} → (test : X → Bool) (xs : List X) (i : ℕ) → position_from (λ x. not (test x)) i xs ≡ None → AllPass test xs
 from_none test [] i h = tt
 from_none test (x ∷ xs) i h =
     let parts = step_none (not (test x)) i (position_from (λ y. not (test y)) (i + 1) xs) h in
     (not_false (test x) parts.0, from_none test xs (i + 1) parts.1)
 
--- all pass where none is the first that fails
+-- all pass where none fails
 all_pass : {X : Type 0} → (test : X → Bool) (xs : List X) → position (λ x. not (test x)) xs ≡ None → AllPass test xs
 all_pass test xs h = from_none test xs 0 (sym (position_from-zero (λ x. not (test x)) xs) ∙ h)
 
@@ -54,7 +54,7 @@ each_map : {X Y : Type 0} → (P : X → Type 0) (Q : Y → Type 0) (f : X → Y
 each_map P Q f step [] all = tt
 each_map P Q f step (x ∷ xs) all = (step x all.0, each_map P Q f step xs all.1)
 
--- the size of a ring in an environment is one of a ring
+-- the size of a ring in an environment is permitted for rings
 count_fits : (n : ℕ) → is_ring_count n ≡ true → IsCount n
 count_fits n h =
     let (both, power) = and_parts (nat_le 2 n && nat_le n largest_ring) (is_power_of_two n) h in
@@ -73,7 +73,7 @@ pub record IsKnown (e : Environment) : Type 0 where
   pub mbufs : sum_by (λ p. p.count) e.pools ≤ most_buffers
   pub facts : AllByRecursion (λ r. is_well_formed_fact r.fact ≡ true) e.rings
 
--- what follows of each element follows of all
+-- what follows for each element follows for all
 each_is : {X : Type 0} → (P Q : X → Type 0) → ((x : X) → P x → Q x) → (xs : List X) → AllByRecursion P xs → AllByRecursion Q xs
 each_is P Q step [] all = tt
 each_is P Q step (x ∷ xs) all = (step x all.0, each_is P Q step xs all.1)
@@ -86,7 +86,7 @@ nothing_else n h = go (nat_le n most_buffers) refl h
     go true is none = leb-true n most_buffers is
     go false is none = cc
 
--- all this is known of an environment without a fault
+-- all this holds of an environment without a fault
 pub known : (e : Environment) → fault_of e ≡ None → IsKnown e
 known e h =
     let whole = if_none (numbers_fit e) _ BadNumber h in
@@ -123,13 +123,13 @@ known e h =
       mbufs = nothing_else (sum_by (λ p. p.count) e.pools) three.1;
     }
 
--- what stands in a list of images is one
+-- an element of a list of images is one
 pub get_map : {X Y : Type 0} (f : X → Y) (xs : List X) (i : ℕ) (y : Y) → slice_get (map f xs) i ≡ Some y → (x : X) × (slice_get xs i ≡ Some x) × (f x ≡ y)
 get_map f [] i y e = cc
 get_map f (x ∷ xs) zero y e = (x, refl, same_Some (f x) y e)
 get_map f (x ∷ xs) (suc i) y e = get_map f xs i y e
 
--- what stands in the first part of a list
+-- an element of the first part of a list
 get_take : {X : Type 0} → (n : ℕ) (xs : List X) (k : ℕ) (x : X) → slice_get (take n xs) k ≡ Some x → (k < n) × (slice_get xs k ≡ Some x)
 get_take zero [] k x h = cc
 get_take zero (y ∷ xs) k x h = cc
@@ -180,7 +180,7 @@ are_checked env tables questions pattern limits nodes checked = record {
   facts = λ ring spec h. each_at (λ r. is_well_formed_fact r.fact ≡ true) env.rings ring spec (known env limits).facts h;
 }
 
--- programs that are checked for the entries of an environment, and tables that keep their hops, are a plan
+-- programs that are checked for the entries of an environment, with its tables, make a plan
 pub plan_of : (env : Environment) (tables : List RouteTable) (questions : List Question) (pattern : List ℕ) → fault_of env ≡ None → AreNodes env questions
     → length tables ≡ env.tables → ((k : ℕ) (q : Question) → slice_get questions k ≡ Some q → IsChecked q)
     → ((k : ℕ) (t : RouteTable) → slice_get tables k ≡ Some t → AllByRecursion (λ (route : Route). route.hop ≤ largest_hop) t.routes)

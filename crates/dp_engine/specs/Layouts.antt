@@ -1,4 +1,4 @@
--- Internal: a space that is laid out for an environment.
+-- Internal: a space laid out for an environment.
 use Rattle.std.specs.Prelude.{◌≡◌, ℕ, ◌+◌, ◌*◌}
 use Rattle.dp_region.specs.Ownership.{Home}
 use Rattle.dp_model.specs.Environments.{Environment}
@@ -8,16 +8,16 @@ use Rattle.dp_engine.specs.declared.space.Parts.{Parts}
 use Rattle.dp_engine.specs.Needs.{ring_counts, list_counts}
 use Rattle.dp_engine.specs.Spaces.{SpaceView, AreFilled, IsNewRing, RingsIn, PoolsIn, filled}
 
--- all stand in zones of the region
+-- all lie in zones of the region
 abbrev pub PartsIn : Home → Parts → Type 0
 PartsIn home parts = PoolsIn home parts.pools × RingsIn home parts.rings × RingsIn home parts.lists
 
--- how many zones they stand in
+-- the number of their zones
 abbrev pub zones_in : Parts → ℕ
 zones_in parts = 2 * filled parts.pools + filled parts.rings + filled parts.lists
 
--- the space and its parts, in a region of so many bytes: a pool of mbufs for each pool of the environment, and an empty
--- ring for each ring and each port, in order, and no other zones
+-- the space and its parts, in a region of this size: a pool of mbufs for each pool of the environment, an empty ring for each ring and each port, in
+-- order, and no other zones
 pub record IsLaidOut (home : Home) (size : ℕ) (env : Environment) (space : SpaceView) (parts : Parts) : Type 0 where
   pub home_is : space.home ≡ home
   pub size_is : space.size ≡ size

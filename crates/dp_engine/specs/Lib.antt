@@ -1,9 +1,12 @@
+pub mod Batches
 pub mod Drains
 pub mod Putting
 pub mod Engines
 pub mod Handles
+pub mod Known
 pub mod Laws
 pub mod Layouts
+pub mod Midway
 pub mod Names
 pub mod Needs
 pub mod Outcomes
@@ -17,3 +20,5 @@ pub mod Stacks
 pub mod Steps
 pub mod Tallies
 pub mod Turns
+pub mod WatchLaws
+pub mod Watching

@@ -1,4 +1,4 @@
--- Internal: the names of an engine's zones, and the order in which these are taken.
+-- Internal: the names of an engine's zones, and the order in which they are taken.
 use Rattle.std.specs.Prelude.{◌≡◌, ℕ, ◌+◌, ◌*◌, ◌<◌, ◌==◌, codes, true, if◌then◌else◌, List, [], ◌∷◌, ◌++◌, length, slice_index}
 use Rattle.std.specs.List.{AllByRecursion}
 use Rattle.dp_zone.specs.Names.{is_name}
@@ -18,7 +18,7 @@ abbrev pub ring_name : Kind → ℕ → List ℕ
 ring_name Port k = numbered (codes "port") k
 ring_name Ring k = numbered (codes "ring") k
 
--- by the third letter of their names: first the spare zone, then those of ports, of rings and of pools
+-- the kind of a zone by the third letter of its name: first the spare zone, then those of ports, of rings and of pools
 abbrev pub turn_of : ℕ → ℕ
 turn_of letter = if letter == 97 then 0 else if letter == 114 then 1 else if letter == 110 then 2 else 3
 
@@ -26,7 +26,7 @@ turn_of letter = if letter == 97 then 0 else if letter == 114 then 1 else if let
 abbrev pub rank : List ℕ → ℕ
 rank name = 1000 * turn_of (slice_index name 2) + (10 * slice_index name 4 + length name)
 
--- all are taken before that of such a rank
+-- all are taken before one of this rank
 abbrev pub AllBefore : ℕ → List (List ℕ) → Type 0
 AllBefore r names = AllByRecursion (λ n. rank n < r) names
 
@@ -39,7 +39,7 @@ first_of Ring = 2485
 abbrev pub first_pool : ℕ
 first_pool = 3485
 
--- a name that comes after all of these, which leave room for one more
+-- a name that comes after all of these, and there is room for one more
 pub record IsNext (name : List ℕ) (names : List (List ℕ)) : Type 0 where
   pub named : is_name name ≡ true
   pub after : AllBefore (rank name) names

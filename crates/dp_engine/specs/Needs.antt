@@ -8,7 +8,7 @@ use Rattle.dp_ring.specs.Rings.{most_slots}
 use Rattle.dp_pool.specs.Making.{object_len}
 use Rattle.dp_mbuf.specs.declared.limits.TheConstants.{HEADER_SIZE}
 
--- p, doubled until it is above n, at most so many times
+-- p, doubled until it is above n, at most m times
 abbrev pub doubled_past : ℕ → ℕ → ℕ → ℕ
 doubled_past n p zero = p
 doubled_past n p (suc most) = if nat_lt n p then p else doubled_past n (2 * p) most
@@ -17,25 +17,25 @@ doubled_past n p (suc most) = if nat_lt n p then p else doubled_past n (2 * p) m
 unfoldable pub power_above : ℕ → ℕ
 power_above n = doubled_past n 1 n
 
--- what a zone takes: a header, and its length rounded up
+-- the bytes of a zone: a header, and its length rounded up
 abbrev pub zone_bytes : ℕ → ℕ
 zone_bytes len = header_len + rounded len
 
--- how long the zones of a pool are: that of its objects, each a header and a data room, and that of its queue
+-- the lengths of a pool's zones: that of its objects, each a header and a data room, and that of its queue
 abbrev pub objects_len : PoolSpec → ℕ
 objects_len s = object_len s.count (s.room + HEADER_SIZE)
 
 abbrev pub queue_len : PoolSpec → ℕ
 queue_len s = 4 * power_above s.count
 
--- what a pool takes, and what a ring of so many slots does
+-- the bytes of a pool, and of a ring with this many slots
 abbrev pub pool_bytes : PoolSpec → ℕ
 pool_bytes s = zone_bytes (objects_len s) + zone_bytes (queue_len s)
 
 abbrev pub ring_bytes : ℕ → ℕ
 ring_bytes count = zone_bytes (4 * count)
 
--- the most that the objects of a pool take, a pool, and a ring
+-- the most that the objects of a pool, a pool, and a ring take
 abbrev pub most_objects_len : ℕ
 most_objects_len = most_buffers * (largest_room + HEADER_SIZE)
 
@@ -50,13 +50,13 @@ abbrev pub total : {X : Type 0} → (X → ℕ) → List X → ℕ
 total f [] = 0
 total f (x ∷ xs) = f x + total f xs
 
--- how many slots the rings have, and the transmit lists of the ports
+-- the slots of the rings, and of the transmit lists
 abbrev pub ring_counts : Environment → List ℕ
 ring_counts e = map (λ r. r.count) e.rings
 
 abbrev pub list_counts : Environment → List ℕ
 list_counts e = map (λ p. p.queue) e.ports
 
--- what all of them take
+-- the bytes of all of them
 abbrev pub bytes_needed : Environment → ℕ
 bytes_needed e = total pool_bytes e.pools + total ring_bytes (ring_counts e) + total ring_bytes (list_counts e)

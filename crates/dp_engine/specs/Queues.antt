@@ -1,11 +1,11 @@
--- Internal: the rings of an engine, by their numbers.
+-- Internal: the rings of an engine, by number.
 use Rattle.std.specs.Prelude.{◌≡◌, ℕ, ◌==◌, Bool, not, List, [], ◌∷◌, length, Option, Some, None, slice_index_or}
 use Rattle.std.specs.List.{AllByRecursion}
 use Rattle.dp_ring.specs.Rings.{RingView}
 
 -- ---- slots for rings
 
--- the rings of a list of slots for them, of which the first are filled
+-- the rings of a list of slots whose first ones are filled
 abbrev pub rings_in : List (Option RingView) → List RingView
 rings_in [] = []
 rings_in (None ∷ slots) = []
@@ -19,7 +19,7 @@ RingsFirst (Some r ∷ slots) = RingsFirst slots
 
 -- ---- rings by their numbers
 
--- where there is no ring
+-- stands for a missing ring
 abbrev pub no_ring : RingView
 no_ring = record {
   count = 0;

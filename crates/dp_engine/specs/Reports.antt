@@ -1,4 +1,4 @@
--- What engines report.
+-- What a report says of an engine: counts of ports, pools and rings.
 use Rattle.std.specs.Prelude.{◌≡◌, ℕ, suc, List, [], ◌∷◌, length, map, take}
 use Rattle.dp_model.specs.declared.env.PoolSpec.{PoolSpec}
 use Rattle.dp_model.specs.Environments.{Environment}
@@ -17,12 +17,12 @@ use Rattle.dp_engine.specs.Engines.{EngineState}
 abbrev pub port_report : InputState → Tallies → PortReport
 port_report state t = record { received = t.received; nobuf = t.nobuf; oversize = t.oversize; sent = t.sent; state = state }
 
--- so many are free of each pool from one on
+-- the report of each pool from one on
 abbrev pub pool_reports : (ℕ → ℕ) → ℕ → List PoolSpec → List PoolReport
 pool_reports free k [] = []
 pool_reports free k (p ∷ pools) = record { free = free k; count = p.count } ∷ pool_reports free (suc k) pools
 
--- the numbers of an engine, none of whose inputs is read to its end
+-- the report of an engine: its counts, with every input open
 pub record IsReport (e : EngineState) (r : Report) : Type 0 where
   pub ports : r.ports.items ≡ map (port_report Open) (take (length e.setting.env.ports) e.tallies)
   pub rings : r.rings.items ≡ take (length e.setting.env.rings) e.left

@@ -1,4 +1,4 @@
--- Internal: what a turn does to the world.
+-- Internal: what each part of a turn does to the world.
 use Rattle.std.specs.Prelude.{◌≡◌, ℕ, Bool, List, Option, Some, None, slice_get}
 use Rattle.std.specs.List.{AllByRecursion}
 use Rattle.dp_model.specs.declared.env.PortSpec.{PortSpec}
@@ -11,15 +11,17 @@ use Rattle.dp_engine.specs.declared.run.NodeRun as took
 use Rattle.dp_engine.specs.Handles.{Core}
 use Rattle.dp_engine.specs.Steps.{FitsIn}
 use Rattle.dp_engine.specs.Schemes.{Scheme}
+use Rattle.dp_engine.specs.Watching.{Event, SeesAll, ShowsRun, ShowsArrival, ShowsServing, of_ring}
+use Rattle.dp_model.specs.Limits.{most_ring_runs}
 
--- what becomes of a record at a port with its program
+-- the outcome of a record at a port with its program
 abbrev pub ArrivesAt : Scheme → ℕ → List ℕ → World → Outcome → List Bool → World → Type 0
 ArrivesAt s port bytes w outcome answers w' =
     (spec : PortSpec) × (program : List Instr)
     × (slice_get s.setting.env.ports port ≡ Some spec) × (slice_get s.nodes.ports port ≡ Some program)
     × Arrives s.setting program port spec bytes w outcome answers w'
 
--- no ring has a packet, and nothing happens; or the first that has one is served
+-- no ring has a packet, and nothing happens; or the first ring that has one is served
 abbrev pub ServesOne : Scheme → World → Option took.NodeRun → World → Type 0
 ServesOne s w None w' = (first_waiting w.rings ≡ None) × (w' ≡ w)
 ServesOne s w (Some run) w' =
@@ -34,3 +36,36 @@ pub record Rests (s : Scheme) (core : Core) : Type 0 where
   pub pools : core.pools ≡ s.setting.env.pools
   pub fits : FitsIn s.setting.env core.frames
   pub rest : IsAtRest s.setting core.state.world
+
+-- ---- what watchers are shown
+
+-- a watcher saw the part of the record
+pub record WatchesArrival {V : Type 0} (sees : V → Event → V → Type 0) (v v' : V) (s : Scheme) (port : ℕ) (bytes : List ℕ) (w : World) (outcome : Outcome)
+    (w' : World) : Type 0 where
+  pub answers : List Bool
+  pub events : List Event
+  pub shows : ShowsArrival s.setting s.nodes port bytes w outcome answers w' events
+  pub seen : SeesAll sees v events v'
+
+-- it saw the node run on the front packet of the first ring that has one
+pub record WatchesNext {V : Type 0} (sees : V → Event → V → Type 0) (v v' : V) (s : Scheme) (w w' : World) : Type 0 where
+  pub next : Waiting Packet
+  pub waits : first_waiting w.rings ≡ Some next
+  pub program : List Instr
+  pub program_is : slice_get s.nodes.rings next.ring ≡ Some program
+  pub answers : List Bool
+  pub events : List Event
+  pub shows : ShowsRun s.setting (of_ring program next w) answers w' events
+  pub seen : SeesAll sees v events v'
+
+-- it saw that, or there was none
+abbrev pub WatchesOne : {V : Type 0} → (V → Event → V → Type 0) → V → V → Scheme → World → Option took.NodeRun → World → Type 0
+WatchesOne sees v v' s w None w' = v' ≡ v
+WatchesOne sees v v' s w (Some run) w' = WatchesNext sees v v' s w w'
+
+-- it saw up to 32 of them
+pub record WatchesServing {V : Type 0} (sees : V → Event → V → Type 0) (v v' : V) (s : Scheme) (w : World) (runs : ℕ) (w' : World) : Type 0 where
+  pub answers : List Bool
+  pub events : List Event
+  pub shows : ShowsServing s.setting s.nodes.rings most_ring_runs w answers runs w' events
+  pub seen : SeesAll sees v events v'

@@ -1,4 +1,4 @@
--- Internal: a heap whose zones are taken from the top down, one free element at the bottom, and busy ones above it.
+-- Internal: a heap whose zones are taken from the top down: one free element at the bottom, and busy ones above it.
 use Rattle.std.specs.Prelude.{◌≡◌, ℕ, ◌+◌, ◌-◌, ◌%◌, ◌<◌, ◌≤◌, ◌⊎◌, false, List, [], ◌∷◌, length, map}
 use Rattle.dp_region.specs.Ownership.{Home}
 use Rattle.dp_region.specs.Region.{cache_line}
@@ -8,8 +8,8 @@ use Rattle.dp_heap.specs.Elements.{header_len, is_free, is_busy, data_of, sum_of
 use Rattle.dp_heap.specs.Laid.{HeapView}
 use Rattle.dp_zone.specs.Zones.{ZoneView, Reserved}
 
--- what contracts see of such a heap: the region, how many bytes it has and how many of them are left at the bottom, the
--- names of the zones that are out, and how long the spare one is, which lies at the top
+-- such a heap as contracts see it: the region, its size and how many bytes are left at the bottom, the names of the zones that are out, and the
+-- length of the spare one, which lies at the top
 pub record StackView : Type 0 where
   pub home : Home
   pub size : ℕ
@@ -17,11 +17,11 @@ pub record StackView : Type 0 where
   pub names : List (List ℕ)
   pub spare : ℕ
 
--- the free element of so many bytes at the bottom
+-- the free element of this size at the bottom
 abbrev pub bottom : ℕ → Element
 bottom size = record { offset = 0; size = size; state = Free; pad = 0 }
 
--- the element of a block of n bytes that lie right behind its header
+-- the element of a block of n bytes that follows its header
 abbrev pub block_at : ℕ → ℕ → Element
 block_at offset n = record { offset = offset; size = header_len + n; state = Busy; pad = 0 }
 
@@ -45,7 +45,7 @@ left_in (e ∷ es) = e.size
 abbrev pub size_of : List Element → ℕ
 size_of es = sum_of (λ e. e.size) es
 
--- e is one of them
+-- e is in the list
 abbrev pub Has : Element → List Element → Type 0
 Has e [] = ⊥
 Has e (x ∷ xs) = (x ≡ e) ⊎ Has e xs
@@ -54,7 +54,7 @@ Has e (x ∷ xs) = (x ≡ e) ⊎ Has e xs
 abbrev pub names_of : List Reserved → List (List ℕ)
 names_of table = map (λ r. r.name) table
 
--- true of a heap, a table and a spare zone at the top
+-- what holds of the heap, the table and the spare zone at the top
 pub record IsStack (heap : HeapView) (table : List Reserved) (spare : ZoneView) : Type 0 where
   pub home : spare.home ≡ heap.home
   pub even : spare.offset % cache_line ≡ 0

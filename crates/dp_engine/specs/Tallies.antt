@@ -5,7 +5,7 @@ use Rattle.dp_model.specs.Machine.{State}
 use Rattle.dp_model.specs.Runs as runs
 use Rattle.dp_engine.specs.declared.report.Tallies.{Tallies}
 
--- one record more that became that
+-- one more record with this outcome
 abbrev pub counted : runs.Outcome → Tallies → Tallies
 counted runs.Outcome.Got t = record t { received = t.received + 1 }
 counted runs.Outcome.NoBuffer t = record t { nobuf = t.nobuf + 1 }
@@ -31,14 +31,14 @@ abbrev pub how_many : (runs.Outcome → ℕ) → List runs.Outcome → ℕ
 how_many f [] = 0
 how_many f (o ∷ outcomes) = f o + how_many f outcomes
 
--- the numbers behind a run with these outcomes, in which so many records were written whole
+-- the counts after a run with these outcomes, in which that many records were written whole
 pub record Tallied (from to : Tallies) (outcomes : List runs.Outcome) (sent : ℕ) : Type 0 where
   pub received : to.received ≡ from.received + how_many is_got outcomes
   pub nobuf : to.nobuf ≡ from.nobuf + how_many is_nobuf outcomes
   pub oversize : to.oversize ≡ from.oversize + how_many is_oversize outcomes
   pub sent_is : to.sent ≡ from.sent + sent
 
--- ---- how many packets there are
+-- ---- the number of packets
 
 abbrev pub held_count : List (Option Packet) → ℕ
 held_count [] = 0
@@ -53,7 +53,7 @@ listed_count (packets ∷ lists) = length packets + listed_count lists
 abbrev pub packet_count : State → ℕ
 packet_count s = held_count s.packets + (listed_count s.world.rings + listed_count s.world.outboxes)
 
--- how many of the calls that are to be refused were made
+-- how many of the calls in the pattern were made
 abbrev pub refused_of : List ℕ → ℕ → ℕ
 refused_of [] calls = 0
 refused_of (n ∷ pattern) calls = (if nat_le n calls then 1 else 0) + refused_of pattern calls

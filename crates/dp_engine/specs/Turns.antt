@@ -1,4 +1,4 @@
--- Internal: what turns begin with.
+-- Internal: how turns begin.
 use Rattle.std.specs.Prelude.{◌≡◌, ℕ, ◌+◌, List, length}
 use Rattle.dp_model.specs.Environments.{room_at}
 use Rattle.dp_model.specs.Buffers.{Number, Buffers}
@@ -6,7 +6,7 @@ use Rattle.dp_model.specs.Packets.{needed, received, Filled, AreFresh}
 use Rattle.dp_model.specs.Machine.{Setting, World, State, live}
 use Rattle.dp_model.specs.Runs.{first_state, between}
 
--- a packet with these bytes is in the first register, and the port's number too; all else is empty and 0
+-- a packet with these bytes is in the first packet register, and the port's number in the first number register; all else is empty and 0
 pub record IsReceived (c : Setting) (pool port : ℕ) (bytes : List ℕ) (w : World) (s : State) : Type 0 where
   pub numbers : List Number
   pub buffers : Buffers

@@ -1,9 +1,9 @@
-//! Where control goes behind an instruction.
-ghost use Rattle.std.specs.Prelude.{◌≡◌, ◌+◌, Some, option_map, if◌then◌else◌};
-ghost use Rattle.dp_engine.specs.Steps.{label_after};
+//! Where control goes after an instruction.
+ghost use Rattle.std.specs.Prelude.{◌≡◌, ◌+◌, Some, IfSome, option_map, if◌then◌else◌};
+ghost use Rattle.dp_engine.specs.Steps.{label_after, IsOnOrTo};
 
-/// Where control goes behind an instruction that does not end its node run. What it is stands fast in each form of instruction that
-/// takes no label, so only a jump is asked whether it leads back.
+/// Where control goes after an instruction that does not end its node run. Each form of instruction without a label is known to go on, so only jumps
+/// are tested for leading backward.
 #[derive(Clone, Copy)]
 pub(crate) enum Control {
     /// To the next instruction.
@@ -12,10 +12,11 @@ pub(crate) enum Control {
     To(u16),
 }
 
-// A jump to that label where the test passes, and else on.
+// A jump to the label where the test passes, else on.
 #[inline(always)]
 pub(crate) fn branch(test: bool, to: u16, label: usize) -> Option<Control>
-    ensures { option_map (label_after label) result ≡ Some (if test then to else label + 1) }
+    ensures leads { option_map (label_after label) result ≡ Some (if test then to else label + 1) }
+    ensures names { IfSome result (IsOnOrTo to) }
 {
     Some(if test { Control::To(to) } else { Control::On })
 }

@@ -1,15 +1,19 @@
-//! The engine: what it is, how it is opened in a region, and how it gives the region back.
+//! The engine: its types, opening it in a region, and finishing it.
 ghost use Rattle.std.specs.Prelude.{◌≡◌, ℕ, ◌+◌, ◌<◌, ◌≤◌, List, [], length, slice_get, Some, IfOk, IfErr, OnOk};
 ghost use Rattle.dp_model.specs.Packets.{Packet};
 ghost use Rattle.dp_engine.specs.Needs.{bytes_needed};
 ghost use Rattle.dp_engine.specs.Schemes.{AreNodes};
 ghost use Rattle.dp_engine.specs.Engines.{IsOpened, IsAscending, IsFlushed, flushed};
 ghost use Rattle.dp_engine.specs.Reports.{IsReport, IsWhole};
+ghost use Rattle.dp_engine.specs.Spaces.{IsOneFree};
 
 mod drains;
+mod pass;
 mod reporting;
 mod turns;
 
+use crate::known::{Known, Nothing};
+use crate::lists::Lists;
 use crate::machine::Machine;
 use crate::plan::Plan;
 use crate::queues::Queues;
@@ -20,25 +24,26 @@ use dp_lpm::Lpm;
 use dp_mbuf::Mbufs;
 use dp_model::Env;
 use dp_region::Region;
+pub use pass::Pass;
 use std::marker::Model;
 
 /// What became of a record.
 #[derive(Clone, Copy, Debug, PartialEq, Eq)]
 pub enum Outcome {
-    /// It was received, and the port's program ran.
+    /// Received; the port's program ran on it.
     Got,
-    /// It was dropped: the pattern refused its buffers, or too few were free.
+    /// Dropped: the pattern refused its buffers, or too few were free.
     NoBuffer,
-    /// It was dropped: it needs more segments than the port takes.
+    /// Dropped: it needs more segments than the port takes.
     Oversize,
 }
 
-/// A turn.
+/// What a turn did.
 #[derive(Clone, Copy, Debug, PartialEq, Eq)]
 pub struct Turn {
-    /// What became of the record.
+    /// The outcome of the record.
     pub outcome: Outcome,
-    /// How many node runs there were: one for a record that was received, and up to 32 on packets that waited in rings.
+    /// The number of node runs: one if the record was received, and up to 32 on packets in rings.
     pub runs: u8,
     /// How many of them were cut.
     pub cuts: u8,
@@ -49,11 +54,11 @@ pub struct Turn {
 /// The writer failed.
 #[derive(Clone, Copy, Debug, PartialEq, Eq)]
 pub struct WriteFault {
-    /// How many records were written whole before.
+    /// How many records were written whole before that.
     pub sent: u32,
 }
 
-/// The region is smaller than the engine needs. All that was handed in comes back.
+/// The region is smaller than the engine needs. Everything that was handed in comes back.
 pub struct OpenFault {
     /// The region.
     pub region: Region,
@@ -63,18 +68,18 @@ pub struct OpenFault {
     pub nodes: Vec<Checked>,
 }
 
-/// An engine: pools of mbufs, rings and transmit lists in one region, tables, and a checked program for each port and ring.
-/// It ends by `finish`.
-pub struct Engine {
-    plan: Plan,
+/// An engine: pools of mbufs, rings and transmit lists in one region, tables, and a checked program for each port and ring. `finish` ends it.
+/// Programs that are among `K` run as machine code of their own, others are interpreted; nothing else depends on `K`.
+pub struct Engine<K: Known = Nothing> {
+    plan: Plan<K>,
     machine: Machine,
     space: Space,
-    turns: u32,
+    turns: u64,
     tallies: [Tallies; 8],
     left: [u64; 8],
 }
 
-impl Model for Engine {
+impl<K: Known> Model for Engine<K> {
     ghost use Rattle.dp_engine.specs.Engines.{EngineState, engine_of, IsEngine};
 
     ghost Value = { EngineState };
@@ -84,16 +89,16 @@ impl Model for Engine {
     ghost invariant = { λ e. IsEngine e.plan e.machine e.space e.turns e.tallies e.left };
 }
 
-impl Engine {
-    /// An engine in a region of which nothing is lent, with as many tables as the environment has, and with a checked
-    /// program for each port and then for each ring, of this environment and its entry. No allocation call is refused at
-    /// first. It is refused exactly where the region has fewer bytes than `need` tells, and then all comes back.
+impl<K: Known> Engine<K> {
+    /// Opens an engine in a region of which nothing is lent, with as many tables as the environment has, and a checked program for each port and then
+    /// for each ring, of this environment and its own entry. No allocation call is refused at first. It fails exactly where the region has fewer
+    /// bytes than `need` returns, and then everything comes back.
     pub fn open(
         region: Region,
         env: &Env,
         tables: Vec<Lpm>,
         nodes: Vec<Checked>,
-    ) -> Result<Engine, OpenFault>
+    ) -> Result<Engine<K>, OpenFault>
         requires lent { region.lent ≡ [] }
         requires tables { length tables.items ≡ env.now.tables }
         requires nodes { AreNodes env.now nodes.items }
@@ -119,7 +124,7 @@ impl Engine {
         let plan = Plan::new(env, tables, nodes);
         let mbufs = Mbufs::over(pools);
         mbufs.is_well_formed();
-        let machine = Machine::over(mbufs, Queues::over(rings), Queues::over(lists));
+        let machine = Machine::over(mbufs, Queues::over(rings), Lists::over(lists));
         Ok(Engine {
             plan,
             machine,
@@ -130,7 +135,7 @@ impl Engine {
         })
     }
 
-    /// Replaces the pattern: the numbers of the allocation calls that are refused, ascending, from 1. Before the first turn.
+    /// Replaces the pattern: the numbers of the allocation calls to refuse, ascending, from 1. To be called before the first turn.
     pub fn refuse(&mut self, pattern: Vec<u64>)
         requires ascending { IsAscending 0 pattern.items }
         requires first { self.old.turns ≡ 0 }
@@ -139,14 +144,14 @@ impl Engine {
         self.plan.refuse(pattern);
     }
 
-    /// How many turns there were.
-    pub fn turns(&self) -> u32
+    /// The number of turns so far.
+    pub fn turns(&self) -> u64
         ensures { result ≡ self.now.turns }
     {
         self.turns
     }
 
-    /// How many packets wait in the transmit list of a port which exists.
+    /// The number of packets in the transmit list of a port. The port must exist.
     pub fn queued(&self, port: u8) -> usize
         requires exists { port < length self.now.setting.env.ports }
         ensures { (packets : List Packet) × (slice_get self.now.world.outboxes port ≡ Some packets) × (result ≡ length packets) }
@@ -154,13 +159,14 @@ impl Engine {
         self.machine.queued(port) as usize
     }
 
-    /// Ends it: what is left in rings and transmit lists is given up. The report, in which all buffers are free, and the
-    /// region, of which nothing is lent.
+    /// Ends the engine: frees what is left in rings and transmit lists. Returns the report, in which all buffers are free, and the region, of which
+    /// nothing is lent: its heap is one free element.
     pub fn finish(self) -> (Report, Region)
         ensures report { IsReport (flushed self) result.0 }
         ensures whole { IsWhole self.setting.env result.0 }
         ensures region { (result.1.home ≡ self.home) × (length result.1.bytes ≡ self.size) }
         ensures lent { result.1.lent ≡ [] }
+        ensures heap { IsOneFree result.1.bytes }
     {
         let mut engine = self;
         engine.flush();
@@ -168,11 +174,12 @@ impl Engine {
         (report, engine.close())
     }
 
-    // The region again, where no packet is left.
+    // Takes the engine apart, where no packet is left.
     fn close(self) -> Region
         requires none { IsFlushed self }
         ensures region { (result.home ≡ self.home) × (length result.bytes ≡ self.size) }
         ensures lent { result.lent ≡ [] }
+        ensures heap { IsOneFree result.bytes }
     {
         let Engine {
             plan: _,

@@ -1,4 +1,4 @@
-//! Registers, rings and transmit lists, over mbufs.
+//! The machine: registers, rings and transmit lists over mbufs.
 ghost use Rattle.std.specs.Prelude.{◌≡◌, ℕ, ◌+◌, ◌^◌, ◌<◌, ◌≤◌, length, slice_index, List, [], ◌∷◌, ◌++◌, nat_lt, IsSome, MatchOption, ◌↔◌, false};
 ghost use Rattle.dp_model.specs.Packets.{Packet, first_len, at_front, less_before, needed, available};
 ghost use Rattle.dp_model.specs.Arithmetic.{value};
@@ -21,10 +21,12 @@ ghost use Rattle.dp_pcap.specs.declared.format.TheConstants.{NANOS_A_SECOND};
 ghost use Rattle.dp_pcap.specs.Text.{AppendsPart, record_text, failed_pushes};
 ghost use Rattle.dp_engine.specs.Drains.{record_of, AtPacket, Written, WrotePart, whole_of, IsCalledFor};
 
+mod batches;
 mod calls;
 mod looks;
 mod register;
 
+use crate::lists::Lists;
 use crate::put::put_packet;
 use crate::queues::Queues;
 use calls::{handle_in, is_held_in};
@@ -34,15 +36,15 @@ use dp_pcap::{Calls, PcapError, Sink, Time, Unit};
 use register::{Register, no_packets, one_packet};
 use std::marker::Model;
 
-// The most backward jumps of a node run that are taken.
+// How many backward jumps a node run may take.
 const JUMP_BUDGET: u16 = 256;
 
-pub(crate) struct Machine {
+pub struct Machine {
     mbufs: Mbufs,
     registers: [Register; 8],
     numbers: [u64; 8],
     rings: Queues,
-    outboxes: Queues,
+    outboxes: Lists,
     calls: u64,
     steps: Calls,
     cuts: u64,
@@ -60,7 +62,7 @@ impl Model for Machine {
     ghost invariant = { λ m. StandOnce m.mbufs.store.slots m.registers (lists_of m.rings m.outboxes) };
 }
 
-// Whether the call is one of these.
+// Whether the call's number is in the pattern.
 fn is_listed(calls: &[u64], call: u64) -> bool
     ensures { result ≡ list_any (nat_eq call) calls.now }
 {
@@ -68,8 +70,8 @@ fn is_listed(calls: &[u64], call: u64) -> bool
 }
 
 impl Machine {
-    // A machine over mbufs of which none is a packet, with rings and transmit lists that are empty.
-    pub(crate) fn over(mbufs: Mbufs, rings: Queues, outboxes: Queues) -> Machine
+    // A machine over mbufs without packets, with empty rings and transmit lists.
+    pub(crate) fn over(mbufs: Mbufs, rings: Queues, outboxes: Lists) -> Machine
         requires none { (h : ℕ) → in_slot (slice_get mbufs.store.slots h) ≡ 0 }
         requires rings { AllByRecursion (λ (r : RingView). r.entries ≡ []) rings }
         requires outboxes { AllByRecursion (λ (r : RingView). r.entries ≡ []) outboxes }
@@ -89,14 +91,14 @@ impl Machine {
         }
     }
 
-    // How many allocation calls there were.
+    // The number of allocation calls.
     pub(crate) fn calls(&self) -> u64
         ensures { result ≡ self.now.state.world.calls }
     {
         self.calls
     }
 
-    // How many buffers of a pool are free, between two runs.
+    // The number of free buffers of a pool, between two node runs.
     pub(crate) fn free_buffers(&self, pool: u32) -> u32
         requires idle { AllByRecursion (λ o. o ≡ None) self.now.state.packets }
         requires pool { pool < length self.now.pools }
@@ -105,7 +107,8 @@ impl Machine {
         self.mbufs.available(pool)
     }
 
-    // Receives bytes into the first register, with the port's number beside it; or the call is refused.
+    // Receives bytes into the first packet register, and puts the port's number into the first number register. Answers false where the call is
+    // refused.
     #[inline(always)]
     pub(crate) fn receive(
         &mut self,
@@ -169,7 +172,7 @@ impl Machine {
         self.registers[usize::from(p.number())] = Register::empty();
     }
 
-    // To the end of a port's transmit list, or not where that is full.
+    // Moves a packet to the end of a port's transmit list. Answers false where that is full.
     pub(crate) fn send(&mut self, p: PacketRegister, port: u8) -> bool
         requires holds { (k : Packet) × Holds self.old.state p k }
         requires there { port < length self.old.frames.outboxes }
@@ -188,7 +191,7 @@ impl Machine {
         true
     }
 
-    // To the end of a ring, or not where that is full.
+    // Moves a packet to the end of a ring. Answers false where that is full.
     pub(crate) fn enqueue(&mut self, p: PacketRegister, ring: u8) -> bool
         requires holds { (k : Packet) × Holds self.old.state p k }
         requires there { ring < length self.old.frames.rings }
@@ -230,7 +233,7 @@ impl Machine {
         }
     }
 
-    // The offset that a register's number and a constant make.
+    // The sum of a register's number and a constant offset.
     #[inline(always)]
     pub(crate) fn offset_at(&self, index: NumberRegister, offset: u16) -> u64
         requires { slice_index self.now.state.numbers index + offset < 2 ^ 64 }
@@ -245,14 +248,14 @@ impl Machine {
         self.steps = self.steps.one_more();
     }
 
-    // How many node runs were cut.
+    // The number of node runs that were cut.
     pub(crate) fn cuts(&self) -> u64
         ensures { result ≡ self.now.state.world.cuts }
     {
         self.cuts
     }
 
-    // Whether the node run may take a backward jump. Then it is counted.
+    // Counts a backward jump, if the node run may take one more.
     pub(crate) fn jump(&mut self) -> bool
         ensures taken { IsTrue result → (self.old.state.jumps < jump_budget)
             × (self.new ≡ moved (with_jumps (self.old.state.jumps + 1) self.old.state) self.old) }
@@ -266,7 +269,7 @@ impl Machine {
         }
     }
 
-    // Gives up what a register holds, if it holds a packet.
+    // Frees the packet of a register, if it holds one.
     fn give_up(&mut self, p: PacketRegister)
         ensures { self.new ≡ moved (without_packet p self.old.state) self.old }
     {
@@ -282,7 +285,7 @@ impl Machine {
         self.cuts += 1;
     }
 
-    // Cuts the node run: what its registers hold is given up, p0 first, and it is counted.
+    // Cuts the node run: frees what its registers hold, p0 first, and counts the cut.
     pub(crate) fn cut(&mut self)
         requires few { self.old.state.world.cuts + 1 < 2 ^ 64 }
         requires eight { length self.old.state.packets ≡ 8 }
@@ -299,8 +302,8 @@ impl Machine {
         self.give_up(PacketRegister::new(7));
     }
 
-    // Takes the front packet of the first ring that has one into the first register, with the ring's number beside it; answers
-    // that ring, if there is one.
+    // Moves the front packet of the first ring that has one into the first packet register, and puts the ring's number into the first number
+    // register. Returns that ring, if there is one.
     pub(crate) fn take_waiting(&mut self) -> Option<u8>
         requires idle { AllByRecursion (λ o. o ≡ None) self.old.state.packets }
         ensures { MatchOption (first_waiting self.old.state.world.rings)
@@ -319,7 +322,7 @@ impl Machine {
         }
     }
 
-    // Gives up the first packet of a transmit list that has one.
+    // Frees the first packet of a transmit list, which must have one.
     #[inline(always)]
     pub(crate) fn drop_sent(&mut self, port: u8)
         requires there { port < length self.old.frames.outboxes }
@@ -333,7 +336,7 @@ impl Machine {
         }
     }
 
-    // Gives up the first packet of a ring that has one.
+    // Frees the first packet of a ring, which must have one.
     pub(crate) fn drop_left(&mut self, ring: u8)
         requires there { ring < length self.old.frames.rings }
         requires some { (packets : List Packet) × (k : Packet) × (slice_get self.old.state.world.rings ring ≡ Some (k ∷ packets)) }
@@ -346,7 +349,7 @@ impl Machine {
         }
     }
 
-    // How many packets wait in a transmit list.
+    // The number of packets in a transmit list.
     pub(crate) fn queued(&self, port: u8) -> u32
         requires there { port < length self.now.frames.outboxes }
         ensures list { (packets : List Packet) × (slice_get self.now.state.world.outboxes port ≡ Some packets) × (result ≡ length packets) }
@@ -355,7 +358,7 @@ impl Machine {
         self.outboxes.count(port)
     }
 
-    // How many packets wait in a ring.
+    // The number of packets in a ring.
     pub(crate) fn waiting(&self, ring: u8) -> u32
         requires there { ring < length self.now.frames.rings }
         ensures list { (packets : List Packet) × (slice_get self.now.state.world.rings ring ≡ Some packets) × (result ≡ length packets) }
@@ -364,7 +367,7 @@ impl Machine {
         self.rings.count(ring)
     }
 
-    // Gives up all packets of a transmit list.
+    // Frees all packets of a transmit list.
     #[inline(always)]
     pub(crate) fn clear_sent(&mut self, port: u8)
         requires there { port < length self.old.frames.outboxes }
@@ -377,7 +380,7 @@ impl Machine {
         }
     }
 
-    // Gives up all packets of a ring.
+    // Frees all packets of a ring.
     pub(crate) fn clear_left(&mut self, ring: u8)
         requires there { ring < length self.old.frames.rings }
         ensures { self.new ≡ moved (with_ring ring [] self.old.state) self.old }
@@ -389,7 +392,7 @@ impl Machine {
         }
     }
 
-    // Writes the record of a packet that waits in a transmit list.
+    // Writes the record of a packet in a transmit list.
     fn put<W: Sink>(
         &self,
         port: u8,
@@ -417,7 +420,7 @@ impl Machine {
         }
     }
 
-    // Writes the records of a transmit list. How many were written whole, and whether all were.
+    // Writes the records of a transmit list. Returns how many were written whole, and whether all were.
     pub(crate) fn put_all<W: Sink>(
         &self,
         port: u8,
@@ -449,8 +452,8 @@ impl Machine {
         Ok(sent)
     }
 
-    // The mbufs, the rings and the transmit lists again, where no packet is left.
-    pub(crate) fn into_parts(self) -> (Mbufs, Queues, Queues)
+    // Takes the machine apart, where no packet is left.
+    pub(crate) fn into_parts(self) -> (Mbufs, Queues, Lists)
         requires idle { AllByRecursion (λ o. o ≡ None) self.state.packets }
         requires rings { AllByRecursion (λ packets. packets ≡ []) self.state.world.rings }
         requires outboxes { AllByRecursion (λ packets. packets ≡ []) self.state.world.outboxes }

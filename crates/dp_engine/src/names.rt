@@ -1,4 +1,4 @@
-//! Names of an engine's zones.
+//! The names of an engine's zones.
 
 ghost use Rattle.std.specs.Prelude.{◌≡◌, ◌<◌, codes};
 ghost use Rattle.dp_mbuf.specs.declared.limits.TheConstants.{MAX_POOLS};
@@ -11,7 +11,7 @@ pub(crate) enum Kind {
     Ring,
 }
 
-// The name of a port's transmit list.
+// The name of the zone of a port's transmit list.
 fn port_name(k: usize) -> &'static str
     requires { k < 8 }
     ensures { result.now ≡ numbered (codes "port") k }
@@ -28,7 +28,7 @@ fn port_name(k: usize) -> &'static str
     }
 }
 
-// The name of a ring that is no port's.
+// The name of the zone of a ring.
 fn loose_name(k: usize) -> &'static str
     requires { k < 8 }
     ensures { result.now ≡ numbered (codes "ring") k }
@@ -56,7 +56,7 @@ pub(crate) fn ring_name(kind: Kind, k: usize) -> &'static str
     }
 }
 
-/// The name of the `k`-th pool, with which those of its zones begin.
+/// The name of the `k`-th pool; the names of its zones begin with it.
 pub(crate) fn pool_name(k: usize) -> &'static str
     requires { k < MAX_POOLS }
     ensures { result.now ≡ pool_name k }

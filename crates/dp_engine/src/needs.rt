@@ -1,4 +1,4 @@
-//! How many bytes an engine needs.
+//! Computes how many bytes an engine needs.
 
 ghost use Rattle.std.specs.Prelude.{◌≡◌, ◌+◌, ◌*◌, ◌<◌, ◌≤◌, true, length, map};
 ghost use Rattle.std.specs.List.{AllByRecursion};
@@ -16,7 +16,7 @@ use dp_mbuf::HEADER_SIZE;
 use dp_model::{Env, PoolSpec, PortSpec, RingSpec};
 use dp_region::CACHE_LINE;
 
-// What a zone of so many bytes takes.
+// The bytes that a zone of this length takes.
 fn zone_bytes(len: u32) -> u64
     requires { len ≤ largest_region }
     ensures { result ≡ zone_bytes len }
@@ -24,7 +24,7 @@ fn zone_bytes(len: u32) -> u64
     u64::from(HEADER_LEN) + u64::from(len).next_multiple_of(u64::from(CACHE_LINE))
 }
 
-/// The least power of two above a number of buffers.
+/// The least power of two above `count`.
 #[tactic(auto, using(crate::proofs::Powers::power_is))]
 pub(crate) fn power_above(count: u32) -> u32
     requires { count ≤ most_buffers }
@@ -34,7 +34,7 @@ pub(crate) fn power_above(count: u32) -> u32
     (count + 1).next_power_of_two()
 }
 
-/// How many bytes the objects of a pool take in their zone.
+/// The length of the zone of a pool's objects.
 pub(crate) fn objects_len(spec: PoolSpec) -> u32
     requires { (spec.count ≤ most_buffers) × (spec.room ≤ largest_room) }
     ensures value { result ≡ objects_len spec }
@@ -43,7 +43,7 @@ pub(crate) fn objects_len(spec: PoolSpec) -> u32
     spec.count * (spec.room + HEADER_SIZE).next_multiple_of(CACHE_LINE)
 }
 
-// What a pool takes.
+// The bytes that a pool takes.
 fn pool_bytes(spec: PoolSpec) -> u64
     requires { (spec.count ≤ most_buffers) × (spec.room ≤ largest_room) }
     ensures value { result ≡ pool_bytes spec }
@@ -52,7 +52,7 @@ fn pool_bytes(spec: PoolSpec) -> u64
     zone_bytes(objects_len(spec)) + zone_bytes(4 * power_above(spec.count))
 }
 
-// What pools take.
+// The bytes that pools take.
 fn pools_bytes(specs: &[PoolSpec]) -> u64
     requires few { length specs.now ≤ MAX_POOLS }
     requires fit { AllByRecursion (λ s. pool_fits s ≡ true) specs.now }
@@ -66,7 +66,7 @@ fn pools_bytes(specs: &[PoolSpec]) -> u64
     sum
 }
 
-// What rings of so many slots take.
+// The bytes that rings with these numbers of slots take.
 fn rings_bytes(counts: &[u32]) -> u64
     requires few { length counts.now ≤ 8 }
     requires fit { AllByRecursion IsCount counts.now }
@@ -80,7 +80,7 @@ fn rings_bytes(counts: &[u32]) -> u64
     sum
 }
 
-/// How many slots the rings have.
+/// The number of slots of each ring.
 pub(crate) fn ring_counts(rings: &[RingSpec]) -> ArrayVec<u32, 8>
     requires { length rings.now ≤ 8 }
     ensures { result.items ≡ map (λ r. r.count) rings.now }
@@ -92,7 +92,7 @@ pub(crate) fn ring_counts(rings: &[RingSpec]) -> ArrayVec<u32, 8>
     counts
 }
 
-/// How many slots the transmit lists of the ports have.
+/// The number of slots of each port's transmit list.
 pub(crate) fn list_counts(ports: &[PortSpec]) -> ArrayVec<u32, 8>
     requires { length ports.now ≤ 8 }
     ensures { result.items ≡ map (λ p. p.queue) ports.now }
@@ -104,9 +104,8 @@ pub(crate) fn list_counts(ports: &[PortSpec]) -> ArrayVec<u32, 8>
     counts
 }
 
-/// How many bytes an engine of this environment needs: for each pool a zone of its objects and one of its queue, and for
-/// each ring and each port's transmit list one of 4 bytes a slot. A zone takes 64 bytes beside its length, which is
-/// rounded up to 64.
+/// The bytes that an engine of this environment needs: for each pool a zone of its objects and one of its queue, and for each ring and each port's
+/// transmit list one of 4 bytes for each slot. A zone takes its length, rounded up to 64, and 64 bytes more.
 #[tactic(auto, using(crate::specs::Laws::known))]
 pub fn need(env: &Env) -> u64
     ensures { result ≡ bytes_needed env.now }

@@ -1,5 +1,5 @@
-//! What node runs rest on: an environment, its tables, a checked program for each port and each ring, and a pattern of refusals.
-ghost use Rattle.std.specs.Prelude.{◌≡◌, ◌+◌, ◌<◌, ◌≤◌, [], drop, length, map, slice_get, take, Some};
+//! What node runs need and never change: an environment, its tables, a checked program for each port and each ring, and the pattern of refused calls.
+ghost use Rattle.std.specs.Prelude.{◌≡◌, ◌+◌, ◌<◌, ◌≤◌, [], drop, length, slice_get, take, Some};
 ghost use Rattle.std.specs.List.{AllByRecursion};
 ghost use Rattle.dp_check.specs.Faults.{IsChecked};
 ghost use Rattle.dp_lang.specs.Programs.{IsProgram};
@@ -8,62 +8,63 @@ ghost use Rattle.dp_model.specs.Meaning.{TablesFit};
 ghost use Rattle.dp_engine.specs.Steps.{routes_of};
 ghost use Rattle.dp_engine.specs.Schemes.{scheme_of, programs_of, AreNodes};
 
+use crate::known::Known;
+use crate::node::Node;
 use arrayvec::ArrayVec;
 use dp_check::Checked;
 use dp_lpm::{Lpm, Tables};
-use dp_model::{Env, Instr, pipelines_keep_safe};
+use dp_model::{Env, pipelines_keep_safe};
 use std::alloc::Global;
 use std::marker::Model;
 
 // The programs of the ports or of the rings.
-type Programs = ArrayVec<Vec<Instr>, 8, Global>;
+type Programs<K> = ArrayVec<Node<K>, 8, Global>;
 
-/// What node runs rest on.
+/// What node runs need and never change.
 #[derive(Drop)]
-pub(crate) struct Plan {
+pub(crate) struct Plan<K: Known> {
     env: Env,
     tables: Tables,
-    ports: Programs,
-    rings: Programs,
+    ports: Programs<K>,
+    rings: Programs<K>,
     pattern: Vec<u64>,
 }
 
-impl Model for Plan {
-    ghost use Rattle.std.specs.Prelude.{map};
+impl<K: Known> Model for Plan<K> {
     ghost use Rattle.dp_engine.specs.Schemes.{Scheme, scheme_in, IsPlan};
 
     ghost Value = { Scheme };
 
-    ghost view = { λ p. scheme_in p.env p.tables (map (λ v. v.items) p.ports.items) (map (λ v. v.items) p.rings.items) p.pattern.items };
+    ghost view = { λ p. scheme_in p.env p.tables p.ports.items p.rings.items p.pattern.items };
 
-    ghost invariant = { λ p. IsPlan (scheme_in p.env p.tables (map (λ v. v.items) p.ports.items) (map (λ v. v.items) p.rings.items) p.pattern.items) };
+    ghost invariant = { λ p. IsPlan (scheme_in p.env p.tables p.ports.items p.rings.items p.pattern.items) };
 }
 
-// The programs of the ports, and those of the rings, which come behind them.
-fn parted(nodes: Vec<Checked>, ports: usize) -> (Programs, Programs)
+// Splits the programs into those of the ports, which come first, and those of the rings.
+fn parted<K: Known>(nodes: Vec<Checked>, ports: usize) -> (Programs<K>, Programs<K>)
     requires ports { ports ≤ 8 }
     requires rings { length nodes.items ≤ ports + 8 }
-    ensures ports { map (λ v. v.items) result.0.items ≡ take ports (programs_of nodes.items) }
-    ensures rings { map (λ v. v.items) result.1.items ≡ drop ports (programs_of nodes.items) }
+    ensures ports { result.0.items ≡ take ports (programs_of nodes.items) }
+    ensures rings { result.1.items ≡ drop ports (programs_of nodes.items) }
     ensures checked { AllByRecursion IsChecked nodes.items }
 {
     let alloc = *nodes.allocator();
     let mut of_ports = ArrayVec::new_in(alloc);
     let mut of_rings = ArrayVec::new_in(alloc);
     for node in nodes {
-        let instrs = node.into_program().into_instrs();
+        let program = Node::new(node.into_program().into_instrs());
         if of_ports.len() < ports {
-            of_ports.push(instrs);
+            of_ports.push(program);
         } else {
-            of_rings.push(instrs);
+            of_rings.push(program);
         }
     }
     (of_ports, of_rings)
 }
 
-impl Plan {
+impl<K: Known> Plan<K> {
     // A plan in which no call is refused.
-    pub(crate) fn new(env: &Env, tables: Vec<Lpm>, nodes: Vec<Checked>) -> Plan
+    pub(crate) fn new(env: &Env, tables: Vec<Lpm>, nodes: Vec<Checked>) -> Plan<K>
         requires tables { length tables.items ≡ env.now.tables }
         requires nodes { AreNodes env.now nodes.items }
         ensures plan { result ≡ scheme_of env.now tables.items nodes.items [] }
@@ -82,14 +83,14 @@ impl Plan {
         }
     }
 
-    // These calls are refused from now on.
+    // Sets the pattern of calls to refuse.
     pub(crate) fn refuse(&mut self, pattern: Vec<u64>)
         ensures { self.new ≡ record self.old { setting = record self.old.setting { pattern = pattern.items } } }
     {
         self.pattern = pattern;
     }
 
-    // The environment. What is true of every plan is said here.
+    // The environment. Its contract says what holds of every plan.
     pub(crate) fn env(&self) -> &Env
         ensures same { result.now ≡ self.now.setting.env }
         ensures pipeline { IsPipeline self.now.setting self.now.nodes }
@@ -107,7 +108,7 @@ impl Plan {
         &self.tables
     }
 
-    // The numbers of the calls that are refused.
+    // The pattern: the numbers of the calls to refuse.
     pub(crate) fn pattern(&self) -> &[u64]
         ensures { result.now ≡ self.now.setting.pattern }
     {
@@ -115,7 +116,7 @@ impl Plan {
     }
 
     // The program of a port.
-    pub(crate) fn port_program(&self, port: u8) -> &[Instr]
+    pub(crate) fn port_program(&self, port: u8) -> &Node<K>
         requires { port < length self.now.setting.env.ports }
         ensures same { slice_get self.now.nodes.ports port ≡ Some result.now }
         ensures program { IsProgram result.now }
@@ -124,7 +125,7 @@ impl Plan {
     }
 
     // The program of a ring.
-    pub(crate) fn ring_program(&self, ring: u8) -> &[Instr]
+    pub(crate) fn ring_program(&self, ring: u8) -> &Node<K>
         requires { ring < length self.now.setting.env.rings }
         ensures same { slice_get self.now.nodes.rings ring ≡ Some result.now }
         ensures program { IsProgram result.now }

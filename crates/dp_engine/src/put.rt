@@ -8,10 +8,10 @@ use dp_mbuf::Mbufs;
 use dp_model::Packet as Handle;
 use dp_pcap::{PcapError, Sink, Time, Unit, put_bytes, put_head, put_record};
 
-// What a writer answers.
+// What a writer returns.
 type Put = Result<(), PcapError>;
 
-// Segment by segment.
+// Writes a packet segment by segment.
 #[cold]
 #[inline(never)]
 fn put_segments<W: Sink>(mbufs: &Mbufs, packet: Handle, time: Time, unit: Unit, w: &mut W) -> Put
@@ -26,7 +26,7 @@ fn put_segments<W: Sink>(mbufs: &Mbufs, packet: Handle, time: Time, unit: Unit, 
     Ok(())
 }
 
-// Mostly a packet has one segment, which is its record's bytes.
+// Writes the record of a packet. Most packets have one segment, whose bytes are the record's.
 pub(crate) fn put_packet<W: Sink>(
     mbufs: &Mbufs,
     packet: Handle,

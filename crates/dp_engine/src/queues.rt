@@ -8,12 +8,12 @@ ghost use Rattle.dp_engine.specs.Queues.{rings_in, RingsFirst, ring_at, ring_of,
 use dp_ring::Ring;
 use std::marker::Model;
 
-/// At most eight rings of packet handles, known by their numbers from 0 on.
+/// At most eight rings of packet handles, by number from 0. It keeps track of the first one that has an entry.
 pub struct Queues {
     rings: [Option<Ring>; 8],
-    // How many rings there are.
+    // The number of rings.
     count: u8,
-    // The least number of a ring that has an entry, or how many rings there are where none has one.
+    // The least number of a ring that has an entry; the number of rings where none has.
     first: u8,
 }
 
@@ -32,14 +32,14 @@ impl Model for Queues {
 }
 
 // The first slot without a ring.
-fn first_empty(slots: &[Option<Ring>]) -> Option<usize>
+pub(crate) fn first_empty(slots: &[Option<Ring>]) -> Option<usize>
     ensures { result ≡ position is_none slots.now }
 {
     slots.iter().position(|slot| slot.is_none())
 }
 
 // The ring of this number.
-fn ring_in(rings: &[Option<Ring>; 8], k: u8) -> &Ring
+pub(crate) fn ring_in(rings: &[Option<Ring>; 8], k: u8) -> &Ring
     requires { k < length (rings_in rings.now) }
     ensures { result.now ≡ ring_at (rings_in rings.now) k }
 {
@@ -49,8 +49,8 @@ fn ring_in(rings: &[Option<Ring>; 8], k: u8) -> &Ring
     }
 }
 
-// Puts an entry into a slot's ring.
-fn push_in(slot: &mut Option<Ring>, entry: u32) -> bool
+// Appends an entry to a slot's ring.
+pub(crate) fn push_in(slot: &mut Option<Ring>, entry: u32) -> bool
     requires { IsSome slot.old }
     ensures taken { result ≡ nat_lt 0 (room_in (ring_of slot.old)) }
     ensures ring { slot.new ≡ Some (if nat_lt 0 (room_in (ring_of slot.old)) then with_more (ring_of slot.old) (entry ∷ []) else ring_of slot.old) }
@@ -61,8 +61,8 @@ fn push_in(slot: &mut Option<Ring>, entry: u32) -> bool
     }
 }
 
-// Takes the first entry out of a slot's ring.
-fn pop_in(slot: &mut Option<Ring>) -> Option<u32>
+// Takes the first entry of a slot's ring out.
+pub(crate) fn pop_in(slot: &mut Option<Ring>) -> Option<u32>
     requires { IsSome slot.old }
     ensures first { result ≡ slice_get (ring_of slot.old).entries 0 }
     ensures rest { slot.new ≡ Some (without_first (ring_of slot.old) 1) }
@@ -73,7 +73,7 @@ fn pop_in(slot: &mut Option<Ring>) -> Option<u32>
     }
 }
 
-// The least number of a ring that has an entry, or how many rings there are where none has one. None below `from` has one.
+// The least number of a ring that has an entry; the number of rings where none has. No ring below `from` has one.
 fn first_from(rings: &[Option<Ring>; 8], from: u8, count: u8) -> u8
     requires count { count ≡ length (rings_in rings.now) }
     requires from { from ≤ position_or_len is_waiting (rings_in rings.now) }
@@ -88,7 +88,7 @@ fn first_from(rings: &[Option<Ring>; 8], from: u8, count: u8) -> u8
 }
 
 impl Queues {
-    /// These rings, by their slots.
+    /// Takes these rings over, by slot.
     pub fn over(rings: [Option<Ring>; 8]) -> Queues
         requires { RingsFirst rings }
         ensures { result ≡ rings_in rings }
@@ -102,7 +102,7 @@ impl Queues {
         }
     }
 
-    /// How many rings there are.
+    /// The number of rings.
     pub fn len(&self) -> usize
         ensures value { result ≡ length self.now }
         ensures bound { result ≤ 8 }
@@ -110,7 +110,7 @@ impl Queues {
         usize::from(self.count)
     }
 
-    /// How many entries a ring has.
+    /// The number of entries of a ring.
     pub fn count(&self, k: u8) -> u32
         requires { k < length self.now }
         ensures value { result ≡ length (ring_at self.now k).entries }
@@ -119,7 +119,7 @@ impl Queues {
         ring_in(&self.rings, k).count()
     }
 
-    /// The i-th entry of a ring from the first, if it has so many.
+    /// The `i`-th entry of a ring from the front, if there is one.
     pub fn peek(&self, k: u8, i: u32) -> Option<u32>
         requires { k < length self.now }
         ensures { result ≡ slice_get (ring_at self.now k).entries i }
@@ -127,7 +127,7 @@ impl Queues {
         ring_in(&self.rings, k).peek(i)
     }
 
-    /// Puts an entry behind the others of a ring, or answers false where that is full.
+    /// Appends an entry to a ring. Answers false where that is full.
     pub fn push(&mut self, k: u8, entry: u32) -> bool
         requires { k < length self.old }
         ensures taken { result ≡ nat_lt 0 (room_in (ring_at self.old k)) }
@@ -141,7 +141,7 @@ impl Queues {
         is_taken
     }
 
-    /// Takes the first entry of a ring out, if it has one.
+    /// Takes the first entry of a ring out, if there is one.
     pub fn pop(&mut self, k: u8) -> Option<u32>
         requires { k < length self.old }
         ensures first { result ≡ slice_get (ring_at self.old k).entries 0 }
@@ -168,7 +168,7 @@ impl Queues {
         }
     }
 
-    /// The rings again, each at the slot of its number.
+    /// Hands the rings back, each in the slot of its number.
     pub fn into_rings(self) -> [Option<Ring>; 8]
         ensures same { rings_in result ≡ self }
         ensures first { RingsFirst result }

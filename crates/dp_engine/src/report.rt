@@ -1,4 +1,4 @@
-//! What an engine tells of its run.
+//! The report of an engine's run.
 use arrayvec::ArrayVec;
 
 /// How far an input was read.
@@ -9,18 +9,18 @@ pub enum InputState {
     Open,
     /// To its end.
     Whole,
-    /// To a record that is cut, which begins at that byte.
+    /// To a record that is cut short, which begins at this byte.
     Cut(u64),
 }
 
-/// The numbers of a port, in records.
+/// The counts of a port, in records.
 #[derive(Clone, Copy, Debug, Default, PartialEq, Eq)]
 pub struct PortReport {
     /// How many were received.
     pub received: u64,
-    /// How many were dropped for want of buffers.
+    /// How many were dropped because the pattern or the pool refused their buffers.
     pub nobuf: u64,
-    /// How many were dropped as they need more segments than the port takes.
+    /// How many were dropped because they need more segments than the port takes.
     pub oversize: u64,
     /// How many were written whole.
     pub sent: u64,
@@ -28,7 +28,7 @@ pub struct PortReport {
     pub state: InputState,
 }
 
-/// The numbers of a pool, in buffers.
+/// The counts of a pool, in buffers.
 #[derive(Clone, Copy, Debug, Default, PartialEq, Eq)]
 pub struct PoolReport {
     /// How many are free.
@@ -37,7 +37,7 @@ pub struct PoolReport {
     pub count: u64,
 }
 
-/// The numbers of an engine.
+/// The counts of an engine.
 #[derive(Drop)]
 pub struct Report {
     /// One for each port.
@@ -46,15 +46,15 @@ pub struct Report {
     pub rings: ArrayVec<u64, 8>,
     /// One for each pool.
     pub pools: ArrayVec<PoolReport, 8>,
-    /// How many allocation calls there were: one for each record that is not oversize, each `alloc` and each `clone`.
+    /// The number of allocation calls: one for each record that is not oversize, each `alloc` and each `clone`.
     pub calls: u64,
     /// How many of them the pattern refused.
     pub refused: u64,
-    /// How many node runs were cut: they took a backward jump more than 256.
+    /// How many node runs were cut at their 257th backward jump.
     pub cut: u64,
 }
 
-/// What an engine counts of a port, in records.
+/// The counts of a port, in records.
 #[derive(Clone, Copy)]
 pub(crate) struct Tallies {
     pub received: u64,

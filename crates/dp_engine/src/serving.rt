@@ -1,4 +1,4 @@
-//! What a turn does: a record comes to a port, and then packets that wait in rings are served.
+//! Runs the parts of a turn: a record arrives at a port, and then packets in rings are served.
 ghost use Rattle.std.specs.Prelude.{◌≡◌, ℕ, ◌+◌, ◌*◌, ◌^◌, ◌<◌, ◌≤◌, Bool, List, length, IfSome};
 ghost use Rattle.dp_pcap.specs.declared.format.TheConstants.{LARGEST_RECORD};
 ghost use Rattle.dp_model.specs.Limits.{least_port_room, most_ring_runs};
@@ -8,38 +8,39 @@ ghost use Rattle.dp_model.specs.Runs.{Serves, Took, runs_of};
 ghost use Rattle.dp_model.specs.Safety.{IsPipeline, KeepsSafe};
 ghost use Rattle.dp_engine.specs.Outcomes.{outcome_of, most_steps};
 ghost use Rattle.dp_engine.specs.Tallies.{packet_count};
-ghost use Rattle.dp_engine.specs.Serving.{ArrivesAt, ServesOne, Rests};
+ghost use Rattle.dp_engine.specs.Serving.{ArrivesAt, ServesOne, Rests, WatchesArrival, WatchesOne, WatchesServing};
 
 use crate::engine::Outcome;
+use crate::known::Known;
 use crate::machine::Machine;
 use crate::plan::Plan;
-use crate::run::{NodeRun, run};
+use crate::run::NodeRun;
 use crate::view::View;
 use crate::watch::Watch;
 use dp_model::{DEFAULT_HEADROOM, Entry, PoolSpec};
 
-// How many segments bytes need in a pool: parts of its data room behind the headroom, and one where there are no bytes.
+// How many segments the bytes need in a pool: data rooms without their headroom, and one where there are no bytes.
 fn needed(pools: &[PoolSpec], pool: u32, len: usize) -> usize
     requires room { least_port_room ≤ room_at pools.now pool }
     requires len { len ≤ LARGEST_RECORD }
     ensures { result ≡ segments_needed pools.now pool len }
 {
     let full = pools[pool as usize].room as usize - usize::from(DEFAULT_HEADROOM);
-    // It divides only where there is more than one part.
+    // It divides only where one segment is not enough.
     if len <= full {
         return 1;
     }
     1usize.max((len + (full - 1)) / full)
 }
 
-// The most node runs of a turn on packets that wait in rings.
+// The most node runs of a turn on packets in rings.
 const MOST_RING_RUNS: u8 = 32;
 
 const NO_RUN: NodeRun = NodeRun { steps: 0, cuts: 0 };
 
-// What becomes of a record at a port, and the node run on it if it is received.
-pub(crate) fn arrive<W: Watch>(
-    plan: &Plan,
+// Receives or drops a record at a port, and runs the port's node on it if it is received.
+pub(crate) fn arrive<K: Known, W: Watch>(
+    plan: &Plan<K>,
     m: &mut Machine,
     port: u8,
     bytes: &[u8],
@@ -54,11 +55,12 @@ pub(crate) fn arrive<W: Watch>(
     ensures took { Took m.old.state.world m.new.state.world result.1.steps result.1.cuts }
     ensures few_steps { result.1.steps ≤ runs_of (outcome_of result.0) * most_steps }
     ensures few_cuts { result.1.cuts ≤ 1 }
-    // A call for the record, and one at most for each step.
+    // One call for the record, and at most one for each step.
     ensures calls { m.new.state.world.calls ≤ m.old.state.world.calls + most_steps + 1 }
     ensures packets { packet_count m.new.state + m.old.state.world.calls ≤ packet_count m.old.state + m.new.state.world.calls }
     ensures rests { Rests plan.now m.new }
     ensures frames { m.new.frames ≡ m.old.frames }
+    ensures watched { WatchesArrival W.sees watch.old watch.new plan.now port bytes.now m.old.state.world (outcome_of result.0) m.new.state.world }
     ensures pipeline { IsPipeline plan.now.setting plan.now.nodes }
     ensures safe { KeepsSafe plan.now.setting plan.now.nodes }
 {
@@ -74,12 +76,12 @@ pub(crate) fn arrive<W: Watch>(
     let program = plan.port_program(port);
     (
         Outcome::Got,
-        run(m, env, plan.tables(), plan.pattern(), program, watch),
+        program.run(m, env, plan.tables(), plan.pattern(), watch),
     )
 }
 
-// The node run on the front packet of the first ring that has one, if there is one.
-fn serve_one<W: Watch>(plan: &Plan, m: &mut Machine, watch: &mut W) -> Option<NodeRun>
+// Runs the node of the first ring that has a packet on its front packet, if there is one.
+fn serve_one<K: Known, W: Watch>(plan: &Plan<K>, m: &mut Machine, watch: &mut W) -> Option<NodeRun>
     requires rests { Rests plan.now m.old }
     requires few { m.old.state.world.calls + most_steps < 2 ^ 64 }
     requires few_cuts { m.old.state.world.cuts + 1 < 2 ^ 64 }
@@ -89,17 +91,19 @@ fn serve_one<W: Watch>(plan: &Plan, m: &mut Machine, watch: &mut W) -> Option<No
     ensures packets { packet_count m.new.state + m.old.state.world.calls ≤ packet_count m.old.state + m.new.state.world.calls }
     ensures rests { Rests plan.now m.new }
     ensures frames { m.new.frames ≡ m.old.frames }
+    ensures watched { WatchesOne W.sees watch.old watch.new plan.now m.old.state.world result m.new.state.world }
 {
     let ring = m.take_waiting()?;
+    let env = plan.env();
     watch.begin(Entry::Ring(ring), View::of(m));
     let program = plan.ring_program(ring);
-    Some(run(m, plan.env(), plan.tables(), plan.pattern(), program, watch))
+    Some(program.run(m, env, plan.tables(), plan.pattern(), watch))
 }
 
-/// Node runs on packets that waited in rings.
+/// The node runs on packets from rings.
 #[derive(Clone, Copy, Debug, PartialEq, Eq)]
 pub(crate) struct Served {
-    /// How many there were, at most 32.
+    /// Their number, at most 32.
     pub runs: u8,
     /// How many instructions they ran.
     pub steps: u32,
@@ -108,7 +112,7 @@ pub(crate) struct Served {
 }
 
 // Up to 32 node runs, each on the front packet of the first ring that has one.
-pub(crate) fn serve<W: Watch>(plan: &Plan, m: &mut Machine, watch: &mut W) -> Served
+pub(crate) fn serve<K: Known, W: Watch>(plan: &Plan<K>, m: &mut Machine, watch: &mut W) -> Served
     requires rests { Rests plan.now m.old }
     requires few { m.old.state.world.calls + most_ring_runs * most_steps < 2 ^ 64 }
     requires few_cuts { m.old.state.world.cuts + most_ring_runs < 2 ^ 64 }
@@ -122,6 +126,7 @@ pub(crate) fn serve<W: Watch>(plan: &Plan, m: &mut Machine, watch: &mut W) -> Se
     ensures packets { packet_count m.new.state + m.old.state.world.calls ≤ packet_count m.old.state + m.new.state.world.calls }
     ensures rests { Rests plan.now m.new }
     ensures frames { m.new.frames ≡ m.old.frames }
+    ensures watched { WatchesServing W.sees watch.old watch.new plan.now m.old.state.world result.runs m.new.state.world }
 {
     let mut served = Served {
         runs: 0,

@@ -1,9 +1,9 @@
-//! The region of an engine.
+//! The region of an engine, and its layout.
 
 ghost use Rattle.std.specs.Prelude.{◌≡◌, ◌*◌, ◌<◌, ◌≤◌, [], length, IfOk, IfErr, OnOk, IfSome, is_some, if◌then◌else◌};
 ghost use Rattle.dp_engine.specs.Needs.{bytes_needed};
 ghost use Rattle.dp_engine.specs.Layouts.{IsLaidOut, PartsIn, zones_in};
-ghost use Rattle.dp_engine.specs.Spaces.{Returns, RingsIn, PoolsIn, filled};
+ghost use Rattle.dp_engine.specs.Spaces.{IsOneFree, Returns, RingsIn, PoolsIn, filled};
 
 use crate::names::Kind;
 use crate::needs::{list_counts, need, power_above, ring_counts};
@@ -17,15 +17,14 @@ use dp_ring::Ring;
 use dp_zone::Zones;
 use std::marker::Model;
 
-/// What stands in the zones of a space: pools of mbufs, rings, and the transmit lists of ports. Of each the first slots
-/// are filled.
+/// What lies in the zones of a space: pools of mbufs, rings, and the transmit lists of ports. Of each list the first slots are filled.
 pub struct Parts {
     pub pools: [Option<Pool>; MAX_POOLS],
     pub rings: [Option<Ring>; 8],
     pub lists: [Option<Ring>; 8],
 }
 
-/// A heap in a region, and the table of its zones. It ends by `close`.
+/// A heap in a region, and the table of its zones. `close` ends it.
 pub struct Space {
     heap: Heap,
     zones: Zones,
@@ -41,8 +40,8 @@ impl Model for Space {
     ghost view = { λ s. record { home = s.heap.home; size = size_of s.heap.elements; out = count_of is_busy s.heap.elements } };
 }
 
-// The space of an engine in a region that is large enough. The last pool is made when the spare zone is given back that
-// was taken first, as long as its queue: so the bytes that are left suffice to the last one.
+// Lays out the space of an engine in a region that is large enough. The spare zone, which is taken first, is as long as the last pool's queue; it is
+// given back when that pool is made, so the bytes that are left always suffice.
 fn lay_out(region: Region, env: &Env) -> (Space, Parts)
     requires lent { region.lent ≡ [] }
     requires room { bytes_needed env.now ≤ length region.bytes }
@@ -67,9 +66,8 @@ fn lay_out(region: Region, env: &Env) -> (Space, Parts)
 }
 
 impl Space {
-    /// The space of an engine in a region of which nothing is lent: a pool of mbufs for each pool of the environment, and an
-    /// empty ring for each ring and each port, in order, all of them in zones of the space. The region comes back where
-    /// it has fewer bytes than the engine needs.
+    /// Lays out the space of an engine in a region of which nothing is lent: a pool of mbufs for each pool of the environment, and an empty ring for
+    /// each ring and each port, in order, all in zones of the space. The region comes back where it has fewer bytes than the engine needs.
     pub fn open(region: Region, env: &Env) -> Result<(Space, Parts), Region>
         requires { region.lent ≡ [] }
         ensures opened { IfOk result (λ s. IsLaidOut region.home (length region.bytes) env.now s.0 s.1) }
@@ -82,7 +80,7 @@ impl Space {
         Ok(lay_out(region, env))
     }
 
-    // Takes the zone of a slot's ring back.
+    // Gives the zone of a slot's ring back.
     fn end_ring(&mut self, slot: Option<Ring>)
         requires { IfSome slot (λ r. r.home ≡ self.old.home) }
         ensures { Returns (if is_some slot then 1 else 0) self.old self.new }
@@ -92,7 +90,7 @@ impl Space {
         }
     }
 
-    // Takes the zones of a slot's pool back.
+    // Gives the zones of a slot's pool back.
     fn end_pool(&mut self, slot: Option<Pool>)
         requires { IfSome slot (λ p. p.zones.home ≡ self.old.home) }
         ensures { Returns (2 * (if is_some slot then 1 else 0)) self.old self.new }
@@ -102,7 +100,7 @@ impl Space {
         }
     }
 
-    // Takes the zones of rings back.
+    // Gives the zones of rings back.
     fn end_rings(&mut self, rings: [Option<Ring>; 8])
         requires { RingsIn self.old.home rings }
         ensures { Returns (filled rings) self.old self.new }
@@ -118,7 +116,7 @@ impl Space {
         self.end_ring(h);
     }
 
-    // Takes the zones of pools back.
+    // Gives the zones of pools back.
     fn end_pools(&mut self, pools: [Option<Pool>; MAX_POOLS])
         requires { PoolsIn self.old.home pools }
         ensures { Returns (2 * filled pools) self.old self.new }
@@ -134,13 +132,13 @@ impl Space {
         self.end_pool(h);
     }
 
-    /// The region again, once all that stands in zones of this space is here: nothing of it is lent, and all of the heap was
-    /// one free element.
+    /// Hands the region back, given all that lies in zones of this space: nothing of it is lent, and the heap was one free element.
     pub fn close(self, parts: Parts) -> Region
         requires home { PartsIn self.home parts }
         requires all { zones_in parts ≡ self.out }
         ensures same { (result.home ≡ self.home) × (length result.bytes ≡ self.size) }
         ensures lent { result.lent ≡ [] }
+        ensures heap { IsOneFree result.bytes }
     {
         let mut space = self;
         let Parts {

@@ -1,4 +1,4 @@
-//! A space while it is laid out.
+//! Takes zones from the top of a heap down, while a space is laid out.
 
 ghost use Rattle.std.specs.Prelude.{◌≡◌, ℕ, ◌+◌, ◌*◌, ◌<◌, ◌≤◌, true, None, Some, List, [], ◌∷◌, ◌++◌, length};
 ghost use Rattle.std.specs.List.{AllByRecursion};
@@ -74,7 +74,7 @@ fn put_ring(slot: &mut Option<Ring>, ring: Ring)
     put(slot, ring);
 }
 
-// A zone that is not refused.
+// Reserves a zone. It must not be refused.
 fn reserve(heap: &mut Heap, zones: &mut Zones, name: &str, len: u32) -> Zone
     requires name { IsNext name.now (names_of zones.old) }
     requires len { (0 < len) × (len ≤ largest_region) }
@@ -92,7 +92,7 @@ fn reserve(heap: &mut Heap, zones: &mut Zones, name: &str, len: u32) -> Zone
     }
 }
 
-// A pool that is not refused.
+// Makes a pool. It must not be refused.
 fn make(heap: &mut Heap, zones: &mut Zones, k: usize, spec: PoolSpec) -> Pool
     requires spec { pool_fits spec ≡ true }
     requires number { k < MAX_POOLS }
@@ -116,7 +116,7 @@ fn make(heap: &mut Heap, zones: &mut Zones, k: usize, spec: PoolSpec) -> Pool
 }
 
 impl Stack {
-    /// One over a region of which nothing is lent, with a spare zone of so many bytes.
+    /// A stack over a region of which nothing is lent, with a spare zone of `len` bytes.
     pub fn over(region: Region, len: u32) -> Stack
         requires lent { region.lent ≡ [] }
         requires len { (0 < len) × (len ≤ largest_region) }
@@ -131,7 +131,7 @@ impl Stack {
         Stack { heap, zones, spare }
     }
 
-    // The next zone below.
+    // Takes the next zone.
     fn take(&mut self, name: &str, len: u32) -> Zone
         requires name { IsNext name.now self.old.names }
         requires len { (0 < len) × (len ≤ largest_region) }
@@ -144,7 +144,7 @@ impl Stack {
         reserve(&mut self.heap, &mut self.zones, name, len)
     }
 
-    // The next ring below.
+    // Takes the zone of the next ring.
     fn take_ring(&mut self, kind: Kind, k: usize, count: u32) -> Ring
         requires number { k < 8 }
         requires count { IsCount count }
@@ -160,7 +160,7 @@ impl Stack {
         Ring::over(zone, count)
     }
 
-    /// Empty rings of a kind, of so many slots each.
+    /// Takes empty rings of a kind, with these numbers of slots.
     pub fn take_rings(&mut self, kind: Kind, counts: &[u32]) -> [Option<Ring>; 8]
         requires number { length counts.now ≤ 8 }
         requires counts { AllByRecursion IsCount counts.now }
@@ -181,7 +181,7 @@ impl Stack {
         rings
     }
 
-    // The next pool below.
+    // Takes the zones of the next pool.
     fn take_pool(&mut self, k: usize, spec: PoolSpec) -> Pool
         requires number { k < MAX_POOLS }
         requires spec { pool_fits spec ≡ true }
@@ -196,7 +196,7 @@ impl Stack {
         make(&mut self.heap, &mut self.zones, k, spec)
     }
 
-    /// Pools of mbufs of these numbers.
+    /// Takes pools of mbufs with these numbers.
     pub fn take_pools(&mut self, specs: &[PoolSpec]) -> [Option<Pool>; MAX_POOLS]
         requires number { length specs.now ≤ MAX_POOLS }
         requires specs { AllByRecursion (λ s. pool_fits s ≡ true) specs.now }
@@ -217,7 +217,7 @@ impl Stack {
         pools
     }
 
-    /// Gives the spare zone back, and makes a last pool, whose queue is as long as that was.
+    /// Gives the spare zone back, and makes the last pool, whose queue is as long as that zone.
     pub fn finish(self, k: usize, spec: PoolSpec) -> (Heap, Zones, Pool)
         requires number { k < MAX_POOLS }
         requires spec { pool_fits spec ≡ true }

@@ -1,23 +1,23 @@
-//! What a machine shows of itself between two instructions.
+//! What a watcher can see of a machine between two instructions.
 ghost use Rattle.std.specs.Prelude.{◌≡◌, ◌<◌, ◌≤◌, ℕ, List, length, slice_get, slice_index, Some, IfSome, IfNone};
-ghost use Rattle.dp_model.specs.Packets.{Packet};
-ghost use Rattle.dp_model.specs.Machine.{Holds, IsEmpty};
+ghost use Rattle.dp_model.specs.Packets.{Packet, available};
+ghost use Rattle.dp_model.specs.Machine.{Holds, IsEmpty, live};
 ghost use Rattle.dp_engine.specs.Shapes.{IsShapeOf, IsSegmentOf, AreWaiting};
 
 use crate::machine::Machine;
 use dp_model::{NumberRegister, PacketRegister};
 use std::marker::Model;
 
-/// A packet, but for its bytes.
+/// A packet, except its bytes.
 #[derive(Clone, Copy, Debug, PartialEq, Eq)]
 pub struct PacketShape {
     /// How many segments it has, 1 to 64.
     pub segments: u32,
     /// How many bytes it has in all.
     pub length: u32,
-    /// The room in front of the first segment's bytes.
+    /// The free bytes before the first segment's data.
     pub headroom: u16,
-    /// The room behind the last segment's bytes.
+    /// The free bytes after the last segment's data.
     pub tailroom: u16,
 }
 
@@ -26,11 +26,11 @@ pub struct PacketShape {
 pub struct SegmentView<'a> {
     /// Its bytes.
     pub bytes: &'a [u8],
-    /// How many segments of all packets have its buffer.
+    /// How many segments of all packets refer to its buffer.
     pub refs: u32,
 }
 
-/// A machine as it is between two instructions, or between two node runs.
+/// A machine between two instructions, or between two node runs.
 #[derive(Drop)]
 pub struct View<'a> {
     machine: &'a Machine,
@@ -45,7 +45,7 @@ impl<'a> Model for View<'a> {
 }
 
 impl<'a> View<'a> {
-    // The machine as it is.
+    // A view of the machine.
     #[inline(always)]
     pub(crate) fn of(machine: &'a Machine) -> View<'a>
         ensures { result ≡ machine.now }
@@ -60,7 +60,7 @@ impl<'a> View<'a> {
         self.machine.number(r)
     }
 
-    /// How many allocation calls there were.
+    /// The number of allocation calls.
     pub fn calls(&self) -> u64
         ensures { result ≡ self.now.state.world.calls }
     {
@@ -84,7 +84,7 @@ impl<'a> View<'a> {
         }
     }
 
-    /// The segment of this number, from 0, of the packet in a register, if there is one.
+    /// The segment with this index, from 0, of the packet in a register, if there is one.
     pub fn segment(&self, p: PacketRegister, index: u32) -> Option<SegmentView<'a>>
         ensures some { IfSome result (λ s. (k : Packet) × Holds self.now.state p k × IsSegmentOf self.now k index s.bytes.now s.refs) }
         ensures none { IfNone result ((k : Packet) → Holds self.now.state p k → length k ≤ index) }
@@ -98,7 +98,7 @@ impl<'a> View<'a> {
         })
     }
 
-    /// How many packets wait in a ring, if there is one of this number.
+    /// The number of packets in a ring, if it exists.
     pub fn waiting(&self, ring: u8) -> Option<u32>
         ensures some { IfSome result (AreWaiting self.now.state.world.rings ring) }
         ensures none { IfNone result (length self.now.frames.rings ≤ ring) }
@@ -110,7 +110,7 @@ impl<'a> View<'a> {
         }
     }
 
-    /// How many packets wait in the transmit list of a port, if there is one of this number.
+    /// The number of packets in the transmit list of a port, if it exists.
     pub fn queued(&self, port: u8) -> Option<u32>
         ensures some { IfSome result (AreWaiting self.now.state.world.outboxes port) }
         ensures none { IfNone result (length self.now.frames.outboxes ≤ port) }
@@ -120,5 +120,13 @@ impl<'a> View<'a> {
         } else {
             None
         }
+    }
+
+    /// The number of free buffers of a pool, if it exists.
+    pub fn free(&self, pool: u32) -> Option<u32>
+        ensures some { IfSome result (λ n. n ≡ available self.now.pools (live self.now.state) pool) }
+        ensures none { IfNone result (length self.now.pools ≤ pool) }
+    {
+        self.machine.free_in(pool)
     }
 }

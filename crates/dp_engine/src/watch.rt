@@ -1,24 +1,55 @@
-//! Looking on while node runs go on.
+//! Watchers of node runs.
 use crate::view::View;
 use dp_model::Entry;
 
-/// Looks on while node runs go on, instruction by instruction.
-pub trait Watch {
-    /// A node run begins at this node. The machine is shown as it is before the first instruction.
-    fn begin(&mut self, node: Entry, view: View<'_>);
-
-    /// The instruction at this label ran. The machine is shown as it is behind it; where the node run is cut there, as before that.
-    fn see(&mut self, label: u16, view: View<'_>);
+/// Where an instruction led.
+#[derive(Clone, Copy, Debug, PartialEq, Eq)]
+pub enum Way {
+    /// To the instruction after it.
+    On,
+    /// To the instruction of this label, by a jump that was taken.
+    To(u16),
+    /// Out of the node run, which ends.
+    Out,
+    /// Nowhere: it is the first backward jump beyond the budget, so the node run is cut.
+    Cut,
 }
 
-/// Looks at nothing.
+/// Watches node runs, instruction by instruction.
+///
+/// In a contract a watcher has what it makes of each event that it is shown.
+pub trait Watch {
+    ghost use Rattle.std.specs.Prelude.{◌<◌};
+    ghost use Rattle.dp_lang.specs.declared.program.TheConstants.{MOST_INSTRS};
+    ghost use Rattle.dp_engine.specs.Watching.{Event, Began, Ran, IsOneOfEight};
+
+    // Relates the watcher before an event to the watcher after it.
+    ghost sees: { Self → Event → Self → Type 0 };
+
+    /// A node run of this node begins. The view is of the machine before the first instruction.
+    fn begin(&mut self, node: Entry, view: View<'_>)
+        requires { IsOneOfEight node }
+        ensures { sees self.old (Began node view.entry.state) self.new };
+
+    /// The instruction at this label ran and led that way. The view is of the machine after it; where the node run is cut, before its packets are
+    /// freed.
+    fn see(&mut self, label: u16, way: Way, view: View<'_>)
+        requires { label < MOST_INSTRS }
+        ensures { sees self.old (Ran label way view.entry.state) self.new };
+}
+
+/// A watcher that does nothing. A run under it costs as much as a run that nobody watches.
 #[derive(Clone, Copy)]
-pub(crate) struct Silent;
+pub struct Silent;
 
 impl Watch for Silent {
+    ghost use Rattle.std.specs.Prelude.{⊤};
+
+    ghost sees = { λ w e w'. ⊤ };
+
     #[inline(always)]
     fn begin(&mut self, _node: Entry, _view: View<'_>) {}
 
     #[inline(always)]
-    fn see(&mut self, _label: u16, _view: View<'_>) {}
+    fn see(&mut self, _label: u16, _way: Way, _view: View<'_>) {}
 }

@@ -1,4 +1,4 @@
--- How many elements stand at an offset and belong to a list.
+-- How many elements begin at an offset and belong to a list.
 use Rattle.std.proofs.Common.{◌≡◌, ℕ, suc, ◌+◌, ◌<◌, ◌≤◌, Bool, true, false, cond, eqb, leb, eqb-true, ◌&&◌, List, [], ◌∷◌, ◌++◌, refl, sym, ap, ◌∙◌, arith}
 use Rattle.std.proofs.lemmas.Bool.{eq-eqb, and_parts, and_from, cond_both, true≢false}
 use Rattle.dp_heap.proofs.ByTest.{by_test}
@@ -18,7 +18,7 @@ class_small n = by_test (leb n 256) (λ t. let is : class_of n ≡ 0 = ap
     (λ _. cond_both (leb n 16384) 3 4 (λ k. k < 5) (λ _. omega arith) (λ _. omega arith))) in
     omega arith)
 
--- 1 where it is so
+-- 1 for true
 abbrev pub bit : Bool → ℕ
 bit b = cond b 1 0
 
@@ -33,7 +33,7 @@ pub times-append : (p : ℕ) (ps qs : List ℕ) → times p (ps ++ qs) ≡ times
 times-append p [] qs = omega arith
 times-append p (q ∷ ps) qs = let r = times-append p ps qs in omega arith
 
--- where p is among them
+-- a list that has p, split at p
 pub times_split : (p : ℕ) (ps : List ℕ) → 1 ≤ times p ps → (b : List ℕ) × (a : List ℕ) × (ps ≡ b ++ p ∷ a)
 times_split p [] h = absurd (let h' : 1 ≤ 0 = h in omega arith)
 times_split p (q ∷ ps) h = by_test (eqb q p)
@@ -48,7 +48,7 @@ sum-append f (x ∷ xs) ys = let r = sum-append f xs ys in omega arith
 pub belong-append : (c p : ℕ) (xs ys : List Element) → belong c p (xs ++ ys) ≡ belong c p xs + belong c p ys
 belong-append c p = sum-append (belongs c p)
 
--- whether it is counted
+-- whether an element is counted
 abbrev counts : ℕ → ℕ → Element → Bool
 counts c p e = is_free e && (eqb (class_of e.size) c && eqb e.offset p)
 
@@ -78,7 +78,7 @@ belongs_is c p e free = by_test (eqb c (class_of e.size))
     (λ t. belongs_off c p e (λ all. true≢false (sym (eq-eqb c (class_of e.size) (sym all.1)) ∙ t))
     ∙ sym (ap (λ (b : Bool). cond b (cond (eqb e.offset p) 1 0) 0) t))
 
--- one that is counted
+-- an element that is counted
 pub record Member (c p : ℕ) (es : List Element) : Type 0 where
   pub before : List Element
   pub it : Element

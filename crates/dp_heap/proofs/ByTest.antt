@@ -1,4 +1,4 @@
--- A proof by what a test says.
+-- Case analysis on a test.
 use Rattle.std.proofs.Common.{◌≡◌, Bool, true, false, refl}
 
 pub by_test : {X : Type 0} (t : Bool) → (t ≡ true → X) → (t ≡ false → X) → X

@@ -1,4 +1,4 @@
--- How many elements are busy, after a block is taken and after one is freed.
+-- The number of busy elements after a block is taken, and after one is freed.
 use Rattle.std.proofs.Common.{◌≡◌, ℕ, ◌+◌, ◌-◌, Bool, true, cond, ltb, ◌&&◌, List, [], ◌∷◌, ◌++◌, refl, ap, arith}
 use Rattle.std.specs.Prelude.{not, ◌==◌}
 use Rattle.std.proofs.lemmas.Bool.{cond_both, and_parts}
@@ -10,7 +10,7 @@ use Rattle.dp_heap.specs.Edits.{onto, has_block}
 abbrev out : List Element → ℕ
 out = count_of is_busy
 
--- what one element counts
+-- 1 for a busy element
 abbrev weight : Element → ℕ
 weight e = cond (is_busy e) 1 0
 

@@ -1,4 +1,4 @@
--- A free element comes to the front of its list.
+-- A free element enters its list at the front.
 use Rattle.std.proofs.Common.{◌≡◌, ℕ, ◌+◌, ◌%◌, ◌<◌, ◌≤◌, Bool, true, cond, eqb, eqb-true, List, ◌∷◌, ◌++◌, length, set, refl, sym, ap, subst, ◌∙◌, arith}
 use Rattle.std.proofs.Common.{inl, inr, lit<}
 use Rattle.std.specs.Prelude.{◌⊎◌, slice_index}
@@ -79,7 +79,7 @@ module _ (r : RegionView) (laid : IsLaid r) (before : List Element) (e : Element
   h2 : h < length y2 → (h % 64 ≡ 0) × (h + 64 ≤ length y2)
   h2 lt = let n = long2 in let f = first (omega arith) in let o = f.room in (f.step, omega arith)
 
-  -- a word elsewhere
+  -- words elsewhere stay
   stays : (q j : ℕ) → q % 64 ≡ 0 → q + 64 ≤ length xs → j ≤ 60 → (q ≡ p → (j + 4 ≤ 16) ⊎ (24 ≤ j)) → (q ≡ h → (j + 4 ≤ 20) ⊎ (24 ≤ j)) →
       number_at ys (q + j) 4 ≡ number_at xs (q + j) 4
   stays q j step room small a b =

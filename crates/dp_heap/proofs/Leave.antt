@@ -108,7 +108,7 @@ module _ (r : RegionView) (laid : IsLaid r) (before : List Element) (e : Element
   v1 : v < length y1 → (v % 64 ≡ 0) × (v + 64 ≤ length y1)
   v1 lt = let n = long1 in let k = v_header (omega arith) in let room = k.room in (k.step, omega arith)
 
-  -- a word elsewhere
+  -- words elsewhere stay
   stays : (q j : ℕ) → q % 64 ≡ 0 → q + 64 ≤ length xs → j ≤ 60 → (q ≡ u → (j + 4 ≤ 16) ⊎ (20 ≤ j)) → (q ≡ v → (j + 4 ≤ 20) ⊎ (24 ≤ j)) →
       number_at ys (q + j) 4 ≡ number_at xs (q + j) 4
   stays q j step room small a b =

@@ -1,4 +1,4 @@
--- What the elements lend, when one of them comes to have a block, and no longer has it.
+-- What the elements lend before and after one of them gets a block or loses it.
 use Rattle.std.proofs.Common.{◌≡◌, ℕ, ◌+◌, ◌-◌, ◌<◌, ◌≤◌, Bool, true, false, cond, ◌||◌, List, [], ◌∷◌, ◌++◌, refl, sym, ap, subst, ◌∙◌, arith, inr}
 use Rattle.std.proofs.lemmas.Bool.{lt-ltb, le-ltb, true≢false}
 use Rattle.dp_region.specs.Spans.{Span, IsUnlent, is_span, listed, with_span, without_span}
@@ -12,7 +12,7 @@ use Rattle.dp_heap.specs.Edits.{marked}
 use Rattle.dp_heap.specs.Laid.{Laid, LendsOne, Lends}
 use Rattle.dp_heap.proofs.Laid.{first_offset, laid_bound, laid_split, one_unlent, lent_above}
 
--- what is lent does not change where e does
+-- what is lent does not depend on where e is
 one_map : (t : Bool) (x : Element) (P Q : List Span → Type 0) (ls : List Span) → ((zs : List Span) → P zs → Q zs) → LendsOne t x P ls → LendsOne t x Q ls
 one_map true x P Q ls f o = f ls o
 one_map false x P Q [] f o = o
@@ -41,7 +41,7 @@ free_unlent xs (x ∷ before) e after low high ls l o free k a b =
     one_unlent (is_free x) x (Lends (before ++ e ∷ after)) ls k o (inr (omega arith))
     (λ ss r. free_unlent xs before e after (end_of x) high ss l.2 r free k a b)
 
--- what the elements lend lies from low on
+-- the lent spans lie from low on
 first_lent : (xs : List ℕ) (es : List Element) (low high : ℕ) (l : Span) (ls : List Span) → Laid xs low high es → Lends es (l ∷ ls) → low ≤ l.0
 first_lent xs [] low high l ls laid o = absurd o
 first_lent xs (e ∷ es) low high l ls laid o = by_state (is_free e) o (first_lent xs es (end_of e) high l ls laid.2)
@@ -57,7 +57,7 @@ before_all xs es low high s (l ∷ ls) laid o h =
     let far = first_lent xs es low high l ls laid o in
     ap (λ (t : Bool). cond t (s ∷ l ∷ ls) (l ∷ with_span s ls)) (lt-ltb s.0 l.0 (omega arith))
 
--- e lends the span at d
+-- e lends the span at d in addition
 pub lends_more : (xs : List ℕ) (before : List Element) (e : Element) (after : List Element) (low high d n : ℕ) (ls : List Span) →
     Laid xs low high (before ++ e ∷ after) → Lends (before ++ e ∷ after) ls
     → is_free e ≡ true → e.offset + 64 ≤ d → 0 < n → d + n ≤ end_of e → Lends (before ++ marked e d ∷ after) (with_span (d, n) ls)
@@ -88,7 +88,7 @@ lends_more xs (x ∷ before) e after low high d n ls laid o free lo some hi =
         subst (LendsOne false x (Lends (before ++ marked e d ∷ after)))
         (sym (ap (λ (t : Bool). cond t ((d, n) ∷ l ∷ zs) (l ∷ with_span (d, n) zs)) (le-ltb d l.0 (omega arith)))) (o'.0, o'.1, o'.2, rest zs o'.3)
 
--- what is listed lies from low on
+-- the spans in the list lie from low on
 lent_from : (xs : List ℕ) (es : List Element) (low high : ℕ) (q : Span) (ls : List Span) → Laid xs low high es → Lends es ls → listed q ls ≡ true → low ≤ q.0
 lent_from xs [] low high q [] laid o is = absurd (true≢false (sym is))
 lent_from xs [] low high q (l ∷ ls) laid o is = absurd o

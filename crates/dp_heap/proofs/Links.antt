@@ -28,7 +28,7 @@ module _ (xs : List ℕ) (k p n : ℕ) (fits : p < length xs → p + 64 ≤ leng
       (λ t. let in_it = ltb-true p (length xs) t in let whole = fits in_it in
       number_at-other xs (p + k) n (omega arith) q room (⊎_elim (λ a. inl a) (λ a. inr (omega arith)) (off in_it))) (λ t. refl)
 
--- words of headers lie apart
+-- words of different headers do not overlap
 pub apart_words : (p q k j : ℕ) → p % 64 ≡ 0 → q % 64 ≡ 0 → k ≤ 60 → j ≤ 60 → (p ≡ q → (j + 4 ≤ k) ⊎ (k + 4 ≤ j)) → (q + j + 4 ≤ p + k) ⊎ (p + k + 4 ≤ q + j)
 apart_words p q k j a b c d off = by_test (eqb p q)
     (λ t. let is = eqb-true p q t in ⊎_elim (λ h. inl (omega arith)) (λ h. inr (omega arith)) (off is))
@@ -62,7 +62,7 @@ pub last_among : (w p : ℕ) (ps : List ℕ) → 1 ≤ times (last_of w (p ∷ p
 last_among w p ps = ⊎_elim (λ is. let one : bit (eqb p (last_of p ps)) ≡ 1 = ap (λ (k : ℕ). cond (eqb p k) 1 0) is ∙ same_one p in
     omega arith) (λ h. omega arith) (last_in p ps)
 
--- what the element at p keeps of those beside it
+-- what the element at p holds of its neighbours in the list
 pub beside : (xs : List ℕ) (w h : ℕ) (b : List ℕ) (p : ℕ) (a : List ℕ) → Linked xs w h (b ++ p ∷ a) →
     (number_at xs (p + 20) 4 ≡ last_of w b) × Linked xs p (number_at xs (p + 16) 4) a
 beside xs w h [] p a l = (l.1, l.2)
@@ -76,7 +76,7 @@ module _ (xs ys : List ℕ) where
       let one = same_one p in let s = same p (omega arith) in
       (l.0, s.1 ∙ l.1, subst (λ (n : ℕ). Linked ys p n ps) (sym s.0) (linked_stay p (number_at xs (p + 16) 4) ps l.2 (λ q h. same q (omega arith))))
 
-  -- another stands before the first
+  -- another element before the first
   pub restart : (w u h : ℕ) (ps : List ℕ) → Linked xs w h ps → times h ps ≤ 1 → (1 ≤ times h ps → number_at ys (h + 20) 4 ≡ u)
       → ((q : ℕ) → 1 ≤ times q ps → (q ≡ h → ⊥) → number_at ys (q + 20) 4 ≡ number_at xs (q + 20) 4) →
       ((q : ℕ) → 1 ≤ times q ps → number_at ys (q + 16) 4 ≡ number_at xs (q + 16) 4) → Linked ys u h ps
@@ -94,7 +94,7 @@ module _ (xs ys : List ℕ) where
             ))),
       )
 
--- h, or v where nothing stands before
+-- h, or the last of the list before it
 abbrev pub first_or : ℕ → ℕ → List ℕ → ℕ
 first_or v h [] = v
 first_or v h (p ∷ ps) = h

@@ -17,7 +17,7 @@ use Rattle.dp_heap.proofs.Found.{e_header}
 use Rattle.dp_heap.proofs.Belong.{Member, member, single, once}
 use Rattle.dp_heap.proofs.Links.{head_in}
 
--- other words than those that link, and the elements stay
+-- writes elsewhere keep the lists and the elements
 module _ (xs ys : List ℕ) (same : (k : ℕ) → k + 4 ≤ length xs → k % 64 ≤ 12 → number_at ys k 4 ≡ number_at xs k 4) where
   words : (es : List Element) (low high w : ℕ) → Laid xs low high es → Kept xs w es → high ≤ length xs → Laid ys low high es × Kept ys w es
   words [] low high w l k room = (l, tt)
@@ -50,7 +50,7 @@ relinked r laid ys long same =
       is,
     )
 
--- a word that links is none of the others
+-- a word that holds a link is none of the others
 pub linking : (p k j : ℕ) → p % 64 ≡ 0 → k % 64 ≤ 12 → 16 ≤ j → j ≤ 60 → (k + 4 ≤ p + j) ⊎ (p + j + 4 ≤ k)
 linking p k j a b c d = by_test (ltb k (p + j)) (λ t. let h = ltb-true k (p + j) t in inl (omega arith)) (λ t. let h = ltb-false k (p + j) t in
     inr (omega arith))
@@ -85,7 +85,7 @@ module _ (r : RegionView) (laid : IsLaid r) (heads : List ℕ) (off : List Eleme
   pub head_of : (c : ℕ) → c < 5 → (slice_index heads c ≡ none) ⊎ (1 ≤ times (slice_index heads c) (w.0 c))
   head_of c h = head_in r.bytes none (slice_index heads c) (w.0 c) (w.2 c h)
 
-  -- an offset of a list, or its end
+  -- a link is the offset of a listed element, or the end
   pub link_header : (c p : ℕ) → (p ≡ none) ⊎ (1 ≤ times p (w.0 c)) → p < length r.bytes → Header r p
   link_header c p is in_it = ⊎_elim (λ z. let most = laid.0.1 in absurd (omega arith)) (λ h. listed_header c p h) is
 

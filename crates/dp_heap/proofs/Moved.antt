@@ -1,4 +1,4 @@
--- The lists, after elements were put in the place of others that were in none.
+-- The lists, after unlisted elements were replaced by others.
 use Rattle.std.proofs.Common.{◌≡◌, ℕ, ◌+◌, ◌<◌, ◌≤◌, false, eqb, ltb, List, [], ◌∷◌, ◌++◌, length, refl, sym, ap, subst, ◌∙◌, arith, inl, inr}
 use Rattle.std.specs.Prelude.{◌≢◌, ◌-◌, slice_index, not}
 use Rattle.std.proofs.lemmas.Bool.{ltb-true, ltb-false, true≢false, and_parts, not-true}
@@ -64,7 +64,7 @@ swapped r laid before e after split ys ps new same heads off next was is w =
 pub busy_none : (e : Element) → is_free e ≡ false → (c p : ℕ) → belong c p (e ∷ []) ≡ belong c p []
 busy_none e busy c p = let no = belongs_off c p e (λ all. true≢false (sym all.0 ∙ busy)) in omega arith
 
--- e is cut in two
+-- e is split in two
 pub after_cut : (r : RegionView) → IsLaid r → (before : List Element) (e : Element) (after : List Element) → elements_in r.bytes ≡ before ++ e ∷ after →
     (mid : ℕ) (ys : List ℕ) → elements_in ys ≡ before ++ (lower e mid ∷ upper e mid ∷ after)
     → Outside e.offset (end_of e) r.bytes ys → (heads : List ℕ) → Listed r.bytes heads (elements_in r.bytes) (e ∷ []) → (parts : Element × Element) →
@@ -94,11 +94,11 @@ after_join r laid before x y after split ys new z is same heads off was w =
     (both x y ∷ []) was (λ c p. refl)
     (subst (λ (es : List Element). Listed r.bytes heads es off) split w)))
 
--- x stands at another offset
+-- x begins at another offset
 pub elsewhere : (e x : Element) → (e.offset ≡ x.offset → ⊥) → belong (class_of x.size) x.offset (e ∷ []) ≡ 0
 elsewhere e x differ = let no = belongs_off (class_of x.size) x.offset e (λ all. differ all.2) in omega arith
 
--- y stands right below e, and in no list that e alone is off
+-- y lies right below e, and e alone is unlisted
 pub record Neighbour (r : RegionView) (before : List Element) (e : Element) (after : List Element) (y : Element) : Type 0 where
   pub front : List Element
   pub split : elements_in r.bytes ≡ front ++ y ∷ e ∷ after

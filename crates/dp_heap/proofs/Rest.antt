@@ -1,4 +1,4 @@
--- What is left of a walk over the elements.
+-- The elements that a walk has not reached yet.
 use Rattle.std.proofs.Common.{◌≡◌, ℕ, ◌+◌, ◌/◌, ◌<◌, ◌≤◌, List, [], ◌∷◌, ◌++◌, length, refl, sym, ap, ◌∙◌, arith}
 use Rattle.dp_region.specs.Region.{RegionView}
 use Rattle.dp_heap.specs.declared.elements.Element.{Element}

@@ -1,4 +1,4 @@
--- A walk over a list of free elements, and over the lists.
+-- A walk along a list of free elements, and over the lists.
 use Rattle.std.proofs.Common.{◌≡◌, ℕ, zero, suc, ◌+◌, ◌<◌, ◌≤◌, Bool, false, cond, eqb, eqb-true, ltb, leb, List, [], ◌∷◌, ◌++◌, length, refl, sym, ap, subst}
 use Rattle.std.proofs.Common.{◌∙◌, arith}
 use Rattle.std.specs.Prelude.{slice_index}
@@ -35,7 +35,7 @@ steps_are (suc n) xs w h (p ∷ ps) l far few =
     ap (λ (b : Bool). cond b zero (suc (steps_left n xs (number_at xs (h + 16) 4)))) differ
     ∙ ap (λ (k : ℕ). suc (steps_left n xs (number_at xs (k + 16) 4))) l.0 ∙ ap suc rest
 
--- there are no more of them than elements
+-- a list has no more elements than there are
 module _ (c : ℕ) where
   belongs_small : (p : ℕ) (e : Element) → belongs c p e ≤ bit (eqb e.offset p)
   belongs_small p e = by_test (eqb e.offset p)
@@ -82,7 +82,7 @@ walk_begins xs heads c n a small w = (
   λ q h. absurd (let h' : 1 ≤ 0 = h in omega arith),
 )
 
--- the element that it has come to
+-- the element that the walk has reached
 pub record Free_at (r : RegionView) (c p : ℕ) : Type 0 where
   pub before : List Element
   pub after : List Element
@@ -123,7 +123,7 @@ module _ (r : RegionView) (laid : IsLaid r) (c n a p : ℕ) (w : Walked r.bytes 
       at [] l some = absurd (differ l)
       at (q ∷ ps) l some = let one : bit (eqb q p) ≡ 1 = ap (λ (k : ℕ). bit (eqb q k)) l.0 ∙ same_one q in free_at r laid c p (some (omega arith))
 
-  -- what is left is one less
+  -- one step leaves one element less
   pub record Onward : Type 0 where
     pub more : Walked r.bytes c n a (number_at r.bytes (p + 16) 4)
     pub less : length more.1 < length w.1
@@ -152,7 +152,7 @@ module _ (r : RegionView) (laid : IsLaid r) (c n a p : ℕ) (w : Walked r.bytes 
   pub steps_of : steps_left (length r.bytes) r.bytes p ≡ length w.1
   steps_of = steps_are (length r.bytes) r.bytes w.2 p w.1 w.3 left_far left_few
 
-  -- at the end none of the list can hold the block
+  -- at the end no element of the list has room for the block
   pub walk_ended : p ≡ none → NoneHolds c n a (elements_in r.bytes)
   walk_ended is e in_it class d can =
       let h = here r laid in_it.0 e in_it.1 in_it.2 in
@@ -200,7 +200,7 @@ nothing_fits n a (e ∷ es) never = (
       (λ x in_it. never x (e ∷ in_it.0, in_it.1, ap (λ (ys : List Element). e ∷ ys) in_it.2)),
 )
 
--- the lists from that of the least size up to c have no element that can hold a block
+-- the lists from that of the least size up to c have no element with room for a block
 abbrev pub Past : List ℕ → ℕ → ℕ → ℕ → Type 0
 Past xs n a c = (class_of (n + 64) ≤ c) × (c ≤ 5) × ((d : ℕ) → class_of (n + 64) ≤ d → d < c → NoneHolds d n a (elements_in xs))
 

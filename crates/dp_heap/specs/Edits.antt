@@ -1,36 +1,36 @@
--- Internal, no public contract names it: what the steps inside the heap make of the elements.
+-- Internal, no public contract names it: what each step inside the heap does to the list of elements.
 use Rattle.std.specs.Prelude.{◌≡◌, ℕ, ◌-◌, Bool, true, false, ◌&&◌, List, [], ◌∷◌, ◌++◌, ◌==◌, nat_lt, if◌then◌else◌, ⊤}
 use Rattle.dp_heap.specs.declared.elements.Element.{Element}
 use Rattle.dp_heap.specs.declared.elements.State.TheVariants.{Free, Busy}
 use Rattle.dp_heap.specs.Elements.{header_len, slack, is_busy, end_of, data_of, freed, joined}
 
--- e is one of them
+-- e is in the list
 abbrev pub IsIn : Element → List Element → Type 0
 IsIn e es = (before : List Element) × (after : List Element) × (es ≡ before ++ e ∷ after)
 
--- wherever e stands in old, new has ps in its place
+-- wherever e is in old, new has ps in its place
 abbrev pub Replaces : Element → List Element → List Element → List Element → Type 0
 Replaces e ps old new = (before after : List Element) → old ≡ before ++ e ∷ after → new ≡ before ++ (ps ++ after)
 
--- e below mid, and from mid on
+-- the part of e below mid, and the part from mid on
 abbrev pub lower : Element → ℕ → Element
 lower e mid = record { offset = e.offset; size = mid - e.offset; state = Free; pad = 0 }
 
 abbrev pub upper : Element → ℕ → Element
 upper e mid = record { offset = mid; size = end_of e - mid; state = Free; pad = 0 }
 
--- e with a block whose data begin at d
+-- e, busy, with its data at d
 abbrev pub marked : Element → ℕ → Element
 marked e d = record { offset = e.offset; size = e.size; state = Busy; pad = d - header_len - e.offset }
 
--- what is left of e once the bytes from `end` on are trimmed, where they are enough for an element, and those before `start`
+-- e without the bytes from `end` on, where those are enough for an element, and without those before `start`
 abbrev pub below : Element → ℕ → Element
 below e end = if nat_lt slack (end_of e - end) then lower e end else e
 
 abbrev pub above : Element → ℕ → Element
 above e start = if nat_lt slack (start - e.offset) then upper e start else e
 
--- es, joined to the last of before
+-- es after `before`, with its first joined to the last of before
 abbrev pub onto : List Element → List Element → List Element
 onto [] es = es
 onto (x ∷ []) es = joined x es
@@ -40,12 +40,12 @@ onto (x ∷ y ∷ before) es = x ∷ onto (y ∷ before) es
 abbrev pub has_block : ℕ → Element → Bool
 has_block d e = is_busy e && (data_of e == d)
 
--- none of es has
+-- no element of es has its block at d
 abbrev pub NoneAt : ℕ → List Element → Type 0
 NoneAt d [] = ⊤
 NoneAt d (e ∷ es) = (has_block d e ≡ false) × NoneAt d es
 
--- e had the block at d, and is free in new
+-- e had its block at d, and is free in new
 abbrev pub Emptied : ℕ → Element → List Element → List Element → Type 0
 Emptied d whole old new =
     (before : List Element) × (e : Element) × (after : List Element) × (old ≡ before ++ e ∷ after) × (has_block d e ≡ true) × (whole ≡ freed e)

@@ -1,4 +1,4 @@
--- Internal: the free elements stand in five lists, by size. A list is linked by words of its elements' headers, each a number of 4 bytes: an offset, or `none`.
+-- Internal: the five lists of free elements, by size. Two words of an element's header link them, each an offset in 4 bytes, or `none`:
 --
 --  16  the next element of the list
 --  20  the one before it
@@ -10,36 +10,36 @@ use Rattle.dp_heap.specs.Elements.{is_free, sum_of, CanHold}
 use Rattle.dp_heap.specs.Edits.{IsIn}
 use Rattle.dp_heap.specs.Laid.{elements_in, IsLaid}
 
--- where a list ends
+-- the end of a list
 abbrev pub none : ℕ
 none = 4294967295
 
--- the list of the elements of this size: up to 256 bytes, 1,024, 4,096, 16,384, and above
+-- the list for elements of this size: up to 256 bytes, 1,024, 4,096, 16,384, and larger
 abbrev pub class_of : ℕ → ℕ
 class_of n = if nat_le n 256 then 0 else if nat_le n 1024 then 1 else if nat_le n 4096 then 2 else if nat_le n 16384 then 3 else 4
 
--- xs with an offset in the word k of the header at p, where there is one
+-- xs with an offset written into the word k of the header at p, unless p is `none`
 abbrev pub with_link : List ℕ → ℕ → ℕ → ℕ → List ℕ
 with_link xs k p offset = if nat_lt p (length xs) then with_number xs (p + k) 4 offset else xs
 
--- ps follow one another from `head` on, and `before` stands before them
+-- ps are linked in both directions from `head` on, after `before`
 abbrev pub Linked : List ℕ → ℕ → ℕ → List ℕ → Type 0
 Linked xs before head [] = head ≡ none
 Linked xs before head (p ∷ ps) = (head ≡ p) × (number_at xs (p + 20) 4 ≡ before) × Linked xs p (number_at xs (p + 16) 4) ps
 
--- how often p is among them
+-- how often p is in the list
 abbrev pub times : ℕ → List ℕ → ℕ
 times p [] = 0
 times p (q ∷ ps) = (if q == p then 1 else 0) + times p ps
 
--- how many of es stand at p and belong to the list c
+-- how many of es begin at p and belong to the list c
 abbrev pub belongs : ℕ → ℕ → Element → ℕ
 belongs c p e = if is_free e && ((class_of e.size == c) && (e.offset == p)) then 1 else 0
 
 abbrev pub belong : ℕ → ℕ → List Element → ℕ
 belong c p = sum_of (belongs c p)
 
--- the lists that begin at `heads` have the free ones of es, each once and in the list of its size, but for those of `off`
+-- the lists that begin at `heads` have each free element of es once, in the list of its size, except those of `off`
 abbrev pub Listed : List ℕ → List ℕ → List Element → List Element → Type 0
 Listed xs heads es off =
     (lists : ℕ → List ℕ) × (length heads ≡ 5) × ((c : ℕ) → c < 5 → Linked xs none (slice_index heads c) (lists c))
@@ -51,14 +51,14 @@ pub record IsOff (r : RegionView) (heads : List ℕ) (e : Element) : Type 0 wher
   pub free : e.state ≡ Free
   pub listed : Listed r.bytes heads (elements_in r.bytes) (e ∷ [])
 
--- outside low up to high no word changes but the one at 12 of the header at high
+-- outside low up to high no word changes, except the one at 12 of the header at high
 abbrev pub Outside : ℕ → ℕ → List ℕ → List ℕ → Type 0
 Outside low high xs ys = (q : ℕ) → q + 4 ≤ length xs → (q + 4 ≤ low) ⊎ (high ≤ q) → (q + 4 ≤ high + 12) ⊎ (high + 16 ≤ q) → number_at ys q 4 ≡ number_at xs q 4
 
--- no element of the list c has an offset for a block of n bytes, aligned to a
+-- no element of the list c has room for a block of n bytes, aligned to a
 abbrev pub NoneHolds : ℕ → ℕ → ℕ → List Element → Type 0
 NoneHolds c n a es = (e : Element) → IsIn e es → class_of e.size ≡ c → (d : ℕ) → ¬ CanHold e n a d
 
--- and none of a list of smaller ones has
+-- no element of a list of smaller ones has room
 abbrev pub NoneBelow : ℕ → ℕ → ℕ → List Element → Type 0
 NoneBelow c n a es = (b : ℕ) → b < c → NoneHolds b n a es

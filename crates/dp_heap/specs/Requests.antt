@@ -6,7 +6,7 @@ use Rattle.dp_heap.specs.Elements.{rounded, alignment, is_busy, count_of, merged
 use Rattle.dp_heap.specs.Laid.{HeapView}
 use Rattle.dp_heap.specs.Refusals.{IsAlign, IsRefused}
 
--- a request for n bytes aligned to a, of a heap that was `old` and is `new`: a block with such bytes is taken, or it is refused
+-- a request for n bytes, aligned to a, takes the heap from `old` to `new`: it takes a block whose bytes satisfy Bytes, or it is refused
 pub record Answered (Bytes : List ℕ → Type 0) (old new : HeapView) (n a : ℕ) (answer : Result BlockView HeapError) : Type 0 where
   pub block : IfOk answer (λ b. (b.home ≡ old.home) × Bytes b.bytes × Taken old.elements (rounded n) (alignment a) b.offset new.elements)
   pub home : new.home ≡ old.home

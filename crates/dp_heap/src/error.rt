@@ -4,16 +4,16 @@ ghost use Rattle.dp_heap.specs.Refusals.{number_of};
 
 use thiserror::Error;
 
-/// Why `malloc` and `zmalloc` refuse. Of several causes the first is given.
+/// Why `malloc` and `zmalloc` refuse a request. Of several causes the first one is returned.
 #[derive(Clone, Copy, Debug, PartialEq, Eq, Error)]
 pub enum HeapError {
-    /// The size is 0.
+    /// The requested size is 0.
     #[error("the size is 0")]
     ZeroSize,
     /// The alignment is neither 0 nor a power of two.
     #[error("the alignment is neither 0 nor a power of two")]
     BadAlign,
-    /// No free element can hold the block.
+    /// No free element has room for the block.
     #[error("no free element can hold the block")]
     NoRoom,
 }

@@ -1,4 +1,4 @@
-//! Headers of elements, in the region. `specs/Laid.antt` says which word lies where.
+//! Reads and writes the headers of elements in the region. `specs/Laid.antt` lists the words of a header.
 ghost use Rattle.std.specs.Prelude.{◌≡◌, ◌+◌, ◌-◌, ◌<◌, ◌≤◌, length};
 ghost use Rattle.dp_region.specs.Region.{IsFree, largest_region, number_at};
 ghost use Rattle.dp_heap.specs.Laid.{word_of, element_at, with_header, with_back, with_pad};
@@ -6,17 +6,17 @@ ghost use Rattle.dp_heap.specs.Laid.{word_of, element_at, with_header, with_back
 use crate::elements::{Element, State};
 use dp_region::Region;
 
-// Where the words of a header lie in it, behind that of the size.
+// The offsets of the words of a header, after that of the size.
 const STATE: u32 = 4;
 
 const PAD: u32 = 8;
 
 pub(crate) const BACK: u32 = 12;
 
-// How far before a block's data the distance back lies: in the PAD header, `PAD` behind its begin.
+// How far before a block's data the distance back lies: the word at `PAD` of the PAD header.
 const BEFORE_DATA: u32 = 56;
 
-// The element whose header lies at `offset`.
+// Reads the element whose header lies at `offset`.
 pub(crate) fn read_header(region: &Region, offset: u32) -> Element
     requires { IsFree region.now offset 12 × (length region.now.bytes ≤ largest_region) }
     ensures { result ≡ element_at region.now.bytes offset }
@@ -34,7 +34,7 @@ pub(crate) fn read_header(region: &Region, offset: u32) -> Element
     }
 }
 
-// A header at `offset`, but for the word on the element below.
+// Writes a header at `offset`, but for the size of the element below.
 pub(crate) fn write_header(region: &mut Region, offset: u32, size: u32, state: State, pad: u32)
     requires { IsFree region.old offset 12 × (length region.old.bytes ≤ largest_region) }
     ensures { region.new ≡ record region.old { bytes = with_header region.old.bytes offset size (word_of state) pad } }
@@ -48,7 +48,7 @@ pub(crate) fn write_header(region: &mut Region, offset: u32, size: u32, state: S
     region.store_u32(offset + PAD, pad);
 }
 
-// The element at `offset`, if that is not the end, learns the size of the one below it.
+// Writes `size` as the size of the element below into the header at `offset`, unless `offset` is the end of the region.
 pub(crate) fn write_back(region: &mut Region, offset: u32, size: u32)
     requires { (offset < length region.old.bytes → IsFree region.old offset 16) × (length region.old.bytes ≤ largest_region) }
     ensures { region.new ≡ record region.old { bytes = with_back region.old.bytes offset size } }
@@ -58,8 +58,7 @@ pub(crate) fn write_back(region: &mut Region, offset: u32, size: u32)
     }
 }
 
-// The PAD header right before the data at `at`: the distance back to the header of its element. Where that is 0 the two
-// headers are one.
+// Writes the distance back into the PAD header right before the data at `at`. Where `pad` is 0 that is the element's own header.
 pub(crate) fn write_pad(region: &mut Region, at: u32, pad: u32)
     requires { (56 ≤ at) × IsFree region.old (at - 56) 4 }
     ensures { region.new ≡ record region.old { bytes = with_pad region.old.bytes at pad } }
@@ -67,7 +66,7 @@ pub(crate) fn write_pad(region: &mut Region, at: u32, pad: u32)
     region.store_u32(at - BEFORE_DATA, pad);
 }
 
-// The distance back from the data at `at`.
+// Reads the distance back from the data at `at`.
 pub(crate) fn read_pad(region: &Region, at: u32) -> u32
     requires { (56 ≤ at) × IsFree region.now (at - 56) 4 }
     ensures { result ≡ number_at region.now.bytes (at - 56) 4 }

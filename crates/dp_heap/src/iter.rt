@@ -1,4 +1,4 @@
-//! A walk over the elements.
+//! An iterator over the elements.
 ghost use Rattle.std.specs.Prelude.{◌≡◌, ◌≤◌, [], List, length};
 ghost use Rattle.std.specs.Iterator.{YieldsFirst, item_count};
 ghost use Rattle.dp_heap.specs.Laid.{elements_in, IsLaid};
@@ -8,7 +8,7 @@ use crate::header::read_header;
 use dp_region::Region;
 use std::marker::Model;
 
-/// The elements of a heap that are left of a walk from the lowest offset. Each is found from the one before it.
+/// The elements that an iteration has not reached yet, in order of offsets.
 #[derive(Drop)]
 pub struct Iter<'a> {
     region: &'a Region,
@@ -29,7 +29,7 @@ impl<'a> Model for Iter<'a> {
 }
 
 impl<'a> Iter<'a> {
-    // All of them.
+    // Starts at the first element.
     pub(crate) fn over(region: &'a Region) -> Iter<'a>
         requires { IsLaid region.now }
         ensures { result ≡ elements_in region.now.bytes }

@@ -1,4 +1,4 @@
-//! The free elements in five lists, by size. They are linked through their headers: `specs/Lists.antt` says by which words.
+//! The free elements in five lists, by size. Two words of each header link them: `specs/Lists.antt`.
 ghost use Rattle.std.specs.Prelude.{◌≡◌, ℕ, ◌+◌, ◌^◌, ◌<◌, ◌≤◌, List, [], ◌∷◌, length, replicate, slice_index, MatchOption};
 ghost use Rattle.dp_region.specs.Region.{IsFree, cache_line, largest_region, number_at};
 ghost use Rattle.dp_heap.specs.Elements.{header_len, CanHold, NothingFits, IsHighest};
@@ -11,29 +11,29 @@ use crate::elements::{Element, HEADER_LEN, State};
 use crate::header::read_header;
 use dp_region::Region;
 
-// Where a list ends.
+// The end of a list.
 const NONE: u32 = u32::MAX;
 
-// The words of a header that link it.
+// The words of a header that hold the links.
 const NEXT: u32 = 16;
 
 const BEFORE: u32 = 20;
 
-// The offsets of the lists' first elements.
+// The offset of each list's first element.
 #[derive(Clone, Copy, Drop)]
 pub(crate) struct Lists {
     heads: [u32; 5],
 }
 
 impl Lists {
-    // Lists with nothing in them.
+    // Five empty lists.
     pub(crate) fn new() -> Lists
         ensures { result.heads ≡ replicate 5 none }
     {
         Lists { heads: [NONE; 5] }
     }
 
-    // `e`, which is free, comes to the front of its list.
+    // Puts `e`, a free element in no list, at the front of its list.
     pub(crate) fn enter(&mut self, region: &mut Region, e: &Element)
         requires laid { IsLaid region.old × IsIn e.now (elements_in region.old.bytes) }
         requires free { e.now.state ≡ State.Free }
@@ -52,7 +52,7 @@ impl Lists {
         self.heads[class] = e.offset;
     }
 
-    // `e`, which is free and in its list, leaves that.
+    // Takes `e` out of its list.
     pub(crate) fn leave(&mut self, region: &mut Region, e: &Element)
         requires laid { IsLaid region.old × IsIn e.now (elements_in region.old.bytes) }
         requires free { e.now.state ≡ State.Free }
@@ -73,7 +73,7 @@ impl Lists {
         }
     }
 
-    // A free element that can hold a block, of the first list that has one, and the highest offset in it.
+    // Finds a free element that has room for a block, and the highest offset for the block in it. The lists are searched from the one of `len` up.
     pub(crate) fn find(&self, region: &Region, len: u64, align: u64) -> Option<(Element, u32)>
         requires laid { IsLaid region.now × Listed region.now.bytes self.now.heads (elements_in region.now.bytes) [] }
         requires align { (cache_line ≤ align) × (align < 2 ^ 32) × (len < 2 ^ 33) }
@@ -90,7 +90,7 @@ impl Lists {
         None
     }
 
-    // The first element of a list that can hold a block, and the highest offset in it.
+    // The first element of one list that has room for a block, and the highest offset for the block in it.
     fn first_fit(
         &self,
         region: &Region,
@@ -116,7 +116,7 @@ impl Lists {
     }
 }
 
-// The highest offset for the data of a block, if there is one.
+// The highest offset for a block's data in `e`, if it has room.
 fn highest(e: &Element, len: u64, align: u64) -> Option<u32>
     requires align { (cache_line ≤ align) × (align < 2 ^ 32) }
     requires bounds { (len < 2 ^ 33) × (e.now.offset + e.now.size ≤ largest_region) × (e.now.state ≡ State.Free) }
@@ -133,7 +133,7 @@ fn highest(e: &Element, len: u64, align: u64) -> Option<u32>
     Some(at as u32)
 }
 
-// The list of the elements of this size.
+// The index of the list for elements of this size.
 fn class_of(size: u64) -> usize
     ensures { result ≡ class_of size }
 {
@@ -150,7 +150,7 @@ fn class_of(size: u64) -> usize
     }
 }
 
-// An offset in the word `word` of the header at `at`, where there is one.
+// Writes `offset` into the word `word` of the header at `at`, unless `at` is `NONE`.
 fn write_link(region: &mut Region, word: u32, at: u32, offset: u32)
     requires { (at < length region.old.bytes → IsFree region.old at header_len) × (word ≤ 60) × (length region.old.bytes ≤ largest_region) }
     ensures { region.new ≡ record region.old { bytes = with_link region.old.bytes word at offset } }

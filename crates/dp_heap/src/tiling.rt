@@ -1,4 +1,4 @@
-//! Edits of the elements that lie in a region. Each is stated for the list of elements, wherever in it they stand.
+//! Splits, marks and joins elements in a region. Each contract speaks of the list of elements, wherever in it the element is.
 ghost use Rattle.std.specs.Prelude.{◌≡◌, ◌+◌, ◌-◌, ◌%◌, ◌<◌, ◌≤◌, List, [], ◌∷◌, ◌++◌, length};
 ghost use Rattle.dp_region.specs.Region.{cache_line};
 ghost use Rattle.dp_heap.specs.Elements.{header_len, joined, end_of, both, spare, pieces};
@@ -12,11 +12,11 @@ use crate::header::{BACK, read_header, read_pad, write_back, write_header, write
 use crate::lists::Lists;
 use dp_region::{Block, Region};
 
-// The most bytes that are no element of their own: those of a header and of a cache line, as DPDK wants more than a header and
-// its least data to split an element.
+// The largest rest that stays part of an element: a header and a cache line. DPDK likewise splits only where more than a header and its least data
+// are left.
 const SLACK: u32 = 128;
 
-// The header of `e` becomes that of its bytes below `mid`, and those from there on are an element of their own.
+// Splits `e` at `mid` into two elements.
 fn cut(region: &mut Region, e: &Element, mid: u32) -> (Element, Element)
     requires laid { IsLaid region.old × IsIn e.now (elements_in region.old.bytes) }
     requires free { e.now.state ≡ State.Free }
@@ -47,7 +47,7 @@ fn cut(region: &mut Region, e: &Element, mid: u32) -> (Element, Element)
     )
 }
 
-// `e`, which is free and in no list, holds a block of `len` bytes at `at` from now on.
+// Makes `e`, a free element in no list, busy, and lends its block of `len` bytes at `at`.
 fn mark(region: &mut Region, e: &Element, at: u32, len: u32) -> Block
     requires laid { IsLaid region.old × IsIn e.now (elements_in region.old.bytes) }
     requires free { e.now.state ≡ State.Free }
@@ -64,7 +64,7 @@ fn mark(region: &mut Region, e: &Element, at: u32, len: u32) -> Block
     region.lend(at, len)
 }
 
-// `e`, which is free and in no list, loses what lies from `end` on, where that is more than the slack.
+// Cuts what lies from `end` on off `e`, a free element in no list, where that is more than the slack, and lists it.
 fn trim_end(region: &mut Region, lists: &mut Lists, e: Element, end: u32) -> Element
     requires off { IsOff region.old lists.old.heads e }
     requires inside { (e.offset + header_len ≤ end) × (end ≤ end_of e) × (end % cache_line ≡ 0) }
@@ -81,7 +81,7 @@ fn trim_end(region: &mut Region, lists: &mut Lists, e: Element, end: u32) -> Ele
     rest
 }
 
-// `e`, which is free and in no list, loses what lies before `start`, where that is more than the slack.
+// Cuts what lies before `start` off `e`, a free element in no list, where that is more than the slack, and lists it.
 fn trim_start(region: &mut Region, lists: &mut Lists, e: Element, start: u32) -> Element
     requires off { IsOff region.old lists.old.heads e }
     requires inside { (e.offset ≤ start) × (start + header_len ≤ end_of e) × (start % cache_line ≡ 0) }
@@ -98,7 +98,7 @@ fn trim_start(region: &mut Region, lists: &mut Lists, e: Element, start: u32) ->
     rest
 }
 
-// A block of `len` bytes at `at` is taken from `e`, which is free.
+// Takes a block of `len` bytes at `at` from the free element `e`.
 pub(crate) fn take(region: &mut Region, lists: &mut Lists, e: Element, at: u32, len: u32) -> Block
     requires heap { IsHeap region.old × IsIn e (elements_in region.old.bytes) }
     requires free { e.state ≡ State.Free }
@@ -117,7 +117,7 @@ pub(crate) fn take(region: &mut Region, lists: &mut Lists, e: Element, at: u32, 
     mark(region, &mid, at, len)
 }
 
-// The block goes back. Its element is found by the header before the data, and becomes free. It is in no list yet.
+// Takes a block back. Its element, found by the header before the data, becomes free, and is in no list yet.
 pub(crate) fn unmark(region: &mut Region, block: Block) -> Element
     requires laid { IsLaid region.old }
     requires block { block.home ≡ region.old.home }
@@ -138,7 +138,7 @@ pub(crate) fn unmark(region: &mut Region, block: Block) -> Element
     }
 }
 
-// Two free neighbours, which are in no list, become one element.
+// Makes one element of two free neighbours that are in no list.
 fn join(region: &mut Region, x: Element, y: Element) -> Element
     requires laid { IsLaid region.old }
     requires here { (before : List Item) × (after : List Item) × (elements_in region.old.bytes ≡ before ++ x ∷ y ∷ after) }
@@ -156,7 +156,7 @@ fn join(region: &mut Region, x: Element, y: Element) -> Element
     Element { size, pad: 0, ..x }
 }
 
-// `e`, which is free and in no list, is joined to the element above it where that is free.
+// Joins `e`, a free element in no list, with the element above it where that is free.
 pub(crate) fn join_above(region: &mut Region, lists: &mut Lists, e: Element) -> Element
     requires { IsOff region.old lists.old.heads e }
     ensures home { region.new.home ≡ region.old.home }
@@ -178,7 +178,7 @@ pub(crate) fn join_above(region: &mut Region, lists: &mut Lists, e: Element) -> 
     }
 }
 
-// `e`, which is free and in no list, is joined to the element below it where that is free.
+// Joins `e`, a free element in no list, with the element below it where that is free.
 pub(crate) fn join_below(region: &mut Region, lists: &mut Lists, e: Element) -> Element
     requires { IsOff region.old lists.old.heads e }
     ensures home { region.new.home ≡ region.old.home }

@@ -1,4 +1,4 @@
--- What accepted means, rule by rule.
+-- What acceptance means, rule by rule.
 use Rattle.std.proofs.Common.{◌≡◌, ℕ, zero, suc, Bool, true, false, not, cond, List, [], ◌∷◌, Some, None, refl}
 use Rattle.std.specs.List.{find, list_all, AllByRecursion}
 use Rattle.std.proofs.lemmas.Bool.{and_parts}
@@ -23,7 +23,7 @@ find_none test (rule ∷ rules) e =
     let (here, rest) = and_parts (test rule) (list_all test rules) e in
     rw here (find_none test rules rest)
 
--- an accepted question passes the second rule, and those behind it at each label
+-- an accepted question passes the second rule, and the later ones at each label
 pub second_rule : (q : Question) → IsAccepted q → holds q 0 J2 ≡ true
 second_rule q accepted =
     let all = find_holds (holds q 0) (J1 ∷ J2 ∷ later_rules) (accepted 0) in

@@ -1,4 +1,4 @@
--- Facts that change keep what one says more than the other.
+-- Edits of rows keep that one row is stronger than the other.
 use Rattle.std.proofs.Common.{◌≡◌, ℕ, zero, suc, ◌≤◌, Bool, true, false, ◌&&◌, ◌||◌, ◌==◌, cond, List, [], ◌∷◌, Option, Some, None, refl, sym, ap, ◌∙◌}
 use Rattle.std.proofs.Common.{⊎_elim, subst, arith, ◌+◌, length, min, inl, inr, ◌⊎◌}
 use Rattle.std.specs.Prelude.{nat_le, slice_get, slice_set, option_and_then, ◌≢◌}
@@ -52,7 +52,7 @@ facts_segs (f ∷ fs) (suc p) x fits e = facts_segs fs p x (and_parts (is_fact_o
 
 -- ---- a fact changed
 
--- a fact that belongs to the same groups
+-- a changed fact belongs to the same groups
 changed_belongs : (row : Row) (p : ℕ) (f : Holding → Holding) → ((h : Holding) → held_at row p ≡ Some h → (x : ℕ) → is_in x (held (f h)) ≡ is_in x (held h)) →
     (x i : ℕ) → belongs (changed row p f).facts x i ≡ belongs row.facts x i
 changed_belongs row p f keeps x i = go (held_at row p) refl
@@ -102,9 +102,9 @@ single_more h k n some less = go (k.segs == 1) refl
 pub emptied_keeps : (a b : Row) (p : ℕ) → Stronger a b → Stronger (emptied a p) (emptied b p)
 emptied_keeps a b p s = fact_set a b p Empty Empty s tt (keeps_out a.facts b.facts p Empty Empty (λ x. refl) (λ x. refl) s.groups)
 
--- ---- groups that are dissolved
+-- ---- dissolving groups
 
--- a register of the group gets another share, and nothing is said of it in the other row
+-- a register of the group gets another share, and the other row says nothing of it
 one_left : (g n : ℕ) (f h : Fact) → StrongerFact f h → (is_in g f ≡ true → is_in g h ≡ false) → StrongerFact (reshared_fact g n f) h
 one_left g n Empty Empty m out = tt
 one_left g n (Held share head tail first last segs) (Held s h t f l k) m out =
@@ -128,7 +128,7 @@ reshared_left g n (f ∷ fs) (h ∷ hs) z out = (one_left g n f h z.0 (out 0), r
 reshared_left g n [] (h ∷ hs) z out = absurd z
 reshared_left g n (f ∷ fs) [] z out = absurd z
 
--- it gets the same share in both
+-- it gets the same share in both rows
 one_both : (g n : ℕ) (f h : Fact) → StrongerFact f h → is_in g f ≡ is_in g h → StrongerFact (reshared_fact g n f) (reshared_fact g n h)
 one_both g n Empty Empty m same = tt
 one_both g n (Held share head tail first last segs) (Held s h t f l k) m same =
@@ -199,7 +199,7 @@ dissolved_keeps a b p s = go (group_at a p) (group_at b p) refl refl
 pub leave_keeps' : (a b : Row) (p : ℕ) → Stronger a b → Stronger (after_leave a p) (after_leave b p)
 leave_keeps' a b p s = emptied_keeps (dissolved a p) (dissolved b p) p (dissolved_keeps a b p s)
 
--- ---- two packets that are chained
+-- ---- chaining two packets
 
 chained_apart : (a b g : ℕ) → (chained_share a b == share_of_group g) ≡ false
 chained_apart a b g = ne_eqb (chained_share a b) (8 + g) (λ e. absurd (omega (arith, e, most ((a == 2) && (b == 2)) (owns_head a))))
@@ -244,7 +244,7 @@ chain_keeps a b p q s fits =
     (λ g. dissolved_stays (dissolved a p) q p g (dissolved_out a p g)) (λ g. dissolved_stays (dissolved b p) q p g (dissolved_out b p g))
     (held_both a' b' q two)
 
--- ---- a packet is freed
+-- ---- freeing a packet
 
 -- the least register of a group is the same where the same registers belong
 least_same : (xs ys : List Fact) (g i : ℕ) → length xs ≡ length ys → ((j : ℕ) → belongs xs g j ≡ belongs ys g j) → position_from (is_in g) i xs
@@ -262,7 +262,7 @@ least_is xs ys g long same = position_from-zero (is_in g) xs ∙ (least_same xs 
 share_left_same : (xs ys : List Fact) (g : ℕ) → length xs ≡ length ys → ((j : ℕ) → belongs xs g j ≡ belongs ys g j) → share_left xs g ≡ share_left ys g
 share_left_same xs ys g long same = rw (size_same xs ys g g long same, least_is xs ys g long same) refl
 
--- the name of what is left of a group is that of no other
+-- the name of the rest of a group is that of no other
 left_share : (a : Row) (p g x i : ℕ) → AreWellFormed a → (f : Fact) → slice_get a.facts p ≡ Some f → belongs (emptied a p).facts x i ≡ true → x ≢ g →
     (share_left (emptied a p).facts g == share_of_group x) ≡ false
 left_share a p g x i fits f at inside ne = by_cases (size (emptied a p).facts g == 1)
@@ -279,7 +279,7 @@ left_share a p g x i fits f at inside ne = by_cases (size (emptied a p).facts g 
         (λ none. let wrong : true ≡ false = sym inside ∙ (ap (λ n. belongs (emptied a p).facts n i) (sym same) ∙ none i) in cc)
         (left_name a p g m (groups_of_row a fits) f at (least_belongs (emptied a p).facts g m e)))
 
--- what is left of a group is renamed in the first row alone
+-- the rest of a group is renamed in the first row only
 renamed_left : (a b : Row) (p g : ℕ) → AreWellFormed a → (f : Fact) → slice_get a.facts p ≡ Some f → Stronger (emptied a p) (emptied b p) →
     ((i : ℕ) → belongs (emptied b p).facts g i ≡ false) → Stronger (renamed (emptied a p) g) (emptied b p)
 renamed_left a b p g fits f at s none =
@@ -298,7 +298,7 @@ renamed_left a b p g fits f at s none =
       bounds = s.bounds;
     }
 
--- in both rows, by a name that no other group has
+-- in both rows, to a name that no other group has
 renamed_both : (a b : Row) (g n : ℕ) → Stronger a b → ((j : ℕ) → belongs a.facts g j ≡ belongs b.facts g j) →
     ((x i : ℕ) → belongs a.facts x i ≡ true → x ≢ g → (n == share_of_group x) ≡ false) → Stronger (with_shares a g n) (with_shares b g n)
 renamed_both a b g n s same named = record {
@@ -373,9 +373,9 @@ free_keeps a b p s fits fits' = go (group_at a p) (group_at b p) refl refl
         (λ y i inside ne. let (f, at, is) = belongs_there a.facts x p there in left_share a p x y i fits f at inside ne))))
         ea eb
 
--- ---- a packet is cloned: the target is empty
+-- ---- cloning a packet into an empty register
 
--- the groups of the twin of a packet
+-- the groups of source and clone
 twin_facts : (row : Row) (p q n : ℕ) (h : Holding) → held_at row q ≡ Some h →
     (twin row p q h n).facts ≡ slice_set (slice_set row.facts q (held (shared n h))) p (held (shared n h))
 twin_facts row p q n h e = ap (λ r. slice_set r.facts p (held (shared n h))) (changed_is row q (shared n) h e)
@@ -398,7 +398,7 @@ twin_else row p q n h x i e np nq =
     ap (λ fs. belongs fs x i) (twin_facts row p q n h e)
     ∙ (belongs_other (slice_set row.facts q (held (shared n h))) x p i (held (shared n h)) np ∙ belongs_other row.facts x q i (held (shared n h)) nq)
 
--- a register is one of the two, or another
+-- a register is one of these two, or another
 module _ (row : Row) (p q n : ℕ) (h : Holding) (f : Fact) (e : held_at row q ≡ Some h) (at : slice_get row.facts p ≡ Some f) (ne : p ≢ q) where
   twin_cases : (i : ℕ) → ((x : ℕ) → belongs (twin row p q h n).facts x i ≡ (n == share_of_group x)) ⊎ ((i ≢ p) × (i ≢ q))
   twin_cases i = ⊎_elim
@@ -419,7 +419,7 @@ record Twins (a b : Row) (p q n n' : ℕ) (x y : Holding) : Type 0 where
   pub fb : Fact
   pub at' : slice_get b.facts p ≡ Some fb
   pub apart : p ≢ q
-  -- the new group, if it is one in the second row, has the same registers in both
+  -- the new group, if the second row has it, has the same registers in both
   pub new : (g : ℕ) → (n' == share_of_group g) ≡ true → ((n == share_of_group g) ≡ true) × ((j : ℕ) → belongs a.facts g j ≡ belongs b.facts g j)
   -- and no other group of the second row has its name
   pub old : (g i : ℕ) → belongs b.facts g i ≡ true → (n' == share_of_group g) ≡ false → (n == share_of_group g) ≡ false
@@ -502,7 +502,7 @@ reshared_at (f ∷ facts) g n (suc q) h e inside = reshared_at facts g n q h e i
 
 -- ---- names
 
--- the name is that of the group, or of a register to whose name no register belongs
+-- the name is that of the group, or a register that no register belongs to
 least_name : (row : Row) (p g : ℕ) → AreWellFormed row → slice_get row.facts p ≡ Some Empty → (min p g ≡ g) ⊎ ((i : ℕ) → belongs row.facts (min p g) i ≡ false)
 least_name row p g fits at = by_cases (nat_le p g)
     (λ less. let is : min p g ≡ p = omega (arith, leb-true p g less) in
@@ -510,7 +510,7 @@ least_name row p g fits at = by_cases (nat_le p g)
     (unnamed row.facts p (groups_of_row row fits) (belongs_at row.facts p p Empty at))))
     (λ more. inl (omega (arith, leb-false p g more)))
 
--- so it is that of no other group
+-- so it is no other group's
 name_free : (row : Row) (p g x i : ℕ) → AreWellFormed row → slice_get row.facts p ≡ Some Empty → belongs row.facts x i ≡ true → x ≢ g →
     (share_of_group (min p g) == share_of_group x) ≡ false
 name_free row p g x i fits at inside ne = other_group (min p g) x (λ same. ⊎_elim
@@ -526,7 +526,7 @@ new_name row p q fits at t = ⊎_elim
     (λ none. none)
     (least_name row p q fits at)
 
--- a share that is named by a group
+-- a share that names a group
 held_group : (row : Row) (q g : ℕ) (h : Holding) → held_at row q ≡ Some h → group_at row q ≡ Some g → (h.share == share_of_group g) ≡ true
 held_group row q g h e t = sym (belongs_at row.facts g q (held h) (fact_at row q h e)) ∙ group_at_belongs row q g t
 
@@ -571,7 +571,7 @@ clone_both a b p q g x y c t t' =
       old = λ z i inside out. out;
     })
 
--- it belongs to one in the first row alone
+-- it belongs to one in the first row only
 clone_left : (a b : Row) (p q g : ℕ) (x y : Holding) → Sources a b p q x y → group_at a q ≡ Some g → group_at b q ≡ None →
     Stronger (joins a p q x g) (twin b p q y 0)
 clone_left a b p q g x y c t t' =
@@ -595,7 +595,7 @@ clone_left a b p q g x y c t t' =
     r : Row
     r = with_shares a g n
 
-    -- none belongs to it in the second
+    -- no register belongs to it in the second
     none : (i : ℕ) → belongs b.facts g i ≡ false
     none i = by_cases (belongs b.facts g i)
         (λ here. let wrong : true ≡ false = sym (group_at_belongs a q g t) ∙ (c.stronger.groups i g here q ∙ group_at_none b q t' g) in cc)
@@ -670,7 +670,7 @@ clone_begun a b p q x y c t t' = go (x.share == 2) (y.share == 2) refl refl
             let wrong : true ≡ false = sym (eq-eqb x.share 2 two) ∙ eu in cc
         each false false eu ev = made 0 0 (share_same 0) (no_new 0) (λ z i inside out. out)
 
--- what a clone leaves
+-- the row after a clone
 clone_is : (row : Row) (p q : ℕ) (h : Holding) (o : Option ℕ) → held_at row q ≡ Some h → group_at row q ≡ o →
     after_clone row p q ≡ option_map_or (joins row p q h) o (twin row p q h (twin_share p q h))
 clone_is row p q h o e t =

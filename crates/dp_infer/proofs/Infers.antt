@@ -18,7 +18,8 @@ use Rattle.dp_model.specs.Rules.{Question, row_passes, holds, holds_at, uses, in
 use Rattle.dp_cert.specs.Spelling.{Certificate, certificate_of}
 use Rattle.dp_check.specs.Faults.{question, IsRefusedWith}
 use Rattle.dp_infer.specs.Joins.{joined, dead_row, begun, found_rows}
-use Rattle.dp_infer.specs.Inference.{Certifies, HasNone, SaysMost, IsWithout, IsNotEnough, AreLast}
+use Rattle.dp_infer.specs.Inference.{Certifies, HasNone, SaysMost, IsWithout}
+use Rattle.dp_infer.specs.Settling.{IsNotEnough, AreLast}
 use Rattle.dp_infer.specs.declared.inferring.InferError.{InferError}
 use Rattle.dp_infer.proofs.Stronger.{both_are}
 use Rattle.dp_infer.proofs.Changes.{AreWellFormed}
@@ -130,7 +131,7 @@ sound_accepted q rows accepted cert_fits so =
     is_accepted (question q.program (certificate_of rows) q.env q.entry) (eq-eqb (length rows) (length q.program) so.long) so.begins
     (λ label. later_hold q rows label accepted cert_fits so)
 
--- ---- what is owed
+-- ---- what an inferrer promises
 
 pub says_most : (program : List Instr) (env : Environment) (entry : Entry) → 0 < length program → SaysMost program env entry (found_rows program env entry)
 says_most program env entry some forward rows h label row at live =
@@ -159,16 +160,16 @@ begun_well_formed rows None n e = rw e (dead_well_formed n)
 begun_well_formed rows (Some row) n e = rw e (all_set is_well_formed_row (replicate n dead_row) 0 (joined row row) (dead_well_formed n)
     (joined_well_formed row row))
 
--- where a forward program is accepted with no rows, any say most
+-- where a forward program is accepted with no rows, any rows say most
 pub most_anyway : (program : List Instr) (env : Environment) (entry : Entry) (found : List Row) → HasNone program env entry → SaysMost program env entry found
 most_anyway program env entry found never = λ forward rows h. absurd (never forward rows h)
 
--- what holds in any case
+-- holds in any case
 pub if_any : {A : Type 0} {P : Type 0} → (o : Option A) → P → IfSome o (λ x. P)
 if_any (Some x) is = is
 if_any None is = tt
 
--- one thing holds where there is none, another where there is some
+-- one thing holds where there is none, another where there is one
 pub one_or_other : {A : Type 0} → (o : Option A) (P Q : Type 0) → IfNone o P → IfSome o (λ x. Q) → P ⊎ Q
 one_or_other (Some x) P Q none some = inr some
 one_or_other None P Q none some = inl none
@@ -194,12 +195,12 @@ enough program env entry cert q e is accepted =
     is ∙ ap (λ (found : Certificate). question program found env entry) e in
     inl (subst (λ (x : Question). IsAccepted x) same accepted, ap (λ (x : Question). x.rows) same)
 
--- what is owed of another name of the program is owed of the program
+-- a promise about an equal program is one about the program
 pub without_back : (program back : List Instr) (env : Environment) (entry : Entry) (result : Result Question InferError) → back ≡ program →
     IfErr result (λ e. IsWithout back env entry e) → IfErr result (λ e. IsWithout program env entry e)
 without_back program back env entry result same h = subst (λ (p : List Instr). IfErr result (λ e. IsWithout p env entry e)) same h
 
--- any certificate says most where there is none for a forward program
+-- any certificate says most where a forward program has none
 pub most_checked : (program : List Instr) (env : Environment) (entry : Entry) (result : Result Question InferError) → HasNone program env entry →
     IfOk result (λ q. SaysMost program env entry q.rows)
 most_checked program env entry (Ok q) never = most_anyway program env entry q.rows never

@@ -1,4 +1,4 @@
--- Two rows that both say all that a third does have a least row in common.
+-- Two rows that both entail a third have a strongest row in common.
 use Rattle.std.proofs.Common.{◌≡◌, ℕ, min, max, Bool, true, false, ◌&&◌, List, [], ◌∷◌, refl, arith}
 use Rattle.std.specs.Prelude.{nat_le, ◌==◌, slice_get, Option, Some, None}
 use Rattle.std.specs.List.{AllZip, list_all, AllByRecursion}
@@ -19,13 +19,13 @@ use Rattle.dp_infer.specs.Joins.{is_share, joined_share, joined_fact, common_fac
 use Rattle.dp_infer.proofs.Stronger.{StrongerFact, AtMost, Stronger, both_are, zip_length}
 use Rattle.dp_infer.proofs.Changes.{AreWellFormed, facts_fit, least_is}
 
--- what two have in common follows from either, and gives all that follows from both
+-- what both say follows from either, and entails all that follows from both
 record HaveLeast {A : Type 0} (R : A → A → Type 0) (x y j u : A) : Type 0 where
   pub left : R x j
   pub right : R y j
   pub least : R j u
 
--- ---- the share that two have in common
+-- ---- the strongest share that both entail
 
 joined_left : (a b : ℕ) → entails_share a (joined_share a b) ≡ true
 joined_left a b = by_cases ((a == b) && is_share a)
@@ -43,11 +43,11 @@ joined_swapped a b = ⊎_elim
 joined_right : (a b : ℕ) → entails_share b (joined_share a b) ≡ true
 joined_right a b = subst (λ n. entails_share b n ≡ true) (joined_swapped b a) (joined_left b a)
 
--- whether a group is one of the first, and has the same registers in the second
+-- whether a group of the first row has the same registers in the second
 abbrev IsCommon : List Fact → List Fact → ℕ → Bool
 IsCommon fs gs x = is_group fs x && same_registers fs gs x
 
--- the share that is left of it, where its group may not be common
+-- its share, loose where the group is not common
 abbrev kept : List Fact → List Fact → ℕ → ℕ
 kept fs gs n = cond (nat_le 8 n) (cond (IsCommon fs gs (n - 8)) n 0) n
 
@@ -99,7 +99,7 @@ kept_least fs gs a b u h k fits each = ⊎_elim
 
 -- ---- facts
 
--- the groups of a fact are common to both
+-- the groups of a fact are in both rows
 abbrev AreCommon : List Fact → List Fact → Fact → Type 0
 AreCommon fs gs u = (x : ℕ) → is_in x u ≡ true → IsCommon fs gs x ≡ true
 
@@ -158,7 +158,7 @@ each_join fs gs (f ∷ xs) ys [] p q fits common = absurd p
 each_join fs gs [] (g ∷ ys) [] p q fits common = absurd q
 each_join fs gs (f ∷ xs) [] (u ∷ us) p q fits common = absurd q
 
--- the groups of a row that both entail are common to both
+-- the groups of a row that both entail are in both
 common_at : (fs gs us : List Fact) → length fs ≡ length us → length gs ≡ length us → KeepsGroups fs us → KeepsGroups gs us → are_groups us ≡ true →
     (i x : ℕ) → belongs us x i ≡ true → IsCommon fs gs x ≡ true
 common_at fs gs us lf lg kf kg groups i x inside =
@@ -175,7 +175,7 @@ all_common : (fs gs us : List Fact) → ((i x : ℕ) → belongs us x i ≡ true
 all_common fs gs [] each = tt
 all_common fs gs (u ∷ us) each = (each 0, all_common fs gs us (λ i. each (suc i)))
 
--- the facts that two rows have in common
+-- the facts that both rows say
 facts_join : (fs gs us : List Fact) → AllZip StrongerFact fs us → AllZip StrongerFact gs us → KeepsGroups fs us → KeepsGroups gs us →
     list_all is_fact_of_row us ≡ true → are_groups us ≡ true
     → HaveLeast (AllZip StrongerFact) fs gs (joined_facts fs gs) us
@@ -185,7 +185,7 @@ facts_join fs gs us p q kp kq fits groups =
 
 -- ---- groups
 
--- a register belongs to a group of what is common exactly where it does in both, and the group is common
+-- a register belongs to a group of what both say exactly where it does in both, and the group is common
 share_in : (fs gs : List Fact) (x a b : ℕ) → kept fs gs (joined_share a b) ≡ share_of_group x → (IsCommon fs gs x ≡ true) × ((a == share_of_group x) ≡ true)
     × ((b == share_of_group x) ≡ true) × (is_share (share_of_group x) ≡ true)
 share_in fs gs x a b e = by_cases (nat_le 8 (joined_share a b))
@@ -261,7 +261,7 @@ same_there fs gs x c fits j =
     (λ inside. let wrong : true ≡ false = sym (all_in fs gs fs gs x j inside).1 ∙ away in cc)
     (λ out. out ∙ sym away))
 
--- the share of a register of a group
+-- the share of a group's register
 group_share : (us : List Fact) (i x : ℕ) → list_all is_fact_of_row us ≡ true → belongs us x i ≡ true → is_share (share_of_group x) ≡ true
 group_share us i x fits inside =
     let (u, at, is) = belongs_there us x i inside in
@@ -288,7 +288,7 @@ groups_join fs gs us p q kp kq fits groups = record {
       same_there fs gs x c (group_share us i x fits inside) j ∙ kp i x inside j;
 }
 
--- ---- in the ranges of facts
+-- ---- ranges of facts
 
 joined_is_share : (a b : ℕ) → is_share (joined_share a b) ≡ true
 joined_is_share a b = by_cases ((a == b) && is_share a)
@@ -350,7 +350,7 @@ bounds_join (m ∷ ms) ns [] p q = absurd p
 bounds_join [] (n ∷ ns) [] p q = absurd q
 bounds_join (m ∷ ms) [] (u ∷ us) p q = absurd q
 
--- two rows that both say all that a third does have a least row in common
+-- two rows that both entail a third have a strongest row in common
 pub record LeastRow (a b u : Row) : Type 0 where
   pub left : Stronger a (joined a b)
   pub right : Stronger b (joined a b)
@@ -367,7 +367,7 @@ rows_join a b u p q fits =
       least = record { live = refl; other_live = p.other_live; facts = facts.least; groups = groups.least; bounds = bounds.least };
     }
 
--- ---- in the ranges of facts
+-- ---- ranges of facts
 
 pub joined_well_formed : (a b : Row) → is_well_formed_row (joined a b) ≡ true
 joined_well_formed a b = both_are (both_are (all_fit a.facts b.facts a.facts b.facts) (joined_groups a.facts b.facts)) refl
@@ -379,7 +379,7 @@ met_well_formed there row = go there.live refl
     go true e = rw e (joined_well_formed there row)
     go false e = rw e (joined_well_formed row row)
 
--- ---- of what is known of two packets
+-- ---- what is known of two packets
 
 pub left_empty : (fact other : Fact) → holding fact ≡ None → Empty ≡ joined_fact fact other
 left_empty Empty other e = refl

@@ -1,4 +1,4 @@
--- The laws, in the words of the tests.
+-- The laws in terms of the tests.
 use Rattle.std.proofs.Common.{ℕ, List, [], ◌∷◌, length, refl}
 use Rattle.std.specs.Prelude.{IsTrue, nat_lt}
 use Rattle.std.specs.List.{AllZip, list_all}

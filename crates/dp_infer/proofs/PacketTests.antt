@@ -33,7 +33,7 @@ pub holds_keeps : (a b : Row) (p : ℕ) (test test' : Holding → Bool) → Stro
 holds_keeps a b p test test' s fits each e =
     holds_go test test' (held_at a p) (held_at b p) (held_both a b p s) (λ h k is. each h k (facts_segs a.facts p h (facts_fit a fits) is)) e
 
--- at most a number that is at least as great
+-- less than a number that is at least as great
 pub le_keeps : (m n n' : ℕ) → n' ≤ n → nat_le m n' ≡ true → nat_le m n ≡ true
 le_keeps m n n' le e = le-leb m n (omega (arith, leb-true m n' e))
 
@@ -80,9 +80,9 @@ all_empty_keeps (f ∷ fs) (g ∷ gs) o e =
 all_empty_keeps [] (g ∷ gs) o e = absurd o
 all_empty_keeps (f ∷ fs) [] o e = absurd o
 
--- ---- bytes, owners and rings
+-- ---- bytes, sole buffers and rings
 
--- at a place that is added to the offset
+-- at an offset with a register added
 pub from_keeps : (a b : Row) (p x off n : ℕ) → Stronger a b → AreWellFormed a
     → holds_with b p (λ h. nat_le (bound b (Register x) + off + n) h.first) ≡ true → holds_with a p (λ h. nat_le (bound a (Register x) + off + n) h.first)
     ≡ true
@@ -95,7 +95,7 @@ from_keeps a b p x off n s fits e =
       leb-true (bound b (Register x) + off + n) k.first t,
     ))) e
 
--- the last buffer is the packet's own
+-- the last buffer is referred to once
 pub append_test : (h k : Holding) → 1 ≤ h.segs → StrongerHolding h k → ((k.share == 2) || ((k.share == 1) && (k.segs == 1))) ≡ true →
     ((h.share == 2) || ((h.share == 1) && (h.segs == 1))) ≡ true
 append_test h k some m e = ⊎_elim

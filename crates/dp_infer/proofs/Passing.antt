@@ -12,7 +12,7 @@ use Rattle.dp_model.specs.Rows.{is_well_formed_row, leads}
 use Rattle.dp_infer.specs.Joins.{met, reached, passed_on, passed_from, spread}
 use Rattle.dp_infer.proofs.Reach.{passed_well_formed}
 
--- control passes on from no dead row
+-- a dead row is not passed on
 pub not_passed : (env : Environment) (label : ℕ) (i : Instr) (rows : List Row) (row : Row) → slice_get rows label ≡ Some row → row.live ≡ false →
     rows ≡ passed_from env label i rows
 not_passed env label i rows row e dead = rw (e, dead) refl
@@ -42,7 +42,7 @@ spread_done env program label rows total past so_far =
     let one : spread env (drop label program) label rows ≡ rows = rw (drop_all label program past) refl in
     sym one ∙ so_far
 
--- ---- as many rows as before
+-- ---- the number of rows stays
 
 reached_long : (label : ℕ) (rows : List Row) (lead : Lead) → length (reached label rows lead) ≡ length rows
 reached_long label rows lead = go (nat_lt label lead.to) (slice_get rows lead.to)

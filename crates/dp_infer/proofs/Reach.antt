@@ -42,7 +42,7 @@ two_steps q label rows rows' rows'' s t = record {
   same = λ k le. t.same k le ∙ s.same k le;
 }
 
--- what is known after control comes there
+-- the row after control reaches a label
 record Meets (there row u : Row) : Type 0 where
   pub up : there.live ≡ true → Stronger there (met there row)
   pub here : Stronger row (met there row)
@@ -122,9 +122,9 @@ reach_step q label rows lead fits fit lt within e =
     let P : List Row → Type 0 = λ r. Step q label rows r × (row_passes r lead.to (entails lead.row) ≡ true) in
     subst P (sym (reached_is label rows lead there lt at)) (step, now)
 
--- ---- all leads of an instruction
+-- ---- all successors of an instruction
 
--- what was entailed of leads stays entailed
+-- what was entailed of successors stays entailed
 pub leads_grow : (rows rows' : List Row) (leads : List Lead) → Grows rows rows' → list_all (λ to. row_passes rows to.to (entails to.row)) leads ≡ true →
     list_all (λ to. row_passes rows' to.to (entails to.row)) leads ≡ true
 leads_grow rows rows' [] grows e = refl

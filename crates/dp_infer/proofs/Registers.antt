@@ -1,4 +1,4 @@
--- Registers of rows of which one says all that the other does.
+-- Registers of two rows, the first stronger than the second.
 use Rattle.std.proofs.Common.{ℕ, zero, suc, ◌≤◌, List, [], ◌∷◌, arith, get_or, set}
 use Rattle.std.specs.Prelude.{slice_get, option_and_then}
 use Rattle.std.specs.List.{AllZip}
@@ -25,7 +25,7 @@ bounds_at (m ∷ ms) (n ∷ ns) (suc i) h = bounds_at ms ns i h.1
 bounds_at [] (n ∷ ns) i h = absurd h
 bounds_at (m ∷ ms) [] i h = absurd h
 
--- the value of an operand is bounded as well
+-- operands are bounded as well
 pub bound_at : (a b : Row) (x : Operand) → Stronger a b → bound a x ≤ bound b x
 bound_at a b (Register r) h = bounds_at a.bounds b.bounds r h.bounds
 bound_at a b (Constant c) h = omega arith

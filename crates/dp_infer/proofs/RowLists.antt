@@ -9,7 +9,7 @@ use Rattle.dp_model.specs.Rules.{row_passes}
 use Rattle.dp_infer.proofs.Stronger.{Stronger, stronger, row_test, both_are}
 use Rattle.dp_infer.proofs.Changes.{AreWellFormed}
 
--- ---- lists of rows
+-- ---- lists
 
 -- an element after a write is the new one or an old one
 pub set_cases : {A : Type 0} (xs : List A) (i k : ℕ) (x y : A) → slice_get (set xs i x) k ≡ Some y → ((k ≡ i) × (x ≡ y)) ⊎ (slice_get xs k ≡ Some y)
@@ -49,7 +49,7 @@ there_is [] i lt = absurd (omega arith)
 there_is (x ∷ xs) zero lt = (x, refl)
 there_is (x ∷ xs) (suc i) lt = there_is xs i (omega arith)
 
--- the row that passes is there
+-- a row that passes exists
 pub passes_at : (rows : List Row) (k : ℕ) (row : Row) → row_passes rows k (entails row) ≡ true → (u : Row) × (slice_get rows k ≡ Some u) × Stronger row u
 passes_at [] k row e = absurd cc
 passes_at (u ∷ rows) zero row e = (u, refl, stronger row u e)

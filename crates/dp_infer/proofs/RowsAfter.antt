@@ -1,4 +1,4 @@
--- What an instruction asks of a row and where it leads: a row that says all that another does is asked no more, and leads to rows that say as much.
+-- An instruction on a stronger row needs no more, and leads to rows that are stronger.
 use Rattle.std.proofs.Common.{◌≡◌, true, Bool, ℕ, suc, ◌+◌, ◌-◌, ◌*◌, ◌^◌, ◌<◌, ◌≤◌, ◌||◌, ◌&&◌, ◌==◌, max, List, [], ◌∷◌, length, Some, refl, ◌∙◌, ap, arith}
 use Rattle.std.specs.Prelude.{nat_le, nat_lt}
 use Rattle.std.specs.List.{AllZip, list_all}
@@ -81,15 +81,15 @@ end_keeps a b _ s e = refl
 
 -- ---- where an instruction leads
 
--- to the same label, with a row that says all that the other does
+-- to the same label, with a stronger row
 abbrev pub StrongerLead : Lead → Lead → Type 0
 StrongerLead x y = (x.to ≡ y.to) × Stronger x.row y.row
 
--- what is known after an instruction keeps entailment; the target of `clone` is empty
+-- the row after an instruction keeps entailment; the target of `clone` is empty
 abbrev Keeps : Instr → (Row → Row) → Type 0
 Keeps i after = (a b : Row) → Stronger a b → AreWellFormed a → AreWellFormed b → targets_fit b i ≡ true → Stronger (after a) (after b)
 
--- on, on or to the label that is named, to that label, or nowhere
+-- on; on or to the named label; to that label; or nowhere
 data Leading (env : Environment) (label : ℕ) (i : Instr) : Type 0 where
   On : (after : Row → Row) → ((row : Row) → leads env label row i ≡ onward label (after row)) → Keeps i after → Leading env label i
   Forks : (l : ℕ) (after at_l : Row → Row) → label_of i ≡ Some l → ((row : Row) → leads env label row i ≡ fork label (after row) l (at_l row)) →
@@ -138,7 +138,7 @@ trim_more n h k some m = record {
 }
 
 module _ (env : Environment) (label : ℕ) (i : Instr) where
-  -- the packet of a register is changed
+  -- the packet of a register changes
   edits : (p : ℕ) (f : Holding → Holding) → ((row : Row) → leads env label row i ≡ onward label (changed row p f)) → ((h : Holding) → (f h).share ≡ h.share)
       → ((h k : Holding) → 1 ≤ h.segs → StrongerHolding h k → StrongerHolding (f h) (f k)) → Leading env label i
   edits p f is keep each = On (λ row. changed row p f) is (λ a b s fits fits' target. changed_keeps a b p f f s fits keep keep each)
@@ -149,11 +149,11 @@ module _ (env : Environment) (label : ℕ) (i : Instr) where
   tests p l f names is keep each = Forks l (λ row. changed row p f) (λ row. row) names is
       (λ a b s fits fits' target. changed_keeps a b p f f s fits keep keep each) (λ a b s fits fits' target. s)
 
-  -- a register has a greatest number
+  -- a register gets a bound
   bounds : (r n : ℕ) → ((row : Row) → leads env label row i ≡ onward label (with_bound row r n)) → Leading env label i
   bounds r n is = On (λ row. with_bound row r n) is (λ a b s fits fits' target. bound_set a b r n n s (omega arith))
 
-  -- a packet leaves, or stays where the list is full
+  -- a packet moves to a list, or stays where that is full
   leaves : (p l : ℕ) → label_of i ≡ Some l → ((row : Row) → leads env label row i ≡ fork label (after_leave row p) l row) → Leading env label i
   leaves p l names is = Forks l (λ row. after_leave row p) (λ row. row) names is (λ a b s fits fits' target. leave_keeps' a b p s)
       (λ a b s fits fits' target. s)
@@ -201,7 +201,7 @@ leading env label (Enq p ring l) = leaves env label (Enq p ring l) p l refl (λ 
 leading env label Exit = Ends (λ row. refl)
 leading env label i = counts env label i (calculation_of i) refl
 
--- a row that says all that another does leads to rows that say all that the other's do
+-- a stronger row leads to stronger rows
 pub leads_keep : (env : Environment) (label : ℕ) (a b : Row) (i : Instr) → Stronger a b → AreWellFormed a → AreWellFormed b → targets_fit b i ≡ true →
     AllZip StrongerLead (leads env label a i) (leads env label b i)
 leads_keep env label a b i s fits fits' target = go (leading env label i)

@@ -1,4 +1,4 @@
--- Passes over rows that are weakened, label by label and pass by pass, in loops.
+-- Widening passes in loops: label by label, and pass by pass.
 use Rattle.std.proofs.Common.{◌≡◌, ℕ, zero, suc, ◌+◌, ◌<◌, ◌≤◌, Bool, true, false, List, length, drop, Some, refl, sym, ◌∙◌, add-one, arith}
 use Rattle.std.specs.Prelude.{slice_get, nat_lt}
 use Rattle.std.proofs.lemmas.List.{drop_all}
@@ -34,7 +34,7 @@ spread_again_done program env slow label p total past so_far =
 
 -- ---- pass by pass
 
--- so many passes are left
+-- n passes are left
 pub settled_more : (program : List Instr) (env : Environment) (n pass : ℕ) (rows total : List Row) → 0 < n
     → (weakened_once program env (nat_lt pass slow_passes) rows).changed ≡ true → settled_from program env n pass rows ≡ total
     → (k : ℕ) → k + 1 ≡ n → settled_from program env k (pass + 1) (weakened_once program env (nat_lt pass slow_passes) rows).rows ≡ total

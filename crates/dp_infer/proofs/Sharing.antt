@@ -1,4 +1,4 @@
--- Groups of rows, of which each of the one is a group of the same registers in the other.
+-- Groups that one row keeps of another.
 use Rattle.std.proofs.Common.{◌≡◌, ◌≢◌, ◌⊎◌, ℕ, zero, suc, Bool, true, false, ◌&&◌, ◌||◌, List, [], ◌∷◌, length, Option, Some, None, refl, sym, ap, ◌∙◌}
 use Rattle.std.proofs.Common.{subst, arith, inl, inr, ⊎_elim}
 use Rattle.std.specs.Prelude.{slice_get, slice_set, ◌==◌}
@@ -14,7 +14,7 @@ use Rattle.dp_model.specs.Laws.Groups.{same_at, kept_at, belongs_at, belongs_the
 use Rattle.dp_model.specs.Laws.Groups.{group_at_is, group_at_belongs}
 use Rattle.dp_model.specs.Laws.Cases.{by_cases}
 
--- each group of the second is a group of the same registers in the first
+-- each group of the second row is a group of the same registers in the first
 abbrev pub KeepsGroups : List Fact → List Fact → Type 0
 KeepsGroups fs gs = (i x : ℕ) → belongs gs x i ≡ true → (j : ℕ) → belongs fs x j ≡ belongs gs x j
 
@@ -45,7 +45,7 @@ keeps_test fs gs long keeps = all_from_each (λ other. option_map_or (same_regis
     go i y at (Some x) e =
         ap (λ o. option_map_or (same_registers fs gs) o true) e ∙ same_from fs gs x long (keeps i x (belongs_at gs x i y at ∙ group_is x y e))
 
--- ---- an order
+-- ---- reflexive and transitive
 
 pub keeps_further : (fs gs hs : List Fact) → KeepsGroups fs gs → KeepsGroups gs hs → KeepsGroups fs hs
 keeps_further fs gs hs one two i x inside j =
@@ -77,7 +77,7 @@ share_is a b e = subst (λ n. entails_share a n ≡ true) e (share_same a)
 pub share_two : (a b : ℕ) → a ≡ 2 → b ≡ 1 → entails_share a b ≡ true
 share_two a b two one = subst (λ n. entails_share n b ≡ true) (sym two) (subst (λ n. entails_share 2 n ≡ true) (sym one) refl)
 
--- share 1 follows from what owns the first buffer
+-- any share with a sole first buffer entails 1
 pub one_of : (a : ℕ) → owns_head a ≡ true → entails_share a 1 ≡ true
 one_of a e = ⊎_elim (λ one. share_is a 1 (eqb-true a 1 one)) (λ two. share_two a 1 (eqb-true a 2 two) refl) (or_cases (a == 1) (a == 2) e)
 
@@ -93,7 +93,7 @@ share_further a b c h k = ⊎_elim (share_zero a c) (⊎_elim (λ same. subst (�
     (⊎_elim (λ same. share_two a c (same ∙ two) one) (λ (x, y). absurd (omega (arith, y, two))))
     (share_cases a b h))) (share_cases b c k)
 
--- a share that owns the first buffer, or all, follows from one that does
+-- a share that owns the first buffer, or all, follows only from such shares
 pub sole_more : (a b : ℕ) → entails_share a b ≡ true → b ≡ 2 → a ≡ 2
 sole_more a b e two = ⊎_elim (λ z. absurd (omega (arith, z, two))) (⊎_elim (λ same. same ∙ two) (λ (x, y). x)) (share_cases a b e)
 
@@ -104,7 +104,7 @@ owns_more a b e owns = ⊎_elim
     (λ two. subst (λ n. owns_head n ≡ true) (sym (sole_more a b e (eqb-true b 2 two))) refl)
     (or_cases (b == 1) (b == 2) owns)
 
--- so it is of two packets that are chained
+-- the same for two chained packets
 pub share_chained : (a b a' b' : ℕ) → entails_share a a' ≡ true → entails_share b b' ≡ true → entails_share (chained_share a b) (chained_share a' b') ≡ true
 share_chained a b a' b' h k = by_cases ((a' == 2) && (b' == 2)) both (λ less. by_cases (owns_head a') (first less) (none less))
   where
@@ -150,7 +150,7 @@ keeps_out fs gs p f g first second keeps i x inside j = ⊎_elim
 
 -- ---- a group is dissolved
 
--- the group of p is gone, and every other stays
+-- p's group is gone, and the others stay
 dissolved_gone : (row : Row) (p x i : ℕ) → belongs row.facts x p ≡ true → belongs (dissolved row p).facts x i ≡ false
 dissolved_gone row p x i inside =
     ap (λ o. belongs (option_map_or (λ g. with_shares row g 0) o row).facts x i) (group_at_is row p x inside)

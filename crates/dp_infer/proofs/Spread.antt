@@ -1,4 +1,4 @@
--- Control passes through a program, label by label.
+-- Rows are passed on through a program, label by label.
 use Rattle.std.proofs.Common.{◌≡◌, ℕ, suc, ◌+◌, ◌<◌, Bool, true, false, not, ◌||◌, List, [], ◌∷◌, length, Option, Some, None, refl, sym, ap, ◌∙◌, inl, inr}
 use Rattle.std.proofs.Common.{subst, arith}
 use Rattle.std.specs.Prelude.{nat_lt, slice_get}
@@ -20,7 +20,7 @@ use Rattle.dp_infer.proofs.RowLists.{all_at, there_is, passes_at, passes, fits_f
 use Rattle.dp_infer.proofs.Reach.{Fit, Grows, Step, no_step, leads_grow, pass_step, passed_well_formed}
 use Rattle.dp_infer.proofs.Accepted.{each_rule, all_from}
 
--- what holds of the rows, where control passed on from all labels below one, if a certificate is accepted
+-- what holds of the rows after all labels below one are passed on, if a certificate is accepted
 pub record Sound (q : Question) (rows : List Row) (label : ℕ) : Type 0 where
   pub long : length rows ≡ length q.program
   pub well_formed : list_all is_well_formed_row rows ≡ true
@@ -31,7 +31,7 @@ pub record Sound (q : Question) (rows : List Row) (label : ℕ) : Type 0 where
 
 -- ---- what the certificate says at a live label
 
--- the rules that speak of where the instruction leads
+-- the rules about the successors of an instruction
 pub record LeadsWell (q : Question) (label : ℕ) (i : Instr) (row : Row) : Type 0 where
   pub within : list_all (λ to. nat_lt to.to (length q.program)) (leads q.env label row i) ≡ true
   pub entailed : list_all (λ to. row_passes q.rows to.to (entails to.row)) (leads q.env label row i) ≡ true
@@ -54,7 +54,7 @@ own_leads q label i u all =
       entailed = each.1.1.1.1.1.1.1.1.0;
     }
 
--- what is entailed by the certificate's rows after is entailed by those that say more
+-- what the certificate's rows entail, stronger ones entail
 pub entailed_keeps : (rows : List Row) (xs ys : List Lead) → AllZip StrongerLead xs ys → list_all (λ to. row_passes rows to.to (entails to.row)) ys ≡ true →
     list_all (λ to. row_passes rows to.to (entails to.row)) xs ≡ true
 entailed_keeps rows [] [] z e = refl
@@ -66,7 +66,7 @@ entailed_keeps rows (x ∷ xs) (y ∷ ys) z e =
 entailed_keeps rows [] (y ∷ ys) z e = absurd z
 entailed_keeps rows (x ∷ xs) [] z e = absurd z
 
--- the row that was found says more than the certificate's, and leads as well
+-- the row that was found is stronger than the certificate's, and its successors are entailed
 pub leads_well : (q : Question) (label : ℕ) (i : Instr) (row u : Row) → Stronger row u → AreWellFormed row → AreWellFormed u →
     list_all (holds_at q label i u) later_rules ≡ true → LeadsWell q label i row
 leads_well q label i row u s fits fits' all =
@@ -84,7 +84,7 @@ begins_grow : (rows rows' : List Row) (entry : Option Row) → Grows rows rows' 
 begins_grow rows rows' None grows e = e
 begins_grow rows rows' (Some row) grows e = grows 0 row e
 
--- a step from a label keeps what was found of the labels below, and finds the label
+-- passing a label on keeps what was found of the labels below, and finds the label
 after_step : (q : Question) (label : ℕ) (rows rows' : List Row) → Sound q rows label → Step q label rows rows' → list_all is_well_formed_row rows' ≡ true
     → ((i : Instr) (row : Row) → slice_get q.program label ≡ Some i → slice_get rows label ≡ Some row → row.live ≡ true →
     list_all (λ to. row_passes rows' to.to (entails to.row)) (leads q.env label row i) ≡ true)

@@ -1,4 +1,4 @@
--- Entailment, as a relation: one row says all that another does.
+-- Entailment as a relation: one row says all that another does.
 use Rattle.std.proofs.Common.{◌≡◌, ℕ, suc, ◌≤◌, Bool, true, ◌&&◌, List, [], ◌∷◌, Option, Some, None, refl, ap, length, arith}
 use Rattle.std.specs.Prelude.{nat_le}
 use Rattle.std.specs.List.{AllZip}
@@ -10,7 +10,7 @@ use Rattle.dp_infer.proofs.Sharing.{KeepsGroups, keeps_from, keeps_test, keeps_f
 use Rattle.dp_model.specs.declared.row.Holding.{Holding}
 use Rattle.dp_model.specs.Rows.{holding, entails_share, entails_holding, entails_option, entails_fact, at_each_index, entails}
 
--- the first promises at least what the second does
+-- the first says at least what the second does
 pub record StrongerHolding (a b : Holding) : Type 0 where
   pub share : entails_share a.share b.share ≡ true
   pub head : b.head ≤ a.head
@@ -128,7 +128,7 @@ row_test a b h = rw (
   zip_test nat_le AtMost le-leb a.bounds b.bounds h.bounds,
 ) refl
 
--- ---- each says what it says, and what follows from what follows
+-- ---- reflexive and transitive
 
 pub holding_same : (a : Option Holding) → StrongerOption a a
 holding_same None = tt

@@ -13,75 +13,75 @@ use Rattle.dp_model.specs.Groups.{group_of, is_group, same_registers, reshared_f
 use Rattle.dp_model.specs.Limits.{most_segments}
 use Rattle.dp_model.specs.Rows.{owns_head, entry_row, leads}
 
--- whether a fact of a row can have the share
+-- whether a fact of a row may have the share
 abbrev pub is_share : ℕ → Bool
 is_share share = nat_le share 2 || (nat_le 8 share && nat_le share 15)
 
--- the share that two have in common
+-- the strongest share that both entail
 abbrev pub joined_share : ℕ → ℕ → ℕ
 joined_share a b = if (a == b) && is_share a then a else if owns_head a && owns_head b then 1 else 0
 
--- What two facts have in common: the lesser promise of each, the greater number of segments, in the ranges of facts. Where
--- one is empty and the other is not, they have nothing in common, and the answer is of no use.
+-- What both facts say: the lesser of each measure, the greater number of segments, in the ranges of facts. Where exactly one is empty the result has
+-- no meaning.
 abbrev pub joined_fact : Fact → Fact → Fact
 joined_fact Empty other = Empty
 joined_fact (Held share head tail first last segs) Empty = Empty
 joined_fact (Held share head tail first last segs) (Held s h t f l n) =
     Held (joined_share share s) (min head h) (min tail t) (min first f) (min last l) (min most_segments (max 1 (max segs n)))
 
--- the elements of two lists, place by place
+-- combines two lists index by index
 abbrev pub paired : {A : Type 0} → (A → A → A) → List A → List A → List A
 paired f [] ys = []
 paired f (x ∷ xs) [] = []
 paired f (x ∷ xs) (y ∷ ys) = f x y ∷ paired f xs ys
 
--- a fact of two rows, loose where its group has not the same registers in both
+-- what both rows say of a register: loose where its group does not have the same registers in both
 abbrev pub common_fact : List Fact → List Fact → Fact → Fact
 common_fact facts others fact =
     option_map_or (λ g. if is_group facts g && same_registers facts others g then fact else reshared_fact g 0 fact) (group_of fact) fact
 
--- what the facts of two rows have in common
+-- what the facts of both rows say
 abbrev pub joined_facts : List Fact → List Fact → List Fact
 joined_facts facts others = map (common_fact facts others) (paired joined_fact facts others)
 
--- what two rows have in common
+-- what both rows say
 abbrev pub joined : Row → Row → Row
 joined row other = record { live = true; facts = joined_facts row.facts other.facts; bounds = paired max row.bounds other.bounds }
 
--- what is known where control comes with the second row, and may have come with the first
+-- the row of a label that control reaches with the second row, and perhaps reached before with the first
 abbrev pub met : Row → Row → Row
 met there row = if there.live then joined there row else joined row row
 
--- the rows, where control goes from a label to a later one
+-- the rows after control goes from a label to a later one
 abbrev pub reached : ℕ → List Row → Lead → List Row
 reached label rows lead =
     if nat_lt label lead.to
     then option_map_or (λ there. slice_set rows lead.to (met there lead.row)) (slice_get rows lead.to) rows
     else rows
 
--- the rows, where control goes from a label to others
+-- the rows after control goes from a label to its successors
 abbrev pub passed_on : ℕ → List Row → List Lead → List Row
 passed_on label rows [] = rows
 passed_on label rows (lead ∷ leads) = passed_on label (reached label rows lead) leads
 
--- a row that control never comes to
+-- the row of a label that control never reaches
 abbrev pub dead_row : Row
 dead_row = record { live = false; facts = replicate 8 Empty; bounds = replicate 8 0 }
 
--- the rows of so many labels at the start: what is known at the entry, if there is one, and nothing else
+-- the rows of n labels at the start: what is known at the entry, if it exists, and nothing else
 abbrev pub begun : Option Row → ℕ → List Row
 begun entry n = option_map_or (λ row. slice_set (replicate n dead_row) 0 (joined row row)) entry (replicate n dead_row)
 
--- the rows, after control passed on from a label with its instruction
+-- the rows after a label's row is passed on through its instruction
 abbrev pub passed_from : Environment → ℕ → Instr → List Row → List Row
 passed_from env label i rows =
     option_map_or (λ row. if row.live then passed_on label rows (leads env label row i) else rows) (slice_get rows label) rows
 
--- the rows, after control passed through these instructions, the first of which has this label
+-- the rows after control passes through these instructions, the first of which has this label
 unfoldable pub spread : Environment → List Instr → ℕ → List Row → List Row
 spread env [] label rows = rows
 spread env (i ∷ program) label rows = spread env program (label + 1) (passed_from env label i rows)
 
--- the rows that say most
+-- the strongest rows
 abbrev pub found_rows : List Instr → Environment → Entry → List Row
 found_rows program env entry = spread env program 0 (begun (entry_row env entry) (length program))

@@ -1,4 +1,4 @@
--- The laws of rows that inference rests on.
+-- Laws of rows for inference.
 use Rattle.std.specs.Prelude.{◌≡◌, List, IsTrue}
 use Rattle.std.specs.List.{AllZip}
 use Rattle.dp_model.specs.declared.row.Row.{Row}
@@ -14,7 +14,7 @@ LeadEntails x y = (x.to ≡ y.to) × IsTrue (entails x.row y.row)
 abbrev pub LeadsEntail : List Lead → List Lead → Type 0
 LeadsEntail xs ys = AllZip LeadEntails xs ys
 
--- what two rows have in common follows from either, and entails what follows from both
+-- what both rows say follows from either, and entails all that follows from both
 pub record HaveLeastRow (a b upper : Row) : Type 0 where
   pub left : IsTrue (entails a (joined a b))
   pub right : IsTrue (entails b (joined a b))

@@ -1,4 +1,4 @@
-//! Certificates inferred from programs.
+//! Infers certificates, in one pass over a forward program, else in passes until no row changes.
 
 ghost use Rattle.std.specs.Prelude.{◌≡◌, ◌⊎◌, ◌<◌, ◌≤◌, length, IsTrue, IfOk, IfErr, IfSome, IfNone};
 ghost use Rattle.std.specs.List.{list_all};
@@ -8,8 +8,8 @@ ghost use Rattle.dp_lang.specs.declared.program.TheConstants.{MOST_INSTRS};
 ghost use Rattle.dp_cert.specs.Spelling.{version_for, certificate_of};
 ghost use Rattle.dp_check.specs.Faults.{question, IsChecked};
 ghost use Rattle.dp_infer.specs.Joins as spec;
-ghost use Rattle.dp_infer.specs.Settling.{settled};
-ghost use Rattle.dp_infer.specs.Inference.{Certifies, HasNone, SaysMost, AreRefused, AreTried, IsWithout, IsNotEnough, AreLast, IsOfLast};
+ghost use Rattle.dp_infer.specs.Settling.{settled, IsNotEnough, AreLast, IsOfLast};
+ghost use Rattle.dp_infer.specs.Inference.{Certifies, HasNone, SaysMost, AreRefused, AreTried, IsWithout};
 
 use crate::join::{joined, pass_on};
 use crate::settling::settle;
@@ -20,14 +20,14 @@ use dp_model::{Entry, Env, Fact, Instr, Row, Rule};
 use std::alloc::{AllocError, Global};
 use thiserror::Error;
 
-/// Why there is no certificate.
+/// Why no certificate is returned.
 #[derive(Debug, Drop, Error)]
 pub enum InferError {
-    /// The memory for the rows was refused.
+    /// The allocator refused the memory for the rows.
     #[error("out of memory")]
     Memory,
-    /// No certificate is found. With the last that was tried this is the least label, from 0, at which a rule fails, and the number
-    /// of the first that fails there, 2 to 11. A forward program is accepted with no certificate then.
+    /// No certificate is found. With the last one that was tried, the rule with this number, 2 to 11, is the first that fails at the label, the least
+    /// failing one, from 0. A forward program is then accepted with no certificate.
     #[error("not inferred at {label} by J{rule}")]
     NoCert { label: u16, rule: u8 },
 }
@@ -42,7 +42,7 @@ impl From<AllocError> for InferError {
     }
 }
 
-/// A row of a label that control never comes to.
+/// The row of a label that control never reaches.
 fn dead_row() -> Row
     ensures { result ≡ spec.dead_row }
 {
@@ -53,7 +53,7 @@ fn dead_row() -> Row
     }
 }
 
-/// So many rows, of which only the first says anything: what is known at the entry.
+/// `n` rows, of which only the first says anything: what is known at the entry.
 fn begun(alloc: Global, entry: Option<Row>, n: usize) -> Result<Vec<Row>, AllocError>
     requires { 0 < n }
     ensures { IfOk result (λ v. v.items ≡ spec.begun entry n) }
@@ -65,7 +65,7 @@ fn begun(alloc: Global, entry: Option<Row>, n: usize) -> Result<Vec<Row>, AllocE
     Ok(rows)
 }
 
-/// Passes control on from a label.
+/// Passes a label's row on to its successors.
 #[tactic(auto, using(crate::proofs::Passing::not_passed, crate::proofs::Passing::stays_well_formed))]
 fn pass_from(rows: &mut [Row], env: &Env, label: u16, instr: &Instr)
     requires in_range { label < length rows.old }
@@ -81,7 +81,7 @@ fn pass_from(rows: &mut [Row], env: &Env, label: u16, instr: &Instr)
     }
 }
 
-/// Passes control on from each label in order.
+/// Passes rows on, label by label in order.
 fn spread(program: &[Instr], env: &Env, rows: &mut [Row])
     requires same_length { length rows.old ≡ length program.now }
     requires at_most { length program.now ≤ MOST_INSTRS }
@@ -94,7 +94,7 @@ fn spread(program: &[Instr], env: &Env, rows: &mut [Row])
     }
 }
 
-/// The rows that say most.
+/// The strongest rows.
 #[tactic(auto, using(crate::proofs::Infers::begun_well_formed))]
 fn found_rows(
     alloc: Global,
@@ -112,7 +112,7 @@ fn found_rows(
     Ok(rows)
 }
 
-/// The rows that say most, as a certificate.
+/// The strongest rows, as a certificate.
 fn found(alloc: Global, program: &Program, env: &Env, entry: Entry) -> Result<Cert, AllocError>
     ensures some { 1 ≤ length program.now }
     ensures found { IfOk result (λ cert. cert ≡ certificate_of (spec.found_rows program.now env.now entry)) }
@@ -122,7 +122,7 @@ fn found(alloc: Global, program: &Program, env: &Env, entry: Entry) -> Result<Ce
     Ok(Cert::new(found_rows(alloc, program.instrs(), env, entry)?))
 }
 
-/// The rows of a program that comes back to labels, weakened pass by pass.
+/// The rows of a program with loops, weakened pass by pass.
 fn settled_rows(
     alloc: Global,
     program: &Program,
@@ -139,8 +139,7 @@ fn settled_rows(
     Ok(Cert::new(rows))
 }
 
-/// The certificate with which inference ends; and, where the program is refused with it, the least label at which a rule fails, with
-/// the first rule that fails there.
+/// The certificate with which inference ends; and, where the program is refused with it, the least failing label and its first failing rule.
 fn last_tried(
     alloc: Global,
     program: &Program,
@@ -165,24 +164,12 @@ fn last_tried(
     }
 }
 
-/// The certificate of a program for an environment and an entry. For a forward program, in which each label that is
-/// named is behind its instruction, each row is as strong as can be, and each instruction is looked at once. In other
-/// programs control may come back to a label; what is known there is weakened pass by pass until it stays, in 4,096 passes at most.
-///
-/// # Errors
-/// `InferError::Memory` where the memory for the rows is refused, else `InferError::NoCert` where no certificate was
-/// found. A forward program is accepted with none then; and where the environment does not have the entry, no program is.
-pub fn infer(alloc: Global, program: &Program, env: &Env, entry: Entry) -> Result<Cert, InferError>
-    // The program is accepted with it.
+/// As [`infer`], with clauses that say with which rows inference ends.
+fn inferred(alloc: Global, program: &Program, env: &Env, entry: Entry) -> Result<Cert, InferError>
     ensures accepted { IfOk result (λ cert. Certifies program.now env.now entry cert.rows) }
-    // No certificate of a forward program says more.
     ensures most { IfOk result (λ cert. SaysMost program.now env.now entry cert.rows) }
-    // It has version 1 exactly where no row has a group.
     ensures version { IfOk result (λ cert. cert.version ≡ version_for cert.rows) }
-    // Unless memory ran out, there is none for a forward program where none is answered, and the program was refused at that
-    // label by that rule with a certificate that was tried.
     ensures none { IfErr result (λ e. IsWithout program.now env.now entry e) }
-    // Its rows are those with which inference ends, and so are those with which the program was refused.
     ensures last { IfOk result (λ cert. AreLast program.now env.now entry cert.rows) }
     ensures of_last { IfErr result (λ e. IsOfLast program.now env.now entry e) }
 {
@@ -196,7 +183,28 @@ pub fn infer(alloc: Global, program: &Program, env: &Env, entry: Entry) -> Resul
     }
 }
 
-/// A program that comes back to labels, checked with the rows that are found, if they serve.
+/// Infers the certificate of a program for an environment and an entry. For a forward program, in which each named label comes after its
+/// instruction, each row is as strong as possible, and each instruction is looked at once. In a program with loops, rows are weakened pass by
+/// pass until they are stable, in at most 4,096 passes.
+///
+/// # Errors
+/// `InferError::Memory` where the allocator refuses the memory for the rows, else `InferError::NoCert` where no certificate is found.
+/// A forward program is then accepted with none; and where the environment does not have the entry, no program is.
+pub fn infer(alloc: Global, program: &Program, env: &Env, entry: Entry) -> Result<Cert, InferError>
+    // The program is accepted with it.
+    ensures accepted { IfOk result (λ cert. Certifies program.now env.now entry cert.rows) }
+    // No certificate of a forward program says more.
+    ensures most { IfOk result (λ cert. SaysMost program.now env.now entry cert.rows) }
+    // It has version 1 exactly where no row has a group.
+    ensures version { IfOk result (λ cert. cert.version ≡ version_for cert.rows) }
+    // Unless memory runs out, a forward program has no certificate where none is returned, and the program is refused at that label by that rule with
+    // one that was tried.
+    ensures none { IfErr result (λ e. IsWithout program.now env.now entry e) }
+{
+    inferred(alloc, program, env, entry)
+}
+
+/// A program with loops, checked with the rows that are found.
 fn settled_checked(
     alloc: Global,
     program: Program,
@@ -221,26 +229,17 @@ fn settled_checked(
     }
 }
 
-/// A program checked with the certificate that [`infer`] finds for it, which is checked once.
-///
-/// # Errors
-/// As those of [`infer`].
-pub fn infer_checked(
+/// As [`infer_checked`], with clauses that say with which rows inference ends.
+fn inferred_checked(
     alloc: Global,
     program: Program,
     env: &Env,
     entry: Entry,
 ) -> Result<Checked, InferError>
-    // It is that program with a certificate, of version 1 exactly where no row has a group.
     ensures same { IfOk result (λ q. q ≡ question program (certificate_of q.rows) env.now entry) }
-    // No rule fails.
     ensures checked { IfOk result (λ q. IsChecked q) }
-    // No certificate of a forward program says more.
     ensures most { IfOk result (λ q. SaysMost program env.now entry q.rows) }
-    // Unless memory ran out, there is none for a forward program where none is found, and the program was refused at that
-    // label by that rule with a certificate that was tried.
     ensures none { IfErr result (λ e. IsWithout program env.now entry e) }
-    // Its rows are those with which inference ends, and so are those with which the program was refused.
     ensures last { IfOk result (λ q. AreLast program env.now entry q.rows) }
     ensures of_last { IfErr result (λ e. IsOfLast program env.now entry e) }
 {
@@ -254,11 +253,46 @@ pub fn infer_checked(
     }
 }
 
-/// The certificate with which [`infer`] ends: the one that it answers, or, where it answers none, the last that was tried, so that
-/// one can ask why the program is refused with it.
+/// Infers a certificate as [`infer`] does, and checks the program with it, once.
 ///
 /// # Errors
-/// `AllocError` where the memory for the rows is refused.
+/// Those of [`infer`].
+pub fn infer_checked(
+    alloc: Global,
+    program: Program,
+    env: &Env,
+    entry: Entry,
+) -> Result<Checked, InferError>
+    // It is the program with a certificate, of version 1 exactly where no row has a group.
+    ensures same { IfOk result (λ q. q ≡ question program (certificate_of q.rows) env.now entry) }
+    // No rule fails.
+    ensures checked { IfOk result (λ q. IsChecked q) }
+    // No certificate of a forward program says more.
+    ensures most { IfOk result (λ q. SaysMost program env.now entry q.rows) }
+    // Unless memory runs out, a forward program has no certificate where none is found, and the program is refused at that label by that rule with
+    // one that was tried.
+    ensures none { IfErr result (λ e. IsWithout program env.now entry e) }
+{
+    inferred_checked(alloc, program, env, entry)
+}
+
+/// As [`attempt`], with a clause that says with which rows inference ends.
+fn last_cert(alloc: Global, program: &Program, env: &Env, entry: Entry) -> Result<Cert, AllocError>
+    ensures best { IfOk result (λ cert. Certifies program.now env.now entry cert.rows ⊎ HasNone program.now env.now entry) }
+    ensures tried { IfOk result (λ cert. AreTried program.now env.now entry cert.rows) }
+    ensures most { IfOk result (λ cert. SaysMost program.now env.now entry cert.rows) }
+    ensures version { IfOk result (λ cert. cert.version ≡ version_for cert.rows) }
+    ensures last { IfOk result (λ cert. AreLast program.now env.now entry cert.rows) }
+{
+    let (cert, _) = last_tried(alloc, program, env, entry)?;
+    Ok(cert)
+}
+
+/// Returns the certificate with which [`infer`] ends: the one that it returns, or else the last one that it tried, so that `diagnose` can
+/// say why the program is refused with it.
+///
+/// # Errors
+/// `AllocError` where the allocator refuses the memory for the rows.
 pub fn attempt(
     alloc: Global,
     program: &Program,
@@ -267,15 +301,12 @@ pub fn attempt(
 ) -> Result<Cert, AllocError>
     // A forward program that is accepted with any certificate is accepted with this one.
     ensures best { IfOk result (λ cert. Certifies program.now env.now entry cert.rows ⊎ HasNone program.now env.now entry) }
-    // The program is accepted with it, or refused, and it has a row for each instruction.
+    // The program is accepted or refused with it, and it has a row for each instruction.
     ensures tried { IfOk result (λ cert. AreTried program.now env.now entry cert.rows) }
     // No certificate of a forward program says more.
     ensures most { IfOk result (λ cert. SaysMost program.now env.now entry cert.rows) }
     // It has version 1 exactly where no row has a group.
     ensures version { IfOk result (λ cert. cert.version ≡ version_for cert.rows) }
-    // Its rows are those with which inference ends.
-    ensures last { IfOk result (λ cert. AreLast program.now env.now entry cert.rows) }
 {
-    let (cert, _) = last_tried(alloc, program, env, entry)?;
-    Ok(cert)
+    last_cert(alloc, program, env, entry)
 }

@@ -1,4 +1,4 @@
-//! What is known at a label where control comes from several places.
+//! Joins what is known where control comes from several places.
 
 ghost use Rattle.std.specs.Prelude.{◌≡◌, max};
 ghost use Rattle.dp_model.specs.Rows.{held, owns_head};
@@ -8,14 +8,14 @@ ghost use Rattle.dp_infer.specs.Joins as spec;
 use dp_check::{Leads, owns_head, reshared, shares_group};
 use dp_model::{Fact, Holding, Lead, MOST_SEGMENTS, Row};
 
-/// Whether a fact of a row can have the share.
+/// Whether a fact of a row may have the share.
 fn is_share(share: u8) -> bool
     ensures { result ≡ spec.is_share share }
 {
     share <= 2 || (share >= 8 && share <= 15)
 }
 
-/// The share that two have in common.
+/// The strongest share that both entail.
 fn joined_share(share: u8, other: u8) -> u8
     ensures { result ≡ spec.joined_share share other }
 {
@@ -28,7 +28,7 @@ fn joined_share(share: u8, other: u8) -> u8
     }
 }
 
-/// What is known of both packets: the lesser promise of each, and the greater number of segments.
+/// What is known of both packets: the lesser of each measure, and the greater number of segments.
 fn joined_holding(h: Holding, with: Holding) -> Holding
     ensures { held result ≡ spec.joined_fact (held h) (held with) }
 {
@@ -42,7 +42,7 @@ fn joined_holding(h: Holding, with: Holding) -> Holding
     }
 }
 
-/// What two facts have in common: the lesser promise of each, and the greater number of segments.
+/// What both facts say: the lesser of each measure, and the greater number of segments.
 #[tactic(auto, using(crate::proofs::JoinLaws::left_empty, crate::proofs::JoinLaws::right_empty, crate::proofs::JoinLaws::both_held))]
 fn joined_fact(fact: Fact, other: Fact) -> Fact
     ensures { result ≡ spec.joined_fact fact other }
@@ -56,7 +56,7 @@ fn joined_fact(fact: Fact, other: Fact) -> Fact
     }
 }
 
-/// What facts have in common, register by register.
+/// What both lists of facts say, register by register.
 fn paired_facts(facts: &[Fact; 8], others: &[Fact; 8]) -> [Fact; 8]
     ensures { result ≡ spec.paired spec.joined_fact facts.now others.now }
 {
@@ -67,7 +67,7 @@ fn paired_facts(facts: &[Fact; 8], others: &[Fact; 8]) -> [Fact; 8]
     joined
 }
 
-/// A fact of two rows, loose where its group has not the same registers in both.
+/// What both rows say of a register: loose where its group does not have the same registers in both.
 fn common_fact(row: &Row, other: &Row, fact: Fact) -> Fact
     ensures { result ≡ spec.common_fact row.now.facts other.now.facts fact }
 {
@@ -83,7 +83,7 @@ fn common_fact(row: &Row, other: &Row, fact: Fact) -> Fact
     }
 }
 
-/// What the facts of two rows have in common.
+/// What the facts of both rows say.
 fn joined_facts(row: &Row, other: &Row) -> [Fact; 8]
     ensures { result ≡ spec.joined_facts row.now.facts other.now.facts }
 {
@@ -106,7 +106,7 @@ fn greater_bounds(bounds: &[u64; 8], others: &[u64; 8]) -> [u64; 8]
     greater
 }
 
-/// What two rows have in common.
+/// What both rows say.
 pub(crate) fn joined(row: &Row, other: &Row) -> Row
     ensures { result ≡ spec.joined row.now other.now }
 {
@@ -117,7 +117,7 @@ pub(crate) fn joined(row: &Row, other: &Row) -> Row
     }
 }
 
-/// What is known where control comes with the second row, and may have come with the first.
+/// The row of a label that control reaches with `row`, and perhaps reached before with `there`.
 pub(crate) fn met(there: &Row, row: &Row) -> Row
     ensures { result ≡ spec.met there.now row.now }
 {
@@ -128,7 +128,7 @@ pub(crate) fn met(there: &Row, row: &Row) -> Row
     }
 }
 
-/// Joins a row into that of the label where it leads, if that is a later one.
+/// Joins a row into that of its label, if that is a later one.
 fn reach(rows: &mut [Row], label: u16, lead: &Lead)
     ensures { rows.new ≡ spec.reached label rows.old lead.now }
 {
@@ -138,7 +138,7 @@ fn reach(rows: &mut [Row], label: u16, lead: &Lead)
     }
 }
 
-/// Joins each row into that of the label where it leads, if that is a later one.
+/// Joins each successor's row into that of its label, if that is a later one.
 pub(crate) fn pass_on(rows: &mut [Row], label: u16, leads: &Leads)
     ensures { rows.new ≡ spec.passed_on label rows.old (listed leads.now) }
 {

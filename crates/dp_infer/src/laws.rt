@@ -1,4 +1,4 @@
-//! The laws of rows that inference rests on, as contracts of functions that do nothing.
+//! Laws of rows for inference, as contracts of functions that do nothing.
 
 ghost use Rattle.std.specs.Prelude.{ℕ, IsTrue};
 ghost use Rattle.dp_model.specs.declared.row.Row.{Row};
@@ -9,12 +9,12 @@ ghost use Rattle.dp_model.specs.declared.rule.Rule.{Rule};
 ghost use Rattle.dp_model.specs.Rules.{Question, targets_fit, holds_at};
 ghost use Rattle.dp_infer.specs.Laws.{LeadsEntail, HaveLeastRow};
 
-/// Two rows that entail a third have a least row that both entail.
+/// Two rows that entail a third have a strongest row that both entail.
 pub fn rows_have_a_least_common_row()
     ensures { (a b upper : Row) → IsTrue (is_well_formed_row upper) → IsTrue (entails a upper) → IsTrue (entails b upper) → HaveLeastRow a b upper }
 {}
 
-/// What an instruction leaves of a row entails what it leaves of a row that is entailed, where its target is empty.
+/// The row after an instruction keeps entailment, where the instruction's target is empty.
 pub fn rows_after_keep_entailment()
     ensures { (env : Environment) (label : ℕ) (i : Instr) (a b : Row) → IsTrue (is_well_formed_row a) → IsTrue (is_well_formed_row b) → IsTrue (entails a b)
         → IsTrue (targets_fit b i) → LeadsEntail (leads env label a i) (leads env label b i) }

@@ -1,4 +1,6 @@
-//! The inferrer of certificates: what is known before each instruction of a program.
+//! The inferrer of certificates: finds what is known before each instruction of a program. For a forward program, in which each named label comes
+//! after its instruction, the result is exact: it finds a certificate wherever one exists. For loops it weakens rows until they are stable, which is
+//! a heuristic. What it returns is checked; nobody has to trust it.
 #![tactic(auto)]
 
 mod inferring;

@@ -1,6 +1,6 @@
-//! Rows of programs that come back to labels. They are weakened until they stay, or for as many passes as are made at most; each
-//! step goes to a constant of the program, and after many passes at once to what says nothing. This is a heuristic: which rows that
-//! gives is exact, but not that they serve. Whether they do is for the checker to say.
+//! Widens rows of programs with loops: passes over all labels weaken rows until they are stable, or until the limit of passes. Each step goes to a
+//! constant of the program, and after many passes straight to a row that says nothing. This is a heuristic: the contracts say exactly which rows
+//! result, but not that they suffice. The checker decides that.
 
 ghost use Rattle.std.specs.Prelude.{◌≡◌, ◌<◌, ◌≤◌, not, length, IsTrue, slice_get, Some};
 ghost use Rattle.dp_model.specs.Arithmetic.{greatest};
@@ -16,13 +16,13 @@ use crate::join::{joined, met};
 use dp_check::{Leads, leads_of};
 use dp_model::{Env, Fact, Holding, Instr, Lead, MOST_SEGMENTS, Operand, Row};
 
-/// So many passes go from constant to constant.
+/// The number of passes that go from constant to constant.
 const SLOW_PASSES: u32 = 64;
 
-/// So many passes are made at most.
+/// The most passes.
 const MOST_PASSES: u32 = 4096;
 
-/// A bound with which an instruction goes on, or 0.
+/// The bound that a constant of an instruction (set, test, mask) puts on a number, or 0.
 fn bound_in(instr: &Instr) -> u64
     ensures { result ≡ spec.bound_in instr.now }
 {
@@ -41,7 +41,7 @@ fn bound_in(instr: &Instr) -> u64
     }
 }
 
-/// A number of bytes that an instruction asks for, or 0.
+/// The count of bytes in an instruction, or 0.
 fn count_in(instr: &Instr) -> u16
     ensures { result ≡ spec.count_in instr.now }
 {
@@ -58,7 +58,7 @@ fn count_in(instr: &Instr) -> u16
     }
 }
 
-/// The least bound of the program that is at least so much, or the greatest number.
+/// The least bound of the program that is at least `least`, or the greatest number.
 fn bound_above(program: &[Instr], least: u64) -> u64
     ensures { result ≡ spec.bound_from least greatest program.now }
 {
@@ -72,7 +72,7 @@ fn bound_above(program: &[Instr], least: u64) -> u64
     above
 }
 
-/// The greatest count of the program that is at most so much, or 0.
+/// The greatest count of the program that is at most `most`, or 0.
 fn count_below(program: &[Instr], most: u16) -> u16
     ensures { result ≡ spec.count_from most 0 program.now }
 {
@@ -86,7 +86,7 @@ fn count_below(program: &[Instr], most: u16) -> u16
     below
 }
 
-/// A bound that may have grown, and what it goes to.
+/// Widens a bound that may have grown.
 fn raised(program: &[Instr], before: u64, now: u64, slow: bool) -> u64
     ensures { result ≡ spec.raised program.now slow before now }
 {
@@ -99,7 +99,7 @@ fn raised(program: &[Instr], before: u64, now: u64, slow: bool) -> u64
     }
 }
 
-/// A least number that may have become less, and what it goes to.
+/// Widens a measure that may have become less.
 fn lowered(program: &[Instr], before: u16, now: u16, slow: bool) -> u16
     ensures { result ≡ spec.lowered program.now slow before now }
 {
@@ -112,7 +112,7 @@ fn lowered(program: &[Instr], before: u16, now: u16, slow: bool) -> u16
     }
 }
 
-/// What is left of a fact that may say less than before.
+/// Widens a fact that may say less than before.
 fn lowered_fact(program: &[Instr], before: Fact, now: Fact, slow: bool) -> Fact
     ensures { result ≡ spec.lowered_fact program.now slow before now }
 {
@@ -136,7 +136,7 @@ fn lowered_fact(program: &[Instr], before: Fact, now: Fact, slow: bool) -> Fact
     }
 }
 
-/// What is left of facts that may say less than before, register by register.
+/// Widens facts that may say less than before, register by register.
 fn lowered_facts(program: &[Instr], before: &[Fact; 8], now: &[Fact; 8], slow: bool) -> [Fact; 8]
     ensures { result ≡ paired (spec.lowered_fact program.now slow) before.now now.now }
 {
@@ -147,7 +147,7 @@ fn lowered_facts(program: &[Instr], before: &[Fact; 8], now: &[Fact; 8], slow: b
     lowered
 }
 
-/// Bounds that may have grown, and what they go to, register by register.
+/// Widens bounds that may have grown, register by register.
 fn raised_bounds(program: &[Instr], before: &[u64; 8], now: &[u64; 8], slow: bool) -> [u64; 8]
     ensures { result ≡ paired (spec.raised program.now slow) before.now now.now }
 {
@@ -158,7 +158,7 @@ fn raised_bounds(program: &[Instr], before: &[u64; 8], now: &[u64; 8], slow: boo
     greater
 }
 
-/// What is left of a row that may say less than before.
+/// Widens a row that may say less than before.
 fn lowered_row(program: &[Instr], before: &Row, now: &Row, slow: bool) -> Row
     ensures { result ≡ spec.lowered_row program.now slow before.now now.now }
 {
@@ -169,7 +169,7 @@ fn lowered_row(program: &[Instr], before: &Row, now: &Row, slow: bool) -> Row
     }
 }
 
-/// What is known where control comes back with the second row.
+/// The row of a label to which control returns with `row`.
 #[tactic(auto, using(crate::proofs::JoinLaws::joined_well_formed, crate::proofs::JoinLaws::met_well_formed))]
 fn weakened(program: &[Instr], there: &Row, row: &Row, slow: bool) -> Row
     ensures is { result ≡ spec.weakened program.now slow there.now row.now }
@@ -183,7 +183,7 @@ fn weakened(program: &[Instr], there: &Row, row: &Row, slow: bool) -> Row
     }
 }
 
-/// What is known where control comes with the second row, to the same label, an earlier or a later one.
+/// The row of a label that control reaches with `row`, from an earlier label, from a later one or from itself.
 #[tactic(auto, using(crate::proofs::JoinLaws::met_well_formed))]
 fn known_after(program: &[Instr], there: &Row, row: &Row, back: bool, slow: bool) -> Row
     ensures is { result ≡ spec.known_after program.now back slow there.now row.now }
@@ -196,14 +196,14 @@ fn known_after(program: &[Instr], there: &Row, row: &Row, back: bool, slow: bool
     }
 }
 
-/// Whether two rows do not say the same.
+/// Whether two rows differ.
 fn differ(row: &Row, other: &Row) -> bool
     ensures { result ≡ not (spec.same_row row.now other.now) }
 {
     *row != *other
 }
 
-/// Joins a row into that of the label where it leads; whether that changed.
+/// Joins a row into that of its label; returns whether that changed.
 #[tactic(auto, using(crate::proofs::RowLists::all_set))]
 fn reach_again(rows: &mut [Row], program: &[Instr], label: u16, lead: &Lead, slow: bool) -> bool
     requires well_formed { IsTrue (list_all is_well_formed_row rows.old) }
@@ -222,7 +222,7 @@ fn reach_again(rows: &mut [Row], program: &[Instr], label: u16, lead: &Lead, slo
     differ(&row, &there)
 }
 
-/// Passes control on from a label; whether a row changed.
+/// Passes a label's row on to its successors; returns whether a row changed.
 fn pass_again(rows: &mut [Row], program: &[Instr], env: &Env, label: u16, slow: bool) -> bool
     requires in_range { label < length rows.old }
     requires same_length { length rows.old ≡ length program.now }
@@ -251,7 +251,7 @@ fn pass_again(rows: &mut [Row], program: &[Instr], env: &Env, label: u16, slow: 
     }
 }
 
-/// Passes control on from each label in order; whether a row changed.
+/// Passes rows on, label by label in order; returns whether a row changed.
 fn spread_again(rows: &mut [Row], program: &[Instr], env: &Env, slow: bool) -> bool
     requires same_length { length rows.old ≡ length program.now }
     requires at_most { length program.now ≤ MOST_INSTRS }
@@ -269,8 +269,7 @@ fn spread_again(rows: &mut [Row], program: &[Instr], env: &Env, slow: bool) -> b
     changed
 }
 
-/// Weakens rows, pass by pass, until a pass changes none of them, or [`MOST_PASSES`] passes are made. It is not promised that
-/// they serve then.
+/// Widens rows, pass by pass, until a pass changes none, or [`MOST_PASSES`] are made. Whether they suffice then is left open.
 pub(crate) fn settle(rows: &mut [Row], program: &[Instr], env: &Env)
     requires same_length { length rows.old ≡ length program.now }
     requires at_most { length program.now ≤ MOST_INSTRS }

@@ -1,4 +1,4 @@
--- The instruction that is built of a statement's operands spells them.
+-- The instruction built from a statement's operands spells them.
 use Rattle.std.proofs.Common.{◌≡◌, ℕ, ◌<◌, ◌≤◌, Bool, true, false, List, [], ◌∷◌, map, Option, Some, None, refl, arith, inl, inr}
 use Rattle.std.specs.Prelude.{◌&&◌, nat_le, option_map, slice_index_or}
 use Rattle.std.proofs.lemmas.Bool.{leb-true, lt-ltb, le-ltb, cases_lt}

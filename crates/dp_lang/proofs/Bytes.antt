@@ -1,4 +1,4 @@
--- The bytes that a printed text has.
+-- The bytes of a printed text.
 use Rattle.std.proofs.Common.{◌≡◌, ℕ, Bool, true, false, not, List, [], ◌∷◌, ◌++◌, refl, arith}
 use Rattle.std.specs.Prelude.{◌&&◌, ◌||◌, ◌==◌, nat_le}
 use Rattle.std.specs.List.{list_all}
@@ -32,7 +32,7 @@ all_append p (b ∷ s) t h k = and_true (p b) (list_all p (s ++ t)) (and_left (p
 abbrev pub Free : (ℕ → Bool) → List ℕ → Type 0
 Free p s = list_all (λ b. not (p b)) s ≡ true
 
--- ---- digits, letters and what separates them
+-- ---- digits, letters and separators
 
 abbrev pub is_digit : ℕ → Bool
 is_digit b = nat_le 48 b && nat_le b 57
@@ -41,7 +41,7 @@ is_digit b = nat_le 48 b && nat_le b 57
 abbrev pub is_plain : ℕ → Bool
 is_plain b = nat_le 48 b && (nat_le b 122 && not (b == 58))
 
--- what a printed instruction has: plain bytes, blanks and commas
+-- the bytes of a printed instruction: plain bytes, blanks and commas
 abbrev pub is_ink : ℕ → Bool
 is_ink b = is_plain b || ((b == 32) || (b == 44))
 

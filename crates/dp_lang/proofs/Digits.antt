@@ -1,4 +1,4 @@
--- A number that is printed, read again.
+-- A printed number reads as that number.
 use Rattle.std.proofs.Common.{◌≡◌, ℕ, ◌+◌, ◌-◌, ◌*◌, ◌^◌, ◌<◌, ◌≤◌, Bool, true, false, List, [], ◌∷◌, length, Some, None, refl, ap, ◌∙◌, eq-eqb, arith}
 use Rattle.std.specs.Prelude.{◌&&◌, ◌==◌, nat_le, nat_eq}
 use Rattle.std.specs.List.{list_all, starts_with}
@@ -45,7 +45,7 @@ no_x d h = grind (arith, nat_tests)
 no_letter : (letter c : ℕ) → 58 ≤ letter → is_digit c ≡ true → (c == letter) ≡ false
 no_letter letter c l h = grind (arith, nat_tests)
 
--- digits do not begin as a hex number
+-- decimal digits do not begin like a hex number
 no_hex : (ds : List ℕ) → list_all is_digit ds ≡ true → starts_with nat_eq ds (48 ∷ 120 ∷ []) ≡ false
 no_hex [] h = refl
 no_hex (c ∷ []) h = and_false (nat_eq 48 c)
@@ -66,7 +66,7 @@ no_register letter (c ∷ []) l h = refl
 no_register letter (c ∷ d ∷ []) l h = rw (no_letter letter c l (and_left (is_digit c) (list_all is_digit (d ∷ [])) h)) refl
 no_register letter (c ∷ d ∷ e ∷ ds) l h = refl
 
--- a register that is printed
+-- a printed register reads as that register
 pub register_decimal : (letter r : ℕ) → nat_le r 7 ≡ true → register_in letter (letter ∷ decimal r) ≡ Some r
 unfolding register_in
 register_decimal letter r h =

@@ -1,4 +1,4 @@
--- Which labels stand among the operands of an instruction: the one that it names, or none.
+-- The labels among the operands of an instruction: the one that it names, or none.
 use Rattle.std.proofs.Common.{◌≡◌, ℕ, Bool, true, false, List, [], ◌∷◌, ◌++◌, Option, Some, None, refl, ap, ◌∙◌}
 use Rattle.std.specs.Prelude.{◌&&◌, nat_lt}
 use Rattle.std.specs.List.{list_all}
@@ -31,14 +31,14 @@ either_none : (x : Operand) → if_label (either x) ≡ []
 either_none (operand.Register r) = refl
 either_none (operand.Constant c) = refl
 
--- the label of an instruction is the one among its operands: by computing, but for `either`, so no instruction has a case
+-- the label of an instruction is the one among its operands: by computation, except for `either`, so no instruction has a case
 pub own_label : (i : Instr) → labels (spelled i).arguments ≡ if_any (label_of i)
 own_label instr.Exit = refl
 own_label _ = first_of (cc, simp either_none)
 
 -- ---- the instructions that labels name
 
--- whether an operand is no label, or one of so many instructions
+-- whether an operand is no label, or one below n
 abbrev pub is_below : ℕ → Argument ℕ → Bool
 is_below count (packet p) = true
 is_below count (register r) = true
@@ -60,6 +60,6 @@ one_below : (count : ℕ) (o : Option ℕ) → list_all (λ l. nat_lt l count) (
 one_below count None = refl
 one_below count (Some l) = and_nothing (nat_lt l count)
 
--- no operand of an instruction names more than its label
+-- no operand of an instruction is a label but its own
 pub operands_below : (count : ℕ) (i : Instr) → list_all (is_below count) (spelled i).arguments ≡ leads_below count i
 operands_below count i = labels_below count (spelled i).arguments ∙ ap (list_all (λ l. nat_lt l count)) (own_label i) ∙ one_below count (label_of i)

@@ -1,10 +1,10 @@
--- Operands one after another, each behind a separator.
+-- Operands one after another, each after a separator.
 use Rattle.std.proofs.Common.{◌≡◌, ℕ, List, [], ◌∷◌, ◌++◌, map, refl, ap, sym, append-nil}
 use Rattle.std.specs.List.{join_with_byte}
 use Rattle.dp_lang.specs.Arguments.{Argument}
 use Rattle.dp_lang.specs.Printing.{argument_text, arguments_text}
 
--- the first behind this separator, the others behind a comma
+-- the first after this separator, the others after a comma
 abbrev pub behind : List ℕ → List (Argument ℕ) → List ℕ
 behind before [] = []
 behind before (a ∷ as') = before ++ (argument_text a ++ behind (44 ∷ []) as')

@@ -1,4 +1,4 @@
--- Labels by their bytes, looked up and inserted.
+-- Looking up and inserting labels by their bytes.
 use Rattle.std.proofs.Common.{Ordering, ◌≡◌, ℕ, cond, List, [], ◌∷◌, Some, refl, sym, ap, ◌∙◌, Bor}
 use Rattle.std.specs.Ordering.{nat_cmp, is_eq, eq_by_cmp}
 use Rattle.std.specs.Cmp.{eq_by_cmp_equiv}

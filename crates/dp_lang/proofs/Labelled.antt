@@ -1,11 +1,11 @@
--- Which labels are named, as far as a program is read.
+-- Which labels are named, as far as a program is printed.
 use Rattle.std.proofs.Common.{◌≡◌, ℕ, suc, ◌+◌, ◌<◌, Bool, false, cond, List, [], ◌∷◌, ◌++◌, length, get_or, take, drop, add-one, append_assoc, sym, ap, ◌∙◌}
 use Rattle.std.proofs.Math.Seq.{drop-cons}
 use Rattle.dp_model.specs.declared.instr.Instr.{Instr}
 use Rattle.dp_lang.specs.Forms.{spelled}
 use Rattle.dp_lang.specs.Printing.{is_named, label_name, line, label_line, statement_text, printed_from}
 
--- the labels that the first so many instructions name
+-- the labels that the first i instructions name
 pub record AreNamed (program : List Instr) (i : ℕ) (named : List Bool) : Type 0 where
   pub as_many : length named ≡ length program
   pub so_far : (n : ℕ) → n < length program → get_or named n false ≡ is_named (take i program) n

@@ -1,4 +1,4 @@
--- How the parts of a text are found, and that a line has at least one.
+-- Where the parts of a text are, and that a line has at least one.
 use Rattle.std.proofs.Common.{◌≡◌, ℕ, zero, suc, ◌+◌, ◌-◌, ◌<◌, Bool, true, false, not, List, [], ◌∷◌, ◌++◌, length, take, drop, get_or, refl, ap, ◌∙◌, arith}
 use Rattle.std.specs.List.{list_all, slice_split, before_first, after_first, position_or_len, suffix_len}
 use Rattle.std.proofs.lemmas.List.Sums.{suffix_len_is}
@@ -9,7 +9,7 @@ no : (b : Bool) → not b ≡ true → b ≡ false
 no true h = absurd cc
 no false h = refl
 
--- the first byte does not pass, and no other
+-- the first byte does not pass, and none does
 head_no : (p : ℕ → Bool) (b : ℕ) (s : List ℕ) → Free p (b ∷ s) → p b ≡ false
 head_no p b s h = no (p b) (and_left (not (p b)) (list_all (λ c. not (p c)) s) h)
 
@@ -64,7 +64,7 @@ after_none p s h =
     let next : position_or_len p s + 1 ≡ suc (length s) = omega (arith, place_none p s h) in
     ap (λ n. drop n s) next ∙ drop_whole s
 
--- ---- blanks round a text
+-- ---- blanks around a text
 
 -- it begins with no blank
 abbrev pub begins : List ℕ → Bool

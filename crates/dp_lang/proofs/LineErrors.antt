@@ -1,4 +1,4 @@
--- Why a line stops: the least of two errors.
+-- The lesser of two errors of a line.
 use Rattle.std.proofs.Common.{Result, refl}
 use Rattle.dp_lang.specs.declared.cause.Cause.{Cause}
 use Rattle.dp_lang.specs.declared.cause.LineError.{LineError}

@@ -1,4 +1,4 @@
--- The lines that are printed, read again.
+-- The printed lines read as what was printed.
 use Rattle.std.proofs.Common.{◌≡◌, ℕ, ◌^◌, ◌<◌, true, false, not, List, [], ◌∷◌, ◌++◌, length, map, Ok, refl, ap, ◌∙◌, append-nil}
 use Rattle.std.specs.List.{list_all, slice_split}
 use Rattle.std.specs.FinMap.{insert, contains_key}
@@ -57,7 +57,7 @@ text_ends f [] s = ap ends (append-nil (word_of f)) ∙ free_ends (word_of f) (w
 text_ends f (a ∷ as') s = ap (λ r. ends (word_of f ++ r)) (arguments_text-behind (a ∷ as'))
     ∙ ends_append (word_of f) (behind (32 ∷ []) (a ∷ as')) (behind_ends (32 ∷ []) a as' s)
 
--- a text without comments and blanks round it is cut at its colons alone
+-- a text without comments and without blanks around it is cut only at its colons
 one_piece : (t : List ℕ) → Free is_hash t → begins t ≡ true → ends t ≡ true → pieces t ≡ slice_split is_colon t
 one_piece t h b e = ap (λ r. slice_split is_colon (trim r)) (before_none is_hash t h) ∙ ap (slice_split is_colon) (trim_none t b e)
 

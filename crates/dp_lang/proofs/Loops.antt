@@ -1,4 +1,4 @@
--- One more operand, label, line or statement.
+-- One more operand, label, line or statement in a loop.
 use Rattle.std.proofs.Math.Seq.{drop-cons}
 use Rattle.std.proofs.Common.{Bor, add-one, ◌≡◌, ℕ, ◌+◌, ◌<◌, ◌≤◌, true, List, [], ◌∷◌, ◌++◌, length, map, get_or, drop, take, ◌-◌, Option, Some, None}
 use Rattle.std.proofs.Common.{Result, Ok, Err, refl, sym, ap, ◌∙◌, append_assoc, arith, inl, inr}
@@ -15,7 +15,7 @@ use Rattle.std.specs.FinMap.{insert}
 use Rattle.dp_lang.specs.Reading.{Named, both, ◌>>=◌, onto, second, each_argument, Labels, label_test, labels_after, Source, statement_of, with_statement}
 use Rattle.dp_lang.specs.Reading.{line_of}
 
--- ---- the least of causes
+-- ---- the lesser of causes
 
 least_low : (c d : Cause) → number_of c ≤ number_of d → least c d ≡ c
 least_low c d h = rw (le-leb _ _ h) refl
@@ -36,7 +36,7 @@ least_assoc d c e =
       ]
     ]
 
--- what is read, beside a fault that was found before
+-- a result together with a fault that was found before
 abbrev pub noting : {A : Type 0} → Option Cause → Result A Cause → Result A Cause
 noting None read = read
 noting (Some before) (Ok x) = Err before
@@ -67,7 +67,7 @@ prepend_none (Err e) = refl
 
 -- ---- labels
 
--- whether a label may come next, and what the others give
+-- whether a label can be defined, and then the others
 abbrev pub then_labels : Result (Unit {0}) Cause → Result Labels Cause → Result Labels Cause
 then_labels test rest = both test rest >>= second
 
@@ -158,7 +158,7 @@ labels_are ps = rw (length-map ps (λ (part : Bor (List ℕ)). part.now), take-m
     map_map [] = refl
     map_map (q ∷ qs) = rw (map_map qs) refl
 
--- what a line gives, by the pieces of its text
+-- what a line has, by the pieces of its text
 pub line_is : (line : ℕ) (source : Source) (text : List ℕ) (ps : List (Bor (List ℕ))) (d : Bor (List ℕ)) (s : Result (Option (Statement (List ℕ))) Cause)
     (ls : Result Labels Cause)
     → list_all is_text text ≡ true → map (λ part. part.now) ps ≡ pieces text → 0 < length ps

@@ -1,4 +1,4 @@
--- An operand that is printed, read again.
+-- A printed operand reads as that operand.
 use Rattle.std.proofs.Common.{◌≡◌, ℕ, ◌^◌, ◌<◌, ◌≤◌, Bool, true, List, length, Ok, refl, arith}
 use Rattle.std.specs.Prelude.{nat_le}
 use Rattle.std.specs.List.{list_all}

@@ -36,7 +36,7 @@ tail_same c s t h = cc
 other_name : (m n : ℕ) → m < 2 ^ 64 → n < 2 ^ 64 → (m ≡ n → ⊥) → label_name m ≡ label_name n → ⊥
 other_name m n small small' differ e = differ (decimal_injective m n small small' (tail_same 76 (decimal m) (decimal n) e))
 
--- ---- the labels of the instructions before a number
+-- ---- the labels of the first n instructions
 
 pub record ArePlaced (program : List Instr) (n : ℕ) (labels : Labels) : Type 0 where
   pub earlier : (m : ℕ) → m < n → is_named program m ≡ true → get labels (label_name m) ≡ Some m

@@ -1,4 +1,4 @@
--- The operands of a program's instruction are small.
+-- The operands of a program's instructions are within 64 bits.
 use Rattle.std.proofs.Common.{◌≡◌, ℕ, ◌≤◌, Bool, true, List, [], ◌∷◌, refl, ◌∙◌, arith}
 use Rattle.std.specs.Prelude.{nat_le, nat_lt}
 use Rattle.std.specs.List.{list_all}

@@ -1,4 +1,4 @@
--- The text that is printed for a program reads as that program.
+-- The printed text of a program reads as that program.
 use Rattle.std.proofs.Common.{◌≡◌, ℕ, suc, ◌+◌, ◌^◌, ◌<◌, ◌≤◌, Bool, true, false, not, cond, List, [], ◌∷◌, ◌++◌, length, map, Some, Result, Ok, refl, sym}
 use Rattle.std.proofs.Common.{ap, subst, ◌∙◌, append-nil, append_assoc, length-append, add-one, arith}
 use Rattle.std.specs.Prelude.{nat_lt}
@@ -29,7 +29,7 @@ line_then n source next text rest free read = rw (append_assoc text (10 ∷ []) 
 
 -- ---- the lines of an instruction
 
--- what the lines give once so many instructions are read
+-- what the lines give after n instructions
 record Agrees (program done : List Instr) (source : Source) : Type 0 where
   agree : map (λ s. s.1) source.statements ≡ map with_names done
   placed : ArePlaced program (length done) source.labels
@@ -37,7 +37,7 @@ record Agrees (program done : List Instr) (source : Source) : Type 0 where
 statements_many : (done : List Instr) (source : Source) → map (λ s. s.1) source.statements ≡ map with_names done → length source.statements ≡ length done
 statements_many done source agree = sym (length-map source.statements (λ s. s.1)) ∙ ap length agree ∙ length-map done with_names
 
--- reading goes on to the end from a line
+-- reading from a line on reaches the end
 record Reaches (program all : List Instr) (read : Result Source Fault) : Type 0 where
   last : Source
   is : read ≡ Ok last
@@ -68,7 +68,7 @@ abbrev From : (program all more : List Instr) → Type 0
 From program all more = (done : List Instr) (n : ℕ) (source : Source) → done ++ more ≡ all → Agrees program done source →
     Goes program all n source (printed_from program (length done) more)
 
--- the statement of an instruction, whose label is placed
+-- the statement of an instruction whose label is defined
 statement_goes : (program all : List Instr) (i : Instr) (more : List Instr) → length all ≤ 1024 → is_in_range i ≡ true →
     list_all is_small (spelled i).arguments ≡ true → From program all more
     → (done : List Instr) (n : ℕ) (source : Source) → done ++ i ∷ more ≡ all → map (λ s. s.1) source.statements ≡ map with_names done →
@@ -89,7 +89,7 @@ statement_goes program all i more few fit small go done n source whole agree pla
           ∙ sym many) placed;
     })))
 
--- the line of its label, where it is named, before that
+-- before it the line of its label, where it is named
 instr_goes : (program all : List Instr) (i : Instr) (more : List Instr) → length all ≤ 1024 → is_in_range i ≡ true → list_all is_small (spelled i).arguments
     ≡ true → From program all more
     → (done : List Instr) (n : ℕ) (source : Source) → done ++ i ∷ more ≡ all → Agrees program done source → (b : Bool) → is_named program (length done) ≡ b

@@ -1,4 +1,4 @@
--- The names of printed labels become their numbers again.
+-- The names of printed labels resolve to their numbers.
 use Rattle.std.proofs.Common.{◌≡◌, ℕ, Bool, true, false, List, [], ◌∷◌, map, Option, Some, None, Ok, refl, sym, ap, subst, ◌∙◌, eq-eqb}
 use Rattle.std.specs.Prelude.{◌||◌, ◌==◌, nat_lt}
 use Rattle.std.specs.List.{list_all, list_any}
@@ -65,7 +65,7 @@ or_more : (a b : Bool) → b ≡ true → (a || b) ≡ true
 or_more true b h = refl
 or_more false b h = h
 
--- each label is found that some instruction names
+-- each label that some instruction names is found
 pub all_find : (target : List ℕ → Option ℕ) (program : List Instr) (count : ℕ) →
     ((l : ℕ) → is_named program l ≡ true → nat_lt l count ≡ true → target (label_name l) ≡ Some l)
     → (is : List Instr) → ((l : ℕ) → list_any (names l) is ≡ true → is_named program l ≡ true) → list_all (leads_below count) is ≡ true → AllFind target is

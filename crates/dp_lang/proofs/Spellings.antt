@@ -1,4 +1,4 @@
--- A spelled instruction, and so a text, is one instruction's alone.
+-- No two instructions are spelled alike, so no two programs are.
 use Rattle.std.proofs.Common.{◌≡◌, ℕ, List, [], ◌∷◌, map, Result, Ok, refl, sym, ap, ◌∙◌, arith}
 use Rattle.dp_model.specs.Arithmetic.{bytes_in}
 use Rattle.dp_model.specs.declared.instr.Instr.{Instr}
@@ -23,7 +23,7 @@ bytes_same Four Four h = refl
 bytes_same Eight Eight h = refl
 bytes_same _ _ h = absurd cc
 
--- forms and operands tell instructions apart: by computing, but for `either` and widths, so no instruction has a case
+-- form and operands determine the instruction: by computation, except for `either` and widths, so no instruction has a case
 spelled_same : (i j : Instr) → (spelled i).form ≡ (spelled j).form → (spelled i).arguments ≡ (spelled j).arguments → i ≡ j
 spelled_same instr.Exit instr.Exit f h = refl
 spelled_same _ instr.Exit f h = absurd cc

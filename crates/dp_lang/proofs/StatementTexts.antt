@@ -1,4 +1,4 @@
--- An instruction that is printed, read again.
+-- A printed instruction reads as that instruction.
 use Rattle.std.proofs.Common.{◌≡◌, ℕ, suc, ◌<◌, Bool, true, false, not, List, [], ◌∷◌, ◌++◌, length, map, Some, Ok, refl, sym, ap, ◌∙◌, eq-eqb, append-nil}
 use Rattle.std.proofs.Common.{length-append, arith}
 use Rattle.std.specs.Prelude.{◌&&◌}
@@ -76,7 +76,7 @@ arguments_read : (ks : List Kind) (as' : List (Argument ℕ)) → all_of ks as' 
 arguments_read ks as' h s = rw (eq-eqb (length ks) (length (map argument_text as')) (as_many ks as' h ∙ sym (length-map as' argument_text)))
     (each_read ks as' h s)
 
--- operands behind commas are cut at these
+-- operands after commas are split at these
 parts : (a : Argument ℕ) (as' : List (Argument ℕ)) → list_all is_small (a ∷ as') ≡ true → slice_split is_comma (argument_text a ++ behind (44 ∷ []) as')
     ≡ map argument_text (a ∷ as')
 parts a [] s = ap (slice_split is_comma) (append-nil (argument_text a)) ∙ split_none is_comma (argument_text a) (free_comma a (and_left (is_small a) true s))

@@ -14,7 +14,7 @@ number_of LabelTwice = 7
 number_of LabelUnknown = 8
 number_of Size = 9
 
--- the name that is shown
+-- the name that is printed
 abbrev pub name_of : Cause → List ℕ
 name_of BadByte = codes "BadByte"
 name_of BadWord = codes "BadWord"
@@ -26,11 +26,11 @@ name_of LabelTwice = codes "LabelTwice"
 name_of LabelUnknown = codes "LabelUnknown"
 name_of Size = codes "Size"
 
--- the cause of the lower number
+-- the lesser of two causes
 abbrev pub least : Cause → Cause → Cause
 least c d = if nat_le (number_of c) (number_of d) then c else d
 
--- a cause beside one that was found before
+-- the lesser of a cause and one that was found before
 abbrev pub or_less : Option Cause → Cause → Cause
 or_less None cause = cause
 or_less (Some before) cause = least before cause

@@ -1,5 +1,5 @@
--- Internal, no public contract names it: the fields of an instruction, read from the operands of a text, whatever these are. One of
--- another kind counts as 0; where the operands are of the form's kinds, the instruction has them.
+-- Internal, no public contract names it: the fields of an instruction, read from the operands of a text, whatever these are. An operand of another
+-- kind counts as 0; where the operands are of the form's kinds, the instruction has them.
 use Rattle.std.specs.Prelude.{ℕ, suc, ◌==◌, nat_lt, List, [], ◌∷◌, Option, Some, slice_index_or, if◌then◌else◌}
 use Rattle.dp_model.specs.Arithmetic.{bytes_in}
 use Rattle.dp_model.specs.declared.registers.Operand.{Operand}
@@ -52,7 +52,7 @@ operand_in a = operand.Constant (number_in a)
 abbrev pub none : Named
 none = Constant 0
 
--- the label that an operand names, 0 where none names one
+-- the label that an operand names; 0 where none does
 abbrev pub label_in : (List ℕ → Option ℕ) → List Named → Option ℕ
 label_in target [] = Some 0
 label_in target (Name name ∷ more) = target name.now
@@ -62,7 +62,7 @@ label_in target (a ∷ more) = label_in target more
 abbrev pub fitted : ℕ → ℕ → ℕ
 fitted most n = if nat_lt most 256 then less 256 n else (if nat_lt most 65536 then less 65536 n else n)
 
--- a field of a kind, as an operand again, where the label has this number
+-- a field as an operand again, with this number for a label
 abbrev pub fielded : ℕ → Kind → Named → Argument ℕ
 fielded l kinds.Packet a = packet (packet_in a)
 fielded l kinds.Register a = register (register_in a)
@@ -76,6 +76,6 @@ abbrev pub all_fielded : ℕ → List Kind → (ℕ → Named) → List (Argumen
 all_fielded l [] given = []
 all_fielded l (k ∷ ks) given = fielded l k (given 0) ∷ all_fielded l ks (λ n. given (suc n))
 
--- what is spelled by the instruction of a form
+-- what the instruction of a form spells
 abbrev pub fielded_statement : Form → List Named → ℕ → Statement ℕ
 fielded_statement form given l = record { form = form; arguments = all_fielded l (kinds_of form) (λ n. slice_index_or given n none) }

@@ -7,7 +7,7 @@ use Rattle.dp_lang.specs.declared.cause.LineError.{LineError}
 use Rattle.dp_lang.specs.declared.cause.LineError.TheVariants as lines
 use Rattle.dp_lang.specs.Causes.{least}
 
--- the lower cause, and want of memory before any
+-- the lesser cause; lack of memory comes before any
 abbrev pub least_error : LineError → LineError → LineError
 least_error lines.Memory e = lines.Memory
 least_error (lines.Cause c) lines.Memory = lines.Memory
@@ -17,7 +17,7 @@ abbrev pub error_at : ℕ → LineError → AsmError
 error_at line lines.Memory = texts.Memory
 error_at line (lines.Cause c) = texts.Fault (record { line = line; cause = c })
 
--- what was returned is what reading gives, as `view` sees it, unless memory ran out
+-- the code stops for the reason that the definition has, or for lack of memory
 abbrev pub StopsAs : {Y : Type 0} → LineError → Result Y Cause → Type 0
 StopsAs lines.Memory read = Unit {0}
 StopsAs (lines.Cause c) read = read ≡ Err c

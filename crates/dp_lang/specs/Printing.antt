@@ -1,4 +1,4 @@
--- The one text that is printed for a program.
+-- The text that is printed for a program.
 use Rattle.std.specs.Prelude.{ℕ, ◌+◌, ◌==◌, Bool, false, List, [], ◌∷◌, ◌++◌, map, codes, if◌then◌else◌}
 use Rattle.std.specs.List.{list_any, join_with_byte}
 use Rattle.std.specs.Option.{option_map_or}
@@ -8,7 +8,7 @@ use Rattle.dp_lang.specs.Arguments.{Argument, packet, register, constant, label}
 use Rattle.dp_lang.specs.Forms.{word_of, Statement, spelled}
 use Rattle.dp_model.specs.Jumps.{label_of}
 
--- the label of an instruction is L and its number
+-- the printed label of an instruction: L and its number
 abbrev pub label_name : ℕ → List ℕ
 label_name n = codes "L" ++ decimal n
 
@@ -18,7 +18,7 @@ argument_text (register r) = codes "r" ++ decimal r
 argument_text (constant n) = decimal n
 argument_text (label n) = label_name n
 
--- a blank, and the operands with a comma between two
+-- a blank, and the operands with commas between them
 abbrev pub arguments_text : List (Argument ℕ) → List ℕ
 arguments_text [] = []
 arguments_text (a ∷ as') = 32 ∷ join_with_byte 44 (map argument_text (a ∷ as'))
@@ -26,7 +26,7 @@ arguments_text (a ∷ as') = 32 ∷ join_with_byte 44 (map argument_text (a ∷ 
 abbrev pub statement_text : Statement ℕ → List ℕ
 statement_text s = word_of s.form ++ arguments_text s.arguments
 
--- whether an instruction names the label of this number
+-- whether an instruction names the label with this number
 abbrev pub names : ℕ → Instr → Bool
 names n i = option_map_or (λ l. l == n) (label_of i) false
 
@@ -37,7 +37,7 @@ is_named program n = list_any (names n) program
 abbrev pub line : List ℕ → List ℕ
 line text = text ++ 10 ∷ []
 
--- before an instruction that some instruction names, its label and a colon
+-- the label and a colon, before an instruction that some instruction names
 abbrev pub label_line : List Instr → ℕ → List ℕ
 label_line program n = if is_named program n then line (label_name n ++ 58 ∷ []) else []
 

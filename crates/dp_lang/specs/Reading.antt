@@ -1,4 +1,4 @@
--- What a text reads as: one program, or a line and a cause.
+-- How a text is read: as one program, or a line and a cause.
 use Rattle.std.specs.Prelude.{◌≡◌, ℕ, ◌+◌, ◌==◌, nat_lt, List, [], ◌∷◌, ◌++◌, length, map, Option, Some, None, Result, Ok, Err, if◌then◌else◌}
 use Rattle.std.specs.List.{slice_split, list_all, after_first}
 use Rattle.std.specs.Ordering.{nat_cmp}
@@ -26,7 +26,7 @@ both (Ok a) (Err d) = Err d
 both (Err c) (Ok b) = Err c
 both (Err c) (Err d) = Err (least c d)
 
--- one, and where it is there, another
+-- the first, and if it is there, then f of it
 infixl 10 ◌>>=◌
 abbrev pub ◌>>=◌ : {A B E : Type 0} → Result A E → (A → Result B E) → Result B E
 (Ok x) >>= f = f x
@@ -40,7 +40,7 @@ Named = Argument (List ℕ)
 abbrev pub onto : Named × List Named → Result (List Named) Cause
 onto pair = Ok (pair.0 ∷ pair.1)
 
--- an operand of each kind, with blanks cut round it
+-- an operand of each kind, without the blanks around it
 abbrev pub each_argument : List Kind → List (List ℕ) → Result (List Named) Cause
 each_argument [] parts = Ok []
 each_argument (kind ∷ kinds) [] = Ok []
@@ -54,7 +54,7 @@ abbrev pub with_form : List (List ℕ) → Option Form → Result (Option (State
 with_form parts None = Err BadWord
 with_form parts (Some form) = arguments_of (kinds_of form) parts >>= λ arguments. Ok (Some (record { form = form; arguments = arguments }))
 
--- what follows the last colon: nothing, or a word of the language and its operands
+-- what follows the last colon: nothing, or a word of the language with its operands
 unfoldable pub statement_of : List ℕ → Result (Option (Statement (List ℕ))) Cause
 statement_of [] = Ok None
 statement_of (b ∷ bs) = with_form (operands_in (after_first is_blank (b ∷ bs))) (form_of (word_in (b ∷ bs)))
@@ -65,32 +65,32 @@ statement_of (b ∷ bs) = with_form (operands_in (after_first is_blank (b ∷ bs
 abbrev pub Labels : Type 0
 Labels = FinMap (slice_cmp nat_cmp) ℕ
 
--- a label is a name that was not given before
+-- a label is a name that was not defined before
 abbrev pub label_test : Labels → List ℕ → Result (Unit {0}) Cause
 label_test labels name = if is_name name then (if contains_key labels name then Err LabelTwice else Ok tt) else Err BadLabel
 
 abbrev pub second : {A B : Type 0} → A × B → Result B Cause
 second pair = Ok pair.1
 
--- the labels after some more, all before the instruction of this number
+-- the labels after some more, all of the instruction with this number
 abbrev pub labels_after : ℕ → Labels → List (List ℕ) → Result Labels Cause
 labels_after number labels [] = Ok labels
 labels_after number labels (name ∷ more) = both (label_test labels name) (labels_after number (insert labels name number) more) >>= second
 
 -- ---- lines
 
--- what the lines so far gave: the labels, and each instruction with its line
+-- what the lines so far have: the labels, and each statement with its line
 pub record Source : Type 0 where
   pub labels : Labels
   pub statements : List (ℕ × Statement (List ℕ))
 
--- at most so many instructions as a program has
+-- at most as many instructions as a program may have
 abbrev pub with_statement : ℕ → Source → Option (Statement (List ℕ)) → Labels → Result Source Cause
 with_statement line source None labels = Ok (record { labels = labels; statements = source.statements })
 with_statement line source (Some s) labels = if nat_lt (length source.statements) MOST_INSTRS
     then Ok (record { labels = labels; statements = source.statements ++ (line, s) ∷ [] }) else Err Size
 
--- what one more line gives, or its least cause
+-- what one more line adds, or its least cause
 unfoldable pub line_of : ℕ → Source → List ℕ → Result Source Cause
 line_of line source text =
     if list_all is_text text then
@@ -107,7 +107,7 @@ abbrev pub lines_of : ℕ → Source → List (List ℕ) → Result Source Fault
 lines_of line source [] = Ok source
 lines_of line source (text ∷ texts) = at_line line (line_of line source text) >>= λ next. lines_of (line + 1) next texts
 
--- ---- names become the numbers of instructions
+-- ---- resolving labels
 
 -- the number of the instruction that a label names, if one follows it
 abbrev pub below : ℕ → Option ℕ → Option ℕ
@@ -167,7 +167,7 @@ program_of text =
 abbrev pub Reads : List ℕ → List Instr → Type 0
 Reads text program = program_of text ≡ Ok (map spelled program)
 
--- why the text is no program: its first fault; but memory can run out at any text
+-- why the text is no program: its first fault, or lack of memory, which can come with any text
 abbrev pub Fails : List ℕ → AsmError → Type 0
 Fails text errors.Memory = Unit {0}
 Fails text (errors.Fault fault) = program_of text ≡ Err fault

@@ -1,4 +1,4 @@
--- Internal, no public contract names it: what the statements and the labels of the assembler stand for.
+-- Internal, no public contract names it: the values of the assembler's statements and labels.
 use Rattle.std.specs.Prelude.{ℕ, List, Option, Some, None, map}
 use Rattle.dp_lang.specs.declared.statement.Statement.{Statement}
 use Rattle.dp_lang.specs.declared.source.Source.{Source}

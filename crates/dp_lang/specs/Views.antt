@@ -1,4 +1,4 @@
--- What the values of the assembler and the printer stand for.
+-- The values of the assembler and the printer, as contracts see them.
 use Rattle.std.specs.Prelude.{◌≡◌, ℕ, List, [], ◌∷◌, map, Option, Some, None, Result, Ok, Err}
 use Rattle.dp_model.specs.Arithmetic.{bytes_in}
 use Rattle.dp_model.specs.Jumps.{label_of}
@@ -42,7 +42,7 @@ listed (Three arguments) = arguments
 listed (Four arguments) = arguments
 listed (Five arguments) = arguments
 
--- the packet registers that are used, without one that is filled
+-- the packet registers that an instruction uses, without one that it fills
 abbrev pub used_in : List Numbered → List ℕ
 used_in [] = []
 used_in (program.Packet p ∷ more) = p ∷ used_in more
@@ -54,7 +54,7 @@ label_in [] = None
 label_in (program.Label n ∷ more) = Some n
 label_in (argument ∷ more) = label_in more
 
--- the operands of an instruction, and which of them it uses and jumps to
+-- the operands of an instruction, those that it uses, and the one that it jumps to
 pub record Seen : Type 0 where
   pub arguments : List (Argument ℕ)
   pub used : List ℕ
@@ -66,12 +66,12 @@ seen_in arguments = record { arguments = map numbered arguments; used = used_in 
 abbrev pub seen_of : Instr → Seen
 seen_of i = record { arguments = (spelled i).arguments; used = uses i; label = label_of i }
 
--- what was returned is what reading gives, as `view` sees it
+-- the code returns what the definition does
 abbrev pub Shows : {X Y E : Type 0} → (X → Y) → Result X E → Result Y E → Type 0
 Shows view (Ok x) read = read ≡ Ok (view x)
 Shows view (Err cause) read = read ≡ Err cause
 
--- the same, unless memory ran out
+-- the same, or lack of memory
 abbrev pub FailsAs : {Y : Type 0} → AsmError → Result Y Fault → Type 0
 FailsAs errors.Memory read = Unit {0}
 FailsAs (errors.Fault f) read = read ≡ Err f

@@ -1,11 +1,11 @@
-//! Operands, as a text and as a program has them.
+//! Operands, as a text has them and as a program has them.
 
 ghost use Rattle.std.specs.Prelude.{◌≡◌};
 ghost use Rattle.dp_lang.specs.Views.{label_in, listed};
 
 use dp_model::{NumberRegister, Operand, PacketRegister, Width};
 
-/// An operand of a text, whose label is a name.
+/// An operand in a text, where a label is a name.
 #[derive(Clone, Copy)]
 pub enum Named<'a> {
     /// A packet register, 0 to 7.
@@ -16,7 +16,7 @@ pub enum Named<'a> {
     Name(&'a [u8]),
 }
 
-/// An operand of a program, whose label is the number of an instruction.
+/// An operand in a program, where a label is the number of an instruction.
 #[derive(Clone, Copy)]
 pub enum Numbered {
     /// A packet register that the instruction fills.
@@ -31,15 +31,15 @@ pub enum Numbered {
     Count(u16),
     /// Any number of 64 bits.
     Constant(u64),
-    /// How many bytes are moved.
+    /// The number of bytes that are moved.
     Width(Width),
-    /// What the language takes as a number register or a constant.
+    /// A number register or a constant.
     RegisterOrConstant(Operand),
     /// The number of an instruction, from 0.
     Label(u16),
 }
 
-/// The operands of an instruction in the order of its text, by how many they are.
+/// The operands of an instruction in the order of its text; one variant for each number of them.
 #[derive(Clone, Copy)]
 pub enum Arguments {
     Zero,
@@ -51,7 +51,7 @@ pub enum Arguments {
 }
 
 impl Arguments {
-    /// The operands.
+    /// The operands, as a slice.
     pub fn as_slice(&self) -> &[Numbered]
         ensures { result.now ≡ listed self.now }
     {
@@ -65,7 +65,7 @@ impl Arguments {
         }
     }
 
-    /// The label among them.
+    /// The label among them, if there is one.
     pub fn label(&self) -> Option<u16>
         ensures { result ≡ label_in (listed self.now) }
     {

@@ -1,4 +1,4 @@
-//! `assemble`: from a text to its program.
+//! `assemble`: reads a text as a program.
 
 ghost use Rattle.std.specs.Prelude.{map, IfErr, IfOk};
 ghost use Rattle.dp_lang.specs.Reading.{Fails, Reads, lines_of, nothing};
@@ -14,7 +14,7 @@ use crate::resolve::instrs_of;
 use crate::source::Source;
 use std::alloc::Global;
 
-/// What the lines give, or the first line with a fault.
+/// Reads all lines, or returns the first line with a fault.
 pub(crate) fn read_lines<'a>(alloc: Global, lines: &[&'a [u8]]) -> Result<Source<'a>, AsmError>
     ensures { Gives view.source result (lines_of 1 nothing (map (λ line. line.now) lines.now)) }
 {
@@ -29,12 +29,11 @@ pub(crate) fn read_lines<'a>(alloc: Global, lines: &[&'a [u8]]) -> Result<Source
     Ok(source)
 }
 
-/// The program that a text reads as, or the line and the cause of the first fault. What a text reads as stands in
-/// docs/language.md.
+/// Reads a text as a program, or returns the line and the cause of its first fault. docs/reference/language.md describes the text.
 ///
 /// # Errors
 ///
-/// `AsmError::Fault` exactly where the text is no program, and `AsmError::Memory` where a growth was refused.
+/// `AsmError::Fault` exactly where the text is no program, and `AsmError::Memory` where a list could not grow.
 #[tactic(auto, unfolding(crate::specs::Reading::program_of))]
 pub fn assemble(alloc: Global, text: &[u8]) -> Result<Program, AsmError>
     ensures program { IfOk result (Reads text.now) }

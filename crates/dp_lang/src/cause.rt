@@ -11,35 +11,35 @@ use thiserror::Error;
 /// What is wrong with a line.
 #[derive(Clone, Copy, Debug, PartialEq, Eq)]
 pub enum Cause {
-    /// A byte that no text has: not a tab, a newline, a carriage return or 32 to 126. Comments count.
+    /// A byte that no text may have: anything but tab, newline, carriage return and 32 to 126. Comments count.
     BadByte = 1,
-    /// No instruction has this word.
+    /// The word of no instruction.
     BadWord,
-    /// Too few operands, or too many.
+    /// Too few or too many operands.
     BadOperands,
-    /// No register, p0 to p7 for a packet or r0 to r7 for a number.
+    /// Not a register, p0 to p7 for a packet or r0 to r7 for a number.
     BadRegister,
-    /// No number, or one out of range; also an operand that is neither a number register nor a number.
+    /// Not a number, or one out of range; also an operand that is neither a number register nor a number.
     BadNumber,
-    /// A label that is no name.
+    /// A label that is not a name.
     BadLabel,
-    /// A label that was given before.
+    /// A label that was defined before.
     LabelTwice,
-    /// A label that is not given, or that no instruction follows.
+    /// A label that is not defined, or that no instruction follows.
     LabelUnknown,
-    /// No instruction, or more than 1,024.
+    /// No instructions, or more than 1,024.
     Size,
 }
 
 impl Cause {
-    /// From 1, `BadByte`, to 9, `Size`.
+    /// The number of the cause, from 1, `BadByte`, to 9, `Size`.
     pub fn number(self) -> u8
         ensures { result ≡ number_of self }
     {
         self as u8
     }
 
-    /// Of two faults of a line the lower cause counts.
+    /// The lesser of two causes of one line.
     pub(crate) fn or_less(self, other: Cause) -> Cause
         ensures { result ≡ least self other }
     {
@@ -76,7 +76,7 @@ impl fmt::Display for Cause {
 /// The first fault of a text.
 #[derive(Clone, Copy, Debug, PartialEq, Eq)]
 pub struct Fault {
-    /// Lines count from 1; line 0 is the whole text.
+    /// The line, from 1; 0 stands for the whole text.
     pub line: usize,
     pub cause: Cause,
 }
@@ -98,14 +98,14 @@ impl fmt::Display for Fault {
 /// Why a line was not read.
 #[derive(Clone, Copy, Debug)]
 pub(crate) enum LineError {
-    /// A growth was refused.
+    /// A list could not grow.
     Memory,
-    /// What is wrong with the line.
+    /// The line has this fault.
     Cause(Cause),
 }
 
 impl LineError {
-    /// Of two the lower cause counts, and a growth that was refused before any cause.
+    /// The lesser of two causes; lack of memory comes before any cause.
     pub(crate) fn or_less(self, other: LineError) -> LineError
         ensures { result ≡ least_error self other }
     {
@@ -117,7 +117,7 @@ impl LineError {
         }
     }
 
-    /// Why the text of the line was not assembled.
+    /// The error of the text, for this line.
     pub(crate) fn at_line(self, line: usize) -> AsmError
         ensures { result ≡ error_at line self }
     {
@@ -151,7 +151,7 @@ impl<T: Drop> From<AllocFailed<T>> for LineError {
 /// Why a text was not assembled.
 #[derive(Clone, Copy, Debug, PartialEq, Eq, Error)]
 pub enum AsmError {
-    /// A growth was refused.
+    /// A list could not grow.
     #[error("out of memory")]
     Memory,
     /// The text is no program.

@@ -1,4 +1,4 @@
-//! A field of an instruction, read from an operand of a text, whatever that is.
+//! Reads a field of an instruction from an operand of a text, whatever kind that is.
 
 ghost use Rattle.std.specs.Prelude.{◌≡◌, slice_index_or};
 ghost use Rattle.dp_lang.specs.Fields as spec;
@@ -7,7 +7,7 @@ use crate::argument::Named;
 use crate::form::LARGEST_COUNT;
 use dp_model::{NumberRegister, Operand, PacketRegister, Width};
 
-/// An operand, `Constant(0)` where there are not so many.
+/// The `k`-th operand, or `Constant(0)` where there are fewer.
 pub fn operand_at<'a>(arguments: &[Named<'a>], k: usize) -> Named<'a>
     ensures { result ≡ slice_index_or arguments.now k spec.none }
 {
@@ -17,7 +17,7 @@ pub fn operand_at<'a>(arguments: &[Named<'a>], k: usize) -> Named<'a>
     }
 }
 
-/// The packet register of an operand, the first where it is none.
+/// The packet register in an operand; p0 where it is none.
 pub fn packet_in(given: Named) -> PacketRegister
     ensures { result ≡ spec.packet_in given.entry }
 {
@@ -27,7 +27,7 @@ pub fn packet_in(given: Named) -> PacketRegister
     }
 }
 
-/// The number register of an operand, the first where it is none.
+/// The number register in an operand; r0 where it is none.
 pub fn register_in(given: Named) -> NumberRegister
     ensures { result ≡ spec.register_in given.entry }
 {
@@ -37,7 +37,7 @@ pub fn register_in(given: Named) -> NumberRegister
     }
 }
 
-/// The number that an operand is, 0 where it is none.
+/// The number in an operand; 0 where it is none.
 pub fn number_in(given: Named) -> u64
     ensures { result ≡ spec.number_in given.entry }
 {
@@ -47,7 +47,7 @@ pub fn number_in(given: Named) -> u64
     }
 }
 
-/// The number that an operand is, 0 where it is none of one byte.
+/// The number in an operand; 0 where it does not fit into one byte.
 pub fn byte_in(given: Named) -> u8
     ensures { result ≡ spec.byte_in given.entry }
 {
@@ -55,7 +55,7 @@ pub fn byte_in(given: Named) -> u8
     if n < 256 { n as u8 } else { 0 }
 }
 
-/// The number of bytes, or the offset, that an operand is, 0 where it is none.
+/// The count or the offset in an operand; 0 where it is none.
 pub fn count_in(given: Named) -> u16
     ensures { result ≡ spec.count_in given.entry }
 {
@@ -63,7 +63,7 @@ pub fn count_in(given: Named) -> u16
     if n <= LARGEST_COUNT { n as u16 } else { 0 }
 }
 
-/// The width of so many bytes as an operand says, eight where there is none of so many.
+/// The width in an operand; eight bytes where it is none.
 pub fn width_in(given: Named) -> Width
     ensures { result ≡ spec.width_in given.entry }
 {
@@ -75,7 +75,7 @@ pub fn width_in(given: Named) -> Width
     }
 }
 
-/// The number register or the constant that an operand is, the constant 0 where it is neither.
+/// The number register or the constant in an operand; the constant 0 where it is neither.
 pub fn operand_in(given: Named) -> Operand
     ensures { result ≡ spec.operand_in given.entry }
 {

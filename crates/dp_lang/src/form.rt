@@ -1,4 +1,4 @@
-//! The table of forms: of each instruction its word, its fields, and what each field is as an operand.
+//! The table of forms: for each instruction its word, its fields, and the kind of each operand.
 
 ghost use Rattle.std.specs.Prelude.{◌≡◌, map};
 ghost use Rattle.dp_model.specs.Jumps.{label_of};
@@ -13,16 +13,16 @@ use crate::field::{
 };
 use dp_model::Instr;
 
-/// What an operand has to be.
+/// The kind of an operand.
 #[derive(Clone, Copy)]
 pub enum Kind {
     /// A packet register.
     Packet,
     /// A number register.
     Register,
-    /// A number of this range.
+    /// A number in this range.
     Number { least: u64, most: u64 },
-    /// 1, 2, 4 or 8.
+    /// A width: 1, 2, 4 or 8.
     Width,
     /// A number register or a constant.
     RegisterOrConstant,
@@ -30,10 +30,10 @@ pub enum Kind {
     Label,
 }
 
-/// The largest number of bytes, and the largest offset.
+/// The largest count of bytes, and the largest offset.
 pub const LARGEST_COUNT: u64 = 65_535;
 
-/// A number of bytes, or an offset in a packet.
+/// A count of bytes, or an offset in a packet.
 pub(crate) const COUNT: Kind = Kind::Number {
     least: 0,
     most: LARGEST_COUNT,
@@ -45,16 +45,16 @@ pub(crate) const CONSTANT: Kind = Kind::Number {
     most: u64::MAX,
 };
 
-/// The number of a pool.
+/// The index of a pool.
 pub(crate) const POOL: Kind = Kind::Number { least: 0, most: 7 };
 
-/// The number of a table of routes.
+/// The index of a table of routes.
 pub(crate) const TABLE: Kind = Kind::Number { least: 0, most: 3 };
 
-/// The number of a ring.
+/// The index of a ring.
 pub(crate) const RING: Kind = Kind::Number { least: 0, most: 7 };
 
-/// How many bits a register is shifted by.
+/// How many bits to shift by.
 pub(crate) const SHIFT: Kind = Kind::Number { least: 0, most: 63 };
 
 /// Any number of 64 bits but 0.
@@ -63,7 +63,7 @@ pub(crate) const POSITIVE: Kind = Kind::Number {
     most: u64::MAX,
 };
 
-/// Which form an instruction has.
+/// The form of an instruction.
 #[derive(Clone, Copy)]
 pub enum Form {
     Alloc,
@@ -100,8 +100,8 @@ pub enum Form {
     Exit,
 }
 
-/// The table, which is handed to the macro that is named: a row has the word of an instruction, and its fields in the order of its
-/// text with what each is as an operand, and from which numbers.
+/// The table itself, handed to the macro that is named: each row has the word of an instruction, and its fields in the order of the text, each with
+/// its kind and range.
 macro_rules! forms {
     ($use:ident $($given:tt)*) => {
         $use! { $($given)*;
@@ -141,40 +141,40 @@ macro_rules! forms {
     };
 }
 
-/// Writes the list of all forms, in the order of the table.
+/// Expands to the list of all forms, in the order of the table.
 macro_rules! list {
     (; $($name:ident $word:literal $fields:tt;)+) => { [$(Form::$name),+] };
 }
 
-/// Writes a match from a form to its word.
+/// Expands to a match from a form to its word.
 macro_rules! word {
     ($form:expr ; $($name:ident $word:literal $fields:tt;)+) => {
         match $form { $(Form::$name => $word,)+ }
     };
 }
 
-/// Writes what an operand has to be for a field of the table.
+/// Expands to the kind of a field.
 macro_rules! kind {
     (Target) => { Kind::Packet };
     ($kind:ident) => { Kind::$kind };
     ($kind:ident $range:ident) => { $range };
 }
 
-/// Writes a match from a form to the kinds of its operands, in order.
+/// Expands to a match from a form to the kinds of its operands, in order.
 macro_rules! kinds {
     ($form:expr ; $($name:ident $word:literal { $($field:ident: $kind:ident $(($range:ident))?),* };)+) => {
         match $form { $(Form::$name => &[$(kind!($kind $($range)?)),*],)+ }
     };
 }
 
-/// Writes a match from an instruction to its form.
+/// Expands to a match from an instruction to its form.
 macro_rules! form {
     ($instr:expr ; $($name:ident $word:literal $fields:tt;)+) => {
         match $instr { $(Instr::$name { .. } => Form::$name,)+ }
     };
 }
 
-/// Writes a list of operands as the variant that has so many.
+/// Expands to a list of operands, in the variant of that length.
 macro_rules! arguments {
     () => { Arguments::Zero };
     ($a:expr) => { Arguments::One([$a]) };
@@ -184,14 +184,14 @@ macro_rules! arguments {
     ($a:expr, $b:expr, $c:expr, $d:expr, $e:expr) => { Arguments::Five([$a, $b, $c, $d, $e]) };
 }
 
-/// Writes a match from an instruction to its operands, each with what its field is.
+/// Expands to a match from an instruction to its operands.
 macro_rules! row {
     ($instr:expr ; $($name:ident $word:literal { $($field:ident: $kind:ident $(($range:ident))?),* };)+) => {
         match $instr { $(Instr::$name { $($field),* } => arguments!($(Numbered::$kind($field)),*),)+ }
     };
 }
 
-/// Writes how a field is read from an operand of a text; a label is the number that is given for it.
+/// Expands to the code that reads a field from an operand of a text; a label becomes the number that is given for it.
 macro_rules! read {
     (Target $given:expr, $label:expr) => { packet_in($given) };
     (Packet $given:expr, $label:expr) => { packet_in($given) };
@@ -204,7 +204,7 @@ macro_rules! read {
     (Label $given:expr, $label:expr) => { $label };
 }
 
-/// Writes an instruction field by field, each read from the operand at the next of the places.
+/// Expands to an instruction, each field read from the operand at its index.
 macro_rules! filled {
     ($name:ident $given:expr, $label:expr, [$($place:literal)*] { $($done:tt)* }) => { Instr::$name { $($done)* } };
     ($name:ident $given:expr, $label:expr, [$place:literal $($places:literal)*] { $($done:tt)* } $field:ident $kind:ident $($more:ident)*) => {
@@ -212,15 +212,20 @@ macro_rules! filled {
     };
 }
 
-/// Writes a match from a form to its instruction, read from the operands of a text and the number of its label.
+/// Expands to a match from a form to its instruction, read from the operands of a text and the number of its label.
 macro_rules! built {
     ($form:expr, $given:expr, $label:expr ; $($name:ident $word:literal { $($field:ident: $kind:ident $(($range:ident))?),* };)+) => {
         match $form { $(Form::$name => filled!($name $given, $label, [0 1 2 3 4] {} $($field $kind)*),)+ }
     };
 }
 
-/// All forms, in the order of the table.
+// All forms, in the order of the table.
 static FORMS: [Form; 32] = forms!(list);
+
+/// All forms, in the order of the table.
+pub fn all_forms() -> &'static [Form] {
+    &FORMS
+}
 
 impl Form {
     /// The word that begins its instructions.
@@ -237,7 +242,7 @@ impl Form {
         forms!(kinds self)
     }
 
-    /// The form that has this word.
+    /// The form with this word.
     #[tactic(auto, unfolding(crate::specs::Forms::form_of))]
     pub fn of_word(word: &[u8]) -> Option<Form>
         ensures { result ≡ form_of word.now }
@@ -256,7 +261,7 @@ pub fn form_of(instr: &Instr) -> Form
     forms!(form * instr)
 }
 
-/// The operands, with what each is to its instruction.
+/// The operands of an instruction, each with its role.
 fn row_of(instr: &Instr) -> Arguments
     ensures { seen_in (listed result) ≡ seen_of instr.now }
 {
@@ -272,7 +277,7 @@ pub fn arguments_of(instr: &Instr) -> Arguments
     row_of(instr)
 }
 
-/// The instruction of a form, its operands and the number of its label.
+/// Makes the instruction of a form from its operands and the number of its label.
 pub fn built(form: Form, given: &[Named], label: u16) -> Instr
     ensures { spelled result ≡ fielded_statement form given.now label }
 {

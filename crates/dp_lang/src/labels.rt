@@ -1,4 +1,4 @@
-//! The labels of a text, each with the number of its instruction.
+//! The labels of a text and the instructions that they name.
 
 ghost use Rattle.std.specs.Prelude.{◌≡◌, OnOk, option_map};
 ghost use Rattle.std.specs.FinMap as map;
@@ -39,14 +39,14 @@ impl<'a> Labels<'a> {
         }
     }
 
-    /// The number of the instruction that the label names.
+    /// Looks up the instruction that a label names.
     pub fn get(&self, name: &'a [u8]) -> Option<u16>
         ensures { result ≡ map.get self.now name.now }
     {
         self.numbers.get(&name).copied()
     }
 
-    /// Makes the label name the instruction of this number.
+    /// Defines a label.
     pub fn insert(&mut self, name: &'a [u8], number: u16) -> Result<(), AllocError>
         ensures { OnOk result (self.new ≡ map.insert self.old name.now number) }
     {

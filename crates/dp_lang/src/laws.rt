@@ -1,4 +1,4 @@
-//! What is proved of texts and programs, as the contract of a function that does nothing.
+//! Laws of texts and programs, as contracts of functions that do nothing.
 
 ghost use Rattle.std.specs.Prelude.{◌≡◌, ℕ, List};
 ghost use Rattle.dp_model.specs.declared.instr.Instr.{Instr};
@@ -7,12 +7,12 @@ ghost use Rattle.dp_lang.specs.Printing.{printed};
 ghost use Rattle.dp_lang.specs.Programs.{IsProgram};
 ghost use Rattle.dp_lang.specs.Reading.{Reads};
 
-/// The ranges of operands, and the most instructions of a program.
+/// A law: the ranges of operands, and the most instructions of a program, are these numbers.
 pub fn has_its_ranges()
     ensures { HasRanges }
 {}
 
-/// The text that is printed for a program reads as that program, and a text reads as at most one program.
+/// The printed text of a program reads as that program, and a text reads as at most one program.
 pub fn printed_texts_read_back()
     ensures reads { (program : List Instr) → IsProgram program → Reads (printed program) program }
     ensures one { (text : List ℕ) (p q : List Instr) → Reads text p → Reads text q → p ≡ q }

@@ -1,4 +1,6 @@
-//! Node programs: their instructions as forms with operands, and their text.
+//! The language of node programs: its instructions as a table of forms with operands, `assemble` from text to `Program`, and `print` back. Only
+//! `assemble` makes a `Program`, so every program has 1 to 1,024 instructions with operands in their ranges and labels that exist. The text is
+//! described in docs/reference/language.md of the repository.
 #![tactic(auto)]
 
 mod argument;
@@ -18,11 +20,12 @@ mod resolve;
 mod source;
 mod statement;
 
-pub use argument::{Arguments, Numbered};
+pub use argument::{Arguments, Named, Numbered};
 pub use assembler::assemble;
 pub use cause::{AsmError, Cause, Fault};
-pub use form::arguments_of;
+pub use form::{Form, Kind, all_forms, arguments_of};
 pub use laws::{has_its_ranges, printed_texts_read_back};
 pub use line_numbers::source_lines;
+pub use operand::argument_of;
 pub use printer::print;
 pub use program::{MOST_INSTRS, Program};

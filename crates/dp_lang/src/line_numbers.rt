@@ -1,4 +1,4 @@
-//! In which lines of a text its instructions stand.
+//! The lines of a text in which its instructions are.
 
 ghost use Rattle.std.specs.Prelude.{◌≡◌, map, IfOk};
 ghost use Rattle.dp_lang.specs.SourceLines as spec;
@@ -17,13 +17,12 @@ fn lines_of(alloc: Global, statements: &[Statement<'_>]) -> Result<Vec<usize>, A
     statements.iter().map(|s| s.line).collect(alloc)
 }
 
-/// The line, from 1, in which each instruction of a text stands. That of the instruction with the number k, which is its
-/// label in refusals, is the k-th, from 0.
+/// Returns the line, from 1, of each instruction of a text. The k-th, from 0, is the line of the instruction whose label in refusals is k.
 ///
 /// # Errors
 ///
-/// `AsmError::Fault` where a line by itself has a fault, as `assemble` answers it; labels are not looked up. `AsmError::Memory`
-/// where a growth was refused.
+/// `AsmError::Fault` where a line by itself has a fault, the one that `assemble` returns; labels are not looked up. `AsmError::Memory`
+/// where a list could not grow.
 pub fn source_lines(alloc: Global, text: &[u8]) -> Result<Vec<usize>, AsmError>
     ensures { Gives (λ lines. lines.items) result (spec.source_lines text.now) }
 {

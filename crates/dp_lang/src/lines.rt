@@ -1,4 +1,4 @@
-//! Cutting lines into labels, words and operands.
+//! Cuts lines into labels, words and operands.
 
 ghost use Rattle.std.specs.Prelude.{◌≡◌, ◌==◌, map, position, IfOk, ◌<◌, length};
 ghost use Rattle.std.specs.List.{slice_split, before_first, after_first, list_all};
@@ -6,28 +6,28 @@ ghost use Rattle.dp_lang.specs.Lines as spec;
 
 use std::alloc::{AllocError, Global};
 
-/// Whether a byte is a blank: a space, a tab or a carriage return.
+/// Whether a byte is a blank: space, tab or carriage return.
 pub fn is_blank(b: u8) -> bool
     ensures { result ≡ spec.is_blank b }
 {
     matches!(b, b' ' | b'\t' | b'\r')
 }
 
-/// Whether each byte may stand in a line.
+/// Whether a line may have each of its bytes.
 pub fn is_text(line: &[u8]) -> bool
     ensures { result ≡ list_all spec.is_text line.now }
 {
     line.iter().all(|b| matches!(*b, 32..=126 | b'\t' | b'\r'))
 }
 
-/// The parts between the separators.
+/// Splits bytes at each separator.
 pub fn split<'a>(alloc: Global, bytes: &'a [u8], separator: u8) -> Result<Vec<&'a [u8]>, AllocError>
     ensures { IfOk result (λ parts. map (λ part. part.now) parts.items ≡ slice_split (λ b. b == separator) bytes.now) }
 {
     bytes.split(|b| *b == separator).collect(alloc)
 }
 
-/// What is left without the blanks in front.
+/// Cuts off the blanks at the front.
 pub fn trim_start(bytes: &[u8]) -> &[u8]
     ensures { result.now ≡ spec.trim_start bytes.now }
 {
@@ -52,7 +52,7 @@ fn trim_end(bytes: &[u8]) -> &[u8]
     rest
 }
 
-/// What is left without the blanks in front and behind.
+/// Cuts off the blanks at the front and at the end.
 pub fn trim(bytes: &[u8]) -> &[u8]
     ensures { result.now ≡ spec.trim bytes.now }
 {
@@ -77,7 +77,7 @@ fn is_all_blank(bytes: &[u8]) -> bool
     bytes.iter().all(|b| is_blank(*b))
 }
 
-/// What stands before a comment.
+/// The part of a line before its comment.
 pub fn before_comment(line: &[u8]) -> &[u8]
     ensures { result.now ≡ before_first spec.is_hash line.now }
 {
@@ -87,7 +87,7 @@ pub fn before_comment(line: &[u8]) -> &[u8]
     }
 }
 
-/// A line before its comment, without the blanks round it, cut at each colon.
+/// Cuts a line, without its comment and the blanks around it, at each colon.
 pub fn pieces<'a>(alloc: Global, line: &'a [u8]) -> Result<Vec<&'a [u8]>, AllocError>
     ensures pieces { IfOk result (λ parts. map (λ part. part.now) parts.items ≡ spec.pieces line.now) }
     ensures some { IfOk result (λ parts. 0 < length parts.items) }
@@ -95,7 +95,7 @@ pub fn pieces<'a>(alloc: Global, line: &'a [u8]) -> Result<Vec<&'a [u8]>, AllocE
     split(alloc, trim(before_comment(line)), b':')
 }
 
-/// The word of an instruction, and what follows the blank behind it.
+/// Splits an instruction into its word and what follows the first blank.
 pub fn word_and_rest(instruction: &[u8]) -> (&[u8], &[u8])
     ensures word { result.0.now ≡ spec.word_in instruction.now }
     ensures rest { result.1.now ≡ after_first spec.is_blank instruction.now }
@@ -106,7 +106,7 @@ pub fn word_and_rest(instruction: &[u8]) -> (&[u8], &[u8])
     }
 }
 
-/// The operands of an instruction, with blanks round each.
+/// Splits the operands of an instruction, each with the blanks around it.
 pub fn operands_in<'a>(alloc: Global, rest: &'a [u8]) -> Result<Vec<&'a [u8]>, AllocError>
     ensures { IfOk result (λ parts. map (λ part. part.now) parts.items ≡ spec.operands_in rest.now) }
 {

@@ -1,4 +1,4 @@
-//! Reading one operand of a kind.
+//! Reads one operand of a kind.
 
 ghost use Rattle.std.specs.Prelude.{◌≡◌, ◌<◌, ℕ, IfSome, Some, MatchOption};
 ghost use Rattle.std.specs.List.{list_all};
@@ -11,7 +11,7 @@ use crate::argument::Named;
 use crate::cause::Cause;
 use crate::form::Kind;
 
-/// The number of a register: its letter, and a digit from 0 to 7.
+/// Reads a register: its letter, and a digit from 0 to 7.
 #[tactic(auto, unfolding(crate::specs::Kinds::register_in))]
 fn register_in(letter: u8, part: &[u8]) -> Option<u8>
     ensures value { result ≡ spec.register_in letter part.now }
@@ -23,7 +23,7 @@ fn register_in(letter: u8, part: &[u8]) -> Option<u8>
     }
 }
 
-/// The number that digits stand for, if it has at most 64 bits.
+/// Reads digits as a number, if it has at most 64 bits.
 fn numeral(radix: u8, digits: &[u8]) -> Option<u64>
     requires above { 1 < radix }
     requires below { radix < 37 }
@@ -66,7 +66,7 @@ fn are_letters_or_digits(bytes: &[u8]) -> bool
         .all(|b| b.is_ascii_alphanumeric() || *b == b'_')
 }
 
-/// Whether a part of a text is a name: a letter or `_`, then letters, digits or `_`, at most 31 in all.
+/// Whether a part of a text is a name: a letter or `_`, then letters, digits or `_`, at most 31 characters.
 pub fn is_name(part: &[u8]) -> bool
     ensures { result ≡ spec.is_name part.now }
 {
@@ -96,7 +96,7 @@ fn width(part: &[u8]) -> Result<u64, Cause>
     }
 }
 
-/// What a part of a text is as an operand of a kind.
+/// Reads a part of a text as an operand of a kind.
 #[tactic(auto, unfolding(crate::specs::Kinds::argument_of))]
 pub fn argument_of<'a>(kind: Kind, part: &'a [u8]) -> Result<Named<'a>, Cause>
     ensures { Shows argument result (spec.argument_of kind part.now) }

@@ -1,4 +1,4 @@
-//! `print`: from a program to its text.
+//! `print`: writes a program as text.
 
 ghost use Rattle.std.specs.Prelude.{◌≡◌, ℕ, ◌<◌, [], ◌∷◌, ◌++◌, if◌then◌else◌, Some, length, map, slice_get, string_bytes, IfOk, IsTrue, OnOk};
 ghost use Rattle.std.specs.Fmt.{decimal};
@@ -14,7 +14,7 @@ use crate::program::Program;
 use dp_model::{Instr, Operand};
 use std::alloc::{AllocError, Global};
 
-/// A number behind its letters.
+/// Adds letters and a number.
 fn push_number(out: &mut String, letters: &str, n: u64) -> Result<(), AllocError>
     ensures { OnOk result (string_bytes out.new ≡ string_bytes out.old ++ (letters.now ++ decimal n)) }
 {
@@ -40,7 +40,7 @@ fn push_argument(out: &mut String, argument: Numbered) -> Result<(), AllocError>
     }
 }
 
-/// A blank, and the operands with a comma between two.
+/// Adds a blank, and the operands with commas between them.
 fn push_arguments(out: &mut String, arguments: &[Numbered]) -> Result<(), AllocError>
     ensures { OnOk result (string_bytes out.new ≡ string_bytes out.old ++ spec.arguments_text (map numbered arguments.now)) }
 {
@@ -53,7 +53,7 @@ fn push_arguments(out: &mut String, arguments: &[Numbered]) -> Result<(), AllocE
     Ok(())
 }
 
-/// A word and its operands, on a line.
+/// Adds a line with a word and its operands.
 fn push_statement(out: &mut String, form: Form, arguments: &[Numbered]) -> Result<(), AllocError>
     ensures { OnOk result (string_bytes out.new ≡ string_bytes out.old
         ++ spec.line (spec.statement_text (record { form = form; arguments = map numbered arguments.now }))) }
@@ -64,14 +64,14 @@ fn push_statement(out: &mut String, form: Form, arguments: &[Numbered]) -> Resul
     Ok(())
 }
 
-/// An instruction, on a line.
+/// Adds a line with an instruction.
 fn push_instr(out: &mut String, instr: &Instr) -> Result<(), AllocError>
     ensures { OnOk result (string_bytes out.new ≡ string_bytes out.old ++ spec.line (spec.statement_text (forms.spelled instr.now))) }
 {
     push_statement(out, form_of(instr), arguments_of(instr).as_slice())
 }
 
-/// Whether some instruction names the label of each instruction.
+/// Finds for each instruction whether some instruction names it.
 fn named_labels(alloc: Global, instrs: &[Instr]) -> Result<Vec<bool>, AllocError>
     requires { IsTrue (list_all (leads_below (length instrs.now)) instrs.now) }
     ensures len { IfOk result (λ named. length named.items ≡ length instrs.now) }
@@ -86,7 +86,7 @@ fn named_labels(alloc: Global, instrs: &[Instr]) -> Result<Vec<bool>, AllocError
     Ok(named)
 }
 
-/// The label of an instruction, on a line, if it is named.
+/// Adds a line with the label of an instruction, if it is named.
 fn push_label(out: &mut String, number: usize, is_named: bool) -> Result<(), AllocError>
     ensures { OnOk result (string_bytes out.new ≡ string_bytes out.old
         ++ (if is_named then spec.line (spec.label_name number ++ 58 ∷ []) else [])) }
@@ -97,11 +97,11 @@ fn push_label(out: &mut String, number: usize, is_named: bool) -> Result<(), All
     Ok(())
 }
 
-/// The text of a program: an instruction a line, before it the line of its label where some instruction names it.
+/// Returns the text of a program: one instruction on each line, after a line with its label where some instruction names it.
 ///
 /// # Errors
 ///
-/// `AllocError` where a growth was refused.
+/// `AllocError` where the text could not grow.
 pub fn print(alloc: Global, program: &Program) -> Result<String, AllocError>
     ensures { IfOk result (λ text. string_bytes text ≡ spec.printed program.now) }
 {

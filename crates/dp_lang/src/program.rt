@@ -1,4 +1,4 @@
-//! `Program`: the instructions of a node, all in their ranges.
+//! `Program`: the instructions of a node, all within their ranges.
 
 ghost use Rattle.std.specs.Prelude.{◌≡◌, ◌≤◌, length};
 ghost use Rattle.dp_lang.specs.Programs.{IsProgram};
@@ -6,11 +6,10 @@ ghost use Rattle.dp_lang.specs.Programs.{IsProgram};
 use dp_model::Instr;
 use std::marker::Model;
 
-/// The most instructions that a program has.
+/// The most instructions of a program.
 pub const MOST_INSTRS: usize = 1_024;
 
-/// A program of a node: from 1 to [`MOST_INSTRS`] instructions, each with numbers that the language has, and with a label
-/// that is the number of one of them.
+/// A node program: 1 to [`MOST_INSTRS`] instructions with operands in their ranges, and labels that are numbers of its instructions.
 #[derive(Drop)]
 pub struct Program {
     instrs: Vec<Instr>,
@@ -30,7 +29,7 @@ impl Model for Program {
 }
 
 impl Program {
-    /// The program of these instructions.
+    /// Makes a program of these instructions.
     pub(crate) fn of(instrs: Vec<Instr>) -> Program
         requires { IsProgram instrs.items }
         ensures { result ≡ instrs.items }
@@ -38,7 +37,7 @@ impl Program {
         Program { instrs }
     }
 
-    /// The instructions. A label is the index of one of them, from 0.
+    /// The instructions. A label is an index into them, from 0.
     pub fn instrs(&self) -> &[Instr]
         ensures same { result.now ≡ self.now }
         ensures some { 1 ≤ length result.now }
@@ -47,7 +46,7 @@ impl Program {
     {
         &self.instrs
     }
-    /// The instructions, for one who keeps them.
+    /// Takes the instructions out.
     pub fn into_instrs(self) -> Vec<Instr>
         ensures same { result.items ≡ self }
         ensures program { IsProgram result.items }

@@ -1,4 +1,4 @@
-//! Reading one line: its labels, and its statement.
+//! Reads one line: its labels, and its statement.
 
 ghost use Rattle.std.specs.Prelude.{◌≡◌, ◌<◌, ℕ, true, List, map, length, vec_len, Option, Result, Ok, IfOk, IfSome};
 ghost use Rattle.dp_lang.specs.Causes as causes;
@@ -23,7 +23,7 @@ use crate::source::Source;
 use crate::statement::Statement;
 use std::alloc::Global;
 
-/// A cause beside one that was found before: the least counts.
+/// The lesser of a cause and one that was found before.
 fn or_less(before: Option<Cause>, cause: Cause) -> Cause
     ensures { result ≡ causes.or_less before cause }
 {
@@ -33,7 +33,7 @@ fn or_less(before: Option<Cause>, cause: Cause) -> Cause
     }
 }
 
-/// An operand for each kind, or the least cause among the parts.
+/// Reads an operand for each kind, or finds the least cause among the parts.
 fn each_argument<'a>(
     alloc: Global,
     kinds: &[Kind],
@@ -70,7 +70,7 @@ fn arguments_of<'a>(
     each_argument(alloc, kinds, parts)
 }
 
-/// The statement in what follows a line's last colon.
+/// Reads what follows the last colon of a line as a statement.
 #[tactic(auto, unfolding(crate::specs::Reading::statement_of))]
 fn statement_in<'a>(
     alloc: Global,
@@ -96,7 +96,7 @@ fn statement_in<'a>(
     }))
 }
 
-/// Whether a label may come next.
+/// Whether a label can be defined here.
 fn label_fault<'a>(labels: &Labels<'a>, name: &'a [u8]) -> Result<(), Cause>
     ensures { Shows (λ u. u) result (label_test labels.now name.now) }
 {
@@ -109,7 +109,7 @@ fn label_fault<'a>(labels: &Labels<'a>, name: &'a [u8]) -> Result<(), Cause>
     }
 }
 
-/// Adds labels that all name one instruction, or gives the least cause among them.
+/// Adds labels that name one instruction, or finds the least cause among them.
 fn add_labels<'a>(
     labels: &mut Labels<'a>,
     number: u16,
@@ -131,7 +131,7 @@ fn add_labels<'a>(
     }
 }
 
-/// A statement beside the labels of its line, or the least error of both.
+/// Combines a statement with the labels of its line, or finds the lesser error of both.
 fn merged<'a>(
     statement: Result<Option<Statement<'a>>, LineError>,
     labels: Result<(), LineError>,
@@ -148,7 +148,7 @@ fn merged<'a>(
     }
 }
 
-/// Adds the labels of a line that is cut at its colons, and gives its statement.
+/// Reads a line that is cut at its colons: adds its labels, and returns its statement.
 fn read_pieces<'a>(
     alloc: Global,
     source: &mut Source<'a>,
@@ -169,7 +169,7 @@ fn read_pieces<'a>(
     merged(statement, labels)
 }
 
-/// Adds what a line gives.
+/// Reads a line and adds what it has.
 #[tactic(auto, unfolding(crate::specs::Reading::line_of))]
 pub fn add_line<'a>(
     alloc: Global,

@@ -1,4 +1,4 @@
-//! From statements to instructions, once all labels are known.
+//! Turns statements into instructions once all labels are known.
 
 ghost use Rattle.std.specs.Prelude.{◌≡◌, map, IfSome, option_map};
 ghost use Rattle.dp_lang.specs.Fields.{label_in};
@@ -27,7 +27,7 @@ fn target<'a>(source: &Source<'a>, name: &'a [u8]) -> Option<u16>
     }
 }
 
-/// The number of the label that an operand names, 0 where none names one.
+/// The number of the label among the operands; 0 where there is none.
 fn label_in<'a>(source: &Source<'a>, arguments: &[Named<'a>]) -> Option<u16>
     ensures { result ≡ label_in (target_in (view.source source.now)) arguments.now }
 {
@@ -39,7 +39,7 @@ fn label_in<'a>(source: &Source<'a>, arguments: &[Named<'a>]) -> Option<u16>
     Some(0)
 }
 
-/// The instruction of a statement, if its label is known.
+/// Makes the instruction of a statement, if its label is known.
 pub fn instr_of<'a>(source: &Source<'a>, statement: &Statement<'a>) -> Option<Instr>
     ensures form { IfSome result (λ i. (spelled i).form ≡ statement.now.form) }
     ensures arguments { option_map (λ i. (spelled i).arguments) result
@@ -50,7 +50,7 @@ pub fn instr_of<'a>(source: &Source<'a>, statement: &Statement<'a>) -> Option<In
     Some(built(statement.form, arguments, label))
 }
 
-/// The instructions of all statements, or the first line that uses an unknown label.
+/// Makes the instructions of all statements, or returns the first line with an unknown label.
 pub fn instrs_of(alloc: Global, source: &Source) -> Result<Vec<Instr>, AsmError>
     ensures { Gives (λ v. map spelled v.items) result
         (all_statements (target_in (view.source source.now)) (view.source source.now).statements) }

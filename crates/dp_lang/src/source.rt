@@ -1,4 +1,4 @@
-//! `Source`: what the lines of a text give.
+//! `Source`: what the lines of a text have.
 
 ghost use Rattle.std.specs.Prelude.{◌≤◌, vec_len};
 ghost use Rattle.dp_lang.specs.declared.program.TheConstants.{MOST_INSTRS};
@@ -6,7 +6,7 @@ ghost use Rattle.dp_lang.specs.declared.program.TheConstants.{MOST_INSTRS};
 use crate::labels::Labels;
 use crate::statement::Statement;
 
-/// The labels and the instructions of the lines so far.
+/// The labels and statements of the lines so far.
 #[derive(Drop)]
 pub struct Source<'a> {
     pub labels: Labels<'a>,

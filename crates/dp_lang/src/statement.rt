@@ -1,4 +1,4 @@
-//! `Statement`: an instruction as its text gives it.
+//! `Statement`: an instruction as the text has it.
 
 ghost use Rattle.std.specs.Prelude.{◌≡◌, true, map};
 ghost use Rattle.dp_lang.specs.Forms.{kinds_of};
@@ -8,7 +8,7 @@ ghost use Rattle.dp_lang.specs.Views.{argument};
 use crate::argument::Named;
 use crate::form::Form;
 
-/// An instruction, as the text gives it in a line.
+/// An instruction as the text has it, with its line.
 #[derive(Drop)]
 pub struct Statement<'a> {
     pub line: usize,

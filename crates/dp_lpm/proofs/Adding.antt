@@ -1,4 +1,4 @@
--- A rule is taken in, and the entries settle.
+-- Adding a rule, and overwriting the entries.
 use Rattle.std.proofs.Common.{◌≡◌, ℕ, ◌-◌, ◌/◌, ◌^◌, ◌<◌, ◌≤◌, Some, sym, ◌∙◌, ap, subst}
 use Rattle.dp_lpm.specs.declared.cell.Entry.TheVariants.{Hop}
 use Rattle.dp_lpm.specs.declared.rule.Rule.{Rule}

@@ -1,4 +1,4 @@
--- The entries of a prefix settle: then they answer as the changed routes do.
+-- Overwriting the entries of a prefix makes them follow from the changed routes.
 use Rattle.std.proofs.Common.{◌≡◌, ◌≢◌, ℕ, ◌+◌, ◌-◌, ◌^◌, ◌<◌, ◌≤◌, cond, List, Option, sym, ◌∙◌, ap, subst, arith, ⊎_elim, length}
 use Rattle.std.specs.Prelude.{nat_le, vec_capacity}
 use Rattle.std.specs.List.{AllByRecursion}
@@ -17,7 +17,7 @@ use Rattle.dp_lpm.proofs.Blocks.{same_prefix}
 use Rattle.dp_lpm.proofs.Ranges.{in_range, range_low, range_high}
 use Rattle.dp_lpm.proofs.Grouping.{grouped_table}
 
--- entries of all addresses, once those of the prefix have settled
+-- the entries of all addresses, once those of the prefix are overwritten
 settled_answers : (before after : List Route) (old new : RuledTable) (ip depth : ℕ) (route : Option Route) →
     ChangesAt before after (prefix_of ip depth) depth route → 1 ≤ depth → depth ≤ 32 →
     ((a : ℕ) → entry_for old.table a ≡ entry_of (deepest_within 32 before a)) →

@@ -1,4 +1,4 @@
--- Addresses that no route tells apart have the same deepest routes.
+-- Addresses that no route distinguishes have the same deepest route.
 use Rattle.std.proofs.Common.{◌≡◌, ℕ, zero, suc, ◌+◌, ◌-◌, ◌/◌, ◌^◌, ◌<◌, ◌≤◌, List, Option, Some, None, refl, sym, ◌∙◌, ap, arith, ⊎_elim}
 use Rattle.std.specs.Option.{option_or}
 use Rattle.std.proofs.lemmas.Bool.{cases_lt}
@@ -10,7 +10,7 @@ use Rattle.dp_lpm.proofs.Within.{within_zero, within_suc}
 use Rattle.dp_lpm.proofs.Ranges.{shorter, deep_first}
 use Rattle.dp_lpm.proofs.Counting.{found_counts}
 
--- the searches of two addresses agree where each look-up does
+-- searches of two addresses agree where each look-up does
 agree_step : (routes : List Route) (ip other depth : ℕ) → route_at routes (prefix_of ip (suc depth)) (suc depth)
     ≡ route_at routes (prefix_of other (suc depth)) (suc depth) → deepest_within depth routes ip ≡ deepest_within depth routes other →
     deepest_within (suc depth) routes ip ≡ deepest_within (suc depth) routes other
@@ -18,7 +18,7 @@ agree_step routes ip other depth here below =
     within_suc depth routes ip ∙ (ap (λ o. option_or o (deepest_within depth routes ip)) here
     ∙ (ap (option_or (route_at routes (prefix_of other (suc depth)) (suc depth))) below ∙ sym (within_suc depth routes other)))
 
--- addresses of one prefix, in a search that does not go deeper
+-- addresses of one prefix, in a search that goes no deeper
 pub same_prefix : (routes : List Route) (ip other depth n : ℕ) → depth ≤ 32 → n ≤ depth → prefix_of ip depth ≡ prefix_of other depth →
     deepest_within n routes ip ≡ deepest_within n routes other
 same_prefix routes ip other depth zero most le same = within_zero routes ip ∙ sym (within_zero routes other)
@@ -36,7 +36,7 @@ none_deep routes ip depth deep most none = go (route_at routes (prefix_of ip dep
     go None e = refl
     go (Some q) e = absurd (omega (arith, none, found_counts routes (prefix_of ip depth) depth (ip / 256) q e deep (deep_first ip depth deep most)))
 
--- addresses of one prefix of 24 bits, where no route is deeper
+-- addresses with the same 24 bits, where no route is deeper
 pub same_block : (routes : List Route) (ip other n : ℕ) → n ≤ 32 → ip / 256 ≡ other / 256 → deep_count routes (ip / 256) ≡ 0 → deepest_within n routes ip
     ≡ deepest_within n routes other
 same_block routes ip other zero most same none = within_zero routes ip ∙ sym (within_zero routes other)

@@ -1,4 +1,4 @@
--- Groups whose last rule goes.
+-- Groups whose last rule is deleted.
 use Rattle.std.proofs.Common.{◌≡◌, ◌≢◌, ℕ, zero, suc, ◌+◌, ◌*◌, ◌/◌, ◌%◌, ◌<◌, List, [], ◌∷◌, length, Some, None, sym, ◌∙◌, ap, arith, ⊎_elim, length-set}
 use Rattle.std.specs.Prelude.{slice_index, slice_set}
 use Rattle.std.proofs.lemmas.Bool.{cases_eq}
@@ -10,13 +10,13 @@ use Rattle.dp_lpm.proofs.Settling.{at-set_same, at-set_other}
 use Rattle.dp_lpm.proofs.Entries.{entry_grouped, entry_plain, entry_same}
 use Rattle.dp_lpm.proofs.Groups.{index_set_other}
 
--- beyond a list there is no group
+-- no group past the end of a list
 pub group_there : (cells : List Cell) (i g : ℕ) → group_in (at cells i) ≡ Some g → i < length cells
 group_there [] i g named = cc
 group_there (x ∷ cells) zero g named = omega arith
 group_there (x ∷ cells) (suc i) g named = omega (arith, group_there cells i g named)
 
--- first bits whose group has one rule less give it up: all its entries are the same
+-- first bits whose group has one rule left lose the group: all its entries are the same
 pub closed_last : (old new : Table) (first g : ℕ) (cell : Cell) → IsTable old → group_at old first ≡ Some g → slice_index old.counts.items g ≡ 1 →
     ((j : ℕ) → j < 256 → at old.cells.items (g * 256 + j) ≡ at old.cells.items (g * 256)) → entry_in cell ≡ at old.cells.items (g * 256) →
     new.first.items ≡ slice_set old.first.items first cell → new.cells.items ≡ old.cells.items → new.counts.items ≡ slice_set old.counts.items g 0 →

@@ -33,7 +33,7 @@ spliced_count old new prefix depth i s =
         ∙ (deep_count-append (routes_of xs) (routes_of ys ++ routes_of zs) i
         ∙ ap (λ n. deep_count (routes_of xs) i + n) (deep_count-append (routes_of ys) (routes_of zs) i))
 
--- a route that is found counts for its first 24 bits
+-- a route that is found is counted for its first 24 bits
 pub found_counts : (routes : List Route) (prefix depth i : ℕ) (q : Route) → route_at routes prefix depth ≡ Some q → 24 < depth → prefix / 2 ^ (depth - 24)
     ≡ i → 1 ≤ deep_count routes i
 found_counts [] prefix depth i q e deep is = absurd cc
@@ -70,7 +70,7 @@ pub groups_zero : (routes : List Route) → groups_below 0 routes ≡ 0
 unfolding groups_below
 groups_zero routes = refl
 
--- the same deep routes, up to how many, need the same groups
+-- the same counts of deep routes need the same groups
 pub groups_same : (n : ℕ) (old new : List Route) → ((i : ℕ) → nat_lt 0 (deep_count new i) ≡ nat_lt 0 (deep_count old i)) →
     groups_below n new ≡ groups_below n old
 groups_same zero old new same = groups_zero new ∙ sym (groups_zero old)
@@ -78,7 +78,7 @@ groups_same (suc n) old new same =
     let e = ap one_if (same n) in
     omega (arith, groups_suc n new, groups_suc n old, groups_same n old new same, e)
 
--- the first deep route of 24 bits needs one more
+-- the first deep route of 24 bits needs one group more
 pub groups_more : (n first : ℕ) (old new : List Route) → first < n → ((i : ℕ) → i ≢ first → deep_count new i ≡ deep_count old i) → deep_count old first ≡ 0 →
     1 ≤ deep_count new first → groups_below n new ≡ groups_below n old + 1
 groups_more zero first old new lt same none some = absurd (omega (arith, lt))
@@ -119,7 +119,7 @@ used_few (c ∷ counts) = go (nat_lt 0 c) (used_few counts)
     go true rest = omega (arith, rest)
     go false rest = omega (arith, rest)
 
--- where none is free, all are used
+-- where no group is free, all are used
 used_from : (counts : List ℕ) (i : ℕ) → position_from (λ n. n == 0) i counts ≡ None → used_count counts ≡ length counts
 used_from [] i none = refl
 used_from (c ∷ counts) i none = go (c == 0) refl none (used_from counts (i + 1))

@@ -1,4 +1,4 @@
--- How the deepest routes change with the routes of one prefix and depth.
+-- How a change of the routes of one prefix and depth changes the deepest routes.
 use Rattle.std.proofs.Common.{◌≡◌, ◌≢◌, ℕ, zero, suc, ◌-◌, ◌<◌, ◌≤◌, Bool, true, false, cond, ◌&&◌, List, [], ◌∷◌, Option, Some, None, refl, sym, ◌∙◌, ap}
 use Rattle.std.proofs.Common.{arith, ⊎_elim}
 use Rattle.std.specs.Prelude.{◌==◌, nat_le}
@@ -24,7 +24,7 @@ route_is (r ∷ routes) prefix depth q e = go (is_at prefix depth r) refl e (rou
         (ap (λ x. x.depth) (sym same) ∙ eqb-true r.depth depth same_depth, ap (λ x. x.prefix) (sym same) ∙ eqb-true r.prefix prefix same_prefix)
     go false is e rest = rest e
 
--- a deepest route is at most so deep
+-- a deepest route within a depth is no deeper
 pub depth_within : (depth : ℕ) (routes : List Route) (ip : ℕ) → depth_of (entry_of (deepest_within depth routes ip)) ≤ depth
 depth_within zero routes ip = let e = ap (λ o. depth_of (entry_of o)) (within_zero routes ip) in omega (arith, e)
 depth_within (suc depth) routes ip =
@@ -46,7 +46,7 @@ and_false' : (a b : Bool) → b ≡ false → (a && b) ≡ false
 and_false' true b e = e
 and_false' false b e = refl
 
--- the routes that are as deep as those searched stay: so does the answer
+-- where the routes of the searched depths stay, so does the answer
 step_same : (old new : List Route) (ip depth : ℕ) → route_at new (prefix_of ip (suc depth)) (suc depth)
     ≡ route_at old (prefix_of ip (suc depth)) (suc depth) → deepest_within depth new ip ≡ deepest_within depth old ip → deepest_within (suc depth) new ip
     ≡ deepest_within (suc depth) old ip
@@ -55,7 +55,7 @@ step_same old new ip depth here below =
     ∙ (ap (option_or (route_at old (prefix_of ip (suc depth)) (suc depth))) below ∙ sym (within_suc depth old ip)))
 
 module _ (old new : List Route) (prefix depth : ℕ) (route : Option Route) (changes : ChangesAt old new prefix depth route) where
-  -- a search that does not come to the depth is as it was
+  -- a search that does not reach the depth is as before
   pub shallow_same : (ip n : ℕ) → n < depth → deepest_within n new ip ≡ deepest_within n old ip
   shallow_same ip zero lt = within_zero new ip ∙ sym (within_zero old ip)
   shallow_same ip (suc n) lt =
@@ -64,7 +64,7 @@ module _ (old new : List Route) (prefix depth : ℕ) (route : Option Route) (cha
       (ne_eqb (suc n) depth (λ e. absurd (omega (arith, e, lt))))))
       (shallow_same ip n (omega (arith, lt)))
 
-  -- so is that for an address of another prefix
+  -- so is one for an address of another prefix
   pub outside_same : (ip n : ℕ) → prefix_of ip depth ≢ prefix → deepest_within n new ip ≡ deepest_within n old ip
   outside_same ip zero other = within_zero new ip ∙ sym (within_zero old ip)
   outside_same ip (suc n) other =
@@ -76,11 +76,11 @@ module _ (old new : List Route) (prefix depth : ℕ) (route : Option Route) (cha
       (cases_eq (suc n) depth)))
       (outside_same ip n other)
 
-  -- what the answer becomes: the new route, or else the next one
+  -- the new answer: the new route, or else the next one
   abbrev becomes : ℕ → Option Route
   becomes ip = option_or route (deepest_within (depth - 1) old ip)
 
-  -- within the prefix, answers that are at most so deep become that
+  -- within the prefix, answers no deeper than that become the new one
   pub inside_becomes : (ip n : ℕ) → prefix_of ip depth ≡ prefix → 1 ≤ depth → depth ≤ n →
       deepest_within n new ip ≡ cond (nat_le (depth_of (entry_of (deepest_within n old ip))) depth) (becomes ip) (deepest_within n old ip)
   inside_becomes ip zero is some le = absurd (omega (arith, some, le))

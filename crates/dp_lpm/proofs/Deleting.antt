@@ -1,4 +1,4 @@
--- A rule is taken out, the entries settle, and its group is closed.
+-- Deleting a rule: its entries are overwritten, and its group is closed.
 use Rattle.std.proofs.Common.{◌≡◌, ◌≢◌, ℕ, suc, ◌+◌, ◌-◌, ◌/◌, ◌^◌, ◌<◌, ◌≤◌, zero, Bool, true, false, cond, ◌||◌, List, [], ◌∷◌, ◌++◌, length, take, drop}
 use Rattle.std.proofs.Common.{Option, Some, None, refl, sym, ◌∙◌, ap, subst, arith, length-set}
 use Rattle.std.specs.Prelude.{nat_lt, is_some, slice_index, vec_capacity, if◌then◌else◌}
@@ -23,7 +23,7 @@ use Rattle.dp_lpm.proofs.Entries.{either_group}
 use Rattle.dp_lpm.proofs.Answering.{settled_keeps}
 use Rattle.dp_lpm.proofs.Shrinking.{removed, removed_changes, left_shallow, left_here, left_others, dropped}
 
--- ---- entries that four bytes can hold
+-- ---- entries that four bytes can encode
 
 found_route : (routes : List Route) (prefix depth : ℕ) (q : Route) → AllByRecursion IsRoute routes → route_at routes prefix depth ≡ Some q → IsRoute q
 found_route [] prefix depth q all e = absurd cc
@@ -43,7 +43,7 @@ entry_fits routes (suc n) ip all =
     go None e rest = rest
     go (Some q) e rest = let is = found_route routes (prefix_of ip (suc n)) (suc n) q all e in (omega (arith, is.hop), is.some, is.most)
 
--- ---- why not
+-- ---- why `delete` refuses
 
 fault_depth : (depth : ℕ) → 1 ≤ depth → depth ≤ 32 → (nat_lt depth 1 || nat_lt 32 depth) ≡ false
 fault_depth depth some most = ap (λ b. b || nat_lt 32 depth) (le-ltb depth 1 some) ∙ le-ltb 32 depth most
@@ -75,7 +75,7 @@ deep_group s ip depth index kept most found deep = either_group (group_at s.tabl
     )))
     (λ g named. (g, named))
 
--- ---- what is left
+-- ---- what remains
 
 module _ (old mid new : RuledTable) (index ip depth : ℕ) (to : Entry) (kept : IsKept old) (found : IsFound old.rules.items depth (prefix_of ip depth) index)
     (some : 1 ≤ depth) (most : depth ≤ 32) (rules : mid.rules.items ≡ take index old.rules.items
@@ -107,7 +107,7 @@ module _ (old mid new : RuledTable) (index ip depth : ℕ) (to : Entry) (kept : 
       ap (λ rs. deep_count (routes_of rs) i) now_left
       ∙ left_others old index (prefix_of ip depth) depth found (ip / 256) i deep (deep_first ip depth deep most) other
 
-  -- the rule is out, but for its group
+  -- the rule is out, but its group still counts it
   pub taken_out : TakesOut old new ip depth
   taken_out = record {
     kept = deleted;
@@ -117,7 +117,7 @@ module _ (old mid new : RuledTable) (index ip depth : ℕ) (to : Entry) (kept : 
     others = λ deep i. count_others i deep;
   }
 
--- what the table is seen as does not change as a group is closed
+-- closing a group does not change what a caller sees
 pub closed_drops : (old s new : RuledTable) (ip depth : ℕ) → Drops (shown old) (shown s) (prefix_of ip depth) depth → new.rules ≡ s.rules →
     new.max_rules ≡ s.max_rules → Closed (ip / 256) s.table new.table → Drops (shown old) (shown new) (prefix_of ip depth) depth
 closed_drops old s new ip depth drops rules max closed = record {

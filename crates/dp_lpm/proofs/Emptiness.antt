@@ -8,7 +8,7 @@ use Rattle.dp_lpm.specs.Cells.{at, entry_in, group_in}
 use Rattle.dp_lpm.specs.Tables.{group_at, IsEmptyTable}
 use Rattle.dp_lpm.proofs.Entries.{entry_plain}
 
--- every index of a list of empty entries is empty, and what is beyond it is too
+-- every index of a list of empty entries is empty, and so is every index past it
 at-replicate : (n k : ℕ) (c : Cell) → entry_in c ≡ Empty → at (replicate n c) k ≡ Empty
 at-replicate zero k c is = refl
 at-replicate (suc n) zero c is = is

@@ -1,4 +1,4 @@
--- The entries for addresses, by the groups of their first bits.
+-- The entries for addresses, through the groups of their first bits.
 use Rattle.std.proofs.Common.{◌≡◌, ℕ, ◌+◌, ◌*◌, ◌/◌, ◌%◌, ◌<◌, zero, suc, Bool, true, false, cond, List, [], ◌∷◌, length, Option, Some, None, refl, sym, ◌∙◌}
 use Rattle.std.proofs.Common.{ap, arith}
 use Rattle.std.specs.Prelude.{nat_le, slice_index, slice_index_or}
@@ -16,7 +16,7 @@ entry_grouped t ip g named = ap (λ o. option_map_or (λ g. at t.cells.items (g 
 pub entry_plain : (t : Table) (ip : ℕ) → group_at t (ip / 256) ≡ None → entry_for t ip ≡ first_at t (ip / 256)
 entry_plain t ip none = ap (λ o. option_map_or (λ g. at t.cells.items (g * 256 + ip % 256)) o (first_at t (ip / 256))) none
 
--- what an option is, in two cases
+-- the two cases of an option
 pub either_group : {G : Type 0} (o : Option ℕ) → (o ≡ None → G) → ((g : ℕ) → o ≡ Some g → G) → G
 either_group None none some = none refl
 either_group (Some g) none some = some g refl
@@ -29,7 +29,7 @@ entry_same old new ip first cells = either_group (group_at old (ip / 256))
     (λ none. entry_plain new ip (ap group_in first ∙ none) ∙ (first ∙ sym (entry_plain old ip none)))
     (λ g named. entry_grouped new ip g (ap group_in first ∙ named) ∙ (cells g named ∙ sym (entry_grouped old ip g named)))
 
--- an entry that settles to one that is no group is none itself
+-- an entry that is overwritten with one that is no group is none itself
 pub settled_leaf : (depth : ℕ) (to e : Entry) → group_in to ≡ None → group_in e ≡ None → group_in (settled depth to e) ≡ None
 settled_leaf depth to e leaf other = go (nat_le (depth_of e) depth)
   where
@@ -37,7 +37,7 @@ settled_leaf depth to e leaf other = go (nat_le (depth_of e) depth)
     go true = leaf
     go false = other
 
--- an entry that names a group is that group's
+-- an entry that names a group has that group
 pub named_group : (e : Entry) (g : ℕ) → Group g ≡ e → group_in e ≡ Some g
 named_group e g is = sym (ap group_in is)
 
@@ -50,7 +50,7 @@ unnamed_group (Group g) other = absurd (other g refl)
 pub group_fits : (t : Table) (i g low : ℕ) → IsTable t → group_at t i ≡ Some g → low < 256 → g * 256 + low < length t.cells.items
 group_fits t i g low table named lt = let there = table.named i g named in omega (arith, there, table.cells, lt)
 
--- what stands at an index, whatever is taken where there is none
+-- the entry at an index, whatever the default is
 pub item_at : (cells : List Cell) (k : ℕ) (c : Cell) → k < length cells → c ≡ slice_index_or cells k c → slice_index_or cells k (record { bits = 0 }) ≡ c
 item_at [] k c there is = absurd (omega (arith, there))
 item_at (x ∷ cells) zero c there is = sym is
@@ -64,7 +64,7 @@ number_at [] k n there is = absurd (omega (arith, there))
 number_at (x ∷ xs) zero n there is = sym is
 number_at (x ∷ xs) (suc k) n there is = number_at xs k n (omega (arith, there)) is
 
--- a first entry that was read, and names a group or none
+-- a first-level entry that was read, with or without a group
 pub grouped_by : (t : Table) (i g : ℕ) (c : Cell) → i < length t.first.items → c ≡ slice_index_or t.first.items i c → Group g ≡ entry_in c →
     group_at t i ≡ Some g
 grouped_by t i g c there is e = named_group (first_at t i) g (e ∙ sym (entry_at t.first.items i c there is))

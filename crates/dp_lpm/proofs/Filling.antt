@@ -1,16 +1,16 @@
--- Entries that become one and the same.
+-- Filling a range of entries.
 use Rattle.std.proofs.Common.{◌≡◌, ℕ, ◌<◌, ◌≤◌, List, subst}
 use Rattle.dp_lpm.specs.declared.cell.Cell.{Cell}
 use Rattle.dp_lpm.specs.declared.cell.Entry.{Entry}
 use Rattle.dp_lpm.specs.Cells.{at}
 
--- those from one index up to another are filled, and the others stay
+-- those from one index up to k are filled, and the others stay
 pub record FilledUpTo (from k : ℕ) (to : Entry) (old new : List Cell) : Type 0 where
   pub inside : (i : ℕ) → from ≤ i → i < k → at new i ≡ to
   pub below : (i : ℕ) → i < from → at new i ≡ at old i
   pub above : (i : ℕ) → k ≤ i → at new i ≡ at old i
 
--- the same of lists that are those
+-- the same for equal lists
 pub filled_between : (from k : ℕ) (to : Entry) (old old' new new' : List Cell) → old ≡ old' → new ≡ new' → FilledUpTo from k to old new →
     FilledUpTo from k to old' new'
 filled_between from k to old old' new new' e f so =

@@ -36,7 +36,7 @@ grouped_table t t' routes is groups counts = record {
 both_some : (m n : ℕ) → 1 ≤ m → 1 ≤ n → nat_lt 0 m ≡ nat_lt 0 n
 both_some m n one other = lt-ltb 0 m (omega (arith, one)) ∙ sym (lt-ltb 0 n (omega (arith, other)))
 
--- one deep route more, whose first bits have been opened
+-- one deep route more, after its first bits are opened
 pub grouped_opened : (t t' : Table) (old new : List Route) (first : ℕ) → IsTable t → Grouped t old → Opened first t t' → first < 16777216 →
     deep_count new first ≡ deep_count old first + 1 → ((i : ℕ) → i ≢ first → deep_count new i ≡ deep_count old i) → Grouped t' new
 grouped_opened t t' old new first table is opened small here others = record {
@@ -163,7 +163,7 @@ module _ (t t' : Table) (old new : List Route) (first : ℕ) (table : IsTable t)
       omega (arith, used, one, same, is.needed))
       one_or_more
 
-  -- one deep route fewer, whose first bits have been closed
+  -- one deep route fewer, after its first bits are closed
   pub grouped_closed : Grouped t' new
   grouped_closed = record {
     grouped = λ i g named. ⊎_elim (λ (e : i ≡ first). mine i g e named) (λ (e : i ≢ first). other i g e named) (cases_eq i first);

@@ -1,4 +1,4 @@
--- Groups that are opened and closed: no entry changes.
+-- Opening and closing groups changes no entry of an address.
 use Rattle.std.proofs.Common.{◌≡◌, ◌≢◌, ℕ, ◌+◌, ◌-◌, ◌*◌, ◌/◌, ◌%◌, ◌<◌, ◌≤◌, List, length, Some, sym, ◌∙◌, ap, arith, ⊎_elim, inl, length-set}
 use Rattle.std.specs.Prelude.{slice_index, slice_set}
 use Rattle.std.proofs.lemmas.Bool.{cases_eq}
@@ -14,7 +14,7 @@ index_set_same xs k n there = get_or-set_same xs k n 0 there
 pub index_set_other : (xs : List ℕ) (k i n : ℕ) → i ≢ k → slice_index (slice_set xs k n) i ≡ slice_index xs i
 index_set_other xs k i n other = get_or-set_other xs k i n 0 other
 
--- only counts change, and those of named groups stay at least 1
+-- counts change only, and those of named groups stay at least 1
 counted : (old new : Table) (g n : ℕ) → IsTable old → new.first.items ≡ old.first.items → new.cells.items ≡ old.cells.items →
     new.counts.items ≡ slice_set old.counts.items g n → 1 ≤ n → IsTable new
 counted old new g n table firsts cells counts some = record {
@@ -43,7 +43,7 @@ counted old new g n table firsts cells counts some = record {
 same_entries : (old new : Table) → new.first.items ≡ old.first.items → new.cells.items ≡ old.cells.items → (ip : ℕ) → entry_for new ip ≡ entry_for old ip
 same_entries old new firsts cells ip = entry_same old new ip (ap (λ xs. at xs (ip / 256)) firsts) (λ h is. ap (λ xs. at xs (h * 256 + ip % 256)) cells)
 
--- one rule more in a group that there is
+-- one rule more in an existing group
 pub opened_more : (old new : Table) (first g n : ℕ) → IsTable old → group_at old first ≡ Some g → new.first.items ≡ old.first.items →
     new.cells.items ≡ old.cells.items → slice_index old.counts.items g ≡ n → new.counts.items ≡ slice_set old.counts.items g (n + 1) → Opened first old new
 opened_more old new first g n table named firsts cells was counts = record {

@@ -1,4 +1,4 @@
--- A rule is taken in: in place of another, or as a new one.
+-- Adding a rule: in place of another, or as a new one.
 use Rattle.std.proofs.Common.{◌≡◌, ◌≢◌, ℕ, ◌+◌, ◌-◌, ◌^◌, ◌<◌, ◌≤◌, ◌⊎◌, false, cond, ◌&&◌, List, [], ◌∷◌, ◌++◌, length, take, drop, Some, None, refl, sym}
 use Rattle.std.proofs.Common.{◌∙◌, ap, subst, arith, inl, inr, length-set}
 use Rattle.std.specs.Prelude.{◌==◌, nat_lt, is_some, slice_index, vec_capacity, if◌then◌else◌}
@@ -22,7 +22,7 @@ use Rattle.dp_lpm.proofs.Ordering.{all_put, ordered_put, length_put, all_rules, 
 use Rattle.dp_lpm.proofs.Counting.{spliced_count, groups_same, groups_more, used_few, used_all}
 use Rattle.dp_lpm.proofs.Grouping.{Grouped, grouped_same, grouped_opened}
 
--- ---- whose first bits a route has
+-- ---- the first bits of a route
 
 pub deep_yes : (r : Route) → 24 < r.depth → one_if (is_deep_in (first_of r) r) ≡ 1
 deep_yes r deep = ap (λ b. one_if (b && (first_of r == first_of r))) (lt-ltb 24 r.depth deep) ∙ ap one_if (eq-eqb (first_of r) (first_of r) refl)
@@ -39,11 +39,11 @@ first_small r is deep =
     let bits : r.depth ≡ 24 + (r.depth - 24) = omega (arith, deep) in
     shr_below r.prefix 24 (r.depth - 24) (subst (λ n. r.prefix < 2 ^ n) bits is.prefix)
 
--- what the groups of a table are
+-- the groups of a table
 pub groups_of : (s : RuledTable) → IsKept s → Grouped s.table (routes_in s)
 groups_of s kept = record { grouped = kept.grouped; plain = kept.plain; needed = kept.needed }
 
--- the one rule of a list is its route
+-- the only rule of a list is its route
 pub found_route : (r : Rule) → route_at (routes_of (r ∷ [])) r.prefix r.depth ≡ Some (route_of r)
 found_route r =
     ap (λ b. cond (b && (r.prefix == r.prefix)) (Some (route_of r)) None) (eq-eqb r.depth r.depth refl)
@@ -51,7 +51,7 @@ found_route r =
 
 -- ---- a new rule
 
--- the table as it is, for a rule that is not deep, or with the first bits of a deep one opened
+-- the table as it is, for a rule that is not deep; with the first bits opened, for a deep one
 abbrev pub Makes : Rule → Table → Table → Type 0
 Makes r old new = ((r.depth ≤ 24) × (new ≡ old)) ⊎ ((24 < r.depth) × Opened (first_of (route_of r)) old new)
 

@@ -1,4 +1,4 @@
--- The look-up of the definitions answers the hop of the deepest route.
+-- The look-up of the definitions returns the hop of the deepest route.
 use Rattle.std.proofs.Common.{◌≡◌, ℕ, zero, suc, ◌-◌, ◌/◌, ◌^◌, Bool, true, false, cond, ◌&&◌, List, [], ◌∷◌, Option, Some, None, refl, sym, ◌∙◌, ap}
 use Rattle.std.specs.Prelude.{◌==◌, find, option_map}
 use Rattle.std.specs.Option.{option_or}
@@ -36,7 +36,7 @@ hop_is routes ip (suc depth) =
     go None p = refl
     go (Some r) p = refl
 
--- an entry that is the deepest route's tells the hop
+-- an entry that is the deepest route's has the hop
 pub hop_answered : (routes : List Route) (ip hop depth : ℕ) → Hop hop depth ≡ entry_of (deepest_within 32 routes ip) → hop_for routes ip ≡ Some hop
 hop_answered routes ip hop depth is = hop_is routes ip 32 ∙ go (deepest_within 32 routes ip) is
   where

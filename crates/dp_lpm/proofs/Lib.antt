@@ -1,4 +1,4 @@
--- The lemma files.
+-- Lists the lemma files.
 pub mod Adding
 pub mod Answering
 pub mod Blocks

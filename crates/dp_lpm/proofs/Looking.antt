@@ -1,4 +1,4 @@
--- The deepest route that is at most so deep is the deepest of those that match.
+-- The deepest route within a depth is the deepest of those that match.
 use Rattle.std.proofs.Common.{◌≡◌, ℕ, zero, suc, ◌-◌, ◌/◌, ◌^◌, ◌≤◌, Bool, true, false, cond, ◌&&◌, ◌||◌, List, [], ◌∷◌, map, Option}
 use Rattle.std.proofs.Common.{Some, None, refl, sym, ◌∙◌, ap, subst, arith, ⊎_elim}
 use Rattle.std.specs.Prelude.{◌==◌, Contains, option_map, IfSome}
@@ -19,7 +19,7 @@ use Rattle.dp_lpm.proofs.Deepest.{route_is}
 use Rattle.dp_lpm.proofs.HopFor.{hop_is}
 use Rattle.dp_lpm.proofs.Splices.{all_above, misses_none}
 
--- a route that is found is there
+-- a route that is found is in the list
 found_contains : (routes : List Route) (prefix depth : ℕ) (q : Route) → route_at routes prefix depth ≡ Some q → Contains routes q
 found_contains [] prefix depth q e = absurd cc
 found_contains (r ∷ routes) prefix depth q e = go (is_at prefix depth r) e (found_contains routes prefix depth q)
@@ -29,7 +29,7 @@ found_contains (r ∷ routes) prefix depth q e = go (is_at prefix depth r) e (fo
     go true e rest = (0, omega arith, same_Some r q e)
     go false e rest = let (k, lt, is) = rest e in (suc k, omega (arith, lt), is)
 
--- where one is there, one is found
+-- where one is in the list, one is found
 contains_found : (routes : List Route) (prefix depth : ℕ) (o : Route) → Contains routes o → is_at prefix depth o ≡ true →
     (q : Route) × (route_at routes prefix depth ≡ Some q)
 contains_found [] prefix depth o (k, lt, is) here = absurd (omega (arith, lt))
@@ -45,7 +45,7 @@ contains_found (r ∷ routes) prefix depth o (suc k, lt, is) here =
     go true rest = (r, refl)
     go false rest = rest
 
--- one that passes is there
+-- some route that passes is in the list
 any_contains : (test : Route → Bool) (routes : List Route) → list_any test routes ≡ true → (o : Route) × Contains routes o × (test o ≡ true)
 any_contains test [] e = absurd cc
 any_contains test (r ∷ routes) e = go (test r) refl e (any_contains test routes)
@@ -55,7 +55,7 @@ any_contains test (r ∷ routes) e = go (test r) refl e (any_contains test route
     go true is e rest = (r, (0, omega arith, refl), is)
     go false is e rest = let (o, (k, lt, same), passes) = rest e in (o, (suc k, omega (arith, lt), same), passes)
 
--- the deepest is there, and matches
+-- the deepest is in the list, and matches
 deepest_there : (n : ℕ) (routes : List Route) (ip : ℕ) (q : Route) → deepest_within n routes ip ≡ Some q → Contains routes q × (is_match ip q ≡ true)
 deepest_there zero routes ip q e = let h = sym (within_zero routes ip) ∙ e in absurd cc
 deepest_there (suc n) routes ip q e =
@@ -71,7 +71,7 @@ deepest_there (suc n) routes ip q e =
           eq-eqb q.prefix (ip / 2 ^ (32 - q.depth)) (prefix ∙ ap (λ d. ip / 2 ^ (32 - d)) (sym depth)),
         )
 
--- none that matches is deeper
+-- no route that matches is deeper
 deepest_beats : (n : ℕ) (routes : List Route) (ip : ℕ) (o : Route) → Contains routes o → is_match ip o ≡ true → 1 ≤ o.depth → o.depth ≤ n →
     (q : Route) × (deepest_within n routes ip ≡ Some q) × (o.depth ≤ q.depth)
 deepest_beats zero routes ip o there fits some le = absurd (omega (arith, some, le))
@@ -104,7 +104,7 @@ all_contains P [] o all (k, lt, is) = absurd (omega (arith, lt))
 all_contains P (r ∷ routes) o all (zero, lt, is) = subst P is all.0
 all_contains P (r ∷ routes) o all (suc k, lt, is) = all_contains P routes o all.1 (k, omega (arith, lt), is)
 
--- the look-up answers the hop of the deepest route that matches
+-- the look-up returns the hop of the deepest route that matches
 pub looks_up : (routes : List Route) (ip : ℕ) → AllByRecursion IsRoute routes → LooksUp routes ip (hop_for routes ip)
 looks_up routes ip all = subst (LooksUp routes ip) (sym (hop_is routes ip 32)) (go (deepest_within 32 routes ip) refl)
   where
@@ -127,7 +127,7 @@ looks_up routes ip all = subst (LooksUp routes ip) (sym (hop_is routes ip 32)) (
       refl,
     )
 
--- rules in their order are each of another index
+-- rules in order have distinct prefixes and depths
 pub ordered_once : (rules : List Rule) → IsOrdered rules → AreOnce (routes_of rules)
 ordered_once [] ordered = tt
 ordered_once (r ∷ rules) ordered = (misses_none rules r.prefix r.depth (all_above rules (rank r.depth r.prefix) ordered.0), ordered_once rules ordered.1)
@@ -150,7 +150,7 @@ pub small_hops : (tables : List RuledTable) → AllByRecursion IsKept tables →
 small_hops [] all = tt
 small_hops (s ∷ tables) all = (low_hops (routes_in s) all.0.each, small_hops tables all.1)
 
--- what a look-up answers is no greater
+-- no hop that a look-up returns is greater
 pub low_hop : (routes : List Route) (ip : ℕ) → AllByRecursion IsRoute routes → IfSome (hop_for routes ip) (λ hop. hop ≤ 16777215)
 low_hop routes ip all = subst (λ o. IfSome o (λ hop. hop ≤ 16777215)) (sym (hop_is routes ip 32)) (go (deepest_within 32 routes ip) refl)
   where

@@ -1,4 +1,4 @@
--- Groups that are made for first bits, and given up.
+-- Groups that first bits get and lose.
 use Rattle.std.proofs.Common.{◌≡◌, ◌≢◌, ℕ, suc, ◌+◌, ◌-◌, ◌*◌, ◌/◌, ◌%◌, ◌<◌, ◌≤◌, ◌⊎◌, Bool, true, false, cond, List, [], ◌∷◌, length, Some, None, refl, sym}
 use Rattle.std.proofs.Common.{◌∙◌, ap, arith, ⊎_elim, inl, inr, length-set}
 use Rattle.std.specs.Prelude.{◌==◌, position, slice_index, slice_set}
@@ -80,7 +80,7 @@ module _ (old new : Table) (first g : ℕ) (cell : Cell) (table : IsTable old) (
       ∙ (so.inside (g * 256 + ip % 256) (omega arith) (omega arith)
       ∙ (ap (first_at old) (sym e) ∙ sym (entry_plain old ip (ap (group_at old) e ∙ none))))
 
-  -- first bits that had no group get one that was free
+  -- first bits without a group get one that was free
   pub opened_new : Opened first old new
   opened_new = record {
     table = record {

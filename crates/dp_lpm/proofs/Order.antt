@@ -1,4 +1,4 @@
--- Rules in their order, index by index.
+-- Rules in order, index by index.
 use Rattle.std.proofs.Common.{◌≡◌, ◌≢◌, ℕ, zero, suc, ◌<◌, ◌≤◌, List, [], ◌∷◌, length, take, drop, ap, arith, ⊎_elim}
 use Rattle.std.specs.List.{AllByRecursion}
 use Rattle.std.proofs.lemmas.Bool.{cases_eq}
@@ -28,7 +28,7 @@ all_at P [] k all there = absurd (omega (arith, there))
 all_at P (r ∷ rules) zero all there = all.0
 all_at P (r ∷ rules) (suc k) all there = all_at P rules k all.1 (omega (arith, there))
 
--- a rule further behind is greater
+-- a rule further on is greater
 pub rises : (rules : List Rule) (i j : ℕ) → IsOrdered rules → i < j → j < length rules → rank_of (rule_at rules i) < rank_of (rule_at rules j)
 rises [] i j ordered lt there = absurd (omega (arith, there))
 rises (r ∷ rules) zero zero ordered lt there = absurd (omega (arith, lt))

@@ -1,4 +1,4 @@
--- The order of rules when one is put in, replaced or taken out.
+-- The order of rules after one is inserted, replaced or removed.
 use Rattle.std.proofs.Common.{◌≡◌, ℕ, zero, suc, ◌+◌, ◌<◌, List, [], ◌∷◌, ◌++◌, length, take, drop, subst, arith}
 use Rattle.std.specs.Prelude.{slice_set}
 use Rattle.std.specs.List.{AllByRecursion}
@@ -7,7 +7,7 @@ use Rattle.dp_lpm.specs.declared.rule.Rule.{Rule}
 use Rattle.dp_lpm.specs.Rules.{rank_of, rule_at, route_of, routes_of, IsOrdered, Parts}
 use Rattle.dp_lpm.proofs.Order.{all_at}
 
--- what all elements have, and one more
+-- what holds of all elements, and of one more
 pub all_put : (P : Rule → Type 0) (rules : List Rule) (index : ℕ) (r : Rule) → AllByRecursion P rules → P r →
     AllByRecursion P (take index rules ++ r ∷ drop index rules)
 all_put P rules zero r all one = (one, all)
@@ -50,7 +50,7 @@ ordered_remove [] (suc index) ordered = tt
 ordered_remove (x ∷ rules) zero ordered = ordered.1
 ordered_remove (x ∷ rules) (suc index) ordered = (all_remove (λ q. rank_of x < rank_of q) rules index ordered.0, ordered_remove rules index ordered.1)
 
--- ---- how many
+-- ---- lengths
 
 pub length_put : (rules : List Rule) (index : ℕ) (r : Rule) → length (take index rules ++ r ∷ drop index rules) ≡ length rules + 1
 length_put rules zero r = omega arith
@@ -62,7 +62,7 @@ length_remove [] index there = absurd (omega (arith, there))
 length_remove (x ∷ rules) zero there = omega arith
 length_remove (x ∷ rules) (suc index) there = omega (arith, length_remove rules index (omega (arith, there)))
 
--- ---- of rules, and of the routes that they are
+-- ---- rules and the routes that they stand for
 
 pub all_rules : (P : Route → Type 0) (rules : List Rule) → AllByRecursion P (routes_of rules) → AllByRecursion (λ r. P (route_of r)) rules
 all_rules P [] all = tt

@@ -6,7 +6,7 @@ use Rattle.std.proofs.lemmas.Nat.{mod-mul-add}
 use Rattle.dp_lpm.specs.Routes.{prefix_of}
 use Rattle.dp_lpm.specs.Tables.{start_of, IsEven}
 
--- a prefix has as many bits as it is deep
+-- a prefix has as many bits as its depth
 pub prefix_small : (ip depth : ℕ) → ip < 4294967296 → depth ≤ 32 → prefix_of ip depth < 2 ^ depth
 prefix_small ip depth small most =
     let bits : depth + (32 - depth) ≡ 32 = omega (arith, most) in
@@ -71,7 +71,7 @@ range_even ip depth small most = record {
         below : (n : ℕ) → n < 8 → 256 ≤ 2 ^ n → ⊥
         below n lt many = omega (arith, pow_below n 8 lt, many)
 
--- the first 24 bits of the prefix of a deep route
+-- the first 24 bits of a deep route's prefix
 pub deep_first : (ip depth : ℕ) → 24 < depth → depth ≤ 32 → prefix_of ip depth / 2 ^ (depth - 24) ≡ ip / 256
 deep_first ip depth deep most =
     let n : 32 - depth + (depth - 24) ≡ 8 = omega (arith, deep, most) in
@@ -85,13 +85,13 @@ start_first ip depth deep most =
     ∙ (ap (λ m. m / 2 ^ (depth - 24)) (shl-shr (prefix_of ip depth) (32 - depth))
     ∙ deep_first ip depth deep most))
 
--- a shorter prefix goes by a longer one
+-- a shorter prefix is determined by a longer one
 pub shorter : (ip depth less : ℕ) → less ≤ depth → depth ≤ 32 → prefix_of ip less ≡ prefix_of ip depth / 2 ^ (depth - less)
 shorter ip depth less le most =
     let n : 32 - depth + (depth - less) ≡ 32 - less = omega (arith, le, most) in
     sym (shr-shr ip (32 - depth) (depth - less) ∙ ap (λ k. ip / 2 ^ k) n)
 
--- where the range begins, as it is computed
+-- where the range begins, as the code computes it
 pub range_is : (ip depth : ℕ) → ip - ip % 2 ^ (32 - depth) ≡ start_of ip depth
 range_is ip depth = omega (arith, shr_split ip (32 - depth))
 

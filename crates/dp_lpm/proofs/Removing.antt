@@ -1,4 +1,4 @@
--- A rule has been taken out where those behind it went one index down and the last index was let go.
+-- Removing a rule: those after it move down by one index, and the last index is dropped.
 use Rattle.std.proofs.Common.{◌≡◌, ℕ, suc, ◌+◌, ◌-◌, ◌<◌, List, ◌++◌, length, take, drop, sym, ◌∙◌, ap, arith, take_all, append_assoc, length-take}
 use Rattle.std.proofs.lemmas.List.{take-append-le, take-append-drop, take_at, drop_at, length-take-le, length-append, length-drop, drop-drop, drop-take}
 use Rattle.std.proofs.lemmas.Slice.{between_to_end}
@@ -14,7 +14,7 @@ part_length : (index : ℕ) (rules part : List Rule) → index < length rules �
     length part ≡ length rules - index
 part_length index rules part there size = size ∙ (ap length (from_index index rules) ∙ length-drop index rules)
 
--- the rules in front, and what stands from the index on now, but for the last
+-- the rules before the index, and all from it on but the last
 pub left_out : (index : ℕ) (rules part : List Rule) → index < length rules → length part ≡ length (mid_of index (length rules - index) rules)
     → take (length (mid_of index (length rules - index) rules) - 1) part ≡ drop 1 (mid_of index (length rules - index) rules)
     → take (length rules - 1) (put_mid index (length rules - index) rules part) ≡ take index rules ++ drop (suc index) rules
@@ -34,7 +34,7 @@ left_out index rules part there size moved =
 
 -- ---- part by part
 
--- so many went one index down, and the others are as they were
+-- the first n moved down by one index, and the others are as they were
 pub record GoneDown (old : List Rule) (at : ℕ) (rules : List Rule) : Type 0 where
   pub within : at < length old
   pub is : rules ≡ take at (drop 1 old) ++ drop at old
@@ -79,7 +79,7 @@ part_down old at n rules fits down = record {
     back : drop (at + n) (paste rules at (drop (at + 1) rules) n) ≡ drop (at + n) old
     back = drop-paste rules at (drop (at + 1) rules) n (omega (arith, fits, long)) (omega (arith, fits, long, length-drop (at + 1) rules)) ∙ behind n
 
--- a part of which the first is let go, in its list
+-- a part whose first rule is dropped, put back into its list
 pub part_put : (now : List Rule) (at n : ℕ) → at + n < length now
     → put_mid at (n + 1) now (paste (mid_of at (n + 1) now) 0 (drop 1 (mid_of at (n + 1) now)) (length (mid_of at (n + 1) now) - 1))
     ≡ paste now at (drop (at + 1) now) n

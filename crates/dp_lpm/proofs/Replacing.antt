@@ -1,4 +1,4 @@
--- A rule in place of the one of its prefix and depth.
+-- Replacing the rule of a prefix and depth.
 use Rattle.std.proofs.Common.{◌≡◌, ℕ, ◌+◌, length, Result, Ok, Err, Some, None, refl, sym, ◌∙◌, ap, subst, arith, length-set}
 use Rattle.std.specs.Prelude.{is_some, slice_set, vec_capacity, MatchResult, if◌then◌else◌}
 use Rattle.std.specs.List.{AllByRecursion}
@@ -77,7 +77,7 @@ replaced old new index r kept is found rules room max table = (
     groups : Grouped new.table (routes_in new)
     groups = subst (λ t. Grouped t (routes_in new)) (sym table) (grouped_same old.table (routes_in old) (routes_in new) (groups_of old kept) counted)
 
--- where there is none to replace, what is outcome of a new rule is outcome of the rule
+-- where there is none to replace, the outcome is that of a new rule
 pub new_outcome : (old new : RuledTable) (index : ℕ) (r : Rule) → IsMissing old.rules.items r.depth r.prefix index → (result : Result (Unit {0}) LpmError) →
     MatchResult result (λ _. TakesIn old new (route_of r) × (new_fault (shown old) (route_of r) ≡ None)) (λ e. (new_fault (shown old) (route_of r) ≡ Some e)
     × (new ≡ old)) → MatchResult result (λ _. TakesIn old new (route_of r) × (route_fault (shown old) (route_of r) ≡ None))

@@ -1,4 +1,4 @@
--- Entries that become another one, index by index.
+-- Overwriting entries, index by index.
 use Rattle.std.proofs.Common.{◌≡◌, ◌≢◌, ℕ, ◌+◌, ◌/◌, ◌%◌, ◌<◌, ◌≤◌, Bool, true, false, List, length, refl, sym, ◌∙◌, ap, subst, arith, ⊎_elim}
 use Rattle.std.specs.Prelude.{◌==◌, nat_lt, slice_set, slice_index_or, if◌then◌else◌}
 use Rattle.std.proofs.lemmas.Bool.{eqb-true, ltb-false, le-leb, lt-leb, cases_eq}
@@ -8,13 +8,13 @@ use Rattle.dp_lpm.specs.declared.cell.Entry.{Entry}
 use Rattle.dp_lpm.specs.declared.cell.Entry.TheVariants.{Empty, Hop, Group}
 use Rattle.dp_lpm.specs.Cells.{at, settled, depth_of, entry_in}
 
--- those from one index up to k are settled, and the others stay
+-- those from one index up to k are overwritten if shallow enough, and the others stay
 pub record SettledUpTo (from k depth : ℕ) (to : Entry) (old new : List Cell) : Type 0 where
   pub inside : (i : ℕ) → from ≤ i → i < k → at new i ≡ settled depth to (at old i)
   pub below : (i : ℕ) → i < from → at new i ≡ at old i
   pub above : (i : ℕ) → k ≤ i → at new i ≡ at old i
 
--- the highest byte tells what is at most so deep: it is the depth, or at least 128
+-- the highest byte decides: it is the depth, or at least 128
 pub shallow_in : (c : Cell) (depth : ℕ) → c.bits / 16777216 ≤ depth → depth ≤ 32 → depth_of (entry_in c) ≤ depth
 shallow_in c depth shallow most = kinds (c.bits == 0) (nat_lt c.bits 2147483648) refl
   where
@@ -79,7 +79,7 @@ settle_keep from k depth to old cells so deeper most = record {
         let many = deep_in (slice_index_or cells k (record { bits = 0 })) depth deeper most in
         was ∙ sym (settled_no depth to (at old i) (omega (arith, same, many)))
 
--- the same of lists that are those
+-- the same for equal lists
 pub settled_between : (from k depth : ℕ) (to : Entry) (old old' new new' : List Cell) → old ≡ old' → new ≡ new' → SettledUpTo from k depth to old new →
     SettledUpTo from k depth to old' new'
 settled_between from k depth to old old' new new' e f so =

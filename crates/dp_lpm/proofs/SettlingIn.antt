@@ -1,4 +1,4 @@
--- Entries that settle within the addresses of one prefix of 24 bits.
+-- Overwriting entries within the addresses of one prefix of 24 bits.
 use Rattle.std.proofs.Common.{◌≡◌, ◌≢◌, ℕ, ◌+◌, ◌*◌, ◌/◌, ◌%◌, ◌<◌, ◌≤◌, ◌⊎◌, length, Some, None, refl, sym, ◌∙◌, ap, subst, arith, ⊎_elim, inl, inr}
 use Rattle.std.specs.Prelude.{slice_index}
 use Rattle.std.proofs.lemmas.Bool.{cases_eq, cases_lt}
@@ -9,7 +9,7 @@ use Rattle.dp_lpm.specs.Tables.{IsTable, first_at, group_at, Settled}
 use Rattle.dp_lpm.proofs.Settling.{SettledUpTo}
 use Rattle.dp_lpm.proofs.Entries.{entry_grouped, entry_plain, entry_same, settled_leaf}
 
--- the prefix has a group: entries of it settle
+-- the prefix has a group: entries of it are overwritten
 pub settled_group : (old new : Table) (first low count depth g : ℕ) (to : Entry) → IsTable old → low + count ≤ 256 → group_in to ≡ None →
     group_at old first ≡ Some g → new.first.items ≡ old.first.items → new.counts.items ≡ old.counts.items → length new.cells.items ≡ length old.cells.items →
     SettledUpTo (g * 256 + low) (g * 256 + low + count) depth to old.cells.items new.cells.items → Settled (first * 256 + low) count depth to old new
@@ -47,7 +47,7 @@ settled_group old new first low count depth g to table fits leaf named firsts co
     leaves k (inr le) (inl lt) = ap group_in (so.inside k le lt) ∙ settled_leaf depth to (at old.cells.items k) leaf (table.leaves k)
     leaves k (inr le) (inr over) = ap group_in (so.above k over) ∙ table.leaves k
 
-    -- entries of other groups, and those of this one that lie outside
+    -- entries of other groups, and those of this one outside the range
     others : (i h j : ℕ) → group_at old i ≡ Some h → j < 256 → (i ≡ first → (j < low) ⊎ (low + count ≤ j)) → at new.cells.items (h * 256 + j)
         ≡ at old.cells.items (h * 256 + j)
     others i h j is lt outside = ⊎_elim
@@ -62,7 +62,7 @@ settled_group old new first low count depth g to table fits leaf named firsts co
         index e (inl under) = so.below (h * 256 + j) (omega (arith, e, under))
         index e (inr over) = so.above (h * 256 + j) (omega (arith, e, over))
 
--- the prefix has none: its one entry settles
+-- the prefix has no group: its one entry is overwritten
 pub settled_plain : (old new : Table) (first depth : ℕ) (to : Entry) → IsTable old → depth ≤ 32 → group_in to ≡ None → group_at old first ≡ None →
     new.cells.items ≡ old.cells.items → new.counts.items ≡ old.counts.items → length new.first.items ≡ length old.first.items →
     SettledUpTo first (first + 1) depth to old.first.items new.first.items → Settled (first * 256) 256 depth to old new
@@ -124,7 +124,7 @@ settled_none start depth to t table = record {
   counts = refl;
 }
 
--- the same, by the names of a call
+-- the same, in terms of a call's arguments
 pub settled_whole : (old new : Table) (first low count depth : ℕ) (to : Entry) → (low ≡ 0) × (count ≡ 256) → Settled (first * 256) 256 depth to old new →
     Settled (first * 256 + low) count depth to old new
 settled_whole old new first low count depth to (none, all) settled =

@@ -1,4 +1,4 @@
--- A rule is taken out.
+-- Removing a rule.
 use Rattle.std.proofs.Common.{◌≡◌, ◌≢◌, ℕ, suc, ◌+◌, ◌-◌, ◌*◌, ◌/◌, ◌%◌, ◌^◌, ◌<◌, ◌≤◌, List, ◌++◌, length, take, drop, Some, None, sym, ◌∙◌, ap, subst, arith}
 use Rattle.std.specs.Prelude.{slice_index, vec_capacity}
 use Rattle.std.specs.List.{AllByRecursion}
@@ -23,7 +23,7 @@ module _ (old : RuledTable) (index prefix depth : ℕ) (found : IsFound old.rule
   abbrev pub left : List Rule
   left = take index old.rules.items ++ drop (suc index) old.rules.items
 
-  -- the routes change at the index of the rule alone
+  -- the routes change at the rule's prefix and depth only
   pub removed_changes : ChangesAt (routes_in old) (routes_of left) prefix depth None
   removed_changes = splice_changes old.rules.items left prefix depth (remove_splice old.rules.items index prefix depth found)
 
@@ -84,7 +84,7 @@ module _ (old : RuledTable) (index prefix depth : ℕ) (found : IsFound old.rule
       let no = deep_other (route_of (rule_at old.rules.items index)) i (omega (arith, found.depth_is, deep)) (λ e. other (e ∙ (first_is deep ∙ is))) in
       omega (arith, removed_count i, no)
 
--- the groups may be closed: if the last deep route of first bits went, their entries are all the same
+-- the groups may be closed: if the last deep route of first bits is out, their entries are all the same
 pub can_close : (s : RuledTable) (counted : List Route) (first : ℕ) → Keeps (routes_in s) counted s → deep_count counted first
     ≡ deep_count (routes_in s) first + 1 → CanClose first s.table
 can_close s counted first kept more = either_group (group_at s.table first)
@@ -109,7 +109,7 @@ can_close s counted first kept more = either_group (group_at s.table first)
           ∙ ap (at s.table.cells.items) (omega (arith, zero_low)))))));
     })
 
--- closed, the groups are those of the routes that are left
+-- after closing, the groups follow from the routes that remain
 pub closed_keeps : (s new : RuledTable) (counted : List Route) (first : ℕ) → Keeps (routes_in s) counted s → deep_count counted first
     ≡ deep_count (routes_in s) first + 1 → ((i : ℕ) → i ≢ first → deep_count (routes_in s) i ≡ deep_count counted i) → first < 16777216 →
     Closed first s.table new.table → new.rules ≡ s.rules → new.max_rules ≡ s.max_rules → IsKept new
@@ -130,7 +130,7 @@ closed_keeps s new counted first kept more others small closed rules max =
     } in
     subst (λ v. Keeps (routes_of v.items) (routes_of v.items) (record new { rules = v })) (sym rules) all
 
--- where no deep route went, the groups are as they were
+-- where no deep route was removed, the groups are as before
 pub shallow_keeps : (s : RuledTable) (counted : List Route) → Keeps (routes_in s) counted s → ((i : ℕ) → deep_count (routes_in s) i ≡ deep_count counted i) →
     IsKept s
 shallow_keeps s counted kept same =

@@ -1,4 +1,4 @@
--- A rule put in, replaced or taken out: a change of the routes at one prefix and depth.
+-- Inserting, replacing or removing a rule changes the routes at one prefix and depth.
 use Rattle.std.proofs.Common.{◌≡◌, ◌≢◌, ℕ, zero, suc, ◌<◌, true, false, cond, ◌&&◌, List, [], ◌∷◌, ◌++◌, length, take, drop, Option, Some, None, refl, sym}
 use Rattle.std.proofs.Common.{◌∙◌, ap, arith, ⊎_elim}
 use Rattle.std.specs.Prelude.{◌==◌, find, slice_set}
@@ -19,7 +19,7 @@ Misses key rules = AllByRecursion (λ r. rank_of r ≢ key) rules
 abbrev pub AreAt : ℕ → ℕ → List Rule → Type 0
 AreAt prefix depth rules = AllByRecursion (λ r. (r.depth ≡ depth) × (r.prefix ≡ prefix)) rules
 
--- in the list some rules of one prefix and depth become others
+-- some rules of one prefix and depth in the list become others
 pub record Splice (old new : List Rule) (prefix depth : ℕ) : Type 0 where
   pub first : List Rule
   pub last : List Rule
@@ -32,7 +32,7 @@ pub record Splice (old new : List Rule) (prefix depth : ℕ) : Type 0 where
   pub out_there : AreAt prefix depth out
   pub into_there : AreAt prefix depth into
 
--- ---- what is found
+-- ---- what a search finds
 
 not_at : (r : Rule) (prefix depth : ℕ) → rank_of r ≢ rank depth prefix → is_at prefix depth (route_of r) ≡ false
 not_at r prefix depth other = ⊎_elim
@@ -46,7 +46,7 @@ misses_none [] prefix depth misses = refl
 misses_none (r ∷ rules) prefix depth misses =
     ap (λ b. cond b (Some (route_of r)) (route_at (routes_of rules) prefix depth)) (not_at r prefix depth misses.0) ∙ misses_none rules prefix depth misses.1
 
--- rules of one index are of no other
+-- rules of one prefix and depth have no other
 others_none : (rules : List Rule) (prefix depth p d : ℕ) → AreAt prefix depth rules → ((d == depth) && (p == prefix)) ≡ false → route_at (routes_of rules) p d
     ≡ None
 others_none [] prefix depth p d there other = refl
@@ -74,7 +74,7 @@ or_none : {X : Type 0} (o : Option X) → option_or o None ≡ o
 or_none None = refl
 or_none (Some x) = refl
 
--- where the lists in front and behind have no rule of the index, the one between has it
+-- where the lists before and after have no such rule, the one between has it
 pub here_at : (first middle last : List Rule) (prefix depth : ℕ) → Misses (rank depth prefix) first → Misses (rank depth prefix) last →
     route_at (routes_of (first ++ (middle ++ last))) prefix depth ≡ route_at (routes_of middle) prefix depth
 here_at first middle last prefix depth front behind =
@@ -84,7 +84,7 @@ here_at first middle last prefix depth front behind =
     ∙ (ap (option_or (route_at (routes_of middle) prefix depth)) (misses_none last prefix depth behind)
     ∙ or_none (route_at (routes_of middle) prefix depth)))
 
--- a splice changes the routes at its index
+-- a splice changes the routes at its prefix and depth
 pub splice_changes : (old new : List Rule) (prefix depth : ℕ) (s : Splice old new prefix depth) →
     ChangesAt (routes_of old) (routes_of new) prefix depth (route_at (routes_of s.into) prefix depth)
 splice_changes old new prefix depth s = record {
@@ -107,7 +107,7 @@ pub all_above : (rules : List Rule) (key : ℕ) → AllByRecursion (λ r. key < 
 all_above [] key all = tt
 all_above (r ∷ rules) key all = ((λ e. absurd (omega (arith, e, all.0))), all_above rules key all.1)
 
--- the list in front of an index, the rule there, and the list behind
+-- the list before an index, the rule there, and the list after
 pub at_index : (rules : List Rule) (index : ℕ) → index < length rules → rules ≡ take index rules ++ (rule_at rules index ∷ drop (suc index) rules)
 at_index [] index there = absurd (omega (arith, there))
 at_index (r ∷ rules) zero there = refl

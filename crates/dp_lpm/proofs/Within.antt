@@ -1,4 +1,4 @@
--- The deepest route that is at most so deep, step by step.
+-- The deepest route within a depth, step by step.
 use Rattle.std.proofs.Common.{◌≡◌, ℕ, zero, suc, ◌-◌, ◌<◌, cond, ◌&&◌, List, [], ◌∷◌, take, drop, Some, None, refl, sym, ◌∙◌, ap, arith}
 use Rattle.std.specs.Prelude.{◌==◌}
 use Rattle.std.specs.Option.{option_or}
@@ -20,7 +20,7 @@ pub within_suc : (depth : ℕ) (routes : List Route) (ip : ℕ) → deepest_with
 unfolding deepest_within
 within_suc depth routes ip = refl
 
--- a rule that is found is the route of its index
+-- a rule that is found is the route of its prefix and depth
 pub found_at : (rules : List Rule) (depth prefix index : ℕ) → IsFound rules depth prefix index → route_at (routes_of rules) prefix depth
     ≡ Some (route_of (rule_at rules index))
 found_at rules depth prefix index found =

@@ -1,18 +1,18 @@
--- Internal: entries of tables, and the four bytes that each takes.
+-- Internal: the entries of tables in four bytes each.
 use Rattle.std.specs.Prelude.{ℕ, ◌/◌, ◌%◌, ◌<◌, ◌≤◌, ◌==◌, nat_le, nat_lt, if◌then◌else◌, List, Option, Some, None, slice_index_or}
 use Rattle.dp_lpm.specs.declared.limits.TheConstants.{FIRST_GROUP, GROUP_DEPTH, HOPS, MAX_DEPTH, MAX_GROUPS}
 use Rattle.dp_lpm.specs.declared.cell.Entry.{Entry}
 use Rattle.dp_lpm.specs.declared.cell.Entry.TheVariants.{Empty, Hop, Group}
 use Rattle.dp_lpm.specs.declared.cell.Cell.{Cell}
 
--- the entry of four bytes
+-- the entry that four bytes encode
 abbrev pub entry_in : Cell → Entry
 entry_in c =
     if c.bits == 0 then Empty
     else if nat_lt c.bits FIRST_GROUP then Hop (c.bits % HOPS) (c.bits / HOPS)
     else Group (c.bits % MAX_GROUPS)
 
--- whether four bytes can hold it
+-- whether four bytes can encode it
 abbrev pub IsStorable : Entry → Type 0
 IsStorable Empty = Unit {0}
 IsStorable (Hop hop depth) = (hop < HOPS) × (1 ≤ depth) × (depth ≤ MAX_DEPTH)
@@ -22,13 +22,13 @@ IsStorable (Group g) = Unit {0}
 abbrev pub at : List Cell → ℕ → Entry
 at cells k = entry_in (slice_index_or cells k (record { bits = 0 }))
 
--- how deep the rule of an entry is; a group is deeper than all
+-- the depth of an entry's rule; a group is deeper than all
 abbrev pub depth_of : Entry → ℕ
 depth_of Empty = 0
 depth_of (Hop hop depth) = depth
 depth_of (Group g) = GROUP_DEPTH
 
--- an entry that is at most so deep becomes another
+-- the entry after it is overwritten, if it is no deeper than that
 abbrev pub settled : ℕ → Entry → Entry → Entry
 settled depth to e = if nat_le (depth_of e) depth then to else e
 

@@ -1,4 +1,4 @@
--- What a table refuses, in this order.
+-- Which changes a table refuses, in order of the tests.
 use Rattle.std.specs.Prelude.{ℕ, ◌&&◌, ◌||◌, nat_lt, nat_le, if◌then◌else◌, ◌∷◌, length, Option, Some, None, is_some}
 use Rattle.dp_model.specs.Prefixes.{Route}
 use Rattle.dp_lpm.specs.declared.limits.TheConstants.{FIRST_BITS, MAX_DEPTH, MAX_HOP}
@@ -28,14 +28,14 @@ new_fault t route =
 abbrev pub route_fault : RouteTable → Route → Option LpmError
 route_fault t route = if is_some (route_at t.routes route.prefix route.depth) then None else new_fault t route
 
--- why an add is refused
+-- why `add` refuses
 abbrev pub add_fault : RouteTable → ℕ → ℕ → ℕ → Option LpmError
 add_fault t ip depth hop =
     if nat_lt depth 1 || nat_lt MAX_DEPTH depth then Some BadDepth
     else if nat_lt MAX_HOP hop then Some BadHop
     else route_fault t (added ip depth hop)
 
--- why a delete is refused
+-- why `delete` refuses
 abbrev pub delete_fault : RouteTable → ℕ → ℕ → Option LpmError
 delete_fault t ip depth =
     if nat_lt depth 1 || nat_lt MAX_DEPTH depth then Some BadDepth

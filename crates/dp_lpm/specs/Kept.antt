@@ -1,4 +1,4 @@
--- What a table keeps: its entries and its groups are those of its rules.
+-- What a table keeps: its entries and its groups follow from its rules.
 use Rattle.std.specs.Prelude.{◌≡◌, ◌≢◌, ℕ, ◌+◌, ◌-◌, ◌/◌, ◌^◌, ◌<◌, ◌≤◌, Bool, nat_lt, if◌then◌else◌, List, [], ◌∷◌, length, vec_capacity, Some, None}
 use Rattle.std.specs.Prelude.{slice_index}
 use Rattle.std.specs.List.{AllByRecursion}
@@ -12,36 +12,35 @@ use Rattle.dp_lpm.specs.Tables.{IsTable, IsNoTable, group_at, entry_for}
 abbrev pub one_if : Bool → ℕ
 one_if b = if b then 1 else 0
 
--- how many routes deeper than 24 bits have these first 24
+-- how many routes deeper than 24 bits begin with these 24
 abbrev pub deep_count : List Route → ℕ → ℕ
 deep_count [] first = 0
 deep_count (route ∷ routes) first = one_if (is_deep_in first route) + deep_count routes first
 
--- how many of the groups have rules
+-- how many groups have rules
 abbrev pub used_count : List ℕ → ℕ
 used_count [] = 0
 used_count (count ∷ counts) = one_if (nat_lt 0 count) + used_count counts
 
--- no rules and no entries, and no memory for any
+-- no rules, no entries, and no memory
 abbrev pub KeepsNothing : RuledTable → Type 0
 KeepsNothing s = (vec_capacity s.rules ≡ 0) × IsNoTable s.table × (s.max_rules ≡ 0)
 
 abbrev pub routes_in : RuledTable → List Route
 routes_in s = routes_of s.rules.items
 
--- what a caller sees
+-- the table as a caller sees it
 abbrev pub shown : RuledTable → RouteTable
 shown s = record { routes = routes_in s; max_rules = s.max_rules; groups = length s.table.counts.items }
 
--- The entries answer as the first routes do, and the groups are those of the others. Between calls both are the
--- table's own
+-- The entries follow from the first routes, and the groups from the second. Between calls both are the table's own
 pub record Keeps (answered counted : List Route) (s : RuledTable) : Type 0 where
   pub order : IsOrdered s.rules.items
   pub each : AllByRecursion IsRoute (routes_in s)
   pub table : IsTable s.table
   -- each address has the entry of its deepest route
   pub answers : (ip : ℕ) → entry_for s.table ip ≡ entry_of (deepest_within MAX_DEPTH answered ip)
-  -- first bits have a group where a deep route begins with them
+  -- first bits have a group exactly where a deep route begins with them
   pub grouped : (i g : ℕ) → group_at s.table i ≡ Some g → slice_index s.table.counts.items g ≡ deep_count counted i
   pub plain : (i : ℕ) → group_at s.table i ≡ None → deep_count counted i ≡ 0
   pub needed : used_count s.table.counts.items ≡ groups_needed counted
@@ -57,13 +56,13 @@ IsKept s = Keeps (routes_in s) (routes_in s) s
 abbrev pub first_of : Route → ℕ
 first_of route = route.prefix / 2 ^ (route.depth - FIRST_BITS)
 
--- the route is in, and has a group if it is deep; the entries are as before
+-- the route is in, with a group if it is deep; the entries are as before
 pub record TakesIn (old new : RuledTable) (route : Route) : Type 0 where
   pub kept : Keeps (routes_in old) (routes_in new) new
   pub puts : Puts (shown old) (shown new) route
   pub group : FIRST_BITS < route.depth → (g : ℕ) × (group_at new.table (first_of route) ≡ Some g)
 
--- the route of the prefix is out, and the entries are those of the routes that are left; its group still counts it
+-- the route of the prefix is out, and the entries follow from the rest; its group still counts it
 pub record TakesOut (old new : RuledTable) (ip depth : ℕ) : Type 0 where
   pub kept : Keeps (routes_in new) (routes_in old) new
   pub drops : Drops (shown old) (shown new) (prefix_of ip depth) depth

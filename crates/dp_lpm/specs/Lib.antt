@@ -1,4 +1,4 @@
--- What the contracts of tables name.
+-- The definitions that contracts of dp_lpm name.
 pub mod Cells
 pub mod Faults
 pub mod Kept

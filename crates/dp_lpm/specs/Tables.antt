@@ -1,4 +1,4 @@
--- Internal: tables of entries, and what is done to them.
+-- Internal: tables of entries, and the operations on them.
 use Rattle.std.specs.Prelude.{◌≡◌, ◌≢◌, ℕ, ◌+◌, ◌-◌, ◌*◌, ◌/◌, ◌%◌, ◌^◌, ◌<◌, ◌≤◌, ◌==◌, ◌⊎◌, length, replicate, position, Option, Some, None, slice_index}
 use Rattle.std.specs.Prelude.{slice_set, vec_capacity}
 use Rattle.std.specs.Option.{option_map_or}
@@ -9,7 +9,7 @@ use Rattle.dp_lpm.specs.declared.table.Table.{Table}
 use Rattle.dp_lpm.specs.Cells.{at, group_in, settled}
 use Rattle.dp_lpm.specs.Routes.{prefix_of}
 
--- the entry of first bits; the group that they have, if they have one
+-- the first-level entry of first bits; their group, if they have one
 abbrev pub first_at : Table → ℕ → Entry
 first_at t i = at t.first.items i
 
@@ -21,7 +21,7 @@ abbrev pub entry_for : Table → ℕ → Entry
 entry_for t ip =
     option_map_or (λ g. at t.cells.items (g * GROUP_ENTRIES + ip % GROUP_ENTRIES)) (group_at t (ip / GROUP_ENTRIES)) (first_at t (ip / GROUP_ENTRIES))
 
--- each group that is named belongs to one prefix of 24 bits, has rules, and has 256 entries, of which none is a group
+-- each named group belongs to one prefix of 24 bits, has rules, and has 256 entries, none of which is a group
 pub record IsTable (t : Table) : Type 0 where
   pub first : length t.first.items ≡ FIRST_ENTRIES
   pub cells : length t.cells.items ≡ length t.counts.items * GROUP_ENTRIES
@@ -31,21 +31,21 @@ pub record IsTable (t : Table) : Type 0 where
   pub apart : (i j g : ℕ) → group_at t i ≡ Some g → group_at t j ≡ Some g → i ≡ j
   pub leaves : (k : ℕ) → group_in (at t.cells.items k) ≡ None
 
--- what stands where no table is: no entries, and no memory
+-- a slot without a table: no entries, and no memory
 abbrev pub IsNoTable : Table → Type 0
 IsNoTable t = (vec_capacity t.first ≡ 0) × (vec_capacity t.cells ≡ 0) × (vec_capacity t.counts ≡ 0)
 
--- where the addresses of a prefix begin
+-- the first address of a prefix
 abbrev pub start_of : ℕ → ℕ → ℕ
 start_of ip depth = prefix_of ip depth * 2 ^ (MAX_DEPTH - depth)
 
--- a range of addresses that is part of one group's, or is made of whole ones
+-- a range of addresses inside one group's, or made of whole ones
 pub record IsEven (start size : ℕ) : Type 0 where
   pub bound : start + size ≤ ADDRESSES
   pub part : size < GROUP_ENTRIES → start % GROUP_ENTRIES + size ≤ GROUP_ENTRIES
   pub whole : GROUP_ENTRIES ≤ size → (start % GROUP_ENTRIES ≡ 0) × (size % GROUP_ENTRIES ≡ 0)
 
--- the entries of these addresses that are at most so deep have become another one
+-- the entries of these addresses that are no deeper than that are overwritten
 pub record Settled (start size depth : ℕ) (to : Entry) (old new : Table) : Type 0 where
   pub table : IsTable new
   pub inside : (ip : ℕ) → start ≤ ip → ip < start + size → entry_for new ip ≡ settled depth to (entry_for old ip)
@@ -54,7 +54,7 @@ pub record Settled (start size depth : ℕ) (to : Entry) (old new : Table) : Typ
   pub groups : (i : ℕ) → group_at new i ≡ group_at old i
   pub counts : new.counts.items ≡ old.counts.items
 
--- the first bits have a group with one rule more, and no entry has changed
+-- the first bits have a group with one rule more, and no address has another entry
 pub record Opened (first : ℕ) (old new : Table) : Type 0 where
   pub table : IsTable new
   pub same : (ip : ℕ) → entry_for new ip ≡ entry_for old ip
@@ -70,7 +70,7 @@ pub record IsFull (first : ℕ) (old new : Table) : Type 0 where
   pub full : position (λ n. n == 0) old.counts.items ≡ None
   pub same : new ≡ old
 
--- the entries of the first bits' group are all the same, if it has one rule left
+-- if the first bits' group has one rule left, its entries are all the same
 pub record CanClose (first : ℕ) (t : Table) : Type 0 where
   pub group : ℕ
   pub named : group_at t first ≡ Some group
@@ -78,7 +78,7 @@ pub record CanClose (first : ℕ) (t : Table) : Type 0 where
   pub even : slice_index t.counts.items group ≡ 1 → (j : ℕ) → j < GROUP_ENTRIES →
       at t.cells.items (group * GROUP_ENTRIES + j) ≡ at t.cells.items (group * GROUP_ENTRIES)
 
--- the first bits' group has one rule fewer, and is free if it has none; no entry has changed
+-- the first bits' group has one rule fewer, and is free if it has none; no address has another entry
 pub record Closed (first : ℕ) (old new : Table) : Type 0 where
   pub table : IsTable new
   pub same : (ip : ℕ) → entry_for new ip ≡ entry_for old ip

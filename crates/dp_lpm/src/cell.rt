@@ -5,25 +5,25 @@ ghost use Rattle.dp_lpm.specs.Cells.{entry_in, IsStorable, at, settled};
 
 use crate::limits::{FIRST_GROUP, GROUP_DEPTH, HOPS, MAX_DEPTH, MAX_GROUPS};
 
-/// What an entry knows of its addresses.
+/// What an entry says about its addresses.
 #[derive(Clone, Copy, Debug, PartialEq, Eq)]
 pub enum Entry {
-    /// No rule has them.
+    /// No rule matches them.
     Empty,
-    /// The deepest rule that has them has this hop and depth.
+    /// The deepest rule that matches them has this hop and depth.
     Hop { hop: u32, depth: u8 },
-    /// Each of them has an entry of its own, in this group.
+    /// Each has an entry of its own in this group.
     Group(u8),
 }
 
-/// An entry in four bytes: 0 where there is none, or a hop or a group in the lower three, and a depth or 255 for a group in the highest.
+/// An entry in four bytes: 0 where it is empty; else a hop or a group in the lower three bytes, and in the highest the depth, or 255 for a group.
 #[derive(Clone, Copy, Debug)]
 pub struct Cell {
     pub bits: u32,
 }
 
 impl Cell {
-    /// The entry that fills these four bytes.
+    /// Encodes an entry.
     pub fn of(entry: Entry) -> Cell
         requires { IsStorable entry }
         ensures { entry_in result ≡ entry }
@@ -36,7 +36,7 @@ impl Cell {
         Cell { bits }
     }
 
-    /// The entry of these four bytes.
+    /// Decodes the entry.
     pub fn entry(self) -> Entry
         ensures { result ≡ entry_in self }
     {
@@ -52,7 +52,7 @@ impl Cell {
         Entry::Group((self.bits % MAX_GROUPS) as u8)
     }
 
-    /// The depth of its rule, 0 where there is none, and at least 128 for a group.
+    /// The depth of the entry's rule; 0 where it is empty, and at least 128 for a group.
     pub fn depth(self) -> u8
         ensures { result ≡ self.bits / HOPS }
     {
@@ -60,7 +60,7 @@ impl Cell {
     }
 }
 
-/// The entries from one index up to another that are at most so deep become another one.
+/// Overwrites the entries from `from` up to `end` that are no deeper than `depth`.
 pub fn settle(cells: &mut [Cell], from: usize, end: usize, depth: u8, to: Cell)
     requires order { from ≤ end }
     requires there { end ≤ length cells.old }
@@ -77,7 +77,7 @@ pub fn settle(cells: &mut [Cell], from: usize, end: usize, depth: u8, to: Cell)
     }
 }
 
-/// The entries from one index up to another become this one.
+/// Overwrites all entries from `from` up to `end`.
 pub fn fill(cells: &mut [Cell], from: usize, end: usize, to: Cell)
     requires order { from ≤ end }
     requires there { end ≤ length cells.old }

@@ -1,28 +1,28 @@
-//! Why a table is not made, or refuses.
+//! Why a table is not made, or refuses a rule.
 
 use thiserror::Error;
 
-/// There is not enough memory.
+/// The allocator refused the memory for a table.
 #[derive(Clone, Copy, Debug, PartialEq, Eq, Error)]
 #[error("not enough memory")]
 pub struct Memory;
 
-/// Why a table refuses.
+/// Why `add` and `delete` refuse.
 #[derive(Clone, Copy, Debug, PartialEq, Eq, Error)]
 pub enum LpmError {
-    /// The depth is not 1 to 32.
+    /// The depth is not from 1 to 32.
     #[error("the depth is not 1 to 32")]
     BadDepth,
     /// The hop is above 16,777,215.
     #[error("the hop is above 16777215")]
     BadHop,
-    /// The table has as many rules as it can hold.
+    /// The table has as many rules as it was made for.
     #[error("no room for another rule")]
     RulesFull,
-    /// The rule is deeper than 24 bits, and no group is left for its first 24.
+    /// The rule is deeper than 24 bits, and its first 24 have no group and none is free.
     #[error("no group left")]
     GroupsFull,
-    /// There is no such rule.
+    /// There is no rule of this prefix and depth.
     #[error("no such rule")]
     NoRule,
 }

@@ -1,5 +1,29 @@
-//! Longest prefix: a table of rules, and look-ups of two reads at most (DPDK Programmer's Guide, "LPM Library"). A rule, as DPDK
-//! calls it, is a route in definitions and in pipeline files. Addresses are of IPv4, as numbers: 10.1.2.3 is 0x0a010203.
+//! Longest prefix match for IPv4: a table of rules, and look-ups of two reads at most (DPDK Programmer's Guide, "LPM Library"). A rule, as
+//! DPDK calls it, is a route in definitions and in pipeline files. Addresses are numbers: 10.1.2.3 is 0x0a010203.
+//!
+//! The two levels, here with the rules 10.0.0.0/8 -> 1 and 10.1.2.128/25 -> 7:
+//!
+//! ```text
+//!  address 10.1.2.200 = 0x0a0102 | 0xc8
+//!                       24 bits    8 bits
+//!
+//!  TBL24: 16,777,216 entries of 4 bytes (64 MB)         TBL8: groups of 256 entries
+//!                                                        group 0, for 10.1.2.*
+//!  0x0a0101  | hop 1, depth 8 |                          0x00 | hop 1, depth 8  |   10.1.2.0 to .127: the shallower rule
+//!  0x0a0102  | group 0        | -----------------------> 0x80 | hop 7, depth 25 |   10.1.2.128 to .255
+//!  0x0a0103  | hop 1, depth 8 |                          0xc8 | hop 7, depth 25 |   the second read
+//!  0x0b0000  | empty          |                          0xff | hop 7, depth 25 |
+//! ```
+//!
+//! The first 24 bits of an address have a group exactly where a rule deeper than 24 bits begins with them. Each group counts these rules; when
+//! the last one is deleted the group is free, and the entry in TBL24 is again what all 256 then say. The rules are also kept in one
+//! list, ordered by depth and then by prefix, which `add` and `delete` search in at most 17 comparisons. `add` writes the entries of its prefix
+//! that are no deeper than the rule; `delete` gives them to the next shallower rule. No other entry is touched.
+//!
+//! Who owns what: an `Lpm` owns its entries and rules. `Lpm::new` takes all memory, and no other call can be refused any. `Tables` takes up to
+//! four tables over for an engine, which reads them and never changes them.
+//!
+//! What to call: `add` and `delete` before the engine opens, `lookup` for an address. A refused call changes nothing.
 #![tactic(auto)]
 
 mod cell;

@@ -1,4 +1,4 @@
-//! A table for longest prefixes.
+//! The public calls of a table.
 
 ghost use Rattle.std.specs.Prelude.{◌≡◌, ◌≤◌, [], length, IsTrue, ◌↔◌, None, Some, IfOk, IfSome, OnOk, OnErr, IfErr};
 ghost use Rattle.dp_model.specs.Prefixes.{hop_for, LooksUp};
@@ -11,8 +11,8 @@ use crate::ruled_table::RuledTable;
 use std::alloc::Global;
 use std::marker::Model;
 
-/// A set of rules, at most one for each prefix and depth: addresses that begin with the prefix go to the rule's hop,
-/// or to that of a deeper rule (DPDK Programmer's Guide, LPM library). All its memory is taken as it is made.
+/// A set of rules, at most one for each prefix and depth. An address goes to the hop of the deepest rule whose prefix it begins with (DPDK
+/// Programmer's Guide, LPM library). `new` takes all memory.
 #[derive(Drop)]
 pub struct Lpm {
     ruled: RuledTable,
@@ -33,8 +33,8 @@ impl Model for Lpm {
 impl Lpm {
     ghost use Rattle.dp_lpm.specs.Kept.{IsKept, shown};
 
-    /// A table without rules, for at most so many rules and so many prefixes of 24 bits with rules deeper than 24: at most
-    /// `MAX_RULES` and `MAX_GROUPS`. `Memory` where the memory for that is not to be had.
+    /// Makes a table without rules, for at most `max_rules` rules (at most `MAX_RULES`) and at most `groups` prefixes of 24 bits with rules
+    /// deeper than 24 (at most `MAX_GROUPS`). Answers `Memory` where the allocator refuses.
     pub fn new(alloc: Global, max_rules: u32, groups: u32) -> Result<Lpm, Memory>
         requires rules { max_rules ≤ MAX_RULES }
         requires groups { groups ≤ MAX_GROUPS }
@@ -47,12 +47,12 @@ impl Lpm {
         })
     }
 
-    /// Adds a rule, or gives the one of its prefix and depth another hop. Bits of `ip` below the depth are ignored.
+    /// Adds a rule, or gives the rule of this prefix and depth another hop. Bits of `ip` below the depth are ignored.
     ///
     /// # Errors
     ///
-    /// The first that applies of `BadDepth` (not 1 to 32) and `BadHop` (above `MAX_HOP`), and for a rule that is new, of `RulesFull`
-    /// and `GroupsFull`. Then nothing has changed.
+    /// The first that applies of `BadDepth` (not 1 to 32) and `BadHop` (above `MAX_HOP`) and, for a new rule, of `RulesFull`
+    /// and `GroupsFull`. Nothing changes then.
     pub fn add(&mut self, ip: u32, depth: u8, hop: u32) -> Result<(), LpmError>
         ensures puts { OnOk result (Puts self.old self.new (added ip depth hop)) }
         ensures ok { OnOk result (add_fault self.old ip depth hop ≡ None) }
@@ -64,11 +64,11 @@ impl Lpm {
         self.ruled.add(ip, depth, hop)
     }
 
-    /// Takes a rule out. Bits of `ip` below the depth are ignored.
+    /// Deletes a rule. Bits of `ip` below the depth are ignored.
     ///
     /// # Errors
     ///
-    /// `BadDepth` where the depth is not 1 to 32, else `NoRule` where there is no such rule. Then nothing has changed.
+    /// `BadDepth` where the depth is not 1 to 32, else `NoRule` where there is no such rule. Nothing changes then.
     pub fn delete(&mut self, ip: u32, depth: u8) -> Result<(), LpmError>
         ensures drops { OnOk result (Drops self.old self.new (prefix_of ip depth) depth) }
         ensures ok { OnOk result (delete_fault self.old ip depth ≡ None) }
@@ -80,7 +80,7 @@ impl Lpm {
         self.ruled.delete(ip, depth)
     }
 
-    /// The hop of the deepest rule whose prefix the address begins with, if there is one. No hop is above `MAX_HOP`.
+    /// The hop of the deepest rule whose prefix the address begins with, if there is one. It is at most `MAX_HOP`.
     pub fn lookup(&self, ip: u32) -> Option<u32>
         ensures value { result ≡ hop_for self.now.routes ip }
         ensures deepest { LooksUp self.now.routes ip result }
@@ -89,7 +89,7 @@ impl Lpm {
         self.ruled.lookup(ip)
     }
 
-    /// How many rules there are.
+    /// The number of rules.
     pub fn len(&self) -> usize
         ensures len { result ≡ length self.now.routes }
         ensures table { IsTableOfRoutes self.now }
@@ -98,7 +98,7 @@ impl Lpm {
         self.ruled.len()
     }
 
-    // Its rules and entries, for several tables.
+    // Splits off the rules and entries, for `Tables`.
     pub(crate) fn into_ruled(self) -> RuledTable
         ensures kept { IsKept result }
         ensures shown { shown result ≡ self }
@@ -107,7 +107,7 @@ impl Lpm {
         ruled
     }
 
-    /// Whether there is no rule.
+    /// Whether there are no rules.
     pub fn is_empty(&self) -> bool
         ensures { IsTrue result ↔ (self.now.routes ≡ []) }
     {

@@ -1,4 +1,4 @@
-//! The rules of a table, in order of depth, and of prefix where the depth is the same.
+//! The rules of a table, ordered by depth and then by prefix.
 
 ghost use Rattle.std.specs.Prelude.{◌≡◌, ℕ, suc, ◌+◌, ◌*◌, ◌/◌, ◌-◌, ◌^◌, ◌<◌, ◌≤◌, List, ◌∷◌, ◌++◌, length, take, drop, nat_lt, vec_capacity, IfOk, IfErr};
 ghost use Rattle.std.specs.List.{copy_within};
@@ -8,10 +8,10 @@ ghost use Rattle.dp_lpm.specs.Routes.{prefix_of, deepest_within};
 use crate::cell::Entry;
 use crate::limits::MAX_DEPTH;
 
-/// How many rules go down at once: `memmove` is slow on a long run that goes down by a few bytes.
+/// How many rules are moved down at once: `memmove` is slow on a long run that moves down by a few bytes.
 const PART: usize = 512;
 
-/// Addresses that begin with these depth bits go to the hop.
+/// Addresses that begin with the first `depth` bits of `prefix` go to `hop`.
 #[derive(Clone, Copy, Debug)]
 pub struct Rule {
     pub prefix: u32,
@@ -19,7 +19,7 @@ pub struct Rule {
     pub hop: u32,
 }
 
-/// The first bits of an address.
+/// The first `depth` bits of an address; the others are 0.
 pub fn prefix_of(ip: u32, depth: u8) -> u32
     requires some { 1 ≤ depth }
     requires most { depth ≤ MAX_DEPTH }
@@ -28,14 +28,14 @@ pub fn prefix_of(ip: u32, depth: u8) -> u32
     ip >> (MAX_DEPTH - depth)
 }
 
-/// Whether a rule comes before those of a depth and a prefix.
+/// Whether a rule comes before one of this depth and prefix.
 fn is_before(rule: Rule, depth: u8, prefix: u32) -> bool
     ensures { result ≡ nat_lt (rank_of rule) (rank depth prefix) }
 {
     rule.depth < depth || rule.depth == depth && rule.prefix < prefix
 }
 
-/// How many rules come before those of a depth and a prefix.
+/// How many rules come before one of this depth and prefix.
 fn rules_before(rules: &[Rule], depth: u8, prefix: u32) -> usize
     requires { IsOrdered rules.now }
     ensures { IsLowerBound rules.now (rank depth prefix) result }
@@ -43,7 +43,7 @@ fn rules_before(rules: &[Rule], depth: u8, prefix: u32) -> usize
     rules.partition_point(|rule| is_before(*rule, depth, prefix))
 }
 
-/// Where the rule of a depth and a prefix stands, or else where it would go.
+/// The index of the rule of this depth and prefix, or else the index where it would be inserted.
 pub fn search(rules: &[Rule], depth: u8, prefix: u32) -> Result<usize, usize>
     requires { IsOrdered rules.now }
     ensures found { IfOk result (λ index. IsFound rules.now depth prefix index) }
@@ -56,7 +56,7 @@ pub fn search(rules: &[Rule], depth: u8, prefix: u32) -> Result<usize, usize>
     Err(index)
 }
 
-/// The entry of the deepest rule for an address, of those that are at most so deep.
+/// The entry of the deepest rule for an address, of those no deeper than `depth`.
 pub fn entry_within(rules: &[Rule], ip: u32, depth: u8) -> Entry
     requires order { IsOrdered rules.now }
     requires most { depth ≤ MAX_DEPTH }
@@ -74,7 +74,7 @@ pub fn entry_within(rules: &[Rule], ip: u32, depth: u8) -> Entry
     }
 }
 
-/// Each rule goes up by one index, the last one is let go, and a rule goes first.
+/// Moves each rule up by one index, drops the last, and puts `rule` first.
 fn put_first(rules: &mut [Rule], rule: Rule)
     requires { 0 < length rules.old }
     ensures { rules.new ≡ rule ∷ take (length rules.old - 1) rules.old }
@@ -84,7 +84,7 @@ fn put_first(rules: &mut [Rule], rule: Rule)
     rules[0] = rule;
 }
 
-/// A rule goes in at an index. There is room for it.
+/// Inserts a rule at an index. There must be room for it.
 pub fn insert(rules: &mut Vec<Rule>, index: usize, rule: Rule)
     requires index { index ≤ length rules.old.items }
     requires room { length rules.old.items < vec_capacity rules.old }
@@ -95,8 +95,8 @@ pub fn insert(rules: &mut Vec<Rule>, index: usize, rule: Rule)
     put_first(&mut rules[index..], rule);
 }
 
-/// The first rule is let go, and the others go down by one index; what stands at the last index stays there too. The range is one
-/// that no other call here has, so that the compiler makes a `memmove` of this one.
+/// Drops the first rule and moves the others down by one index; the last stays at its index too. The range is one that no other call uses, so that
+/// the compiler makes a `memmove` of it.
 #[inline(never)]
 fn move_down(rules: &mut [Rule])
     requires { 0 < length rules.old }
@@ -105,7 +105,7 @@ fn move_down(rules: &mut [Rule])
     rules.copy_within(1.., 0);
 }
 
-/// The same, part by part.
+/// Does the same part by part.
 fn let_first_go(rules: &mut [Rule])
     requires { 0 < length rules.old }
     ensures len { length rules.new ≡ length rules.old }
@@ -120,7 +120,7 @@ fn let_first_go(rules: &mut [Rule])
     }
 }
 
-/// The rule at an index goes out, and those behind it go down by one.
+/// Removes the rule at an index and moves those after it down by one.
 pub fn remove(rules: &mut Vec<Rule>, index: usize)
     requires { index < length rules.old.items }
     ensures items { rules.new.items ≡ take index rules.old.items ++ drop (suc index) rules.old.items }

@@ -1,4 +1,4 @@
-//! The rules of a table, and the entries that go by them.
+//! The rules of a table together with the entries that follow from them.
 
 ghost use Rattle.std.specs.Prelude.{◌≡◌, ℕ, ◌<◌, ◌≤◌, [], length, Some, None, IfOk, IfSome, OnOk, OnErr, IfErr};
 ghost use Rattle.dp_model.specs.Prefixes.{hop_for, LooksUp};
@@ -12,7 +12,7 @@ use crate::table::Table;
 use std::alloc::Global;
 use std::default::MadeWith;
 
-/// The rules in their order, and the entries that go by them.
+/// The rules in order, and the entries that follow from them.
 #[derive(Drop)]
 pub struct RuledTable {
     pub rules: Vec<Rule>,
@@ -25,7 +25,7 @@ impl MadeWith<Global> for RuledTable {
 
     ghost is_made_with = { KeepsNothing };
 
-    // What stands for a table in a free place: no rules, no entries, and no memory.
+    // A table for a free slot: no rules, no entries, and no memory.
     fn made_with(alloc: Global) -> RuledTable {
         RuledTable {
             rules: Vec::new(alloc),
@@ -44,7 +44,7 @@ impl RuledTable {
     ghost use Rattle.dp_lpm.specs.Rules.{route_of, IsFound, IsMissing};
     ghost use Rattle.dp_lpm.specs.Tables.{IsTable, group_at, start_of, Settled};
 
-    /// No rules. It takes all its memory here.
+    /// A table without rules. It takes all its memory here.
     pub fn new(alloc: Global, max_rules: u32, groups: u32) -> Result<RuledTable, Memory>
         requires rules { max_rules ≤ MAX_RULES }
         requires groups { groups ≤ MAX_GROUPS }
@@ -62,7 +62,7 @@ impl RuledTable {
         })
     }
 
-    /// The hop of the deepest rule that has the address.
+    /// The hop of the deepest rule for the address.
     pub fn lookup(&self, ip: u32) -> Option<u32>
         requires { IsKept self.now }
         ensures value { result ≡ hop_for (routes_in self.now) ip }
@@ -75,7 +75,7 @@ impl RuledTable {
         }
     }
 
-    /// How many rules there are.
+    /// The number of rules.
     pub fn len(&self) -> usize
         requires { IsKept self.now }
         ensures len { result ≡ length (routes_in self.now) }
@@ -84,7 +84,7 @@ impl RuledTable {
         self.rules.len()
     }
 
-    /// The entries of a prefix's addresses that are at most so deep become another one.
+    /// Overwrites the entries of a prefix that are no deeper than the rule.
     fn settle(&mut self, ip: u32, depth: u8, to: Entry)
         requires table { IsTable self.old.table }
         requires some { 1 ≤ depth }
@@ -100,7 +100,7 @@ impl RuledTable {
         self.table.settle(ip - ip % size, size, depth, Cell::of(to));
     }
 
-    /// Takes in a rule whose index is known, if there is room for it and for its group.
+    /// Inserts a rule at a known index, if there is room for it and for its group.
     fn put(&mut self, index: usize, rule: Rule) -> Result<(), LpmError>
         requires kept { IsKept self.old }
         requires rule { IsRoute (route_of rule) }
@@ -122,7 +122,7 @@ impl RuledTable {
         Ok(())
     }
 
-    /// Takes in a rule, in place of the one of its prefix and depth if there is one.
+    /// Inserts a rule, or replaces the one of its prefix and depth.
     fn take_in(&mut self, rule: Rule) -> Result<(), LpmError>
         requires kept { IsKept self.old }
         requires rule { IsRoute (route_of rule) }
@@ -138,7 +138,7 @@ impl RuledTable {
         }
     }
 
-    /// Takes out the rule at an index: the entries of its prefix become those of the next rule.
+    /// Removes the rule at an index, and gives the entries of its prefix to the next shallower rule.
     fn take_out(&mut self, index: usize, ip: u32, depth: u8)
         requires kept { IsKept self.old }
         requires some { 1 ≤ depth }
@@ -151,7 +151,7 @@ impl RuledTable {
         self.settle(ip, depth, next);
     }
 
-    /// Adds a rule, or gives the one of its prefix and depth another hop.
+    /// Adds a rule, or gives the rule of this prefix and depth another hop.
     pub fn add(&mut self, ip: u32, depth: u8, hop: u32) -> Result<(), LpmError>
         requires { IsKept self.old }
         ensures kept { IsKept self.new }
@@ -173,7 +173,7 @@ impl RuledTable {
         Ok(())
     }
 
-    /// Takes a rule out.
+    /// Deletes a rule.
     pub fn delete(&mut self, ip: u32, depth: u8) -> Result<(), LpmError>
         requires { IsKept self.old }
         ensures kept { IsKept self.new }

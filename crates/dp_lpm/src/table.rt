@@ -1,4 +1,4 @@
-//! Entries for all addresses: one for the first 24 bits of each, and groups of 256 for the addresses that share them.
+//! The entries for all addresses: one for each value of the first 24 bits, and groups of 256 where these are not enough.
 
 ghost use Rattle.std.specs.Prelude.{◌≡◌, ℕ, ◌+◌, ◌*◌, ◌/◌, ◌==◌, ◌<◌, ◌≤◌, length, slice_index, position, IfOk, MatchBool};
 ghost use Rattle.dp_lpm.specs.Cells.{entry_in, group_in};
@@ -9,7 +9,7 @@ use crate::limits::{FIRST_ENTRIES, GROUP_ENTRIES, MAX_DEPTH, MAX_GROUPS, MAX_RUL
 use std::alloc::Global;
 use std::default::MadeWith;
 
-/// The entries of a table, and of each group how many rules are deeper than 24 bits in it: a group with none is free.
+/// The entries of both levels, and for each group how many rules deeper than 24 bits it has. A group with none is free.
 #[derive(Drop)]
 pub struct Table {
     pub first: Vec<Cell>,
@@ -22,7 +22,7 @@ impl MadeWith<Global> for Table {
 
     ghost is_made_with = { IsNoTable };
 
-    // What stands for a table in a free place: no entries, and no memory.
+    // A table for a free slot: no entries, and no memory.
     fn made_with(alloc: Global) -> Table {
         Table {
             first: Vec::new(alloc),
@@ -35,7 +35,7 @@ impl MadeWith<Global> for Table {
 impl Table {
     ghost use Rattle.dp_lpm.specs.Tables.{IsTable, group_at, entry_for, IsEven, Settled, Opened, IsFull, CanClose, Closed, IsEmptyTable};
 
-    /// A table without rules, of so many groups. It takes all its memory here.
+    /// A table without rules, with this many groups. It takes all its memory here.
     pub fn new(alloc: Global, groups: u32) -> Result<Table, Memory>
         requires { groups ≤ MAX_GROUPS }
         ensures { IfOk result (λ t. IsEmptyTable groups t) }
@@ -57,7 +57,7 @@ impl Table {
         })
     }
 
-    /// The entry for an address.
+    /// The entry for an address, after one or two reads.
     pub fn entry_for(&self, ip: u32) -> Entry
         requires { IsTable self.now }
         ensures { result ≡ entry_for self.now ip }
@@ -70,8 +70,7 @@ impl Table {
         }
     }
 
-    /// Entries of the addresses with these first 24 bits, from low on among those, that are at most so deep become
-    /// another one.
+    /// Overwrites entries of the addresses with these first 24 bits, `count` of them from `low` on, that are no deeper than `depth`.
     fn settle_in(&mut self, first: usize, low: usize, count: usize, depth: u8, to: Cell)
         requires table { IsTable self.old }
         requires there { first < FIRST_ENTRIES }
@@ -90,7 +89,7 @@ impl Table {
         }
     }
 
-    /// Entries of the addresses from one on that are at most so deep become another one.
+    /// Overwrites the entries of `size` addresses from `start` on that are no deeper than `depth`.
     pub fn settle(&mut self, start: u32, size: u32, depth: u8, to: Cell)
         requires table { IsTable self.old }
         requires range { IsEven start size }
@@ -115,7 +114,7 @@ impl Table {
         }
     }
 
-    /// The addresses with these first 24 bits get a group, if they have none, and one rule more in it. No entry changes.
+    /// Counts one more rule in the group of these first 24 bits, which get a free group if they have none. No address gets another entry. Answers
     /// `false` where no group is free.
     pub fn open(&mut self, first: usize) -> bool
         requires table { IsTable self.old }
@@ -138,8 +137,7 @@ impl Table {
         true
     }
 
-    /// One rule fewer is in the group of these first 24 bits. Where none is left there, the group is free again. No
-    /// entry changes.
+    /// Counts one rule fewer in the group of these first 24 bits, and frees the group where none is left. No address gets another entry.
     pub fn close(&mut self, first: usize)
         requires table { IsTable self.old }
         requires can { CanClose first self.old }
@@ -155,7 +153,7 @@ impl Table {
     }
 }
 
-/// The first group that is free.
+/// The first free group.
 fn free_group(counts: &[u32]) -> Option<usize>
     ensures { result ≡ position (λ n. n == 0) counts.now }
 {

@@ -32,7 +32,7 @@ impl Model for Tables {
 }
 
 impl Tables {
-    /// These tables, in their order. It takes no memory.
+    /// Takes these tables over, in order. It takes no memory.
     pub fn of(tables: Vec<Lpm>) -> Tables
         requires few { length tables.items ≤ MAX_TABLES }
         ensures same { result ≡ tables.items }
@@ -45,8 +45,7 @@ impl Tables {
         Tables { ruled }
     }
 
-    /// The hop that a table has for an address: that of its deepest rule whose prefix the address begins with, if there is one. The
-    /// number of the table is below how many there are.
+    /// Looks an address up in a table: the hop of the deepest rule whose prefix it begins with, if there is one. The number must be that of a table.
     pub fn lookup(&self, table: u8, ip: u32) -> Option<u32>
         requires { table < length self.now }
         ensures value { option_map (λ (t : RouteTable). hop_for t.routes ip) (slice_get self.now table) ≡ Some result }

@@ -1,4 +1,4 @@
--- The call that makes a packet of one free number.
+-- `alloc`: a packet of one free number.
 use Rattle.std.proofs.Common.{◌≡◌, ℕ, zero, suc, ◌+◌, ◌<◌, List, [], ◌∷◌, length, Option, Some, None, refl, sym, ◌∙◌, ap, subst, arith, get_or, set}
 use Rattle.std.specs.Prelude.{slice_get, slice_set, min}
 use Rattle.dp_model.specs.Environments.{room_at}

@@ -1,4 +1,4 @@
--- Bytes read and written in a live packet.
+-- Reading and writing bytes of a live packet.
 use Rattle.std.proofs.Common.{◌≡◌, ℕ, zero, suc, ◌+◌, ◌-◌, ◌≤◌, List, [], ◌∷◌, ◌++◌, length, take, drop, Some, None, sym, ◌∙◌, ap, subst, arith, get_or}
 use Rattle.std.proofs.Common.{set}
 use Rattle.std.specs.Prelude.{slice_get, slice_set, slice_range, replicate}
@@ -110,7 +110,7 @@ module _ (ps : List PoolView) (v : Store) (h : ℕ) (e : shown ps ≡ v) (sound 
             (d.1 ∙ (ap (λ s. s.slots) e ∙ sym (set_same v.slots h (Some k) has))),
       )
 
-  -- ---- bytes in front
+  -- ---- bytes at the front
 
   pub before_first : (x : Header) (n : ℕ) → x ≡ header_at ps (numbered h) → HasSome v h (λ k. n ≤ headroom k) → n ≤ x.offset
   before_first x n ex r =
@@ -148,7 +148,7 @@ module _ (ps : List PoolView) (v : Store) (h : ℕ) (e : shown ps ≡ v) (sound 
             ((all k has).1 ∙ ap (λ s. set s.slots h (Some (at_front (more_before n) k))) e),
       )
 
-  -- ---- bytes behind
+  -- ---- bytes at the end
 
   pub record LastPart (x : Header) (k : Packet) : Type 0 where
     pub before : Packet

@@ -1,4 +1,4 @@
--- The call that puts one packet's segments behind another's.
+-- `chain`: one packet's segments after another's.
 use Rattle.std.proofs.Common.{◌≡◌, ◌≢◌, ℕ, ◌+◌, ◌≤◌, List, [], ◌∷◌, ◌++◌, length, Option, Some, None, refl, sym, ◌∙◌, ap, subst, arith, inl, inr, ⊎_elim, set}
 use Rattle.std.specs.Prelude.{slice_set}
 use Rattle.std.proofs.lemmas.List.{get_or-set_other, set-set, set_comm, length-append}
@@ -26,7 +26,7 @@ last_join n m [] [] h some l = absurd (omega arith)
 last_join n m [] (s ∷ t) h some l = refl
 last_join n m (a ∷ k) t h some l = last_join a.mbuf m k t h some l
 
--- the last of the segments in hand gets more behind it
+-- the last segment in hand gets more after it
 pub joined : (ps ps' : List PoolView) (k t : Packet) (slots : List (Option Packet)) (n m : Number) → Whole ps (k ++ t) slots → 1 ≤ length k →
     Linked (header_at ps) n k → Linked (header_at ps) m t → HeaderSet ps (last_mbuf n k) (record (header_at ps (last_mbuf n k)) { next = m }) ps' →
     Whole ps' (k ++ t) slots × Linked (header_at ps') n (k ++ t)
@@ -50,7 +50,7 @@ joined ps ps' k t slots n m w some lk lt done =
           (ap (λ h. h.next) done.here),
     )
 
--- two packets' first headers made none, the second packet's first, and what both were
+-- two packets whose first headers are cleared, the second packet's first mbuf, and the headers before
 pub record Heads (ps ps1 ps2 : List PoolView) (h t : ℕ) (front behind : Header) : Type 0 where
   pub tail_out : HeaderSet ps (numbered t) (record (header_at ps (numbered t)) { segs = 0 }) ps1
   pub head_out : HeaderSet ps1 (numbered h) (record (header_at ps1 (numbered h)) { segs = 0 }) ps2

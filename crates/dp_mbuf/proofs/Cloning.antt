@@ -1,4 +1,4 @@
--- A packet cloned, segment by segment.
+-- `clone_of`, segment by segment.
 use Rattle.std.proofs.Common.{◌≡◌, ℕ, zero, suc, ◌+◌, ◌*◌, ◌^◌, ◌<◌, ◌≤◌, Bool, true, false, List, [], ◌∷◌, ◌++◌, length, drop, Option, Some, None, refl, sym}
 use Rattle.std.proofs.Common.{◌∙◌, ap, subst, arith, inr, ⊎_elim, get_or, set}
 use Rattle.std.specs.Prelude.{count_by, slice_set}
@@ -52,7 +52,7 @@ reordered ps s hand slots w = record {
         (all_join P hand (s ∷ []) (all_front P hand (segments_held slots) a.1) (a.0, tt))
         (all_rest P hand (segments_held slots) a.1)
 
--- ---- references are few
+-- ---- references stay below their limit
 
 abbrev few_of : Option Packet → Type 0
 few_of None = Unit {0}
@@ -119,7 +119,7 @@ module _ (ps ps' : List PoolView) (hand : Packet) (slots : List (Option Packet))
   eb : (header_at ps from).buffer ≡ buf
   eb = ap (λ t. t.buffer) is
 
-  -- the buffer's header is written last, and the new mbuf's before
+  -- the new mbuf's header is written first, the buffer's last
   last : HeaderSet c.second buf (record (header_at c.second buf) { refs = (header_at c.second buf).refs + 1 }) ps'
   last = subst (λ j. HeaderSet c.second j (record (header_at c.second j) { refs = (header_at c.second j).refs + 1 }) ps') eb c.buffer
 
@@ -139,7 +139,7 @@ module _ (ps ps' : List PoolView) (hand : Packet) (slots : List (Option Packet))
       (λ o. alike (header_at ps' m) (header_at ps m) (last.others m o ∙ middle m d))
       (same_or buf m)
 
-  -- each buffer's header has its references, also the one that has got one more
+  -- each buffer's header has its references, the cloned one's too
   refs_now : (m : Number) → 1 ≤ refs (clone_at n s ∷ ss) m → (header_at ps' m).refs ≡ refs (clone_at n s ∷ ss) m
   refs_now m q = ⊎_elim
       (λ e. subst (λ j. (header_at ps' j).refs ≡ refs (clone_at n s ∷ ss) j) e
@@ -326,7 +326,7 @@ without xs ys n m none some = ⊎_elim
     (λ d. d)
     (same_or n m)
 
--- what is known of the packet and the pool as the call begins
+-- what is known of the packet and the pool when the call begins
 pub record Before (ps : List PoolView) (v : Store) (h : ℕ) (p : Packet) (pool : ℕ) : Type 0 where
   pub has : Has v h p
   pub whole : Whole ps [] v.slots
@@ -356,7 +356,7 @@ before ps v h pool e sound exists p has =
       buffers = ap (λ s. s.buffers) e;
     }
 
--- the opened call: its packet has so many segments, and for each of them an mbuf is free
+-- the call at its start: the packet has n segments, and n mbufs are free
 pub record Opening (ps : List PoolView) (v : Store) (h : ℕ) (p : Packet) (pool segs : ℕ) : Type 0 where
   pub before : Before ps v h p pool
   pub segs_are : segs ≡ length p

@@ -35,13 +35,13 @@ module _ (f : Segment → Bool) where
       let r = slot_counted slots i o (omega arith) in
       omega (arith, r, held x slots, held x (set slots i o))
 
-  -- a slot's segments are among all
+  -- a slot's segments are among all of them
   pub slot_among : (slots : List (Option Packet)) (i : ℕ) → count_of (get_or slots i None) ≤ count_by f (segments_held slots)
   slot_among [] i = omega arith
   slot_among (x ∷ slots) zero = omega (arith, held x slots)
   slot_among (x ∷ slots) (suc i) = let q = slot_among slots i in omega (arith, q, held x slots)
 
-  -- and those of two slots
+  -- so are those of two slots
   pub slots_among : (slots : List (Option Packet)) (i j : ℕ) → i ≢ j →
       count_of (get_or slots i None) + count_of (get_or slots j None) ≤ count_by f (segments_held slots)
   slots_among [] i j ne = omega arith
@@ -152,7 +152,7 @@ each_count ss ss' e = record {
   indirects = λ n. e (λ s. same_number s.mbuf n && not (same_number s.buffer n));
 }
 
--- a packet put into an empty slot
+-- putting a packet into an empty slot
 pub into_slot : (slots : List (Option Packet)) (h : ℕ) (k : Packet) → h < length slots → get_or slots h None ≡ None →
     SameCounts (k ++ segments_held slots) (segments_held (set slots h (Some k)))
 into_slot slots h k b e =

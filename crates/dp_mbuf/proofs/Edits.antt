@@ -1,4 +1,4 @@
--- A packet hooked to its slot, unhooked from it, and changed in it.
+-- Putting a packet into its slot, taking it out, and changing it there.
 use Rattle.std.proofs.Common.{◌≡◌, ◌≢◌, ℕ, ◌+◌, ◌<◌, ◌≤◌, Bool, true, false, cond, List, [], ◌∷◌, ◌++◌, length, Option, Some, None, refl, sym, ◌∙◌, ap, subst}
 use Rattle.std.proofs.Common.{arith, ⊎_elim, get_or, set}
 use Rattle.std.specs.Prelude.{count_by, ◌&&◌, not}
@@ -20,7 +20,7 @@ use Rattle.dp_mbuf.proofs.Links.{alike, first_in, linked_kept, linked_edit, last
 use Rattle.dp_mbuf.proofs.Frames.{number_back, numbered_apart, object_of, number_small, same_length, positive, Stays, head_stays, frame, slot_frame}
 use Rattle.dp_mbuf.proofs.Frames.{counted_same}
 
--- a slot that holds a packet is one of the slots
+-- a slot with a packet is one of the slots
 pub slot_there : (slots : List (Option Packet)) (h : ℕ) (k : Packet) → get_or slots h None ≡ Some k → h < length slots
 slot_there slots h k e = ⊎_elim (λ b. b) (λ past. let n = get_or_past slots h None past in absurd (cc)) (cases_lt h (length slots))
 
@@ -61,7 +61,7 @@ module _ (ps ps' : List PoolView) (n : Number) (x : Header) (done : HeaderSet ps
 apart_number : (i h : ℕ) → i ≢ h → same_number (numbered h) (numbered i) ≡ false
 apart_number i h ne = ⊎_elim (λ e. absurd (numbered_apart i h ne (sym e))) (λ d. d) (same_or (numbered h) (numbered i))
 
--- ---- a packet out of its slot: its first header is none any more
+-- ---- taking a packet out of its slot: its first header is cleared
 
 all_taken : (P : Segment → Type 0) (hand : Packet) (slots : List (Option Packet)) (h : ℕ) (k : Packet) → get_or slots h None ≡ Some k →
     AllByRecursion P (hand ++ segments_held slots) → AllByRecursion P ((k ++ hand) ++ segments_held (set slots h None))
@@ -124,7 +124,7 @@ unhooked ps ps' slots h k x w e done segs kept link =
     let u = unhooked_from ps ps' [] slots h k x w e done segs kept link in
     (subst (λ t. Whole ps' t (set slots h None)) (append-nil k) u.0, u.1, u.2)
 
--- ---- the link of a segment in hand set
+-- ---- setting the link of a segment in hand
 
 pub relinked : (ps ps' : List PoolView) (hand : Packet) (slots : List (Option Packet)) (m : Number) (x : Header) → Whole ps hand slots → 1 ≤ mbufs hand m →
     HeaderSet ps m x ps' → x.refs ≡ (header_at ps m).refs → x.segs ≡ (header_at ps m).segs → Whole ps' hand slots
@@ -149,7 +149,7 @@ relinked ps ps' hand slots m x w in_hand done kept segs =
           (same_or m n));
     }
 
--- ---- the segments in hand into a slot of their own
+-- ---- putting the segments in hand into a slot
 
 pub hooked : (ps ps' : List PoolView) (slots : List (Option Packet)) (n : Number) (k : Packet) (x : Header) → Whole ps k slots → Linked (header_at ps) n k →
     1 ≤ length k → length k ≤ 64 → HeaderSet ps n x ps' → x.segs ≡ length k → x.last ≡ last_mbuf n k → x.refs ≡ (header_at ps n).refs →
@@ -206,7 +206,7 @@ hooked ps ps' slots n k x w l some few done segs last kept link =
     empty None q s = refl
     empty (Some j) q s = let f = first_in (header_at ps) n j s.some s.links in absurd (omega (arith, q, f))
 
--- ---- one segment of a packet, with another offset and length
+-- ---- changing offset and length of one segment
 
 all_edit : (P : Segment → Type 0) (before : Packet) (s s' : Segment) (rest : Packet) → (P s → P s') → AllByRecursion P (before ++ s ∷ rest) →
     AllByRecursion P (before ++ s' ∷ rest)
@@ -315,7 +315,7 @@ module _ (ps ps' : List PoolView) (slots : List (Option Packet)) (h : ℕ) (befo
             edited_stands;
       }
 
--- ---- bytes written behind headers
+-- ---- writing bytes after headers
 
 pub bytes_whole : (ps ps' : List PoolView) (hand : Packet) (slots : List (Option Packet)) (n : Number) (at : ℕ) (bytes : List ℕ) → Whole ps hand slots →
     RoomWritten ps n at bytes ps' → Whole ps' hand slots

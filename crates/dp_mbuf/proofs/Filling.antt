@@ -1,4 +1,4 @@
--- How a record's bytes go over segments.
+-- How a record's bytes fill segments.
 use Rattle.std.proofs.Common.{◌≡◌, ℕ, zero, suc, ◌+◌, ◌-◌, ◌/◌, ◌<◌, ◌≤◌, false, cond, List, [], ◌∷◌, ◌++◌, length, take, drop, refl, sym, ◌∙◌, ap, subst}
 use Rattle.std.proofs.Common.{arith, ⊎_elim}
 use Rattle.std.specs.Prelude.{min, max, slice_range}
@@ -12,12 +12,12 @@ use Rattle.dp_mbuf.proofs.PoolLemmas.{one_if}
 use Rattle.dp_mbuf.proofs.ObjectLemmas.{same_or, same_self}
 use Rattle.dp_mbuf.proofs.Counting.{refs-cons}
 
--- the segments of so many numbers, as long as the bytes last
+-- the segments of these numbers, as long as the bytes last
 abbrev pub filled : ℕ → List Number → ℕ → Packet
 filled full [] total = []
 filled full (n ∷ numbers) total = direct n 128 (min full total) ∷ filled full numbers (total - full)
 
--- how many bytes are left behind so many segments
+-- how many bytes are left after k segments
 abbrev pub left : ℕ → ℕ → ℕ → ℕ
 left full total zero = total
 left full total (suc i) = left full (total - full) i
@@ -37,7 +37,7 @@ pub length_filled : (full : ℕ) (numbers : List Number) (total : ℕ) → lengt
 length_filled full [] total = refl
 length_filled full (n ∷ numbers) total = ap suc (length_filled full numbers (total - full))
 
--- ---- that many segments are just enough
+-- ---- how many segments are just enough
 
 abbrev pub Enough : ℕ → ℕ → ℕ → Type 0
 Enough full zero total = ⊥
@@ -60,7 +60,7 @@ received_is room full (n ∷ k ∷ numbers) total e h =
     ∙ ap (λ r. direct n 128 (room - 128) ∷ r)
     (received_is room full (k ∷ numbers) (total - full) e h.1 ∙ ap (λ x. received room (k ∷ numbers) (total - x)) e)
 
--- a positive number of bytes goes over one part more than what is left behind the first byte fills
+-- a positive number of bytes fills one part more than the bytes after the first do
 one_more : (full total : ℕ) → 1 ≤ full → 1 ≤ total → (total + (full - 1)) / full ≡ (total - 1) / full + 1
 one_more full total some more =
     let e : total + (full - 1) ≡ full + (total - 1) = omega arith in
@@ -93,7 +93,7 @@ needed_enough (suc fuel) full (suc t) f some = ⊎_elim
 
 -- ---- bytes
 
--- bytes written elsewhere leave those of the segments
+-- writing other bytes keeps those of the segments
 pub bytes_stay : (buffers : Buffers) (n : Number) (at : ℕ) (new : List ℕ) (k : Packet) → refs k n ≡ 0 → packet_bytes (written buffers n at new) k
     ≡ packet_bytes buffers k
 bytes_stay buffers n at new [] z = refl

@@ -1,4 +1,4 @@
--- What the headers show, when one packet changes and all others stay.
+-- What the headers show when one packet changes and all others stay.
 use Rattle.std.proofs.Common.{◌≡◌, ◌≢◌, ℕ, zero, suc, ◌+◌, ◌*◌, ◌<◌, ◌≤◌, true, false, List, length, Option, Some, None, refl, sym, ◌∙◌, ap, subst, arith}
 use Rattle.std.proofs.Common.{⊎_elim, get_or, set}
 use Rattle.std.specs.Prelude.{if◌then◌else◌}
@@ -62,7 +62,7 @@ packet_is ps n (Some k) s =
     ap (λ b. if b then Some (walk (header_at ps) (header_at ps n).segs n) else None) (head_of ps n k s)
     ∙ (ap (λ j. Some (walk (header_at ps) j n)) s.segs ∙ ap Some (walk_is (header_at ps) n k s.links))
 
--- ---- the slots are determined by the headers
+-- ---- the headers determine the slots
 
 length_from : (ps : List PoolView) (h k : ℕ) → length (slots_from ps h k) ≡ k
 length_from ps h zero = refl
@@ -87,7 +87,7 @@ same_slots ps slots s =
 
 -- ---- other packets stay
 
--- a header and whether it is out are as before, references aside
+-- a header, and whether it is out, stays but for references
 pub record Stays (ps ps' : List PoolView) (m : Number) : Type 0 where
   pub out : is_out ps' m ≡ is_out ps m
   pub header : Alike (header_at ps' m) (header_at ps m)
@@ -108,7 +108,7 @@ stands_kept ps ps' n k s e =
       links = linked_kept (header_at ps) (header_at ps') n k (λ m q. (e m q).header.link) s.links;
     }
 
--- all slots stay, where the mbufs of their packets do, and no other becomes a first one
+-- all slots stay where the mbufs of their packets do, and no other object becomes a first one
 pub frame : (ps ps' : List PoolView) (slots : List (Option Packet)) → length ps' ≡ length ps → Shows ps slots →
     ((m : Number) → 1 ≤ mbufs (segments_held slots) m → Stays ps ps' m) →
     ((m : Number) → mbufs (segments_held slots) m ≡ 0 → is_head ps m ≡ false → is_head ps' m ≡ false) → Shows ps' slots
@@ -127,7 +127,7 @@ frame ps ps' slots l s e none = record {
     stays n None among f = no_mbufs n (mbufs (segments_held slots) n) refl f
     stays n (Some k) among t = stands_kept ps ps' n k t among
 
--- one slot is set, and the packets of all others stay
+-- one slot is set, and the packets of the others stay
 pub slot_frame : (ps ps' : List PoolView) (slots : List (Option Packet)) (h : ℕ) (o : Option Packet) → length ps' ≡ length ps → Shows ps slots →
     h < length slots → ((i : ℕ) → i ≢ h → (m : Number) → 1 ≤ count_of (λ t. same_number t.mbuf m) (get_or slots i None) → Stays ps ps' m) →
     ((i : ℕ) → i ≢ h → is_head ps (numbered i) ≡ false → is_head ps' (numbered i) ≡ false) → StandsAt ps' (numbered h) o → Shows ps' (set slots h o)

@@ -1,24 +1,15 @@
--- A packet given up, segment by segment.
+-- Freeing a packet, segment by segment.
 use Rattle.std.proofs.Common.{◌≡◌, ℕ, ◌+◌, ◌<◌, ◌≤◌, List, [], ◌∷◌, length, None, refl, sym, ◌∙◌, ap, subst, arith, set}
 use Rattle.dp_model.specs.Buffers.{Number}
 use Rattle.dp_model.specs.Packets.{Packet}
 use Rattle.dp_model.specs.Stores.{Store, IsLive, with_slot}
 use Rattle.dp_pool.specs.Pools.{PoolView}
-use Rattle.dp_mbuf.specs.Objects.{header_at, specs_of, buffers_of, HeaderSet}
+use Rattle.dp_mbuf.specs.Objects.{header_at, HeaderSet}
 use Rattle.dp_mbuf.specs.Steps.{CanRelease, Released}
-use Rattle.dp_mbuf.specs.Mbufs.{numbered, slots_of, shown, Linked, Whole, Sound}
+use Rattle.dp_mbuf.specs.Mbufs.{numbered, slots_of, shown, Linked, Whole, Sound, Freeing}
 use Rattle.dp_mbuf.proofs.Edits.{unhooked}
 use Rattle.dp_mbuf.proofs.Live.{opened, settled, store_eq}
 use Rattle.dp_mbuf.proofs.InHand.{can_release, release_done}
-
--- the rest of the packet is in hand, and its slot is empty
-pub record Freeing (ps : List PoolView) (mbuf : Number) (i many : ℕ) (v : Store) (h : ℕ) : Type 0 where
-  pub rest : Packet
-  pub left : length rest + i ≡ many
-  pub whole : Whole ps rest (set v.slots h None)
-  pub links : Linked (header_at ps) mbuf rest
-  pub specs : specs_of ps ≡ v.pools
-  pub buffers : buffers_of ps ≡ v.buffers
 
 pub freeing_start : (ps ps' : List PoolView) (v : Store) (h : ℕ) → shown ps ≡ v → Sound ps → IsLive v h →
     HeaderSet ps (numbered h) (record (header_at ps (numbered h)) { segs = 0 }) ps' → Freeing ps' (numbered h) 0 (header_at ps (numbered h)).segs v h
@@ -69,3 +60,15 @@ module _ (ps : List PoolView) (mbuf : Number) (i many : ℕ) (v : Store) (h : �
           let d = settled ps (set v.slots h None) w in
           (d.0, store_eq (shown ps) (with_slot h None v) f.specs f.buffers d.1)
       by (s ∷ rest) e w = absurd (omega (arith, e, b))
+
+-- ---- a packet of one segment
+
+module _ (ps : List PoolView) (n b : Number) (many : ℕ) (v : Store) (h : ℕ) (f : Freeing ps n 0 many v h)
+    (one : many ≡ 1) (its : (header_at ps n).buffer ≡ b) where
+  pub freeing_only : CanRelease ps n b
+  freeing_only = subst (λ b. CanRelease ps n b) its (freeing_can ps n 0 many v h f (omega (arith, one)))
+
+  pub freed_only : (ps' : List PoolView) → Released ps n b ps' → Sound ps' × (shown ps' ≡ with_slot h None v)
+  freed_only ps' r =
+      freeing_end ps' (header_at ps n).next 1 many v h (freeing_step ps n 0 many v h f ps' (header_at ps n).next (omega (arith, one))
+      (subst (λ b. Released ps n b ps') (sym its) r) refl) (omega (arith, one))

@@ -1,4 +1,4 @@
--- One field of a header written, with the others as they were.
+-- Writing one field of a header keeps the others.
 use Rattle.std.proofs.Common.{◌≡◌, ℕ, zero, suc, ◌+◌, ◌-◌, ◌/◌, ◌%◌, ◌<◌, ◌≤◌, ltb, List, [], ◌∷◌, ◌++◌, length, take, drop, refl, sym, ◌∙◌, ap, subst, arith}
 use Rattle.std.proofs.Common.{inl, inr, get_or, set}
 use Rattle.std.specs.Int.{to_le_bytes, w32}
@@ -55,7 +55,7 @@ module _ (old : List ℕ) (at : ℕ) (new : List ℕ) (fits : at + length new �
   mbuf_behind : (a : ℕ) → at + length new ≤ a → mbuf_number (overwritten old at new) a ≡ mbuf_number old a
   mbuf_behind a b = number_eq _ _ (word_behind a b) (word_behind (a + 2) (omega arith))
 
--- ---- two numbers written, one behind the other
+-- ---- two numbers, one after the other
 
 two_small : (x : ℕ) (rest : List ℕ) → x < 65536 → Small rest → Small (then_word x rest)
 two_small x rest b s zero = omega arith
@@ -116,7 +116,7 @@ words_written o at x y fits =
           ]
     ])
 
--- the four bytes of a number of references
+-- the four bytes of a count of references
 pub refs_bytes : (x : ℕ) → x < 4294967296 → to_le_bytes w32 x ≡ then_word (x % 65536) (then_word (x / 65536) [])
 refs_bytes x small =
     let b1 : x / 256 % 256 ≡ x % 65536 / 256 = omega arith in
@@ -192,7 +192,7 @@ module _ (o : List ℕ) (long : 128 ≤ length o) where
       (mbuf_before o 14 new fits 10 (omega arith)) (number_eq _ _ (word_in o 14 new fits 14 0 refl (omega arith))
       (word_in o 14 new fits 16 2 refl (omega arith)) ∙ mbuf_back n) (mbuf_behind o 14 new fits 18 (omega arith))
 
--- ---- what became of the header
+-- ---- the header afterwards
 
 pub written_is : (ps ps' : List PoolView) (n : Number) (at : ℕ) (bytes new : List ℕ) (h : Header) → bytes ≡ new → header_with ps n at new ≡ h →
     HeaderSet ps n (header_with ps n at bytes) ps' → HeaderSet ps n h ps'

@@ -1,4 +1,4 @@
--- A packet's first header: how many segments, and the last mbuf, both written in one object.
+-- A packet's first header: the number of segments and the last mbuf, both written into one object.
 use Rattle.std.proofs.Common.{◌≡◌, ℕ, ◌<◌, List, [], length, Option, Some, refl, sym, ◌∙◌, ap, subst, arith, get_or, set}
 use Rattle.std.proofs.lemmas.List.{get_or-set_same, set-set}
 use Rattle.dp_model.specs.Buffers.{Number, overwritten}
@@ -20,7 +20,7 @@ written_again p i a b x y there =
     ∙ set-set p.objects i first (overwritten first b y)))
 
 module _ (pools : List (Option PoolView)) (ps : List PoolView) (e : present pools ≡ ps) (inv : ArePoolSlots pools) where
-  -- at the number of the object itself
+  -- at the object itself
   hooked_here : (n : Number) (segs : ℕ) (last : Number) (d o : Option PoolView) → segs < 65536 → last.pool < 65536 → last.index < 65536 → HasObject ps n
       → SlotBecomes (λ p. with_object p n.index (with_hook (object_in p n.index) segs last)) (get_or pools n.pool d) o
       → ArePoolSlots (set pools n.pool o) × HeaderSet ps n (record (header_at ps n) { segs = segs; last = last }) (present (set pools n.pool o))

@@ -1,4 +1,4 @@
--- Segments in hand: given up, taken, and linked.
+-- Segments in hand: released, taken and linked.
 use Rattle.std.proofs.Common.{◌≡◌, ◌≢◌, ◌⊎◌, ℕ, zero, suc, ◌+◌, ◌-◌, ◌≤◌, Bool, true, false, cond, List, [], ◌∷◌, ◌++◌, Option, refl, sym, ◌∙◌, ap, subst}
 use Rattle.std.proofs.Common.{arith, ⊎_elim}
 use Rattle.std.specs.Prelude.{◌&&◌, not}
@@ -22,7 +22,7 @@ use Rattle.dp_mbuf.proofs.Edits.{all_at}
 pub zero_at : (n m : Number) → same_number n m ≡ false → one_if (same_number n m) ≡ 0
 zero_at n m d = let one : ℕ = 1 in ap (λ b. cond b one 0) d
 
--- each segment at a number is an indirect one, or has it as its buffer
+-- each segment that has a number as its mbuf is indirect or has it as its buffer
 pub mbufs_split : (ss : List Segment) (n : Number) → mbufs ss n ≤ indirects ss n + refs ss n
 mbufs_split [] n = omega arith
 mbufs_split (s ∷ ss) n =
@@ -66,7 +66,7 @@ less ps ps' slots s more w f stored outs =
           (λ m _ none. ap is_positive (f.headers m).segs ∙ none);
     }
 
--- the links of what is left
+-- the links of the rest
 pub less_links : (ps ps' : List PoolView) (n : Number) (s : Segment) (more : Packet) → Linked (header_at ps) n (s ∷ more) → Fewer ps ps' →
     Linked (header_at ps') (header_at ps n).next more
 less_links ps ps' n s more l f =
@@ -97,11 +97,11 @@ module _ (ps : List PoolView) (slots : List (Option Packet)) (s : Segment) (more
   pub buffer_refs : (header_at ps s.buffer).refs ≡ suc (refs ss s.buffer)
   buffer_refs = w.counted.stored s.buffer (omega (arith, refs_first s ss)) ∙ refs_first s ss
 
-  -- no other segment has its mbuf
+  -- no other segment has this mbuf
   pub mbuf_gone : mbufs ss s.mbuf ≡ 0
   mbuf_gone = let o = w.counted.once s.mbuf in omega (arith, o, mbufs_first s ss)
 
-  -- an indirect mbuf is no buffer
+  -- an indirect mbuf is nobody's buffer
   pub indirect_free : same_number s.mbuf s.buffer ≡ false → refs ss s.mbuf ≡ 0
   indirect_free d =
       let i : indirects (s ∷ ss) s.mbuf ≡ suc (indirects ss s.mbuf) =
@@ -119,7 +119,7 @@ module _ (ps : List PoolView) (slots : List (Option Packet)) (s : Segment) (more
           (λ g. g)
           (same_or s.buffer s.mbuf)
 
-  -- a buffer that nothing else has is no other mbuf
+  -- a buffer without other references is no other segment's mbuf
   pub buffer_gone : refs ss s.buffer ≡ 0 → mbufs ss s.buffer ≡ 0
   buffer_gone z = by (indirects (s ∷ ss) s.buffer) refl
     where
@@ -140,7 +140,7 @@ module _ (ps : List PoolView) (slots : List (Option Packet)) (s : Segment) (more
       w.counted.out n h
       ∙ (ap (λ x. is_positive (x + refs (s ∷ ss) n)) q.0 ∙ ap (λ x. is_positive (mbufs ss n + x)) q.1)
 
--- ---- the mbuf of a segment in hand put back, where it is not its own buffer
+-- ---- putting the mbuf of a segment in hand back, unless it is its own buffer
 
 pub none_positive : (x y : ℕ) → x ≡ 0 → y ≡ 0 → is_positive (x + y) ≡ false
 none_positive x y a b = ap (λ i. is_positive (i + y)) a ∙ ap (λ i. is_positive (0 + i)) b
@@ -164,7 +164,7 @@ fewer_fewer a b c f g = record {
   outs = λ m e. g.outs m (f.outs m e);
 }
 
--- one segment given up: its mbuf is back if it is indirect, and its buffer has one reference less
+-- releasing one segment: its mbuf is put back if it is indirect, and its buffer has one reference less
 pub released : (ps ps1 ps' : List PoolView) (slots : List (Option Packet)) (s : Segment) (more : Packet) → Whole ps (s ∷ more) slots →
     MbufBack ps s.mbuf s.buffer ps1 → BufferLess ps1 s.buffer ps' → Whole ps' more slots × Fewer ps ps'
 released ps ps1 ps' slots s more w a b =
@@ -228,7 +228,7 @@ released_whole ps ps' slots s more w r = released ps r.middle ps' slots s more w
 
 -- ---- one segment more
 
--- n, which was in, is out with a header of its own, and the other headers stay but for references
+-- n, which was in, is out with a header of its own; other headers stay but for references
 pub record More (ps ps' : List PoolView) (n : Number) : Type 0 where
   pub are : ArePools ps'
   pub specs : specs_of ps' ≡ specs_of ps
@@ -243,13 +243,13 @@ none_of : (n : ℕ) → is_positive n ≡ false → n ≡ 0
 none_of zero e = refl
 none_of (suc n) e = cc
 
--- what is in has no segment
+-- an object that is in belongs to no segment
 pub nothing_at : (ps : List PoolView) (hand : Packet) (slots : List (Option Packet)) (n : Number) → Whole ps hand slots → IsNumber (specs_of ps) n →
     is_out ps n ≡ false → mbufs (hand ++ segments_held slots) n + refs (hand ++ segments_held slots) n ≡ 0
 nothing_at ps hand slots n w number was =
     none_of (mbufs (hand ++ segments_held slots) n + refs (hand ++ segments_held slots) n) (sym (w.counted.out n number) ∙ was)
 
--- a comparison turned round
+-- a comparison with its sides swapped
 pub turned : (a b : Number) → same_number a b ≡ false → same_number b a ≡ false
 turned a b f = ⊎_elim
     (λ e. let t : same_number a b ≡ true = ap (same_number a) e ∙ same_self a in absurd (cc))
@@ -325,7 +325,7 @@ module _ (ps ps' : List PoolView) (hand : Packet) (slots : List (Option Packet))
       (same_or s.buffer m))
       (same_or n m)
 
-  -- a segment more in hand, whose mbuf was in
+  -- one segment more in hand, whose mbuf was in
   pub grown : Whole ps' (s ∷ hand) slots
   grown =
       let c = w.counted in

@@ -1,4 +1,4 @@
--- The lemma files.
+-- Lists the lemma files.
 pub mod PoolLemmas
 pub mod Spelled
 pub mod ObjectLemmas

@@ -44,7 +44,7 @@ last_in s [] = omega (arith, mbufs_first s [])
 last_in s (t ∷ rest) =
     let q = last_in t rest in omega (arith, q, mbufs-cons s (t ∷ rest) (last_mbuf t.mbuf rest))
 
--- links depend on the headers of their own mbufs alone
+-- links depend on the headers of their own mbufs only
 pub linked_kept : (h h' : Number → Header) (n : Number) (k : Packet) → ((m : Number) → 1 ≤ mbufs k m → Linkage (h' m) (h m)) → Linked h n k → Linked h' n k
 linked_kept h h' n [] e l = tt
 linked_kept h h' n (s ∷ rest) e l =
@@ -55,7 +55,7 @@ linked_kept h h' n (s ∷ rest) e l =
           (linked_kept h h' (h n).next rest (λ m q. e m (omega (arith, q, mbufs-cons s rest m))) l.1),
     )
 
--- the last one's link set to more segments
+-- linking the last mbuf to more segments
 pub linked_join : (h h' : Number → Header) (n m : Number) (k t : Packet) → 1 ≤ length k → ((x : Number) → mbufs k x ≤ 1) → Linked h n k → Linked h' m t →
     ((x : Number) → 1 ≤ mbufs k x → (x ≡ last_mbuf n k) ⊎ Linkage (h' x) (h x)) → segment_at h' (last_mbuf n k) ≡ segment_at h (last_mbuf n k) →
     (h' (last_mbuf n k)).next ≡ m → Linked h' n (k ++ t)

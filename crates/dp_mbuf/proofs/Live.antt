@@ -1,4 +1,4 @@
--- What the headers show of a live packet, and what a call leaves of the store.
+-- What the headers show of a live packet, and how a call changes the store.
 use Rattle.std.proofs.Common.{◌≡◌, ℕ, zero, suc, ◌+◌, ◌-◌, ◌<◌, ◌≤◌, List, [], ◌∷◌, ◌++◌, length, Option, Some, None, refl, sym, ◌∙◌, ap, subst, arith}
 use Rattle.std.proofs.Common.{⊎_elim, get_or, set}
 use Rattle.std.specs.Prelude.{slice_set, replicate}
@@ -39,13 +39,13 @@ pub has_same : (v : Store) (h : ℕ) (k j : Packet) → Has v h k → Has v h j 
 has_same v h k j a b =
     let e : Some k ≡ Some j = same_Some (Some k) (Some j) (sym a ∙ b) in same_Some k j e
 
--- the slots that the headers show settle all
+-- the slots that the headers show determine everything
 pub settled : (ps : List PoolView) (slots : List (Option Packet)) → Whole ps [] slots → Sound ps × (slots_of ps ≡ slots)
 settled ps slots w =
     let e = same_slots ps slots w.shows in
     (subst (Whole ps []) (sym e) w, e)
 
--- what is seen after a call
+-- the store after a call
 pub seen : (ps ps' : List PoolView) (v : Store) (buffers : Buffers) (slots : List (Option Packet)) → shown ps ≡ v → specs_of ps' ≡ specs_of ps →
     buffers_of ps' ≡ buffers → slots_of ps' ≡ slots → shown ps' ≡ record v { buffers = buffers; slots = slots }
 seen ps ps' v buffers slots e a b c =
@@ -180,7 +180,7 @@ last_at ps v h k o =
       lies = (all_rest (Lies (specs_of ps)) l.before (l.seg ∷ []) (subst (AllByRecursion (Lies (specs_of ps))) l.is o.lie)).0;
     }
 
--- ---- an edit of the first or the last segment, seen
+-- ---- an edit of the first or the last segment, as the store shows it
 
 abbrev pub moved : Header → ℕ → ℕ → Header
 moved x o l = record x { offset = o; len = l }

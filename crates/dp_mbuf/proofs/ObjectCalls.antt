@@ -1,4 +1,4 @@
--- The calls on objects: what they ask of a slot for a pool, and what they leave.
+-- The calls on objects: what they ask of a slot, and how they change it.
 use Rattle.std.proofs.Common.{◌≡◌, ℕ, zero, suc, ◌+◌, ◌<◌, ◌≤◌, Bool, true, false, List, [], ◌∷◌, length, Option, Some, None, refl, sym, ◌∙◌, ap, subst}
 use Rattle.std.proofs.Common.{arith, get_or, set}
 use Rattle.std.specs.Prelude.{slice_get, count_by, not}
@@ -14,7 +14,7 @@ use Rattle.dp_mbuf.proofs.PoolLemmas.{Small, pool_out}
 use Rattle.dp_mbuf.proofs.ObjectLemmas.{are_pools, object_pool, room_is, front_set, room_written, rooms_written, taken, given, slot_is, slot_below, slot_set}
 use Rattle.dp_mbuf.proofs.ObjectLemmas.{slot_first}
 
--- where an index is out, that is what stands in the row
+-- an index that is out is so in the row
 out_there : (row : List Bool) (i : ℕ) → get_or row i false ≡ true → slice_get row i ≡ Some true
 out_there [] i e = cc
 out_there (x ∷ row) zero e = ap Some e
@@ -25,7 +25,7 @@ out_pool [] k i e = cc
 out_pool (p ∷ ps) zero i e = omega arith
 out_pool (p ∷ ps) (suc k) i e = let q = out_pool ps k i e in omega (arith, q)
 
--- a pool of as many objects for another changes no sum
+-- replacing a pool by one of as many objects changes no sum
 as_many : (ps : List PoolView) (k : ℕ) (p : PoolView) → length p.objects ≡ length (pool_in ps k).objects → objects_in_all (set ps k p) ≡ objects_in_all ps
 as_many [] k p many = refl
 as_many (q ∷ ps) zero p many = omega (arith, many, sum_by-cons (λ (x : PoolView). length x.objects) p ps, sum_by-cons (λ (x : PoolView). length x.objects) q ps)
@@ -67,7 +67,7 @@ module _ (pools : List (Option PoolView)) (ps : List PoolView) (e : present pool
   becomes : (k : ℕ) (d o : Option PoolView) (f : PoolView → PoolView) → k < length ps → SlotBecomes f (get_or pools k d) o → o ≡ Some (f (pool_in ps k))
   becomes k d o f h b = subst (λ x. SlotBecomes f x o) (slot_is pools ps k d e h) b
 
-  -- the pools with one of them replaced
+  -- the pools with one replaced
   replaced : (k : ℕ) (o : Option PoolView) (p : PoolView) → k < length ps → o ≡ Some p → HasRooms p → length p.objects ≡ length (pool_in ps k).objects →
       ArePoolSlots (set pools k o) × (present (set pools k o) ≡ set ps k p)
   replaced k o p h eo rooms many =
@@ -137,7 +137,7 @@ module _ (pools : List (Option PoolView)) (ps : List PoolView) (e : present pool
       subst (λ j. ArePoolSlots (set pools j o) × Given ps n (present (set pools j o))) (sym ek)
       (r.0, subst (Given ps n) (sym r.1) (given ps n are there (out_there (pool_in ps n.pool).out n.index out)))
 
-  -- an object handed out
+  -- an object is taken
   pub take_some : (k i : ℕ) (d o : Option PoolView) → k < length ps → SlotGives (get_or pools k d) (Some i) o → ArePoolSlots (set pools k o)
       × Taken ps (record { pool = k; index = i }) (present (set pools k o))
   take_some k i d o there b =

@@ -1,6 +1,8 @@
--- The pools of mbufs after a write into one.
+-- The pools of mbufs after a write into one of them.
+use Rattle.std.specs.List.{AllByRecursion}
+use Rattle.std.specs.Prelude.{is_some, IsTrue}
 use Rattle.std.proofs.Common.{◌≡◌, ◌≢◌, ◌⊎◌, ℕ, zero, suc, ◌+◌, ◌-◌, ◌*◌, ◌/◌, ◌%◌, ◌<◌, ◌≤◌, Bool, true, false, List, [], ◌∷◌, ◌++◌, length, take, drop}
-use Rattle.std.proofs.Common.{Option, Some, None, refl, sym, ◌∙◌, ap, subst, arith, inl, inr, ⊎_elim, get_or, set, map}
+use Rattle.std.proofs.Common.{rules, Option, Some, None, refl, sym, ◌∙◌, ap, subst, arith, inl, inr, ⊎_elim, get_or, set, map}
 use Rattle.std.specs.Prelude.{count_by, not, slice_get, ◌&&◌}
 use Rattle.std.proofs.lemmas.Bool.{cases_eq, cases_Bool, eq-eqb, eqb-true, and_from}
 use Rattle.std.proofs.lemmas.List.{length-set, length-take-le, get_or-set_same, get_or-set_other, get_or_append_left, get_or-take, drop-drop, drop-take}
@@ -39,7 +41,7 @@ same_is n m e = number_eq n m (eqb-true n.pool m.pool (and_left _ _ e)) (eqb-tru
 pub same_self : (n : Number) → same_number n n ≡ true
 same_self n = and_from _ _ (eq-eqb n.pool n.pool refl) (eq-eqb n.index n.index refl)
 
--- either the same, or not
+-- two numbers are the same or not
 pub same_or : (n m : Number) → (n ≡ m) ⊎ (same_number n m ≡ false)
 same_or n m = ⊎_elim (λ t. inl (same_is n m t)) (λ f. inr f) (cases_Bool (same_number n m))
 
@@ -80,7 +82,7 @@ word_same xs ys a e h = omega (arith, e a (omega arith), e (a + 1) h)
 mbuf_same : (xs ys : List ℕ) (a : ℕ) → ((k : ℕ) → k < 128 → get_or xs k 0 ≡ get_or ys k 0) → a + 3 < 128 → mbuf_number xs a ≡ mbuf_number ys a
 mbuf_same xs ys a e h = number_eq _ _ (word_same xs ys a e (omega arith)) (word_same xs ys (a + 2) e (omega arith))
 
--- a header depends on the first bytes alone
+-- a header depends on an object's first bytes only
 pub header_same : (xs ys : List ℕ) → ((k : ℕ) → k < 128 → get_or xs k 0 ≡ get_or ys k 0) → header_of xs ≡ header_of ys
 unfolding header_of
 header_same xs ys e =
@@ -137,7 +139,7 @@ first_set (Some q ∷ pools) (suc k) p f h r = (f.0, first_set pools k p f.1 (om
 pub are_pools : (pools : List (Option PoolView)) → length pools ≤ 8 → PoolsFirst pools → ArePools (present pools)
 are_pools pools few f = record { few = omega (arith, few, present_below pools); rooms = λ k h. first_at pools k f h }
 
--- an object's pool is there
+-- an object's pool exists
 pub object_pool : (ps : List PoolView) (n : Number) → HasObject ps n → n.pool < length ps
 object_pool ps n h = below ps n.pool n.index h
   where
@@ -146,7 +148,7 @@ object_pool ps n h = below ps n.pool n.index h
     below (p ∷ ps) zero i h = omega arith
     below (p ∷ ps) (suc k) i h = let q = below ps k i h in omega (arith, q)
 
--- ---- one pool written
+-- ---- writing into one pool
 
 module _ (ps : List PoolView) (k : ℕ) (there : k < length ps) (p' : PoolView) where
   abbrev after : List PoolView
@@ -158,7 +160,7 @@ module _ (ps : List PoolView) (k : ℕ) (there : k < length ps) (p' : PoolView) 
   pub elsewhere : (j : ℕ) → j ≢ k → pool_in after j ≡ pool_in ps j
   elsewhere j ne = get_or-set_other ps k j p' no_pool ne
 
-  -- what the pool keeps, all keep
+  -- what the pool keeps, all pools keep
   pub field_kept : {X : Type 0} (g : PoolView → X) → g p' ≡ g (pool_in ps k) → (j : ℕ) → g (pool_in (set ps k p') j) ≡ g (pool_in ps j)
   field_kept g e j = ⊎_elim
       (λ s. subst (λ i. g (pool_in (set ps k p') i) ≡ g (pool_in ps i)) (sym s) (ap g here ∙ e))
@@ -202,7 +204,7 @@ pub bytes_are : (ps : List PoolView) (n : Number) → bytes_of (buffers_of ps) n
 bytes_are ps n =
     ap (λ r. get_or r n.index []) (map_get rooms_of ps n.pool no_pool) ∙ map_get (drop 128) (pool_in ps n.pool).objects n.index []
 
--- ---- an object written
+-- ---- writing into an object
 
 module _ (ps : List PoolView) (n : Number) (are : ArePools ps) (object : HasObject ps n) (at : ℕ) (bytes : List ℕ) (small : Small bytes)
     (fits : at + length bytes ≤ (pool_in ps n.pool).size) where
@@ -259,7 +261,7 @@ module _ (ps : List PoolView) (n : Number) (are : ArePools ps) (object : HasObje
       (λ d. ap (λ q. object_in q m.index) (elsewhere ps n.pool there (with_written p n.index at bytes) m.pool (λ e. d (sym e))))
       (cases_eq n.pool m.pool)
 
--- ---- a header set
+-- ---- setting a header
 
 pub rest_kept : (old : List ℕ) (at : ℕ) (new : List ℕ) → at + length new ≤ 128 → 128 ≤ length old → drop 128 (overwritten old at new) ≡ drop 128 old
 rest_kept old at new h long =
@@ -295,7 +297,7 @@ front_set ps n at bytes are object small front fits =
       others = λ m ne. ap header_of (object_kept ps n are object at bytes small fits m ne);
     }
 
--- ---- a room written
+-- ---- writing into a data room
 
 head_kept : (old : List ℕ) (at : ℕ) (new : List ℕ) (k : ℕ) → 128 + at + length new ≤ length old → k < 128 → get_or (overwritten old (128 + at) new) k 0
     ≡ get_or old k 0
@@ -437,3 +439,30 @@ pub slot_first : (pools : List (Option PoolView)) (ps : List PoolView) (k : ℕ)
     o ≡ Some p → PoolsFirst pools → HasRooms p → PoolsFirst (set pools k o)
 slot_first pools ps k o p e h eo first rooms =
     subst (λ x. PoolsFirst (set pools k x)) (sym eo) (first_set pools k p first (subst (λ q. k < length q) (sym e) h) rooms)
+
+-- a slot that is filled is one of the pools
+none_there : (pools : List (Option PoolView)) (k : ℕ) (d : Option PoolView) (p : PoolView) → AllByRecursion (λ o. o ≡ None) pools → k < length pools
+    → get_or pools k d ≡ Some p → ⊥
+none_there [] k d p all less is = absurd (omega arith)
+none_there (o ∷ pools) zero d p all less is = cc
+none_there (o ∷ pools) (suc k) d p all less is = none_there pools k d p all.1 (omega arith) is
+
+pub filled_below : (pools : List (Option PoolView)) (k : ℕ) (d : Option PoolView) (p : PoolView) → PoolsFirst pools → k < length pools
+    → get_or pools k d ≡ Some p → k < length (present pools)
+filled_below [] k d p first less is = absurd (omega arith)
+filled_below (None ∷ pools) zero d p first less is = cc
+filled_below (None ∷ pools) (suc k) d p first less is = absurd (none_there pools k d p first (omega arith) is)
+filled_below (Some q ∷ pools) zero d p first less is = omega arith
+filled_below (Some q ∷ pools) (suc k) d p first less is = let b = filled_below pools k d p first.1 (omega arith) is in omega (arith, b)
+
+-- whether a slot is filled, and whether there is a pool of its number
+pub filled_iff : (pools : List (Option PoolView)) (ps : List PoolView) (k : ℕ) (d o : Option PoolView) (b : Bool) → present pools ≡ ps → PoolsFirst pools
+    → k < length pools → o ≡ get_or pools k d → b ≡ is_some o → (IsTrue b → k < length ps) × (k < length ps → IsTrue b)
+filled_iff pools ps k d None b e first less at is = (
+  λ t. absurd (let f : b ≡ false = is in let y : IsTrue b = t in cc),
+  λ h. absurd (let there = present_at pools k d (subst (λ q. k < length q) (sym e) h) in cc),
+)
+filled_iff pools ps k d (Some p) b e first less at is = (
+  λ t. subst (λ q. k < length q) e (filled_below pools k d p first less (sym at)),
+  λ h. let y : b ≡ true = is in search rules,
+)

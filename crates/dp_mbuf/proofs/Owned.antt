@@ -36,7 +36,7 @@ distinct (s ∷ ss) once = (
   distinct ss (λ n. let o = once n in omega (arith, o, mbufs-cons s ss n)),
 )
 
--- each of some segments, with its counts among all
+-- each segment, with its counts among all
 each_of : (P : Segment → Type 0) (all ss : List Segment) → ((s : Segment) → ((n : Number) → one_if (same_number s.buffer n) ≤ refs all n) →
     ((n : Number) → one_if (same_number s.mbuf n && not (same_number s.buffer n)) ≤ indirects all n) → P s) → ((n : Number) → refs ss n ≤ refs all n) →
     ((n : Number) → indirects ss n ≤ indirects all n) → AllByRecursion P ss
@@ -167,7 +167,7 @@ few_refs ps v e sound b =
       rows_few (mbufs (segments_held (slots_of ps))) 0 (specs_of ps) sound.counted.once,
     ))
 
--- ---- so many mbufs
+-- ---- the number of mbufs
 
 pub mbufs_are : (ps : List PoolView) → mbufs_in_all (specs_of ps) ≡ objects_in_all ps
 mbufs_are [] = refl

@@ -4,7 +4,7 @@ use Rattle.std.specs.Prelude.{min, max}
 use Rattle.std.proofs.lemmas.Grind.{div_ceil_times}
 use Rattle.std.proofs.Math.Nat.{div-eq_of_lt-le}
 
--- so many parts, of which the last may be shorter
+-- the number of parts, of which the last may be shorter
 pub parts_are : (len full : ℕ) → 1 ≤ full → max 1 (len / full + min 1 (len % full)) ≡ max 1 ((len + (full - 1)) / full)
 parts_are len full some =
     let parts : ℕ = len / full + min 1 (len % full) in

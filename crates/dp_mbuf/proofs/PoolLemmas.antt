@@ -1,4 +1,4 @@
--- Pools stay pools, and what is read of them after a write.
+-- Pools stay pools, and how they read after a write.
 use Rattle.std.proofs.Common.{◌≡◌, ℕ, zero, suc, ◌+◌, ◌<◌, ◌≤◌, Bool, cond, List, [], ◌∷◌, ◌++◌, length, take, drop, Some, refl, sym, ◌∙◌, ap, subst, arith}
 use Rattle.std.proofs.Common.{⊎_elim, get_or, set, map}
 use Rattle.std.specs.Prelude.{count_by, not, slice_get, replicate}
@@ -76,7 +76,7 @@ length_overwritten old at new h =
 
 -- ---- pools stay pools
 
--- the pool with an object in or out, and so many indexes cached
+-- the pool with an object in or out, and another number of cached indexes
 abbrev pub with_out : PoolView → ℕ → Bool → ℕ → PoolView
 with_out p i b cached = record p { out = set p.out i b; cached = cached }
 

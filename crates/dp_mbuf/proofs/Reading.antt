@@ -1,4 +1,4 @@
--- What is read of a live packet's segments.
+-- Reading a live packet's segments.
 use Rattle.std.proofs.Common.{◌≡◌, ℕ, zero, suc, ◌+◌, ◌-◌, ◌*◌, ◌<◌, ◌≤◌, List, [], ◌∷◌, length, drop, Some, sym, ◌∙◌, ap, subst, arith}
 use Rattle.std.specs.Prelude.{slice_get}
 use Rattle.std.specs.List.{AllByRecursion}
@@ -83,7 +83,7 @@ module _ (ps : List PoolView) (v : Store) (h : ℕ) (e : shown ps ≡ v) (sound 
         lies = s.lies;
       }
 
-  -- ---- whether it is sole
+  -- ---- whether a packet is sole
 
   pub sole_more : (p : Packet) (n : Number) (i : ℕ) → Has v h p → i < length p → Linked (header_at ps) n (drop i p) →
       (header_at ps (header_at ps n).buffer).refs ≡ 1 → (IsSole (segments_of v) (drop i p) → IsSole (segments_of v) p) →

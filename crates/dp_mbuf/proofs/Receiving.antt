@@ -1,4 +1,5 @@
--- A record received, segment by segment.
+-- Receiving a record, segment by segment.
+use Rattle.std.proofs.Math.Nat.{div-lt_iff_lt-mul}
 use Rattle.std.proofs.Common.{◌≡◌, ℕ, zero, suc, ◌+◌, ◌-◌, ◌/◌, ◌<◌, ◌≤◌, Bool, true, false, List, [], ◌∷◌, ◌++◌, length, take, drop, Option, Some, None}
 use Rattle.std.proofs.Common.{refl, sym, ◌∙◌, ap, subst, arith, ⊎_elim, set}
 use Rattle.std.specs.Prelude.{slice_set, min, max, ◌||◌}
@@ -101,7 +102,7 @@ any_push b (m ∷ numbers) n e =
     let t = any_push b numbers n h.1 in
     (ap (λ x. x || list_any (same_number b) numbers) h.0 ∙ t.0, t.1)
 
--- the bytes with one more segment behind
+-- the bytes with one more segment after them
 spelled_more : (buffers buffers' : Buffers) (made : Packet) (n : Number) (full : ℕ) (rest bytes : List ℕ) →
     buffers' ≡ written buffers n 128 (take full rest) → refs made n ≡ 0 → 0 < length (bytes_of buffers n) →
     128 + length (take full rest) ≤ length (bytes_of buffers n) → packet_bytes buffers made ++ rest ≡ bytes →
@@ -233,7 +234,7 @@ module _ (v : Store) (pool full : ℕ) (bytes : List ℕ) (room : 128 + full ≡
               ∙ (bytes_other (buffers_of ps) n b _ (turned b n d.1) ∙ c.others b d.0);
         }
 
--- ---- all of it
+-- ---- all segments
 
 apart_filled : (n : Number) (full : ℕ) (numbers : List Number) (total : ℕ) → mbufs (filled full numbers total) n ≡ 0 →
     AllByRecursion (λ m. same_number n m ≡ false) numbers
@@ -281,7 +282,7 @@ are_bytes ps are b =
     (λ past. subst (λ p. Small (drop 128 (object_in p b.index))) (sym (get_or_past ps b.pool no_pool past)) (λ k. omega arith))
     (cases_lt b.pool (length ps))))
 
--- what is known before
+-- what is known before the call
 pub record Ready (ps : List PoolView) (v : Store) (pool full : ℕ) : Type 0 where
   pub whole : Whole ps [] v.slots
   pub there : pool < length ps
@@ -324,6 +325,15 @@ pub need_is : (v : Store) (pool full total need : ℕ) → full ≡ room_at v.po
     need ≡ needed v.pools pool total
 need_is v pool full total need ef en =
     en ∙ ap (λ f. max 1 ((total + (f - 1)) / f)) ef
+
+-- one buffer is enough for the bytes that fit into it
+one_at_most : (q : ℕ) → q < 2 → 1 ≡ max 1 q
+one_at_most zero b = refl
+one_at_most (suc zero) b = refl
+one_at_most (suc (suc q)) b = absurd (omega (arith, b))
+
+pub one_needed : (full total : ℕ) → 1 ≤ full → total ≤ full → 1 ≡ max 1 ((total + (full - 1)) / full)
+one_needed full total some few = one_at_most ((total + (full - 1)) / full) ((div-lt_iff_lt-mul some).1 (omega (arith, some, few)))
 
 module _ (v : Store) (pool full : ℕ) (bytes : List ℕ) (ps0 ps : List PoolView) (first last : Number) (rest : List ℕ) (i need : ℕ)
     (c : Receiving ps v pool full bytes first last rest i) (before : Ready ps0 v pool full) (en : need

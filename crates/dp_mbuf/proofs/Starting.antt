@@ -1,4 +1,4 @@
--- Packets over pools at their start, and pools whole again.
+-- Packets over new pools, and pools that are whole again.
 use Rattle.std.proofs.Common.{◌≡◌, ℕ, zero, suc, ◌+◌, ◌*◌, ◌<◌, ◌≤◌, Bool, true, false, List, [], ◌∷◌, length, Option, Some, None, refl, sym, ◌∙◌, ap, subst}
 use Rattle.std.proofs.Common.{arith, ⊎_elim, get_or}
 use Rattle.std.specs.Prelude.{replicate, slice_get, ◌&&◌, not, nat_eq, IsTrue, ◌↔◌, count_by}
@@ -63,7 +63,7 @@ new_is pools ps u ready =
       },
     )
 
--- ---- without a packet all is in
+-- ---- without packets all objects are in
 
 all_none : (slots : List (Option Packet)) → ((h : ℕ) → get_or slots h None ≡ None) → segments_held slots ≡ []
 all_none [] e = refl
@@ -92,7 +92,7 @@ back_is ps v pools e sound none same first = record {
   zones = ap zones_of same ∙ ap (λ m. m.zones) e;
 }
 
--- ---- whether all is in
+-- ---- whether all objects are in
 
 and_parts : (a b : Bool) → (a && b) ≡ true → (a ≡ true) × (b ≡ true)
 and_parts true b e = (refl, e)
@@ -156,7 +156,7 @@ empty_iff ps v b e sound iff = (
   (λ none. iff.1 (all_in_is ps (slots_of ps) sound (λ h. ap (λ s. get_or s.slots h None) e ∙ none h))),
 )
 
--- ---- whether a packet is there
+-- ---- whether a packet exists
 
 pub live_from_head : (ps : List PoolView) (v : Store) (h : ℕ) → shown ps ≡ v → Sound ps → is_head ps (numbered h) ≡ true → IsLive v h
 live_from_head ps v h e sound head =

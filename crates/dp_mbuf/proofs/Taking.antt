@@ -1,4 +1,4 @@
--- Numbers taken for new segments.
+-- Taking numbers for new segments.
 use Rattle.std.proofs.Common.{◌≡◌, ℕ, zero, suc, ◌+◌, ◌/◌, ◌%◌, ◌<◌, ◌≤◌, Bool, true, false, cond, List, [], ◌∷◌, ◌++◌, length, take, Option, Some, None}
 use Rattle.std.proofs.Common.{refl, sym, ◌∙◌, ap, subst, arith, inl, ⊎_elim, get_or, set}
 use Rattle.std.specs.Prelude.{count_by, ◌&&◌, ◌||◌, not}
@@ -22,7 +22,7 @@ use Rattle.dp_mbuf.proofs.Frames.{object_of, number_of, number_small}
 use Rattle.dp_mbuf.proofs.Edits.{hooked}
 use Rattle.dp_mbuf.proofs.InHand.{More, grown, nothing_at, zero_at}
 
--- ---- a number taken, with a header
+-- ---- taking a number and writing its header
 
 pub more_of : (ps ps1 ps' : List PoolView) (n : Number) (x : Header) → Taken ps n ps1 → HeaderSet ps1 n x ps' → x.segs ≡ 0 → More ps ps' n
 more_of ps ps1 ps' n x t done segs = record {
@@ -53,7 +53,7 @@ grown_direct ps ps1 ps' hand slots n x o l w t done segs one fits =
     (same_or n b))
     (inl refl)
 
--- ---- a packet of one segment, with one header written
+-- ---- a packet of one segment
 
 small_header : (h : Header) → h.segs < 65536 → h.refs < 4294967296 → h.offset < 65536 → h.len < 65536 → (h.next.pool < 65536) × (h.next.index < 65536) →
     (h.last.pool < 65536) × (h.last.index < 65536) → (h.buffer.pool < 65536) × (h.buffer.index < 65536) → Small (header_bytes h)
@@ -90,7 +90,7 @@ small_header h a b c d e f g =
     two x rest b s (suc zero) = omega (arith, b)
     two x rest b s (suc (suc k)) = s k
 
--- a header set again
+-- ---- setting a header again
 set_again : (ps a b : List PoolView) (n : Number) (x y : Header) → HeaderSet ps n x a → HeaderSet ps n y b → HeaderSet a n y b
 set_again ps a b n x y f g = record {
   are = g.are;
@@ -180,7 +180,7 @@ below_is ss pool row (suc k) h e =
     ap (λ b. cond b one 0) (e k (omega arith)) in
     omega (arith, here, below_is ss pool row k (omega arith) (λ i b. e i (omega (arith, b))), count_take not row k h)
 
--- what a pool has in is what is free of it
+-- the objects that a pool has in are those that are free
 pub available_is : (ps : List PoolView) (slots : List (Option Packet)) (pool : ℕ) → Whole ps [] slots → pool < length ps →
     available (specs_of ps) (segments_held slots) pool ≡ count_in ps pool
 available_is ps slots pool w there =

@@ -1,4 +1,4 @@
--- Objects made ones at which no packet begins.
+-- Marking objects: no packet begins there.
 use Rattle.std.proofs.Common.{◌≡◌, ◌≢◌, ℕ, zero, suc, ◌+◌, ◌-◌, ◌<◌, ◌≤◌, false, List, [], ◌∷◌, length, drop, Option, Some, None, refl, sym, ◌∙◌, ap, subst}
 use Rattle.std.proofs.Common.{arith, ⊎_elim, get_or, set, map, below_more}
 use Rattle.std.specs.Prelude.{IfSome}
@@ -16,7 +16,7 @@ use Rattle.dp_mbuf.proofs.PoolLemmas.{pool_written, small_zeros}
 use Rattle.dp_mbuf.proofs.ObjectLemmas.{are_pools, map_kept, rest_kept}
 use Rattle.dp_mbuf.proofs.Owned.{mbufs_are}
 
--- where there is no object no packet begins
+-- no packet begins where there is no object
 blank : (header_of []).segs ≡ 0
 unfolding header_of
 blank = refl
@@ -31,7 +31,7 @@ cleared o = refl
 
 -- ---- the objects of a pool
 
--- the pool has as many objects as before
+-- the pool keeps its number of objects
 count_stays : (n : ℕ) (p q : PoolView) → UnhookedTo n p q → length q.objects ≡ length p.objects
 count_stays n p q u = ap (λ (s : PoolSpec). s.count) u.spec
 
@@ -63,7 +63,7 @@ unhooked_more p q r i bytes u there zeros is =
 
 -- ---- the slots for pools
 
--- behind the first slot that is none there are no pools
+-- after the first empty slot there are no pools
 none_behind : (pools : List (Option PoolView)) (k : ℕ) → AllByRecursion (λ o. o ≡ None) pools → get_or pools k None ≡ None
 none_behind [] k none = refl
 none_behind (o ∷ pools) zero none = none.0
@@ -76,7 +76,7 @@ header_first (None ∷ pools) (suc k) first = subst (λ o. IfSome o (λ p. 128 �
 header_first (Some p ∷ pools) zero first = first.0
 header_first (Some p ∷ pools) (suc k) first = header_first pools k first.1
 
--- the first i slots are unhooked, and the others as they were
+-- the first i slots are done, and the others as they were
 pub record SlotsTo (i : ℕ) (old new : List (Option PoolView)) : Type 0 where
   pub many : length new ≡ length old
   pub done : (k : ℕ) → k < i → SlotUnhooked (get_or old k None) (get_or new k None)
@@ -97,7 +97,7 @@ none_left [] (x ∷ new) none each = (each 0, none_left [] new tt (λ k. each (s
 none_left (o ∷ old) (x ∷ new) none each =
     (subst (λ y. SlotUnhooked y x) none.0 (each 0), none_left old new none.1 (λ k. each (suc k)))
 
--- one pool more in front
+-- one more pool before the others
 module _ (p q : PoolView) (ps qs : List PoolView) (are : ArePools (q ∷ qs)) (u : UnhookedTo (length p.objects) p q) (rest : Unhooked ps qs) where
   outs : (k i : ℕ) → is_out (q ∷ qs) (record { pool = k; index = i }) ≡ is_out (p ∷ ps) (record { pool = k; index = i })
   outs zero i = ap (λ o. get_or o i false) u.out

@@ -1,18 +1,18 @@
--- What stands in the first bytes of each object.
+-- The header in the first bytes of each object.
 use Rattle.std.specs.Prelude.{ℕ, ◌+◌, ◌*◌, ◌/◌, ◌%◌, List, [], ◌∷◌, slice_index}
 use Rattle.dp_model.specs.Buffers.{Number, overwritten}
 use Rattle.dp_mbuf.specs.declared.limits.TheConstants.{SEGS, REFS, OFFSET, LEN, NEXT, LAST, BUFFER, WORDS}
 use Rattle.dp_mbuf.specs.declared.header.Header.{Header}
 
--- two bytes as a number, the lower one first
+-- two bytes as a little-endian number
 abbrev pub word : List ℕ → ℕ → ℕ
 word bytes at = slice_index bytes at + slice_index bytes (at + 1) * 256
 
--- four bytes as a buffer's number
+-- four bytes as a number: pool and index
 abbrev pub mbuf_number : List ℕ → ℕ → Number
 mbuf_number bytes at = record { pool = word bytes at; index = word bytes (at + 2) }
 
--- the header that an object's first bytes spell
+-- the header in an object's first bytes
 unfoldable pub header_of : List ℕ → Header
 header_of o =
     record {
@@ -25,11 +25,11 @@ header_of o =
       buffer = mbuf_number o BUFFER;
     }
 
--- the two bytes of a number, and then more
+-- the two bytes of a number, then more
 abbrev pub then_word : ℕ → List ℕ → List ℕ
 then_word x rest = x % 256 ∷ x / 256 ∷ rest
 
--- an object whose header also has how many segments the packet has and which mbuf is its last
+-- an object after the number of segments and the last mbuf are written into its header
 abbrev pub with_hook : List ℕ → ℕ → Number → List ℕ
 with_hook o segs last = overwritten (overwritten o SEGS (then_word segs [])) LAST (then_word last.pool (then_word last.index []))
 

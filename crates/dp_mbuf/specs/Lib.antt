@@ -1,4 +1,4 @@
--- What the contracts of mbufs name.
+-- The definitions that contracts of dp_mbuf name.
 pub mod Headers
 pub mod Limits
 pub mod Objects

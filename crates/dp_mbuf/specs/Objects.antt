@@ -1,4 +1,4 @@
--- What the objects of all pools hold: a header each, and the bytes behind it.
+-- The objects of all pools: a header each, and the bytes after it.
 use Rattle.std.specs.Prelude.{◌≡◌, ℕ, ◌+◌, ◌-◌, ◌<◌, ◌≤◌, ◌==◌, Bool, true, false, List, [], ◌∷◌, length, map, drop, sum_by, Option, Some, None, slice_get}
 use Rattle.std.specs.Prelude.{slice_index_or}
 use Rattle.std.specs.List.{AllByRecursion}
@@ -10,15 +10,15 @@ use Rattle.dp_pool.specs.Pools.{PoolZones, PoolView, IsPool, object_in, got}
 use Rattle.dp_pool.specs.Queues.{in_count}
 use Rattle.dp_mbuf.specs.Headers.{header_of}
 
--- ---- what is read of pools
+-- ---- reading pools
 
--- the pools of a list of slots for pools, of which the first are filled
+-- the pools of a list of slots whose first ones are filled
 abbrev pub present : List (Option PoolView) → List PoolView
 present [] = []
 present (None ∷ pools) = []
 present (Some p ∷ pools) = p ∷ present pools
 
--- where there is no pool
+-- stands for a missing pool
 abbrev pub no_pool : PoolView
 no_pool = record {
   size = 0;
@@ -35,48 +35,48 @@ pool_in pools k = slice_index_or pools k no_pool
 abbrev pub header_at : List PoolView → Number → Header
 header_at pools n = header_of (object_in (pool_in pools n.pool) n.index)
 
--- and after these bytes have been written over its first ones, from an offset on
+-- the header after these bytes are written over the object's first ones, from an offset on
 abbrev pub header_with : List PoolView → Number → ℕ → List ℕ → Header
 header_with pools n at bytes =
     header_of (overwritten (object_in (pool_in pools n.pool) n.index) at bytes)
 
--- whether the object is handed out
+-- whether the object is out
 abbrev pub is_out : List PoolView → Number → Bool
 is_out pools n = slice_index_or (pool_in pools n.pool).out n.index false
 
--- how many objects of the pool are in
+-- how many of the pool's objects are in
 abbrev pub count_in : List PoolView → ℕ → ℕ
 count_in pools k = in_count (pool_in pools k).out
 
--- an object is a header and a data room
+-- the pool as dp_model knows it: its objects have a header and a data room
 abbrev pub spec_of : PoolView → PoolSpec
 spec_of p = record { count = length p.objects; cache = p.cache; room = p.size - HEADER_SIZE }
 
 abbrev pub specs_of : List PoolView → List PoolSpec
 specs_of pools = map spec_of pools
 
--- the bytes behind the headers
+-- the bytes after the headers
 abbrev pub rooms_of : PoolView → List (List ℕ)
 rooms_of p = map (drop HEADER_SIZE) p.objects
 
 abbrev pub buffers_of : List PoolView → Buffers
 buffers_of pools = map rooms_of pools
 
--- no object is handed out
+-- all objects are in
 abbrev pub AreAllIn : List PoolView → Type 0
 AreAllIn pools = (n : Number) → is_out pools n ≡ false
 
--- the zones in which the pools stand
+-- the zones of the pools
 abbrev pub zones_of : List PoolView → List PoolZones
 zones_of pools = map (λ p. p.zones) pools
 
--- there is such an object
+-- the object exists
 abbrev pub HasObject : List PoolView → Number → Type 0
 HasObject pools n = n.index < length (pool_in pools n.pool).objects
 
--- ---- what is true of all pools of mbufs
+-- ---- what holds of all pools of mbufs
 
--- a pool of objects with room for a header, and at most 4,096 bytes behind it
+-- each object has room for a header, and at most 4,096 bytes after it
 pub record HasRooms (p : PoolView) : Type 0 where
   pub pool : IsPool p
   pub header : HEADER_SIZE ≤ p.size
@@ -94,11 +94,11 @@ HeadersFirst [] = Unit {0}
 HeadersFirst (None ∷ pools) = AllByRecursion (λ o. o ≡ None) pools
 HeadersFirst (Some p ∷ pools) = (HEADER_SIZE ≤ p.size) × HeadersFirst pools
 
--- how many objects the pools have in all
+-- how many objects the pools have together
 abbrev pub objects_in_all : List PoolView → ℕ
 objects_in_all pools = sum_by (λ p. length p.objects) pools
 
--- `MAX_POOLS` slots, of which the first have pools of mbufs, at most `MAX_MBUFS` mbufs in all
+-- `MAX_POOLS` slots, the first of them filled with pools of mbufs, at most `MAX_MBUFS` mbufs together
 abbrev pub ArePoolSlots : List (Option PoolView) → Type 0
 ArePoolSlots pools = (length pools ≡ MAX_POOLS) × PoolsFirst pools × (objects_in_all (present pools) ≤ MAX_MBUFS)
 
@@ -107,9 +107,9 @@ pub record ArePools (pools : List PoolView) : Type 0 where
   pub few : length pools ≤ MAX_POOLS
   pub rooms : (k : ℕ) → k < length pools → HasRooms (pool_in pools k)
 
--- ---- what the calls on objects do: what is not named stays, and these are pools of mbufs afterwards
+-- ---- what calls on objects do: all that is not named stays, and these are pools of mbufs afterwards
 
--- the header of n has become h
+-- the header of n becomes h
 pub record HeaderSet (pools : List PoolView) (n : Number) (h : Header) (pools' : List PoolView) : Type 0 where
   pub are : ArePools pools'
   pub specs : specs_of pools' ≡ specs_of pools
@@ -120,7 +120,7 @@ pub record HeaderSet (pools : List PoolView) (n : Number) (h : Header) (pools' :
   pub here : header_at pools' n ≡ h
   pub others : (m : Number) → same_number n m ≡ false → header_at pools' m ≡ header_at pools m
 
--- bytes have been written into n's room from an offset on
+-- bytes are written into n's data room from an offset on
 pub record RoomWritten (pools : List PoolView) (n : Number) (at : ℕ) (bytes : List ℕ) (pools' : List PoolView) : Type 0 where
   pub are : ArePools pools'
   pub specs : specs_of pools' ≡ specs_of pools
@@ -130,7 +130,7 @@ pub record RoomWritten (pools : List PoolView) (n : Number) (at : ℕ) (bytes : 
   pub ins : (k : ℕ) → count_in pools' k ≡ count_in pools k
   pub headers : (m : Number) → header_at pools' m ≡ header_at pools m
 
--- no packet begins any more at any number
+-- no packet begins at any object any more
 pub record Unhooked (pools pools' : List PoolView) : Type 0 where
   pub are : ArePools pools'
   pub specs : specs_of pools' ≡ specs_of pools
@@ -139,7 +139,7 @@ pub record Unhooked (pools pools' : List PoolView) : Type 0 where
   pub outs : (m : Number) → is_out pools' m ≡ is_out pools m
   pub heads : (m : Number) → (header_at pools' m).segs ≡ 0
 
--- n has been handed out, which was in
+-- n is taken, which was in
 pub record Taken (pools : List PoolView) (n : Number) (pools' : List PoolView) : Type 0 where
   pub are : ArePools pools'
   pub specs : specs_of pools' ≡ specs_of pools
@@ -152,7 +152,7 @@ pub record Taken (pools : List PoolView) (n : Number) (pools' : List PoolView) :
   pub others : (m : Number) → same_number n m ≡ false → is_out pools' m ≡ is_out pools m
   pub ins : count_in pools' n.pool + 1 ≡ count_in pools n.pool
 
--- n has been put back
+-- n is put back
 pub record Given (pools : List PoolView) (n : Number) (pools' : List PoolView) : Type 0 where
   pub are : ArePools pools'
   pub specs : specs_of pools' ≡ specs_of pools
@@ -169,7 +169,7 @@ abbrev pub SlotHas : Option PoolView → Type 0
 SlotHas None = ⊥
 SlotHas (Some p) = HasRooms p
 
--- and the object has that many bytes
+-- and these bytes lie in the object
 abbrev pub SlotFits : Option PoolView → ℕ → ℕ → Type 0
 SlotFits None i n = ⊥
 SlotFits (Some p) i n = HasRooms p × (i < length p.objects) × (n ≤ p.size)
@@ -184,7 +184,7 @@ abbrev pub slot_whole : Option PoolView → Bool
 slot_whole None = true
 slot_whole (Some p) = in_count p.out == length p.objects
 
--- and the object is handed out
+-- and the object is out
 abbrev pub SlotIsOut : Option PoolView → ℕ → Type 0
 SlotIsOut None i = ⊥
 SlotIsOut (Some p) i = slice_get p.out i ≡ Some true
@@ -194,7 +194,7 @@ abbrev pub SlotBecomes : (PoolView → PoolView) → Option PoolView → Option 
 SlotBecomes f None o = ⊥
 SlotBecomes f (Some p) o = o ≡ Some (f p)
 
--- an object of the slot's pool has been handed out, or none is in
+-- an object of the slot's pool is taken, or none is in
 abbrev pub SlotGives : Option PoolView → Option ℕ → Option PoolView → Type 0
 SlotGives None result o = ⊥
 SlotGives (Some p) None o = (in_count p.out ≡ 0) × (o ≡ Some p)

@@ -1,4 +1,4 @@
--- Internal, no public contract names it: the small steps that calls are made of.
+-- Internal, no public contract names it: the per-segment operations.
 use Rattle.std.specs.Prelude.{◌≡◌, ℕ, suc, ◌+◌, ◌^◌, ◌<◌, ◌≤◌, true, false, List, length}
 use Rattle.dp_model.specs.Buffers.{Number, same_number}
 use Rattle.dp_mbuf.specs.declared.limits.TheConstants.{HEADROOM}
@@ -13,13 +13,13 @@ pub record Linkage (g h : Header) : Type 0 where
   pub next : g.next ≡ h.next
   pub buffer : g.buffer ≡ h.buffer
 
--- all but the references
+-- equal but for the references
 pub record Alike (g h : Header) : Type 0 where
   pub segs : g.segs ≡ h.segs
   pub last : g.last ≡ h.last
   pub link : Linkage g h
 
--- the headers stay but for references, and no further number is out
+-- headers stay but for references, and no further object is out
 pub record Fewer (ps ps' : List PoolView) : Type 0 where
   pub are : ArePools ps'
   pub specs : specs_of ps' ≡ specs_of ps
@@ -28,7 +28,7 @@ pub record Fewer (ps ps' : List PoolView) : Type 0 where
   pub headers : (m : Number) → Alike (header_at ps' m) (header_at ps m)
   pub outs : (m : Number) → is_out ps m ≡ false → is_out ps' m ≡ false
 
--- an mbuf is back, where it is not its own buffer
+-- an mbuf is put back, unless it is its own buffer
 pub record MbufBack (ps : List PoolView) (n b : Number) (ps' : List PoolView) : Type 0 where
   pub fewer : Fewer ps ps'
   pub refs : (m : Number) → (header_at ps' m).refs ≡ (header_at ps m).refs
@@ -36,7 +36,7 @@ pub record MbufBack (ps : List PoolView) (n b : Number) (ps' : List PoolView) : 
   pub here : same_number n b ≡ false → is_out ps' n ≡ false
   pub own : n ≡ b → is_out ps' n ≡ is_out ps n
 
--- a buffer is back, where it had its only reference, and else has one reference less
+-- a buffer with one reference is put back; any other has one reference less
 pub record BufferLess (ps : List PoolView) (b : Number) (ps' : List PoolView) : Type 0 where
   pub fewer : Fewer ps ps'
   pub refs : (m : Number) → same_number b m ≡ false → (header_at ps' m).refs ≡ (header_at ps m).refs
@@ -53,13 +53,13 @@ pub record CanRelease (ps : List PoolView) (n b : Number) : Type 0 where
   pub buffer_out : is_out ps b ≡ true
   pub some : 1 ≤ (header_at ps b).refs
 
--- both, of a segment
+-- a segment is released: its mbuf and one reference of its buffer
 pub record Released (ps : List PoolView) (n b : Number) (ps' : List PoolView) : Type 0 where
   pub middle : List PoolView
   pub mbuf : MbufBack ps n b middle
   pub buffer : BufferLess middle b ps'
 
--- an mbuf's segment can be cloned by one that the pool has in
+-- the pool has an mbuf in to clone the segment with
 pub record CanClone (ps : List PoolView) (from : Number) (pool : ℕ) : Type 0 where
   pub source : HasObject ps from
   pub buffer : HasObject ps (header_at ps from).buffer
@@ -68,12 +68,12 @@ pub record CanClone (ps : List PoolView) (from : Number) (pool : ℕ) : Type 0 w
   pub there : pool < length ps
   pub some : 1 ≤ count_in ps pool
 
--- the header of an mbuf that has the same part of the same buffer, of no packet yet
+-- the header of an mbuf that shares a part of a buffer, in no packet yet
 abbrev pub cloned_header : Header → Number → Header
 cloned_header h n =
     record { segs = 0; refs = 0; offset = h.offset; len = h.len; next = n; last = n; buffer = h.buffer }
 
--- n is a new mbuf for the same part of the same buffer, which has one reference more
+-- n is a new mbuf for the same part of the same buffer, whose references grow by one
 pub record Cloned (ps : List PoolView) (from n : Number) (ps' : List PoolView) : Type 0 where
   pub first : List PoolView
   pub second : List PoolView
@@ -82,12 +82,12 @@ pub record Cloned (ps : List PoolView) (from n : Number) (ps' : List PoolView) :
   pub buffer : HeaderSet second (header_at ps from).buffer (record (header_at second (header_at ps from).buffer)
       { refs = (header_at second (header_at ps from).buffer).refs + 1 }) ps'
 
--- the header of a new mbuf that is its own buffer, of no packet yet
+-- the header of a new mbuf that is its own buffer, in no packet yet
 abbrev pub direct_header : Number → ℕ → ℕ → Header
 direct_header n o l =
     record { segs = 0; refs = 1; offset = o; len = l; next = n; last = n; buffer = n }
 
--- n is a new mbuf that is its own buffer, with these bytes from the headroom on
+-- n is a new mbuf that is its own buffer, with these bytes after the headroom
 pub record FilledBy (ps : List PoolView) (n : Number) (bytes : List ℕ) (ps' : List PoolView) : Type 0 where
   pub first : List PoolView
   pub second : List PoolView

@@ -7,7 +7,7 @@ ghost use Rattle.dp_model.specs.Buffers.{overwritten};
 use byteorder::{BigEndian, ByteOrder};
 use dp_model::Width;
 
-/// The number that the first bytes spell.
+/// The big-endian number in the first `width` bytes.
 pub(crate) fn read_number(bytes: &[u8], width: Width) -> u64
     requires { bytes_in width ≤ length bytes.now }
     ensures { result ≡ spelled (take (bytes_in width) bytes.now) }
@@ -31,8 +31,8 @@ fn bytes_of_number(n: u64) -> [u8; 8]
     bytes
 }
 
-/// Writes the low bytes of a number over bytes, the highest first. Each width has a copy of its own, of so many bytes, which is one
-/// store.
+/// Writes the low `width` bytes of a number, the highest first. Each width has a branch of its own, with a constant length, so that the compiler
+/// makes one store of it.
 #[inline(always)]
 pub(crate) fn write_number(bytes: &mut [u8], at: usize, width: Width, n: u64)
     requires { at + bytes_in width ≤ length bytes.old }

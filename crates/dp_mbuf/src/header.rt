@@ -1,4 +1,4 @@
-//! What stands in the first bytes of each object.
+//! The header in the first bytes of each object.
 
 ghost use Rattle.std.specs.Prelude.{◌≡◌, ◌<◌, ◌≤◌, ◌+◌, ◌/◌, ◌%◌, [], length};
 ghost use Rattle.dp_model.specs.Buffers.{same_number, overwritten};
@@ -8,7 +8,7 @@ use crate::limits::{BUFFER, FIELDS_SIZE, HEADER_SIZE, LAST, LEN, NEXT, OFFSET, R
 use byteorder::{ByteOrder, LittleEndian};
 use std::marker::Model;
 
-/// The number of an mbuf, or of a buffer: its pool, and its index there.
+/// The number of an mbuf or of a buffer: its pool, and its index there.
 #[derive(Clone, Copy)]
 pub(crate) struct MbufNumber {
     pub pool: u16,
@@ -26,14 +26,14 @@ impl Model for MbufNumber {
 }
 
 impl MbufNumber {
-    /// That of this pool with this index.
+    /// The number of this index in this pool.
     pub fn new(pool: u16, index: u16) -> MbufNumber
         ensures { result ≡ record { pool = pool; index = index } }
     {
         MbufNumber { pool, index }
     }
 
-    /// Whether two are the same.
+    /// Whether the two are the same.
     pub fn is(self, other: MbufNumber) -> bool
         ensures { result ≡ same_number self other }
     {
@@ -55,9 +55,8 @@ impl MbufNumber {
     }
 }
 
-/// What an object knows of itself. As an mbuf: its part of a buffer and the next mbuf; as a packet's first one also how
-/// many segments the packet has (0 where it is no first one) and which is the last. As a buffer: how many segments have
-/// it as theirs.
+/// What an object's header holds. As an mbuf: its part of a buffer, and the next mbuf; as the first of a packet also the number of segments (0 in any
+/// other) and the last mbuf. As a buffer: how many segments refer to it.
 #[derive(Clone, Copy)]
 pub(crate) struct Header {
     pub segs: u16,
@@ -69,7 +68,7 @@ pub(crate) struct Header {
     pub buffer: MbufNumber,
 }
 
-// The number that two bytes spell, the lower one first.
+// Reads the little-endian 2-byte number at `at`.
 #[inline(always)]
 fn read_word(bytes: &[u8], at: usize) -> u16
     requires { at + 2 ≤ length bytes.now }
@@ -78,7 +77,7 @@ fn read_word(bytes: &[u8], at: usize) -> u16
     LittleEndian::read_u16(&bytes[at..at + 2])
 }
 
-/// The header of an object.
+/// Reads the header of an object.
 #[inline(always)]
 pub(crate) fn read_header(object: &[u8]) -> Header
     requires { HEADER_SIZE ≤ length object.now }
@@ -109,7 +108,7 @@ fn high(x: u16) -> u8
     x.to_le_bytes()[1]
 }
 
-/// The bytes of a number, the lower one first.
+/// The two bytes of a number, little-endian.
 #[inline(always)]
 pub(crate) fn bytes_of_word(x: u16) -> [u8; 2]
     ensures bytes { result ≡ then_word x [] }
@@ -118,7 +117,7 @@ pub(crate) fn bytes_of_word(x: u16) -> [u8; 2]
     [low(x), high(x)]
 }
 
-// Writes a number over two bytes, the lower one first.
+// Writes a 2-byte number, little-endian.
 #[inline(always)]
 fn write_word(bytes: &mut [u8], at: usize, x: u16)
     requires { at + 2 ≤ length bytes.old }
@@ -127,7 +126,7 @@ fn write_word(bytes: &mut [u8], at: usize, x: u16)
     bytes[at..at + 2].copy_from_slice(&bytes_of_word(x));
 }
 
-/// Writes two numbers over bytes, one behind the other.
+/// Writes two numbers, one after the other.
 #[inline(always)]
 pub(crate) fn write_words(bytes: &mut [u8], at: usize, x: u16, y: u16)
     requires { at + 4 ≤ length bytes.old }
@@ -137,7 +136,7 @@ pub(crate) fn write_words(bytes: &mut [u8], at: usize, x: u16, y: u16)
     write_word(bytes, at + 2, y);
 }
 
-/// Writes how many segments a packet has and which mbuf is its last, into its first mbuf's object.
+/// Writes the number of segments and the last mbuf of a packet into its first mbuf's object.
 #[inline(always)]
 pub(crate) fn write_hook(object: &mut [u8], segs: u16, last: MbufNumber)
     requires { HEADER_SIZE ≤ length object.old }
@@ -148,7 +147,7 @@ pub(crate) fn write_hook(object: &mut [u8], segs: u16, last: MbufNumber)
     write_words(object, LAST, last.pool(), last.index());
 }
 
-/// The bytes of a buffer's number of references, the lowest first.
+/// The four bytes of a count of references, little-endian.
 #[inline(always)]
 pub(crate) fn bytes_of_refs(refs: u32) -> [u8; 4]
     ensures bytes { result ≡ then_word (refs % WORDS) (then_word (refs / WORDS) []) }

@@ -1,6 +1,7 @@
-//! Packets over the objects of pools.
+//! The calls on packets.
 
-ghost use Rattle.std.specs.Prelude.{◌≡◌, ◌≢◌, ℕ, ◌+◌, ◌*◌, ◌<◌, ◌≤◌, [], None, length, drop, slice_get, slice_range, IsTrue, ◌↔◌, List, Some, max, ◌-◌, ◌/◌};
+ghost use Rattle.std.specs.Prelude.{◌≡◌, ◌≢◌, ℕ, ◌+◌, ◌*◌, ◌<◌, ◌≤◌, [], None, length, drop, slice_get, slice_range, IsTrue, ◌↔◌, IfSome, IfNone};
+ghost use Rattle.std.specs.Prelude.{List, Some, max, ◌-◌, ◌/◌};
 ghost use Rattle.std.specs.Prelude.{◌^◌};
 ghost use Rattle.dp_model.specs.Packets.{Segment, needed, refs, IsSole, segment_bytes, packet_bytes, headroom, tailroom, first_len, last_len, at_front};
 ghost use Rattle.dp_model.specs.Packets.{at_end, more_before, less_before, more_behind, less_behind, zeroed_before, zeroed_behind, available, loaded, stored};
@@ -9,9 +10,10 @@ ghost use Rattle.dp_model.specs.Arithmetic.{bytes_in};
 ghost use Rattle.dp_model.specs.Buffers.{Number, bytes_of};
 ghost use Rattle.dp_model.specs.Environments.{room_at};
 ghost use Rattle.dp_model.specs.Stores.{segments_of, Has, HasSome, IsLive, Of, Becomes, unwritten, with_slot, Allocates, Chains, Clones, ReceivesInto};
-ghost use Rattle.dp_model.specs.Stores.{IsWellFormedStore};
-ghost use Rattle.dp_mbuf.specs.Objects.{header_at, specs_of, buffers_of, HasObject};
+ghost use Rattle.dp_model.specs.Stores.{IsWellFormedStore, Store};
+ghost use Rattle.dp_mbuf.specs.Objects.{header_at, specs_of, buffers_of, zones_of, HasObject};
 ghost use Rattle.dp_mbuf.specs.Mbufs.{numbered, handle, AreReady, IsNew, HasNone, AreBack, Linked, HasWalk, mbufs_in_all};
+ghost use Rattle.dp_mbuf.specs.Mbufs.{Freeing, Sound, shown};
 
 use crate::big_endian::read_number;
 use crate::header::{Header, MbufNumber};
@@ -20,13 +22,13 @@ use crate::limits::{
 };
 use crate::objects::Objects;
 use crate::steps::{
-    behind, clone_segment, fill_segment, fresh_header, hook, release, relink, unhook,
+    behind, clone_segment, fill_segment, fresh_header, hook, release, release_only, relink, unhook,
 };
 use dp_model::{Packet, Width};
 use dp_pool::Pool;
 use std::marker::Model;
 
-/// Packets as chains of segments over the buffers of pools. It ends by `into_pools`.
+/// Packets as chains of segments over the buffers of pools. `into_pools` ends it.
 pub struct Mbufs {
     objects: Objects,
 }
@@ -53,7 +55,7 @@ fn first_number(packet: &Packet) -> MbufNumber
     )
 }
 
-// The packet whose first mbuf this is.
+// The packet that begins at this mbuf.
 #[inline(always)]
 fn packet_of(mbuf: MbufNumber) -> Packet
     ensures { result ≡ handle mbuf }
@@ -80,7 +82,7 @@ fn last_header(objects: &Objects, packet: &Packet) -> Header
     objects.header(first_header(objects, packet).last)
 }
 
-// How many parts of at most `full` bytes there are, and one where there are no bytes.
+// How many parts of at most `full` bytes `len` bytes make; one where there are none.
 fn count_needed(len: usize, full: u16) -> usize
     requires { 1 ≤ full }
     ensures { result ≡ max 1 ((len + (full - 1)) / full) }
@@ -100,7 +102,20 @@ fn mbuf_at(objects: &Objects, first: MbufNumber, k: u32) -> MbufNumber
     mbuf
 }
 
-// The bytes of the segment of a header.
+// Releases `count` segments along the links, from `first` on.
+#[inline(never)]
+fn release_all(objects: &mut Objects, first: MbufNumber, count: u16)
+    requires { (v : Store) × (h : ℕ) × Freeing objects.old first 0 count v h }
+    ensures packets { (v : Store) (h : ℕ) → Freeing objects.old first 0 count v h → Sound objects.new × (shown objects.new ≡ with_slot h None v) }
+    ensures zones { zones_of objects.new ≡ zones_of objects.old }
+{
+    let mut mbuf = first;
+    for i in 0..count {
+        mbuf = release(objects, mbuf);
+    }
+}
+
+// The bytes of a header's segment.
 #[inline(always)]
 fn bytes_in_segment(objects: &Objects, header: Header) -> &[u8]
     requires object { HasObject objects.now header.buffer }
@@ -113,8 +128,8 @@ fn bytes_in_segment(objects: &Objects, header: Header) -> &[u8]
 }
 
 impl Mbufs {
-    /// Packets over these pools, none yet. The pools, at least one, fill the first places; all their objects are in, each of at least
-    /// `HEADER_SIZE` bytes, and there are at most `MAX_MBUFS` of them.
+    /// Makes an `Mbufs` over these pools, without packets. The pools, at least one, fill the first slots. All their objects must be in, with at
+    /// least `HEADER_SIZE` bytes each, and there are at most `MAX_MBUFS` of them.
     pub fn over(pools: [Option<Pool>; MAX_POOLS]) -> Mbufs
         requires { AreReady pools }
         ensures { IsNew pools result }
@@ -124,14 +139,14 @@ impl Mbufs {
         }
     }
 
-    /// Whether there is no packet, live or parked.
+    /// Whether there is no packet, neither live nor parked.
     pub fn is_empty(&self) -> bool
         ensures { IsTrue result ↔ HasNone self.now.store }
     {
         self.objects.are_all_in()
     }
 
-    /// The pools again, each of them whole.
+    /// Hands the pools back with all objects in. There must be no packet.
     pub fn into_pools(self) -> [Option<Pool>; MAX_POOLS]
         requires { HasNone self.store }
         ensures { AreBack self result }
@@ -140,7 +155,7 @@ impl Mbufs {
         objects.into_pools()
     }
 
-    /// Keeps a packet under a number, as for a ring; the packet is used again after `unpark`. Its segments stay.
+    /// Returns the number under which a packet can be kept, as in a ring. Its segments stay. Use the packet again after `unpark`.
     pub fn park(&mut self, packet: Packet) -> u32
         requires { IsLive self.old.store packet }
         ensures number { result ≡ packet }
@@ -149,7 +164,7 @@ impl Mbufs {
         packet.number()
     }
 
-    /// The packet that was parked under this number.
+    /// The packet that was parked with this number.
     pub fn unpark(&mut self, number: u32) -> Packet
         requires { IsLive self.old.store number }
         ensures packet { result ≡ number }
@@ -158,7 +173,7 @@ impl Mbufs {
         Packet::of(number)
     }
 
-    /// Whether the packet is one of these, live or parked.
+    /// Whether the packet is live or parked here.
     pub fn is_live(&self, packet: &Packet) -> bool
         ensures { IsTrue result ↔ IsLive self.now.store packet.now }
     {
@@ -167,7 +182,7 @@ impl Mbufs {
             && self.objects.header(mbuf).segs != 0
     }
 
-    /// The room before the first segment's bytes.
+    /// The free bytes before the first segment's data.
     #[inline(always)]
     pub fn headroom(&self, packet: &Packet) -> u16
         requires { IsLive self.now.store packet.now }
@@ -176,7 +191,7 @@ impl Mbufs {
         first_header(&self.objects, packet).offset
     }
 
-    /// The length of the first segment.
+    /// The length of the first segment, in bytes.
     #[inline(always)]
     pub fn first_len(&self, packet: &Packet) -> u16
         requires { IsLive self.now.store packet.now }
@@ -185,7 +200,7 @@ impl Mbufs {
         first_header(&self.objects, packet).len
     }
 
-    /// How many segments there are.
+    /// The number of segments.
     #[inline(always)]
     pub fn segments(&self, packet: &Packet) -> u32
         requires { IsLive self.now.store packet.now }
@@ -194,7 +209,7 @@ impl Mbufs {
         u32::from(first_header(&self.objects, packet).segs)
     }
 
-    /// The length of the last segment.
+    /// The length of the last segment, in bytes.
     #[inline(always)]
     pub fn last_len(&self, packet: &Packet) -> u16
         requires { IsLive self.now.store packet.now }
@@ -203,7 +218,7 @@ impl Mbufs {
         last_header(&self.objects, packet).len
     }
 
-    /// The room behind the last segment's bytes.
+    /// The free bytes after the last segment's data.
     #[inline(always)]
     pub fn tailroom(&self, packet: &Packet) -> u16
         requires { IsLive self.now.store packet.now }
@@ -213,7 +228,7 @@ impl Mbufs {
         self.objects.room(tail.buffer.pool()) - tail.offset - tail.len
     }
 
-    /// Makes the first segment `n` bytes shorter at its front. It has at least so many.
+    /// Cuts `n` bytes off the front of the first segment, which has that many.
     #[inline(always)]
     pub fn adj(&mut self, packet: &Packet, n: u16)
         requires { HasSome self.old.store packet.now (λ k. n ≤ first_len k) }
@@ -225,7 +240,7 @@ impl Mbufs {
             .set_bounds(first_number(packet), head.offset + n, head.len - n);
     }
 
-    /// Makes the last segment `n` bytes shorter at its end. It has at least so many.
+    /// Cuts `n` bytes off the end of the last segment, which has that many.
     #[inline(always)]
     pub fn trim(&mut self, packet: &Packet, n: u16)
         requires { HasSome self.old.store packet.now (λ k. n ≤ last_len k) }
@@ -237,22 +252,25 @@ impl Mbufs {
         self.objects.set_bounds(last, tail.offset, tail.len - n);
     }
 
-    /// Gives a packet up: one reference of each segment's buffer. An mbuf is back in its pool when no live segment has
-    /// it as its mbuf or as its buffer.
+    /// Frees a packet: drops one reference of each segment's buffer. An object goes back to its pool when no live segment has it as its mbuf or as
+    /// its buffer.
     #[inline(always)]
     pub fn free(&mut self, packet: Packet)
         requires { IsLive self.old.store packet }
         ensures packets { self.new.store ≡ with_slot packet None self.old.store }
         ensures zones { self.new.zones ≡ self.old.zones }
     {
-        let head = unhook(&mut self.objects, first_number(&packet));
-        let mut mbuf = first_number(&packet);
-        for i in 0..head.segs {
-            mbuf = release(&mut self.objects, mbuf);
+        let first = first_number(&packet);
+        let head = unhook(&mut self.objects, first);
+        let segs = head.segs;
+        if segs == 1 {
+            release_only(&mut self.objects, first, head.buffer, head.refs);
+        } else {
+            release_all(&mut self.objects, first, segs);
         }
     }
 
-    /// How many buffers of a pool are free.
+    /// The number of free buffers of a pool.
     #[inline(always)]
     pub fn available(&self, pool: u32) -> u32
         requires { pool < length self.now.store.pools }
@@ -261,8 +279,27 @@ impl Mbufs {
         self.objects.available(pool as u16)
     }
 
-    /// A packet of one segment without bytes, behind a headroom of `HEADROOM` or of the whole data room, if that is less; `None` exactly
-    /// where no buffer of the pool is free, and then nothing has changed.
+    // Whether there is a pool of this number.
+    fn has_pool(&self, pool: u32) -> bool
+        ensures { IsTrue result ↔ pool < length self.now.store.pools }
+    {
+        pool < MAX_POOLS as u32 && self.objects.has_pool(pool as u16)
+    }
+
+    /// The number of free buffers of a pool; `None` if there is no such pool.
+    pub fn available_in(&self, pool: u32) -> Option<u32>
+        ensures some { IfSome result (λ n. (pool < length self.now.store.pools) × (n ≡ available self.now.store.pools (segments_of self.now.store) pool)) }
+        ensures none { IfNone result (length self.now.store.pools ≤ pool) }
+    {
+        if self.has_pool(pool) {
+            Some(self.available(pool))
+        } else {
+            None
+        }
+    }
+
+    /// Allocates a packet of one empty segment, after a headroom of `HEADROOM` or of the whole data room if that is smaller. `None` exactly where no
+    /// buffer of the pool is free; then nothing changes.
     #[inline(always)]
     pub fn alloc(&mut self, pool: u32) -> Option<Packet>
         requires { pool < length self.old.store.pools }
@@ -276,7 +313,7 @@ impl Mbufs {
         Some(packet_of(mbuf))
     }
 
-    /// The number in `width` bytes at an offset in the first segment, which has them all, the highest byte first.
+    /// Reads `width` bytes at `offset` of the first segment as a big-endian number. They must lie in it.
     #[inline(always)]
     pub fn load(&self, packet: &Packet, offset: u64, width: Width) -> u64
         requires { HasSome self.now.store packet.now (λ k. offset + bytes_in width ≤ first_len k) }
@@ -287,8 +324,7 @@ impl Mbufs {
         read_number(&bytes[offset as usize..], width)
     }
 
-    /// Writes the low `width` bytes of a number at an offset in the first segment, which has them all, the highest byte first. Its
-    /// buffer has one reference.
+    /// Writes the low `width` bytes of `n` at `offset` of the first segment, big-endian. They must lie in it, and its buffer must have one reference.
     #[inline(always)]
     pub fn store(&mut self, packet: &Packet, offset: u64, width: Width, n: u64)
         requires { HasSome self.old.store packet.now (λ k. (offset + bytes_in width ≤ first_len k) × IsHeadSole (segments_of self.old.store) k) }
@@ -300,8 +336,7 @@ impl Mbufs {
         self.objects.write_number(head.buffer, at, width, n);
     }
 
-    /// Makes the first segment `n` bytes longer at its front; the new bytes are 0. The headroom is that large, and the segment's buffer
-    /// has one reference.
+    /// Extends the first segment by `n` zero bytes at its front. The headroom must have that many, and the segment's buffer one reference.
     #[inline(always)]
     pub fn prepend(&mut self, packet: &Packet, n: u16)
         requires { HasSome self.old.store packet.now (λ k. (n ≤ headroom k) × IsHeadSole (segments_of self.old.store) k) }
@@ -316,8 +351,7 @@ impl Mbufs {
             .zero(head.buffer, u32::from(offset), u32::from(n));
     }
 
-    /// Makes the last segment `n` bytes longer at its end; the new bytes are 0. The tailroom is that large, and the segment's buffer has
-    /// one reference.
+    /// Extends the last segment by `n` zero bytes at its end. The tailroom must have that many, and the segment's buffer one reference.
     #[inline(always)]
     pub fn append(&mut self, packet: &Packet, n: u16)
         requires { HasSome self.old.store packet.now (λ k. (n ≤ tailroom self.old.store.pools k) × IsTailSole (segments_of self.old.store) k) }
@@ -331,7 +365,7 @@ impl Mbufs {
         self.objects.zero(tail.buffer, end, u32::from(n));
     }
 
-    /// Puts the second packet's segments behind the first's, which is another packet: at most `MAX_SEGMENTS` together.
+    /// Appends the segments of `tail` to those of `head`, a different packet. Together they have at most `MAX_SEGMENTS`.
     pub fn chain(&mut self, head: &Packet, tail: Packet)
         requires two { head.now ≢ tail }
         requires few { HasSome self.old.store head.now (λ k. HasSome self.old.store tail (λ t. length k + length t ≤ MAX_SEGMENTS)) }
@@ -351,8 +385,8 @@ impl Mbufs {
         );
     }
 
-    /// A packet that shares the buffers of another: one indirect mbuf of the pool for each segment, with the same buffer,
-    /// offset and length. `None` exactly where fewer are free, and then nothing has changed.
+    /// Makes a clone: for each segment one indirect mbuf of the pool, with the same buffer, offset and length. `None` exactly where fewer are free;
+    /// then nothing changes.
     pub fn clone_of(&mut self, packet: &Packet, pool: u32) -> Option<Packet>
         requires live { IsLive self.old.store packet.now }
         requires exists { pool < length self.old.store.pools }
@@ -376,7 +410,7 @@ impl Mbufs {
         Some(packet_of(first))
     }
 
-    /// How many live segments have the buffer of the `k`-th segment.
+    /// How many live segments refer to the buffer of the `k`-th segment.
     pub fn refs(&self, packet: &Packet, k: u32) -> u32
         requires { HasSome self.now.store packet.now (λ p. k < length p) }
         ensures { Of self.now.store packet.now (λ p. (s : Segment) → slice_get p k ≡ Some s → result ≡ refs (segments_of self.now.store) s.buffer) }
@@ -387,7 +421,7 @@ impl Mbufs {
         self.objects.header(segment.buffer).refs
     }
 
-    /// The bytes of the `k`-th segment, at most as many as a data room has.
+    /// The bytes of the `k`-th segment, at most a data room.
     pub fn segment_bytes(&self, packet: &Packet, k: u32) -> &[u8]
         requires { HasSome self.now.store packet.now (λ p. k < length p) }
         ensures value { Of self.now.store packet.now (λ p. (s : Segment) → slice_get p k ≡ Some s → result.now ≡ segment_bytes self.now.store.buffers s) }
@@ -417,7 +451,7 @@ impl Mbufs {
         true
     }
 
-    /// How many bytes the packet has.
+    /// The length of the packet, in bytes.
     pub fn length(&self, packet: &Packet) -> u32
         requires { IsLive self.now.store packet.now }
         ensures value { Of self.now.store packet.now (λ p. result ≡ length (packet_bytes self.now.store.buffers p)) }
@@ -434,10 +468,35 @@ impl Mbufs {
         total
     }
 
-    /// A packet with these bytes: each segment at offset `HEADROOM`, all full but the last. `None` exactly where fewer buffers
-    /// of the pool are free than it needs, and then nothing has changed. The pool has more room than `HEADROOM`, and at most
-    /// `MAX_SEGMENTS` segments are needed.
-    pub fn receive(&mut self, pool: u32, bytes: &[u8]) -> Option<Packet>
+    // Whether one buffer of a pool has room for `len` bytes after the headroom.
+    #[inline(always)]
+    fn is_one_enough(&self, pool: u32, len: usize) -> bool
+        requires { HEADROOM < room_at self.now.store.pools pool }
+        ensures { IsTrue result → HEADROOM + len ≤ room_at self.now.store.pools pool }
+    {
+        len <= usize::from(self.objects.room(pool as u16) - HEADROOM)
+    }
+
+    // Receives bytes for which one buffer is enough.
+    #[inline(always)]
+    fn receive_one(&mut self, pool: u32, bytes: &[u8]) -> Option<Packet>
+        requires room { HEADROOM < room_at self.old.store.pools pool }
+        requires one { HEADROOM + length bytes.now ≤ room_at self.old.store.pools pool }
+        ensures packets { ReceivesInto self.old.store pool bytes.now self.new.store result }
+        ensures zones { self.new.zones ≡ self.old.zones }
+    {
+        let full = self.objects.room(pool as u16) - HEADROOM;
+        if self.objects.available(pool as u16) == 0 {
+            return None;
+        }
+        let first = fill_segment(&mut self.objects, pool as u16, full, bytes);
+        hook(&mut self.objects, first, 1, first);
+        Some(packet_of(first))
+    }
+
+    // Receives bytes segment by segment.
+    #[inline(never)]
+    fn receive_many(&mut self, pool: u32, bytes: &[u8]) -> Option<Packet>
         requires room { HEADROOM < room_at self.old.store.pools pool }
         requires fits { needed self.old.store.pools pool (length bytes.now) ≤ MAX_SEGMENTS }
         ensures packets { ReceivesInto self.old.store pool bytes.now self.new.store result }
@@ -461,7 +520,24 @@ impl Mbufs {
         Some(packet_of(first))
     }
 
-    /// How many buffers of the pool, which has more room than `HEADROOM`, a received packet of so many bytes needs: at least 1.
+    /// Makes a packet with these bytes: each segment at offset `HEADROOM`, all full but the last. `None` exactly where the pool has fewer free
+    /// buffers than `needed`; then nothing changes. The pool must have more room than `HEADROOM`, and the bytes need at most `MAX_SEGMENTS`
+    /// segments.
+    #[inline(always)]
+    pub fn receive(&mut self, pool: u32, bytes: &[u8]) -> Option<Packet>
+        requires room { HEADROOM < room_at self.old.store.pools pool }
+        requires fits { needed self.old.store.pools pool (length bytes.now) ≤ MAX_SEGMENTS }
+        ensures packets { ReceivesInto self.old.store pool bytes.now self.new.store result }
+        ensures zones { self.new.zones ≡ self.old.zones }
+    {
+        if self.is_one_enough(pool, bytes.len()) {
+            self.receive_one(pool, bytes)
+        } else {
+            self.receive_many(pool, bytes)
+        }
+    }
+
+    /// How many buffers of the pool a received packet of `len` bytes needs, at least 1. The pool must have more room than `HEADROOM`.
     pub fn needed(&self, pool: u32, len: usize) -> usize
         requires { HEADROOM < room_at self.now.store.pools pool }
         ensures { result ≡ needed self.now.store.pools pool len }
@@ -470,9 +546,8 @@ impl Mbufs {
         count_needed(len, full)
     }
 
-    /// What is true of every `Mbufs`, a law: the world of its packets is well formed, the segments lie within their
-    /// buffers, no buffer has more references than there are mbufs, of which there are at most 65,535, and a packet has 1 to
-    /// 64 segments.
+    /// A law, what holds of every `Mbufs`: the world of its packets is well formed, segments lie within their buffers, no buffer has more references
+    /// than there are mbufs, at most 65,535, and a packet has 1 to 64 segments.
     pub fn is_well_formed(&self)
         ensures world { IsWellFormedStore self.now.store }
         ensures few { (b : Number) → refs (segments_of self.now.store) b ≤ mbufs_in_all self.now.store.pools }

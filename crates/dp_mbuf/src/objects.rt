@@ -1,7 +1,7 @@
-//! The objects of all pools, each with a header and with bytes behind it.
+//! The objects of all pools, each a header and a data room.
 
 ghost use Rattle.std.specs.Prelude.{◌≡◌, ℕ, ◌<◌, ◌≤◌, ◌+◌, [], true, false, length, slice_index, replicate, MatchOption, IfSome};
-ghost use Rattle.std.specs.Prelude.{IsTrue, ◌↔◌};
+ghost use Rattle.std.specs.Prelude.{IsTrue, ◌↔◌, is_some};
 ghost use Rattle.std.specs.List.{list_all};
 ghost use Rattle.dp_model.specs.Arithmetic.{bytes_in, big_endian};
 ghost use Rattle.dp_model.specs.Buffers.{bytes_of};
@@ -53,7 +53,7 @@ fn pool_at(pools: &[Option<Pool>; MAX_POOLS], k: u16) -> &Pool
     }
 }
 
-// Writes into an object of a slot's pool.
+// Writes bytes into an object of a slot's pool.
 #[inline(always)]
 fn write_in(slot: &mut Option<Pool>, index: u16, at: u32, bytes: &[u8])
     requires { SlotFits slot.old index (at + length bytes.now) }
@@ -65,7 +65,7 @@ fn write_in(slot: &mut Option<Pool>, index: u16, at: u32, bytes: &[u8])
     }
 }
 
-// Writes two numbers into an object of a slot's pool, one behind the other.
+// Writes two numbers into an object of a slot's pool, one after the other.
 #[inline(always)]
 fn write_words_in(slot: &mut Option<Pool>, index: u16, at: usize, x: u16, y: u16)
     requires { SlotFits slot.old index (at + 4) }
@@ -76,7 +76,7 @@ fn write_words_in(slot: &mut Option<Pool>, index: u16, at: usize, x: u16, y: u16
     }
 }
 
-// Writes how many segments a packet has and which mbuf is its last, into an object of a slot's pool.
+// Writes the number of segments and the last mbuf into an object of a slot's pool.
 #[inline(always)]
 fn write_hook_in(slot: &mut Option<Pool>, index: u16, segs: u16, last: MbufNumber)
     requires { SlotFits slot.old index HEADER_SIZE }
@@ -88,7 +88,7 @@ fn write_hook_in(slot: &mut Option<Pool>, index: u16, segs: u16, last: MbufNumbe
     }
 }
 
-// Writes the low bytes of a number into an object of a slot's pool, the highest first.
+// Writes the low bytes of a number into an object of a slot's pool, big-endian.
 #[inline(always)]
 fn write_number_in(slot: &mut Option<Pool>, index: u16, at: usize, width: Width, n: u64)
     requires { SlotFits slot.old index (at + bytes_in width) }
@@ -121,7 +121,14 @@ fn put_in(slot: &mut Option<Pool>, index: u16)
     }
 }
 
-// How many objects a slot's pool has.
+// Whether a slot has a pool.
+fn is_filled(slot: &Option<Pool>) -> bool
+    ensures { result ≡ is_some slot.now }
+{
+    slot.is_some()
+}
+
+// The number of objects of a slot's pool.
 fn count_in_slot(slot: &Option<Pool>) -> u32
     ensures { result ≡ slot_count slot.now }
 {
@@ -163,7 +170,7 @@ fn get_in(slot: &mut Option<Pool>) -> Option<u16>
     }
 }
 
-// Makes each object of a pool one at which no packet begins.
+// Marks each object of a pool: no packet begins there.
 fn unhook_objects(pool: &mut Pool)
     requires { HEADER_SIZE ≤ pool.old.size }
     ensures { UnhookedTo (length pool.old.objects) pool.old pool.new }
@@ -173,7 +180,7 @@ fn unhook_objects(pool: &mut Pool)
     }
 }
 
-// Makes each object of a slot's pool one at which no packet begins.
+// Marks each object of a slot's pool: no packet begins there.
 fn unhook_slot(slot: &mut Option<Pool>)
     requires { IfSome slot.old (λ p. HEADER_SIZE ≤ p.size) }
     ensures { SlotUnhooked slot.old slot.new }
@@ -184,7 +191,7 @@ fn unhook_slot(slot: &mut Option<Pool>)
 }
 
 impl Objects {
-    /// The objects of these pools, at which no packet begins any more.
+    /// Takes over these pools. No packet begins at any of their objects any more.
     pub fn over(mut pools: [Option<Pool>; MAX_POOLS]) -> Objects
         requires first { HeadersFirst pools }
         requires objects { objects_in_all (present pools) ≤ MAX_MBUFS }
@@ -203,7 +210,7 @@ impl Objects {
         let _ = &self.pools;
     }
 
-    /// The header of an object.
+    /// The header of object `n`.
     #[inline(always)]
     pub fn header(&self, n: MbufNumber) -> Header
         requires { HasObject self.now n }
@@ -212,7 +219,7 @@ impl Objects {
         read_header(pool_at(&self.pools, n.pool()).object(u32::from(n.index())))
     }
 
-    /// How many objects a pool has; 0 where there is no such pool.
+    /// The number of objects of a pool; 0 where there is no such pool.
     pub fn count(&self, pool: u16) -> u32
         ensures { result ≡ length (pool_in self.now pool).objects }
     {
@@ -224,7 +231,19 @@ impl Objects {
         count_in_slot(&pools[k])
     }
 
-    /// The data room of a pool's objects.
+    /// Whether there is a pool of this number.
+    pub fn has_pool(&self, pool: u16) -> bool
+        ensures { IsTrue result ↔ pool < length self.now }
+    {
+        let pools = &self.pools;
+        let k = usize::from(pool);
+        if k >= MAX_POOLS {
+            return false;
+        }
+        is_filled(&pools[k])
+    }
+
+    /// The size of the data room of a pool's objects.
     #[inline(always)]
     pub fn room(&self, pool: u16) -> u16
         requires { pool < length self.now }
@@ -233,7 +252,7 @@ impl Objects {
         (pool_at(&self.pools, pool).size() - HEADER_SIZE) as u16
     }
 
-    /// The bytes behind a header.
+    /// The data room of object `n`.
     #[inline(always)]
     pub fn bytes(&self, n: MbufNumber) -> &[u8]
         requires { HasObject self.now n }
@@ -243,7 +262,7 @@ impl Objects {
         &pool_at(&self.pools, n.pool()).object(u32::from(n.index()))[HEADER_SIZE as usize..]
     }
 
-    /// How many objects of a pool are in.
+    /// The number of a pool's objects that are in.
     #[inline(always)]
     pub fn available(&self, pool: u16) -> u32
         requires { pool < length self.now }
@@ -259,7 +278,7 @@ impl Objects {
         are_whole(&self.pools)
     }
 
-    // Writes bytes over some of an object's first ones.
+    // Writes bytes into an object's header.
     #[inline(always)]
     fn write_front(&mut self, n: MbufNumber, at: u32, bytes: &[u8])
         requires object { HasObject self.old n }
@@ -270,7 +289,7 @@ impl Objects {
         write_in(&mut self.pools[usize::from(n.pool())], n.index(), at, bytes);
     }
 
-    // Writes two numbers over some of an object's first bytes, one behind the other.
+    // Writes two numbers into an object's header, one after the other.
     #[inline(always)]
     fn write_pair(&mut self, n: MbufNumber, at: usize, x: u16, y: u16)
         requires object { HasObject self.old n }
@@ -290,7 +309,7 @@ impl Objects {
         self.write_front(n, 0, &bytes_of_header(h));
     }
 
-    /// Sets how many segments the packet has.
+    /// Sets the number of segments.
     #[inline(always)]
     pub fn set_segs(&mut self, n: MbufNumber, segs: u16)
         requires { HasObject self.old n }
@@ -299,7 +318,7 @@ impl Objects {
         self.write_front(n, SEGS as u32, &bytes_of_word(segs));
     }
 
-    /// Sets how many references a buffer has.
+    /// Sets the number of references to a buffer.
     #[inline(always)]
     pub fn set_refs(&mut self, n: MbufNumber, refs: u32)
         requires { HasObject self.old n }
@@ -309,7 +328,7 @@ impl Objects {
         self.write_front(n, REFS as u32, &bytes);
     }
 
-    /// Sets which part of its buffer an mbuf has.
+    /// Sets offset and length of an mbuf's segment.
     #[inline(always)]
     pub fn set_bounds(&mut self, n: MbufNumber, offset: u16, len: u16)
         requires { HasObject self.old n }
@@ -318,7 +337,7 @@ impl Objects {
         self.write_pair(n, OFFSET, offset, len);
     }
 
-    /// Sets the mbuf that comes next.
+    /// Sets the next mbuf.
     #[inline(always)]
     pub fn set_next(&mut self, n: MbufNumber, next: MbufNumber)
         requires { HasObject self.old n }
@@ -327,7 +346,7 @@ impl Objects {
         self.write_pair(n, NEXT, next.pool(), next.index());
     }
 
-    /// Sets how many segments the packet has, and its last mbuf.
+    /// Sets the number of segments and the last mbuf.
     #[inline(always)]
     pub fn set_hook(&mut self, n: MbufNumber, segs: u16, last: MbufNumber)
         requires { HasObject self.old n }
@@ -337,7 +356,7 @@ impl Objects {
         write_hook_in(slot, n.index(), segs, last);
     }
 
-    /// Writes bytes behind a header from an offset on.
+    /// Writes bytes into a data room from an offset on.
     #[inline(always)]
     pub fn write(&mut self, n: MbufNumber, at: u32, bytes: &[u8])
         requires object { HasObject self.old n }
@@ -352,7 +371,7 @@ impl Objects {
         );
     }
 
-    /// Writes the low bytes of a number behind a header from an offset on, the highest first.
+    /// Writes the low bytes of a number into a data room at an offset, big-endian.
     #[inline(always)]
     pub fn write_number(&mut self, n: MbufNumber, at: u32, width: Width, number: u64)
         requires object { HasObject self.old n }
@@ -364,7 +383,7 @@ impl Objects {
         write_number_in(slot, n.index(), from, width, number);
     }
 
-    /// Writes zeros behind a header from an offset on.
+    /// Writes zeros into a data room from an offset on.
     #[inline(always)]
     pub fn zero(&mut self, n: MbufNumber, at: u32, len: u32)
         requires object { HasObject self.old n }
@@ -376,7 +395,7 @@ impl Objects {
         zero_in(slot, n.index(), from, len as usize);
     }
 
-    /// Takes an object of a pool; `None` where none is in.
+    /// Takes an object of a pool, or `None` where none is in.
     #[inline(always)]
     pub fn take(&mut self, pool: u16) -> Option<MbufNumber>
         requires { pool < length self.old }
@@ -395,7 +414,7 @@ impl Objects {
         put_in(&mut self.pools[usize::from(n.pool())], n.index());
     }
 
-    /// The pools again.
+    /// Hands the pools back.
     pub fn into_pools(self) -> [Option<Pool>; MAX_POOLS]
         ensures same { present result ≡ self }
         ensures first { PoolsFirst result }

@@ -1,4 +1,4 @@
-//! The small steps that calls are made of.
+//! Per-segment operations: take, clone, fill, link, release.
 
 ghost use Rattle.std.specs.Prelude.{◌≡◌, ◌+◌, ◌<◌, ◌≤◌, true, length, take, drop};
 ghost use Rattle.dp_model.specs.Environments.{room_at};
@@ -9,7 +9,7 @@ use crate::header::{Header, MbufNumber};
 use crate::limits::HEADROOM;
 use crate::objects::Objects;
 
-/// Makes a packet's first header none, and gives what it was.
+/// Clears the first mbuf's number of segments, so that no packet begins there, and returns the header that it had.
 #[inline(always)]
 pub(crate) fn unhook(objects: &mut Objects, n: MbufNumber) -> Header
     requires { HasObject objects.old n }
@@ -21,7 +21,7 @@ pub(crate) fn unhook(objects: &mut Objects, n: MbufNumber) -> Header
     header
 }
 
-/// Makes a packet's first header of an mbuf: how many segments the packet has, and which is the last.
+/// Makes an mbuf a packet's first: sets the number of segments and the last mbuf.
 #[inline(always)]
 pub(crate) fn hook(objects: &mut Objects, n: MbufNumber, segs: u16, last: MbufNumber)
     requires { HasObject objects.old n }
@@ -30,7 +30,7 @@ pub(crate) fn hook(objects: &mut Objects, n: MbufNumber, segs: u16, last: MbufNu
     objects.set_hook(n, segs, last);
 }
 
-/// Sets the mbuf that comes next.
+/// Sets the next mbuf.
 #[inline(always)]
 pub(crate) fn relink(objects: &mut Objects, n: MbufNumber, next: MbufNumber)
     requires { HasObject objects.old n }
@@ -39,7 +39,7 @@ pub(crate) fn relink(objects: &mut Objects, n: MbufNumber, next: MbufNumber)
     objects.set_next(n, next);
 }
 
-// Puts an mbuf back, where it is not its own buffer.
+// Puts an mbuf back into its pool, unless it is its own buffer.
 #[inline(always)]
 fn put_mbuf(objects: &mut Objects, n: MbufNumber, b: MbufNumber)
     requires are { ArePools objects.old }
@@ -51,7 +51,24 @@ fn put_mbuf(objects: &mut Objects, n: MbufNumber, b: MbufNumber)
     }
 }
 
-// Gives up one reference of a buffer.
+// Drops one reference of a buffer that has `refs`.
+#[inline(always)]
+fn drop_one_of(objects: &mut Objects, b: MbufNumber, refs: u32)
+    requires are { ArePools objects.old }
+    requires object { HasObject objects.old b }
+    requires out { is_out objects.old b ≡ true }
+    requires some { 1 ≤ (header_at objects.old b).refs }
+    requires refs { refs ≡ (header_at objects.old b).refs }
+    ensures { BufferLess objects.old b objects.new }
+{
+    if refs == 1 {
+        objects.give(b);
+    } else {
+        objects.set_refs(b, refs - 1);
+    }
+}
+
+// Drops one reference of a buffer.
 #[inline(always)]
 fn drop_reference(objects: &mut Objects, b: MbufNumber)
     requires are { ArePools objects.old }
@@ -61,14 +78,25 @@ fn drop_reference(objects: &mut Objects, b: MbufNumber)
     ensures { BufferLess objects.old b objects.new }
 {
     let refs = objects.header(b).refs;
-    if refs == 1 {
-        objects.give(b);
+    drop_one_of(objects, b, refs);
+}
+
+/// Releases a segment of this buffer. `refs` is its number of references where the buffer is the segment's own.
+#[inline(always)]
+pub(crate) fn release_only(objects: &mut Objects, n: MbufNumber, buffer: MbufNumber, refs: u32)
+    requires can { CanRelease objects.old n buffer }
+    requires refs { refs ≡ (header_at objects.old n).refs }
+    ensures { Released objects.old n buffer objects.new }
+{
+    put_mbuf(objects, n, buffer);
+    if n.is(buffer) {
+        drop_one_of(objects, buffer, refs);
     } else {
-        objects.set_refs(b, refs - 1);
+        drop_reference(objects, buffer);
     }
 }
 
-/// Gives up one segment, and gives the number of the next one.
+/// Releases a segment, and returns the next mbuf.
 #[inline(always)]
 pub(crate) fn release(objects: &mut Objects, n: MbufNumber) -> MbufNumber
     requires { CanRelease objects.old n (header_at objects.old n).buffer }
@@ -81,7 +109,7 @@ pub(crate) fn release(objects: &mut Objects, n: MbufNumber) -> MbufNumber
     header.next
 }
 
-/// The header of a new mbuf that is its own buffer, of no packet yet.
+/// The header of a new mbuf that is its own buffer and in no packet yet.
 #[inline(always)]
 pub(crate) fn fresh_header(n: MbufNumber, offset: u16, len: u16) -> Header
     ensures { result ≡ record { segs = 0; refs = 1; offset = offset; len = len; next = n; last = n; buffer = n } }
@@ -111,8 +139,7 @@ pub(crate) fn take_one(objects: &mut Objects, pool: u16) -> MbufNumber
     }
 }
 
-/// Takes an mbuf of a pool for the segment of another mbuf: the same part of the same buffer, also where that is an
-/// indirect one.
+/// Takes an mbuf of a pool and makes its segment the same part of the same buffer as that of `from`, which may be indirect itself.
 #[inline(always)]
 pub(crate) fn clone_segment(objects: &mut Objects, from: MbufNumber, pool: u16) -> MbufNumber
     requires { CanClone objects.old from pool }
@@ -136,7 +163,7 @@ pub(crate) fn clone_segment(objects: &mut Objects, from: MbufNumber, pool: u16) 
     n
 }
 
-/// What is left of bytes behind so many of them.
+/// The bytes after the first `n`.
 #[inline(always)]
 pub(crate) fn behind(bytes: &[u8], n: usize) -> &[u8]
     ensures { result.now ≡ drop n bytes.now }
@@ -148,7 +175,7 @@ pub(crate) fn behind(bytes: &[u8], n: usize) -> &[u8]
     }
 }
 
-/// Takes an mbuf of a pool and fills its buffer with the first of the bytes, at most `full` of them.
+/// Takes an mbuf of a pool and fills its buffer with the first bytes, at most `full` of them.
 #[inline(always)]
 pub(crate) fn fill_segment(objects: &mut Objects, pool: u16, full: u16, bytes: &[u8]) -> MbufNumber
     requires are { ArePools objects.old }

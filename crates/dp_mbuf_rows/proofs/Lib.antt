@@ -1,2 +1,2 @@
--- The lemma files.
+-- Lists the lemma files.
 mod RowLemmas

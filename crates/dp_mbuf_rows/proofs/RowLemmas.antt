@@ -1,4 +1,4 @@
--- What the helpers' asserts say of packets.
+-- What the helpers' asserts say about packets.
 use Rattle.std.proofs.Common.{◌≡◌, ℕ, zero, suc, ◌+◌, ◌<◌, ◌≤◌, false, List, [], ◌∷◌, length, Option, Some, None, refl, sym, ◌∙◌, ap, subst, arith, get_or}
 use Rattle.std.specs.Prelude.{replicate, slice_get, slice_set}
 use Rattle.std.proofs.lemmas.Option.{none-some}
@@ -109,7 +109,7 @@ free_kept s s' h e = ap (λ x. x.pools) e
 pub chain_kept : (s s' : Store) (h t : ℕ) → IsLive s h → IsLive s t → Chains s h t s' → s'.pools ≡ s.pools
 chain_kept s s' h t live more c = ap (λ x. x.pools) (c live.0 live.1 more.0 more.1)
 
--- ---- a packet that is taken is live
+-- ---- an allocated packet is live
 
 set_is_there : {X : Type 0} (xs : List X) (h : ℕ) (x o : X) → slice_get xs h ≡ Some o → slice_get (slice_set xs h x) h ≡ Some x
 set_is_there [] h x o is = absurd (none-some o is)

@@ -1,4 +1,4 @@
-//! The calls on packets. Each asserts what the call asks for, so that a test reads as the example that it is.
+//! The calls on packets. Each asserts what the call requires, so that tests read as the examples that they are.
 
 ghost use Rattle.std.specs.Prelude.{◌≡◌, ◌+◌, ◌*◌, ◌<◌, ◌≤◌, length, slice_get};
 ghost use Rattle.dp_model.specs.Packets.{Segment, refs};
@@ -9,7 +9,7 @@ use dp_mbuf::Mbufs;
 use dp_model::{Packet, Width};
 use std::process::Abort;
 
-/// The packet is live.
+/// Asserts that the packet is live.
 pub(crate) fn alive(rt: &impl Abort, m: &Mbufs, p: &Packet)
     ensures { IsLive m.now.store p.now }
 {
@@ -167,7 +167,7 @@ pub(crate) fn is_sole(rt: &impl Abort, m: &Mbufs, p: &Packet) -> bool {
     m.is_sole(p)
 }
 
-/// Headroom, tailroom, and the lengths of the first segment and the last.
+/// Headroom, tailroom, and the lengths of the first and of the last segment.
 pub(crate) fn rooms(rt: &impl Abort, m: &Mbufs, p: &Packet) -> (u16, u16, u16, u16) {
     alive(rt, m, p);
     (m.headroom(p), m.tailroom(p), m.first_len(p), m.last_len(p))

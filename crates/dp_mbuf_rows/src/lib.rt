@@ -1,10 +1,8 @@
-//! Mbufs over pools in zones: worked examples, and a long random walk beside a small model.
+//! Tests of mbufs over pools in zones: worked examples, and a long random walk beside a small model.
 #![tactic(auto)]
 
 #[cfg(test)]
 mod calls;
-#[cfg(test)]
-mod layers;
 #[cfg(test)]
 mod rows;
 #[cfg(test)]

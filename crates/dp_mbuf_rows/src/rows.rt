@@ -1,4 +1,4 @@
-//! Worked examples. The second pool stands by where an example needs one alone.
+//! Worked examples. The second pool is for those that need one of their own.
 
 ghost use Rattle.std.specs.Prelude.{◌≡◌};
 
@@ -8,7 +8,7 @@ use crate::calls::{
 };
 use crate::setup::{Sizes, close, open};
 
-// So many objects for so much room, without a cache.
+// `count` objects with data rooms of `room` bytes, without a cache.
 fn sizes(count: u32, room: u32) -> Sizes
     ensures { result ≡ record { count = count; room = room; cache = 0 } }
 {
@@ -112,8 +112,8 @@ fn parking_changes_nothing(rt: HostRuntime) {
     close(&rt, s);
 }
 
-// The first segment is shared with a clone of the other pool, the last is not: bytes go behind the last alone, and the
-// clone's stay. Once the clone is free, bytes go in front too.
+// The first segment is shared with a clone of the other pool, the last is not: bytes can be appended to the last only, and the clone keeps its own.
+// Once the clone is freed, bytes can be prepended too.
 #[test]
 fn a_shared_first_segment_and_a_last_of_its_own(rt: HostRuntime) {
     let mut s = open(&rt, rt.alloc(), sizes(2, 256), sizes(3, 256));

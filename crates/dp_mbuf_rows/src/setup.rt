@@ -1,4 +1,4 @@
-//! Mbufs over three pools, made and taken apart.
+//! Makes mbufs over three pools, and takes them apart.
 
 ghost use Rattle.std.specs.Prelude.{◌≡◌, ◌+◌, ◌*◌, ◌<◌, ◌≤◌, length};
 ghost use Rattle.dp_mbuf_rows.specs.Rows.{IsOver, AreIn, SlotIn, IsReadyPool};
@@ -11,14 +11,14 @@ use dp_zone::Zones;
 use std::alloc::Global;
 use std::process::Abort;
 
-/// Mbufs over three pools, and what these stand in.
+/// Mbufs over three pools, with the heap and the table of zones under them.
 pub(crate) struct Setup {
     pub heap: Heap,
     pub zones: Zones,
     pub mbufs: Mbufs,
 }
 
-/// How many objects a pool has, for how much room, and what its cache is for.
+/// The number of a pool's objects, the size of their data rooms, and that of the cache.
 #[derive(Clone, Copy)]
 pub(crate) struct Sizes {
     pub count: u32,
@@ -26,7 +26,7 @@ pub(crate) struct Sizes {
     pub cache: u32,
 }
 
-// A pool of mbufs.
+// Makes a pool of mbufs.
 fn make(rt: &impl Abort, heap: &mut Heap, zones: &mut Zones, name: &str, sizes: Sizes) -> Pool
     requires { sizes.room ≤ MAX_ROOM }
     ensures pool { IsReadyPool sizes.count sizes.room heap.old.home result }
@@ -43,7 +43,7 @@ fn make(rt: &impl Abort, heap: &mut Heap, zones: &mut Zones, name: &str, sizes: 
     made.expect(rt, "a pool")
 }
 
-/// Mbufs over two pools of these sizes, beside a third with one buffer without room.
+/// Mbufs over two pools of these sizes, and a third with one buffer without room.
 pub(crate) fn open(rt: &impl Abort, alloc: Global, first: Sizes, second: Sizes) -> Setup
     requires first { (1 ≤ first.count) × (HEADROOM < first.room) × (first.room ≤ MAX_ROOM) }
     requires second { (HEADROOM < second.room) × (second.room ≤ MAX_ROOM) }
@@ -59,7 +59,7 @@ pub(crate) fn open(rt: &impl Abort, alloc: Global, first: Sizes, second: Sizes) 
     open_beside(rt, alloc, first, second, third)
 }
 
-/// Mbufs over three pools of these sizes, of which the third may have any room.
+/// Mbufs over three pools of these sizes. The third may have any room.
 pub(crate) fn open_beside(
     rt: &impl Abort,
     alloc: Global,
@@ -104,7 +104,7 @@ fn unmake(slot: Option<Pool>, heap: &mut Heap, zones: &mut Zones)
     }
 }
 
-/// Takes all apart: there is no packet any more, each pool is whole, and nothing of the heap stays out.
+/// Takes everything apart. There is no packet left, each pool is whole, and nothing of the heap is out.
 pub(crate) fn close(rt: &impl Abort, setup: Setup)
     requires { AreIn setup.heap.home setup.mbufs.zones }
 {

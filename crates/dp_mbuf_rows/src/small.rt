@@ -1,4 +1,4 @@
-//! Buffers with less room than the headroom of a new packet, or with none. They are in the third pool.
+//! Buffers with less room than the headroom of a new packet, or with none, in the third pool.
 
 ghost use Rattle.std.specs.Prelude.{◌≤◌};
 
@@ -16,8 +16,7 @@ const LARGE: Sizes = Sizes {
     cache: 0,
 };
 
-// A new packet has so much room in front and behind, and its clone too. It is made as long as it can be at each end, and
-// has all the room then.
+// A new packet has this headroom and tailroom, and so has its clone. It is extended to the limit at each end, and then fills the room.
 fn fill(rt: &impl Abort, alloc_of: Global, room: u32, head: u16, tail: u16)
     requires { room ≤ 4096 }
 {

@@ -13,15 +13,14 @@ use dp_model::Packet;
 use std::alloc::{AllocError, Global};
 use std::process::Abort;
 
-// A packet, with the bytes that it must have.
+// A packet, and the bytes that it should have.
 #[derive(Drop)]
 struct Shadow {
     packet: Packet,
     bytes: Vec<u8>,
 }
 
-// The packets that there are, where numbers come from, and how often a clone went to the other pool and a chain joined packets of
-// both.
+// The packets, the random numbers, and how often a clone went to the other pool and a chain joined packets of both.
 #[derive(Drop)]
 struct Walk {
     shadows: Vec<Shadow>,
@@ -30,7 +29,7 @@ struct Walk {
     chains: u32,
 }
 
-// What a step answers: whether there was memory for it.
+// The result of a step: an error where a list of the test could not grow.
 type Grown = Result<(), AllocError>;
 
 // The pool of a packet's first mbuf.
@@ -58,7 +57,7 @@ fn pick_pool(seed: &mut u64) -> u32
     (next(seed) % 2) as u32
 }
 
-// A number from 0 to this one, if it is small.
+// A random number from 0 to `most`, where that is small.
 fn pick_up_to(seed: &mut u64, most: u16) -> u16
     ensures { result ≤ most }
 {
@@ -125,7 +124,7 @@ fn walk_free(rt: &impl Abort, m: &mut Mbufs, walk: &mut Walk)
     }
 }
 
-// Zeros behind, where the last buffer has one reference.
+// Appends zeros, where the last buffer has one reference.
 fn walk_append(rt: &impl Abort, m: &mut Mbufs, shadow: &mut Shadow, seed: &mut u64) -> Grown
     requires { IsOver m.old.store }
     ensures { StaysOver m.old m.new }
@@ -142,7 +141,7 @@ fn walk_append(rt: &impl Abort, m: &mut Mbufs, shadow: &mut Shadow, seed: &mut u
     Ok(())
 }
 
-// Zeros in front, where the first buffer has one reference.
+// Prepends zeros, where the first buffer has one reference.
 fn walk_prepend(rt: &impl Abort, m: &mut Mbufs, shadow: &mut Shadow, seed: &mut u64) -> Grown
     requires { IsOver m.old.store }
     ensures { StaysOver m.old m.new }
@@ -183,7 +182,7 @@ fn walk_trim(rt: &impl Abort, m: &mut Mbufs, shadow: &mut Shadow, seed: &mut u64
     }
 }
 
-// A byte of the first segment is read, and another written where its buffer has one reference.
+// Reads a byte of the first segment, and writes another where its buffer has one reference.
 fn walk_store(rt: &impl Abort, m: &mut Mbufs, shadow: &mut Shadow, seed: &mut u64)
     requires { IsOver m.old.store }
     ensures { StaysOver m.old m.new }
@@ -230,7 +229,7 @@ fn walk_chain(rt: &impl Abort, m: &mut Mbufs, walk: &mut Walk) -> Grown
     Ok(())
 }
 
-// A change of one packet.
+// Changes one packet.
 fn walk_change(rt: &impl Abort, m: &mut Mbufs, shadow: &mut Shadow, seed: &mut u64) -> Grown
     requires { IsOver m.old.store }
     ensures { StaysOver m.old m.new }
@@ -281,7 +280,7 @@ fn step(rt: &impl Abort, alloc: Global, m: &mut Mbufs, walk: &mut Walk) -> Grown
     }
 }
 
-// All packets have the bytes that they must have.
+// Asserts that all packets have the bytes that they should have.
 fn compare(rt: &impl Abort, m: &Mbufs, shadows: &[Shadow]) {
     for shadow in shadows {
         let same = spells(rt, m, &shadow.packet, &shadow.bytes);

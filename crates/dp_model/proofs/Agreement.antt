@@ -1,4 +1,4 @@
--- What stands twice agrees: how a record is received, how rings are served, and the order of records.
+-- Double definitions agree: how a record is received, how rings are served, and the order of records.
 use Rattle.std.proofs.Common.{◌≡◌, ◌⊎◌, ℕ, zero, suc, ◌+◌, ◌<◌, ◌≤◌, Bool, true, cond, List, [], ◌∷◌, ◌++◌, length, drop, Option, Some, None, refl, sym, ◌∙◌}
 use Rattle.std.proofs.Common.{ap, subst, arith, inl, inr}
 use Rattle.std.specs.Prelude.{slice_get, MatchOption, option_map, option_to_list, slice_index_or, take}
@@ -13,7 +13,7 @@ use Rattle.dp_model.specs.Machine.{Setting, World}
 use Rattle.dp_model.specs.Runs.{at_port, of_port, NodeRun, Receives, Waiting, first_waiting, Serves, Nodes, Arrival, round_of, rounds, longest, interleaved}
 use Rattle.dp_model.specs.Safety.{Beginning, IsOfRecord, IsServed}
 
--- ---- a record is received and its node runs: both in one, or one after the other
+-- ---- receiving a record and running its node, in one step or in two
 
 pub receives_again : (c : Setting) (nodes : Nodes) (port : ℕ) (bytes : List ℕ) (w w' : World) (b : Beginning) (answers : List Bool) →
     (r : IsOfRecord c nodes port bytes w b) → NodeRun c b.program b.packet b.number b.world answers w' →
@@ -32,7 +32,7 @@ receives_again c nodes port bytes w w' b answers r run = record {
   run = subst (λ (x : Beginning). NodeRun c x.program x.packet x.number x.world answers w') r.is run;
 }
 
--- ---- rings are served until none has a packet, or as often as may be
+-- ---- serving rings until none has a packet, or n times
 
 pub serves_is : (c : Setting) (programs : List (List Instr)) (n : ℕ) (w : World) (answers : List Bool) (runs : ℕ) (w' : World) →
     Serves c programs n w answers runs w' → IsServed c programs n w runs w'
@@ -73,7 +73,7 @@ other_record port other None apart = refl
 other_record {T} port other (Some r) apart = ap (λ b. cons_option (cond b (Some (r.0, r.1)) None) []) (ne_eqb other port apart)
 
 module _ {T : Type 0} where
-  -- a round of later ports has nothing for the port
+  -- a round of later ports has nothing for this port
   later_ports : (k port from : ℕ) (inputs : List (List (T × List ℕ))) → port < from → of_port port (round_of k from inputs) ≡ []
   later_ports k port from [] less = refl
   later_ports k port from (input ∷ inputs) less =
@@ -81,7 +81,7 @@ module _ {T : Type 0} where
       ∙ (ap (λ xs. xs ++ of_port port (round_of k (from + 1) inputs)) (other_record port from (slice_get input k) (λ e. omega (arith, e, less)))
       ∙ later_ports k port (from + 1) inputs (omega (arith, less)))
 
-  -- a round has the port's record of that place
+  -- a round has the port's record of that index
   round_port : (k from i : ℕ) (inputs : List (List (T × List ℕ))) → of_port (from + i) (round_of k from inputs)
       ≡ option_to_list (slice_get (slice_index_or inputs i []) k)
   round_port k from i [] = refl

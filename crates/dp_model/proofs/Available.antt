@@ -1,4 +1,4 @@
--- How many buffers of a pool are free where no segment is live.
+-- All buffers of a pool are free where no segment is live.
 use Rattle.std.proofs.Common.{◌≡◌, ℕ, zero, suc, List, [], refl, arith}
 use Rattle.dp_model.specs.declared.env.PoolSpec.{PoolSpec}
 use Rattle.dp_model.specs.Environments.{count_at}

@@ -14,7 +14,7 @@ use Rattle.dp_model.specs.Laws.Steps.{goes_counts}
 use Rattle.dp_model.proofs.SafeTurns.{record_safe, receives_of, arrives_rest, waiting_safe}
 use Rattle.dp_model.specs.Laws.Runs.{safe_rests}
 
--- the calls of a part of a turn: they are counted, and are few
+-- the calls of a part of a turn are counted, and few
 pub record AreFewCalls (w w' : World) (answers : List Bool) (most : ℕ) : Type 0 where
   pub counted : w'.calls ≡ w.calls + length answers
   pub few : length answers ≤ most

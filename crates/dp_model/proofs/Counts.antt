@@ -1,5 +1,5 @@
--- Counts of segments that pass a test, when packets come, go and move. References are such counts, and so is how
--- many live segments have a number as their mbuf.
+-- Counts of segments that pass a test, when packets come, go and move. References are such counts, and so is the number of live segments with a given
+-- mbuf.
 use Rattle.std.proofs.Common.{◌≡◌, ◌≢◌, ℕ, zero, suc, ◌+◌, ◌≤◌, Bool, true, false, List, [], ◌∷◌, ◌++◌, Option, Some, None, refl, sym, ◌∙◌, ap, arith}
 use Rattle.std.specs.Prelude.{slice_get, slice_set, flat_map}
 use Rattle.std.proofs.lemmas.Option.{same_Some}
@@ -58,8 +58,7 @@ tally_push test [] k = omega (arith, tally-append test k [])
 tally_push test (j ∷ packets) k =
     omega (arith, tally_push test packets k, tally-append test j (flat_map (λ k. k) (packets ++ k ∷ [])), tally-append test j (flat_map (λ k. k) packets))
 
--- ---- states
--- the live segments of a state are those of registers, of rings and of transmit lists
+-- ---- states: the live segments are those of registers, rings and transmit lists
 pub tally_live : (test : Segment → Bool) (s : State) → tally test (live s)
     ≡ tally test (segments_held s.packets) + (tally test (segments_listed s.world.rings) + tally test (segments_listed s.world.outboxes))
 tally_live test s =
@@ -75,7 +74,7 @@ pub tally_live_set : (test : Segment → Bool) (s : State) (p : ℕ) (o o' : Opt
 tally_live_set test s p o o' h =
     omega (arith, tally_set test s.packets p o o' h, tally_live test s, tally_live test (record s { packets = slice_set s.packets p o' }))
 
--- a packet that leaves a register for a ring
+-- a packet moves from a register to a ring
 pub tally_to_ring : (test : Segment → Bool) (s : State) (p ring : ℕ) (k : Packet) (packets : List Packet) → slice_get s.packets p ≡ Some (Some k) →
     slice_get s.world.rings ring ≡ Some packets → tally test (live (with_ring ring (packets ++ k ∷ []) (without_packet p s))) ≡ tally test (live s)
 tally_to_ring test s p ring k packets holds there =
@@ -88,7 +87,7 @@ tally_to_ring test s p ring k packets holds there =
       tally_push test packets k,
     )
 
--- a packet that leaves a register for a transmit list
+-- a packet moves from a register to a transmit list
 pub tally_to_outbox : (test : Segment → Bool) (s : State) (p port : ℕ) (k : Packet) (packets : List Packet) → slice_get s.packets p ≡ Some (Some k) →
     slice_get s.world.outboxes port ≡ Some packets → tally test (live (with_outbox port (packets ++ k ∷ []) (without_packet p s))) ≡ tally test (live s)
 tally_to_outbox test s p port k packets holds there =
@@ -101,7 +100,7 @@ tally_to_outbox test s p port k packets holds there =
       tally_push test packets k,
     )
 
--- one packet goes behind another
+-- one packet is appended to another
 pub tally_chain : (test : Segment → Bool) (packets : List (Option Packet)) (p q : ℕ) (k t : Packet) → p ≢ q → slice_get packets p ≡ Some (Some k) →
     slice_get packets q ≡ Some (Some t) → tally test (segments_held (slice_set (slice_set packets p (Some (k ++ t))) q None))
     ≡ tally test (segments_held packets)
@@ -120,8 +119,7 @@ pub tally_first : (test : Segment → Bool) (k : Packet) (number : ℕ) (w : Wor
 tally_first test k number w =
     omega (arith, tally_live test (first_state k number w), tally_live test (between w), tally-append test k [])
 
--- ---- the first or the last segment changes
--- a change that the test does not see, in front
+-- ---- the first or the last segment changes: at the front, in a way that the test does not see
 pub tally_front : (test : Segment → Bool) (f : Segment → Segment) (k : Packet) → ((s : Segment) → test (f s) ≡ test s) → tally test (at_front f k)
     ≡ tally test k
 tally_front test f [] same = refl
@@ -138,8 +136,7 @@ tally_end test f (s ∷ []) same =
 tally_end test f (s ∷ t ∷ rest) same =
     omega (arith, tally_end test f (t ∷ rest) same, tally-cons test s (at_end f (t ∷ rest)), tally-cons test s (t ∷ rest))
 
--- ---- what a count says of the segments
--- where the first test passes the second does
+-- ---- where the first test passes the second does
 pub tally_le : (test more : Segment → Bool) (xs : List Segment) → ((s : Segment) → test s ≡ true → more s ≡ true) → tally test xs ≤ tally more xs
 tally_le test more [] implies = omega arith
 tally_le test more (s ∷ rest) implies = go (test s) refl (tally_le test more rest implies)

@@ -1,4 +1,4 @@
--- Programs that are refused at a label by a rule, and runs on short records, computed by the definitions.
+-- Programs that are refused at a label by a rule, and runs on short records, computed from the definitions.
 use Rattle.std.proofs.Common.{◌≡◌, ◌<◌, ℕ, zero, suc, true, false, List, [], ◌∷◌, ◌++◌, length, map, replicate, Option, Some, None, refl, arith}
 use Rattle.std.specs.Prelude.{option_map}
 use Rattle.dp_model.specs.declared.row.Fact.{Fact}
@@ -19,7 +19,7 @@ use Rattle.dp_model.proofs.Sanity.{one_port, two_ports, row_of, dead, strip, mul
 at_once : (q : Question) (rule : Rule) → fault_at q 0 ≡ Some rule → IsRefused q 0 rule
 at_once q rule e = (e, λ earlier h. absurd (omega (arith, h)))
 
--- a clone leaves its source loose
+-- a clone makes its source loose
 clone_then_store_question : Question
 clone_then_store_question = record {
   program = Clone 1 0 0 3 ∷ Store 0 0 One 0 ∷ Free 1 ∷ Free 0 ∷ Exit ∷ [];
@@ -34,7 +34,7 @@ clone_then_store_refused : IsRefused clone_then_store_question 0 J11
 unfolding clone_then_store_question row_of one_port
 clone_then_store_refused = at_once clone_then_store_question J11 refl
 
--- strip with r7 at most 1 in its first row
+-- strip, with r7 at most 1 in its first row
 strip_loose_question : Question
 strip_loose_question = record {
   program = strip;
@@ -80,7 +80,7 @@ exit_held_refused : IsRefused exit_question 2 J10
 unfolding exit_question row_of one_port
 exit_held_refused = (refl, exit_before)
 
--- a clone onto a register that is held
+-- a clone into a register that is held
 clone_question : Question
 clone_question = record {
   program = Clone 1 0 0 4 ∷ Clone 1 0 0 4 ∷ Free 0 ∷ Exit ∷ Free 0 ∷ Exit ∷ [];
@@ -110,7 +110,7 @@ strip_short : captures_of (copy_run one_port [] 6 (record { ports = strip ∷ []
 unfolding strip one_port captures_of
 strip_short = refl
 
--- two records, and the third call refused: each port sends the second record's packet alone
+-- two records, and the third call refused: each port sends only the second record's packet
 multicast_refused : captures_of (copy_run two_ports [] 20 (record { ports = multicast ∷ (Tx 0 0 2 ∷ Exit ∷ Free 0 ∷ Exit ∷ []) ∷ []; rings = [] })
     (record { port = 0; time = 5; bytes = 1 ∷ 2 ∷ [] } ∷ record { port = 0; time = 6; bytes = 3 ∷ 4 ∷ [] } ∷ [])
     (copy_start two_ports (true ∷ true ∷ false ∷ true ∷ true ∷ true ∷ true ∷ [])))
@@ -173,11 +173,11 @@ loop_accepted_at_ring (suc (suc (suc (suc label)))) = refl
 spin : List Instr
 spin = Jmp 0 ∷ []
 
--- counts to n, and then sends its packet
+-- counts to n, then sends its packet
 count_to : ℕ → List Instr
 count_to n = Set 1 0 ∷ Add 1 (Constant 1) ∷ Jlt 1 n 1 ∷ Tx 0 0 5 ∷ Exit ∷ Free 0 ∷ Exit ∷ []
 
--- the packet, and r1 at most so much
+-- the packet, and r1 at most b
 counting : ℕ → List Fact → ℕ → Row
 counting r1 facts n = record { live = true; facts = facts ++ replicate n Empty; bounds = 0 ∷ r1 ∷ replicate 6 0 }
 
@@ -203,14 +203,14 @@ count_accepted (suc (suc (suc (suc (suc zero))))) = refl
 count_accepted (suc (suc (suc (suc (suc (suc zero)))))) = refl
 count_accepted (suc (suc (suc (suc (suc (suc (suc label))))))) = refl
 
--- what the port sends on one record in at most so many steps, and how many node runs are cut
+-- what the port sends for one record in at most n steps, and how many node runs are cut
 sent_in : ℕ → List Instr → Option (List (List (ℕ × List ℕ)) × ℕ)
 sent_in steps program =
     option_map (λ r. (r.0, r.1.cuts))
     (copy_run one_port [] steps (record { ports = program ∷ []; rings = [] }) (record { port = 0; time = 5; bytes = 1 ∷ 2 ∷ [] } ∷ [])
     (copy_start one_port (true ∷ [])))
 
--- it is cut in its step 257
+-- it is cut in step 257
 spin_is_cut : sent_in 257 spin ≡ Some ([] ∷ [], 1)
 unfolding sent_in spin one_port
 spin_is_cut = refl

@@ -1,4 +1,4 @@
--- There are at most as many live segments as buffers in all pools, so references are that few.
+-- There are at most as many live segments as buffers in all pools, which bounds references.
 use Rattle.std.proofs.Common.{◌≡◌, ℕ, zero, suc, ◌+◌, ◌<◌, ◌≤◌, List, [], ◌∷◌, length, Option, Some, None, refl, ap, arith, ⊎_elim}
 use Rattle.std.specs.Prelude.{sum_by, slice_get, option_map, unwrap_or}
 use Rattle.std.specs.List.{AllByRecursion}
@@ -76,7 +76,7 @@ number_hit pools n is = go (slice_get pools n.pool) refl is
     go None e less = absurd (omega (arith, less))
     go (Some spec) e less = pools_hit n pools 0 n.pool spec (omega arith) e less
 
--- ---- as few as buffers
+-- ---- no more than buffers
 
 each_hits : (pools : List PoolSpec) (live : List Segment) → AllByRecursion (λ s. IsNumber pools s.mbuf) live → length live ≤ over_pools (mbufs live) pools 0
 each_hits pools [] all = omega arith
@@ -93,10 +93,10 @@ pub live_few : (pools : List PoolSpec) (live : List Segment) → AreOwned pools 
 live_few pools live owned =
     omega (arith, each_hits pools live owned.mbufs, pools_le (mbufs live) pools 0 (λ n. (counts_of_owned pools live owned).once n))
 
--- so a buffer has at most as many references
+-- so a buffer has at most that many references
 pub refs_few : (pools : List PoolSpec) (live : List Segment) (b : Number) → AreOwned pools live → refs live b ≤ sum_by (λ p. p.count) pools
 refs_few pools live b owned = omega (arith, live_few pools live owned, count_by-le-length (λ (s : Segment). same_number s.buffer b) live)
 
--- which is 16 bits in an environment
+-- which fit into 16 bits in an environment
 pub refs_small : (env : Environment) (live : List Segment) (b : Number) → fault_of env ≡ None → AreOwned env.pools live → refs live b ≤ 65535
 refs_small env live b right owned = omega (arith, refs_few env.pools live b owned, total_small env right)

@@ -1,4 +1,4 @@
--- A record can be received: there are bytes for the free buffers, so that the packet has the record's.
+-- A record can be received: the free buffers can hold bytes such that the packet has the record's.
 use Rattle.std.proofs.Common.{◌≡◌, ℕ, zero, suc, ◌+◌, ◌-◌, ◌*◌, ◌/◌, ◌<◌, ◌≤◌, max, false, ◌||◌, List, [], ◌∷◌, ◌++◌, length, take, drop, refl, sym, ◌∙◌, ap}
 use Rattle.std.proofs.Common.{subst, arith, rules, length-take, length-drop}
 use Rattle.std.specs.Prelude.{slice_range}
@@ -36,7 +36,7 @@ write_changes old n offset new fits small =
           (all_join (λ x. x < 256) new (drop (offset + length new) (bytes_of old n)) small (all_drop (offset + length new) (bytes_of old n) (well n))));
     }
 
--- changes of some buffers, and then of one more
+-- changes of some buffers, then of one more
 changes_then : (n : Number) (ns : List Number) (old mid new : Buffers) → ChangesOnly ns old mid → ChangesOnly (n ∷ []) mid new → ChangesOnly (n ∷ ns) old new
 changes_then n ns old mid new first second = record {
   others = λ b apart. let (here, rest) = or_parts (same_number b n) (list_any (same_number b) ns) apart in
@@ -47,17 +47,17 @@ changes_then n ns old mid new first second = record {
 
 -- ---- the bytes of a received packet
 
--- the record's bytes, buffer by buffer
+-- the buffers after the record's bytes are written, one after the other
 pub filled_with : ℕ → List Number → List ℕ → Buffers → Buffers
 filled_with room [] bytes old = old
 filled_with room (n ∷ []) bytes old = written old n 128 bytes
 filled_with room (n ∷ m ∷ ns) bytes old = written (filled_with room (m ∷ ns) (drop (room - 128) bytes) old) n 128 (take (room - 128) bytes)
 
--- each of the buffers has so many bytes
+-- each of these buffers has n bytes
 abbrev pub HaveLength : ℕ → Buffers → List Number → Type 0
 HaveLength room buffers ns = AllByRecursion (λ n. length (bytes_of buffers n) ≡ room) ns
 
--- as many buffers as the record needs, and no more
+-- exactly as many buffers as the record needs
 pub record AreEnough (room : ℕ) (ns : List Number) (bytes : List ℕ) : Type 0 where
   pub large : 128 < room
   pub hold : length bytes ≤ length ns * (room - 128)
@@ -142,7 +142,7 @@ filled_spells room (n ∷ m ∷ ns) bytes old e have distinct small =
 
 -- ---- what is needed is enough
 
--- that many segments and no more hold the record
+-- n segments have room for the record, and n - 1 do not
 needed_full : (r len : ℕ) → max 1 ((len + (r - 1)) / r) * r ≤ len + r
 needed_full r len = go ((len + (r - 1)) / r) (div-mul-le_self (len + (r - 1)) r)
   where
@@ -157,7 +157,7 @@ have_length pools live pool buffers [] rooms fresh = tt
 have_length pools live pool buffers (n ∷ ns) rooms fresh =
     (rooms n fresh.0.exists ∙ ap (room_at pools) fresh.0.of_pool, have_length pools live pool buffers ns rooms fresh.1)
 
--- the free buffers that a record needs can have its bytes
+-- the free buffers that a record needs can hold its bytes
 pub can_fill : (pools : List PoolSpec) (live : List Segment) (pool : ℕ) (bytes : List ℕ) (ns : List Number) (buffers : Buffers) → 129 ≤ room_at pools pool →
     ((b : Number) → IsNumber pools b → length (bytes_of buffers b) ≡ room_at pools b.pool) → AreFresh pools live pool (needed pools pool (length bytes)) ns →
     AllByRecursion (λ x. x < 256) bytes → (new : Buffers) × Filled ns (received (room_at pools pool) ns (length bytes)) bytes buffers new

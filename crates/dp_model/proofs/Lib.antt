@@ -33,5 +33,4 @@ pub mod SoundMoves
 pub mod SoundNumbers
 pub mod Sharing
 pub mod Soundness
-pub mod StoreCalls
 pub mod WholeRuns

@@ -1,7 +1,7 @@
--- The two readings of the longest prefix agree: depth by depth from the deepest on, and the deepest that matches.
+-- The two definitions of the longest prefix agree: the search depth by depth from the deepest on, and the deepest that matches.
 use Rattle.std.proofs.Common.{◌≡◌, ◌⊎◌, ℕ, zero, suc, ◌-◌, ◌/◌, ◌^◌, ◌≤◌, Bool, true, false, cond, ◌&&◌, ◌||◌, List, [], ◌∷◌, Option, Some, None, refl, sym}
 use Rattle.std.proofs.Common.{◌∙◌, ap, subst, arith, inl, inr, ⊎_elim}
-use Rattle.std.specs.Prelude.{find, Contains, ◌==◌}
+use Rattle.std.specs.Prelude.{find, slice_get, Contains, ◌==◌}
 use Rattle.std.specs.List.{list_any, AllByRecursion}
 use Rattle.std.proofs.lemmas.Bool.{and_parts, and_from, eqb-true, eq-eqb, cases_Bool, cases_lt, both_ways}
 use Rattle.std.proofs.lemmas.Option.{same_Some}
@@ -18,6 +18,11 @@ contains_later y x xs (k, le, is) = (suc k, omega (arith, le), is)
 contains_cases : {X : Type 0} (y x : X) (xs : List X) → Contains (y ∷ xs) x → (y ≡ x) ⊎ Contains xs x
 contains_cases y x xs (zero, le, is) = inl is
 contains_cases y x xs (suc k, le, is) = inr (k, omega (arith, le), is)
+
+contained_at : {X : Type 0} (xs : List X) (x : X) → Contains xs x → (k : ℕ) × (slice_get xs k ≡ Some x)
+contained_at [] x (k, le, is) = absurd (omega (arith, le))
+contained_at (y ∷ xs) x (zero, le, is) = (zero, ap Some is)
+contained_at (y ∷ xs) x (suc k, le, is) = let (i, e) = contained_at xs x (k, omega (arith, le), is) in (suc i, e)
 
 all_contained : {X : Type 0} (P : X → Type 0) (xs : List X) (x : X) → AllByRecursion P xs → Contains xs x → P x
 all_contained P [] x all (k, le, is) = absurd (omega (arith, le))
@@ -51,7 +56,7 @@ not_found test (x ∷ routes) route e there = go (test x) refl (not_found test r
 
 -- ---- depth by depth
 
--- what an answer says of the routes that are at most so deep
+-- what an answer says of the routes no deeper than that
 abbrev Says : List Route → ℕ → ℕ → Option ℕ → Type 0
 Says routes ip depth (Some hop) =
     (route : Route) × Contains routes route × (is_match ip route ≡ true) × (route.depth ≤ depth) × (route.hop ≡ hop)
@@ -61,7 +66,7 @@ Says routes ip depth None = (other : Route) → Contains routes other → 1 ≤ 
 abbrev at_depth : ℕ → ℕ → Route → Bool
 at_depth ip depth route = (route.depth == depth) && is_match ip route
 
--- a route that is at most so deep is just so deep, or less
+-- a route no deeper than d has depth d or less
 deeper : (routes : List Route) (ip depth : ℕ) (other : Route) → find (at_depth ip (suc depth)) routes ≡ None → Contains routes other →
     is_match ip other ≡ true → other.depth ≤ suc depth → other.depth ≤ depth
 deeper routes ip depth other none there fits le = ⊎_elim
@@ -94,7 +99,7 @@ says routes ip (suc depth) = go (find (at_depth ip (suc depth)) routes) refl (sa
         let same : route.depth ≡ suc depth = eqb-true route.depth (suc depth) level in
         (route, there, fits, omega (arith, same), refl, λ other here also below. omega (arith, below, same))
 
--- ---- the two readings
+-- ---- the two definitions
 
 none_matches : (routes : List Route) (ip : ℕ) → ((other : Route) → Contains routes other → is_match ip other ≡ false) → list_any (is_match ip) routes ≡ false
 none_matches [] ip never = refl
@@ -117,7 +122,7 @@ looked_up routes ip None table never =
     none_matches routes ip (λ other here. let (one, few) = all_contained (λ r. (1 ≤ r.depth) × (r.depth ≤ 32)) routes other table.depths here in
     never other here one few)
 
--- the answer is one that the deepest route gives
+-- the search's answer is the deepest route's hop
 pub hop_looks_up : (routes : List Route) (ip : ℕ) → IsTable routes → LooksUp routes ip (hop_for routes ip)
 hop_looks_up routes ip table = looked_up routes ip (hop_for routes ip) table (says routes ip 32)
 
@@ -144,9 +149,12 @@ one_answer routes ip (Some hop) (Some other) table (r, a, is) (s, b, also) =
     let mine : r.prefix ≡ ip / 2 ^ (32 - r.depth) = eqb-true r.prefix (ip / 2 ^ (32 - r.depth)) a.fits in
     let theirs : s.prefix ≡ ip / 2 ^ (32 - s.depth) = eqb-true s.prefix (ip / 2 ^ (32 - s.depth)) b.fits in
     let prefix : r.prefix ≡ s.prefix = mine ∙ (ap (λ d. ip / 2 ^ (32 - d)) depth ∙ sym theirs) in
-    ap Some (sym is ∙ (table.once r s a.there b.there prefix depth ∙ also))
+    let (i, at_i) = contained_at routes r a.there in
+    let (j, at_j) = contained_at routes s b.there in
+    let same : r ≡ s = same_Some r s (sym at_i ∙ (ap (slice_get routes) (table.once i j r s at_i at_j prefix depth) ∙ at_j)) in
+    ap Some (sym is ∙ (ap (λ (route : Route). route.hop) same ∙ also))
 
--- so a look-up answers what the function does, and nothing else
+-- so a look-up returns what the function does, and nothing else
 pub readings_agree : (routes : List Route) (ip : ℕ) (answer : Option ℕ) → IsTable routes → (LooksUp routes ip answer → answer ≡ hop_for routes ip)
     × (answer ≡ hop_for routes ip → LooksUp routes ip answer)
 readings_agree routes ip answer table = (

@@ -1,4 +1,4 @@
--- What the words on numbers mean: the least 2^k - 1, and that what is stored is loaded.
+-- The words on numbers: the least 2^k - 1, and loads return what was stored.
 use Rattle.std.proofs.Common.{◌≡◌, ℕ, zero, suc, ◌+◌, ◌-◌, ◌*◌, ◌/◌, ◌%◌, ◌^◌, ◌≤◌, List, ◌∷◌, length, drop, refl, sym, ◌∙◌, ap, arith, length-take}
 use Rattle.std.proofs.Common.{length-drop}
 use Rattle.std.specs.Prelude.{slice_range}

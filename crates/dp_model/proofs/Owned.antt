@@ -1,5 +1,4 @@
--- Each number is the mbuf of at most one live segment, and no buffer is an indirect mbuf: what says so by counts, and
--- that packets which come, go and change keep it.
+-- Each number is the mbuf of at most one live segment, and no buffer is an indirect mbuf: by counts, and as packets come, go and change.
 use Rattle.std.proofs.Common.{◌≡◌, ◌⊎◌, ℕ, zero, suc, ◌+◌, ◌-◌, ◌≤◌, Bool, true, false, not, ◌||◌, ◌&&◌, List, [], ◌∷◌, length, refl, ◌∙◌, ap, subst, arith}
 use Rattle.std.proofs.Common.{inl, inr, ⊎_elim}
 use Rattle.std.specs.List.{AllByRecursion}
@@ -19,8 +18,7 @@ use Rattle.dp_model.specs.Laws.Counts.{tally-cons, has_mbuf, is_indirect_at, mbu
 pub indirects_le : (live : List Segment) (n : Number) → indirects live n ≤ mbufs live n
 indirects_le live n = tally_le (is_indirect_at n) (has_mbuf n) live (λ s yes. (and_parts (same_number s.mbuf n) (not (same_number s.buffer n)) yes).0)
 
--- ---- from the counts to the segments, and back
--- ---- free numbers
+-- ---- from counts to segments, and back
 pub free_no_mbuf : (live : List Segment) (n : Number) → is_free live n ≡ true → mbufs live n ≡ 0
 free_no_mbuf [] n h = refl
 free_no_mbuf (s ∷ rest) n h =
@@ -30,14 +28,13 @@ free_no_mbuf (s ∷ rest) n h =
     let none : one_if (same_number s.mbuf n) ≡ 0 = ap one_if other in
     omega (arith, none, tally-cons (has_mbuf n) s rest, free_no_mbuf rest n t.1)
 
--- ---- what keeps it
--- the segments of a packet that comes: its mbufs are free and different, and each buffer is its own or one that is live
+-- ---- packets that may come: their mbufs are free and different, and each buffer is their own or a live one
 pub record MayCome (pools : List PoolSpec) (live : List Segment) (k : Packet) : Type 0 where
   pub once : (n : Number) → mbufs k n ≤ 1
   pub fresh : (n : Number) → 1 ≤ mbufs k n → (is_free live n ≡ true) × IsNumber pools n
   pub buffers : (n : Number) → 1 ≤ refs k n → (1 ≤ refs live n) ⊎ ((1 ≤ mbufs k n) × (indirects k n ≡ 0))
 
--- the live segments are those of before and the packet's
+-- the live segments are the old ones and the packet's
 pub record AreMore (live live' : List Segment) (k : Packet) : Type 0 where
   pub mbufs : (n : Number) → mbufs live' n ≡ mbufs live n + mbufs k n
   pub buffers : (n : Number) → refs live' n ≡ refs live n + refs k n
@@ -76,8 +73,7 @@ more_owned pools live live' k more comes owned =
         (λ none. none)
         (some_or_none (mbufs k n))
 
--- ---- packets that come
--- how often a number stands in a list
+-- ---- packets that come: how often a number occurs in a list
 abbrev pub times : List Number → Number → ℕ
 times [] n = 0
 times (m ∷ ns) n = one_if (same_number m n) + times ns n

@@ -1,4 +1,4 @@
--- Each step leaves each mbuf with one owner.
+-- Each step keeps each mbuf with one owner.
 use Rattle.std.proofs.Common.{◌≡◌, ◌≢◌, ℕ, ◌+◌, Bool, List, [], ◌∷◌, ◌++◌, length, Some, None, refl, sym, ap, subst, arith}
 use Rattle.std.specs.Prelude.{slice_get}
 use Rattle.dp_model.specs.declared.instr.Instr.{Instr}
@@ -20,8 +20,7 @@ use Rattle.dp_model.proofs.SoundClone.{refs_cloned}
 abbrev pub HasOwners : Setting → State → Type 0
 HasOwners c s = AreOwned c.env.pools (live s)
 
--- ---- kinds of change
--- every count grows by the packet's
+-- ---- kinds of change: every count grows by the packet's
 pub more_by : (live live' : List Segment) (k : Packet) → ((test : Segment → Bool) → tally test live' ≡ tally test live + tally test k) → AreMore live live' k
 more_by live live' k is = record {
   mbufs = λ n. is (has_mbuf n);
@@ -29,7 +28,7 @@ more_by live live' k is = record {
   indirects = λ n. is (is_indirect_at n);
 }
 
--- the change of a segment leaves its mbuf and its buffer
+-- the change of a segment keeps its mbuf and its buffer
 abbrev pub KeepsBuffer : (Segment → Segment) → Type 0
 KeepsBuffer f = (s : Segment) → ((f s).mbuf ≡ s.mbuf) × ((f s).buffer ≡ s.buffer)
 
@@ -42,7 +41,7 @@ see_buffer f n keeps s = ap (λ m. same_number m n) (keeps s).1
 see_indirect : (f : Segment → Segment) (n : Number) → KeepsBuffer f → (s : Segment) → is_indirect_at n (f s) ≡ is_indirect_at n s
 see_indirect f n keeps s = let e = see_mbuf f n keeps s in let g = see_buffer f n keeps s in cc
 
--- the packet of a register is changed in front, or at the end
+-- a register's packet changes at its front, or at its end
 pub front_fewer : (s : State) (p : ℕ) (f : Segment → Segment) (k : Packet) → KeepsBuffer f → Holds s p k →
     AreFewer (live s) (live (with_packet p (at_front f k) s))
 front_fewer s p f k keeps holds = record {
@@ -147,7 +146,7 @@ effect_owned c s m owned (Queued p ring k packets holds there is _) = by c m.sta
 pub acts_owned : (c : Setting) (label : ℕ) (s : State) (i : Instr) (m : Move) → HasOwners c s → Acts c label s i m → HasOwners c m.state
 acts_owned c label s i m owned acts = effect_owned c s m owned (effect_of c label s i m acts)
 
--- the packets that a cut run held are gone
+-- a cut drops the packets of the registers
 owned_cut : (c : Setting) (s : State) → HasOwners c s → HasOwners c (without_packets (with_cut s))
 owned_cut c s owned =
     let t = without_packets (with_cut s) in

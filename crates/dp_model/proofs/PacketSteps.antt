@@ -1,4 +1,4 @@
--- Each step leaves packets of 1 to 64 segments.
+-- Each step keeps packets at 1 to 64 segments.
 use Rattle.std.proofs.Common.{◌≡◌, ℕ, zero, suc, Bool, List, [], ◌∷◌, ◌++◌, length, Option, Some, None, refl, sym, ap, subst, arith, length-append}
 use Rattle.std.specs.Prelude.{slice_get, slice_set}
 use Rattle.std.specs.List.{AllByRecursion}
@@ -35,7 +35,7 @@ length_end f [] = refl
 length_end f (s ∷ []) = refl
 length_end f (s ∷ t ∷ rest) = ap suc (length_end f (t ∷ rest))
 
--- as long as a packet
+-- a packet of the same length
 as_long : (k j : Packet) → length j ≡ length k → IsPacket k → IsPacket j
 as_long k j e is = (omega (arith, e, is.0), omega (arith, e, is.1))
 
@@ -80,7 +80,7 @@ same_packets s s' p r o are = record {
 allocated_packet : (pools : List PoolSpec) (ns : List Number) → length ns ≡ 1 → IsPacket (allocated pools ns)
 allocated_packet pools ns one = let e : length (allocated pools ns) ≡ length ns = length-map ns _ in (omega (arith, e, one), omega (arith, e, one))
 
--- another packet that is as long is in the register
+-- the register has another packet of the same length
 edited : (s : State) (p : ℕ) (k j : Packet) → ArePackets s → Holds s p k → length j ≡ length k → ArePackets (with_packet p j s)
 edited s p k j are holds long = set_packets s p (Some j) are (as_long k j long (held_packet s p k are holds))
 

@@ -149,7 +149,7 @@ emptied_rings pools segments segments' (spec ∷ specs) (ring ∷ rings) all = (
 emptied_rings pools segments segments' [] (ring ∷ rings) all = absurd all
 emptied_rings pools segments segments' (spec ∷ specs) [] all = absurd all
 
--- where no ring has a packet the next record can come all the same
+-- where no ring has a packet the next record can still come
 pub emptied_rest : (c : Setting) (w : World) → IsAtRest c w → IsAtRest c (with_empty_rings w)
 emptied_rest c w rest =
     let w' = with_empty_rings w in

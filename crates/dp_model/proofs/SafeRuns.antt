@@ -1,4 +1,4 @@
--- Node runs of accepted programs: they keep the world well formed, take few steps, and can end.
+-- Node runs of accepted programs keep the world well formed, take few steps, and can end.
 use Rattle.std.proofs.Common.{◌≡◌, ℕ, zero, suc, ◌+◌, ◌*◌, ◌≤◌, Bool, List, [], ◌++◌, length, refl, sym, ap, subst, arith}
 use Rattle.dp_model.specs.declared.instr.Instr.{Instr}
 use Rattle.dp_model.specs.Packets.{Packet, AreOwned}
@@ -40,7 +40,7 @@ then_at x l go over e h = subst (λ y. Then y go over) (sym e) h
 then_over : (x : Next) (go : ℕ → Type 0) (over : Type 0) → x ≡ Ended → over → Then x go over
 then_over x go over e h = subst (λ y. Then y go over) (sym e) h
 
--- each step leads further, and there is only so far to go
+-- each step leads further, and the number of steps is limited
 pub run_ends : (c : Setting) (q : Question) → c.env ≡ q.env → IsCertified q → (left label : ℕ) (s : State) →
     257 * length q.program ≤ left + (label + s.jumps * length q.program) → s.jumps ≤ 256 → Reached c q (At label) s → CanEnd c q.program label s
 run_ends c q env accepted zero label s few within reached = absurd (omega (arith, few, room_left q.program label s.jumps reached.2 within))
@@ -63,7 +63,7 @@ run_ends c q env accepted (suc left) label s few within ((row, er, known), insid
 
 -- ---- a node run
 
--- no register holds a packet at the end, so what is live is what rings and transmit lists hold
+-- at the end no register holds a packet, so rings and transmit lists hold all that is live
 pub ended_owned : (c : Setting) (s : State) → segments_held s.packets ≡ [] → HasOwners c s → AreOwned c.env.pools (live (between s.world))
 ended_owned c s none owned =
     subst (AreOwned c.env.pools) (ap (λ held. held ++ (segments_listed s.world.rings ++ segments_listed s.world.outboxes)) none) owned

@@ -1,4 +1,4 @@
--- Turns of a pipeline: every node run of a turn is safe, there is a turn for each record, and the next one can follow.
+-- Turns of a pipeline: every node run is safe, there is a turn for each record, and the next one can follow.
 use Rattle.std.proofs.Common.{◌≡◌, ℕ, zero, suc, ◌+◌, ◌<◌, ◌≤◌, Bool, true, false, List, [], ◌∷◌, ◌++◌, length, Option, Some, None, refl, sym, ◌∙◌, ap, subst}
 use Rattle.std.proofs.Common.{arith, inl, inr}
 use Rattle.std.specs.Prelude.{IsTrue, slice_get, slice_set, flat_map, option_map, nat_lt, if◌then◌else◌, MatchOption}
@@ -43,7 +43,7 @@ use Rattle.dp_model.specs.Laws.Runs.{safe_never_stuck, safe_rests}
 first_packets : (k : Packet) (number : ℕ) (w : World) → IsPacket k → ArePackets (between w) → ArePackets (first_state k number w)
 first_packets k number w is are = record { held = (is, (tt, (tt, (tt, (tt, (tt, (tt, (tt, tt)))))))); rings = are.rings; outboxes = are.outboxes }
 
--- a record that fits a port is a packet
+-- a record that fits a port makes a packet of 1 to 64 segments
 received_packet : (c : Setting) (port : ℕ) (spec : PortSpec) (bytes : List ℕ) (numbers : List Number) → slice_get c.env.ports port ≡ Some spec →
     fault_of c.env ≡ None → needed c.env.pools spec.pool (length bytes) ≤ spec.segs → length numbers ≡ needed c.env.pools spec.pool (length bytes) →
     IsPacket (received (room_at c.env.pools spec.pool) numbers (length bytes))
@@ -66,8 +66,7 @@ popped_packets w next e are =
       },
     )
 
--- ---- node runs begin well
--- on a record that is received
+-- ---- node runs begin well: on a record that is received
 pub record_begins : (c : Setting) (q : Question) (port : ℕ) (spec : PortSpec) (bytes : List ℕ) (w : World) (numbers : List Number) (buffers : Buffers) →
     c.env ≡ q.env → q.entry ≡ Port port → slice_get c.env.ports port ≡ Some spec → 129 ≤ room_at c.env.pools spec.pool → fault_of c.env ≡ None → IsAtRest c w
     → needed c.env.pools spec.pool (length bytes) ≤ spec.segs → AreFresh c.env.pools (live (between w)) spec.pool
@@ -143,7 +142,7 @@ record_safe c nodes port bytes w b checked rest r =
     (record_begins c node.question port r.spec bytes w r.numbers r.buffers (sym node.env_is) node.entry_is r.spec_is
     (checked.checked.rooms port r.spec r.spec_is) checked.limits rest r.fits r.fresh r.filled))
 
--- a whole run on a record that is received has such a beginning
+-- a whole run on a record that is received begins so
 pub receives_of : (c : Setting) (nodes : Nodes) (program : List Instr) (port : ℕ) (spec : PortSpec) (bytes : List ℕ) (w w' : World) (answers : List Bool) →
     slice_get c.env.ports port ≡ Some spec → slice_get nodes.ports port ≡ Some program → (r : Receives c program port spec bytes w answers w') →
     IsOfRecord c nodes port bytes w (record {
@@ -191,8 +190,7 @@ arrives_rest c nodes program port spec bytes w w' Got answers checked is_program
     safe_rests c b r.later w' (record_safe c nodes port bytes w b checked rest (receives_of c nodes program port spec bytes w w' answers is_spec is_program r))
     (subst (λ x. NodeRun c program x port w1 r.later w') r.packet_is r.run)
 
--- ---- node runs on packets of rings
--- the node of the ring
+-- ---- node runs on packets of rings: the node of the ring
 pub waiting_safe : (c : Setting) (nodes : Nodes) (next : Waiting Packet) (program : List Instr) (w : World) → IsPipeline c nodes → IsAtRest c w →
     first_waiting w.rings ≡ Some next → slice_get nodes.rings next.ring ≡ Some program →
     IsSafeBeginning c (record {
@@ -273,8 +271,7 @@ serves_exist c nodes (suc n) w pipeline rest = go (first_waiting w.rings) refl (
         let (later, more, w', serves) = on mid (safe_rests c b now mid safe run) in
         (now ++ later, more + 1, w', (program, now, later, mid, more, is_program, run, serves, refl, refl))
 
--- ---- what becomes of a record
--- with these buffers and these bytes in them
+-- ---- the outcome of a record: with these buffers and bytes
 received_ends : (c : Setting) (nodes : Nodes) (program : List Instr) (port : ℕ) (spec : PortSpec) (bytes : List ℕ) (w : World) (ns : List Number)
     (buffers : Buffers) → IsPipeline c nodes → slice_get c.env.ports port ≡ Some spec → slice_get nodes.ports port ≡ Some program → IsAtRest c w →
     needed c.env.pools spec.pool (length bytes) ≤ spec.segs → is_denied c (between w) spec.pool (needed c.env.pools spec.pool (length bytes)) ≡ false
@@ -311,7 +308,7 @@ received_ends c nodes program port spec bytes w ns buffers checked is_spec is_pr
       },
     )
 
--- a record that is small enough, where its call is not refused, is received
+-- a record that is small enough and whose call is not refused is received
 receives_exist : (c : Setting) (nodes : Nodes) (program : List Instr) (port : ℕ) (spec : PortSpec) (bytes : List ℕ) (w : World) → IsPipeline c nodes →
     slice_get c.env.ports port ≡ Some spec → slice_get nodes.ports port ≡ Some program → IsAtRest c w → AllByRecursion (λ x. x < 256) bytes →
     needed c.env.pools spec.pool (length bytes) ≤ spec.segs → is_denied c (between w) spec.pool (needed c.env.pools spec.pool (length bytes)) ≡ false →
@@ -362,7 +359,7 @@ turn_rest c nodes port bytes w w' outcome runs answers checked rest t =
     serves_rest c nodes 32 t.mid w' t.later t.more checked
     (arrives_rest c nodes t.program port t.spec bytes w t.mid outcome t.now checked t.program_is t.spec_is rest t.arrives) t.serves
 
--- a record's part and the rings' part make a turn
+-- the record's part and the rings' part make a turn
 turn_of : (c : Setting) (nodes : Nodes) (program : List Instr) (port : ℕ) (spec : PortSpec) (bytes : List ℕ) (w mid w' : World) (outcome : Outcome)
     (now later : List Bool) (more : ℕ) → slice_get c.env.ports port ≡ Some spec → slice_get nodes.ports port ≡ Some program →
     Arrives c program port spec bytes w outcome now mid → Serves c nodes.rings 32 mid later more w' →

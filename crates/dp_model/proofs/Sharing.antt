@@ -22,7 +22,7 @@ use Rattle.dp_model.specs.Laws.Groups.{belongs_out}
 
 -- ---- the registers of a group
 
--- none where none belongs
+-- none where no register belongs
 pub size_none : (xs : List Fact) (g : ℕ) → ((i : ℕ) → belongs xs g i ≡ false) → size xs g ≡ 0
 size_none [] g none = refl
 size_none (x ∷ xs) g none =
@@ -63,7 +63,7 @@ refs_counted (s ∷ k) b =
 pub refs_alike : (k t : Packet) (b : Number) → buffers_of k ≡ buffers_of t → refs k b ≡ refs t b
 refs_alike k t b e = refs_counted k b ∙ (ap (λ bs. count_by (λ n. same_number n b) bs) e ∙ sym (refs_counted t b))
 
--- what holds of each buffer holds of one that is counted
+-- what holds of each buffer holds of a counted one
 pub counted_at : (P : Number → Type 0) (bs : List Number) (b : Number) → AllByRecursion P bs → 1 ≤ count_by (λ n. same_number n b) bs → P b
 counted_at P [] b all one = absurd (omega arith)
 counted_at P (n ∷ bs) b all one = go (same_number n b) refl (counted_at P bs b all.1)
@@ -78,7 +78,7 @@ pub all_counted : (P : Number → Type 0) (k : Packet) → ((b : Number) → 1 �
 all_counted P [] each = tt
 all_counted P (s ∷ k) each = (each s.buffer (refs_first s k), all_counted P k (λ b one. each b (omega (arith, one, refs-cons s k b))))
 
--- ---- what a group has
+-- ---- what a group says
 module _ (live : List Segment) (facts : List Fact) (packets : List (Option Packet)) (g : ℕ) where
   -- the buffers of a register of the group have as many references as the group has registers
   pub group_refs : GroupHolds live facts packets g → (p : ℕ) (k : Packet) (b : Number) → belongs facts g p ≡ true → slice_get packets p ≡ Some (Some k) →
@@ -98,7 +98,7 @@ module _ (live : List Segment) (facts : List Fact) (packets : List (Option Packe
       let same : j ≡ k = cc (at, other) in
       (t, there, refs_alike t k b (alike ∙ (sym alike' ∙ ap buffers_of same)))
 
-  -- a group holds whose registers and buffers are known by one of them
+  -- a group holds if one of its registers shows its registers and buffers
   pub group_from : (p : ℕ) (k : Packet) → ((i : ℕ) → belongs facts g i ≡ true → (t : Packet) × (slice_get packets i ≡ Some (Some t))
       × (buffers_of t ≡ buffers_of k)) → ((b : Number) → 1 ≤ refs k b → refs live b ≡ size facts g) → GroupHolds live facts packets g
   group_from p k each counted = record { buffers = buffers_of k; same = each; counted = all_counted (λ b. refs live b ≡ size facts g) k counted }
@@ -120,7 +120,7 @@ held-cons (Some k) packets b = refs-append k (segments_held packets) b
 abbrev pub AllRefer : List Fact → List (Option Packet) → ℕ → Number → Type 0
 AllRefer facts packets g b = (i : ℕ) → belongs facts g i ≡ true → (k : Packet) × (slice_get packets i ≡ Some (Some k)) × (1 ≤ refs k b)
 
--- so there are at least as many references
+-- so there are at least that many references
 pub count_le : (facts : List Fact) (packets : List (Option Packet)) (g : ℕ) (b : Number) → AllRefer facts packets g b →
     size facts g ≤ refs (segments_held packets) b
 count_le [] packets g b each = omega arith
@@ -144,7 +144,7 @@ count_le (f ∷ facts) (o ∷ packets) g b each = go (is_in g f) refl (count_le 
 apart : (facts : List Fact) (g i p : ℕ) → belongs facts g i ≡ true → belongs facts g p ≡ false → i ≢ p
 apart facts g i p inside outside e = let wrong : true ≡ false = sym inside ∙ (ap (belongs facts g) e ∙ outside) in cc
 
--- what another register holds is beside them
+-- another register's references come on top
 pub others_le : (facts : List Fact) (packets : List (Option Packet)) (g : ℕ) (b : Number) (p : ℕ) (o : Option Packet) → AllRefer facts packets g b →
     belongs facts g p ≡ false → slice_get packets p ≡ Some o → size facts g + refs_of o b ≤ refs (segments_held packets) b
 others_le facts packets g b p o each out there =
@@ -152,7 +152,7 @@ others_le facts packets g b p o each out there =
     (k, get_set_other packets p i None (apart facts g i p h out) ∙ at, one)) in
     omega (arith, c, refs_set packets p o None b there)
 
--- and of its own registers each has just one
+-- each of its own registers has exactly one
 pub own_le : (facts : List Fact) (packets : List (Option Packet)) (g : ℕ) (b : Number) (p : ℕ) (k : Packet) → AllRefer facts packets g b →
     belongs facts g p ≡ true → slice_get packets p ≡ Some (Some k) → size facts g + refs k b ≤ refs (segments_held packets) b + 1
 own_le facts packets g b p k each in_it there =
@@ -166,8 +166,7 @@ own_le facts packets g b p k each in_it there =
     let unit : one_if (is_in g f) ≡ 1 = ap one_if is_f in
     omega (arith, c, unit, size_set facts p f Empty g at_f, refs_set packets p (Some k) None b there)
 
--- ---- groups that stay
--- the register has a packet with the same buffers
+-- ---- groups that stay: the register has a packet with the same buffers
 abbrev pub HasAlike : List (Option Packet) → ℕ → Packet → Type 0
 HasAlike packets i k = (t : Packet) × (slice_get packets i ≡ Some (Some t)) × (buffers_of t ≡ buffers_of k)
 
@@ -196,7 +195,7 @@ group_stays live live' facts facts' packets packets' g h holds long same alike r
 
 -- ---- who has references to the buffers of a group
 module _ (live : List Segment) (facts : List Fact) (packets : List (Option Packet)) (g : ℕ) where
-  -- what is held is live
+  -- all that is held is live
   abbrev pub AreLive : Type 0
   AreLive = (b : Number) → refs (segments_held packets) b ≤ refs live b
 
@@ -206,7 +205,7 @@ module _ (live : List Segment) (facts : List Fact) (packets : List (Option Packe
       let (t, there, same) = group_each live facts packets g h i k b inside at one j here in
       (t, there, omega (arith, one, same))
 
-  -- another register has none
+  -- another register has no reference
   pub other_refs : GroupHolds live facts packets g → AreLive → (p : ℕ) (o : Option Packet) → belongs facts g p ≡ false → slice_get packets p ≡ Some o →
       (i : ℕ) (k : Packet) (b : Number) → belongs facts g i ≡ true → slice_get packets i ≡ Some (Some k) → 1 ≤ refs k b → refs_of o b ≡ 0
   other_refs h are p o out there i k b inside at one =
@@ -228,7 +227,7 @@ module _ (live : List Segment) (facts : List Fact) (packets : List (Option Packe
         own_le facts packets g b p j (all_refer h i k b inside at one) here there,
       )
 
--- ---- a register set, with a fact of the same groups and the same buffers
+-- ---- setting a register to a fact of the same groups and a packet with the same buffers
 pub groups_set : (live live' : List Segment) (facts : List Fact) (packets : List (Option Packet)) (p : ℕ) (old f : Fact) (o : Option Packet) →
     ((g : ℕ) → GroupHolds live facts packets g) → slice_get facts p ≡ Some old → ((g : ℕ) → is_in g f ≡ is_in g old) →
     ((g : ℕ) (k : Packet) → is_in g old ≡ true → slice_get packets p ≡ Some (Some k) → (t : Packet) × (o ≡ Some t) × (buffers_of t ≡ buffers_of k)) →
@@ -251,7 +250,7 @@ groups_set live live' facts packets p old f o holds there groups like same g =
     (cases_eq i p))
     (same g)
 
--- ---- a packet is freed: its register leaves the group
+-- ---- freeing a packet: its register leaves the group
 pub groups_freed : (live live' : List Segment) (facts : List Fact) (packets : List (Option Packet)) (p : ℕ) (k : Packet) →
     ((g : ℕ) → GroupHolds live facts packets g) → ((b : Number) → refs (segments_held packets) b ≤ refs live b) → slice_get packets p ≡ Some (Some k) →
     (f : Fact) → slice_get facts p ≡ Some f → ((b : Number) → refs live' b + refs k b ≡ refs live b) →
@@ -308,7 +307,7 @@ length_reshared g share [] = refl
 length_reshared g share (f ∷ facts) = ap suc (length_reshared g share facts)
 
 module _ (live : List Segment) (facts : List Fact) (packets : List (Option Packet)) where
-  -- another group stays as it is
+  -- other groups stay as they are
   stays_beside : (g x share : ℕ) → x ≢ g → (share == share_of_group x) ≡ false → GroupHolds live facts packets x →
       GroupHolds live (reshared g share facts) packets x
   stays_beside g x share ne other h =
@@ -318,7 +317,7 @@ module _ (live : List Segment) (facts : List Fact) (packets : List (Option Packe
       (λ outside. belongs_out facts x g share i outside))
       (λ i k inside at. (k, at, refl)) (λ i k b inside at one. refl)
 
-  -- a group that has none any more
+  -- a group that no register belongs to any more
   is_gone : (g share : ℕ) → (share == share_of_group g) ≡ false → GroupHolds live (reshared g share facts) packets g
   is_gone g share other = group_none live (reshared g share facts) packets g (λ i. by_cases (belongs facts g i)
       (λ inside. belongs_in facts g g share i inside ∙ other)
@@ -332,7 +331,7 @@ module _ (live : List Segment) (facts : List Fact) (packets : List (Option Packe
       (λ ne. stays_beside g x share ne (none x) (holds x))
       (cases_eq x g)
 
-  -- a group gets another name, to which no register belongs
+  -- a group is renamed to a name that no register has
   pub groups_renamed : (g m : ℕ) → (m ≡ g) ⊎ ((i : ℕ) → belongs facts m i ≡ false) → ((x : ℕ) → GroupHolds live facts packets x) →
       (x : ℕ) → GroupHolds live (reshared g (share_of_group m) facts) packets x
   groups_renamed g m free holds x = ⊎_elim

@@ -17,7 +17,7 @@ use Rattle.dp_model.specs.Laws.Groups.{sole_no_group, loose_no_group, dissolved_
 use Rattle.dp_model.proofs.Sharing.{groups_gone, groups_renamed}
 use Rattle.dp_model.specs.Laws.Cases.{by_cases}
 
--- a group promises nothing of one packet alone
+-- a group's share says nothing of one packet alone
 far_shared : (live : List Segment) (n : ℕ) (k : Packet) → 3 ≤ n → IsShared live n k
 far_shared live zero k le = absurd (omega arith)
 far_shared live (suc zero) k le = absurd (omega arith)
@@ -75,9 +75,7 @@ known_dissolved c row s p known = go (group_at row p) refl
         subst (λ r. Known c r s) (sym (dissolved_is row p (Some g) e))
         (known_reshared c row s g 0 known (λ i k inside at. tt) (groups_gone (live s) row.facts s.packets g 0 loose_no_group known.row_holds.groups))
 
--- ---- names
--- ---- what is left of a group gets its name
--- its name is its own, or that of a register that had none of its own name
+-- ---- names: what remains of a group gets its least register's name, or that of a register that belongs to no group
 pub known_renamed : (c : Setting) (row : Row) (s : State) (g : ℕ) → Known c row s →
     ((m : ℕ) → belongs row.facts g m ≡ true → (m ≡ g) ⊎ ((i : ℕ) → belongs row.facts m i ≡ false)) → Known c (renamed row g) s
 known_renamed c row s g known free = by_cases (size row.facts g == 1) alone more
@@ -85,7 +83,7 @@ known_renamed c row s g known free = by_cases (size row.facts g == 1) alone more
     h : GroupHolds (live s) row.facts s.packets g
     h = known.row_holds.groups g
 
-    -- a last one is sole
+    -- a single one is sole
     sole : size row.facts g ≡ 1 → (i : ℕ) (k : Packet) → belongs row.facts g i ≡ true → Holds s i k → IsSole (live s) k
     sole one i k inside at =
         let (t, there, alike) = h.same i inside in

@@ -24,7 +24,7 @@ same_ring a b = (a.count == b.count) && same_fact a.fact b.fact
 abbrev pub same_port : PortSpec → PortSpec → Bool
 same_port a b = (a.pool == b.pool) && (a.segs == b.segs) && (a.queue == b.queue)
 
--- as many tables, and the same pools, rings and ports
+-- equal numbers of tables, and equal pools, rings and ports
 abbrev pub same_environment : Environment → Environment → Bool
 same_environment a b =
     (a.tables == b.tables) && pointwise same_pool a.pools b.pools && pointwise same_ring a.rings b.rings && pointwise same_port a.ports b.ports

@@ -1,5 +1,4 @@
--- Sharing groups: registers whose packets have the same buffers, and between them all references to these. A group is
--- named by its least register.
+-- Sharing groups: registers whose packets have the same buffers and, together, all references to them. A group is named by its least register.
 use Rattle.std.specs.Prelude.{◌≡◌, ℕ, ◌+◌, ◌-◌, Bool, true, false, ◌&&◌, ◌==◌, nat_le, if◌then◌else◌, List, [], ◌∷◌, map, count_by, Option, Some, None}
 use Rattle.std.specs.Prelude.{is_some, position, slice_get}
 use Rattle.std.specs.List.{AllByRecursion, list_all, list_any}
@@ -12,11 +11,11 @@ use Rattle.dp_model.specs.Packets.{Segment, Packet, refs}
 
 -- ---- the words
 
--- the share that says: the register belongs to the group whose least register is g
+-- the share of the registers in group g
 abbrev pub share_of_group : ℕ → ℕ
 share_of_group g = 8 + g
 
--- the group to which a register belongs, if it belongs to one
+-- the group of a register, if it belongs to one
 abbrev pub group_of : Fact → Option ℕ
 group_of Empty = None
 group_of (Held share head tail first last segs) = if nat_le 8 share then Some (share - 8) else None
@@ -26,7 +25,7 @@ abbrev pub is_in : ℕ → Fact → Bool
 is_in g Empty = false
 is_in g (Held share head tail first last segs) = share == share_of_group g
 
--- how many registers belong to it, and which is the least of them
+-- how many registers belong to it, and the least of them
 abbrev pub size : List Fact → ℕ → ℕ
 size facts g = count_by (is_in g) facts
 
@@ -35,7 +34,7 @@ least facts g = position (is_in g) facts
 
 -- ---- which groups there are
 
--- the group has at least two registers, and the least gives the name
+-- g has at least two registers, and g is the least
 abbrev pub is_group : List Fact → ℕ → Bool
 is_group facts g = nat_le 2 (size facts g) && option_map_or (λ p. p == g) (least facts g) false
 
@@ -47,50 +46,49 @@ are_groups facts = list_all (λ fact. option_map_or (is_group facts) (group_of f
 abbrev pub have_groups : List Fact → Bool
 have_groups facts = list_any (λ fact. is_some (group_of fact)) facts
 
--- ---- what follows from what
+-- ---- entailment
 
--- whether the test passes at each index of two lists, which are as long
+-- the test passes at each index of two lists of one length
 abbrev pub at_each_index : {A B : Type 0} → (A → B → Bool) → List A → List B → Bool
 at_each_index test [] [] = true
 at_each_index test (x ∷ xs) (y ∷ ys) = test x y && at_each_index test xs ys
 at_each_index test [] (y ∷ ys) = false
 at_each_index test (x ∷ xs) [] = false
 
--- the group has the same registers in both
+-- the group has the same registers in both rows
 abbrev pub same_registers : List Fact → List Fact → ℕ → Bool
 same_registers facts others g = at_each_index (λ fact other. beq (is_in g fact) (is_in g other)) facts others
 
--- each group of the second is a group of the same registers in the first
+-- each group of the second row is a group of the same registers in the first
 abbrev pub keeps_groups : List Fact → List Fact → Bool
 keeps_groups facts others = list_all (λ other. option_map_or (same_registers facts others) (group_of other) true) others
 
--- ---- registers that get another share
+-- ---- changing the shares of registers
 
 abbrev pub reshared_fact : ℕ → ℕ → Fact → Fact
 reshared_fact g share Empty = Empty
 reshared_fact g share (Held old head tail first last segs) =
     Held (if old == share_of_group g then share else old) head tail first last segs
 
--- all registers of the group with another share
+-- all registers of the group get another share
 abbrev pub reshared : ℕ → ℕ → List Fact → List Fact
 reshared g share facts = map (reshared_fact g share) facts
 
--- the share of the registers that are left of a group: a last one is sole, else the least of them gives the name
+-- the new share of the registers that remain of a group: a single one is sole, else the least of them names the group
 abbrev pub share_left : List Fact → ℕ → ℕ
 share_left facts g = if size facts g == 1 then 2 else option_map_or share_of_group (least facts g) 0
 
--- ---- what a group promises
+-- ---- what a group says
 
 -- whether the register with this number belongs to the group
 abbrev pub belongs : List Fact → ℕ → ℕ → Bool
 belongs facts g p = option_map_or (is_in g) (slice_get facts p) false
 
--- the buffers of a packet, index by index
+-- the buffers of a packet, in order
 abbrev pub buffers_of : Packet → List Number
 buffers_of k = map (λ s. s.buffer) k
 
--- each register of the group holds a packet with just these buffers, and each of them has as many references as the group
--- has registers
+-- each register of the group holds a packet with exactly these buffers, each of which has as many references as the group has registers
 pub record GroupHolds (live : List Segment) (facts : List Fact) (packets : List (Option Packet)) (g : ℕ) : Type 0 where
   pub buffers : List Number
   pub same : (p : ℕ) → belongs facts g p ≡ true → (k : Packet) × (slice_get packets p ≡ Some (Some k)) × (buffers_of k ≡ buffers)

@@ -19,7 +19,7 @@ label_of (Tx packet port full) = Some full
 label_of (Enq packet ring full) = Some full
 label_of _ = None
 
--- each label that is named is behind its instruction
+-- each label that is named comes after its instruction
 abbrev pub IsForward : List Instr → Type 0
 IsForward program =
     (label to : ℕ) (i : Instr) → slice_get program label ≡ Some i → label_of i ≡ Some to → label < to

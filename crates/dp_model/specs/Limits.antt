@@ -1,7 +1,7 @@
--- The limits and sizes that definitions name.
+-- The limits and sizes that the definitions cite.
 use Rattle.std.specs.Prelude.{ℕ, ◌+◌, ◌*◌}
 
--- the most buffers of a pool, and of all pools together: what 16 bits number
+-- the most buffers of a pool, and of all pools together: their indexes have 16 bits
 abbrev pub most_buffers : ℕ
 most_buffers = 65535
 
@@ -21,7 +21,7 @@ largest_ring = 65536
 abbrev pub most_segments : ℕ
 most_segments = 64
 
--- the most bytes of a packet: those that its segments have room for
+-- the most bytes of a packet: what its segments have room for
 abbrev pub longest_packet : ℕ
 longest_packet = most_segments * largest_room
 
@@ -29,11 +29,11 @@ longest_packet = most_segments * largest_room
 abbrev pub default_headroom : ℕ
 default_headroom = 128
 
--- the least data room that a port receives into: the headroom, and a byte
+-- the smallest data room that a port receives into: the headroom, and a byte
 abbrev pub least_port_room : ℕ
 least_port_room = default_headroom + 1
 
--- the largest number that a fact has of rooms and lengths
+-- the largest number in a fact
 abbrev pub largest_known : ℕ
 largest_known = 65535
 
@@ -41,6 +41,6 @@ largest_known = 65535
 abbrev pub largest_hop : ℕ
 largest_hop = 16777215
 
--- the most node runs of a turn on packets of rings
+-- the most node runs of a turn on packets from rings
 abbrev pub most_ring_runs : ℕ
 most_ring_runs = 32

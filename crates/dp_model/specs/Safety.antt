@@ -1,4 +1,4 @@
--- What is promised of the node runs, the turns and the whole runs of checked nodes.
+-- What is promised of the node runs, turns and whole runs of checked nodes.
 use Rattle.std.specs.Prelude.{◌≡◌, ◌⊎◌, ℕ, zero, suc, ◌+◌, ◌<◌, ◌≤◌, Bool, false, nat_lt, if◌then◌else◌, List, ◌∷◌, ◌++◌, length, Option, Some, None, slice_get}
 use Rattle.std.specs.List.{AllByRecursion, AllZip}
 use Rattle.dp_model.specs.declared.env.Entry.{Entry}
@@ -24,12 +24,12 @@ use Rattle.dp_model.specs.Laws.{RowHoldsAt, Ready, Begins, AreChecked}
 abbrev pub IsPacket : Packet → Type 0
 IsPacket k = (1 ≤ length k) × (length k ≤ most_segments)
 
--- what a register holds is one, if it holds anything
+-- a register holds a packet or nothing
 abbrev pub IsPacketOrNone : Option Packet → Type 0
 IsPacketOrNone None = Unit {0}
 IsPacketOrNone (Some k) = IsPacket k
 
--- all that registers, rings and transmit lists hold are packets
+-- registers, rings and transmit lists hold packets
 pub record ArePackets (s : State) : Type 0 where
   pub held : AllByRecursion IsPacketOrNone s.packets
   pub rings : AllByRecursion (AllByRecursion IsPacket) s.world.rings
@@ -37,20 +37,20 @@ pub record ArePackets (s : State) : Type 0 where
 
 -- ---- node runs
 
--- what holds between node runs: what the next one finds, each mbuf has one owner, and packets are packets
+-- what holds between node runs: the next one can begin, each mbuf has one owner, and packets have 1 to 64 segments
 pub record IsAtRest (c : Setting) (w : World) : Type 0 where
   pub ready : Ready c w
   pub owned : AreOwned c.env.pools (live (between w))
   pub packets : ArePackets (between w)
 
--- a node run begins as its entry says, in a world that is well formed
+-- a node run begins as its entry says, in a well-formed world
 pub record BeginsWell (c : Setting) (q : Question) (k : Packet) (number : ℕ) (w : World) : Type 0 where
   pub begins : Begins c q k number w
   pub owned : AreOwned c.env.pools (live (first_state k number w))
   pub packets : ArePackets (first_state k number w)
 
--- before each instruction: the row of its label holds, each packet in a ring meets what the ring declares, the world is
--- well formed, and there is a step
+-- before each instruction: its label's row holds, each packet in a ring satisfies what the ring declares, the world is well formed, and there is a
+-- step
 pub record IsSafeAt (c : Setting) (q : Question) (label : ℕ) (s : State) : Type 0 where
   pub row : RowHoldsAt c q.rows label s
   pub rings : AllZip (RingHolds c.env.pools (live s)) c.env.rings s.world.rings
@@ -58,22 +58,22 @@ pub record IsSafeAt (c : Setting) (q : Question) (label : ℕ) (s : State) : Typ
   pub packets : ArePackets s
   pub has_step : (m : Move) × Step c q.program label s m
 
--- a node run that begins with this packet, this number and this world
+-- what holds of a node run that begins with this packet, number and world
 pub record IsSafeRun (c : Setting) (q : Question) (k : Packet) (number : ℕ) (w : World) : Type 0 where
   -- it begins in the row of its entry
   pub begins : (row : Row) × (entry_row q.env q.entry ≡ Some row) × RowHolds c.env row (first_state k number w)
-  -- wherever it comes, all is safe, so it is never stuck
+  -- at each label that it reaches it is safe, so it is never stuck
   pub stays : (n label : ℕ) (answers : List Bool) (s : State) → Goes c q.program n 0 (first_state k number w) answers (At label) s → IsSafeAt c q label s
-  -- it takes few steps
+  -- it takes at most `most_steps`
   pub short : (n : ℕ) (answers : List Bool) (next : Next) (s : State) → Goes c q.program n 0 (first_state k number w) answers next s → n ≤ most_steps q.program
   -- it can end
   pub ends : (answers : List Bool) × (w' : World) × NodeRun c q.program k number w answers w'
-  -- and where it ends the next one can begin
+  -- and then the next one can begin
   pub rests : (answers : List Bool) (w' : World) → NodeRun c q.program k number w answers w' → IsAtRest c w'
 
 -- ---- the node runs of a turn
 
--- how a node run begins: with which program, packet and number, and in which world
+-- how a node run begins: its program, packet, number and world
 pub record Beginning : Type 0 where
   pub entry : Entry
   pub program : List Instr
@@ -81,7 +81,7 @@ pub record Beginning : Type 0 where
   pub number : ℕ
   pub world : World
 
--- a node run of this turn begins so: the record is small enough, the call is not refused, and the packet has its bytes
+-- a node run of this turn begins so: the record is small enough, its call is not refused, and the packet has its bytes
 pub record IsOfRecord (c : Setting) (nodes : Nodes) (port : ℕ) (bytes : List ℕ) (w : World) (b : Beginning) : Type 0 where
   pub spec : PortSpec
   pub spec_is : slice_get c.env.ports port ≡ Some spec
@@ -101,7 +101,7 @@ pub record IsOfRecord (c : Setting) (nodes : Nodes) (port : ℕ) (bytes : List �
     world = record w { buffers = buffers; calls = w.calls + 1 };
   }
 
--- so many whole node runs on packets that wait in rings, one after the other
+-- n whole node runs on packets that wait in rings, one after the other
 abbrev pub HasServed : Setting → List (List Instr) → ℕ → World → World → Type 0
 HasServed c programs zero w w' = w' ≡ w
 HasServed c programs (suc n) w w' =
@@ -109,7 +109,7 @@ HasServed c programs (suc n) w w' =
     × (first_waiting w.rings ≡ Some next) × (slice_get programs next.ring ≡ Some program)
     × NodeRun c program next.packet next.ring (record w { rings = next.rings }) answers mid × HasServed c programs n mid w'
 
--- rings are served until none has a packet, or as often as may be
+-- rings are served until none has a packet, or n times
 pub record IsServed (c : Setting) (programs : List (List Instr)) (n : ℕ) (w : World) (runs : ℕ) (w' : World) : Type 0 where
   pub served : HasServed c programs runs w w'
   pub few : runs ≤ n
@@ -150,7 +150,7 @@ pub record IsSafeBeginning (c : Setting) (b : Beginning) : Type 0 where
 
 -- ---- turns
 
--- what becomes of a record: the pattern and the free buffers decide
+-- the outcome of a record: the pattern and the free buffers decide
 abbrev pub outcome_for : Setting → PortSpec → List ℕ → World → Outcome
 outcome_for c spec bytes w =
     if nat_lt spec.segs (needed c.env.pools spec.pool (length bytes)) then Oversize else
@@ -159,32 +159,32 @@ outcome_for c spec bytes w =
 pub record IsSafeTurn (c : Setting) (nodes : Nodes) (port : ℕ) (spec : PortSpec) (bytes : List ℕ) (w : World) : Type 0 where
   -- no node run of the turn is ever stuck
   pub never_stuck : (b : Beginning) → IsOfTurn c nodes port bytes w b → NeverStuck c b.program b.packet b.number b.world
-  -- they are all safe
+  -- all of them are safe
   pub runs : (b : Beginning) → IsOfTurn c nodes port bytes w b → IsSafeBeginning c b
   -- there is such a turn
   pub exists : (outcome : Outcome) × (runs : ℕ) × (answers : List Bool) × (w' : World) × Turn c nodes port bytes w outcome runs answers w'
-  -- each has the outcome that the pattern and the free buffers decide, and where it ends the next one can begin
+  -- each has the outcome that the pattern and the free buffers decide, and after it the next turn can begin
   pub outcome : (outcome : Outcome) (runs : ℕ) (answers : List Bool) (w' : World) → Turn c nodes port bytes w outcome runs answers w' →
       outcome ≡ outcome_for c spec bytes w
   pub rests : (outcome : Outcome) (runs : ℕ) (answers : List Bool) (w' : World) → Turn c nodes port bytes w outcome runs answers w' → IsAtRest c w'
 
 -- ---- whole runs
 
--- a pipeline: an environment within the limits, and a node for each port and each ring, accepted with its entry
+-- a pipeline: an environment within the limits, and an accepted node for each port and each ring
 pub record IsPipeline (c : Setting) (nodes : Nodes) : Type 0 where
   pub limits : fault_of c.env ≡ None
   pub checked : AreChecked c nodes
   pub ports : length nodes.ports ≡ length c.env.ports
   pub rings : length nodes.rings ≡ length c.env.rings
 
--- what each of its instructions does leads to one of them, or ends the node run, wherever the run comes
+-- each of its instructions leads to one of them, or ends the node run
 abbrev pub LeadsWithin : Setting → Beginning → Type 0
 LeadsWithin c b =
     (n label : ℕ) (answers : List Bool) (s : State) (i : Instr) (m : Move) →
     Goes c b.program n 0 (first_state b.packet b.number b.world) answers (At label) s → slice_get b.program label ≡ Some i → Acts c label (with_step s) i m →
     IsLabel b.program m.next
 
--- what holds of the node runs of every pipeline, from a world at rest on, whatever comes
+-- what holds of the node runs of every pipeline from a world at rest on, whatever records come
 pub record KeepsSafe (c : Setting) (nodes : Nodes) : Type 0 where
   -- those of a turn are safe
   pub turn_runs : (port : ℕ) (bytes : List ℕ) (w : World) (b : Beginning) → IsAtRest c w → IsOfTurn c nodes port bytes w b → IsSafeBeginning c b
@@ -200,7 +200,7 @@ pub record KeepsSafe (c : Setting) (nodes : Nodes) : Type 0 where
       })
   -- a safe one goes from instruction to instruction
   pub leads : (b : Beginning) → IsSafeBeginning c b → LeadsWithin c b
-  -- whatever becomes of a record, the world is at rest again
+  -- after every record the world is at rest again
   pub arrives : (program : List Instr) (port : ℕ) (spec : PortSpec) (bytes : List ℕ) (w w' : World) (outcome : Outcome) (answers : List Bool) →
       slice_get nodes.ports port ≡ Some program →
       slice_get c.env.ports port ≡ Some spec → IsAtRest c w → Arrives c program port spec bytes w outcome answers w' → IsAtRest c w'
@@ -209,12 +209,12 @@ pub record KeepsSafe (c : Setting) (nodes : Nodes) : Type 0 where
 abbrev pub AreShort : ℕ → List (List Instr) → Type 0
 AreShort most programs = (i : ℕ) (program : List Instr) → slice_get programs i ≡ Some program → length program ≤ most
 
--- a record can come: its port is there, and it has bytes
+-- a record can come: its port exists, and it consists of bytes
 pub record CanArrive {T : Type 0} (c : Setting) (a : Arrival T) : Type 0 where
   pub port : a.port < length c.env.ports
   pub bytes : AllByRecursion (λ x. x < 256) a.bytes
 
--- a node run of this run begins so: in the turn of a record, after a run on those before it
+-- a node run of this run begins so: in the turn of a record, after those before it
 pub record IsOfRun {T : Type 0} (c : Setting) (nodes : Nodes) (arrivals : List (Arrival T)) (w : World) (b : Beginning) : Type 0 where
   pub before : List (Arrival T)
   pub arrival : Arrival T
@@ -228,16 +228,16 @@ pub record IsOfRun {T : Type 0} (c : Setting) (nodes : Nodes) (arrivals : List (
 pub record AreSafe {T : Type 0} (c : Setting) (nodes : Nodes) (arrivals : List (Arrival T)) (w : World) : Type 0 where
   -- no node run is ever stuck
   pub never_stuck : (b : Beginning) → IsOfRun c nodes arrivals w b → NeverStuck c b.program b.packet b.number b.world
-  -- they are all safe
+  -- all of them are safe
   pub runs : (b : Beginning) → IsOfRun c nodes arrivals w b → IsSafeBeginning c b
   -- there is such a run
   pub exists : (shown : Shown T) × (w' : World) × Run c nodes arrivals w shown w'
-  -- and where it ends the next record can come
+  -- and after it the next record can come
   pub rests : (shown : Shown T) (w' : World) → Run c nodes arrivals w shown w' → IsAtRest c w'
 
--- what holds of whole runs of every pipeline, whatever comes
+-- what holds of whole runs of every pipeline, whatever records come
 pub record KeepsRunsSafe {T : Type 0} (c : Setting) (nodes : Nodes) (arrivals : List (Arrival T)) (w : World) : Type 0 where
   -- their node runs are safe
   pub runs : (b : Beginning) → IsOfRun c nodes arrivals w b → IsSafeBeginning c b
-  -- and where such a run ends the next record can come
+  -- and after such a run the next record can come
   pub rests : (shown : Shown T) (w' : World) → Run c nodes arrivals w shown w' → IsAtRest c w'

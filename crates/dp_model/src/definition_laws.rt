@@ -1,28 +1,27 @@
-//! What is proved of the definitions themselves, as contracts of functions that do nothing.
+//! Laws of the definitions themselves, as contracts of functions that do nothing.
 
-ghost use Rattle.std.specs.Prelude.{◌≡◌, ◌≢◌, ◌↔◌, ◌⊎◌, ℕ, ◌+◌, ◌*◌, ◌%◌, ◌^◌, ◌<◌, ◌≤◌, Bool, true, List, [], ◌∷◌, length, Option, Some, None, slice_index_or};
+ghost use Rattle.std.specs.Prelude.{◌≡◌, ◌↔◌, ◌⊎◌, ℕ, ◌+◌, ◌*◌, ◌%◌, ◌^◌, ◌<◌, ◌≤◌, Bool, true, List, [], ◌∷◌, length, Option, Some, None, slice_index_or};
 ghost use Rattle.dp_model.specs.Arithmetic.{all_ones, big_endian, spelled};
 ghost use Rattle.dp_model.specs.Buffers.{Number, Buffers, bytes_of};
-ghost use Rattle.dp_model.specs.Environments.{Environment, room_at, count_at, fault_of};
-ghost use Rattle.dp_model.specs.Limits.{least_port_room, most_buffers, most_ring_runs, most_segments};
+ghost use Rattle.dp_model.specs.Environments.{Environment, count_at, fault_of};
+ghost use Rattle.dp_model.specs.Limits.{most_buffers, most_ring_runs};
 ghost use Rattle.dp_model.specs.Machine.{Setting, State, World, At, Move, Acts, Step, live, without_packet, without_packets, jump_budget};
 ghost use Rattle.dp_model.specs.Jumps.{label_of};
 ghost use Rattle.dp_model.specs.Laws.{AreChecked};
 ghost use Rattle.dp_model.specs.Meaning.{TablesFit};
-ghost use Rattle.dp_model.specs.Packets.{Segment, Packet, refs, is_free, available, headroom, tailroom, first_len, last_len, IsHeadSole, IsTailSole};
-ghost use Rattle.dp_model.specs.Packets.{AreOwned, IsWellFormed, at_front, at_end, more_before, less_before, more_behind, less_behind, zeroed_before};
-ghost use Rattle.dp_model.specs.Packets.{zeroed_behind, stored, loaded};
+ghost use Rattle.dp_model.specs.Packets.{Segment, Packet, refs, is_free, available};
+ghost use Rattle.dp_model.specs.Packets.{AreOwned, IsWellFormed};
+ghost use Rattle.dp_model.specs.Packets.{stored, loaded};
 ghost use Rattle.dp_model.specs.Prefixes.{Route, IsTable, LooksUp, hop_for};
 ghost use Rattle.dp_model.specs.Runs.{Goes, first_state, NodeRun, most_steps, TookAtMost, Receives, Serves, Nodes, Outcome, Turn, Arrival};
 ghost use Rattle.dp_model.specs.Runs.{Shown, WholeRun, between, with_empty_outboxes, with_empty_rings, of_port, interleaved};
 ghost use Rattle.dp_model.specs.Safety.{ArePackets, IsAtRest, Beginning, IsOfRecord, IsServed, AreShort};
 ghost use Rattle.dp_model.specs.Starts.{IsStart};
-ghost use Rattle.dp_model.specs.Stores.{Store, segments_of, Has, with_slot, Becomes, unwritten, Allocates, ReceivesInto, Clones, Chains, IsWellFormedStore};
 ghost use Rattle.dp_model.specs.declared.env.PoolSpec.{PoolSpec};
 ghost use Rattle.dp_model.specs.declared.instr.Instr.{Instr};
 
-/// Worlds stay well formed: at each step of any program, accepted or not, and at the drains; so is the start. Packets
-/// stay packets of 1 to 64 segments. There are never more references to a buffer than 16 bits can count.
+/// Worlds stay well formed: at the start, at each step of any program, accepted or not, and at the drains. Packets keep 1 to 64 segments. A buffer
+/// never has more references than 16 bits can count.
 pub fn worlds_stay_well_formed()
     ensures steps { (c : Setting) (program : List Instr) (label : ℕ) (s : State) (m : Move) →
         IsWellFormed c.env.pools s.world.buffers (live s) → Step c program label s m →
@@ -35,37 +34,14 @@ pub fn worlds_stay_well_formed()
         fault_of env ≡ None → AreOwned env.pools segments → refs segments b ≤ most_buffers }
 {}
 
-/// Packet layers stay well formed at each call that takes packets or changes one.
-pub fn layers_stay_well_formed()
-    ensures alloc { (s s' : Store) (pool h : ℕ) → IsWellFormedStore s → Allocates s pool s' (Some h) → IsWellFormedStore s' }
-    ensures receive { (s s' : Store) (pool h : ℕ) (bytes : List ℕ) → least_port_room ≤ room_at s.pools pool → IsWellFormedStore s →
-        ReceivesInto s pool bytes s' (Some h) → IsWellFormedStore s' }
-    ensures clone_of { (s s' : Store) (source pool h : ℕ) (k : Packet) → IsWellFormedStore s → Has s source k →
-        Clones s source pool s' (Some h) → IsWellFormedStore s' }
-    ensures free { (s : Store) (h : ℕ) (k : Packet) → IsWellFormedStore s → Has s h k → IsWellFormedStore (with_slot h None s) }
-    ensures prepend { (s s' : Store) (h n : ℕ) (k : Packet) → IsWellFormedStore s → Has s h k → n ≤ headroom k → IsHeadSole (segments_of s) k →
-        Becomes s s' h (at_front (more_before n)) (zeroed_before n) → IsWellFormedStore s' }
-    ensures adj { (s s' : Store) (h n : ℕ) (k : Packet) → IsWellFormedStore s → Has s h k → n ≤ first_len k →
-        Becomes s s' h (at_front (less_before n)) unwritten → IsWellFormedStore s' }
-    ensures append { (s s' : Store) (h n : ℕ) (k : Packet) → IsWellFormedStore s → Has s h k → n ≤ tailroom s.pools k → IsTailSole (segments_of s) k →
-        Becomes s s' h (at_end (more_behind n)) (zeroed_behind n) → IsWellFormedStore s' }
-    ensures trim { (s s' : Store) (h n : ℕ) (k : Packet) → IsWellFormedStore s → Has s h k → n ≤ last_len k →
-        Becomes s s' h (at_end (less_behind n)) unwritten → IsWellFormedStore s' }
-    ensures chain { (s s' : Store) (h t : ℕ) (k tail : Packet) → IsWellFormedStore s → h ≢ t → Has s h k → Has s t tail →
-        length k + length tail ≤ most_segments → Chains s h t s' → IsWellFormedStore s' }
-    ensures store { (s s' : Store) (h offset w n : ℕ) (k : Packet) → IsWellFormedStore s → Has s h k → offset + w ≤ first_len k →
-        Becomes s s' h (λ k. k) (stored offset w n) → IsWellFormedStore s' }
-{}
-
-/// The two readings of the longest prefix agree: what the deepest route that matches gives is what the search depth
-/// by depth finds.
+/// The two definitions of the longest prefix agree: the deepest route that matches has the hop that the search depth by depth finds.
 pub fn longest_prefixes_agree()
     ensures { (routes : List Route) (ip : ℕ) (answer : Option ℕ) → IsTable routes →
         (LooksUp routes ip answer) ↔ (answer ≡ hop_for routes ip) }
 {}
 
-/// Numbers are what they are called: `all_ones` is the least 2^k - 1 that is at least a number, the bytes of a number
-/// spell its low part, and what is stored is loaded.
+/// Words on numbers mean what they say: `all_ones` is the least 2^k - 1 that is at least a number, a number's bytes spell its low part, and a load
+/// returns what was stored.
 pub fn numbers_are_as_called()
     ensures ones { (n : ℕ) → (k : ℕ) × (all_ones n + 1 ≡ 2 ^ k) }
     ensures enough { (n : ℕ) → n ≤ all_ones n }
@@ -75,8 +51,8 @@ pub fn numbers_are_as_called()
         s.offset + s.len ≤ length (bytes_of buffers s.buffer) → loaded offset w (s ∷ rest) (stored offset w n (s ∷ rest) buffers) ≡ n % 256 ^ w }
 {}
 
-/// Runs are as they read: rounds give each port the records of its input, in order; rings are served until none has a
-/// packet, or as often as may be; a record is received and its node runs, in one or one after the other.
+/// Two definitions of each part of a run agree: rounds give each port the records of its input in order; rings are served until none has a packet, or
+/// until the limit; receiving a record and running its node can be one step or two.
 pub fn runs_are_as_they_read<T>()
     ensures rounds { (port : ℕ) (inputs : List (List (T × List ℕ))) → of_port port (interleaved inputs) ≡ slice_index_or inputs port [] }
     ensures serves { (c : Setting) (programs : List (List Instr)) (n : ℕ) (w : World) (answers : List Bool) (runs : ℕ) (w' : World) →
@@ -86,9 +62,8 @@ pub fn runs_are_as_they_read<T>()
         Receives c r.program port r.spec bytes w (true ∷ answers) w' }
 {}
 
-/// Whole runs end as they read, for every list of programs, accepted or not: from a start on, no packet is left in a
-/// ring or a transmit list, every buffer is free, so each pool has as many as it has buffers; the allocation calls are
-/// those of which the run tells. What leaves the rings is counted for each of them.
+/// Whole runs end as they should, for every list of programs, accepted or not: from a start on, no packet is left in a ring or a transmit list, each
+/// pool has all its buffers free, and the allocation calls are those that the run reports. What is left in the rings is counted for each ring.
 pub fn whole_runs_end_with_whole_pools<T>()
     ensures nothing { (c : Setting) (nodes : Nodes) (arrivals : List (Arrival T)) (w w' : World) (shown : Shown T) (left : List ℕ) →
         IsStart c.env w → WholeRun c nodes arrivals w shown left w' → live (between w') ≡ [] }
@@ -101,10 +76,9 @@ pub fn whole_runs_end_with_whole_pools<T>()
     ensures rests { (c : Setting) (w : World) → IsAtRest c w → IsAtRest c (with_empty_rings w) }
 {}
 
-/// The budget of backward jumps is as it reads, for every program, accepted or not. What comes after an instruction is
-/// the next label, or the label that it names: so only a jump that is taken leads backward. What a cut frees is freed
-/// register by register, p0 first. A node run takes at most 256 backward jumps, and at most 257 times as many steps as
-/// its program has instructions; only its last step may cut it. A turn's node runs are at most 33.
+/// The budget of backward jumps works as documented, for every program, accepted or not. After an instruction comes the next label, or the label that
+/// it names: so only a jump that is taken leads backward. A cut frees register by register, p0 first. A node run takes at most 256 backward jumps,
+/// and at most 257 times as many steps as its program has instructions; only its last step can cut it. A turn has at most 33 node runs.
 pub fn budgets_are_as_they_read()
     ensures jumps { (c : Setting) (label to : ℕ) (s : State) (i : Instr) (m : Move) → Acts c label s i m → m.next ≡ At to →
         (to ≡ label + 1) ⊎ (label_of i ≡ Some to) }

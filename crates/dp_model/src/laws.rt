@@ -1,4 +1,4 @@
-//! What is proved of accepted programs, as contracts of functions that do nothing.
+//! Laws of accepted programs, as contracts of functions that do nothing.
 
 ghost use Rattle.std.specs.Prelude.{◌≡◌, ◌+◌, ◌*◌, ◌<◌, ◌≤◌, ℕ, List, Bool, Some, length, slice_get};
 ghost use Rattle.std.specs.List.{AllByRecursion};
@@ -13,12 +13,11 @@ ghost use Rattle.dp_model.specs.Safety.{BeginsWell, IsSafeRun, IsAtRest, IsPipel
 ghost use Rattle.dp_model.specs.Starts.{IsStart};
 ghost use Rattle.dp_model.specs.declared.env.PortSpec.{PortSpec};
 
-/// Accepted programs are never stuck, for every environment, program, certificate, entry, set of tables and pattern
-/// of refused calls. A node run begins in the row of its entry; wherever it comes, the row of the label holds, each
-/// packet in a ring meets what the ring declares, the world is well formed, and there is a step; it takes at most 257
-/// times as many steps as its program has instructions, and can end, by its program or by a cut. No node run of a turn
-/// is ever stuck, there is a turn for each record, the pattern and the free buffers decide its outcome, and its
-/// allocation calls are counted and few. The same holds of whole runs from the start on. A `T` is the time of a record.
+/// Accepted programs are never stuck, for every environment, program, certificate, entry, set of tables and pattern of refused calls. A node run
+/// begins in the row of its entry. At each label that it reaches the label's row holds, each packet in a ring satisfies what the ring declares, the
+/// world is well formed, and there is a step. It takes at most 257 times as many steps as its program has instructions, and can end, by its program
+/// or by a cut. The same holds for all node runs of a turn: there is a turn for each record, the pattern and the free buffers decide its outcome, and
+/// its allocation calls are counted and bounded. The same holds for whole runs from the start on. `T` is the time of a record.
 pub fn accepted_programs_are_safe<T>()
     ensures node_runs { (c : Setting) (q : Question) (k : Packet) (number : ℕ) (w : World) →
         IsCertified q → BeginsWell c q k number w → IsSafeRun c q k number w }
@@ -34,8 +33,8 @@ pub fn accepted_programs_are_safe<T>()
         AreSafe c nodes arrivals w }
 {}
 
-/// A node run of an accepted program that begins as its entry says is never stuck, each row holds where the run
-/// comes, and at the end each packet in a ring has what the ring declares.
+/// A node run of an accepted program that begins as its entry says is never stuck, each row holds where the run reaches it, and at the end each
+/// packet in a ring satisfies what the ring declares.
 pub fn accepted_programs_are_sound()
     ensures { (c : Setting) (q : Question) (k : Packet) (number : ℕ) (w : World) →
         IsCertified q → Begins c q k number w → IsSound c q k number w }
@@ -47,13 +46,13 @@ pub fn turns_stay_ready()
         AreChecked c nodes → Ready c w → Turn c nodes port bytes w outcome runs answers w' → Ready c w' }
 {}
 
-/// The node runs of every pipeline are safe, whatever comes: those of each turn, and that on the packet that waits next; each goes from
-/// instruction to instruction; and whatever becomes of a record, the world is at rest again. This is the form that an engine cites.
+/// The node runs of every pipeline are safe, whatever records come: those of each turn, and that on the packet that waits next. Each goes from
+/// instruction to instruction, and after every record the world is at rest again. An engine cites this form.
 pub fn pipelines_keep_safe()
     ensures { (c : Setting) (nodes : Nodes) → IsPipeline c nodes → KeepsSafe c nodes }
 {}
 
-/// The same of whole runs from the start on. A `T` is the time of a record.
+/// The same for whole runs from the start on. `T` is the time of a record.
 pub fn runs_keep_safe<T>()
     ensures { (c : Setting) (nodes : Nodes) (arrivals : List (Arrival T)) (w : World) →
         TablesFit c → IsPipeline c nodes → IsStart c.env w → KeepsRunsSafe c nodes arrivals w }

@@ -1,6 +1,6 @@
-//! The limits and sizes that definitions name, as constants.
+//! The limits and sizes that the definitions cite, as constants.
 
-/// The most buffers of a pool, and of all pools together: what 16 bits number.
+/// The most buffers of a pool, and of all pools together: their indexes have 16 bits.
 pub const MOST_BUFFERS: u32 = 65_535;
 
 /// The most indexes in a pool's cache.
@@ -18,7 +18,7 @@ pub const MOST_SEGMENTS: u8 = 64;
 /// The headroom of a new or received packet, in bytes.
 pub const DEFAULT_HEADROOM: u16 = 128;
 
-/// The least data room that a port receives into: the headroom, and a byte.
+/// The smallest data room that a port receives into: the headroom, and a byte.
 pub const LEAST_PORT_ROOM: u32 = 129;
 
 /// The largest hop of a route.

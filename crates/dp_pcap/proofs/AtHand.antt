@@ -1,4 +1,4 @@
--- What a reader has at hand: the front of the bytes that are left.
+-- Buffered bytes: the front of the bytes that are left.
 use Rattle.std.proofs.Common.{◌≡◌, ℕ, zero, suc, ◌+◌, ◌≤◌, Bool, true, false, List, [], ◌++◌, Option, None, Some, if◌then◌else◌, arith, length, take, drop}
 use Rattle.std.proofs.Common.{refl, sym, ap, ◌∙◌, subst, length-drop, length-take-le, take_all}
 use Rattle.std.proofs.lemmas.List.{take-append-le, take-append-drop}
@@ -21,7 +21,7 @@ begins false broken None held = tt
 begins false true (Some ys) held = (held ++ ys, refl)
 begins false false (Some ys) held = (ys, refl)
 
--- and what stepping over n of them leaves
+-- and what skipping n of them leaves
 pub passes : (is_empty broken : Bool) (known new : Option (List ℕ)) (held : List ℕ) (n : ℕ) → n ≤ length (if broken then [] else held)
     → IfSome (if is_empty then None else prepend_known held known) (λ xs. IfSome (Some (length held)) (λ most. n ≤ most) → new ≡ Some (drop n xs))
     → Consumes (if is_empty then None else prepend_known held known) new (take n (if broken then [] else held))
@@ -41,7 +41,7 @@ passes false false (Some ys) new held n fits drops =
     ∙ take-append-drop n (held ++ ys)) in
     subst (λ (o : Option (List ℕ)). Consumes (Some (held ++ ys)) o (take n held)) (sym left) whole
 
--- stepping over a record that is at hand
+-- skipping a buffered record
 pub passed : (a b : Option (List ℕ)) (old new : Standing) (held : List ℕ) (time : Time) (len : ℕ) → IsHeld old held time len →
     Consumes a b (take (16 + len) held) → new ≡ advanced old len
     → WhereKnown a b (λ left rest. Continues old new left rest (body_in held len) (Ok (Record time len)))

@@ -1,4 +1,4 @@
--- A count of calls has no bytes and owns nothing.
+-- A count of calls takes no bytes and owns nothing.
 use Rattle.std.proofs.Common.{ℕ, [], ◌∷◌, refl}
 use seplogic.Ra.Ura.{Ura}
 use base.Logic.{ent, emp}

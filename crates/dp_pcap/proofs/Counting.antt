@@ -1,4 +1,4 @@
--- Counting whole records: what more bytes make of a count.
+-- Counting whole records: the count after more bytes.
 use Rattle.std.proofs.Common.{◌≡◌, ◌≢◌, ℕ, zero, suc, ◌+◌, ◌^◌, ◌<◌, ◌≤◌, List, [], ◌++◌, length, take, refl, sym, ap, ◌∙◌, subst, inl, inr, arith}
 use Rattle.std.proofs.Common.{length-append, length-take, append_assoc, append-nil, take_all, drop}
 use Rattle.std.proofs.lemmas.List.{take-append-drop, take-take, length-take-le, length-drop}
@@ -8,11 +8,12 @@ use Rattle.dp_pcap.specs.declared.byte_order.Order.{Order}
 use Rattle.dp_pcap.specs.declared.byte_order.Order.TheVariants.{Little, Big}
 use Rattle.dp_pcap.specs.declared.time.Unit.{Unit as TimeUnit}
 use Rattle.dp_pcap.specs.Capture.{captured, number, IsHeader}
-use Rattle.dp_pcap.specs.Counting.{Counted, ArePieces, IsPart, IsBehind}
+use Rattle.dp_pcap.specs.Counting.{Counted, ArePieces, IsPart, IsBehind, none_left}
+use Rattle.std.proofs.Math.Seq.{take-add}
 
 -- ---- the order
 
--- the version shows it
+-- the version decides it
 pub version_big : (o : Order) (u : TimeUnit) (header : List ℕ) → number Big 2 (drop 4 header) ≡ 2 → IsHeader o u header → Big ≡ o
 unfolding number
 version_big Big u header two is = refl
@@ -22,7 +23,7 @@ pub version_little : (o : Order) (u : TimeUnit) (header : List ℕ) → number B
 version_little Little u header other is = refl
 version_little Big u header other is = absurd (other is.version.0)
 
--- ---- inside the header, or behind a record's head
+-- ---- inside the header, or after a record's head
 
 no_head : (o : Order) (n left : ℕ) (head part : List ℕ) → 0 < left → IsPart o n left head part → [] ≡ head
 no_head o zero left head part more (none, some, all) = sym none
@@ -56,7 +57,7 @@ completed o pieces left head before more size any b = record {
   is_part = inl (refl, omega (arith, ap length (no_head o pieces left head b.part any b.is_part)), no_head o pieces left head b.part any b.is_part);
 }
 
--- the same, with the numbers that a call leaves
+-- the same with the numbers of a call
 pub completes : (o : Order) (pieces left pieces' left' n : ℕ) (head before bytes : List ℕ) → pieces' ≡ suc pieces → left' ≡ 0 → n ≡ left → n ≤ length bytes →
     0 < left
     → IsBehind (record { order = o; pieces = pieces; left = left; head = head }) before →
@@ -124,7 +125,7 @@ head_alone o pieces head before more full is_long b = record {
   is_part = inl (refl, omega arith, refl);
 }
 
--- ---- a record that stands whole
+-- ---- a whole record
 
 one_record : (o : Order) (n : ℕ) (whole part before more : List ℕ) → ArePieces o n whole → IsPart o n 0 [] part → before ≡ whole ++ part → 16 ≤ length more
     → length (drop 16 more) ≡ captured o (take 16 more) → ArePieces o (suc n) (before ++ more)
@@ -139,7 +140,7 @@ one_record o (suc n) whole part before more are (inl (none, less, same)) split f
 )
 one_record o (suc n) whole part before more are (inr (some, none, inside)) split full is_long = absurd (omega (arith, some))
 
--- its head and all that its head is_long
+-- its head and all of its bytes
 pub record_whole : (o : Order) (pieces : ℕ) (before more : List ℕ) → 16 ≤ length more → length (drop 16 more) ≡ captured o (take 16 more)
     → IsBehind (record { order = o; pieces = pieces; left = 0; head = [] }) before →
     IsBehind (record { order = o; pieces = suc pieces; left = 0; head = [] }) (before ++ more)
@@ -151,7 +152,7 @@ record_whole o pieces before more full is_long b = record {
   is_part = inl (refl, omega arith, refl);
 }
 
--- the same, with the numbers that a call leaves
+-- the same with the numbers of a call
 pub record_passed : (o : Order) (pieces none came pieces' size : ℕ) (xs before bytes : List ℕ) → none ≡ 0 → came ≡ 0 → pieces' ≡ suc pieces →
     size ≤ length bytes
     → size ≡ 16 + captured o (take 16 bytes) → IsBehind (record { order = o; pieces = pieces; left = none; head = take came xs }) before
@@ -167,7 +168,30 @@ record_passed o pieces none came pieces' size xs before bytes was begins more wi
     (subst (λ n. IsBehind (record { order = o; pieces = pieces; left = 0; head = take n xs }) before) begins
     (subst (λ n. IsBehind (record { order = o; pieces = pieces; left = n; head = take came xs }) before) was b)))))
 
--- the bytes of a head that is whole now, where those behind the first so many were written
+-- one more of the whole records at the front of these bytes
+pub front_passed : (o : Order) (n at size : ℕ) (before bytes rest : List ℕ) → rest ≡ drop at bytes → at ≤ length bytes → size ≤ length rest →
+    size ≡ 16 + captured o (take 16 rest) → IsBehind (none_left o n) (before ++ take at bytes)
+    → IsBehind (none_left o (n + 1)) (before ++ take (at + size) bytes)
+front_passed o n at size before bytes rest is there within is_long b =
+    subst (λ l. IsBehind (none_left o (n + 1)) l)
+    (append_assoc before (take at bytes) (take size rest) ∙ ap (λ l. before ++ l)
+    (ap (λ r. take at bytes ++ take size r) is ∙ sym (take-add at size bytes)))
+    (record_passed o n 0 0 (n + 1) size [] (before ++ take at bytes) rest refl refl (omega arith) within is_long b)
+
+-- n of them, with the numbers of a call
+pub fronts_passed : (o : Order) (pieces none came count pieces' size : ℕ) (xs before bytes : List ℕ) → none ≡ 0 → came ≡ 0 → pieces' ≡ pieces + count →
+    ((n : ℕ) (front : List ℕ) → IsBehind (none_left o n) front → IsBehind (none_left o (n + count)) (front ++ take size bytes))
+    → IsBehind (record { order = o; pieces = pieces; left = none; head = take came xs }) before
+    → IsBehind (record { order = o; pieces = pieces'; left = none; head = take came xs }) (before ++ take size bytes)
+fronts_passed o pieces none came count pieces' size xs before bytes was begins more all b =
+    subst (λ n. IsBehind (record { order = o; pieces = pieces'; left = n; head = take came xs }) (before ++ take size bytes)) (sym was)
+    (subst (λ n. IsBehind (record { order = o; pieces = pieces'; left = 0; head = take n xs }) (before ++ take size bytes)) (sym begins)
+    (subst (λ n. IsBehind (none_left o n) (before ++ take size bytes)) (sym more)
+    (all pieces before
+    (subst (λ n. IsBehind (record { order = o; pieces = pieces; left = 0; head = take n xs }) before) begins
+    (subst (λ n. IsBehind (record { order = o; pieces = pieces; left = n; head = take came xs }) before) was b)))))
+
+-- the bytes of a head that is now whole, of which those after the first `came` were written
 head_written : (came k n : ℕ) (xs ys bytes : List ℕ) → came + n ≡ 16 → n ≤ length bytes → came ≤ length xs → length (put_mid came k xs ys) ≡ 16 →
     ys ≡ take n bytes
     → put_mid came k xs ys ≡ take came xs ++ take n bytes
@@ -176,7 +200,7 @@ head_written came k n xs ys bytes full within there long same =
     ∙ take-put_mid came k xs ys 16 (omega (arith, full, within, ap length same, length-take n bytes)) there
     ∙ ap (λ l. take came xs ++ l) same
 
--- the bytes `ys` were written behind the first `came` of `xs`, and now that is a whole head, of a record with so many bytes
+-- the bytes `ys` were written after the first `came` of `xs`, and now that is a whole head of a record with this many bytes
 pub record IsHead (o : Order) (came k n left : ℕ) (xs ys bytes : List ℕ) : Type 0 where
   pub full : came + n ≡ 16
   pub within : n ≤ length bytes
@@ -192,7 +216,7 @@ head_size o came k n left xs ys bytes h = omega (arith, h.full, h.within, h.ther
 captured_size : (o : Order) (came k n left : ℕ) (xs ys bytes : List ℕ) → IsHead o came k n left xs ys bytes → left ≡ captured o (take came xs ++ take n bytes)
 captured_size o came k n left xs ys bytes h = h.is_long ∙ ap (captured o) (head_written came k n xs ys bytes h.full h.within h.there h.long h.written)
 
--- with the numbers that a call leaves: of a record without bytes
+-- with the numbers of a call: of a record without bytes
 pub head_ends : (o : Order) (pieces none came k n pieces' left : ℕ) (head' xs ys bytes before : List ℕ) → none ≡ 0 → pieces' ≡ suc pieces → left ≡ 0 →
     head' ≡ [] → IsHead o came k n left xs ys bytes
     → IsBehind (record { order = o; pieces = pieces; left = none; head = take came xs }) before →
@@ -217,7 +241,7 @@ head_goes_on o pieces none came k n left head' xs ys bytes before was any empty 
 
 -- ---- piece by piece
 
--- so many of the bytes went by
+-- the first `at` bytes have passed
 pub record Passing (old new : Counted) (bytes : List ℕ) (at : ℕ) : Type 0 where
   pub within : at ≤ length bytes
   pub order : new.order ≡ old.order

@@ -1,4 +1,4 @@
--- What ends a capture, in numbers: one ending at most fits.
+-- Endings of a capture, in numbers: at most one fits.
 use Rattle.std.proofs.Common.{◌≡◌, ◌≢◌, ℕ, ◌+◌, ◌<◌, ◌≤◌, List, [], ◌∷◌, ◌++◌, length, take, drop, refl, sym, ap, ◌∙◌, inl, inr, arith, length-append}
 use Rattle.std.proofs.Math.Seq.{take-append_seam, drop-append_seam}
 use Rattle.dp_pcap.specs.declared.byte_order.Order.{Order}
@@ -23,7 +23,7 @@ some : (xs : List ℕ) → xs ≢ [] → 0 < length xs
 some [] h = absurd (h refl)
 some (x ∷ xs) h = omega arith
 
--- what an ending says in numbers: of how many records there were, how long the rest is, and what its first 16 bytes say
+-- an ending in numbers: how many records there were, the length of the rest, and what its first 16 bytes say
 pub Facts : (offset given long fraction len second : ℕ) → Ending → Type 0
 Facts offset given long fraction len second Whole = long ≡ 0
 Facts offset given long fraction len second (Cut byte) =
@@ -91,7 +91,7 @@ one_ending offset given n fraction m second (Refused TooLong) (Refused TooLong) 
 one_ending offset given n fraction m second (Refused TooLong) (Refused _) (few, room, time, long) x' = absurd x'
 one_ending offset given n fraction m second (Refused _) _ x y = absurd x
 
--- where a record is taken, no ending is
+-- where a record is taken, there is no ending
 no_ending : (offset given long fraction len second : ℕ) (e : Ending) → Facts offset given long fraction len second e
     → given < 16777216 → 16 + len ≤ long → fraction < second → len ≤ 262144 → ⊥
 unfolding Facts

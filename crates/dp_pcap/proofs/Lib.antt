@@ -1,4 +1,4 @@
--- The lemmas of dp_pcap, by subject.
+-- Lists the lemma files.
 pub mod AtHand
 pub mod CountLemmas
 pub mod Fills

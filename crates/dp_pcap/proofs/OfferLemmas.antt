@@ -1,4 +1,4 @@
--- A list of offers has no bytes and owns nothing.
+-- A list of offers takes no bytes and owns nothing.
 use Rattle.std.proofs.Common.{ℕ, List, [], ◌∷◌, refl}
 use seplogic.Ra.Ura.{Ura}
 use base.Logic.{ent, emp}

@@ -1,4 +1,4 @@
--- The causes for which a capture is not read or not written, by number.
+-- The numbers of the causes for which a capture is not read or written.
 use Rattle.std.specs.Prelude.{ℕ}
 use Rattle.dp_pcap.specs.declared.error.PcapError.{PcapError}
 use Rattle.dp_pcap.specs.declared.error.PcapError.TheVariants.{BadMagic, BadVersion, BadLink, BadTime, TooLong, ShortHeader, TooMany, Read, Write}

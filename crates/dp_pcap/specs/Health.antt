@@ -1,4 +1,4 @@
--- What contracts see of a device's health.
+-- The health of a device, as contracts see it.
 use Rattle.std.specs.Prelude.{ℕ, ◌+◌, Bool, true, false}
 
 -- whether it is broken, how many calls it had, and how many of them failed
@@ -11,10 +11,10 @@ pub record State : Type 0 where
 abbrev pub fresh : State
 fresh = record { is_broken = false; calls = 0; failures = 0 }
 
--- behind one call more
+-- after one more call
 abbrev pub called : State → State
 called s = record s { calls = s.calls + 1 }
 
--- where that call failed
+-- after that call failed
 abbrev pub failed : State → State
 failed s = record s { is_broken = true; failures = s.failures + 1 }

@@ -1,7 +1,7 @@
--- What a writer is offered of a piece: all of it, and then each time the rest that was not taken.
+-- The offers of a piece: all of it, and then each time the rest that was not taken.
 use Rattle.std.specs.Prelude.{◌≡◌, ℕ, ◌<◌, List, [], ◌∷◌, ◌++◌, ◌⊎◌, length, drop}
 
--- offers of a piece, of which so many bytes were taken before: what is left of it each time, until so many are taken
+-- offers of a piece of which n bytes were taken before: what is left of it each time, until m are taken
 abbrev pub AreRests : List ℕ → ℕ → List (List ℕ) → ℕ → Type 0
 AreRests piece taken [] end = taken ≡ end
 AreRests piece taken (offer ∷ offers) end =

@@ -1,4 +1,4 @@
--- Internal: what is known once bytes came in, went out or went by.
+-- Internal: after bytes came in, went out or passed.
 use Rattle.std.specs.Prelude.{◌≡◌, ℕ, ◌+◌, ◌<◌, ◌≤◌, ◌^◌, List, ◌++◌, length, take, Option, Bool, false, Result}
 use Rattle.std.specs.Prelude.{OnOk, OnErr, IfOk, IsOk, IsErr, IsTrue, MatchResult}
 use Rattle.std.specs.Io.KnownBytes.{Appends, Consumes, IsAtEnd}
@@ -7,9 +7,9 @@ use Rattle.dp_pcap.specs.Counting.{Counted, IsBehind}
 use Rattle.dp_pcap.specs.Offering.{OffersWhole, OffersPart}
 use Rattle.dp_pcap.specs.Text.{AppendsPart}
 
--- A reader, which was `old` and is `new`, was asked for a piece until it was whole or the input ended: so many bytes came into a buffer
--- that held `before` and holds `after`, or the reader failed behind fewer than were wanted.
-pub record FillsWhole {R : Type 0} (remaining : R → Option (List ℕ)) (is_broken : R → Bool) (calls failed_calls : R →
+-- A reader, from `old` to `new`, was read until a piece was whole or the input ended: that many bytes came into a buffer that had `before` and has
+-- `after`, or the reader failed after fewer than were wanted.
+pub record FillsWhole {R : Type 0} (remaining : R → Option (List ℕ)) (is_broken : R → Bool) (calls failed_calls truncated : R →
     ℕ) (old new : R) (before after : List ℕ) (answer : Result ℕ Failed) : Type 0 where
   pub bound : IfOk answer (λ n. n ≤ length after)
   pub bytes : MatchResult answer
@@ -21,9 +21,10 @@ pub record FillsWhole {R : Type 0} (remaining : R → Option (List ℕ)) (is_bro
   pub stays : IsTrue (is_broken old) → IsTrue (is_broken new)
   pub counted : calls new ≤ calls old + length before
   pub ends : IfOk answer (λ n. calls new ≤ calls old + n + 1)
+  pub noted : truncated new ≡ truncated old
   pub failures : MatchResult answer (λ _. failed_calls new ≡ failed_calls old) (λ _. failed_calls new ≡ failed_calls old + 1)
 
--- A piece was offered to a writer, which was `old` and is `new`, until it was taken whole or the writer failed.
+-- A piece was offered to a writer, from `old` to `new`, until it was taken whole or the writer failed.
 pub record PutsWhole {W : Type 0} (contents : W → Option (List ℕ)) (offers : W → List (List ℕ)) (is_broken : W → Bool) (calls failed_calls : W →
     ℕ) (old new : W) (piece : List ℕ) (answer : Result Unit Failed) : Type 0 where
   pub ok : OnOk answer (Appends (contents old) (contents new) piece)
@@ -37,10 +38,10 @@ pub record PutsWhole {W : Type 0} (contents : W → Option (List ℕ)) (offers :
   pub offered : OnOk answer (OffersWhole (offers old) (offers new) piece)
   pub offered_part : OnErr answer (OffersPart (offers old) (offers new) piece)
 
--- A count went by some of these bytes, so many from the front.
+-- A count moves past this many of the bytes.
 pub record StepsBy (old new : Counted) (bytes : List ℕ) (count : ℕ) : Type 0 where
   pub some : 0 < count
   pub most : count ≤ length bytes
   pub order : new.order ≡ old.order
-  pub pieces : new.pieces ≤ old.pieces + 1
-  pub behind : old.pieces + 1 < 2 ^ 64 → (before : List ℕ) → IsBehind old before → IsBehind new (before ++ take count bytes)
+  pub pieces : new.pieces ≤ old.pieces + count
+  pub behind : old.pieces + count < 2 ^ 64 → (before : List ℕ) → IsBehind old before → IsBehind new (before ++ take count bytes)

@@ -1,11 +1,10 @@
-//! A count of calls that only clauses read.
+//! A count of calls that exists only in clauses.
 ghost use Rattle.std.specs.Prelude.{◌≡◌, ℕ, ◌+◌};
 ghost use Rattle.std.specs.Borrow.{ftrue};
 
 use std::marker::Model;
 
-/// How many calls of a device were made, as `count` in a clause. It takes no bytes and has no limit,
-/// and neither function does anything at run time.
+/// How many calls of a device were made, as `count` in a clause. It takes no bytes, has no limit, and does nothing when the program runs.
 #[derive(Drop)]
 pub struct Calls {
     pub ghost count: { ℕ },

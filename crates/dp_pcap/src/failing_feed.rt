@@ -1,13 +1,13 @@
-//! A feed that fails after a while, for tests.
+//! A feed that fails after a number of bytes, for tests.
 ghost use Rattle.std.specs.Prelude.{◌≡◌};
 
 use crate::{Failed, Feed, Health};
 
-/// Gives the first bytes of another [`Feed`], and then fails.
+/// Gives the first bytes of another [`Feed`], then fails.
 #[derive(Drop)]
 pub struct FailingFeed<F> {
     inner: F,
-    // How many bytes may still come.
+    // How many bytes it still gives.
     left: usize,
     health: Health,
 }
@@ -16,7 +16,7 @@ impl<F: Feed> FailingFeed<F> {
     ghost use Rattle.dp_pcap.specs.Health.{fresh};
     ghost use Rattle.dp_pcap.specs.Failing.{feed_inside, bytes_to_give, feed_health};
 
-    /// Fails behind the first `left` bytes of `inner`.
+    /// Gives the first `left` bytes of `inner`, then fails.
     pub fn new(inner: F, left: usize) -> FailingFeed<F>
         ensures inner { feed_inside result ≡ inner }
         ensures left { bytes_to_give result ≡ left }
@@ -29,7 +29,7 @@ impl<F: Feed> FailingFeed<F> {
         }
     }
 
-    /// Gives the feed inside back.
+    /// Hands the inner feed back.
     pub fn into_inner(self) -> F
         ensures { result ≡ feed_inside self }
     {
@@ -58,15 +58,21 @@ impl<F: Feed> Feed for FailingFeed<F> {
 
     ghost at_hand = { λ d. [] };
 
-    /// It has nothing at hand, so each byte is asked of it.
+    ghost truncated = { λ d. F.truncated d.inner };
+
+    /// It buffers nothing, so each byte is read with a call.
     fn held(&self) -> &[u8] {
         &[]
     }
 
     fn pass(&mut self, _n: usize) {}
 
-    /// Fails exactly where it was broken, where no byte may come any more, or where the feed inside is broken. In the first two cases it
-    /// does not call the feed inside, else once.
+    fn note_truncated(&mut self) {
+        self.inner.note_truncated();
+    }
+
+    /// Fails exactly if it is broken, if it may give no more bytes, or if the inner feed is broken. In the first two cases it does not call the inner
+    /// feed, else once.
     fn pull(&mut self, buf: &mut [u8]) -> Result<usize, Failed>
         ensures bound { IfOk result (λ n. n ≤ length buf.new) }
         ensures bytes { ReadConsumes (option_map (take (bytes_to_give self.old)) (F.remaining (feed_inside self.old)))
@@ -78,6 +84,7 @@ impl<F: Feed> Feed for FailingFeed<F> {
         ensures failures { MatchResult result
             (λ _. (feed_health self.new).failures ≡ (feed_health self.old).failures)
             (λ _. (feed_health self.new).failures ≡ (feed_health self.old).failures + 1) }
+        ensures truncated { F.truncated (feed_inside self.new) ≡ F.truncated (feed_inside self.old) }
         ensures left { IfOk result (λ n. bytes_to_give self.new + n ≡ bytes_to_give self.old) }
         ensures left_same { OnErr result (bytes_to_give self.new ≡ bytes_to_give self.old) }
         ensures untouched { (IsTrue (feed_health self.old).is_broken ⊎ (bytes_to_give self.old ≡ 0)) → feed_inside self.new ≡ feed_inside self.old }

@@ -1,15 +1,15 @@
-//! A sink that fails after a while, for tests.
+//! A sink that fails after a number of bytes, for tests.
 ghost use Rattle.std.specs.Prelude.{◌≡◌, ◌<◌, []};
 
 use crate::{Failed, Health, Offers, Sink};
 
-/// Passes a few bytes a call on to another [`Sink`], and fails behind a number of them.
+/// Passes a few bytes in each call on to another [`Sink`], and fails after a number of them.
 #[derive(Drop)]
 pub struct FailingSink<S> {
     inner: S,
-    // The most bytes that a call passes on.
+    // The most bytes that one call passes on.
     most: usize,
-    // How many bytes may still pass.
+    // How many bytes it still passes on.
     left: usize,
     health: Health,
     offers: Offers,
@@ -20,7 +20,7 @@ impl<S: Sink> FailingSink<S> {
     ghost use Rattle.dp_pcap.specs.Health.{fresh};
     ghost use Rattle.dp_pcap.specs.Failing.{sink_inside, bytes_a_call, bytes_to_take, sink_health, sink_offers};
 
-    /// Passes at most `most` bytes a call on to `inner`, and fails behind `left` bytes.
+    /// Passes at most `most` bytes in each call on to `inner`, and fails after `left` bytes.
     pub fn new(inner: S, most: usize, left: usize) -> FailingSink<S>
         requires { 0 < most }
         ensures inner { sink_inside result ≡ inner }
@@ -38,7 +38,7 @@ impl<S: Sink> FailingSink<S> {
         }
     }
 
-    /// Gives the sink inside back.
+    /// Hands the inner sink back.
     pub fn into_inner(self) -> S
         ensures { result ≡ sink_inside self }
     {
@@ -68,8 +68,8 @@ impl<S: Sink> Sink for FailingSink<S> {
 
     ghost contents = { λ d. S.contents d.inner };
 
-    /// Fails exactly where it was broken, where no byte may pass any more, or where the sink inside is broken. In the first two cases it
-    /// does not call the sink inside, else once, with as many bytes as may pass.
+    /// Fails exactly if it is broken, if it may pass no more bytes on, or if the inner sink is broken. In the first two cases it does not call the
+    /// inner sink, else once, with as many bytes as may pass.
     fn push(&mut self, bytes: &[u8]) -> Result<usize, Failed>
         ensures bound { IfOk result (λ n. n ≤ length bytes.now) }
         ensures some { IfOk result (λ n. 0 < length bytes.now → 0 < n) }

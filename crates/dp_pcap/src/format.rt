@@ -1,24 +1,24 @@
-//! The sizes of the format: how large a capture and its headers may be, and where their fields stand.
+//! The numbers of the format: sizes, and the offsets of fields.
 
-/// How many bytes the header of a capture has.
+/// The size of a capture's header, in bytes.
 pub const HEADER_SIZE: usize = 24;
 
-/// How many bytes the head of a record has, which stands in front of the record's own.
+/// The size of a record's head, in bytes. The record's own bytes follow it.
 pub const HEAD_SIZE: usize = 16;
 
-/// The most bytes of its own that a record has.
+/// The most bytes of a record.
 pub const LARGEST_RECORD: usize = 262_144;
 
-/// The most records that a capture has.
+/// The most records of a capture.
 pub const MOST_RECORDS: u32 = 16_777_216;
 
-/// The first four bytes of a capture in microseconds.
+/// The magic number of a capture in microseconds.
 pub(crate) const MICRO_MAGIC: u32 = 0xa1b2_c3d4;
 
-/// The first four bytes of a capture in nanoseconds.
+/// The magic number of a capture in nanoseconds.
 pub(crate) const NANO_MAGIC: u32 = 0xa1b2_3c4d;
 
-/// Where the two halves of the version stand in a header.
+/// The offsets of the two halves of the version in a header.
 pub(crate) const MAJOR_AT: usize = 4;
 
 pub(crate) const MINOR_AT: usize = 6;
@@ -28,23 +28,23 @@ pub(crate) const MAJOR: u16 = 2;
 
 pub(crate) const MINOR: u16 = 4;
 
-/// Where a header has the most bytes of a record.
+/// The offset of the snap length in a header.
 pub(crate) const LARGEST_AT: usize = 16;
 
-/// Where a header has the link type.
+/// The offset of the link type in a header.
 pub(crate) const LINK_AT: usize = 20;
 
 /// The link type of Ethernet.
 pub(crate) const ETHERNET: u32 = 1;
 
-/// Where a record's head has the fraction of its second, behind the seconds.
+/// The offset of the fraction of a second in a record's head, after the seconds.
 pub(crate) const FRACTION_AT: usize = 4;
 
-/// Where a record's head has how many bytes were captured.
+/// The offset of the captured length in a record's head.
 pub(crate) const CAPTURED_AT: usize = 8;
 
-/// Where a record's head has how many bytes the packet had.
+/// The offset of the original length in a record's head.
 pub(crate) const LENGTH_AT: usize = 12;
 
-/// How many nanoseconds a second has.
+/// The nanoseconds of a second.
 pub const NANOS_A_SECOND: u32 = 1_000_000_000;

@@ -1,12 +1,11 @@
-//! Whether a device is sound, and how often it was called.
+//! The state of a device: whether it is sound, and how often it was called.
 ghost use Rattle.std.specs.Prelude.{◌≡◌, true, false};
 ghost use Rattle.dp_pcap.specs.Health.{fresh, called, failed};
 
 use crate::{Calls, Failed};
 use std::marker::Model;
 
-/// What a device keeps of itself: whether it is broken and, for clauses alone, how many calls it had
-/// and how many of them failed. It is one `bool` at run time.
+/// Whether a device is broken and, for clauses only, how many calls it had and how many of them failed. When the program runs it is one `bool`.
 #[derive(Drop)]
 pub struct Health {
     is_broken: bool,
@@ -27,7 +26,7 @@ impl Model for Health {
 }
 
 impl Health {
-    /// Sound, and not called yet.
+    /// A sound device that was not called yet.
     pub fn new() -> Health
         ensures { result ≡ fresh }
     {
@@ -52,7 +51,7 @@ impl Health {
         self.calls = self.calls.one_more();
     }
 
-    /// Counts the call as failed, and gives its answer. The device is broken from now on.
+    /// Counts the call as failed, and returns its error. The device is broken from now on.
     pub fn fail(&mut self) -> Failed
         ensures { self.new ≡ failed self.old }
     {

@@ -1,30 +1,46 @@
-//! A feed made of a buffered reader of std.
+//! A feed over a buffered reader of std.
 ghost use Rattle.std.specs.Prelude.{◌≡◌};
 
 use crate::{Failed, Feed, OfRead};
 use std::io::{BufRead, BufReader, Read};
 
-/// A buffered reader as a [`Feed`], as [`OfRead`] is. What its buffer holds is at hand, and is copied from there at once.
+/// A buffered reader as a [`Feed`], like [`OfRead`]. What its buffer holds is available at once.
 #[derive(Drop)]
 pub struct OfBufReader<R> {
     feed: OfRead<BufReader<R>>,
 }
 
 impl<R: Read> OfBufReader<R> {
+    ghost use Rattle.std.specs.Prelude.{◌≡◌, ◌-◌, ◌^◌, min};
     ghost use Rattle.dp_pcap.specs.Health.{fresh};
-    ghost use Rattle.dp_pcap.specs.OfStd.{buffered_reader, buffered_feed_health};
+    ghost use Rattle.dp_pcap.specs.OfStd.{buffered_reader, buffered_feed_health, buffered_feed_truncated};
 
-    /// Takes a reader.
+    /// Takes a reader over.
     pub fn new(inner: BufReader<R>) -> OfBufReader<R>
         ensures inner { buffered_reader result ≡ inner }
         ensures health { buffered_feed_health result ≡ fresh }
+        ensures truncated { buffered_feed_truncated result ≡ 0 }
     {
         OfBufReader {
             feed: OfRead::new(inner),
         }
     }
 
-    /// Gives the reader back.
+    /// How many truncated records were read, up to 2^64 - 1: the capture has only the front of their packets.
+    pub fn truncated(&self) -> u64
+        ensures { result ≡ min (buffered_feed_truncated self.now) (2 ^ 64 - 1) }
+    {
+        self.feed.truncated()
+    }
+
+    /// The reader.
+    pub fn get_ref(&self) -> &BufReader<R>
+        ensures { result.now ≡ buffered_reader self.now }
+    {
+        &self.feed.inner
+    }
+
+    /// Hands the reader back.
     pub fn into_inner(self) -> BufReader<R>
         ensures { result ≡ buffered_reader self }
     {
@@ -37,7 +53,7 @@ impl<R: Read> Feed for OfBufReader<R> {
     ghost use Rattle.std.specs.Prelude.{◌≡◌, ◌+◌, ◌≤◌, ◌↔◌, Ok, false, [], if◌then◌else◌, length, IfOk, IsErr, IsTrue, MatchResult};
     ghost use Rattle.std.specs.Io.Buffered.{reader_remaining, reader_buffer, reader_inner};
     ghost use Rattle.std.specs.Io.KnownBytes.{ReadConsumes};
-    ghost use Rattle.dp_pcap.specs.OfStd.{buffered_reader, buffered_feed_health};
+    ghost use Rattle.dp_pcap.specs.OfStd.{buffered_reader, buffered_feed_health, buffered_feed_truncated};
 
     ghost is_broken = { λ d. d.feed.health.is_broken };
 
@@ -48,6 +64,8 @@ impl<R: Read> Feed for OfBufReader<R> {
     ghost remaining = { λ d. reader_remaining R.remaining d.feed.inner };
 
     ghost at_hand = { λ d. if d.feed.health.is_broken then [] else reader_buffer d.feed.inner };
+
+    ghost truncated = { λ d. d.feed.truncated };
 
     #[inline(always)]
     fn held(&self) -> &[u8] {
@@ -62,8 +80,11 @@ impl<R: Read> Feed for OfBufReader<R> {
         self.feed.inner.consume(n);
     }
 
-    /// Where it was broken it does not call the reader inside, and where its buffer holds as many bytes as are asked for it gives
-    /// these, and does not read either.
+    fn note_truncated(&mut self) {
+        self.feed.truncated.note();
+    }
+
+    /// It does not call the reader if it is broken, or if the buffer has as many bytes as are requested.
     #[inline(always)]
     fn pull(&mut self, buf: &mut [u8]) -> Result<usize, Failed>
         ensures bound { IfOk result (λ n. n ≤ length buf.new) }
@@ -76,6 +97,7 @@ impl<R: Read> Feed for OfBufReader<R> {
         ensures failures { MatchResult result
             (λ _. (buffered_feed_health self.new).failures ≡ (buffered_feed_health self.old).failures)
             (λ _. (buffered_feed_health self.new).failures ≡ (buffered_feed_health self.old).failures + 1) }
+        ensures truncated { buffered_feed_truncated self.new ≡ buffered_feed_truncated self.old }
         ensures untouched { IsTrue (buffered_feed_health self.old).is_broken → buffered_reader self.new ≡ buffered_reader self.old }
         ensures buffered { (buffered_feed_health self.old).is_broken ≡ false → length buf.old ≤ length (reader_buffer (buffered_reader self.old)) →
             (result ≡ Ok (length buf.old)) × (reader_inner (buffered_reader self.new) ≡ reader_inner (buffered_reader self.old)) }

@@ -1,17 +1,17 @@
-//! A sink made of a buffered writer of std.
-ghost use Rattle.std.specs.Prelude.{◌≡◌, [], ◌∷◌, ◌++◌, ◌+◌, ◌<◌, ◌≤◌, ◌↔◌, length, take, IfOk, IsErr, IsTrue, MatchResult};
-ghost use Rattle.std.specs.Io.KnownBytes.{WriteAppends};
-ghost use Rattle.std.specs.Io.Buffered.{writer_contents};
+//! A sink over a buffered writer of std.
+ghost use Rattle.std.specs.Prelude.{◌≡◌, [], ◌∷◌, ◌++◌, ◌+◌, ◌<◌, ◌≤◌, ◌↔◌, length, take, IfOk, IsErr, IsTrue, MatchResult, OnOk};
+ghost use Rattle.std.specs.Io.KnownBytes.{Keeps, WriteAppends};
+ghost use Rattle.std.specs.Io.Buffered.{writer_buffer, writer_contents};
 ghost use Rattle.dp_pcap.specs.OfStd.{writer_inside, sink_health, sink_offers};
 
 use crate::{Failed, OfWrite, Offers, Sink};
-use std::io::{BufWriter, Write};
+use std::io::{self, BufWriter, Write};
 
-/// A buffered writer as a [`Sink`], as [`OfWrite`] is. Bytes that fit into its buffer go there at once.
+/// A buffered writer as a [`Sink`], like [`OfWrite`]. Bytes that fit into its buffer go there at once.
 #[derive(Drop)]
 pub struct OfBufWriter<W: Write + Drop> {
     sink: OfWrite<BufWriter<W>>,
-    // What it was offered itself: the sink inside is offered what fills the buffer.
+    // What it was offered. The inner sink is offered what fills the buffer.
     offers: Offers,
 }
 
@@ -19,7 +19,7 @@ impl<W: Write + Drop> OfBufWriter<W> {
     ghost use Rattle.dp_pcap.specs.Health.{fresh};
     ghost use Rattle.dp_pcap.specs.OfStd.{buffered_writer, buffered_sink_health, buffered_sink_offers};
 
-    /// Takes a writer.
+    /// Takes a writer over.
     pub fn new(inner: BufWriter<W>) -> OfBufWriter<W>
         ensures inner { buffered_writer result ≡ inner }
         ensures health { buffered_sink_health result ≡ fresh }
@@ -31,7 +31,28 @@ impl<W: Write + Drop> OfBufWriter<W> {
         }
     }
 
-    /// Gives the writer back. It is not flushed.
+    /// The writer.
+    pub fn get_ref(&self) -> &BufWriter<W>
+        ensures { result.now ≡ buffered_writer self.now }
+    {
+        &self.sink.inner
+    }
+
+    /// Writes out what the buffer holds, and flushes the writer inside. The device counts no call, and whether it is broken stays.
+    ///
+    /// # Errors
+    ///
+    /// The writer's.
+    pub fn flush(&mut self) -> io::Result<()>
+        ensures bytes { Keeps (writer_contents W.contents (buffered_writer self.old)) (writer_contents W.contents (buffered_writer self.new)) }
+        ensures written { OnOk result (writer_buffer (buffered_writer self.new) ≡ []) }
+        ensures health { buffered_sink_health self.new ≡ buffered_sink_health self.old }
+        ensures offers { buffered_sink_offers self.new ≡ buffered_sink_offers self.old }
+    {
+        self.sink.inner.flush()
+    }
+
+    /// Hands the writer back, without flushing it.
     pub fn into_inner(self) -> BufWriter<W>
         ensures { result ≡ buffered_writer self }
     {
@@ -53,7 +74,7 @@ impl<W: Write + Drop> Sink for OfBufWriter<W> {
 
     ghost contents = { λ d. writer_contents W.contents d.sink.inner };
 
-    /// Where it was broken it does not call the writer inside.
+    /// It does not call the writer if it is broken.
     #[inline(always)]
     fn push(&mut self, bytes: &[u8]) -> Result<usize, Failed>
         ensures bound { IfOk result (λ n. n ≤ length bytes.now) }
@@ -70,7 +91,7 @@ impl<W: Write + Drop> Sink for OfBufWriter<W> {
         ensures untouched { IsTrue (buffered_sink_health self.old).is_broken → buffered_writer self.new ≡ buffered_writer self.old }
     {
         self.offers = self.offers.and(bytes);
-        // It holds no more than its capacity, so nothing wraps. Asked first, so that what fits cannot fail.
+        // The buffer holds no more than its capacity, so nothing wraps. It is tested first, so that what fits cannot fail.
         let held = self.sink.inner.buffer().len();
         let spare = self.sink.inner.capacity().wrapping_sub(held);
         if bytes.len() < spare {
@@ -81,8 +102,8 @@ impl<W: Write + Drop> Sink for OfBufWriter<W> {
     }
 }
 
-// Past what the buffer has room for: as many bytes as fill it, or all where it is full. So what is inside is given whole buffers,
-// and a file that is written from its start has each of them at a multiple of its size.
+// Takes bytes for which the buffer has no room: as many as fill it, or all where it is full. So the inner writer gets whole buffers, and a file that
+// is written from its start gets each at a multiple of its size.
 #[cold]
 #[inline(never)]
 fn push_past<W: Write + Drop>(

@@ -1,37 +1,52 @@
-//! A feed made of a reader of std.
+//! A feed over a reader of std.
 ghost use Rattle.std.specs.Prelude.{◌≡◌};
 
+use crate::truncated::Truncated;
 use crate::{Failed, Feed, Health};
 use std::io::Read;
 
-/// A reader as a [`Feed`]. Its first error breaks it, an interrupted read among them, and it is not
-/// asked again.
+/// A reader as a [`Feed`]. Its first error breaks it, also an interrupted read, and it is not called again.
 #[derive(Drop)]
 pub struct OfRead<R> {
     pub(crate) inner: R,
     pub(crate) health: Health,
+    pub(crate) truncated: Truncated,
 }
 
 impl<R: Read> OfRead<R> {
+    ghost use Rattle.std.specs.Prelude.{◌≡◌, ◌-◌, ◌^◌, min};
     ghost use Rattle.dp_pcap.specs.Health.{fresh};
-    ghost use Rattle.dp_pcap.specs.OfStd.{reader_inside, feed_health};
+    ghost use Rattle.dp_pcap.specs.OfStd.{reader_inside, feed_health, feed_truncated};
 
-    /// Takes a reader.
+    /// Takes a reader over.
     pub fn new(inner: R) -> OfRead<R>
         ensures inner { reader_inside result ≡ inner }
         ensures health { feed_health result ≡ fresh }
+        ensures truncated { feed_truncated result ≡ 0 }
     {
         OfRead {
             inner,
             health: Health::new(),
+            truncated: Truncated::new(),
         }
     }
 
-    /// Gives the reader back.
+    /// How many truncated records were read, up to 2^64 - 1: the capture has only the front of their packets.
+    pub fn truncated(&self) -> u64
+        ensures { result ≡ min (feed_truncated self.now) (2 ^ 64 - 1) }
+    {
+        self.truncated.count()
+    }
+
+    /// Hands the reader back.
     pub fn into_inner(self) -> R
         ensures { result ≡ reader_inside self }
     {
-        let OfRead { inner, health: _ } = self;
+        let OfRead {
+            inner,
+            health: _,
+            truncated: _,
+        } = self;
         inner
     }
 }
@@ -39,7 +54,7 @@ impl<R: Read> OfRead<R> {
 impl<R: Read> Feed for OfRead<R> {
     ghost use Rattle.std.specs.Prelude.{◌≡◌, ◌+◌, ◌≤◌, ◌↔◌, [], length, IfOk, IsErr, IsTrue, MatchResult};
     ghost use Rattle.std.specs.Io.KnownBytes.{ReadConsumes};
-    ghost use Rattle.dp_pcap.specs.OfStd.{reader_inside, feed_health};
+    ghost use Rattle.dp_pcap.specs.OfStd.{reader_inside, feed_health, feed_truncated};
 
     ghost is_broken = { λ d. d.health.is_broken };
 
@@ -51,13 +66,19 @@ impl<R: Read> Feed for OfRead<R> {
 
     ghost at_hand = { λ d. [] };
 
+    ghost truncated = { λ d. d.truncated };
+
     fn held(&self) -> &[u8] {
         &[]
     }
 
     fn pass(&mut self, _n: usize) {}
 
-    /// Where it was broken it does not call the reader inside.
+    fn note_truncated(&mut self) {
+        self.truncated.note();
+    }
+
+    /// It does not call the reader if it is broken.
     fn pull(&mut self, buf: &mut [u8]) -> Result<usize, Failed>
         ensures bound { IfOk result (λ n. n ≤ length buf.new) }
         ensures bytes { ReadConsumes (R.remaining (reader_inside self.old)) (R.remaining (reader_inside self.new)) result buf.new }
@@ -67,6 +88,7 @@ impl<R: Read> Feed for OfRead<R> {
         ensures failures { MatchResult result
             (λ _. (feed_health self.new).failures ≡ (feed_health self.old).failures)
             (λ _. (feed_health self.new).failures ≡ (feed_health self.old).failures + 1) }
+        ensures truncated { feed_truncated self.new ≡ feed_truncated self.old }
         ensures untouched { IsTrue (feed_health self.old).is_broken → reader_inside self.new ≡ reader_inside self.old }
     {
         self.health.call();

@@ -1,11 +1,10 @@
-//! A sink made of a writer of std.
+//! A sink over a writer of std.
 ghost use Rattle.std.specs.Prelude.{◌≡◌, []};
 
 use crate::{Failed, Health, Offers, Sink};
 use std::io::Write;
 
-/// A writer as a [`Sink`]. Its first error breaks it, and so does a write that takes nothing of bytes
-/// that are not empty. It is not asked again.
+/// A writer as a [`Sink`]. Its first error breaks it, and so does a write that takes none of some bytes. It is not called again.
 #[derive(Drop)]
 pub struct OfWrite<W> {
     pub(crate) inner: W,
@@ -17,7 +16,7 @@ impl<W: Write> OfWrite<W> {
     ghost use Rattle.dp_pcap.specs.Health.{fresh};
     ghost use Rattle.dp_pcap.specs.OfStd.{writer_inside, sink_health, sink_offers};
 
-    /// Takes a writer.
+    /// Takes a writer over.
     pub fn new(inner: W) -> OfWrite<W>
         ensures inner { writer_inside result ≡ inner }
         ensures health { sink_health result ≡ fresh }
@@ -30,7 +29,7 @@ impl<W: Write> OfWrite<W> {
         }
     }
 
-    /// Gives the writer back. It is not flushed.
+    /// Hands the writer back, without flushing it.
     pub fn into_inner(self) -> W
         ensures { result ≡ writer_inside self }
     {
@@ -58,7 +57,7 @@ impl<W: Write> Sink for OfWrite<W> {
 
     ghost contents = { λ d. W.contents d.inner };
 
-    /// Where it was broken it does not call the writer inside.
+    /// It does not call the writer if it is broken.
     #[inline(always)]
     fn push(&mut self, bytes: &[u8]) -> Result<usize, Failed>
         ensures bound { IfOk result (λ n. n ≤ length bytes.now) }

@@ -1,11 +1,10 @@
-//! What was offered, which only clauses read.
+//! What a sink was offered, for clauses only.
 ghost use Rattle.std.specs.Prelude.{◌≡◌, ℕ, List, [], ◌∷◌, ◌++◌};
 ghost use Rattle.std.specs.Borrow.{ftrue};
 
 use std::marker::Model;
 
-/// The bytes that each call of a sink was offered, as `pieces` in a clause. It takes no bytes, and neither function does
-/// anything at run time.
+/// The bytes that a sink was offered in each call, as `pieces` in a clause. It takes no bytes, and does nothing when the program runs.
 #[derive(Drop)]
 pub struct Offers {
     pub ghost pieces: { List (List ℕ) },
@@ -16,14 +15,14 @@ impl Model for Offers {
 }
 
 impl Offers {
-    /// Nothing yet.
+    /// No offer yet.
     pub fn new() -> Offers
         ensures { result.pieces ≡ [] }
     {
         Self {}
     }
 
-    /// And these bytes.
+    /// One more offer.
     pub fn and(&self, bytes: &[u8]) -> Offers
         ensures { result.pieces ≡ self.now.pieces ++ bytes.now ∷ [] }
     {

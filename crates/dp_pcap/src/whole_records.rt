@@ -1,25 +1,25 @@
-//! How many records of a capture are whole in the bytes that went by.
+//! Counts the records of a capture that are whole in the bytes that went by.
 ghost use Rattle.std.specs.Prelude.{◌≡◌, ◌+◌, ◌<◌, ◌≤◌, ◌^◌, ◌++◌, ℕ, List, length, take};
 ghost use Rattle.dp_pcap.specs.declared.byte_order.Order.{Order};
 ghost use Rattle.dp_pcap.specs.declared.time.Unit.{Unit as TimeUnit};
 ghost use Rattle.dp_pcap.specs.Capture.{captured, IsHeader};
-ghost use Rattle.dp_pcap.specs.Counting.{none_yet, records_in, IsBehind};
+ghost use Rattle.dp_pcap.specs.Counting.{none_yet, none_left, records_in, IsBehind};
 ghost use Rattle.dp_pcap.specs.Passing.{StepsBy};
 
 use crate::byte_order::{Order, long_number, short_number};
 use crate::format::{CAPTURED_AT, HEAD_SIZE, HEADER_SIZE, MAJOR, MAJOR_AT, MINOR_AT};
 use std::marker::Model;
 
-/// Counts the records of a capture that are whole in its first bytes, as these go by in pieces of any size.
+/// Counts the records of a capture that are whole in its first bytes, as these pass in pieces of any size.
 #[derive(Drop)]
 pub struct WholeRecords {
-    // The order of the bytes of its numbers.
+    // The byte order of its numbers.
     order: Order,
-    // How many pieces are whole: the header, and then records.
+    // The number of whole pieces: the header, and then records.
     pieces: u64,
-    // How many bytes are left of the header or of a record's bytes.
+    // How many bytes of the header, or of a record after its head, are still to come.
     left: usize,
-    // The first `came` are those of the next record's head that came.
+    // The bytes of the next record's head; the first `came` of them have come.
     head: [u8; HEAD_SIZE],
     came: usize,
 }
@@ -36,7 +36,7 @@ impl Model for WholeRecords {
     ghost invariant = { λ c. (c.came < HEAD_SIZE) × (length c.head ≡ HEAD_SIZE) };
 }
 
-// How many bytes stand behind a record's head.
+// The number of bytes after a record's head.
 fn body_length(order: Order, head: &[u8]) -> u32
     requires { length head.now ≡ HEAD_SIZE }
     ensures { result ≡ captured order head.now }
@@ -44,7 +44,7 @@ fn body_length(order: Order, head: &[u8]) -> u32
     long_number(order, &head[CAPTURED_AT..])
 }
 
-// The order of the numbers of a header: that in which its version is 2.
+// The byte order of a header: the one in which its version is 2.
 #[tactic(auto, using(crate::proofs::Counting::version_little))]
 fn order_of(header: &[u8]) -> Order
     requires { MINOR_AT ≤ length header.now }
@@ -57,8 +57,29 @@ fn order_of(header: &[u8]) -> Order
     }
 }
 
+// The number of whole records at the front of these bytes, where one begins, and their bytes.
+fn whole_at_front(order: Order, bytes: &[u8]) -> (u64, usize)
+    ensures within { result.1 ≤ length bytes.now }
+    ensures few { result.0 ≤ result.1 }
+    ensures behind { (n : ℕ) (before : List ℕ) → IsBehind (none_left order n) before →
+        IsBehind (none_left order (n + result.0)) (before ++ take result.1 bytes.now) }
+{
+    let mut count = 0u64;
+    let mut at = 0;
+    while bytes.len() - at >= HEAD_SIZE {
+        let rest = &bytes[at..];
+        let size = HEAD_SIZE + body_length(order, &rest[..HEAD_SIZE]) as usize;
+        if rest.len() < size {
+            return (count, at);
+        }
+        count += 1;
+        at += size;
+    }
+    (count, at)
+}
+
 impl WholeRecords {
-    // A count before the first byte.
+    // The count before the first byte.
     fn before(order: Order) -> WholeRecords
         ensures { result ≡ none_yet order }
     {
@@ -71,14 +92,14 @@ impl WholeRecords {
         }
     }
 
-    /// A count before the first byte of a capture that this crate writes.
+    /// The count before the first byte of a capture that this crate writes.
     pub fn new() -> WholeRecords
         ensures { result ≡ none_yet Order.Little }
     {
         WholeRecords::before(Order::Little)
     }
 
-    /// A count before the first byte of a capture, whose first bytes are shown to it: the version there tells the order of its numbers.
+    /// The count before the first byte of a capture with this front: its version gives the byte order.
     pub fn of_capture(front: &[u8]) -> WholeRecords
         ensures none { result ≡ none_yet result.order }
         ensures order { (order : Order) (unit : TimeUnit) → IsHeader order unit (take HEADER_SIZE front.now) → result ≡ none_yet order }
@@ -89,14 +110,14 @@ impl WholeRecords {
         WholeRecords::before(order_of(&front[..HEADER_SIZE]))
     }
 
-    /// How many records went by whole.
+    /// The number of whole records so far.
     pub fn count(&self) -> u64
         ensures { result ≡ records_in self.now }
     {
         self.pieces.saturating_sub(1)
     }
 
-    /// More bytes of the capture go by.
+    /// Counts more bytes of the capture.
     pub fn pass(&mut self, bytes: &[u8])
         ensures order { self.new.order ≡ self.old.order }
         ensures behind { self.old.pieces + length bytes.now < 2 ^ 64 →
@@ -108,36 +129,36 @@ impl WholeRecords {
         }
     }
 
-    // Goes by the front of these bytes: what is there of the header, of a record's head, or of the bytes behind it.
+    // Counts the front of these bytes: what they have of the header, of a record's head, or of the bytes after it.
     fn step(&mut self, bytes: &[u8]) -> usize
         requires { 0 < length bytes.now }
         ensures { StepsBy self.old self.new bytes.now result }
     {
         if self.left == 0 {
-            self.take_record(bytes)
+            self.take_records(bytes)
         } else {
             self.skip(bytes)
         }
     }
 
-    // Goes by a record in one step, where it begins here and stands whole at the front, and else by bytes of its head.
-    fn take_record(&mut self, bytes: &[u8]) -> usize
+    // Counts the whole records at the front, where one begins here, else bytes of a head.
+    fn take_records(&mut self, bytes: &[u8]) -> usize
         requires some { 0 < length bytes.now }
         requires none { self.old.left ≡ 0 }
         ensures { StepsBy self.old self.new bytes.now result }
     {
-        if self.came > 0 || bytes.len() < HEAD_SIZE {
+        if self.came > 0 {
             return self.take_head(bytes);
         }
-        let size = HEAD_SIZE + body_length(self.order, &bytes[..HEAD_SIZE]) as usize;
-        if bytes.len() < size {
+        let (count, size) = whole_at_front(self.order, bytes);
+        if size == 0 {
             return self.take_head(bytes);
         }
-        self.pieces = self.pieces.saturating_add(1);
+        self.pieces = self.pieces.saturating_add(count);
         size
     }
 
-    // Goes by bytes of the header, or of a record behind its head.
+    // Counts bytes of the header, or of a record after its head.
     fn skip(&mut self, bytes: &[u8]) -> usize
         requires some { 0 < length bytes.now }
         requires left { 0 < self.old.left }
@@ -151,7 +172,7 @@ impl WholeRecords {
         taken
     }
 
-    // Goes by bytes of a record's head.
+    // Counts bytes of a record's head.
     fn take_head(&mut self, bytes: &[u8]) -> usize
         requires some { 0 < length bytes.now }
         requires none { self.old.left ≡ 0 }

@@ -2,13 +2,13 @@
 use crate::WholeRecords;
 use crate::byte_order::Order;
 
-// How many bytes the capture has: a header, a record of 3 bytes, one of none, one of 2, and the head of one more.
+// The bytes of the capture: a header, a record of 3 bytes, one of none, one of 2, and the head of one more.
 const LEN: usize = 24 + 16 + 3 + 16 + 16 + 2 + 16;
 
 // Where each whole record ends.
 const ENDS: [usize; 3] = [43, 59, 77];
 
-// Its bytes: all are 0 but the version, the lengths, and those of the records, which are 9.
+// Its bytes: all 0 except the version, the lengths, and those of the records, which are 9.
 fn capture(order: Order) -> [u8; LEN] {
     let mut bytes = [0; LEN];
     match order {

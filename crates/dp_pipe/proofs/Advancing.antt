@@ -1,8 +1,7 @@
--- A run goes on by one input: what it answers, the turn on it, and the drains of all ports.
+-- A run continues with one input: its answer, the turn on it, and the drains of all ports.
 use Rattle.std.proofs.Common.{◌≡◌, ◌≢◌, ℕ, zero, suc, ◌+◌, ◌<◌, ◌≤◌, Bool, true, false, List, [], ◌∷◌, ◌++◌, length, map, Option, Some}
 use Rattle.std.proofs.Common.{refl, sym, ◌∙◌, ap, subst, arith, ◌⊎◌, inl, inr}
 use Rattle.std.specs.Prelude.{slice_get, slice_set, nat_lt, flat_map, option_map, if◌then◌else◌}
-use Rattle.std.specs.Io.KnownBytes.{Appends}
 use Rattle.std.proofs.lemmas.Bool.{lt-ltb, le-ltb, ltb-true, ltb-false}
 use Rattle.std.proofs.lemmas.List.{length-map, map-append, append_assoc}
 use Rattle.std.proofs.lemmas.Option.{slice_get-map, same_Some, slice_get_within}
@@ -16,13 +15,14 @@ use Rattle.dp_model.specs.Laws.Lists.{get_set_other, get_within}
 use Rattle.dp_engine.specs.declared.report.InputState.{InputState}
 use Rattle.dp_engine.specs.declared.report.InputState.TheVariants.{Open, Whole, Cut}
 use Rattle.dp_engine.specs.Drains.{captured}
-use Rattle.dp_pipe.specs.Forwarding.{Input, records_in, timed, arrivals_of, asked, AnswersSo, AskedUntil, capture_of, capture_at, records_text, AreWritten}
+use Rattle.dp_pipe.specs.Devices.{Device, IsGiven, At}
+use Rattle.dp_pipe.specs.Forwarding.{Input, records_in, arrivals_of, asked, AnswersSo, AskedUntil, capture_of, capture_at, records_text, AreWritten}
 use Rattle.dp_pipe.specs.Forwarding.{drained_at}
 use Rattle.dp_pipe.proofs.Forwarded.{split}
 use Rattle.dp_pipe.proofs.Interleaving.{AreFew, interleaved_more}
 use Rattle.dp_pipe.proofs.RunOn.{arrival}
 use Rattle.dp_pipe.proofs.Indices.{set_itself}
-use Rattle.std.proofs.KnownBytes.{Appends-trans}
+use Rattle.dp_pipe.proofs.Giving.{given_then}
 
 -- ---- what was written
 
@@ -45,43 +45,45 @@ texts_append unit (x ∷ xs) ys = ap (λ l. record_text unit x ++ l) (texts_appe
     ∙ sym (append_assoc (record_text unit x) (flat_map (record_text unit) xs) (flat_map (record_text unit) ys))
 
 -- what the drains of all ports add to what was written
-pub wrote_more : (unit : TimeUnit) (time : Time) (w : World) (n : ℕ) (captures : List (List (Time × List ℕ))) (held mids holds : List (Option (List ℕ)))
+pub wrote_more : (unit : TimeUnit) (time : Time) (w : World) (n : ℕ) (captures : List (List (Time × List ℕ))) (held mids holds : List Device)
     → length captures ≡ n → length (records_at time w) ≡ n → length held ≡ n → length mids ≡ n
     → AreWritten unit held mids (capture_at captures)
-    → ((q : ℕ) (old new : Option (List ℕ)) → slice_get mids q ≡ Some old → slice_get holds q ≡ Some new →
-    Appends old new (if nat_lt q n then records_text unit (drained_at time w q) else []))
+    → ((q : ℕ) → At mids holds q (λ old new. IsGiven old new (if nat_lt q n then records_text unit (drained_at time w q) else [])))
     → AreWritten unit held holds (capture_at (joined captures (records_at time w)))
 wrote_more unit time w n captures held mids holds long boxes many mid_many before now q old new a b =
     let q_in : q < n = omega (arith, slice_get_within held q old a, many) in
     let (mid, m) = get_within mids q (omega (arith, q_in, mid_many)) in
     let (x, y, was, is, both) = joined_here captures (records_at time w) q (omega (arith, q_in, long)) (omega (arith, q_in, boxes)) in
-    let first : Appends old mid (records_text unit (capture_of x)) = rw was at (before q old mid a m) in
-    let second : Appends mid new (records_text unit (capture_of y)) = rw (lt-ltb q n q_in, is) at (now q mid new m b) in
-    let all : Appends old new (records_text unit (capture_of x) ++ records_text unit (capture_of y)) = Appends-trans old mid new _ _ first second in
-    rw both (subst (Appends old new) (sym (texts_append unit (capture_of x) (capture_of y)) ∙ ap (records_text unit) (sym (map-append captured x y))) all)
+    let first : IsGiven old mid (records_text unit (capture_of x)) = rw was at (before q old mid a m) in
+    let second : IsGiven mid new (records_text unit (capture_of y)) = rw (lt-ltb q n q_in, is) at (now q mid new m b) in
+    let all : IsGiven old new (records_text unit (capture_of x) ++ records_text unit (capture_of y)) = given_then old mid new _ _ first second in
+    rw both (subst (IsGiven old new) (sym (texts_append unit (capture_of x) (capture_of y)) ∙ ap (records_text unit) (sym (map-append captured x y))) all)
 
 -- ---- what was read
 
--- a record behind those of an input
+-- a record after those of an input
 abbrev pub with_record : PacketRecord → Input → Input
 with_record r i = record i { records = i.records ++ r ∷ [] }
 
 abbrev pub ended : InputState → Input → Input
 ended state i = record i { state = state }
 
+abbrev timed : PacketRecord → Time × List ℕ
+timed r = (r.time, r.bytes)
+
 records_set : (inputs : List Input) (p : ℕ) (i : Input) → map records_in (slice_set inputs p i) ≡ slice_set (map records_in inputs) p (records_in i)
 records_set [] p i = refl
 records_set (x ∷ inputs) zero i = refl
 records_set (x ∷ inputs) (suc p) i = ap (λ l. records_in x ∷ l) (records_set inputs p i)
 
--- an input that ended leaves the records as they are
+-- an input that ended keeps the records
 pub arrivals_ended : (inputs : List Input) (p : ℕ) (i : Input) (state : InputState) → slice_get inputs p ≡ Some i →
     arrivals_of (slice_set inputs p (ended state i)) ≡ arrivals_of inputs
 arrivals_ended inputs p i state here =
     ap interleaved (records_set inputs p (ended state i) ∙ set_itself (map records_in inputs) p (records_in i) (slice_get-map records_in inputs p
     ∙ ap (option_map records_in) here))
 
--- so few records each input has that was asked in turn
+-- an input that was asked in turn has at most this many records
 given_few : (round port q : ℕ) (state : InputState) (count : ℕ) → AnswersSo state count (asked round port q) → count ≤ asked round port q
 given_few round port q Open count e = omega (arith, e)
 given_few round port q Whole count lt = omega (arith, lt)
@@ -94,7 +96,7 @@ asked_most round port q = go (nat_lt q port)
     go true = omega arith
     go false = omega arith
 
--- a record of the input that comes next stands behind all others
+-- a record of the input that comes next is after all others
 pub arrivals_more : (inputs : List Input) (round p : ℕ) (i : Input) (r : PacketRecord) → AskedUntil round p inputs → slice_get inputs p ≡ Some i →
     i.state ≡ Open
     → arrivals_of (slice_set inputs p (with_record r i)) ≡ arrivals_of inputs ++ arrival p r.time r.bytes ∷ []
@@ -159,7 +161,7 @@ order_next inputs round port i order answers q j at = go (split q port)
         let was : slice_get inputs q ≡ Some j = sym (get_set_other inputs port q i other) ∙ at in
         rw (asked_next round port q other) (order q j was)
 
--- behind all ports the next round begins
+-- after all ports the next round begins
 pub order_round : (inputs : List Input) (round n : ℕ) → length inputs ≤ n → AskedUntil round n inputs → AskedUntil (round + 1) 0 inputs
 order_round inputs round n many order q i at =
     let a : asked round n q ≡ round + 1 = ap (λ b. if b then round + 1 else round) (lt-ltb q n (omega (arith, slice_get_within inputs q i at, many))) in

@@ -1,4 +1,4 @@
--- What a file asks for, as its reader keeps it.
+-- What a file asks for, as its reader has it.
 use Rattle.std.proofs.Common.{◌≡◌, ℕ, min, List, [], ◌∷◌, length, map, refl, ap}
 use Rattle.std.proofs.lemmas.List.{length-map}
 use Rattle.dp_model.specs.declared.env.PoolSpec.{PoolSpec}

@@ -1,7 +1,7 @@
 -- Devices that are called one after the other, and one that fails.
 use Rattle.std.proofs.Common.{◌≡◌, ◌≢◌, ◌⊎◌, inl, inr, ◌↔◌, ℕ, ◌+◌, ◌<◌, ◌≤◌, ◌||◌, List, Option, Some, Bool, true, false, Result, Ok, Err, length, refl, ap}
 use Rattle.std.proofs.Common.{sym, ◌∙◌, subst, arith}
-use Rattle.std.specs.Prelude.{slice_get, slice_set, ◌==◌, if◌then◌else◌, IsTrue, IsOk, IsErrOf}
+use Rattle.std.specs.Prelude.{slice_get, slice_set, ◌==◌, if◌then◌else◌, IsTrue, IsOk, IsErrOf, ⊤}
 use Rattle.std.proofs.lemmas.Bool.{eq-eqb, ne_eqb, cases_lt}
 use Rattle.std.proofs.lemmas.Option.{same_Some, slice_get_within, slice_get-get_or}
 use Rattle.dp_model.specs.Laws.Lists.{get_set_other, each_at}
@@ -11,7 +11,7 @@ use Rattle.dp_pcap.specs.declared.time.Unit.{Unit as TimeUnit}
 use Rattle.dp_pcap.specs.Source.{failed_pulls}
 use Rattle.dp_pipe.specs.declared.forwarding.RunCause.{RunCause}
 use Rattle.dp_pipe.specs.declared.forwarding.RunCause.TheVariants.{Memory, NoRoom, In, Out}
-use Rattle.dp_pipe.specs.Devices.{Fared, AllFared, FaredAlone, AllSound, is_read_of, is_write_of, failed_reader, failed_writer}
+use Rattle.dp_pipe.specs.Devices.{Device, Fared, AllFared, FaredAlone, AllSound, failed_reader, failed_writer}
 use Rattle.dp_pipe.specs.Running.{IsHeaderCause, IsWriteCause}
 use Rattle.dp_pipe.proofs.Forwarded.{split}
 use Rattle.dp_pipe.proofs.Heading.{Changed, each_of, is_same, new_of}
@@ -44,7 +44,7 @@ pub fared_badly : {D : Type 0} (is_broken : D → Bool) (failures : D → ℕ) (
     Fared is_broken failures true d d'
 fared_badly is_broken failures d d' is more = record { broken = is; count = more }
 
--- so it did at its own index
+-- it failed at its own index
 pub failed_here : {D : Type 0} (is_broken : D → Bool) (failures : D → ℕ) (n : ℕ) (d d' : D) → is_broken d' ≡ true → failures d' ≡ failures d + 1 →
     Fared is_broken failures (n == n) d d'
 failed_here is_broken failures n d d' is more = subst (λ b. Fared is_broken failures b d d') (sym (eq-eqb n n refl))
@@ -86,14 +86,14 @@ one_fared {D} is_broken failures failed n ds w w' at own others q d d' here ther
         let is : d' ≡ d = same_Some d' d (sym there ∙ get_set_other ds n q w' other ∙ here) in
         rw (others q other, is) (fared_same is_broken failures d)
 
--- behind others that did not fail
+-- after others that did not fail
 pub one_then : {D : Type 0} (is_broken : D → Bool) (failures : D → ℕ) (failed : ℕ → Bool) (n : ℕ) (olds ds : List D) (w w' : D) → length ds ≡ length olds
     → AllFared is_broken failures (λ q. false) olds ds → slice_get ds n ≡ Some w
     → Fared is_broken failures (failed n) w w' → ((q : ℕ) → q ≢ n → failed q ≡ false) → AllFared is_broken failures failed olds (slice_set ds n w')
 one_then is_broken failures failed n olds ds w w' many first at own others =
     all_then is_broken failures failed olds ds (slice_set ds n w') many first (one_fared is_broken failures failed n ds w w' at own others)
 
--- none of them fails in a pass over the first so many
+-- none of them fails in a pass over the first n
 pub all_well : {D : Type 0} (is_broken : D → Bool) (failures : D → ℕ) (R : D → D → Type 0) (n : ℕ) (olds news : List D) → Changed R n olds news
     → ((d d' : D) → R d d' → Fared is_broken failures false d d') → AllFared is_broken failures (λ q. false) olds news
 all_well is_broken failures R n olds news c well q d d' here there = go (cases_lt q n)
@@ -109,7 +109,7 @@ still_sound is_broken failures olds news many fared sound = each_of (λ d. is_br
     let here = slice_get-get_or olds q d (omega (arith, many, slice_get_within news q d there)) in
     (fared q _ d here there).broken ∙ each_at (λ x. is_broken x ≡ false) olds q _ sound here)
 
--- one reader was called behind others that did not fail, or each was, and this was answered
+-- one reader was called after others that did not fail, or each was, with this result
 pub reader_then : {D A : Type 0} (is_broken : D → Bool) (failures : D → ℕ) (answer given : Result A RunCause) (n : ℕ) (olds ds : List D) (d d' : D) →
     length ds ≡ length olds
     → AllFared is_broken failures (λ q. false) olds ds → slice_get ds n ≡ Some d → FaredAlone is_broken failures (failed_reader answer) n d d'
@@ -147,34 +147,34 @@ pub sound_writers : {D A : Type 0} (is_broken : D → Bool) (failures : D → �
 sound_writers is_broken failures (Ok done) olds news many fared sound ok = still_sound is_broken failures olds news many fared sound
 sound_writers is_broken failures (Err cause) olds news many fared sound ok = cc
 
--- ---- what a cause leaves of the others
+-- ---- what a cause says of the others
 
--- a fault of one input is none of another's reader
-pub not_other : (error : PcapError) (port q : ℕ) → q ≢ port → is_read_of (In port error) q ≡ false
+-- a fault of one input is not of another's reader
+pub not_other : (error : PcapError) (port q : ℕ) → q ≢ port → failed_reader {A = ⊤} (Err (In port error)) q ≡ false
 not_other Read port q other = ne_eqb q port other
 not_other error port q other = refl
 
--- a header that is at fault is none of a writer's failures, and one that is not written none of a reader's
-pub no_writer : (olds news : List (Option (List ℕ))) (cause : RunCause) → IsHeaderCause olds news cause → (q : ℕ) → is_write_of cause q ≡ false
+-- a fault of a header is no writer's, and a header that is not written no reader's
+pub no_writer : (olds news : List Device) (cause : RunCause) → IsHeaderCause olds news cause → (q : ℕ) → failed_writer {A = ⊤} (Err cause) q ≡ false
 no_writer olds news (In port error) is q = refl
 no_writer olds news (Out port) is q = absurd is
 no_writer olds news Memory is q = refl
 no_writer olds news NoRoom is q = refl
 
-pub no_reader : (unit : TimeUnit) (held holds : List (Option (List ℕ))) (cause : RunCause) → IsWriteCause unit held holds cause →
-    (q : ℕ) → is_read_of cause q ≡ false
+pub no_reader : (unit : TimeUnit) (held holds : List Device) (cause : RunCause) → IsWriteCause unit held holds cause →
+    (q : ℕ) → failed_reader {A = ⊤} (Err cause) q ≡ false
 no_reader unit held holds (In port error) is q = absurd is
 no_reader unit held holds (Out port) is q = refl
 no_reader unit held holds Memory is q = refl
 no_reader unit held holds NoRoom is q = refl
 
--- ---- a reader that is asked
+-- ---- a reader that is read
 
 -- it was at fault, or failed
 pub refused : {D A : Type 0} (is_broken : D → Bool) (failures : D → ℕ) (answer : Result A PcapError) (error : PcapError) (port : ℕ) (d d' : D) →
     answer ≡ Err error
     → (IsErrOf answer Read ↔ IsTrue (is_broken d')) → (IsTrue (is_broken d) → IsTrue (is_broken d')) → failures d' ≡ failures d + failed_pulls answer
-    → Fared is_broken failures (is_read_of (In port error) port) d d'
+    → Fared is_broken failures (failed_reader {A = ⊤} (Err (In port error)) port) d d'
 refused {D} {A} is_broken failures answer error port d d' err failed stays count = go error err
   where
     never : (b : Bool) → (b ≡ true → ⊥) → b ≡ false
@@ -184,6 +184,6 @@ refused {D} {A} is_broken failures answer error port d d' err failed stays count
     sound_so : (is_broken d' ≡ true → ⊥) → failures d' ≡ failures d + 0 → Fared is_broken failures false d d'
     sound_so denied same = fared_well is_broken failures d d' stays (never (is_broken d') denied) (same ∙ sym (none_more (failures d)))
 
-    go : (e : PcapError) → answer ≡ Err e → Fared is_broken failures (is_read_of (In port e) port) d d'
+    go : (e : PcapError) → answer ≡ Err e → Fared is_broken failures (failed_reader {A = ⊤} (Err (In port e)) port) d d'
     go Read is = failed_here is_broken failures port d d' (failed.0 is) (subst (λ a. failures d' ≡ failures d + failed_pulls a) is count)
     go e is = sound_so (λ b. let bad = sym is ∙ failed.1 b in cc) (subst (λ a. failures d' ≡ failures d + failed_pulls a) is count)

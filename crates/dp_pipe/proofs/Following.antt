@@ -1,5 +1,5 @@
--- What follows an answer of an input.
-use Rattle.std.proofs.Common.{◌≡◌, ℕ, List, Option, Result, Ok, Err, refl}
+-- What follows an input's answer.
+use Rattle.std.proofs.Common.{◌≡◌, ℕ, List, Result, Ok, Err, refl}
 use Rattle.std.specs.Prelude.{OnOk, IfErr}
 use Rattle.dp_pcap.specs.declared.time.Time.{Time}
 use Rattle.dp_pcap.specs.declared.time.Unit.{Unit as TimeUnit}
@@ -11,23 +11,24 @@ use Rattle.dp_engine.specs.declared.report.InputState.{InputState}
 use Rattle.dp_engine.specs.declared.report.InputState.TheVariants.{Open, Whole, Cut}
 use Rattle.dp_engine.specs.Engines.{EngineState}
 use Rattle.dp_pipe.specs.declared.forwarding.RunCause.TheVariants.{Out}
+use Rattle.dp_pipe.specs.Devices.{Device}
 use Rattle.dp_pipe.specs.Forwarding.{Follows, DrainedAll, DrainsStopped}
 
-pub follows_drained : (port : ℕ) (unit : TimeUnit) (e e' : EngineState) (state : InputState) (held holds : List (Option (List ℕ))) (r : Result Next PcapError)
+pub follows_drained : (port : ℕ) (unit : TimeUnit) (e e' : EngineState) (state : InputState) (held holds : List Device) (r : Result Next PcapError)
     (time : Time) (len : ℕ)
     → r ≡ Ok (Record time len) → state ≡ Open → DrainedAll unit time e e' held holds → Follows port unit e e' state held holds r (Ok tt)
 follows_drained port unit e e' state held holds r time len is goes all = rw is (goes, all)
 
-pub follows_stopped : (port : ℕ) (unit : TimeUnit) (e e' : EngineState) (state : InputState) (held holds : List (Option (List ℕ))) (r : Result Next PcapError)
+pub follows_stopped : (port : ℕ) (unit : TimeUnit) (e e' : EngineState) (state : InputState) (held holds : List Device) (r : Result Next PcapError)
     (time : Time) (len q : ℕ)
     → r ≡ Ok (Record time len) → state ≡ Open → DrainsStopped unit time e e' held holds q → Follows port unit e e' state held holds r (Err (Out q))
 follows_stopped port unit e e' state held holds r time len q is goes stops = rw is (goes, q, refl, stops)
 
-pub follows_end : (port : ℕ) (unit : TimeUnit) (e : EngineState) (held : List (Option (List ℕ))) (r : Result Next PcapError) → r ≡ Ok End →
+pub follows_end : (port : ℕ) (unit : TimeUnit) (e : EngineState) (held : List Device) (r : Result Next PcapError) → r ≡ Ok End →
     Follows port unit e e Whole held held r (Ok tt)
 follows_end port unit e held r is = rw is (refl, refl, refl, refl)
 
-pub follows_cut : (port : ℕ) (unit : TimeUnit) (e : EngineState) (held : List (Option (List ℕ))) (r : Result Next PcapError) (byte : ℕ) →
+pub follows_cut : (port : ℕ) (unit : TimeUnit) (e : EngineState) (held : List Device) (r : Result Next PcapError) (byte : ℕ) →
     r ≡ Ok (next.Cut byte) → Follows port unit e e (Cut byte) held held r (Ok tt)
 follows_cut port unit e held r byte is = rw is (refl, refl, refl, refl)
 

@@ -2,7 +2,6 @@
 use Rattle.std.proofs.Common.{◌≡◌, ◌≢◌, ℕ, zero, suc, ◌+◌, ◌<◌, Bool, true, false, List, [], ◌∷◌, length, map, Option, Some, refl, sym, ◌∙◌}
 use Rattle.std.proofs.Common.{ap, subst, arith, ◌⊎◌, inl, inr}
 use Rattle.std.specs.Prelude.{slice_get, slice_set, nat_lt, flat_map, option_map, if◌then◌else◌, Result, Ok, Err, IfOk, IfErr, is_err}
-use Rattle.std.specs.Io.KnownBytes.{Appends}
 use Rattle.std.specs.Option.{option_map_or}
 use Rattle.std.proofs.lemmas.Bool.{lt-ltb, le-ltb, ltb-true, ltb-false}
 use Rattle.std.proofs.lemmas.List.{length-map, length-set}
@@ -16,9 +15,11 @@ use Rattle.dp_model.specs.Machine.{World}
 use Rattle.dp_model.specs.Runs.{records_at}
 use Rattle.dp_model.specs.Laws.Lists.{get_set_other, get_set_same, get_within}
 use Rattle.dp_engine.specs.declared.report.Tallies.{Tallies}
-use Rattle.dp_engine.specs.Drains.{captured, WrotePart}
+use Rattle.dp_engine.specs.Drains.{captured}
 use Rattle.dp_engine.specs.Engines.{EngineState, tallies_at, drained}
-use Rattle.dp_pipe.specs.Forwarding.{capture_of, records_text, drained_at, emptied, DrainedFirst, DrainsStopped}
+use Rattle.dp_pipe.specs.Devices.{Device, IsGiven, At}
+use Rattle.dp_pipe.specs.Forwarding.{capture_of, records_text, drained_at, emptied, DrainedFirst, DrainedPart, DrainsStopped}
+use Rattle.dp_pipe.proofs.Giving.{given_then}
 
 pub emptied_all : (lists : List (List Packet)) → emptied (length lists) lists ≡ map (λ _. []) lists
 emptied_all [] = refl
@@ -35,7 +36,7 @@ emptied_same zero lists = refl
 emptied_same (suc n) [] = refl
 emptied_same (suc n) (packets ∷ lists) = emptied_same n lists
 
--- what a port's drain writes does not rest on those of the ports before it
+-- what a port's drain writes does not depend on those of the ports before it
 pub records_same : (time : Time) (w : World) (n : ℕ) → slice_get (records_at time (record w { outboxes = emptied n w.outboxes })) n
     ≡ slice_get (records_at time w) n
 records_same time w n =
@@ -53,7 +54,7 @@ split (suc q) (suc n) = go (split q n)
     go (inl e) = inl (ap suc e)
     go (inr d) = inr (λ e. d (omega (arith, e)))
 
--- whether q is below n + 1 is whether it is below n, but for n itself
+-- whether q is below n + 1 is whether it is below n, except for n itself
 below_more : (q n : ℕ) → q ≢ n → nat_lt q (suc n) ≡ nat_lt q n
 below_more q n d = go (nat_lt q n) refl
   where
@@ -80,16 +81,15 @@ tallies_same (x ∷ tallies) zero t lt = refl
 tallies_same (x ∷ tallies) (suc n) t lt = tallies_same tallies n t (omega (arith, lt))
 
 -- what the drain of a port adds to those before it
-pub record DrainsNext (n : ℕ) (unit : TimeUnit) (time : Time) (e1 e2 : EngineState) (mids holds : List (Option (List ℕ))) : Type 0 where
+pub record DrainsNext (n : ℕ) (unit : TimeUnit) (time : Time) (e1 e2 : EngineState) (mids holds : List Device) : Type 0 where
   pub records : List (Time × List ℕ)
   pub records_is : slice_get (records_at time e1.world) n ≡ Some records
-  pub own : (old new : Option (List ℕ)) → slice_get mids n ≡ Some old → slice_get holds n ≡ Some new →
-      Appends old new (records_text unit (map captured records))
+  pub own : At mids holds n (λ old new. IsGiven old new (records_text unit (map captured records)))
   pub others : (q : ℕ) → q ≢ n → slice_get holds q ≡ slice_get mids q
   pub is : e2 ≡ drained n (length records) e1
 
--- the engine behind the drain of one more port
-drained_stays : (n : ℕ) (unit : TimeUnit) (time : Time) (e e1 e2 : EngineState) (held mids holds : List (Option (List ℕ))) →
+-- the engine after the drain of one more port
+drained_stays : (n : ℕ) (unit : TimeUnit) (time : Time) (e e1 e2 : EngineState) (held mids holds : List Device) →
     DrainedFirst n unit time e e1 held mids → DrainsNext n unit time e1 e2 mids holds →
     e2 ≡ record e { world = record e.world { outboxes = emptied (suc n) e.world.outboxes }; tallies = e2.tallies }
 drained_stays n unit time e e1 e2 held mids holds first next =
@@ -101,7 +101,7 @@ drained_stays n unit time e e1 e2 held mids holds first next =
     ap (λ (x : EngineState). record x { world = record x.world { outboxes = slice_set x.world.outboxes n [] }; tallies = e2.tallies }) first.is in
     a ∙ b ∙ ap (λ l. record e { world = record e.world { outboxes = l }; tallies = e2.tallies }) (sym (emptied_more n e.world.outboxes))
 
-pub drained_next : (n : ℕ) (unit : TimeUnit) (time : Time) (e e1 e2 : EngineState) (held mids holds : List (Option (List ℕ)))
+pub drained_next : (n : ℕ) (unit : TimeUnit) (time : Time) (e e1 e2 : EngineState) (held mids holds : List Device)
     → n < length e.tallies → length mids ≡ length held → DrainedFirst n unit time e e1 held mids → DrainsNext n unit time e1 e2 mids holds →
     DrainedFirst (suc n) unit time e e2 held holds
 drained_next n unit time e e1 e2 held mids holds lt many first next =
@@ -118,9 +118,9 @@ drained_next n unit time e e1 e2 held mids holds lt many first next =
       tallies = λ q less. tallied q less (split q n) count;
     }
   where
-    wrote : (q : ℕ) (old new : Option (List ℕ)) → slice_get held q ≡ Some old → slice_get holds q ≡ Some new → (q ≡ n) ⊎ (q ≢ n)
+    wrote : (q : ℕ) (old new : Device) → slice_get held q ≡ Some old → slice_get holds q ≡ Some new → (q ≡ n) ⊎ (q ≢ n)
         → drained_at time e.world n ≡ capture_of next.records
-        → Appends old new (if nat_lt q (suc n) then records_text unit (drained_at time e.world q) else [])
+        → IsGiven old new (if nat_lt q (suc n) then records_text unit (drained_at time e.world q) else [])
     wrote q old new a b (inr other) here =
         let before = first.wrote q old new a (sym (next.others q other) ∙ b) in
         rw (below_more q n other) before
@@ -128,9 +128,9 @@ drained_next n unit time e e1 e2 held mids holds lt many first next =
         let a' : slice_get held n ≡ Some old = ap (slice_get held) (sym same) ∙ a in
         let b' : slice_get holds n ≡ Some new = ap (slice_get holds) (sym same) ∙ b in
         let (mid, m) = get_within mids n (omega (arith, slice_get_within held n old a', many)) in
-        let before : Appends old mid [] = rw (not_below n) at (first.wrote n old mid a' m) in
-        let after : Appends old new (records_text unit (drained_at time e.world n)) = rw here (Appends-trans old mid new [] _ before (next.own mid new m b')) in
-        subst (λ x. Appends old new (if nat_lt x (suc n) then records_text unit (drained_at time e.world x) else [])) (sym same) (rw (below_next n) after)
+        let before : IsGiven old mid [] = rw (not_below n) at (first.wrote n old mid a' m) in
+        let after : IsGiven old new (records_text unit (drained_at time e.world n)) = rw here (given_then old mid new [] _ before (next.own mid new m b')) in
+        subst (λ x. IsGiven old new (if nat_lt x (suc n) then records_text unit (drained_at time e.world x) else [])) (sym same) (rw (below_next n) after)
 
     tallied : (q : ℕ) → q < length e.setting.env.ports → (q ≡ n) ⊎ (q ≢ n) → length (drained_at time e.world n) ≡ length next.records
         → tallies_at e2.tallies q ≡ record (tallies_at e.tallies q) {
@@ -172,11 +172,11 @@ pub err_some : {A E : Type 0} (r : Result A E) (P : E → Type 0) → true ≡ i
 err_some (Err x) P e h = (x, refl, h)
 err_some (Ok x) P e h = cc
 
--- one drain behind those of the ports before it
-pub drain_on : {A : Type 0} (f : A → Option (List ℕ)) (n : ℕ) (unit : TimeUnit) (time : Time) (e1 e2 : EngineState) (outs : List A) (w w' : A) (sent : ℕ)
+-- one drain after those of the ports before it
+pub drain_on : {A : Type 0} (f : A → Device) (n : ℕ) (unit : TimeUnit) (time : Time) (e1 e2 : EngineState) (outs : List A) (w w' : A) (sent : ℕ)
     (records : List (Time × List ℕ))
     → slice_get outs n ≡ Some w → slice_get (records_at time e1.world) n ≡ Some records → sent ≡ length (map captured records) →
-    Appends (f w) (f w') (flat_map (record_text unit) (map captured records))
+    IsGiven (f w) (f w') (flat_map (record_text unit) (map captured records))
     → e2 ≡ drained n sent e1 → DrainsNext n unit time e1 e2 (map f outs) (map f (slice_set outs n w'))
 drain_on f n unit time e1 e2 outs w w' sent records here at count wrote is = record {
   records = records;
@@ -189,12 +189,12 @@ drain_on f n unit time e1 e2 outs w w' sent records here at count wrote is = rec
   is = is ∙ ap (λ m. drained n m e1) (count ∙ length-map records captured);
 }
 
--- the writer of a port failed behind the drains of those before it
-pub stopped : {A : Type 0} (f : A → Option (List ℕ)) (n : ℕ) (unit : TimeUnit) (time : Time) (e e1 e2 : EngineState) (outs mids : List A) (w w' : A)
+-- the writer of a port failed after the drains of those before it
+pub stopped : {A : Type 0} (f : A → Device) (n : ℕ) (unit : TimeUnit) (time : Time) (e e1 e2 : EngineState) (outs mids : List A) (w w' : A)
     (whole : ℕ) (records : List (Time × List ℕ))
     → n < length e.setting.env.ports → DrainedFirst n unit time e e1 (map f outs) (map f mids) → slice_get mids n ≡ Some w →
     slice_get (records_at time e1.world) n ≡ Some records
-    → WrotePart (f w) (f w') unit (map captured records) whole → e2 ≡ drained n whole e1
+    → DrainedPart unit (map captured records) whole (f w) (f w') → e2 ≡ drained n whole e1
     → DrainsStopped unit time e e2 (map f outs) (map f (slice_set mids n w')) n
 stopped f n unit time e e1 e2 outs mids w w' whole records there first here at wrote is =
     let world = ap (λ (x : EngineState). x.world) first.is in
@@ -212,16 +212,19 @@ stopped f n unit time e e1 e2 outs mids w w' whole records there first here at w
       is = is;
     }
   where
-    owned : drained_at time e.world n ≡ capture_of records → (old new : Option (List ℕ)) → slice_get (map f outs) n ≡ Some old →
-        slice_get (map f (slice_set mids n w')) n ≡ Some new → WrotePart old new unit (drained_at time e.world n) whole
+    owned : drained_at time e.world n ≡ capture_of records → (old new : Device) → slice_get (map f outs) n ≡ Some old →
+        slice_get (map f (slice_set mids n w')) n ≡ Some new → DrainedPart unit (drained_at time e.world n) whole old new
     owned mine old new a b =
         let mid = map_at f mids n w here in
-        let before : Appends old (f w) [] = rw (not_below n) at (first.wrote n old (f w) a mid) in
+        let before : IsGiven old (f w) [] = rw (not_below n) at (first.wrote n old (f w) a mid) in
         let second : f w' ≡ new = same_Some _ _ (sym (map_here f mids n w' w here) ∙ b) in
         rw (mine, ← second) (record {
-          next = wrote.next;
-          next_is = wrote.next_is;
-          bytes = wrote.bytes;
-          part = wrote.part;
-          wrote = Appends-trans old (f w) (f w') [] _ before wrote.wrote;
+          part = record {
+            next = wrote.part.next;
+            next_is = wrote.part.next_is;
+            bytes = wrote.part.bytes;
+            part = wrote.part.part;
+            wrote = Appends-trans old.bytes (f w).bytes (f w').bytes [] _ before.grown wrote.part.wrote;
+          };
+          calls = omega (arith, before.calls, wrote.calls);
         })

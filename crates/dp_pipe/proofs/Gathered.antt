@@ -21,7 +21,7 @@ use Rattle.dp_pipe.proofs.Indices.{taken_more, parted, zipped_more, length-numbe
 
 -- ---- one node
 
--- what is checked with the certificate that its file spells has this one
+-- the certificate with which a program is checked is the one in its file
 pub spelled_cert : (known : Option FileMap) (name : List ℕ) (program : List Instr) (cert : Certificate) (env : Environment) (entry : Entry) (q : Question) →
     q ≡ question program cert env entry → IsCertOf known name (length program) cert → HasCert known (Some name) q
 spelled_cert known name program cert env entry q is spelled = subst (HasCert known (Some name)) (sym is) (cert, refl, spelled)

@@ -1,4 +1,4 @@
--- A run goes on by what one input answers.
+-- A run continues with one input's answer.
 use Rattle.std.proofs.Common.{◌*◌, ◌≡◌, ℕ, zero, suc, ◌+◌, ◌<◌, ◌≤◌, List, [], ◌∷◌, length, take, Option, Some, None}
 use Rattle.std.proofs.Common.{Result, Ok, Err, refl, sym, ◌∙◌, ap, subst, arith}
 use Rattle.std.specs.Prelude.{slice_get, slice_set, if◌then◌else◌}
@@ -14,22 +14,24 @@ use Rattle.dp_pcap.specs.declared.source.Next.TheVariants as next
 use Rattle.dp_pcap.specs.Standing.{Standing}
 use Rattle.dp_pcap.specs.Capture.{PacketRecord, IsCapture}
 use Rattle.dp_pcap.specs.Capture as capture
-use Rattle.dp_pcap.specs.Source.{WhereKnown, HasRead, Continues, IsInRange, Moves, advanced, over}
+use Rattle.dp_pcap.specs.Source.{WhereKnown, HasRead, Continues, IsInRange, Moves, advanced, most_pulls, over}
 use Rattle.dp_model.specs.Machine.{Setting}
 use Rattle.dp_model.specs.Runs.{records_at, joined}
 use Rattle.dp_engine.specs.declared.report.InputState.{InputState}
 use Rattle.dp_engine.specs.declared.report.InputState.TheVariants.{Open, Whole, Cut}
 use Rattle.dp_engine.specs.Engines.{EngineState}
 use Rattle.dp_pipe.specs.declared.forwarding.Progress.{Progress}
+use Rattle.dp_pipe.specs.Devices.{Device, transfer}
 use Rattle.dp_pipe.specs.Forwarding.{Input, HasReadSo, Stands, ReadsTurn, TakesTurn, DrainedAll, DrainedFirst, Follows}
-use Rattle.dp_pipe.specs.Forwarding.{Advances, Along, AnswersSo, asked, arrivals_of, HasRun, records_many, unit_for}
+use Rattle.dp_pipe.specs.Forwarding.{Advances, Along, AnswersSo, asked, arrivals_of, HasRun, last_pulls, records_many, unit_for}
 use Rattle.dp_pipe.proofs.RunOn.{run_on, arrival}
 use Rattle.dp_pipe.proofs.Advancing.{with_record, ended, arrivals_more, arrivals_ended, order_next, wrote_more, joined_many}
 use Rattle.dp_pipe.proofs.Units.{units_set}
-use Rattle.dp_pipe.proofs.Stepping.{input_at, all_stand, known_then, open_read, stands_more, stands_ended}
+use Rattle.dp_pipe.proofs.Stepping.{input_at, all_stand, calls_ended, calls_more, known_then, open_read, stands_more, stands_ended}
+use Rattle.dp_pipe.proofs.Giving.{known_map}
 
 -- what all steps of a round share: as many inputs, readers and writers as ports
-pub record AreMany (e : EngineState) (olds news held mids : List (Option (List ℕ))) : Type 0 where
+pub record AreMany (e : EngineState) (olds news held mids : List Device) : Type 0 where
   pub counted : length e.tallies ≡ 8
   pub few : length e.setting.env.ports ≤ 8
   pub mids_many : length mids ≡ length e.setting.env.ports
@@ -66,17 +68,11 @@ many_least (x ∷ inputs) zero i e few =
     all_most (x ∷ inputs) few = let more = all_most inputs (λ q j at. few (suc q) j at) in omega (arith, more, few 0 x refl)
 many_least (x ∷ inputs) (suc n) i e few = let more = many_least inputs n i e (λ q j at. few (suc q) j at) in omega (arith, more, few 0 x refl)
 
--- an open input gave so many records as it was asked for
+-- an open input returned as many records as there were reads of it
 pub wanted : (round port count : ℕ) (state : InputState) → state ≡ Open → AnswersSo state count (asked round port port) → count ≡ round
 wanted round port count Open e is = is ∙ ap (λ b. if b then round + 1 else round) (le-ltb port port (omega arith))
 wanted round port count Whole e lt = cc
 wanted round port count (Cut byte) e lt = cc
-
-pub known_map : (a b : Option (List ℕ)) (P Q : List ℕ → List ℕ → Type 0) → ((left rest : List ℕ) → P left rest → Q left rest) → WhereKnown a b P
-    → WhereKnown a b Q
-known_map None b P Q f h = tt
-known_map (Some x) None P Q f h = absurd h
-known_map (Some x) (Some y) P Q f h = f x y h
 
 whole_read : (s s' : Standing) (records : List PacketRecord) (bytes : List ℕ) → s' ≡ over s → IsCapture bytes s.unit records capture.Ending.Whole →
     IsCapture bytes s'.unit records capture.Ending.Whole
@@ -86,10 +82,10 @@ cut_read : (byte : ℕ) (s s' : Standing) (records : List PacketRecord) (bytes :
     IsCapture bytes s.unit records (capture.Ending.Cut byte) → IsCapture bytes s'.unit records (capture.Ending.Cut byte)
 cut_read byte s s' records bytes is h = rw is h
 
-module _ (unit : TimeUnit) (e0 e : EngineState) (olds news held mids : List (Option (List ℕ))) (progress : List Progress) (inputs : List Input) (round port : ℕ)
-    (along : Along unit e0 e olds news held mids progress inputs round port) (many : AreMany e0 olds news held mids)
+module _ (unit : TimeUnit) (e0 e : EngineState) (olds news held mids : List Device) (progress : List Progress) (inputs : List Input) (round port : ℕ)
+    (along : Along unit e0 e (transfer olds news held mids) progress inputs round port) (many : AreMany e0 olds news held mids)
     (p p' : Progress) (here : slice_get progress port ≡ Some p) (open_p : p.state ≡ Open) (there : port < length e0.setting.env.ports)
-    (a b : Option (List ℕ)) (left_a : slice_get news port ≡ Some a) where
+    (a b : Device) (left_a : slice_get news port ≡ Some a) where
   abbrev i : Input
   i = (input_at olds news progress inputs port p along.stand here).0
 
@@ -106,13 +102,14 @@ module _ (unit : TimeUnit) (e0 e : EngineState) (olds news held mids : List (Opt
   count = wanted round port (length i.records) i.state i_open (along.order port i i_here)
 
   -- a record came
-  pub record_on : (time : Time) (len : ℕ) (buf : List ℕ) (e1 e2 : EngineState) (holds : List (Option (List ℕ)))
-      → WhereKnown a b (λ left rest. Continues p.source p'.source left rest buf (Ok (Record time len))) → p.source.given < 16777216 →
+  pub record_on : (time : Time) (len : ℕ) (buf : List ℕ) (e1 e2 : EngineState) (holds : List Device)
+      → len ≤ length buf → b.calls ≤ a.calls + (16 + len)
+      → WhereKnown a.bytes b.bytes (λ left rest. Continues p.source p'.source left rest buf (Ok (Record time len))) → p.source.given < 16777216 →
       p'.source ≡ advanced p.source len
       → TakesTurn port e e1 (take len buf) → p'.state ≡ Open → DrainedAll unit time e1 e2 mids holds
-      → Along unit e0 e2 olds (slice_set news port b) held holds (slice_set progress port p')
+      → Along unit e0 e2 (transfer olds (slice_set news port b) held holds) (slice_set progress port p')
       (slice_set inputs port (with_record (record { time = time; bytes = take len buf }) i)) round (port + 1)
-  record_on time len buf e1 e2 holds more less moved turn open_p' drains =
+  record_on time len buf e1 e2 holds fits pulls more less moved turn open_p' drains =
       let r : PacketRecord = record { time = time; bytes = take len buf } in
       let i' = with_record r i in
       let stands : Stands p' i' = stands_more p p' i time len buf i_stands open_p open_p' moved less in
@@ -131,9 +128,12 @@ module _ (unit : TimeUnit) (e0 e : EngineState) (olds news held mids : List (Opt
             ∙ length-append (arrivals_of inputs) (arrival port time (take len buf) ∷ [])
             ∙ omega (arith, along.total, many_more inputs port i r i_here);
         stand = all_stand olds news progress inputs port p' i' b along.stand stands (λ old at.
-            known_then old a b _ _ _ (λ bytes left rest before now. rw i_open
-            (now bytes i.records (open_read i.state p.source i.records bytes left i_open before))) (along.stand.read port p i old a here i_here at left_a)
-            more);
+            let was = along.stand.read port p i here i_here old a at left_a in
+            record {
+              has = known_then old.bytes a.bytes b.bytes _ _ _ (λ bytes left rest before now. rw i_open
+                  (now bytes i.records (open_read i.state p.source i.records bytes left i_open before))) was.has more;
+              calls = calls_more i time len buf old.calls a.calls b.calls i_open fits was.calls pulls;
+            });
         order = order_next inputs round port i' along.order (rw i_open (length-append i.records (r ∷ []) ∙ ap (λ m. m + 1) count));
         captures = joined along.captures (records_at time e1.world);
         many = joined_many along.captures (records_at time e1.world) (along.many ∙ sym long) ∙ along.many;
@@ -146,19 +146,24 @@ module _ (unit : TimeUnit) (e0 e : EngineState) (olds news held mids : List (Opt
 
   -- the input ended
   pub ended_on : (state : InputState) → (state ≡ Open → ⊥)
-      → WhereKnown a b (λ left rest. (bytes : List ℕ) (records : List PacketRecord) → HasRead bytes p.source records left →
+      → b.calls ≤ a.calls + last_pulls state
+      → WhereKnown a.bytes b.bytes (λ left rest. (bytes : List ℕ) (records : List PacketRecord) → HasRead bytes p.source records left →
       HasReadSo state p'.source records bytes rest)
       → p'.source ≡ over p.source → p'.state ≡ state
-      → Along unit e0 e olds (slice_set news port b) held mids (slice_set progress port p') (slice_set inputs port (ended state i)) round (port + 1)
-  ended_on state closed more moved is = record {
+      → Along unit e0 e (transfer olds (slice_set news port b) held mids) (slice_set progress port p') (slice_set inputs port (ended state i)) round (port + 1)
+  ended_on state closed pulls more moved is = record {
     first = along.first;
     held_many = along.held_many;
     inputs_many = length-set inputs port (ended state i) ∙ along.inputs_many;
     unit_is = along.unit_is ∙ ap unit_for (sym (units_set inputs port i (ended state i) i_here refl));
     total = ap length (arrivals_ended inputs port i state i_here) ∙ along.total ∙ sym (many_ended inputs port i state i_here);
     stand = all_stand olds news progress inputs port p' (ended state i) b along.stand (stands_ended p p' i state i_stands is moved closed) (λ old at.
-        known_then old a b _ _ _ (λ bytes left rest before now. now bytes i.records (open_read i.state p.source i.records bytes left i_open before))
-        (along.stand.read port p i old a here i_here at left_a) more);
+        let was = along.stand.read port p i here i_here old a at left_a in
+        record {
+          has = known_then old.bytes a.bytes b.bytes _ _ _
+              (λ bytes left rest before now. now bytes i.records (open_read i.state p.source i.records bytes left i_open before)) was.has more;
+          calls = calls_ended i old.calls a.calls b.calls (last_pulls state) i_open was.calls pulls;
+        });
     order = order_next inputs round port (ended state i) along.order (less state closed);
     captures = along.captures;
     many = along.many;
@@ -171,43 +176,51 @@ module _ (unit : TimeUnit) (e0 e : EngineState) (olds news held mids : List (Opt
       less Whole closed = omega (arith, count)
       less (Cut byte) closed = omega (arith, count)
 
--- the run goes on, whatever the answer was, if it did not stop
-pub goes_on : (unit : TimeUnit) (e0 e e' : EngineState) (olds news held mids holds : List (Option (List ℕ))) (progress : List Progress) (inputs : List Input)
-    (round port : ℕ) (p p' : Progress) (a b : Option (List ℕ))
-    → Along unit e0 e olds news held mids progress inputs round port → AreMany e0 olds news held mids → slice_get progress port ≡ Some p → p.state ≡ Open →
+-- the run continues, whatever the answer was, if it did not stop
+pub goes_on : (unit : TimeUnit) (e0 e e' : EngineState) (olds news held mids holds : List Device) (progress : List Progress) (inputs : List Input)
+    (round port : ℕ) (p p' : Progress) (a b : Device)
+    → Along unit e0 e (transfer olds news held mids) progress inputs round port → AreMany e0 olds news held mids → slice_get progress port ≡ Some p
+    → p.state ≡ Open →
     port < length e0.setting.env.ports → slice_get news port ≡ Some a
     → Advances port unit e e' p p' a b mids holds (Ok tt)
-    → (inputs' : List Input) × Along unit e0 e' olds (slice_set news port b) held holds (slice_set progress port p') inputs' round (port + 1)
+    → (inputs' : List Input) × Along unit e0 e' (transfer olds (slice_set news port b) held holds) (slice_set progress port p') inputs' round (port + 1)
 goes_on unit e0 e e' olds news held mids holds progress inputs round port p p' a b along many here open_p there left_a step =
-    go step.next step.read step.in_range step.moves step.follows
+    go step.next step.read step.pulls step.in_range step.moves step.follows
   where
-    go : (answer : Result Next PcapError) → ReadsTurn port e step.engine p.source p'.source a b answer → IsInRange p.source answer →
+    go : (answer : Result Next PcapError) → ReadsTurn port e step.engine p.source p'.source a.bytes b.bytes answer → b.calls ≤ a.calls + most_pulls answer →
+        IsInRange p.source answer →
         Moves p.source p'.source answer → Follows port unit step.engine e' p'.state mids holds answer (Ok tt)
-        → (inputs' : List Input) × Along unit e0 e' olds (slice_set news port b) held holds (slice_set progress port p') inputs' round (port + 1)
-    go (Ok (Record time len)) (buf, more, (fits, turn)) (nano, few, less) moves (open_p', drains) = (
+        → (inputs' : List Input) × Along unit e0 e' (transfer olds (slice_set news port b) held holds) (slice_set progress port p') inputs' round (port + 1)
+    go (Ok (Record time len)) (buf, more, (fits, turn)) pulls (nano, few, less) moves (open_p', drains) = (
       _,
       record_on unit e0 e olds news held mids progress inputs round port along many p p' here open_p there a b left_a time len buf step.engine e' holds
-          more less moves turn open_p' drains,
+          fits pulls more less moves turn open_p' drains,
     )
-    go (Ok End) (buf, more, same) range moves (is, ok, e_is, holds_is) =
-        let x : (inputs' : List Input) × Along unit e0 e olds (slice_set news port b) held mids (slice_set progress port p') inputs' round (port + 1) = (
+    go (Ok End) (buf, more, same) pulls range moves (is, ok, e_is, holds_is) =
+        let x : (inputs' : List Input) × Along unit e0 e (transfer olds (slice_set news port b) held mids) (slice_set progress port p') inputs' round
+        (port + 1) = (
           _,
-          ended_on unit e0 e olds news held mids progress inputs round port along many p p' here open_p there a b left_a Whole (λ c. cc)
-              (known_map a b _ _ (λ left rest now bytes records has. whole_read p.source p'.source records bytes moves (now bytes records has)) more) moves is,
+          ended_on unit e0 e olds news held mids progress inputs round port along many p p' here open_p there a b left_a Whole (λ c. cc) pulls
+              (known_map a.bytes b.bytes _ _ (λ left rest now bytes records has. whole_read p.source p'.source records bytes moves
+              (now bytes records has)) more) moves is,
         ) in
-        subst (λ (z : EngineState). (inputs' : List Input) × Along unit e0 z olds (slice_set news port b) held holds (slice_set progress port p') inputs'
+        subst (λ (z : EngineState). (inputs' : List Input) × Along unit e0 z (transfer olds (slice_set news port b) held holds)
+        (slice_set progress port p') inputs'
         round (port + 1)) (sym (e_is ∙ same))
-        (subst (λ (hs : List (Option (List ℕ))). (inputs' : List Input)
-        × Along unit e0 e olds (slice_set news port b) held hs (slice_set progress port p') inputs' round (port + 1)) (sym holds_is) x)
-    go (Ok (next.Cut byte)) (buf, more, same) range moves (is, ok, e_is, holds_is) =
-        let x : (inputs' : List Input) × Along unit e0 e olds (slice_set news port b) held mids (slice_set progress port p') inputs' round (port + 1) = (
+        (subst (λ (hs : List Device). (inputs' : List Input)
+        × Along unit e0 e (transfer olds (slice_set news port b) held hs) (slice_set progress port p') inputs' round (port + 1)) (sym holds_is) x)
+    go (Ok (next.Cut byte)) (buf, more, same) pulls range moves (is, ok, e_is, holds_is) =
+        let x : (inputs' : List Input) × Along unit e0 e (transfer olds (slice_set news port b) held mids) (slice_set progress port p') inputs' round
+        (port + 1) = (
           _,
-          ended_on unit e0 e olds news held mids progress inputs round port along many p p' here open_p there a b left_a (Cut byte) (λ c. cc)
-              (known_map a b _ _ (λ left rest now bytes records has. cut_read byte p.source p'.source records bytes moves (now bytes records has)) more) moves
+          ended_on unit e0 e olds news held mids progress inputs round port along many p p' here open_p there a b left_a (Cut byte) (λ c. cc) pulls
+              (known_map a.bytes b.bytes _ _ (λ left rest now bytes records has. cut_read byte p.source p'.source records bytes moves
+              (now bytes records has)) more) moves
               is,
         ) in
-        subst (λ (z : EngineState). (inputs' : List Input) × Along unit e0 z olds (slice_set news port b) held holds (slice_set progress port p') inputs'
+        subst (λ (z : EngineState). (inputs' : List Input) × Along unit e0 z (transfer olds (slice_set news port b) held holds)
+        (slice_set progress port p') inputs'
         round (port + 1)) (sym (e_is ∙ same))
-        (subst (λ (hs : List (Option (List ℕ))). (inputs' : List Input)
-        × Along unit e0 e olds (slice_set news port b) held hs (slice_set progress port p') inputs' round (port + 1)) (sym holds_is) x)
-    go (Err error) reads range moves (is, bad, e_is, holds_is) = cc
+        (subst (λ (hs : List Device). (inputs' : List Input)
+        × Along unit e0 e (transfer olds (slice_set news port b) held hs) (slice_set progress port p') inputs' round (port + 1)) (sym holds_is) x)
+    go (Err error) reads pulls range moves (is, bad, e_is, holds_is) = cc

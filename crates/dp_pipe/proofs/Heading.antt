@@ -1,24 +1,25 @@
--- Inputs whose headers were read, and what is told of them.
+-- Inputs whose headers were read, and the reports of their states.
 use Rattle.std.proofs.Common.{◌≡◌, ◌⊎◌, inl, inr, ℕ, zero, suc, ◌+◌, ◌<◌, ◌≤◌, List, [], ◌∷◌, ◌++◌, Option, Some, None, Bool, false, length, map, take}
 use Rattle.std.proofs.Common.{refl, ap, sym, ◌∙◌, subst, arith}
-use Rattle.std.specs.Prelude.{slice_get, slice_set, slice_index_or, Err}
+use Rattle.std.specs.Prelude.{option_map, slice_get, slice_set, slice_index_or, Err}
 use Rattle.std.proofs.lemmas.List.{length-map, length-append, length-set}
-use Rattle.std.proofs.lemmas.Option.{same_Some, slice_get_within, slice_get-get_or}
+use Rattle.std.proofs.lemmas.Option.{same_Some, slice_get_within, slice_get-get_or, slice_get-map}
 use Rattle.dp_model.specs.Laws.Lists.{get_set_other, get_set_same, each_at}
 use Rattle.dp_pipe.proofs.Forwarded.{split}
 use Rattle.std.specs.List.{list_any, AllByRecursion}
-use Rattle.std.specs.Io.KnownBytes.{Appends, Keeps}
 use Rattle.dp_pcap.specs.declared.time.Unit.{Unit as TimeUnit}
-use Rattle.std.proofs.KnownBytes.{Keeps-refl}
 use Rattle.dp_pcap.specs.declared.error.PcapError.{PcapError}
-use Rattle.dp_pcap.specs.Source.{WhereKnown, HasRead, HeaderAnswers}
-use Rattle.dp_pcap.specs.Text.{header_text, AppendsPart}
+use Rattle.dp_pcap.specs.Source.{WhereKnown, HasRead}
+use Rattle.dp_pcap.specs.Text.{header_text}
+use Rattle.dp_pcap.specs.Standing.{Standing}
 use Rattle.dp_engine.specs.declared.report.InputState.{InputState}
+use Rattle.dp_engine.specs.declared.report.InputState.TheVariants.{Open}
 use Rattle.dp_engine.specs.declared.report.PortReport.{PortReport}
 use Rattle.dp_pipe.specs.declared.forwarding.Progress.{Progress}
-use Rattle.dp_pipe.specs.Devices.{Fared}
-use Rattle.dp_pipe.specs.Forwarding.{is_nano, units_of, Stands, IsGoingOn, AllStand, HasReadSo, AreRead, Gives, BeginsAs}
-use Rattle.dp_pipe.specs.Running.{all_begun, with_states, HeadersStopped, HasHeaderFault, IsBegun, begun}
+use Rattle.dp_pipe.specs.Devices.{Device, IsGiven, IsGivenPart, Fared}
+use Rattle.dp_pipe.specs.Forwarding.{is_nano, units_of, Stands, IsGoingOn, AllStand, IsReadBy, IsRead, AreRead}
+use Rattle.dp_pipe.specs.Running.{all_begun, with_states, AreUnread, HeadersStopped, IsBadHeader, HasHeaderFault, IsBegun, begun}
+use Rattle.dp_pipe.proofs.Giving.{length_none, read_as}
 
 -- an input has nanoseconds where its source has
 pub any_nano : (inputs : List Progress) → list_any is_nano (units_of (all_begun inputs)) ≡ list_any (λ (p : Progress). is_nano p.source.unit) inputs
@@ -28,7 +29,7 @@ any_nano (p ∷ inputs) = rw (any_nano inputs) refl
 abbrev pub states_of : List Progress → List InputState
 states_of inputs = map (λ (p : Progress). p.state) inputs
 
--- the state of one input more is told
+-- the state of one more input is reported
 pub more_answers : (inputs : List Progress) (ports : List PortReport) (k : ℕ) (p : Progress) (d : PortReport) → k < length inputs
     → with_states (take (suc k) (states_of inputs)) ports
     ≡ slice_set (with_states (take k (states_of inputs)) ports) k (record (slice_index_or (with_states (take k (states_of inputs)) ports) k d)
@@ -47,7 +48,7 @@ same_more y (x ∷ xs) (suc k) l = ap (λ ys. y ∷ ys) (same_more y xs k (omega
 
 -- ---- one device after the other
 
--- each device so far was changed so, and those behind are as they were
+-- each device so far was changed so, and those after it are as they were
 pub record Changed {W : Type 0} (R : W → W → Type 0) (n : ℕ) (olds news : List W) : Type 0 where
   pub many : length news ≡ length olds
   pub done : (q : ℕ) (w w' : W) → q < n → slice_get olds q ≡ Some w → slice_get news q ≡ Some w' → R w w'
@@ -132,7 +133,7 @@ old_of R n olds news w x c at here = same_Some x w (sym here ∙ sym (c.rest n (
 pub new_of : {W : Type 0} (n : ℕ) (news : List W) (w u x' : W) → slice_get news n ≡ Some w → slice_get (slice_set news n u) n ≡ Some x' → x' ≡ u
 new_of n news w u x' at there = same_Some x' u (sym there ∙ get_set_same news n u w at)
 
--- and those behind it are as they were
+-- and those after it are as they were
 pub behind_of : {W : Type 0} (R : W → W → Type 0) (n : ℕ) (olds news : List W) (u : W) → Changed R n olds news
     → (q : ℕ) (x x' : W) → n < q → slice_get olds q ≡ Some x → slice_get (slice_set news n u) q ≡ Some x' → x' ≡ x
 behind_of R n olds news u c q x x' l here there =
@@ -140,34 +141,55 @@ behind_of R n olds news u c q x x' l here there =
 
 -- ---- writers
 
-pub kept_same : {W : Type 0} (contents : W → Option (List ℕ)) (w w' : W) → w' ≡ w → Keeps (contents w) (contents w')
-kept_same {W = W} contents w w' e = subst (λ (x : W). Keeps (contents w) (contents x)) (sym e) (Keeps-refl (contents w))
+-- those after one that was called are as they were
+same_behind : {W : Type 0} (device : W → Device) (R : W → W → Type 0) (n : ℕ) (olds news : List W) (u : W) → Changed R n olds news → (q : ℕ) → n < q
+    → slice_get (map device (slice_set news n u)) q ≡ slice_get (map device olds) q
+same_behind device R n olds news u c q l =
+    slice_get-map device (slice_set news n u) q
+    ∙ ap (option_map device) (get_set_other news n q u (λ e. absurd (omega (arith, l, e))) ∙ c.rest q (omega (arith, l)))
+    ∙ sym (slice_get-map device olds q)
+
+-- the number of devices stays
+still_many : {W : Type 0} (device : W → Device) (R : W → W → Type 0) (n : ℕ) (olds news : List W) (u : W) → Changed R n olds news
+    → length (map device (slice_set news n u)) ≡ length (map device olds)
+still_many device R n olds news u c =
+    length-map (slice_set news n u) device ∙ length-set news n u ∙ c.many ∙ sym (length-map olds device)
+
+one_there : {W : Type 0} (device : W → Device) (R : W → W → Type 0) (n : ℕ) (olds news : List W) (w : W) → Changed R n olds news
+    → slice_get news n ≡ Some w → n < length (map device olds)
+one_there device R n olds news w c at = omega (arith, slice_get_within news n w at, c.many, length-map olds device)
 
 -- the header of a writer was written in part
-pub headers_stopped : {W : Type 0} (contents : W → Option (List ℕ)) (R : W → W → Type 0) (unit : TimeUnit) (n : ℕ) (olds news : List W) (w u : W) →
+pub headers_stopped : {W : Type 0} (device : W → Device) (R : W → W → Type 0) (unit : TimeUnit) (n : ℕ) (olds news : List W) (w u : W) →
     Changed R n olds news
-    → ((x x' : W) → R x x' → Appends (contents x) (contents x') (header_text unit)) → slice_get news n ≡ Some w →
-    AppendsPart (contents w) (contents u) (header_text unit)
-    → HeadersStopped unit (map contents olds) (map contents (slice_set news n u)) n
-headers_stopped contents R unit n olds news w u c whole at part = record {
-  before = λ q old new l. in_answers contents (λ a a'. Appends a a' (header_text unit)) olds (slice_set news n u) q
-      (λ x x' here there. whole x x' (before_of R n olds news u c q x x' l here there)) old new;
-  own = in_answers contents (λ a a'. AppendsPart a a' (header_text unit)) olds (slice_set news n u) n
+    → ((x x' : W) → R x x' → IsGiven (device x) (device x') (header_text unit)) → slice_get news n ≡ Some w →
+    IsGivenPart (device w) (device u) (header_text unit)
+    → HeadersStopped unit (map device olds) (map device (slice_set news n u)) n
+headers_stopped device R unit n olds news w u c whole at part = record {
+  there = one_there device R n olds news w c at;
+  many = still_many device R n olds news u c;
+  before = λ q l. in_answers device (λ a a'. IsGiven a a' (header_text unit)) olds (slice_set news n u) q
+      (λ x x' here there. whole x x' (before_of R n olds news u c q x x' l here there));
+  own = in_answers device (λ a a'. IsGivenPart a a' (header_text unit)) olds (slice_set news n u) n
       (λ x x' here there. rw (old_of R n olds news w x c at here, new_of n news w u x' at there) part);
-  behind = λ q old new l. in_answers contents Keeps olds (slice_set news n u) q
-      (λ x x' here there. kept_same contents x x' (behind_of R n olds news u c q x x' l here there)) old new;
+  after = same_behind device R n olds news u c;
 }
 
 -- ---- readers
 
--- what was read of the first so many inputs: a header each
-pub record ReadFirst {R : Type 0} (remaining : R → Option (List ℕ)) (failures : R → ℕ) (is_broken : R →
+-- a header was read
+pub record HeaderRead (s : Standing) (old new : Device) : Type 0 where
+  pub has : WhereKnown old.bytes new.bytes (λ bytes rest. HasRead bytes s [] rest)
+  pub calls : new.calls ≤ old.calls + 24
+
+-- what was read of the first n inputs: a header each
+pub record ReadFirst {R : Type 0} (device : R → Device) (failures : R → ℕ) (is_broken : R →
     Bool) (n : ℕ) (olds news : List R) (inputs : List Progress) : Type 0 where
   pub changed : Changed (λ r r'. Fared is_broken failures false r r' × (is_broken r' ≡ false)) n olds news
   pub many : length inputs ≡ n
   pub begun : AllByRecursion IsBegun inputs
   pub read : (q : ℕ) (p : Progress) (r r' : R) → slice_get inputs q ≡ Some p → slice_get olds q ≡ Some r → slice_get news q ≡ Some r'
-      → WhereKnown (remaining r) (remaining r') (λ bytes rest. HasRead bytes p.source [] rest)
+      → HeaderRead p.source (device r) (device r')
 
 pub get_front : {A : Type 0} (xs : List A) (y : A) (q : ℕ) (x : A) → slice_get (xs ++ y ∷ []) q ≡ Some x →
     ((q < length xs) × (slice_get xs q ≡ Some x)) ⊎ ((q ≡ length xs) × (x ≡ y))
@@ -187,13 +209,13 @@ each_more P [] y all is = (is, tt)
 each_more P (x ∷ xs) y (first, all) is = (first, each_more P xs y all is)
 
 -- one header more
-pub read_more : {R : Type 0} (remaining : R → Option (List ℕ)) (failures : R → ℕ) (is_broken : R →
+pub read_more : {R : Type 0} (device : R → Device) (failures : R → ℕ) (is_broken : R →
     Bool) (n : ℕ) (olds news : List R) (inputs : List Progress) (r u : R) (p : Progress)
-    → ReadFirst remaining failures is_broken n olds news inputs → slice_get news n ≡ Some r → Fared is_broken failures false r u → is_broken u ≡ false →
+    → ReadFirst device failures is_broken n olds news inputs → slice_get news n ≡ Some r → Fared is_broken failures false r u → is_broken u ≡ false →
     IsBegun p
-    → WhereKnown (remaining r) (remaining u) (λ bytes rest. HasRead bytes p.source [] rest) →
-    ReadFirst remaining failures is_broken (n + 1) olds (slice_set news n u) (inputs ++ p ∷ [])
-read_more {R = R} remaining failures is_broken n olds news inputs r u p c at fared sound begun known = record {
+    → HeaderRead p.source (device r) (device u) →
+    ReadFirst device failures is_broken (n + 1) olds (slice_set news n u) (inputs ++ p ∷ [])
+read_more {R = R} device failures is_broken n olds news inputs r u p c at fared sound begun known = record {
   changed = changed_more _ n olds news r u c.changed at (fared, sound);
   many = omega (arith, length-append inputs (p ∷ []), c.many);
   begun = each_more IsBegun inputs p c.begun begun;
@@ -201,11 +223,10 @@ read_more {R = R} remaining failures is_broken n olds news inputs r u p c at far
 }
   where
     read : (q : ℕ) (i : Progress) (x x' : R) → slice_get (inputs ++ p ∷ []) q ≡ Some i → slice_get olds q ≡ Some x → slice_get (slice_set news n u) q ≡ Some x'
-        → WhereKnown (remaining x) (remaining x') (λ bytes rest. HasRead bytes i.source [] rest)
+        → HeaderRead i.source (device x) (device x')
     read q i x x' there_i here there = go (get_front inputs p q i there_i)
       where
-        go : ((q < length inputs) × (slice_get inputs q ≡ Some i)) ⊎ ((q ≡ length inputs) × (i ≡ p)) →
-            WhereKnown (remaining x) (remaining x') (λ bytes rest. HasRead bytes i.source [] rest)
+        go : ((q < length inputs) × (slice_get inputs q ≡ Some i)) ⊎ ((q ≡ length inputs) × (i ≡ p)) → HeaderRead i.source (device x) (device x')
         go (inl (l, front)) = c.read q i x x' front here (sym (get_set_other news n q u (λ e. absurd (omega (arith, l, e, c.many)))) ∙ there)
         go (inr (e, is)) =
             let index : q ≡ n = e ∙ c.many in
@@ -213,7 +234,7 @@ read_more {R = R} remaining failures is_broken n olds news inputs r u p c at far
             let new : x' ≡ u = new_of n news r u x' at (ap (slice_get (slice_set news n u)) (sym index) ∙ there) in
             rw (old, new, is) known
 
--- all headers were read: the inputs stand at their first records
+-- all headers were read: the inputs are at their first records
 pub stand_begun : (p : Progress) → IsBegun p → Stands p (begun p)
 stand_begun p is = record {
   unit = refl;
@@ -222,48 +243,59 @@ stand_begun p is = record {
   few = omega arith;
 }
 
-pub all_stand : {R : Type 0} (remaining : R → Option (List ℕ)) (failures : R → ℕ) (is_broken : R → Bool) (n : ℕ) (olds news : List R) (inputs : List Progress)
-    → ReadFirst remaining failures is_broken n olds news inputs → AllStand (map remaining olds) (map remaining news) inputs (all_begun inputs)
-all_stand {R = R} remaining failures is_broken n olds news inputs c = record {
+-- so its source has read no record yet
+unread_by : (p : Progress) (a b : Device) → p.state ≡ Open → HeaderRead p.source a b → IsReadBy (begun p) p.source a b
+unread_by p a b is h = record {
+  has = rw is h.has;
+  calls = rw is (omega (arith, h.calls, length_none p.source.unit));
+}
+
+pub all_stand : {R : Type 0} (device : R → Device) (failures : R → ℕ) (is_broken : R → Bool) (n : ℕ) (olds news : List R) (inputs : List Progress)
+    → ReadFirst device failures is_broken n olds news inputs → AllStand (map device olds) (map device news) inputs (all_begun inputs)
+all_stand {R = R} device failures is_broken n olds news inputs c = record {
   many = sym (length-map inputs begun);
   each = λ q p i at at'. let (w, there, is) = answers_at begun inputs q i at' in
       let same : w ≡ p = same_Some w p (sym there ∙ at) in
       rw (is, same) (stand_begun p (each_at IsBegun inputs q p c.begun at));
-  read = λ q p i old new at at' here there. let (w, there_w, is) = answers_at begun inputs q i at' in
+  read = λ q p i at at'. let (w, there_w, is) = answers_at begun inputs q i at' in
       let same : w ≡ p = same_Some w p (sym there_w ∙ at) in
       let is_open = (each_at IsBegun inputs q p c.begun at).state in
-      in_answers remaining (λ a a'. WhereKnown a a' (λ bytes rest. HasReadSo i.state p.source i.records bytes rest)) olds news q
-      (λ x x' here_x there_x. rw (is, same, is_open) (c.read q p x x' at here_x there_x)) old new here there;
+      in_answers device (IsReadBy i p.source) olds news q
+      (λ x x' here there. rw (is, same) (unread_by p (device x) (device x') is_open (c.read q p x x' at here there)));
 }
 
 -- what was read of inputs whose headers were read
-pub read_begun : {R : Type 0} (remaining : R → Option (List ℕ)) (failures : R → ℕ) (is_broken : R →
+pub read_begun : {R : Type 0} (device : R → Device) (failures : R → ℕ) (is_broken : R →
     Bool) (n : ℕ) (olds news : List R) (inputs : List Progress) (u : R)
-    → ReadFirst remaining failures is_broken n olds news inputs → AreRead (map remaining olds) (map remaining (slice_set news n u)) (all_begun inputs)
-read_begun {R = R} remaining failures is_broken n olds news inputs u c q i old new at here there =
+    → ReadFirst device failures is_broken n olds news inputs → AreRead (map device olds) (map device (slice_set news n u)) (all_begun inputs)
+read_begun {R = R} device failures is_broken n olds news inputs u c q i at =
     let (p, there_p, is) = answers_at begun inputs q i at in
     let is_open = (each_at IsBegun inputs q p c.begun there_p).state in
     let below : q < n = omega (arith, slice_get_within inputs q p there_p, c.many) in
-    in_answers remaining (λ a a'. WhereKnown a a' (λ bytes rest. Gives i.state i.unit i.records bytes)) olds (slice_set news n u) q
-    (λ x x' here_x there_x. rw (is, is_open) (known_begun p (remaining x) (remaining x')
-    (c.read q p x x' there_p here_x (sym (get_set_other news n q u (λ e. absurd (omega (arith, below, e)))) ∙ there_x)))) old new here there
-  where
-    known_begun : (p : Progress) (a a' : Option (List ℕ)) → WhereKnown a a' (λ bytes rest. HasRead bytes p.source [] rest) →
-        WhereKnown a a' (λ bytes rest. BeginsAs bytes p.source.unit [])
-    known_begun p None a' known = tt
-    known_begun p (Some bytes) None known = absurd known
-    known_begun p (Some bytes) (Some rest) known = (p.source, rest, known, refl)
+    in_answers device (IsRead i) olds (slice_set news n u) q
+    (λ x x' here there. rw is (read_as (begun p) p.source (device x) (device x') refl (unread_by p (device x) (device x') is_open
+    (c.read q p x x' there_p here (sym (get_set_other news n q u (λ e. absurd (omega (arith, below, e)))) ∙ there)))))
+
+-- inputs of which no record was read
+pub none_read : (progress : List Progress) → AllByRecursion IsBegun progress → AreUnread (all_begun progress)
+none_read [] begun = tt
+none_read (x ∷ progress) begun = ((refl, begun.0.state), none_read progress begun.1)
 
 -- the header of an input is at fault
-pub header_fault : {R : Type 0} (remaining : R → Option (List ℕ)) (failures : R → ℕ) (is_broken : R →
+pub header_fault : {R : Type 0} (device : R → Device) (failures : R → ℕ) (is_broken : R →
     Bool) (n : ℕ) (olds news : List R) (inputs : List Progress) (r u : R) (error : PcapError)
-    → ReadFirst remaining failures is_broken n olds news inputs → slice_get news n ≡ Some r →
-    WhereKnown (remaining r) (remaining u) (λ bytes rest. HeaderAnswers bytes rest (Err error))
-    → HasHeaderFault (map remaining olds) (map remaining (slice_set news n u)) n error
-header_fault remaining failures is_broken n olds news inputs r u error c at known = record {
-  before = (all_begun inputs, omega (arith, length-map inputs begun, c.many), read_begun remaining failures is_broken n olds news inputs u c);
-  fault = in_answers remaining (λ a a'. WhereKnown a a' (λ bytes rest. HeaderAnswers bytes rest (Err error))) olds (slice_set news n u) n
-      (λ x x' here there. rw (old_of _ n olds news r x c.changed at here, new_of n news r u x' at there) known);
-  behind = λ q old new l. in_answers remaining Keeps olds (slice_set news n u) q
-      (λ x x' here there. kept_same remaining x x' (behind_of _ n olds news u c.changed q x x' l here there)) old new;
+    → ReadFirst device failures is_broken n olds news inputs → slice_get news n ≡ Some r → IsBadHeader error (device r) (device u)
+    → HasHeaderFault (map device olds) (map device (slice_set news n u)) n error
+header_fault device failures is_broken n olds news inputs r u error c at bad = record {
+  there = one_there device _ n olds news r c.changed at;
+  many = still_many device _ n olds news u c.changed;
+  before = (
+    all_begun inputs,
+    length-map inputs begun ∙ c.many,
+    none_read inputs c.begun,
+    read_begun device failures is_broken n olds news inputs u c,
+  );
+  fault = in_answers device (IsBadHeader error) olds (slice_set news n u) n
+      (λ x x' here there. rw (old_of _ n olds news r x c.changed at here, new_of n news r u x' at there) bad);
+  after = same_behind device _ n olds news u c.changed;
 }

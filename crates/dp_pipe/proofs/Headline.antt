@@ -1,4 +1,4 @@
--- What an open engine did is what is promised of a run.
+-- What an open engine did is what a run promises.
 use Rattle.std.proofs.Common.{◌≡◌, ℕ, inl, inr, List, length, map, Option, Result, Ok, Err, ◌∙◌, ap, subst}
 use Rattle.std.specs.Prelude.{IfOk}
 use Rattle.dp_pcap.specs.declared.time.Unit.{Unit as TimeUnit}
@@ -7,6 +7,7 @@ use Rattle.dp_engine.specs.declared.report.Report.{Report}
 use Rattle.dp_model.specs.Machine.{Setting}
 use Rattle.dp_pipe.specs.declared.forwarding.Progress.{Progress}
 use Rattle.dp_pipe.specs.declared.running.RunFault.{RunFault}
+use Rattle.dp_pipe.specs.Devices.{Device, transfer}
 use Rattle.dp_pipe.specs.Forwarding.{Input, Went, arrivals_of, capture_at, unit_for, units_of}
 use Rattle.dp_pipe.specs.Headline.{PacketRun, HasNumbers, AreGiven, capture_text, Forwarded}
 use Rattle.dp_pipe.specs.Pipelines.{Plan}
@@ -20,16 +21,16 @@ use Rattle.dp_pipe.proofs.Texts.{given_all}
 pub ports_in : (p : Plan) (pattern : List ℕ) (first : EngineState) → IsFirst p pattern first → length first.setting.env.ports ≡ length p.env.ports
 ports_in p pattern first is = ap (λ (s : Setting). length s.env.ports) is.setting
 
--- what went well: the run of packets, what was written of it, and its numbers
-pub record Done (p : Plan) (pattern : List ℕ) (held holds : List (Option (List ℕ))) (inputs : List Input) (r : Report) : Type 0 where
+-- a run that went well: the run of packets, what was written of it, and its counts
+pub record Done (p : Plan) (pattern : List ℕ) (held holds : List Device) (inputs : List Input) (r : Report) : Type 0 where
   pub many : length inputs ≡ length p.env.ports
   pub run : PacketRun p pattern (arrivals_of inputs)
   pub wrote : AreGiven held holds (capture_text (unit_for (units_of inputs)) run.captures)
   pub numbers : HasNumbers p pattern (arrivals_of inputs) run inputs (λ port. length (capture_at run.captures port)) r
 
-pub went_on : (p : Plan) (pattern : List ℕ) (first last : EngineState) (unit : TimeUnit) (olds news held mids holds : List (Option (List ℕ)))
+pub went_on : (p : Plan) (pattern : List ℕ) (first last : EngineState) (unit : TimeUnit) (olds news held mids holds : List Device)
     (inputs : List Input) (progress : List Progress) (r : Report)
-    → IsReady p pattern → IsFirst p pattern first → length mids ≡ length held → HeadersWritten unit held mids → Went unit first last olds news mids holds inputs
+    → IsReady p pattern → IsFirst p pattern first → length mids ≡ length held → HeadersWritten unit held mids → Went unit first last mids holds inputs
     → map (λ (i : Input). i.state) inputs ≡ map (λ (x : Progress). x.state) progress → IsReportOf last progress r → Done p pattern held holds inputs r
 went_on p pattern first last unit olds news held mids holds inputs progress r ready is many headers went states reported =
     let (few_ports, few_rings, few_tables) = few p.env ready.limits in
@@ -46,22 +47,22 @@ went_on p pattern first last unit olds news held mids holds inputs progress r re
     }
 
 -- all inputs were forwarded
-pub forwarded : (p : Plan) (pattern : List ℕ) (olds news held holds : List (Option (List ℕ))) (answer : Result Report RunFault) → IsReady p pattern →
-    RanOn p pattern olds news held holds answer
-    → IfOk answer (Forwarded p pattern olds news held holds)
+pub forwarded : (p : Plan) (pattern : List ℕ) (olds news held holds : List Device) (answer : Result Report RunFault) → IsReady p pattern →
+    RanOn p pattern (transfer olds news held holds) answer
+    → IfOk answer (Forwarded p pattern (transfer olds news held holds))
 forwarded p pattern olds news held holds (Ok r) ready ran = go ran.went
   where
-    go : GoesForward ran.first ran.last olds news held holds ran.progress (Ok tt) → Forwarded p pattern olds news held holds r
+    go : GoesForward ran.first ran.last (transfer olds news held holds) ran.progress (Ok tt) → Forwarded p pattern (transfer olds news held holds) r
     go (inl fails) = absurd fails
     go (inr made) =
-        let (inputs, states, went, over) = made.rounds in
+        let (inputs, states, went, read, over) = made.rounds in
         let done = went_on p pattern ran.first ran.last made.unit olds news held made.mids holds inputs ran.progress r ready
         ran.is_first made.mids_many made.headers went states ran.reported in
         record {
           room = ran.is_first.room;
           inputs = inputs;
           many = done.many;
-          read = went.read;
+          read = read;
           ended = over;
           run = done.run;
           wrote = done.wrote;
@@ -69,9 +70,9 @@ forwarded p pattern olds news held holds (Ok r) ready ran = go ran.went
         }
 forwarded p pattern olds news held holds (Err fault) ready ran = tt
 
-pub all_forwarded : (p : Plan) (pattern : List ℕ) (olds news held holds : List (Option (List ℕ))) (answer : Result Report RunFault) → IsReady p pattern →
-    RunAnswers p pattern olds news held holds answer
-    → IfOk answer (Forwarded p pattern olds news held holds)
+pub all_forwarded : (p : Plan) (pattern : List ℕ) (olds news held holds : List Device) (answer : Result Report RunFault) → IsReady p pattern →
+    RunAnswers p pattern (transfer olds news held holds) answer
+    → IfOk answer (Forwarded p pattern (transfer olds news held holds))
 all_forwarded p pattern olds news held holds answer ready (inl ran) = forwarded p pattern olds news held holds answer ready ran
 all_forwarded p pattern olds news held holds (Ok r) ready (inr unopened) = absurd unopened
 all_forwarded p pattern olds news held holds (Err fault) ready (inr unopened) = tt

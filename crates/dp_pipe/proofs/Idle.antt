@@ -20,7 +20,7 @@ use Rattle.dp_pipe.specs.Pipelines.{Plan}
 use Rattle.dp_pipe.specs.Running.{IsBegun, IsFirst, IsIdle, IsReportOf, with_states}
 use Rattle.dp_pipe.proofs.Numbers.{left_only}
 
--- inputs that are open leave the numbers of their ports as they are
+-- open inputs leave the counts of their ports as they are
 open_ports : (progress : List Progress) (specs : List PortSpec) (most : ℕ) → AllByRecursion IsBegun progress → length specs ≤ most
     → with_states (map (λ (x : Progress). x.state) progress) (map (port_report Open) (take (length specs) (replicate most no_tallies)))
     ≡ map (λ _. port_report Open no_tallies) specs

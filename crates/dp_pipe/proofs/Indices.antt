@@ -1,4 +1,4 @@
--- Elements of lists by their indices.
+-- Elements of lists by index.
 use Rattle.std.proofs.Common.{◌≡◌, ℕ, zero, suc, ◌+◌, ◌<◌, List, [], ◌∷◌, ◌++◌, length, take, drop, Some, refl, ap, sym, ◌∙◌, arith, add-one, add-zero}
 use Rattle.std.proofs.Common.{zero-add, subst}
 use Rattle.std.specs.Prelude.{slice_get, slice_set}
@@ -31,7 +31,7 @@ taken_next (y ∷ ys) (suc k) x e = ap (λ zs. y ∷ zs) (taken_next ys k x e)
 pub taken_more : {A : Type 0} (xs : List A) (k : ℕ) (x : A) → slice_get xs k ≡ Some x → take (k + 1) xs ≡ take k xs ++ x ∷ []
 taken_more xs k x e = rw add-one (taken_next xs k x e)
 
--- the list, parted round an element
+-- the list, split at an element
 pub parted : {A : Type 0} (xs : List A) (k : ℕ) (x : A) → slice_get xs k ≡ Some x → xs ≡ take k xs ++ x ∷ drop (suc k) xs
 parted [] k x e = absurd cc
 parted (y ∷ ys) zero x e = let same : y ≡ x = cc in ap (λ z. z ∷ ys) same
@@ -44,7 +44,7 @@ zipped_more R [] (b ∷ ys) x y all r = absurd all
 zipped_more R (a ∷ xs) [] x y all r = absurd all
 zipped_more R (a ∷ xs) (b ∷ ys) x y all r = (all.0, zipped_more R xs ys x y all.1 r)
 
--- ---- lists one behind the other
+-- ---- lists one after the other
 
 pub in_front : {A : Type 0} (xs ys : List A) (k : ℕ) (x : A) → slice_get xs k ≡ Some x → slice_get (xs ++ ys) k ≡ Some x
 in_front [] ys k x e = absurd cc

@@ -1,4 +1,4 @@
--- One record more behind the interleaving of inputs.
+-- One record more after the interleaving of inputs.
 use Rattle.std.proofs.Common.{◌≡◌, ℕ, zero, suc, ◌+◌, ◌<◌, ◌≤◌, List, [], ◌∷◌, ◌++◌, length, Some, None, refl, sym, ◌∙◌, ap, arith, append-nil}
 use Rattle.std.specs.Prelude.{slice_get, slice_set, option_map, option_to_list}
 use Rattle.std.proofs.lemmas.List.{length-append, append_assoc}
@@ -16,7 +16,7 @@ AreFew {A} n inputs = (q : ℕ) (ys : List A) → slice_get inputs q ≡ Some ys
 tail_few : {A : Type 0} (n : ℕ) (xs : List A) (inputs : List (List A)) → AreFew n (xs ∷ inputs) → AreFew n inputs
 tail_few n xs inputs few q ys e = few (suc q) ys e
 
--- a round behind all records is empty
+-- a round after all records is empty
 round_past : {T : Type 0} (k port : ℕ) (inputs : List (List (T × List ℕ))) → AreFew k inputs → round_of k port inputs ≡ []
 round_past k port [] few = refl
 round_past {T} k port (xs ∷ inputs) few =
@@ -33,7 +33,7 @@ rounds_past (suc n) k inputs few = rw (round_past k 0 inputs few) (rounds_past n
 few_at : {A : Type 0} (m n : ℕ) (inputs : List (List A)) → m ≤ n → AreFew m inputs → AreFew n inputs
 few_at m n inputs le few q ys e = omega (arith, le, few q ys e)
 
--- so many rounds are all, if they reach behind the last record
+-- n rounds are all, if they reach past the last record
 rounds_all : {T : Type 0} (n m k : ℕ) (inputs : List (List (T × List ℕ))) → AreFew (k + n) inputs → AreFew (k + m) inputs →
     rounds n k inputs ≡ rounds m k inputs
 rounds_all zero m k inputs few more = sym (rounds_past m k inputs (few_at (k + 0) k inputs (omega arith) few))
@@ -42,7 +42,7 @@ rounds_all (suc n) (suc m) k inputs few more =
     ap (λ l. round_of k 0 inputs ++ l) (rounds_all n m (k + 1) inputs (few_at (k + suc n) (k + 1 + n) inputs (omega arith) few)
     (few_at (k + suc m) (k + 1 + m) inputs (omega arith) more))
 
--- the last round stands behind the others
+-- the last round comes after the others
 rounds_last : {T : Type 0} (n k : ℕ) (inputs : List (List (T × List ℕ))) → rounds (suc n) k inputs ≡ rounds n k inputs ++ round_of (k + n) 0 inputs
 rounds_last zero k inputs =
     let e : k + 0 ≡ k = omega arith in
@@ -67,7 +67,7 @@ get_last : {A : Type 0} (xs : List A) (r : A) → slice_get (xs ++ r ∷ []) (le
 get_last [] r = refl
 get_last (x ∷ xs) r = get_last xs r
 
--- an earlier round does not see a record more
+-- an earlier round does not see one record more
 round_same : {T : Type 0} (inputs : List (List (T × List ℕ))) (p j s : ℕ) (xs ys : List (T × List ℕ)) → slice_get inputs p ≡ Some xs → j < length xs →
     round_of j s (slice_set inputs p (xs ++ ys)) ≡ round_of j s inputs
 round_same [] p j s xs ys e lt = refl

@@ -1,4 +1,4 @@
--- A turn behind which a writer failed: what was written until then, and what is counted.
+-- A turn after which a writer failed: what was written until then, and what is counted.
 use Rattle.std.proofs.Common.{◌≡◌, ◌≢◌, ℕ, suc, ◌+◌, ◌<◌, ◌≤◌, ◌⊎◌, inl, inr, Bool, true, false, List, [], ◌∷◌, ◌++◌, length, take, Option, Some, refl}
 use Rattle.std.proofs.Common.{sym, ◌∙◌, ap, subst, arith, append-nil, zero-add}
 use Rattle.std.specs.Prelude.{slice_get, nat_lt, ◌==◌, if◌then◌else◌}
@@ -18,11 +18,13 @@ use Rattle.dp_engine.specs.declared.report.Tallies.{Tallies}
 use Rattle.dp_engine.specs.Drains.{captured}
 use Rattle.dp_engine.specs.Engines.{EngineState, no_tallies, tallies_at, counted_at, sent_at}
 use Rattle.dp_engine.specs.Tallies.{counted}
+use Rattle.dp_pipe.specs.Devices.{Device, transfer, IsGiven}
 use Rattle.dp_pipe.specs.Forwarding.{Input, FailedAt, AreWritten, DrainsStopped, capture_at, capture_of, drained_at, records_text, tally_of}
 use Rattle.dp_pipe.specs.Headline.{PacketRun, GoesOnBy, WroteFront, capture_text, sent_until}
 use Rattle.dp_pipe.specs.Pipelines.{Plan}
 use Rattle.dp_pipe.specs.Running.{HeadersWritten, IsFirst, setting_in, programs_in}
 use Rattle.dp_pipe.proofs.Advancing.{joined_here, texts_append}
+use Rattle.dp_pipe.proofs.Giving.{given_then}
 use Rattle.std.proofs.KnownBytes.{Appends-trans}
 use Rattle.dp_model.specs.Laws.Lists.{get_within}
 use Rattle.dp_pipe.proofs.Forwarded.{split, tallies_other, tallies_same}
@@ -34,7 +36,7 @@ use Rattle.dp_pipe.proofs.Through.{stays_failed}
 
 -- ---- captures with one more
 
--- a port's capture in a run and behind it
+-- a port's capture in a run and after it
 pub capture_joined : (xs ys : List (List (Time × List ℕ))) (q : ℕ) → q < length xs → q < length ys → capture_at (joined xs ys) q ≡ capture_at xs q
     ++ capture_at ys q
 capture_joined xs ys q lt lt' =
@@ -56,17 +58,17 @@ text_more unit xs ys = append_assoc (header_text unit) (records_text unit xs) (r
 -- ---- what was written
 
 -- what a writer was given before the last turn: a header, and all that its port had sent
-given_before : (unit : TimeUnit) (captures : List (List (Time × List ℕ))) (held hdr mids : List (Option (List ℕ))) → length hdr ≡ length held →
+given_before : (unit : TimeUnit) (captures : List (List (Time × List ℕ))) (held hdr mids : List Device) → length hdr ≡ length held →
     length mids ≡ length hdr → HeadersWritten unit held hdr → AreWritten unit hdr mids (capture_at captures)
-    → (q : ℕ) (old : Option (List ℕ)) → slice_get held q ≡ Some old → (mid : Option (List ℕ)) × (slice_get mids q ≡ Some mid)
-    × Appends old mid (text unit (capture_at captures q))
+    → (q : ℕ) (old : Device) → slice_get held q ≡ Some old → (mid : Device) × (slice_get mids q ≡ Some mid)
+    × IsGiven old mid (text unit (capture_at captures q))
 given_before unit captures held hdr mids many mids_many headers wrote q old here =
     let within = slice_get_within held q old here in
     let (h, at_h) = get_within hdr q (omega (arith, within, many)) in
     let (m, at_m) = get_within mids q (omega (arith, within, many, mids_many)) in
-    (m, at_m, Appends-trans old h m (header_text unit) (records_text unit (capture_at captures q)) (headers q old h here at_h) (wrote q h m at_h at_m))
+    (m, at_m, given_then old h m (header_text unit) (records_text unit (capture_at captures q)) (headers q old h here at_h) (wrote q h m at_h at_m))
 
-module _ (unit : TimeUnit) (captures : List (List (Time × List ℕ))) (time : Time) (e e' : EngineState) (held hdr mids holds : List (Option (List ℕ))) (port : ℕ)
+module _ (unit : TimeUnit) (captures : List (List (Time × List ℕ))) (time : Time) (e e' : EngineState) (held hdr mids holds : List Device) (port : ℕ)
     (many : length hdr ≡ length held) (mids_many : length mids ≡ length hdr) (headers : HeadersWritten unit held hdr)
     (wrote : AreWritten unit hdr mids (capture_at captures))
     (long : length captures ≡ length held) (new_long : length (records_at time e.world)
@@ -74,51 +76,58 @@ module _ (unit : TimeUnit) (captures : List (List (Time × List ℕ))) (time : T
   abbrev all : List (List (Time × List ℕ))
   all = joined captures (records_at time e.world)
 
-  both : (q : ℕ) (old : Option (List ℕ)) → slice_get held q ≡ Some old → capture_at all q ≡ capture_at captures q ++ drained_at time e.world q
+  both : (q : ℕ) (old : Device) → slice_get held q ≡ Some old → capture_at all q ≡ capture_at captures q ++ drained_at time e.world q
   both q old here =
       let within = slice_get_within held q old here in
       capture_joined captures (records_at time e.world) q (omega (arith, within, long)) (omega (arith, within, new_long))
 
   -- a port before it has written all
-  pub given_ahead : (q : ℕ) (old new : Option (List ℕ)) → q < port → slice_get held q ≡ Some old → slice_get holds q ≡ Some new →
-      Appends old new (capture_text unit all q)
+  pub given_ahead : (q : ℕ) (old new : Device) → q < port → slice_get held q ≡ Some old → slice_get holds q ≡ Some new →
+      IsGiven old new (capture_text unit all q)
   given_ahead q old new less here there =
       let (m, at_m, before) = given_before unit captures held hdr mids many mids_many headers wrote q old here in
       let apart : q ≢ port = λ e. absurd (omega (arith, less, e)) in
       let now = rw (lt-ltb q port less) at (stopped.first.wrote q m new at_m (sym (stopped.others q apart) ∙ there)) in
-      subst (Appends old new) (text_more unit (capture_at captures q) (drained_at time e.world q) ∙ ap (text unit) (sym (both q old here)))
-      (Appends-trans old m new (text unit (capture_at captures q)) (records_text unit (drained_at time e.world q)) before now)
+      subst (IsGiven old new) (text_more unit (capture_at captures q) (drained_at time e.world q) ∙ ap (text unit) (sym (both q old here)))
+      (given_then old m new (text unit (capture_at captures q)) (records_text unit (drained_at time e.world q)) before now)
 
-  -- a port behind it has written what was sent before
-  pub given_behind : (q : ℕ) (old new : Option (List ℕ)) → port < q → slice_get held q ≡ Some old → slice_get holds q ≡ Some new →
-      Appends old new (capture_text unit captures q)
+  -- a port after it has written what was sent before
+  pub given_behind : (q : ℕ) (old new : Device) → port < q → slice_get held q ≡ Some old → slice_get holds q ≡ Some new →
+      IsGiven old new (capture_text unit captures q)
   given_behind q old new less here there =
       let (m, at_m, before) = given_before unit captures held hdr mids many mids_many headers wrote q old here in
       let apart : q ≢ port = λ e. absurd (omega (arith, less, e)) in
       let now = rw (le-ltb q port (omega (arith, less))) at (stopped.first.wrote q m new at_m (sym (stopped.others q apart) ∙ there)) in
-      subst (Appends old new) (append-nil (text unit (capture_at captures q))) (Appends-trans old m new (text unit (capture_at captures q)) [] before now)
+      subst (IsGiven old new) (append-nil (text unit (capture_at captures q))) (given_then old m new (text unit (capture_at captures q)) [] before now)
 
   -- its own writer was given whole records, and a part of the next
-  pub given_own : (old new : Option (List ℕ)) → slice_get held port ≡ Some old → slice_get holds port ≡ Some new →
-      WroteFront old new unit (capture_at all port) (length (capture_at captures port) + stopped.whole)
+  pub given_own : (old new : Device) → slice_get held port ≡ Some old → slice_get holds port ≡ Some new →
+      WroteFront unit (capture_at all port) (length (capture_at captures port) + stopped.whole) old new
   given_own old new here there =
       let (m, at_m, before) = given_before unit captures held hdr mids many mids_many headers wrote port old here in
-      let part = stopped.own m new at_m there in
+      let own = stopped.own m new at_m there in
+      let part = own.part in
       let xs = capture_at captures port in
       let ys = drained_at time e.world port in
       let front = take stopped.whole ys in
+      let more = take (stopped.whole + 1) ys in
       let rest = take part.bytes (record_text unit part.next) in
       let is = both port old here in
+      let one_more : length xs + (stopped.whole + 1) ≡ length xs + stopped.whole + 1 = omega arith in
+      let longer : text unit xs ++ records_text unit more ≡ text unit (take (length xs + stopped.whole + 1) (capture_at all port)) =
+      text_more unit xs more ∙ ap (text unit) (sym (take_behind xs ys (stopped.whole + 1)) ∙ ap (take (length xs + (stopped.whole + 1))) (sym is)
+      ∙ ap (λ n. take n (capture_at all port)) one_more) in
       record {
         next = part.next;
         next_is = ap (λ l. slice_get l (length xs + stopped.whole)) is ∙ behind xs ys stopped.whole ∙ part.next_is;
         bytes = part.bytes;
         part = part.part;
-        wrote = subst (Appends old new)
+        wrote = subst (Appends old.bytes new.bytes)
             (sym (append_assoc (text unit xs) (records_text unit front) rest)
             ∙ ap (λ l. l ++ rest) (text_more unit xs front ∙ ap (text unit) (sym (take_behind xs ys stopped.whole)
             ∙ ap (take (length xs + stopped.whole)) (sym is))))
-            (Appends-trans old m new (text unit xs) (records_text unit front ++ rest) before part.wrote);
+            (Appends-trans old.bytes m.bytes new.bytes (text unit xs) (records_text unit front ++ rest) before.grown part.wrote);
+        calls = omega (arith, before.calls, own.calls, ap length longer, length-append (text unit xs) (records_text unit more));
       }
 
 -- ---- what was counted
@@ -167,9 +176,9 @@ sent_is q port own before all newest whole long mine = go (split q port) (cases_
 
 -- ---- the run through the last turn
 
-module _ (p : Plan) (pattern : List ℕ) (first last : EngineState) (unit : TimeUnit) (olds news hdr holds : List (Option (List ℕ))) (inputs : List Input)
+module _ (p : Plan) (pattern : List ℕ) (first last : EngineState) (unit : TimeUnit) (olds news hdr holds : List Device) (inputs : List Input)
     (port : ℕ)
-    (ready : IsReady p pattern) (is : IsFirst p pattern first) (f : FailedAt unit first last olds news hdr holds inputs port)
+    (ready : IsReady p pattern) (is : IsFirst p pattern first) (f : FailedAt unit first last (transfer olds news hdr holds) inputs port)
     (few_ports : length p.env.ports ≤ 8) where
   engine_setting : f.engine.setting ≡ setting_in p pattern
   engine_setting = ap (λ (e : EngineState). e.setting) f.run.stays ∙ is.setting

@@ -1,16 +1,18 @@
 -- A record that was read, and the turn with its bytes.
-use Rattle.std.proofs.Common.{◌≡◌, ℕ, Bool, true, false, List, length, take, drop, Option, sym, ◌∙◌, subst, arith, length-drop, length-take-le, take_all}
+use Rattle.std.proofs.Common.{◌≡◌, ◌≤◌, ℕ, Bool, true, false, List, length, take, drop, Option, sym, ap, ◌∙◌, subst, arith, length-drop}
+use Rattle.std.proofs.Common.{length-take-le, take_all}
 use Rattle.std.specs.Prelude.{Ok, Result}
 use Rattle.dp_pcap.specs.declared.time.Time.{Time}
 use Rattle.dp_pcap.specs.declared.error.PcapError.{PcapError}
 use Rattle.dp_pcap.specs.declared.source.Next.{Next}
 use Rattle.dp_pcap.specs.declared.source.Next.TheVariants.{Record}
 use Rattle.dp_pcap.specs.Standing.{Standing}
-use Rattle.dp_pcap.specs.Source.{WhereKnown, Continues, IsHeld, body_in}
+use Rattle.dp_pcap.specs.declared.format.TheConstants.{LARGEST_RECORD}
+use Rattle.dp_pcap.specs.Source.{WhereKnown, Continues, IsHeld, IsInRange, body_in}
 use Rattle.dp_engine.specs.Engines.{EngineState}
 use Rattle.dp_pipe.specs.Forwarding.{TakesTurn, ReadsTurn}
 
--- from what the reader has at hand
+-- from what the reader has buffered
 pub lent : (port : ℕ) (e e' : EngineState) (s s' : Standing) (a b : Option (List ℕ)) (held bytes : List ℕ) (time : Time) (len : ℕ) → IsHeld s held time len
     → WhereKnown a b (λ left rest. Continues s s' left rest (body_in held len) (Ok (Record time len))) → bytes ≡ body_in held len →
     TakesTurn port e e' bytes → ReadsTurn port e e' s s' a b (Ok (Record time len))
@@ -18,6 +20,21 @@ lent port e e' s s' a b held bytes time len is more those took =
     let long : length (body_in held len) ≡ len = length-take-le len (drop 16 held) (omega (arith, is.whole, length-drop 16 held)) in
     let same : take len (body_in held len) ≡ body_in held len = take_all len (body_in held len) (omega (arith, long)) in
     (body_in held len, more, (omega (arith, long), subst (TakesTurn port e e') (those ∙ sym same) took))
+
+-- a record that was read has room in any buffer for the largest one
+pub has_room : (s : Standing) (answer : Result Next PcapError) (time : Time) (len room : ℕ) → answer ≡ Ok (Record time len) → IsInRange s answer
+    → LARGEST_RECORD ≤ room → len ≤ room
+has_room s answer time len room is within large =
+    let (nano, short, few) = subst (IsInRange s) is within in omega (arith, short, large)
+
+-- from the buffer into which it was read
+pub copied : (port : ℕ) (e e' : EngineState) (s s1 s' : Standing) (a b1 b : Option (List ℕ)) (buf1 buf bytes : List ℕ) (x : Time × ℕ × Bool) (time : Time)
+    (len : ℕ) (answer : Result Next PcapError) → answer ≡ Ok (Record time len) → s' ≡ s1 → b ≡ b1 → buf ≡ buf1 → x ≡ (time, len, false)
+    → WhereKnown a b1 (λ left rest. Continues s s1 left rest buf1 answer) → len ≤ length buf1 → bytes ≡ take x.1 buf → TakesTurn port e e' bytes
+    → ReadsTurn port e e' s s' a b (Ok (Record x.0 x.1))
+copied port e e' s s1 s' a b1 b buf1 buf bytes x time len answer is p q r t more fits those took =
+    let used : bytes ≡ take len buf1 = those ∙ ap (λ (y : Time × ℕ × Bool). take y.1 buf) t ∙ ap (take len) r in
+    rw (p, q, t) (buf1, rw is at more, (fits, subst (TakesTurn port e e') used took))
 
 -- what was found is what is used
 pub found : (s s' : Standing) (held held' : List ℕ) (x : Time × ℕ × Bool) (time : Time) (len : ℕ) → s' ≡ s → held' ≡ held → x ≡ (time, len, true) →
@@ -29,6 +46,6 @@ pub read_from : (port : ℕ) (e e' : EngineState) (s0 s s' : Standing) (a0 a b :
     ReadsTurn port e e' s s' a b answer → ReadsTurn port e e' s0 s' a0 b answer
 read_from port e e' s0 s s' a0 a b answer p q reads = rw (← p, ← q) reads
 
--- a record is at hand or was copied
+-- a record is buffered or was copied
 pub not_both : (b : Bool) → b ≡ false → b ≡ true → ⊥
 not_both b is_no is_yes = cc

@@ -1,4 +1,4 @@
--- The lemmas of dp_pipe, by subject.
+-- Lists the lemma files.
 pub mod Digits
 pub mod Each
 pub mod Elements
@@ -10,6 +10,7 @@ pub mod Indices
 pub mod Planned
 pub mod Taking
 pub mod Interleaving
+pub mod Giving
 pub mod Forwarded
 pub mod RunOn
 pub mod Advancing
@@ -29,5 +30,7 @@ pub mod GoingOn
 pub mod Stopping
 pub mod Rounding
 pub mod Through
+pub mod TracedTurns
+pub mod Watched
 pub mod Regions
 pub mod Faring

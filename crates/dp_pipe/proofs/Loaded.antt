@@ -14,7 +14,7 @@ use Rattle.dp_pipe.specs.declared.error.PipeError.TheVariants.{Memory}
 use Rattle.dp_pipe.specs.declared.nodes.How.{How}
 use Rattle.dp_pipe.specs.Setup.{Setup, TablePart, NodeFiles}
 use Rattle.dp_pipe.specs.Views.{node_names, port_names}
-use Rattle.dp_pipe.specs.Config.{environment_of, names_of_port, HoldAll, IsConfig, IsConfigOf}
+use Rattle.dp_pipe.specs.Config.{environment_of, names_of_port, HoldAll, IsConfig, IsConfigOf, IsFaultOf}
 use Rattle.dp_pipe.specs.Files.{FileMap}
 use Rattle.dp_pipe.specs.Nodes.{Node, nodes_of, AreLoaded, FailsAtFirst}
 use Rattle.dp_pipe.specs.Pipelines.{Plan, HasNodes, input_of, output_of}
@@ -28,7 +28,7 @@ no_else : {X : Type 0} → (b : Bool) (a : Option X) (x : X) → (if b then a el
 no_else true a x h = refl
 no_else false a x h = absurd cc
 
--- the numbers of an environment that there is
+-- the sizes of an environment that is accepted
 pub few : (e : Environment) → fault_of e ≡ None → (length e.ports ≤ 8) × (length e.rings ≤ 8) × (e.tables ≤ 4)
 few e h =
     let fits : numbers_fit e ≡ true = no_else (numbers_fit e) _ BadNumber h in
@@ -133,12 +133,12 @@ pub bad_node : (known : Option FileMap) (how : How) (text : List ℕ) (c : Confi
     (e ≡ Memory) ⊎ FailsAtFirst known c.env (kept_nodes how c) e → IsUnloaded known how text e
 bad_node known how text c e is h =
     elim h [
-      | inl memory ↦ inl memory
+      | inl memory ↦ inl (subst (IsFaultOf text) (sym memory) is.toml.0)
       | inr fails ↦
           let s : Setup = is.setup in
           let moved : FailsAtFirst known (environment_of s) (kept_nodes how c) e =
           subst (λ (x : Environment). FailsAtFirst known x (kept_nodes how c) e) is.config.env fails in
-          inr (inr (record {
+          inr (record {
             top = is.top;
             setup = s;
             toml = is.toml;
@@ -147,5 +147,5 @@ bad_node known how text c e is h =
             tables = c.tables.items;
             filled = is.config.tables;
             fails = subst (λ (ns : List Node). FailsAtFirst known (environment_of s) ns e) (same_nodes how s c is.config) moved;
-          }))
+          })
     ]

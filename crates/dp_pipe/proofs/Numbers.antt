@@ -1,4 +1,4 @@
--- The numbers of a report are those of a run.
+-- The counts of a report are those of a run.
 use Rattle.std.proofs.Common.{◌≡◌, ℕ, zero, suc, ◌<◌, ◌≤◌, Bool, true, false, List, [], ◌∷◌, length, map, take, replicate, Some, refl, sym, ◌∙◌, ap, subst}
 use Rattle.std.proofs.Common.{arith, zero-add}
 use Rattle.std.specs.Prelude.{slice_get, ◌==◌, if◌then◌else◌}
@@ -23,7 +23,7 @@ use Rattle.dp_pipe.specs.Running.{IsReportOf, with_states, setting_in}
 
 -- ---- what became of the records of a port
 
--- what is counted of a port is how many of its records became that
+-- what is counted of a port is how many of its records had that outcome
 pub tallied : (port : ℕ) (arrivals : List (Arrival Time)) (outcomes : List Outcome) (t : Tallies) →
     Tallied t (tally_of port arrivals outcomes t) (outcomes_at port arrivals outcomes) 0
 tallied port [] outcomes t = record { received = omega arith; nobuf = omega arith; oversize = omega arith; sent_is = omega arith }
@@ -61,7 +61,7 @@ tallied port (a ∷ arrivals) (o ∷ outcomes) t = go (a.port == port) (tallied 
 abbrev report_with : ℕ → ℕ → ℕ → ℕ → PortReport
 report_with received nobuf oversize sent = record { received = received; nobuf = nobuf; oversize = oversize; sent = sent; state = Open }
 
--- what is reported of a port that has sent so many
+-- what is reported of a port that has sent that many
 pub reported : (port : ℕ) (arrivals : List (Arrival Time)) (outcomes : List Outcome) (t : Tallies) (n : ℕ) →
     t ≡ record (tally_of port arrivals outcomes no_tallies) { sent = n }
     → port_report Open t ≡ port_numbers (outcomes_at port arrivals outcomes) n Open
@@ -112,7 +112,7 @@ left_only (suc most) (n ∷ counts) few = ap (λ m. m ∷ take (length counts) (
 
 -- ---- a report
 
--- what is known of an engine behind a run: what it has counted of each port, and what is in its world
+-- what is known of an engine after a run: what it has counted of each port, and what is in its world
 pub record IsCounted (p : Plan) (pattern : List ℕ) (arrivals : List (Arrival Time)) (run : PacketRun p pattern arrivals) (e : EngineState) (sent : ℕ →
     ℕ) : Type 0 where
   pub setting : e.setting ≡ setting_in p pattern

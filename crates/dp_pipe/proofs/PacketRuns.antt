@@ -24,7 +24,7 @@ use Rattle.dp_pipe.specs.Running.{IsFirst, setting_in, programs_in}
 use Rattle.dp_pipe.proofs.RunOn.{shown_in}
 use Rattle.dp_pipe.proofs.Numbers.{IsCounted}
 
--- the laws of runs that a run of a pipeline rests on: its node runs are safe, and its captures are those of the copies
+-- the laws of runs that a run of a pipeline needs: its node runs are safe, and its captures are those of the copies
 pub record AreLaws : Type 0 where
   pub safe : (c : Setting) (nodes : Nodes) (arrivals : List (Arrival Time)) (w : World) → TablesFit c → IsPipeline c nodes → IsStart c.env w
       → KeepsRunsSafe c nodes arrivals w
@@ -68,7 +68,7 @@ zip_length P [] (y ∷ ys) all = absurd all
 zip_length P (x ∷ xs) [] all = absurd all
 zip_length P (x ∷ xs) (y ∷ ys) all = ap suc (zip_length P xs ys all.1)
 
--- behind a run every ring is there
+-- after a run every ring exists
 pub rings_there : (p : Plan) (pattern : List ℕ) (arrivals : List (Arrival Time)) → IsReady p pattern → (run : PacketRun p pattern arrivals) →
     length run.last.rings ≡ length p.env.rings
 rings_there p pattern arrivals ready run =
@@ -89,7 +89,7 @@ abbrev pub run_of : (p : Plan) (pattern : List ℕ) (first last : EngineState) (
 run_of p pattern first last arrivals captures ready is r =
     packet_run p pattern arrivals first.world last.world r.answers r.outcomes captures ready is.start (ran p pattern first last arrivals captures is r)
 
--- no count is anything but 0 at first
+-- all counts are 0 at first
 none_in : (n q : ℕ) → tallies_at (replicate n no_tallies) q ≡ no_tallies
 none_in zero q = refl
 none_in (suc n) zero = refl

@@ -1,4 +1,4 @@
--- The region of a file is one that there may be.
+-- The region of a file has a permitted size.
 use Rattle.std.proofs.Common.{◌≡◌, ℕ, ◌≤◌, ◌%◌, ℤ, Bool, true, false, Option, Some, None, Result, Ok, Err, pos, negsuc, refl, ap, sym, ◌∙◌, subst}
 use Rattle.std.specs.Prelude.{nat_le, ◌==◌, ◌&&◌, if◌then◌else◌, option_and_then, ok_or, codes}
 use Rattle.std.proofs.lemmas.Bool.{and_parts, leb-true, eqb-true}

@@ -1,4 +1,4 @@
--- Rounds of a run: each input is asked in its turn.
+-- Rounds of a run: each input is read in its turn.
 use Rattle.std.proofs.Common.{suc, ◌≡◌, ℕ, ◌+◌, ◌<◌, ◌≤◌, true, List, [], ◌∷◌, length, map, Option, Some, Result, Ok, Err, refl}
 use Rattle.std.proofs.Common.{sym, ◌∙◌, ap, subst, arith, ◌⊎◌, inl, inr}
 use Rattle.std.specs.Prelude.{slice_get, slice_set, ⊤, if◌then◌else◌}
@@ -12,8 +12,9 @@ use Rattle.dp_engine.specs.declared.report.InputState.{InputState}
 use Rattle.dp_engine.specs.declared.report.InputState.TheVariants.{Open, Whole, Cut}
 use Rattle.dp_engine.specs.Engines.{EngineState}
 use Rattle.dp_pipe.specs.declared.forwarding.Progress.{Progress}
+use Rattle.dp_pipe.specs.Devices.{Device, transfer}
 use Rattle.dp_pipe.specs.declared.forwarding.RunCause.{RunCause}
-use Rattle.dp_pipe.specs.Forwarding.{Input, Stands, Along, Advances, Stops, AreRounds, IsRound, NoneIsOpen, is_over, asked, AnswersSo}
+use Rattle.dp_pipe.specs.Forwarding.{Input, Stands, Along, Advances, Stops, AreRounds, IsRound, NoneIsOpen, AreOver, asked, AnswersSo}
 use Rattle.dp_pipe.proofs.Forwarded.{map_at}
 use Rattle.dp_pipe.proofs.Advancing.{order_ended, order_round}
 use Rattle.dp_pipe.proofs.Stepping.{input_at, open_going}
@@ -27,9 +28,10 @@ decide Open = inl refl
 decide Whole = inr (λ e. cc)
 decide (Cut byte) = inr (λ e. cc)
 
-module _ (unit : TimeUnit) (e0 e : EngineState) (olds news held mids : List (Option (List ℕ))) (progress : List Progress) (inputs : List Input)
+module _ (unit : TimeUnit) (e0 e : EngineState) (olds news held mids : List Device) (progress : List Progress) (inputs : List Input)
     (round port : ℕ) (p : Progress)
-    (along : Along unit e0 e olds news held mids progress inputs round port) (here : slice_get progress port ≡ Some p) (open_p : p.state ≡ Open) where
+    (along : Along unit e0 e (transfer olds news held mids) progress inputs round port) (here : slice_get progress port ≡ Some p)
+    (open_p : p.state ≡ Open) where
   abbrev pub i : Input
   i = (input_at olds news progress inputs port p along.stand here).0
 
@@ -53,11 +55,11 @@ module _ (unit : TimeUnit) (e0 e : EngineState) (olds news held mids : List (Opt
       small : (q : ℕ) (j : Input) → slice_get inputs q ≡ Some j → length j.records ≤ 16777216
       small q j at = let (x, there) = at_progress q j at in (along.stand.each q x j there at).few
 
--- an input that has ended is passed over
-over_on : (unit : TimeUnit) (e0 e : EngineState) (olds news held mids : List (Option (List ℕ))) (progress : List Progress) (inputs : List Input)
+-- an input that has ended is skipped
+over_on : (unit : TimeUnit) (e0 e : EngineState) (olds news held mids : List Device) (progress : List Progress) (inputs : List Input)
     (round port : ℕ) (p : Progress)
-    → Along unit e0 e olds news held mids progress inputs round port → slice_get progress port ≡ Some p →
-    (p.state ≡ Open → ⊥) → Along unit e0 e olds news held mids progress inputs round (port + 1)
+    → Along unit e0 e (transfer olds news held mids) progress inputs round port → slice_get progress port ≡ Some p →
+    (p.state ≡ Open → ⊥) → Along unit e0 e (transfer olds news held mids) progress inputs round (port + 1)
 over_on unit e0 e olds news held mids progress inputs round port p along here closed =
     let (i, i_here, stands) = input_at olds news progress inputs port p along.stand here in
     record {
@@ -74,11 +76,11 @@ over_on unit e0 e olds news held mids progress inputs round port p along here cl
       wrote = along.wrote;
     }
 
--- A round has come to the input `p` of a port and to its reader `r`.
-pub record Comes {R W : Type 0} (remaining : R → Option (List ℕ)) (contents : W → Option (List ℕ)) (unit : TimeUnit) (e0 e : EngineState)
-    (olds held : List (Option (List ℕ))) (ins : List R) (outs : List W) (progress : List Progress) (round port : ℕ) (p : Progress) (r : R) : Type 0 where
+-- A round has reached the input `p` of a port and its reader `r`.
+pub record Comes {R W : Type 0} (remaining : R → Device) (contents : W → Device) (unit : TimeUnit) (e0 e : EngineState)
+    (olds held : List Device) (ins : List R) (outs : List W) (progress : List Progress) (round port : ℕ) (p : Progress) (r : R) : Type 0 where
   pub inputs : List Input
-  pub along : Along unit e0 e olds (map remaining ins) held (map contents outs) progress inputs round port
+  pub along : Along unit e0 e (transfer olds (map remaining ins) held (map contents outs)) progress inputs round port
   pub input : slice_get progress port ≡ Some p
   pub reader : slice_get ins port ≡ Some r
   pub there : port < length e0.setting.env.ports
@@ -86,13 +88,13 @@ pub record Comes {R W : Type 0} (remaining : R → Option (List ℕ)) (contents 
   pub many : length outs ≡ length e0.setting.env.ports
   pub counted : length e0.tallies ≡ 8
 
-module _ {R W : Type 0} {remaining : R → Option (List ℕ)} {contents : W → Option (List ℕ)} {unit : TimeUnit} {e0 e : EngineState}
-    {olds held : List (Option (List ℕ))} {ins : List R} {outs : List W} {progress : List Progress} {round port : ℕ} {p : Progress} {r : R}
+module _ {R W : Type 0} {remaining : R → Device} {contents : W → Device} {unit : TimeUnit} {e0 e : EngineState}
+    {olds held : List Device} {ins : List R} {outs : List W} {progress : List Progress} {round port : ℕ} {p : Progress} {r : R}
     (c : Comes remaining contents unit e0 e olds held ins outs progress round port p r) where
   same_ports : length e.setting.env.ports ≡ length e0.setting.env.ports
   same_ports = ap (λ (x : EngineState). length x.setting.env.ports) c.along.run.stays
 
-  -- what is asked of a call for them
+  -- what a call needs of them
   pub there_now : port < length e.setting.env.ports
   there_now = omega (arith, same_ports, c.there)
 
@@ -110,9 +112,9 @@ module _ {R W : Type 0} {remaining : R → Option (List ℕ)} {contents : W → 
       few_turns unit e0 e olds (map remaining ins) held (map contents outs) progress c.inputs round port p c.along c.input open_p
       (omega (arith, c.along.stand.many, c.along.inputs_many, c.few))
 
--- what becomes of the run behind it
-module _ {R W : Type 0} {remaining : R → Option (List ℕ)} {contents : W → Option (List ℕ)} {unit : TimeUnit} {e0 e e' : EngineState}
-    {olds held : List (Option (List ℕ))} {ins : List R} {outs outs' : List W} {progress : List Progress} {round port : ℕ} {p p' : Progress} {r r' : R}
+-- the run after it
+module _ {R W : Type 0} {remaining : R → Device} {contents : W → Device} {unit : TimeUnit} {e0 e e' : EngineState}
+    {olds held : List Device} {ins : List R} {outs outs' : List W} {progress : List Progress} {round port : ℕ} {p p' : Progress} {r r' : R}
     {answer : Result ⊤ RunCause} (c : Comes remaining contents unit e0 e olds held ins outs progress round port p r)
     (step : p.state ≡ Open → Advances port unit e e' p p' (remaining r) (remaining r') (map contents outs) (map contents outs') answer)
     (over : (p.state ≡ Open → ⊥) → (answer ≡ Ok tt) × (e' ≡ e) × (p' ≡ p) × (r' ≡ r) × (outs' ≡ outs)) where
@@ -121,13 +123,13 @@ module _ {R W : Type 0} {remaining : R → Option (List ℕ)} {contents : W → 
   answers x is open_p =
       subst (λ (y : Result ⊤ RunCause). Advances port unit e e' p p' (remaining r) (remaining r') (map contents outs) (map contents outs') y) is (step open_p)
 
-  -- the call was made, and the run goes along
-  pub asked_on : answer ≡ Ok tt → (now : List Input) × Along unit e0 e' olds (map remaining (slice_set ins port r')) held (map contents outs')
+  -- the call was made, and the run continues
+  pub asked_on : answer ≡ Ok tt → (now : List Input) × Along unit e0 e' (transfer olds (map remaining (slice_set ins port r')) held (map contents outs'))
       (slice_set progress port p') now round (port + 1)
   asked_on ok = go (decide p.state)
     where
-      go : (p.state ≡ Open) ⊎ (p.state ≡ Open → ⊥) → (now : List Input) × Along unit e0 e' olds (map remaining (slice_set ins port r')) held
-          (map contents outs') (slice_set progress port p') now round (port + 1)
+      go : (p.state ≡ Open) ⊎ (p.state ≡ Open → ⊥) → (now : List Input) × Along unit e0 e' (transfer olds (map remaining (slice_set ins port r')) held
+          (map contents outs')) (slice_set progress port p') now round (port + 1)
       go (inl open_p) =
           rw (map-set remaining ins port r') (goes_on unit e0 e e' olds (map remaining ins) held (map contents outs) (map contents outs') progress c.inputs
           round port p p' (remaining r) (remaining r') c.along
@@ -142,10 +144,10 @@ module _ {R W : Type 0} {remaining : R → Option (List ℕ)} {contents : W → 
 
   -- or it stops
   pub asked_stops : (cause : RunCause) → answer ≡ Err cause →
-      Stops unit e0 e' olds (map remaining (slice_set ins port r')) held (map contents outs') (slice_set progress port p') cause
+      Stops unit e0 e' (transfer olds (map remaining (slice_set ins port r')) held (map contents outs')) (slice_set progress port p') cause
   asked_stops cause err = go (decide p.state)
     where
-      go : (p.state ≡ Open) ⊎ (p.state ≡ Open → ⊥) → Stops unit e0 e' olds (map remaining (slice_set ins port r')) held (map contents outs')
+      go : (p.state ≡ Open) ⊎ (p.state ≡ Open → ⊥) → Stops unit e0 e' (transfer olds (map remaining (slice_set ins port r')) held (map contents outs'))
           (slice_set progress port p') cause
       go (inl open_p) =
           rw (map-set remaining ins port r') (stops_at unit e0 e e' olds (map remaining ins) held (map contents outs) (map contents outs') progress c.inputs
@@ -153,10 +155,10 @@ module _ {R W : Type 0} {remaining : R → Option (List ℕ)} {contents : W → 
           (map_at remaining ins port r c.reader) (answers (Err cause) err open_p))
       go (inr closed) = let bad : Err cause ≡ Ok tt = sym err ∙ (over closed).0 in cc
 
--- behind all ports the next round begins
-pub round_over : (unit : TimeUnit) (e0 e : EngineState) (olds news held mids : List (Option (List ℕ))) (progress : List Progress) (inputs : List Input)
-    (round n : ℕ) → Along unit e0 e olds news held mids progress inputs round n → length progress ≤ n
-    → Along unit e0 e olds news held mids progress inputs (round + 1) 0
+-- after all ports the next round begins
+pub round_over : (unit : TimeUnit) (e0 e : EngineState) (olds news held mids : List Device) (progress : List Progress) (inputs : List Input)
+    (round n : ℕ) → Along unit e0 e (transfer olds news held mids) progress inputs round n → length progress ≤ n
+    → Along unit e0 e (transfer olds news held mids) progress inputs (round + 1) 0
 round_over unit e0 e olds news held mids progress inputs round n along most = record {
   first = along.first;
   held_many = along.held_many;
@@ -171,44 +173,39 @@ round_over unit e0 e olds news held mids progress inputs round n along most = re
   wrote = along.wrote;
 }
 
-is_closed : (state : InputState) → (state ≡ Open → ⊥) → is_over state ≡ true
-is_closed Open closed = absurd (closed refl)
-is_closed Whole closed = refl
-is_closed (Cut byte) closed = refl
-
 all_closed : (progress : List Progress) (inputs : List Input) → length progress ≡ length inputs →
     ((q : ℕ) (p : Progress) (j : Input) → slice_get progress q ≡ Some p → slice_get inputs q ≡ Some j → p.state ≡ j.state) → NoneIsOpen progress
-    → AllByRecursion (λ (j : Input). is_over j.state ≡ true) inputs
+    → AreOver inputs
 all_closed [] [] many same none = tt
 all_closed [] (j ∷ inputs) many same none = absurd (omega (arith, many))
 all_closed (p ∷ progress) [] many same none = absurd (omega (arith, many))
 all_closed (p ∷ progress) (j ∷ inputs) many same none = (
-  is_closed j.state (λ e. none 0 p refl (same 0 p j refl refl ∙ e)),
+  λ e. none 0 p refl (same 0 p j refl refl ∙ e),
   all_closed progress inputs (omega (arith, many)) (λ q a b c d. same (suc q) a b c d) (λ q a b c. none (suc q) a b c),
 )
 
 -- every input has ended: the run went all the way
-pub went_all : (unit : TimeUnit) (e0 e : EngineState) (olds news held mids : List (Option (List ℕ))) (progress : List Progress) (inputs : List Input)
-    (round port : ℕ) → Along unit e0 e olds news held mids progress inputs round port → NoneIsOpen progress
-    → AreRounds unit e0 e olds news held mids progress (Ok tt)
+pub went_all : (unit : TimeUnit) (e0 e : EngineState) (olds news held mids : List Device) (progress : List Progress) (inputs : List Input)
+    (round port : ℕ) → Along unit e0 e (transfer olds news held mids) progress inputs round port → NoneIsOpen progress
+    → AreRounds unit e0 e (transfer olds news held mids) progress (Ok tt)
 went_all unit e0 e olds news held mids progress inputs round port along none = (
   inputs,
   states_same olds news progress inputs along.stand,
   record {
     inputs_many = along.inputs_many;
     unit_is = along.unit_is;
-    read = are_read olds news progress inputs along.stand;
     captures = along.captures;
     many = along.many;
     run = along.run;
     wrote = along.wrote;
   },
+  are_read olds news progress inputs along.stand,
   all_closed progress inputs along.stand.many (λ q p j a b. (along.stand.each q p j a b).state) none,
 )
 
--- no input has so many records that it is still open
-pub none_left : (unit : TimeUnit) (e0 e : EngineState) (olds news held mids : List (Option (List ℕ))) (progress : List Progress) (inputs : List Input)
-    (round : ℕ) → Along unit e0 e olds news held mids progress inputs round 0 → 16777217 ≤ round → NoneIsOpen progress
+-- no input has enough records to be still open
+pub none_left : (unit : TimeUnit) (e0 e : EngineState) (olds news held mids : List Device) (progress : List Progress) (inputs : List Input)
+    (round : ℕ) → Along unit e0 e (transfer olds news held mids) progress inputs round 0 → 16777217 ≤ round → NoneIsOpen progress
 none_left unit e0 e olds news held mids progress inputs round along most q p at open_p =
     let (j, here, stands) = input_at olds news progress inputs q p along.stand at in
     let wanted = exact j.state (length j.records) (asked round 0 q) (sym stands.state ∙ open_p) (along.order q j here) in
@@ -220,12 +217,12 @@ none_left unit e0 e olds news held mids progress inputs round along most q p at 
     exact Whole count many e lt = cc
     exact (Cut byte) count many e lt = cc
 
-pub round_ok : (unit : TimeUnit) (e0 e e' : EngineState) (olds news held holds : List (Option (List ℕ))) (progress : List Progress) (round : ℕ)
-    (r : Result ⊤ RunCause) → r ≡ Ok tt → IsRound unit e0 e e' olds news held holds progress round r
-    → (now : List Input) × Along unit e0 e' olds news held holds progress now (round + 1) 0
+pub round_ok : (unit : TimeUnit) (e0 e e' : EngineState) (olds news held holds : List Device) (progress : List Progress) (round : ℕ)
+    (r : Result ⊤ RunCause) → r ≡ Ok tt → IsRound unit e0 e e' (transfer olds news held holds) progress round r
+    → (now : List Input) × Along unit e0 e' (transfer olds news held holds) progress now (round + 1) 0
 round_ok unit e0 e e' olds news held holds progress round r is h = rw is at h
 
-pub round_err : (unit : TimeUnit) (e0 e e' : EngineState) (olds news held holds : List (Option (List ℕ))) (progress : List Progress) (round : ℕ)
-    (r : Result ⊤ RunCause) (cause : RunCause) → r ≡ Err cause → IsRound unit e0 e e' olds news held holds progress round r
-    → AreRounds unit e0 e' olds news held holds progress (Err cause)
+pub round_err : (unit : TimeUnit) (e0 e e' : EngineState) (olds news held holds : List Device) (progress : List Progress) (round : ℕ)
+    (r : Result ⊤ RunCause) (cause : RunCause) → r ≡ Err cause → IsRound unit e0 e e' (transfer olds news held holds) progress round r
+    → AreRounds unit e0 e' (transfer olds news held holds) progress (Err cause)
 round_err unit e0 e e' olds news held holds progress round r cause is h = rw is at h

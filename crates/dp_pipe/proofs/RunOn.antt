@@ -1,4 +1,4 @@
--- A run goes on by a turn and the drains behind it.
+-- A run continues with a turn and the drains after it.
 use Rattle.std.proofs.Common.{◌≡◌, ◌≢◌, ℕ, zero, suc, ◌+◌, ◌<◌, ◌≤◌, Bool, true, false, List, [], ◌∷◌, ◌++◌, length, Option, Some, refl, sym, ◌∙◌}
 use Rattle.std.proofs.Common.{ap, subst, arith, ◌⊎◌, inl, inr}
 use Rattle.std.specs.Prelude.{slice_get, ◌==◌, if◌then◌else◌, replicate}
@@ -15,6 +15,7 @@ use Rattle.dp_engine.specs.declared.report.Tallies.{Tallies}
 use Rattle.dp_engine.specs.Drains.{captured}
 use Rattle.dp_engine.specs.Tallies.{counted}
 use Rattle.dp_engine.specs.Engines.{EngineState, tallies_at, counted_at}
+use Rattle.dp_pipe.specs.Devices.{Device}
 use Rattle.dp_pipe.specs.Forwarding.{capture_of, drained_at, emptied, tally_of, HasRun, TakesTurn, DrainedFirst}
 use Rattle.dp_pipe.proofs.Forwarded.{emptied_all, tallies_other, tallies_same, split}
 
@@ -54,7 +55,7 @@ captures_many c nodes (a ∷ arrivals) w w' shown (outcome, answers, runs, mid, 
     shorter (x ∷ xs) [] = omega arith
     shorter (x ∷ xs) (y ∷ ys) = let more = shorter xs ys in omega (arith, more)
 
--- what is counted with one more
+-- the counts after one more
 pub tally_more : (port : ℕ) (arrivals : List (Arrival Time)) (outcomes : List Outcome) (a : Arrival Time) (o : Outcome) (t : Tallies) →
     length outcomes ≡ length arrivals
     → tally_of port (arrivals ++ a ∷ []) (outcomes ++ o ∷ []) t ≡ (if a.port == port then counted o (tally_of port arrivals outcomes t)
@@ -79,7 +80,7 @@ joined_at (x ∷ xs) [] q zs e = cc
 joined_at (x ∷ xs) (y ∷ ys) zero zs e = (x, y, refl, refl, sym (same_Some _ _ e))
 joined_at (x ∷ xs) (y ∷ ys) (suc q) zs e = joined_at xs ys q zs e
 
--- what was counted at a port behind a turn
+-- the counts of a port after a turn
 pub turn_tally : (q port : ℕ) (o : Outcome) (tallies : List Tallies) → port < length tallies
     → tallies_at (counted_at port o tallies) q ≡ (if port == q then counted o (tallies_at tallies q) else tallies_at tallies q)
 turn_tally q port o tallies lt = go (split q port)
@@ -90,7 +91,7 @@ turn_tally q port o tallies lt = go (split q port)
         (rw (eq-eqb port port refl) (tallies_same tallies port (counted o (tallies_at tallies port)) lt))
     go (inr other) = rw (ne_eqb port q (λ e. other (sym e))) (tallies_other tallies port q (counted o (tallies_at tallies port)) other)
 
--- the tallies of a port behind a turn and the drains: what was counted, and what was sent
+-- the counts of a port after a turn and the drains: what was counted, and what was sent
 sums : (here : Bool) (o : Outcome) (base t1 t2 t3 after : Tallies) (n before now all : ℕ) → t1 ≡ record base { sent = n + before }
     → t2 ≡ (if here then counted o t1 else t1) → t3 ≡ record t2 { sent = t2.sent + now } → after ≡ (if here then counted o base else base)
     → all ≡ before + now → t3 ≡ record after { sent = n + all }
@@ -102,7 +103,7 @@ sums false o base t1 t2 t3 after n before now all was turned drained is many =
     ∙ ap (λ m. record base { sent = m }) (omega (arith, many)) ∙ ap (λ (t : Tallies). record t { sent = n + all }) (sym is)
 
 pub run_on : (e e1 e2 e3 : EngineState) (port : ℕ) (time : Time) (bytes : List ℕ) (arrivals : List (Arrival Time)) (captures : List (List (Time × List ℕ)))
-    (unit : TimeUnit) (mids holds : List (Option (List ℕ)))
+    (unit : TimeUnit) (mids holds : List Device)
     → port < length e.tallies → length e2.world.outboxes ≡ length e.setting.env.ports
     → HasRun e e1 arrivals captures → TakesTurn port e1 e2 bytes → DrainedFirst (length e.setting.env.ports) unit time e2 e3 mids holds
     → HasRun e e3 (arrivals ++ arrival port time bytes ∷ []) (joined captures (records_at time e2.world))

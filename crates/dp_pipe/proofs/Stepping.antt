@@ -1,5 +1,6 @@
--- An input that is asked answers, and the run goes on.
-use Rattle.std.proofs.Common.{◌≡◌, ◌≢◌, ℕ, ◌<◌, true, List, [], ◌∷◌, length, take, Option, Some, None, refl, sym, ◌∙◌, ap, arith, ◌⊎◌, inl, inr}
+-- An input is read, and the run continues.
+use Rattle.std.proofs.Common.{◌≡◌, ◌≢◌, ℕ, ◌<◌, true, List, [], ◌∷◌, ◌++◌, ◌+◌, ◌≤◌, length, length-take-le, take, Option, Some, None, refl, sym, ◌∙◌, ap}
+use Rattle.std.proofs.Common.{arith, ◌⊎◌, inl, inr}
 use Rattle.std.specs.Prelude.{slice_get, slice_set}
 use Rattle.std.proofs.lemmas.List.{length-append, length-set}
 use Rattle.std.proofs.lemmas.Option.{slice_get_within}
@@ -7,11 +8,15 @@ use Rattle.dp_pcap.specs.declared.time.Time.{Time}
 use Rattle.dp_pcap.specs.Standing.{Standing}
 use Rattle.dp_pcap.specs.Capture.{PacketRecord}
 use Rattle.dp_pcap.specs.Source.{WhereKnown, HasRead, advanced, over}
+use Rattle.dp_pcap.specs.declared.time.Unit.{Unit as TimeUnit}
+use Rattle.dp_pcap.specs.Text.{text}
 use Rattle.dp_model.specs.Laws.Lists.{get_set_other, get_within}
 use Rattle.dp_engine.specs.declared.report.InputState.{InputState}
 use Rattle.dp_engine.specs.declared.report.InputState.TheVariants.{Open, Whole, Cut}
 use Rattle.dp_pipe.specs.declared.forwarding.Progress.{Progress}
-use Rattle.dp_pipe.specs.Forwarding.{Input, HasReadSo, IsGoingOn, Stands, AllStand}
+use Rattle.dp_pipe.specs.Devices.{Device}
+use Rattle.dp_pipe.specs.Forwarding.{Input, HasReadSo, IsReadBy, IsGoingOn, Stands, AllStand, last_pulls}
+use Rattle.dp_pipe.proofs.Giving.{length_more}
 use Rattle.dp_pipe.proofs.Forwarded.{split}
 use Rattle.dp_pipe.proofs.Indices.{set_here}
 use Rattle.dp_pipe.proofs.Advancing.{with_record, ended}
@@ -19,21 +24,20 @@ use Rattle.dp_pipe.proofs.Advancing.{with_record, ended}
 -- ---- inputs and the sources that read them
 
 -- the input of a progress
-pub input_at : (olds news : List (Option (List ℕ))) (progress : List Progress) (inputs : List Input) (q : ℕ) (p : Progress) →
+pub input_at : (olds news : List Device) (progress : List Progress) (inputs : List Input) (q : ℕ) (p : Progress) →
     AllStand olds news progress inputs → slice_get progress q ≡ Some p → (i : Input) × (slice_get inputs q ≡ Some i) × Stands p i
 input_at olds news progress inputs q p stand at =
     let (i, here) = get_within inputs q (omega (arith, slice_get_within progress q p at, stand.many)) in
     (i, here, stand.each q p i at here)
 
 -- one input, its source and what its reader has left have changed
-pub all_stand : (olds news : List (Option (List ℕ))) (progress : List Progress) (inputs : List Input) (n : ℕ) (p' : Progress) (i' : Input) (b : Option (List ℕ))
-    → AllStand olds news progress inputs → Stands p' i' → ((old : Option (List ℕ)) → slice_get olds n ≡ Some old →
-    WhereKnown old b (λ bytes rest. HasReadSo i'.state p'.source i'.records bytes rest))
+pub all_stand : (olds news : List Device) (progress : List Progress) (inputs : List Input) (n : ℕ) (p' : Progress) (i' : Input) (b : Device)
+    → AllStand olds news progress inputs → Stands p' i' → ((old : Device) → slice_get olds n ≡ Some old → IsReadBy i' p'.source old b)
     → AllStand olds (slice_set news n b) (slice_set progress n p') (slice_set inputs n i')
 all_stand olds news progress inputs n p' i' b stand stands read = record {
   many = length-set progress n p' ∙ stand.many ∙ sym (length-set inputs n i');
   each = λ q p i a c. each q p i a c (split q n);
-  read = λ q p i old new a c d e. reads q p i old new a c d e (split q n);
+  read = λ q p i a c old new d e. reads q p i old new a c d e (split q n);
 }
   where
     each : (q : ℕ) (p : Progress) (i : Input) → slice_get (slice_set progress n p') q ≡ Some p → slice_get (slice_set inputs n i') q ≡ Some i →
@@ -44,17 +48,17 @@ all_stand olds news progress inputs n p' i' b stand stands read = record {
         rw (← x, ← y) stands
     each q p i a c (inr other) = stand.each q p i (sym (get_set_other progress n q p' other) ∙ a) (sym (get_set_other inputs n q i' other) ∙ c)
 
-    reads : (q : ℕ) (p : Progress) (i : Input) (old new : Option (List ℕ)) → slice_get (slice_set progress n p') q ≡ Some p →
+    reads : (q : ℕ) (p : Progress) (i : Input) (old new : Device) → slice_get (slice_set progress n p') q ≡ Some p →
         slice_get (slice_set inputs n i') q ≡ Some i → slice_get olds q ≡ Some old → slice_get (slice_set news n b) q ≡ Some new
-        → (q ≡ n) ⊎ (q ≢ n) → WhereKnown old new (λ bytes rest. HasReadSo i.state p.source i.records bytes rest)
+        → (q ≡ n) ⊎ (q ≢ n) → IsReadBy i p.source old new
     reads q p i old new a c d e (inl same) =
         let x = set_here progress n p' p (ap (slice_get (slice_set progress n p')) (sym same) ∙ a) in
         let y = set_here inputs n i' i (ap (slice_get (slice_set inputs n i')) (sym same) ∙ c) in
         let z = set_here news n b new (ap (slice_get (slice_set news n b)) (sym same) ∙ e) in
         rw (← x, ← y, ← z) (read old (ap (slice_get olds) (sym same) ∙ d))
     reads q p i old new a c d e (inr other) =
-        stand.read q p i old new (sym (get_set_other progress n q p' other) ∙ a) (sym (get_set_other inputs n q i' other)
-        ∙ c) d (sym (get_set_other news n q b other) ∙ e)
+        stand.read q p i (sym (get_set_other progress n q p' other) ∙ a) (sym (get_set_other inputs n q i' other)
+        ∙ c) old new d (sym (get_set_other news n q b other) ∙ e)
 
 -- facts of the known bytes, one after the other
 pub known_then : (old mid new : Option (List ℕ)) (P Q R : List ℕ → List ℕ → Type 0) →
@@ -76,7 +80,25 @@ open_going Open s count e on = on
 open_going Whole s count e on = cc
 open_going (Cut byte) s count e on = cc
 
--- behind a record
+-- calls for one record more
+pub calls_more : (i : Input) (time : Time) (len : ℕ) (buf : List ℕ) (a b c : ℕ) → i.state ≡ Open → len ≤ length buf
+    → b ≤ a + length (text i.unit i.records) + last_pulls i.state → c ≤ b + (16 + len)
+    → c ≤ a + length (text i.unit (i.records ++ record { time = time; bytes = take len buf } ∷ [])) + last_pulls i.state
+calls_more i time len buf a b c is fits before now =
+    omega (
+      arith,
+      before,
+      now,
+      length_more i.unit i.records (record { time = time; bytes = take len buf }),
+      length-take-le len buf fits,
+    )
+
+-- the input was open until its end was found
+pub calls_ended : (i : Input) (a b c more : ℕ) → i.state ≡ Open → b ≤ a + length (text i.unit i.records) + last_pulls i.state → c ≤ b + more
+    → c ≤ a + length (text i.unit i.records) + more
+calls_ended i a b c more is before now = let none : last_pulls i.state ≡ 0 = rw is refl in omega (arith, before, now, none)
+
+-- after a record
 pub stands_more : (p p' : Progress) (i : Input) (time : Time) (len : ℕ) (buf : List ℕ) → Stands p i → p.state ≡ Open → p'.state ≡ Open →
     p'.source ≡ advanced p.source len → p.source.given < 16777216
     → Stands p' (with_record (record { time = time; bytes = take len buf }) i)
@@ -91,7 +113,7 @@ stands_more p p' i time len buf stands was is moved less =
       few = omega (arith, given, more, less);
     }
 
--- behind the last
+-- after the last
 pub stands_ended : (p p' : Progress) (i : Input) (state : InputState) → Stands p i → p'.state ≡ state → p'.source ≡ over p.source →
     (state ≡ Open → ⊥) → Stands p' (ended state i)
 stands_ended p p' i state stands is moved closed = record {

@@ -1,8 +1,7 @@
--- What an open engine did before a fault is what is promised of a run that stopped.
+-- What an open engine did before a fault is what a run that stopped promises.
 use Rattle.std.proofs.Common.{◌≡◌, ℕ, ◌+◌, ◌<◌, ◌⊎◌, inl, inr, List, [], ◌∷◌, length, map, Option, Result, Ok, Err, refl, sym, ◌∙◌, ap, subst, arith}
 use Rattle.std.specs.Prelude.{⊤, IfErr, ◌↔◌}
 use Rattle.std.specs.List.{AllByRecursion}
-use Rattle.std.specs.Io.KnownBytes.{Appends}
 use Rattle.std.proofs.lemmas.List.{length-map}
 use Rattle.dp_pcap.specs.declared.time.Unit.{Unit as TimeUnit}
 use Rattle.dp_model.specs.Runs.{records_at}
@@ -14,11 +13,13 @@ use Rattle.dp_pipe.specs.declared.forwarding.Progress.{Progress}
 use Rattle.dp_pipe.specs.declared.forwarding.RunCause.{RunCause}
 use Rattle.dp_pipe.specs.declared.forwarding.RunCause.TheVariants.{Memory, NoRoom, In, Out}
 use Rattle.dp_pipe.specs.declared.running.RunFault.{RunFault}
+use Rattle.dp_pipe.specs.Devices.{Device, transfer, IsGiven}
 use Rattle.dp_pipe.specs.Forwarding.{Input, FailedAt, capture_at}
 use Rattle.dp_pipe.specs.Headline.{StoppedWriting, StoppedBy, WroteFront, capture_text}
 use Rattle.dp_pipe.specs.Pipelines.{Plan}
 use Rattle.dp_pipe.specs.Running.{RunAnswers, RanOn, IsFirst, GoesForward, HeadersWritten, IsBegun, IsIdle, IsUnopened, IsReportOf, all_begun, begun, answer_of}
 use Rattle.dp_pipe.proofs.Headline.{ports_in, went_on}
+use Rattle.dp_pipe.proofs.Heading.{none_read}
 use Rattle.dp_pipe.proofs.Idle.{idle_reported}
 use Rattle.dp_pipe.proofs.LastTurn.{records_long, captures_long, earlier, through, goes_on_by, own_sent, counted_failed, given_ahead, given_own, given_behind}
 use Rattle.dp_pipe.proofs.Loaded.{few}
@@ -26,19 +27,13 @@ use Rattle.dp_pipe.proofs.Numbers.{numbers_reported}
 use Rattle.dp_pipe.proofs.PacketRuns.{IsReady}
 use Rattle.dp_pipe.proofs.Through.{not_before}
 
--- an input of which no record was read
-none_read : (progress : List Progress) → AllByRecursion IsBegun progress →
-    AllByRecursion (λ (i : Input). (i.records ≡ []) × (i.state ≡ Open)) (all_begun progress)
-none_read [] begun = tt
-none_read (x ∷ progress) begun = ((refl, begun.0.state), none_read progress begun.1)
-
--- a writer failed behind a turn
-stopped_writing : (p : Plan) (pattern : List ℕ) (first last : EngineState) (unit : TimeUnit) (olds news held hdr holds : List (Option (List ℕ)))
+-- a writer failed after a turn
+stopped_writing : (p : Plan) (pattern : List ℕ) (first last : EngineState) (unit : TimeUnit) (olds news held hdr holds : List Device)
     (inputs : List Input) (progress : List Progress) (port : ℕ) (r : Report)
     → IsReady p pattern → IsFirst p pattern first → length held ≡ length p.env.ports → length hdr ≡ length held →
-    HeadersWritten unit held hdr → FailedAt unit first last olds news hdr holds inputs port
+    HeadersWritten unit held hdr → FailedAt unit first last (transfer olds news hdr holds) inputs port
     → map (λ (i : Input). i.state) inputs ≡ map (λ (x : Progress). x.state) progress → IsReportOf last progress r →
-    StoppedWriting p pattern olds news held holds port r
+    StoppedWriting p pattern (transfer olds news held holds) port r
 stopped_writing p pattern first last unit olds news held hdr holds inputs progress port r ready is held_many many headers f states reported =
     let (few_ports, few_rings, few_tables) = few p.env ready.limits in
     let ports = ports_in p pattern first is in
@@ -61,16 +56,16 @@ stopped_writing p pattern first last unit olds news held hdr holds inputs progre
       run = run;
       goes_on = goes_on_by p pattern first last unit olds news hdr holds inputs port ready is f few_ports;
       there = omega (arith, f.stopped.there, there);
-      ahead = λ q old new less here at. subst (λ (u : TimeUnit). Appends old new (capture_text u run.captures q)) f.unit_is
+      ahead = λ q less old new here at. subst (λ (u : TimeUnit). IsGiven old new (capture_text u run.captures q)) f.unit_is
           (given_ahead unit f.captures f.last.time f.behind last held hdr f.mids holds port many f.mids_many headers f.wrote long new_long f.stopped q old new
           less here at);
       sent = own_sent p pattern first last unit olds news hdr holds inputs port ready is f few_ports;
       not_less = omega arith;
-      own = λ old new here at. subst (λ (u : TimeUnit). WroteFront old new u (capture_at run.captures port)
-          (length (capture_at f.captures port) + f.stopped.whole)) f.unit_is
+      own = λ old new here at. subst (λ (u : TimeUnit). WroteFront u (capture_at run.captures port)
+          (length (capture_at f.captures port) + f.stopped.whole) old new) f.unit_is
           (given_own unit f.captures f.last.time f.behind last held hdr f.mids holds port many f.mids_many headers f.wrote long new_long f.stopped old new
           here at);
-      behind = λ q old new less here at. subst (λ (u : TimeUnit). Appends old new (capture_text u f.captures q)) f.unit_is
+      after = λ q less old new here at. subst (λ (u : TimeUnit). IsGiven old new (capture_text u f.captures q)) f.unit_is
           (given_behind unit f.captures f.last.time f.behind last held hdr f.mids holds port many f.mids_many headers f.wrote long new_long f.stopped q old
           new less here at);
       numbers = numbers_reported p pattern _ run last progress inputs _ r few_ports few_rings (f.inputs_many ∙ ports) states
@@ -81,11 +76,11 @@ stopped_writing p pattern first last unit olds news held hdr holds inputs progre
     there = ap (λ (e : EngineState). length e.setting.env.ports) f.turn.is ∙ ap (λ (e : EngineState). length e.setting.env.ports) f.run.stays
         ∙ ports_in p pattern first is
 
-stopped_by : (p : Plan) (pattern : List ℕ) (first last : EngineState) (olds news held holds : List (Option (List ℕ))) (progress : List Progress)
+stopped_by : (p : Plan) (pattern : List ℕ) (first last : EngineState) (olds news held holds : List Device) (progress : List Progress)
     (cause : RunCause) (r : Report)
     → IsReady p pattern → IsAscending 0 pattern → IsFirst p pattern first → length held ≡ length p.env.ports →
-    GoesForward first last olds news held holds progress (Err cause) → IsReportOf last progress r
-    → StoppedBy p pattern olds news held holds cause r
+    GoesForward first last (transfer olds news held holds) progress (Err cause) → IsReportOf last progress r
+    → StoppedBy p pattern (transfer olds news held holds) cause r
 stopped_by p pattern first last olds news held holds progress Memory r ready ascends is many (inl fails) reported = absurd fails
 stopped_by p pattern first last olds news held holds progress Memory r ready ascends is many (inr made) reported = absurd made.rounds
 stopped_by p pattern first last olds news held holds progress NoRoom r ready ascends is many (inl fails) reported = absurd fails
@@ -107,7 +102,6 @@ stopped_by p pattern first last olds news held holds progress (In port error) r 
       room = is.room;
       inputs = inputs;
       many = done.many;
-      read = went.read;
       fault = fault;
       run = done.run;
       wrote = done.wrote;
@@ -131,25 +125,25 @@ stopped_by p pattern first last olds news held holds progress (Out port) r ready
     inr (stopped_writing p pattern first last made.unit olds news held made.mids holds inputs progress port r ready is many made.mids_many made.headers
     failed states reported)
 
-pub stopped_so : (p : Plan) (pattern : List ℕ) (olds news held holds : List (Option (List ℕ))) (answer : Result Report RunFault) → IsReady p pattern →
-    IsAscending 0 pattern → length held ≡ length p.env.ports → RanOn p pattern olds news held holds answer
-    → IfErr answer (λ (f : RunFault). StoppedBy p pattern olds news held holds f.cause f.report)
+pub stopped_so : (p : Plan) (pattern : List ℕ) (olds news held holds : List Device) (answer : Result Report RunFault) → IsReady p pattern →
+    IsAscending 0 pattern → length held ≡ length p.env.ports → RanOn p pattern (transfer olds news held holds) answer
+    → IfErr answer (λ (f : RunFault). StoppedBy p pattern (transfer olds news held holds) f.cause f.report)
 stopped_so p pattern olds news held holds (Ok r) ready ascends many ran = tt
 stopped_so p pattern olds news held holds (Err fault) ready ascends many ran =
     stopped_by p pattern ran.first ran.last olds news held holds ran.progress fault.cause fault.report ready ascends
     ran.is_first many ran.went ran.reported
 
 -- no engine was opened
-pub unopened_so : (p : Plan) (pattern : List ℕ) (olds news held holds : List (Option (List ℕ))) (cause : RunCause) (r : Report) → IsUnopened p cause →
-    IsIdle p.env r → StoppedBy p pattern olds news held holds cause r
+pub unopened_so : (p : Plan) (pattern : List ℕ) (olds news held holds : List Device) (cause : RunCause) (r : Report) → IsUnopened p cause →
+    IsIdle p.env r → StoppedBy p pattern (transfer olds news held holds) cause r
 unopened_so p pattern olds news held holds Memory r why idle = idle
 unopened_so p pattern olds news held holds NoRoom r why idle = (why, idle)
 unopened_so p pattern olds news held holds (In port error) r why idle = absurd why
 unopened_so p pattern olds news held holds (Out port) r why idle = absurd why
 
-pub all_stopped : (p : Plan) (pattern : List ℕ) (olds news held holds : List (Option (List ℕ))) (answer : Result Report RunFault) → IsReady p pattern →
-    IsAscending 0 pattern → length held ≡ length p.env.ports → RunAnswers p pattern olds news held holds answer
-    → IfErr answer (λ (f : RunFault). StoppedBy p pattern olds news held holds f.cause f.report)
+pub all_stopped : (p : Plan) (pattern : List ℕ) (olds news held holds : List Device) (answer : Result Report RunFault) → IsReady p pattern →
+    IsAscending 0 pattern → length held ≡ length p.env.ports → RunAnswers p pattern (transfer olds news held holds) answer
+    → IfErr answer (λ (f : RunFault). StoppedBy p pattern (transfer olds news held holds) f.cause f.report)
 all_stopped p pattern olds news held holds answer ready ascends many (inl ran) = stopped_so p pattern olds news held holds answer ready ascends many ran
 all_stopped p pattern olds news held holds (Ok r) ready ascends many (inr unopened) = tt
 all_stopped p pattern olds news held holds (Err fault) ready ascends many (inr (why, idle)) =
@@ -157,22 +151,19 @@ all_stopped p pattern olds news held holds (Err fault) ready ascends many (inr (
 
 -- ---- memory and room
 
-no_room_by : (p : Plan) (cause : RunCause) → IsUnopened p cause → (◌≡◌ {A = Result ⊤ RunCause} (Err cause) (Err Memory))
-    ⊎ ((◌≡◌ {A = Result ⊤ RunCause} (Err cause) (Err NoRoom)) ↔ (p.region < bytes_needed p.env))
-no_room_by p Memory why = inl refl
-no_room_by p NoRoom why = inr (λ e. why, λ less. refl)
+no_room_by : (p : Plan) (cause : RunCause) → IsUnopened p cause → (◌≡◌ {A = Result ⊤ RunCause} (Err cause) (Err NoRoom)) ↔ (p.region < bytes_needed p.env)
+no_room_by p Memory room = (λ e. cc, λ less. absurd (omega (arith, room, less)))
+no_room_by p NoRoom why = (λ e. why, λ less. refl)
 no_room_by p (In port error) why = absurd why
 no_room_by p (Out port) why = absurd why
 
--- there is no room exactly where the region is smaller than the engine needs, if there is memory
-pub no_room_so : (p : Plan) (pattern : List ℕ) (olds news held holds : List (Option (List ℕ))) (answer : Result Report RunFault) →
-    RunAnswers p pattern olds news held holds answer
-    → (answer_of answer ≡ Err Memory) ⊎ ((answer_of answer ≡ Err NoRoom) ↔ (p.region < bytes_needed p.env))
-no_room_so p pattern olds news held holds answer (inl ran) =
-    inr (
-      λ e. absurd (not_before ran.first ran.last olds news held holds ran.progress NoRoom
-          (subst (GoesForward ran.first ran.last olds news held holds ran.progress) e ran.went) (inr refl)),
-      λ less. absurd (omega (arith, less, ran.is_first.room)),
-    )
+-- there is no room exactly where the region is smaller than the engine needs
+pub no_room_so : (p : Plan) (pattern : List ℕ) (olds news held holds : List Device) (answer : Result Report RunFault) →
+    RunAnswers p pattern (transfer olds news held holds) answer → (answer_of answer ≡ Err NoRoom) ↔ (p.region < bytes_needed p.env)
+no_room_so p pattern olds news held holds answer (inl ran) = (
+  λ e. absurd (not_before ran.first ran.last olds news held holds ran.progress NoRoom
+      (subst (GoesForward ran.first ran.last (transfer olds news held holds) ran.progress) e ran.went) (inr refl)),
+  λ less. absurd (omega (arith, less, ran.is_first.room)),
+)
 no_room_so p pattern olds news held holds (Ok r) (inr unopened) = absurd unopened
 no_room_so p pattern olds news held holds (Err fault) (inr (why, idle)) = no_room_by p fault.cause why

@@ -1,5 +1,5 @@
--- A run stops at what one input answers, or at what a writer does behind it.
-use Rattle.std.proofs.Common.{◌≡◌, ◌≢◌, ℕ, zero, suc, ◌+◌, ◌<◌, List, [], ◌∷◌, length, map, take, Option, Some, Result}
+-- A run stops at one input's answer, or at a writer after it.
+use Rattle.std.proofs.Common.{◌≡◌, ◌≢◌, ℕ, zero, suc, ◌+◌, ◌<◌, ◌≤◌, List, [], ◌∷◌, length, map, take, Option, Some, Result}
 use Rattle.std.proofs.Common.{Ok, Err, refl, sym, ◌∙◌, ap, subst, arith, ◌⊎◌, inl, inr}
 use Rattle.std.specs.Prelude.{slice_get, slice_set, ⊤}
 use Rattle.std.proofs.lemmas.List.{length-append, length-set}
@@ -13,23 +13,25 @@ use Rattle.dp_pcap.specs.declared.source.Next.TheVariants.{Record, End}
 use Rattle.dp_pcap.specs.declared.source.Next.TheVariants as next
 use Rattle.dp_pcap.specs.Standing.{Standing}
 use Rattle.dp_pcap.specs.Capture.{PacketRecord}
-use Rattle.dp_pcap.specs.Source.{WhereKnown, HasRead, Continues, ReadsOn, IsInRange, Moves, advanced}
+use Rattle.dp_pcap.specs.Source.{WhereKnown, Continues, ReadsOn, IsInRange, Moves, advanced, most_pulls}
 use Rattle.dp_model.specs.Laws.Lists.{get_set_other, get_within}
 use Rattle.dp_engine.specs.declared.report.InputState.{InputState}
 use Rattle.dp_engine.specs.declared.report.InputState.TheVariants.{Open, Whole, Cut}
 use Rattle.dp_engine.specs.Engines.{EngineState}
 use Rattle.dp_pipe.specs.declared.forwarding.Progress.{Progress}
+use Rattle.dp_pipe.specs.Devices.{Device, transfer}
 use Rattle.dp_pipe.specs.declared.forwarding.RunCause.{RunCause}
 use Rattle.dp_pipe.specs.declared.forwarding.RunCause.TheVariants.{In, Out}
-use Rattle.dp_pipe.specs.Forwarding.{Input, HasReadSo, Gives, AreRead, Refuses, Stands, AllStand, ReadsTurn, Follows, Advances, Along, Stops, arrivals_of}
+use Rattle.dp_pipe.specs.Forwarding.{Input, IsReadTo, AreRead, Refuses, Stands, AllStand, ReadsTurn, Follows, Advances, Along, Stops, arrivals_of}
 use Rattle.dp_pipe.specs.Forwarding.{TakesTurn, DrainsStopped, unit_for}
 use Rattle.dp_pipe.proofs.Forwarded.{split}
 use Rattle.dp_pipe.proofs.Indices.{set_here, set_itself}
 use Rattle.dp_pipe.proofs.RunOn.{arrival}
 use Rattle.dp_pipe.proofs.Advancing.{with_record, arrivals_more, order_next}
-use Rattle.dp_pipe.proofs.GoingOn.{known_map, wanted}
+use Rattle.dp_pipe.proofs.GoingOn.{wanted}
 use Rattle.dp_pipe.proofs.Units.{units_set}
-use Rattle.dp_pipe.proofs.Stepping.{input_at, all_stand, known_then, open_read, stands_more}
+use Rattle.dp_pipe.proofs.Stepping.{input_at, all_stand, calls_ended, calls_more, known_then, open_read, stands_more}
+use Rattle.dp_pipe.proofs.Giving.{read_as}
 
 -- ---- states
 
@@ -49,7 +51,7 @@ states_each (p ∷ progress) (i ∷ inputs) many each =
     ap (λ x. x ∷ map state_of inputs) (sym (each 0 p i refl refl)) ∙ ap
     (λ l. p.state ∷ l) (states_each progress inputs (omega (arith, many)) (λ q a b c d. each (suc q) a b c d))
 
-pub states_same : (olds news : List (Option (List ℕ))) (progress : List Progress) (inputs : List Input) → AllStand olds news progress inputs →
+pub states_same : (olds news : List Device) (progress : List Progress) (inputs : List Input) → AllStand olds news progress inputs →
     map state_of inputs ≡ map state_at progress
 states_same olds news progress inputs stand = states_each progress inputs stand.many (λ q p i a b. (stand.each q p i a b).state)
 
@@ -65,36 +67,27 @@ states_get (x ∷ progress) (suc n) p e = states_get progress n p e
 
 -- ---- what was read
 
-pub gives_of : (state : InputState) (s : Standing) (unit : TimeUnit) (records : List PacketRecord) (bytes rest : List ℕ) → s.unit ≡ unit →
-    HasReadSo state s records bytes rest → Gives state unit records bytes
-gives_of Open s unit records bytes rest same has = (s, rest, has, same)
-gives_of Whole s unit records bytes rest same has = rw (← same) has
-gives_of (Cut byte) s unit records bytes rest same has = rw (← same) has
-
 progress_at : (progress : List Progress) (inputs : List Input) (q : ℕ) (i : Input) → length progress ≡ length inputs → slice_get inputs q ≡ Some i →
     (p : Progress) × (slice_get progress q ≡ Some p)
 progress_at progress inputs q i many at = get_within progress q (omega (arith, slice_get_within inputs q i at, many))
 
-pub are_read : (olds news : List (Option (List ℕ))) (progress : List Progress) (inputs : List Input) → AllStand olds news progress inputs →
+pub are_read : (olds news : List Device) (progress : List Progress) (inputs : List Input) → AllStand olds news progress inputs →
     AreRead olds news inputs
-are_read olds news progress inputs stand q i old new at a b =
+are_read olds news progress inputs stand q i at old new a b =
     let (p, here) = progress_at progress inputs q i stand.many at in
-    known_map old new _ _ (λ bytes rest has. gives_of i.state p.source i.unit i.records bytes rest (stand.each q p i here at).unit has)
-    (stand.read q p i old new here at a b)
+    read_as i p.source old new (stand.each q p i here at).unit (stand.read q p i here at old new a b)
 
--- an input that has a fault was read so far
-read_set : (olds news : List (Option (List ℕ))) (inputs : List Input) (n : ℕ) (i : Input) (b : Option (List ℕ)) → AreRead olds news inputs →
-    slice_get inputs n ≡ Some i
-    → ((old : Option (List ℕ)) → slice_get olds n ≡ Some old → WhereKnown old b (λ bytes rest. Gives i.state i.unit i.records bytes)) →
-    AreRead olds (slice_set news n b) inputs
-read_set olds news inputs n i b read here now q j old new at a c = go (split q n)
-  where
-    go : (q ≡ n) ⊎ (q ≢ n) → WhereKnown old new (λ bytes rest. Gives j.state j.unit j.records bytes)
-    go (inl same) =
-        let x = same_Some i j (sym here ∙ ap (slice_get inputs) (sym same) ∙ at) in
-        let z = set_here news n b new (ap (slice_get (slice_set news n b)) (sym same) ∙ c) in
-        rw (← x, ← z) (now old (ap (slice_get olds) (sym same) ∙ a))
-    go (inr other) = read q j old new at a (sym (get_set_other news n q b other) ∙ c)
+-- a fault takes no more calls than the largest record
+pulls_most : (error : PcapError) → most_pulls (Err error) ≤ 262160
+pulls_most BadMagic = omega arith
+pulls_most BadVersion = omega arith
+pulls_most BadLink = omega arith
+pulls_most BadTime = omega arith
+pulls_most TooLong = omega arith
+pulls_most ShortHeader = omega arith
+pulls_most TooMany = omega arith
+pulls_most Read = omega arith
+pulls_most error = omega arith
 
 -- what a fault says of the bytes
 refuses_of : (error : PcapError) (s s' : Standing) (unit : TimeUnit) (records : List PacketRecord) (bytes rest buf : List ℕ) → s.unit ≡ unit →
@@ -109,10 +102,10 @@ refuses_of TooMany s s' unit records bytes rest buf same has = rw (← same) has
 refuses_of Read s s' unit records bytes rest buf same has = (s, same, has)
 refuses_of error s s' unit records bytes rest buf same has = rw (← same) has
 
--- an input that is open, whose source answers, in a run that goes along
-module _ (unit : TimeUnit) (e0 e : EngineState) (olds news held mids : List (Option (List ℕ))) (progress : List Progress) (inputs : List Input) (round port : ℕ)
-    (along : Along unit e0 e olds news held mids progress inputs round port) (p p' : Progress) (here : slice_get progress port ≡ Some p)
-    (open_p : p.state ≡ Open) (a b : Option (List ℕ)) (left_a : slice_get news port ≡ Some a) where
+-- an open input, whose source answers, in a run that continues
+module _ (unit : TimeUnit) (e0 e : EngineState) (olds news held mids : List Device) (progress : List Progress) (inputs : List Input) (round port : ℕ)
+    (along : Along unit e0 e (transfer olds news held mids) progress inputs round port) (p p' : Progress) (here : slice_get progress port ≡ Some p)
+    (open_p : p.state ≡ Open) (a b : Device) (left_a : slice_get news port ≡ Some a) where
   abbrev i : Input
   i = (input_at olds news progress inputs port p along.stand here).0
 
@@ -125,19 +118,23 @@ module _ (unit : TimeUnit) (e0 e : EngineState) (olds news held mids : List (Opt
   i_open : i.state ≡ Open
   i_open = sym i_stands.state ∙ open_p
 
-  -- a writer failed behind its record
-  failed_behind : (holds : List (Option (List ℕ))) (time : Time) (len : ℕ) (buf : List ℕ) (e1 e2 : EngineState) (q : ℕ)
-      → length mids ≡ length e0.setting.env.ports → WhereKnown a b (λ left rest. Continues p.source p'.source left rest buf (Ok (Record time len)))
+  -- a writer failed after its record
+  failed_behind : (holds : List Device) (time : Time) (len : ℕ) (buf : List ℕ) (e1 e2 : EngineState) (q : ℕ)
+      → length mids ≡ length e0.setting.env.ports → len ≤ length buf → b.calls ≤ a.calls + (16 + len)
+      → WhereKnown a.bytes b.bytes (λ left rest. Continues p.source p'.source left rest buf (Ok (Record time len)))
       → p.source.given < 16777216 → p'.source ≡ advanced p.source len → TakesTurn port e e1 (take len buf) → p'.state ≡ Open
-      → DrainsStopped unit time e1 e2 mids holds q → Stops unit e0 e2 olds (slice_set news port b) held holds (slice_set progress port p') (Out q)
-  failed_behind holds time len buf e1 e2 q mids_many more less moves turn is stops =
+      → DrainsStopped unit time e1 e2 mids holds q → Stops unit e0 e2 (transfer olds (slice_set news port b) held holds) (slice_set progress port p') (Out q)
+  failed_behind holds time len buf e1 e2 q mids_many fits pulls more less moves turn is stops =
       let r : PacketRecord = record { time = time; bytes = take len buf } in
       let i' = with_record r i in
       let stands = stands_more p p' i time len buf i_stands open_p is moves less in
       let stand = all_stand olds news progress inputs port p' i' b along.stand stands (λ old at.
-      known_then old a b _ _ _ (λ bytes left rest before now. rw i_open
-      (now bytes i.records (open_read i.state p.source i.records bytes left i_open before))) (along.stand.read port p i old a here i_here at left_a)
-      more) in (
+      let was = along.stand.read port p i here i_here old a at left_a in
+      record {
+        has = known_then old.bytes a.bytes b.bytes _ _ _ (λ bytes left rest before now. rw i_open
+            (now bytes i.records (open_read i.state p.source i.records bytes left i_open before))) was.has more;
+        calls = calls_more i time len buf old.calls a.calls b.calls i_open fits was.calls pulls;
+      }) in (
         slice_set inputs port i',
         states_same olds (slice_set news port b) (slice_set progress port p') (slice_set inputs port i') stand,
         record {
@@ -168,28 +165,29 @@ module _ (unit : TimeUnit) (e0 e : EngineState) (olds news held mids : List (Opt
       ∙ sym (states_set progress port p' ∙ ap (slice_set (map state_at progress) port) (is ∙ sym open_p)
       ∙ set_itself (map state_at progress) port p.state (states_get progress port p here))
 
-  -- what known bytes were left, with the records before
-  left_of : (P : List ℕ → List ℕ → Type 0) (buf : List ℕ) (answer : Result Next PcapError) → WhereKnown a b (λ left rest. Continues p.source p'.source left rest
-      buf answer)
-      → ((bytes left rest : List ℕ) → HasRead bytes p.source i.records left → ReadsOn bytes i.records p.source p'.source rest buf answer → P bytes rest)
-      → (old : Option (List ℕ)) → slice_get olds port ≡ Some old → WhereKnown old b P
-  left_of P buf answer more f old at =
-      known_then old a b _ _ _ (λ bytes left rest before now.
-      let read = open_read i.state p.source i.records bytes left i_open before in
-      f bytes left rest read (now bytes i.records read)) (along.stand.read port p i old a here i_here at left_a) more
+  -- what was read up to a fault
+  read_to : (error : PcapError) (buf : List ℕ) → b.calls ≤ a.calls + most_pulls (Err error)
+      → WhereKnown a.bytes b.bytes (λ left rest. Continues p.source p'.source left rest buf (Err error))
+      → (old : Device) → slice_get olds port ≡ Some old → IsReadTo i error old b
+  read_to error buf pulls more old at =
+      let was = along.stand.read port p i here i_here old a at left_a in
+      record {
+        refuses = known_then old.bytes a.bytes b.bytes _ _ _ (λ bytes left rest before now.
+            refuses_of error p.source p'.source i.unit i.records bytes rest buf i_stands.unit
+            (now bytes i.records (open_read i.state p.source i.records bytes left i_open before))) was.has more;
+        calls = calls_ended i old.calls a.calls b.calls 262160 i_open was.calls (omega (arith, pulls, pulls_most error));
+      }
 
   -- the input is at fault
-  refused_here : (error : PcapError) (buf : List ℕ) → WhereKnown a b (λ left rest. Continues p.source p'.source left rest buf (Err error)) → p'.state ≡ Open
-      → Stops unit e0 e olds (slice_set news port b) held mids (slice_set progress port p') (In port error)
-  refused_here error buf more is = (
+  refused_here : (error : PcapError) (buf : List ℕ) → b.calls ≤ a.calls + most_pulls (Err error)
+      → WhereKnown a.bytes b.bytes (λ left rest. Continues p.source p'.source left rest buf (Err error)) → p'.state ≡ Open
+      → Stops unit e0 e (transfer olds (slice_set news port b) held mids) (slice_set progress port p') (In port error)
+  refused_here error buf pulls more is = (
     inputs,
     states is,
     record {
       inputs_many = along.inputs_many;
       unit_is = along.unit_is;
-      read = read_set olds news inputs port i b (are_read olds news progress inputs along.stand) i_here
-          (left_of (λ bytes rest. Gives i.state i.unit i.records bytes) buf (Err error) more
-          (λ bytes left rest read now. rw i_open (p.source, left, read, i_stands.unit)));
       captures = along.captures;
       many = along.many;
       run = along.run;
@@ -201,33 +199,33 @@ module _ (unit : TimeUnit) (e0 e : EngineState) (olds news held mids : List (Opt
       input = i;
       input_is = i_here;
       is_open = i_open;
-      fault = λ old new at c.
-          subst (λ x. WhereKnown old x (Refuses i.unit i.records error)) (set_here news port b new c)
-          (left_of (Refuses i.unit i.records error) buf (Err error) more
-          (λ bytes left rest read now. refuses_of error p.source p'.source i.unit i.records bytes rest buf i_stands.unit now) old at);
+      fault = λ old new at c. subst (IsReadTo i error old) (set_here news port b new c) (read_to error buf pulls more old at);
+      others = λ q j other at old new x y.
+          are_read olds news progress inputs along.stand q j at old new x (sym (get_set_other news port q b other) ∙ y);
     },
   )
 
-pub stops_at : (unit : TimeUnit) (e0 e e' : EngineState) (olds news held mids holds : List (Option (List ℕ))) (progress : List Progress) (inputs : List Input)
-    (round port : ℕ) (p p' : Progress) (a b : Option (List ℕ)) (cause : RunCause)
-    → Along unit e0 e olds news held mids progress inputs round port → length mids ≡ length e0.setting.env.ports → slice_get progress port ≡ Some p →
+pub stops_at : (unit : TimeUnit) (e0 e e' : EngineState) (olds news held mids holds : List Device) (progress : List Progress) (inputs : List Input)
+    (round port : ℕ) (p p' : Progress) (a b : Device) (cause : RunCause)
+    → Along unit e0 e (transfer olds news held mids) progress inputs round port → length mids ≡ length e0.setting.env.ports → slice_get progress port ≡ Some p →
     p.state ≡ Open → slice_get news port ≡ Some a
     → Advances port unit e e' p p' a b mids holds (Err cause)
-    → Stops unit e0 e' olds (slice_set news port b) held holds (slice_set progress port p') cause
+    → Stops unit e0 e' (transfer olds (slice_set news port b) held holds) (slice_set progress port p') cause
 stops_at unit e0 e e' olds news held mids holds progress inputs round port p p' a b cause along mids_many here open_p left_a step =
-    go step.next step.read step.in_range step.moves step.follows
+    go step.next step.read step.pulls step.in_range step.moves step.follows
   where
     same_err : (x y : RunCause) → ◌≡◌ {A = Result ⊤ RunCause} (Err x) (Err y) → x ≡ y
     same_err x y e = cc
 
-    go : (answer : Result Next PcapError) → ReadsTurn port e step.engine p.source p'.source a b answer → IsInRange p.source answer →
+    go : (answer : Result Next PcapError) → ReadsTurn port e step.engine p.source p'.source a.bytes b.bytes answer → b.calls ≤ a.calls + most_pulls answer →
+        IsInRange p.source answer →
         Moves p.source p'.source answer → Follows port unit step.engine e' p'.state mids holds answer (Err cause)
-        → Stops unit e0 e' olds (slice_set news port b) held holds (slice_set progress port p') cause
-    go (Ok (Record time len)) (buf, more, (fits, turn)) (nano, few, less) moves (is, q, cause_is, stops) =
+        → Stops unit e0 e' (transfer olds (slice_set news port b) held holds) (slice_set progress port p') cause
+    go (Ok (Record time len)) (buf, more, (fits, turn)) pulls (nano, few, less) moves (is, q, cause_is, stops) =
         rw cause_is (failed_behind unit e0 e olds news held mids progress inputs round port along p p' here open_p a b left_a holds time len buf step.engine e'
-        q mids_many more less moves turn is stops)
-    go (Ok End) reads range moves (is, bad, e_is, holds_is) = cc
-    go (Ok (next.Cut byte)) reads range moves (is, bad, e_is, holds_is) = cc
-    go (Err error) (buf, more, same) range moves (is, answer_is, e_is, holds_is) =
+        q mids_many fits pulls more less moves turn is stops)
+    go (Ok End) reads pulls range moves (is, bad, e_is, holds_is) = cc
+    go (Ok (next.Cut byte)) reads pulls range moves (is, bad, e_is, holds_is) = cc
+    go (Err error) (buf, more, same) pulls range moves (is, answer_is, e_is, holds_is) =
         rw (same_err cause (In port error) answer_is, e_is ∙ same, holds_is)
-        (refused_here unit e0 e olds news held mids progress inputs round port along p p' here open_p a b left_a error buf more is)
+        (refused_here unit e0 e olds news held mids progress inputs round port along p p' here open_p a b left_a error buf pulls more is)

@@ -1,9 +1,8 @@
--- Where all rounds of a run begin, and what stays of an engine behind them.
+-- Where all rounds of a run begin, and what an engine keeps after them.
 use Rattle.std.proofs.Common.{◌≡◌, ◌⊎◌, inl, inr, ℕ, zero, suc, ◌+◌, List, [], ◌∷◌, ◌++◌, Option, Some, Result, Ok, Err, length, map, take}
 use Rattle.std.proofs.Common.{replicate, refl, ap, sym, ◌∙◌, subst, arith, zero-add}
 use Rattle.std.specs.Prelude.{slice_get, ⊤}
 use Rattle.std.specs.List.{AllByRecursion}
-use Rattle.std.specs.Io.KnownBytes.{Keeps}
 use Rattle.std.proofs.lemmas.Option.{same_Some}
 use Rattle.std.proofs.lemmas.List.{length-replicate, length-map, length-set}
 use Rattle.dp_pcap.specs.declared.time.Time.{Time}
@@ -12,14 +11,15 @@ use Rattle.dp_model.specs.Runs.{Arrival, longest}
 use Rattle.dp_engine.specs.Engines.{EngineState, tallies_at}
 use Rattle.dp_engine.specs.declared.report.Tallies.{Tallies}
 use Rattle.std.proofs.lemmas.Bool.{le-ltb}
-use Rattle.std.proofs.KnownBytes.{Appends-nil, Keeps-refl}
 use Rattle.dp_model.specs.Laws.Lists.{each_at}
 use Rattle.dp_pipe.specs.declared.forwarding.Progress.{Progress}
+use Rattle.dp_pipe.specs.Devices.{Device, transfer}
 use Rattle.dp_pipe.specs.declared.forwarding.RunCause.{RunCause}
 use Rattle.dp_pipe.specs.declared.forwarding.RunCause.TheVariants.{Memory, NoRoom, In, Out}
 use Rattle.dp_pipe.specs.Forwarding.{Input, AllStand, asked, Along, HasRun, AreRounds, FailedAt, arrivals_of}
 use Rattle.dp_pipe.specs.Forwarding.{records_in, records_many, capture_at, tally_of, AreRead, unit_for, units_of}
 use Rattle.dp_pipe.specs.Running.{all_begun, begun, IsBegun, GoesForward, HeadersFail, IsHeaderCause, IsWriteCause}
+use Rattle.dp_pipe.proofs.Giving.{given_nothing}
 use Rattle.dp_pipe.proofs.Heading.{answers_at}
 
 -- ---- before the first round
@@ -69,10 +69,10 @@ run_none e = record {
 asked_none : (q : ℕ) → asked 0 0 q ≡ 0
 asked_none q = rw (le-ltb q 0 (omega arith)) refl
 
-pub along_none : (unit : TimeUnit) (e : EngineState) (olds news mids : List (Option (List ℕ))) (progress : List Progress)
+pub along_none : (unit : TimeUnit) (e : EngineState) (olds news mids : List Device) (progress : List Progress)
     → e.turns ≡ 0 → length mids ≡ length e.setting.env.ports → length progress ≡ length e.setting.env.ports →
     unit ≡ unit_for (units_of (all_begun progress)) → AllStand olds news progress (all_begun progress) → AllByRecursion IsBegun progress
-    → Along unit e e olds news mids mids progress (all_begun progress) 0 0
+    → Along unit e e (transfer olds news mids mids) progress (all_begun progress) 0 0
 along_none unit e olds news mids progress first many inputs_many unit_is stand begins = record {
   first = first;
   held_many = many;
@@ -86,10 +86,10 @@ along_none unit e olds news mids progress first many inputs_many unit_is stand b
   captures = replicate (length e.setting.env.ports) [];
   many = length-replicate (length e.setting.env.ports) [];
   run = subst (λ arrivals. HasRun e e arrivals (replicate (length e.setting.env.ports) [])) (sym (no_arrivals progress)) (run_none e);
-  wrote = λ port old new here there. rw (no_capture (length e.setting.env.ports) port, same_Some new old (sym there ∙ here)) (Appends-nil old);
+  wrote = λ port old new here there. rw (no_capture (length e.setting.env.ports) port, same_Some new old (sym there ∙ here)) (given_nothing old);
 }
 
--- what a list is behind a writing back
+-- a list after it is written back
 pub back : {A : Type 0} (n : ℕ) (new old : List A) → n ≡ length new → take n (new ++ old) ≡ new
 back {A = A} n new old e = rw e (front new)
   where
@@ -99,27 +99,24 @@ back {A = A} n new old e = rw e (front new)
 
 -- ---- headers that fail
 
-pub fail_read : (e : EngineState) (olds news held : List (Option (List ℕ))) (progress : List Progress) (cause : RunCause) → AllByRecursion IsBegun progress
-    → IsHeaderCause olds news cause → HeadersFail e e olds news held held progress (Err cause)
+pub fail_read : (e : EngineState) (olds news held : List Device) (progress : List Progress) (cause : RunCause) → AllByRecursion IsBegun progress
+    → IsHeaderCause olds news cause → HeadersFail e e (transfer olds news held held) progress (Err cause)
 fail_read e olds news held progress Memory begins is = absurd is
 fail_read e olds news held progress NoRoom begins is = absurd is
 fail_read e olds news held progress (Out port) begins is = absurd is
-fail_read e olds news held progress (In port error) begins is = (is, kept, begins, refl)
-  where
-    kept : (q : ℕ) (old new : Option (List ℕ)) → slice_get held q ≡ Some old → slice_get held q ≡ Some new → Keeps old new
-    kept q old new here there = subst (Keeps old) (same_Some old new (sym here ∙ there)) (Keeps-refl old)
+fail_read e olds news held progress (In port error) begins is = (is, refl, begins, refl)
 
-pub fail_write : (e : EngineState) (olds news held holds : List (Option (List ℕ))) (progress : List Progress) (cause : RunCause) →
+pub fail_write : (e : EngineState) (olds news held holds : List Device) (progress : List Progress) (cause : RunCause) →
     length progress ≡ length e.setting.env.ports → AreRead olds news (all_begun progress) → AllByRecursion IsBegun progress
-    → IsWriteCause (unit_for (units_of (all_begun progress))) held holds cause → HeadersFail e e olds news held holds progress (Err cause)
+    → IsWriteCause (unit_for (units_of (all_begun progress))) held holds cause → HeadersFail e e (transfer olds news held holds) progress (Err cause)
 fail_write e olds news held holds progress Memory many read begins is = absurd is
 fail_write e olds news held holds progress NoRoom many read begins is = absurd is
 fail_write e olds news held holds progress (In port error) many read begins is = absurd is
 fail_write e olds news held holds progress (Out port) many read begins is = (many, read, is, begins, refl)
 
--- ---- behind the last
+-- ---- after the last
 
--- an engine rests on what it did, and counts as many ports
+-- an engine keeps its setting, and counts as many ports
 pub record Stays (e e' : EngineState) : Type 0 where
   pub setting : e'.setting ≡ e.setting
   pub each : length e'.tallies ≡ length e.tallies
@@ -127,8 +124,8 @@ pub record Stays (e e' : EngineState) : Type 0 where
 stays_run : (e e' : EngineState) (arrivals : List (Arrival Time)) (captures : List (List (Time × List ℕ))) → HasRun e e' arrivals captures → Stays e e'
 stays_run e e' arrivals captures run = record { setting = ap (λ (x : EngineState). x.setting) run.stays; each = run.each }
 
-pub stays_failed : (unit : TimeUnit) (e e' : EngineState) (olds news held holds : List (Option (List ℕ))) (inputs : List Input) (port : ℕ) →
-    FailedAt unit e e' olds news held holds inputs port → Stays e e'
+pub stays_failed : (unit : TimeUnit) (e e' : EngineState) (olds news held holds : List Device) (inputs : List Input) (port : ℕ) →
+    FailedAt unit e e' (transfer olds news held holds) inputs port → Stays e e'
 stays_failed unit e e' olds news held holds inputs port f =
     let ran = stays_run e f.engine f.before f.captures f.run in
     let turn = f.turn.is in
@@ -141,17 +138,17 @@ stays_failed unit e e' olds news held holds inputs port f =
           ∙ ap (λ (x : EngineState). length x.tallies) turn ∙ length-set f.engine.tallies f.last.port _ ∙ ran.each;
     }
 
-pub stays_rounds : (unit : TimeUnit) (e e' : EngineState) (olds news held holds : List (Option (List ℕ))) (progress : List Progress)
-    (answer : Result ⊤ RunCause) → AreRounds unit e e' olds news held holds progress answer → Stays e e'
-stays_rounds unit e e' olds news held holds progress (Ok done) (inputs, states, went, over) = stays_run e e' _ _ went.run
+pub stays_rounds : (unit : TimeUnit) (e e' : EngineState) (olds news held holds : List Device) (progress : List Progress)
+    (answer : Result ⊤ RunCause) → AreRounds unit e e' (transfer olds news held holds) progress answer → Stays e e'
+stays_rounds unit e e' olds news held holds progress (Ok done) (inputs, states, went, read, over) = stays_run e e' _ _ went.run
 stays_rounds unit e e' olds news held holds progress (Err (In port error)) (inputs, states, went, fault) = stays_run e e' _ _ went.run
 stays_rounds unit e e' olds news held holds progress (Err (Out port)) (inputs, states, failed) = stays_failed unit e e' olds news held holds inputs port failed
 stays_rounds unit e e' olds news held holds progress (Err Memory) stops = absurd stops
 stays_rounds unit e e' olds news held holds progress (Err NoRoom) stops = absurd stops
 
--- a run of an engine that is open stops neither for memory nor for room
-pub not_before : (e e' : EngineState) (olds news held holds : List (Option (List ℕ))) (progress : List Progress) (cause : RunCause)
-    → GoesForward e e' olds news held holds progress (Err cause) → (cause ≡ Memory) ⊎ (cause ≡ NoRoom) → ⊥
+-- the run of an open engine stops neither for memory nor for room
+pub not_before : (e e' : EngineState) (olds news held holds : List Device) (progress : List Progress) (cause : RunCause)
+    → GoesForward e e' (transfer olds news held holds) progress (Err cause) → (cause ≡ Memory) ⊎ (cause ≡ NoRoom) → ⊥
 not_before e e' olds news held holds progress Memory (inl fails) why = absurd fails
 not_before e e' olds news held holds progress Memory (inr made) why = absurd made.rounds
 not_before e e' olds news held holds progress NoRoom (inl fails) why = absurd fails

@@ -14,7 +14,7 @@ use Rattle.dp_pipe.specs.declared.error.PipeError.TheVariants.{Memory, NotToml, 
 use Rattle.dp_pipe.specs.declared.error.RouteError.{RouteError}
 use Rattle.dp_pipe.specs.declared.error.RouteError.TheVariants as route
 
--- in the order in which they are looked for; memory has none
+-- in the order of the tests; memory has none
 abbrev pub number_of : PipeError → ℕ
 number_of Memory = 0
 number_of NotToml = 1
@@ -32,7 +32,7 @@ abbrev pub number_of_route : RouteError → ℕ
 number_of_route (route.Refused error) = lpm.number_of error
 number_of_route route.Unreadable = 6
 
--- ---- how they are shown
+-- ---- how they are displayed
 
 -- a kind of part
 abbrev pub part_text : Part → List ℕ
@@ -47,7 +47,7 @@ abbrev pub node_text : Entry → List ℕ
 node_text (entry.Port index) = codes "port " ++ decimal index
 node_text (entry.Ring index) = codes "ring " ++ decimal index
 
--- causes 1 to 7 as a number, a name, and where and why; 8 and 9 as what became of the node
+-- causes 1 to 7 as a number, a name, and where and why; 8 and 9 as the verdict on the node
 abbrev pub text_of : PipeError → List ℕ
 text_of Memory = codes "memory"
 text_of NotToml = codes "1 NotToml"

@@ -1,4 +1,4 @@
--- The configuration of a pipeline file, and why there is none.
+-- The configuration in a pipeline file, and why there is none.
 use Rattle.std.specs.Prelude.{◌≡◌, ℕ, min, List, [], ◌∷◌, length, map, take, slice_get, Option, Some, None, Ok, Err}
 use Rattle.std.specs.Str.{IsUtf8}
 use Rattle.toml.specs.Data.{Members}
@@ -13,15 +13,15 @@ use Rattle.dp_pipe.specs.Routes.{TakesAll, IsFirstRefused}
 use Rattle.dp_pipe.specs.Setup.{Setup, TablePart, PortPart, NodeFiles, setup_in}
 use Rattle.dp_pipe.specs.Views.{node_names, port_names}
 
--- the bytes are a TOML text, and this is its table
+-- the bytes are a TOML text with this table
 abbrev pub IsTable : List ℕ → Members → Type 0
 IsTable text top = IsUtf8 text × (parse_document text ≡ Some top)
 
--- the bytes are no TOML text
+-- the bytes are not a TOML text
 abbrev pub IsNotToml : List ℕ → Type 0
 IsNotToml text = IsUtf8 text → parse_document text ≡ None
 
--- the environment that a file asks for
+-- the environment in a file
 abbrev pub environment_of : Setup → Environment
 environment_of s = record { pools = s.pools; tables = min (length s.tables) 255; rings = map (λ r. r.spec) s.rings; ports = map (λ p. p.spec) s.ports }
 
@@ -33,22 +33,22 @@ names_of_port p = (p.files, p.input, p.output)
 abbrev pub empty_of : TablePart → RouteTable
 empty_of t = record { routes = []; max_rules = t.rules; groups = t.groups }
 
--- the table holds the routes of its list, added one after the other
+-- the table has the routes of its list, added one after the other
 abbrev pub Holds : TablePart → RouteTable → Type 0
 Holds t table = TakesAll (empty_of t) table t.routes
 
--- each table holds the routes of its list
+-- each table has the routes of its list
 abbrev pub HoldAll : List TablePart → List RouteTable → Type 0
 HoldAll [] [] = Unit {0}
 HoldAll (t ∷ ts) (table ∷ tables) = Holds t table × HoldAll ts tables
 HoldAll _ _ = ⊥
 
--- the route is the first of the table of this index that is refused
+-- the first route of the table with this index that is refused
 abbrev pub IsRouteFault : Option TablePart → ℕ → RouteError → Type 0
 IsRouteFault None route cause = ⊥
 IsRouteFault (Some t) route cause = IsFirstRefused (empty_of t) t.routes route cause
 
--- the tables before that of the index hold their routes, and this is its first route that is refused
+-- the tables before this index have their routes, and this is its first route that is refused
 pub record IsTableFault (ts : List TablePart) (index route : ℕ) (cause : RouteError) : Type 0 where
   pub filled : List RouteTable
   pub before : HoldAll (take index ts) filled
@@ -63,7 +63,7 @@ pub record IsConfig (s : Setup) (c : Config) : Type 0 where
   pub ports : map port_names c.ports.items ≡ map names_of_port s.ports
   pub rings : map node_names c.rings.items ≡ map (λ r. r.files) s.rings
 
--- why there is no configuration of a setup
+-- why a setup has no configuration
 abbrev pub IsSetupFault : Setup → PipeError → Type 0
 IsSetupFault s Memory = Unit {0}
 IsSetupFault s (BadEnv cause) = fault_of (environment_of s) ≡ Some cause
@@ -78,7 +78,7 @@ pub record IsConfigOf (text : List ℕ) (c : Config) : Type 0 where
   pub reads : setup_in top ≡ Ok setup
   pub config : IsConfig setup c
 
--- there is a table of the text, and this holds of its setup
+-- the text has a table, whose setup satisfies this
 pub record HasSetup (text : List ℕ) (P : Setup → Type 0) : Type 0 where
   pub top : Members
   pub setup : Setup
@@ -86,41 +86,41 @@ pub record HasSetup (text : List ℕ) (P : Setup → Type 0) : Type 0 where
   pub reads : setup_in top ≡ Ok setup
   pub holds : P setup
 
--- why there is no configuration of a text
+-- why a text has no configuration; that it is not UTF-8 is found without memory
 abbrev pub IsFaultOf : List ℕ → PipeError → Type 0
-IsFaultOf text Memory = Unit {0}
+IsFaultOf text Memory = IsUtf8 text
 IsFaultOf text NotToml = IsNotToml text
 IsFaultOf text (BadKey kind index) = (top : Members) × IsTable text top × (setup_in top ≡ Err (kind, index))
 IsFaultOf text (BadEnv cause) = HasSetup text (λ s. IsSetupFault s (BadEnv cause))
 IsFaultOf text (BadTable table route cause) = HasSetup text (λ s. IsSetupFault s (BadTable table route cause))
 IsFaultOf text _ = ⊥
 
--- ---- the parts of the above that single calls answer
+-- ---- the parts of this that single calls return
 
--- why there is no table of a text
+-- why a text has no table
 abbrev pub IsTextFault : List ℕ → PipeError → Type 0
-IsTextFault text Memory = Unit {0}
+IsTextFault text Memory = IsUtf8 text
 IsTextFault text NotToml = IsNotToml text
 IsTextFault text _ = ⊥
 
--- there is such an environment, and this is it
+-- the environment is accepted, and this is it
 pub record IsEnv (s : Setup) (e : Environment) : Type 0 where
   pub fits : fault_of (environment_of s) ≡ None
   pub same : e ≡ environment_of s
 
--- why there is no such environment
+-- why the environment is refused
 abbrev pub IsEnvFault : Setup → PipeError → Type 0
 IsEnvFault s Memory = Unit {0}
 IsEnvFault s (BadEnv cause) = fault_of (environment_of s) ≡ Some cause
 IsEnvFault s _ = ⊥
 
--- why the table of an index does not hold its routes
+-- why a table does not have its routes
 abbrev pub IsFillFault : ℕ → TablePart → PipeError → Type 0
 IsFillFault index t Memory = Unit {0}
 IsFillFault index t (BadTable table route cause) = (table ≡ index) × IsFirstRefused (empty_of t) t.routes route cause
 IsFillFault index t _ = ⊥
 
--- why the tables do not all hold their routes
+-- why not all tables have their routes
 abbrev pub IsTablesFault : List TablePart → PipeError → Type 0
 IsTablesFault ts Memory = Unit {0}
 IsTablesFault ts (BadTable table route cause) = IsTableFault ts table route cause

@@ -1,31 +1,58 @@
--- Readers and writers that fail: which of them an answer names, and what becomes of each.
-use Rattle.std.specs.Prelude.{◌≡◌, ◌≢◌, ℕ, ◌+◌, ◌==◌, ◌||◌, if◌then◌else◌, Bool, false, List, slice_get, Some, Result, Ok, Err}
+-- Readers and writers: what a run sees of them, what each was given, and which of them fail.
+use Rattle.std.specs.Prelude.{◌≡◌, ◌≢◌, ℕ, ◌+◌, ◌≤◌, ◌==◌, ◌||◌, if◌then◌else◌, Bool, false, List, length, slice_get, Option, Some, Result, Ok, Err}
 use Rattle.std.specs.List.{AllByRecursion}
+use Rattle.std.specs.Io.KnownBytes.{Appends}
+use Rattle.dp_pcap.specs.Text.{AppendsPart}
 use Rattle.dp_pcap.specs.declared.error.PcapError.TheVariants.{Read}
 use Rattle.dp_pipe.specs.declared.forwarding.RunCause.{RunCause}
 use Rattle.dp_pipe.specs.declared.forwarding.RunCause.TheVariants.{In, Out}
 
+-- ---- what a run sees of them
+
+-- a reader or a writer: the bytes that it has left, or that it holds, where they are known, and the number of its calls
+pub record Device : Type 0 where
+  pub bytes : Option (List ℕ)
+  pub calls : ℕ
+
+abbrev pub seen : {D : Type 0} → (D → Option (List ℕ)) → (D → ℕ) → D → Device
+seen bytes calls d = record { bytes = bytes d; calls = calls d }
+
+-- the devices of a run, one for each port: what each reader had and has left, and what each writer held and holds
+pub record Transfer : Type 0 where
+  pub had : List Device
+  pub left : List Device
+  pub held : List Device
+  pub holds : List Device
+
+abbrev pub transfer : List Device → List Device → List Device → List Device → Transfer
+transfer had left held holds = record { had = had; left = left; held = held; holds = holds }
+
+-- a writer was given these bytes, with at most one call for each
+pub record IsGiven (old new : Device) (bytes : List ℕ) : Type 0 where
+  pub grown : Appends old.bytes new.bytes bytes
+  pub calls : new.calls ≤ old.calls + length bytes
+
+-- it failed inside these bytes: it was given a proper front of them
+pub record IsGivenPart (old new : Device) (bytes : List ℕ) : Type 0 where
+  pub grown : AppendsPart old.bytes new.bytes bytes
+  pub calls : new.calls ≤ old.calls + length bytes
+
+-- this holds of the device of a port, before and after
+abbrev pub At : List Device → List Device → ℕ → (Device → Device → Type 0) → Type 0
+At olds news port P = (old new : Device) → slice_get olds port ≡ Some old → slice_get news port ≡ Some new → P old new
+
 -- ---- which one failed
 
--- whether a cause is that the reader of a port failed, and whether it is that its writer did
-abbrev pub is_read_of : RunCause → ℕ → Bool
-is_read_of (In port Read) q = q == port
-is_read_of cause q = false
-
-abbrev pub is_write_of : RunCause → ℕ → Bool
-is_write_of (Out port) q = q == port
-is_write_of cause q = false
-
--- whether an answer has such a cause
+-- whether a result is that the reader of a port failed, and whether it is that its writer did
 abbrev pub failed_reader : {A : Type 0} → Result A RunCause → ℕ → Bool
-failed_reader (Ok done) q = false
-failed_reader (Err cause) q = is_read_of cause q
+failed_reader (Err (In port Read)) q = q == port
+failed_reader answer q = false
 
 abbrev pub failed_writer : {A : Type 0} → Result A RunCause → ℕ → Bool
-failed_writer (Ok done) q = false
-failed_writer (Err cause) q = is_write_of cause q
+failed_writer (Err (Out port)) q = q == port
+failed_writer answer q = false
 
--- whether it was at the writer of a port that drains stopped
+-- whether drains stopped at the writer of a port
 abbrev pub failed_drain : {A : Type 0} → Result A ℕ → ℕ → Bool
 failed_drain (Ok done) q = false
 failed_drain (Err port) q = q == port
@@ -36,17 +63,17 @@ failed_drain (Err port) q = q == port
 abbrev pub AllSound : {D : Type 0} → (D → Bool) → List D → Type 0
 AllSound is_broken devices = AllByRecursion (λ d. is_broken d ≡ false) devices
 
--- A device that failed, or not: it is broken where it failed or was broken before, and one call of it failed, or none.
+-- A device after its calls: it is broken if it was before or failed now, and one of its calls failed, or none.
 pub record Fared {D : Type 0} (is_broken : D → Bool) (failures : D → ℕ) (failed : Bool) (old new : D) : Type 0 where
   pub broken : is_broken new ≡ (failed || is_broken old)
   pub count : failures new ≡ failures old + (if failed then 1 else 0)
 
--- each device of a list fared so: those at these indexes failed, and no other one
+-- each device of a list so: those at these indexes failed, and no others
 abbrev pub AllFared : {D : Type 0} → (D → Bool) → (D → ℕ) → (ℕ → Bool) → List D → List D → Type 0
 AllFared {D} is_broken failures failed olds news =
     (q : ℕ) (old new : D) → slice_get olds q ≡ Some old → slice_get news q ≡ Some new → Fared is_broken failures (failed q) old new
 
--- the device of a port fared so, and no other failed
+-- the device of a port so, and no other failed
 pub record FaredAlone {D : Type 0} (is_broken : D → Bool) (failures : D → ℕ) (failed : ℕ → Bool) (port : ℕ) (old new : D) : Type 0 where
   pub own : Fared is_broken failures (failed port) old new
   pub others : (q : ℕ) → q ≢ port → failed q ≡ false

@@ -9,12 +9,12 @@ FileMap = List ℕ → Option (List ℕ)
 abbrev pub longest_file : ℕ
 longest_file = 1048576
 
--- the bytes, where there are some and not too many
+-- the bytes, if there are some and not too many
 abbrev pub if_short : Option (List ℕ) → Option (List ℕ)
 if_short None = None
 if_short (Some bytes) = if nat_le (length bytes) longest_file then Some bytes else None
 
--- the bytes of a file that is there and is not too long
+-- the bytes of a file that exists and is not too long
 abbrev pub fetched : FileMap → List ℕ → Option (List ℕ)
 fetched files name = if_short (files name)
 
@@ -22,7 +22,7 @@ fetched files name = if_short (files name)
 abbrev pub HasBytes : Option FileMap → List ℕ → List ℕ → Type 0
 HasBytes known name bytes = (files : FileMap) → known ≡ Some files → files name ≡ Some bytes
 
--- where the files are known, there is none of this name
+-- where the files are known, none has this name
 abbrev pub HasNone : Option FileMap → List ℕ → Type 0
 HasNone known name = (files : FileMap) → known ≡ Some files → files name ≡ None
 
@@ -30,6 +30,6 @@ HasNone known name = (files : FileMap) → known ≡ Some files → files name �
 abbrev pub IsFile : Option FileMap → List ℕ → List ℕ → Type 0
 IsFile known name bytes = (files : FileMap) → known ≡ Some files → fetched files name ≡ Some bytes
 
--- where the files are known, there is none of this name, or it is too long
+-- where the files are known, none has this name, or it is too long
 abbrev pub IsNoFile : Option FileMap → List ℕ → Type 0
 IsNoFile known name = (files : FileMap) → known ≡ Some files → fetched files name ≡ None

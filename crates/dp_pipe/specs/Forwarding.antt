@@ -3,8 +3,7 @@ use Rattle.std.specs.Prelude.{◌≡◌, ◌≢◌, ℕ, zero, suc, ◌+◌, ◌
 use Rattle.std.specs.Prelude.{flat_map, take, Option, Some, slice_get, Result, Ok, Err, ⊤}
 use Rattle.std.specs.List.{list_any, AllByRecursion}
 use Rattle.std.specs.Option.{option_map_or}
-use Rattle.std.specs.Io.KnownBytes.{Appends}
-use Rattle.dp_pcap.specs.declared.format.TheConstants.{MOST_RECORDS}
+use Rattle.dp_pcap.specs.declared.format.TheConstants.{HEAD_SIZE, LARGEST_RECORD, MOST_RECORDS}
 use Rattle.dp_pcap.specs.declared.time.Time.{Time}
 use Rattle.dp_pcap.specs.declared.time.Unit.{Unit as TimeUnit}
 use Rattle.dp_pcap.specs.declared.time.Unit.TheVariants.{Micro, Nano}
@@ -13,11 +12,11 @@ use Rattle.dp_pcap.specs.declared.error.PcapError.TheVariants.{Read}
 use Rattle.dp_pcap.specs.Standing.{Standing}
 use Rattle.dp_pcap.specs.Capture.{PacketRecord, IsCapture}
 use Rattle.dp_pcap.specs.Capture as capture
-use Rattle.dp_pcap.specs.Source.{WhereKnown, HasRead, FailsBehind, Continues, IsInRange, Moves}
+use Rattle.dp_pcap.specs.Source.{WhereKnown, HasRead, FailsBehind, Continues, IsInRange, Moves, most_pulls}
 use Rattle.dp_pcap.specs.declared.source.Next.{Next}
 use Rattle.dp_pcap.specs.declared.source.Next.TheVariants.{Record, End}
 use Rattle.dp_pcap.specs.declared.source.Next.TheVariants as next
-use Rattle.dp_pcap.specs.Text.{record_text}
+use Rattle.dp_pcap.specs.Text.{text, record_text}
 use Rattle.dp_model.specs.Packets.{Packet}
 use Rattle.dp_model.specs.Machine.{World}
 use Rattle.dp_model.specs.Runs.{Arrival, Outcome, Turn, Run, records_at, interleaved}
@@ -27,6 +26,7 @@ use Rattle.dp_engine.specs.declared.report.Tallies.{Tallies}
 use Rattle.dp_engine.specs.Drains.{captured, WrotePart}
 use Rattle.dp_engine.specs.Tallies.{counted}
 use Rattle.dp_engine.specs.Engines.{EngineState, tallies_at, counted_at, drained}
+use Rattle.dp_pipe.specs.Devices.{Device, Transfer, IsGiven, At}
 use Rattle.dp_pipe.specs.declared.forwarding.RunCause.{RunCause}
 use Rattle.dp_pipe.specs.declared.forwarding.RunCause.TheVariants.{In, Out}
 use Rattle.dp_pipe.specs.declared.forwarding.Progress.{Progress}
@@ -39,30 +39,37 @@ pub record Input : Type 0 where
   pub records : List PacketRecord
   pub state : InputState
 
--- the bytes are a header, these records, and more
-abbrev pub BeginsAs : List ℕ → TimeUnit → List PacketRecord → Type 0
-BeginsAs bytes unit records = (s : Standing) × (rest : List ℕ) × HasRead bytes s records rest × (s.unit ≡ unit)
+-- bytes of which this was read, and no more if the input is open: the rest is left
+abbrev pub Gives : InputState → TimeUnit → List PacketRecord → List ℕ → List ℕ → Type 0
+Gives Open unit records bytes rest = (s : Standing) × HasRead bytes s records rest × (s.unit ≡ unit)
+Gives Whole unit records bytes rest = IsCapture bytes unit records capture.Ending.Whole
+Gives (Cut byte) unit records bytes rest = IsCapture bytes unit records (capture.Ending.Cut byte)
 
--- bytes of which this was read
-abbrev pub Gives : InputState → TimeUnit → List PacketRecord → List ℕ → Type 0
-Gives Open unit records bytes = BeginsAs bytes unit records
-Gives Whole unit records bytes = IsCapture bytes unit records capture.Ending.Whole
-Gives (Cut byte) unit records bytes = IsCapture bytes unit records (capture.Ending.Cut byte)
+-- the most calls of a reader that find the end of its input
+abbrev pub last_pulls : InputState → ℕ
+last_pulls Open = 0
+last_pulls Whole = 1
+last_pulls (Cut byte) = HEAD_SIZE + LARGEST_RECORD
 
--- the bytes that each reader had, as far as they are known, and these inputs
-abbrev pub AreRead : List (Option (List ℕ)) → List (Option (List ℕ)) → List Input → Type 0
-AreRead olds news inputs =
-    (port : ℕ) (i : Input) (old new : Option (List ℕ)) → slice_get inputs port ≡ Some i → slice_get olds port ≡ Some old → slice_get news port ≡ Some new
-    → WhereKnown old new (λ bytes rest. Gives i.state i.unit i.records bytes)
+-- this input was read, with at most one call for each byte of its header and its records, and those that find its end
+pub record IsRead (i : Input) (old new : Device) : Type 0 where
+  pub gives : WhereKnown old.bytes new.bytes (Gives i.state i.unit i.records)
+  pub calls : new.calls ≤ old.calls + length (text i.unit i.records) + last_pulls i.state
 
--- of these bytes a header and these records were read; then less than a whole record came, and the rest is left
-abbrev pub BreaksOff : TimeUnit → List PacketRecord → List ℕ → List ℕ → Type 0
-BreaksOff unit records bytes rest = (s : Standing) × (s.unit ≡ unit) × FailsBehind bytes s records rest
+-- each of these inputs was read
+abbrev pub AreRead : List Device → List Device → List Input → Type 0
+AreRead had left inputs = (port : ℕ) (i : Input) → slice_get inputs port ≡ Some i → At had left port (IsRead i)
 
--- of these bytes a header and these records were read, and then comes a fault: the reader failed inside what follows, or that is refused
+-- a header and these records of these bytes were read, and then comes a fault: the reader failed within the next record, and the rest is left; or
+-- what follows is refused
 abbrev pub Refuses : TimeUnit → List PacketRecord → PcapError → List ℕ → List ℕ → Type 0
-Refuses unit records Read bytes rest = BreaksOff unit records bytes rest
+Refuses unit records Read bytes rest = (s : Standing) × (s.unit ≡ unit) × FailsBehind bytes s records rest
 Refuses unit records error bytes rest = IsCapture bytes unit records (capture.Ending.Refused error)
+
+-- this input was read up to a fault, with at most one call for each byte of its header, its records, and one record more
+pub record IsReadTo (i : Input) (error : PcapError) (old new : Device) : Type 0 where
+  pub refuses : WhereKnown old.bytes new.bytes (Refuses i.unit i.records error)
+  pub calls : new.calls ≤ old.calls + length (text i.unit i.records) + (HEAD_SIZE + LARGEST_RECORD)
 
 -- nanoseconds if any input has them, else microseconds
 abbrev pub is_nano : TimeUnit → Bool
@@ -75,21 +82,18 @@ unit_for units = if list_any is_nano units then Nano else Micro
 abbrev pub units_of : List Input → List TimeUnit
 units_of inputs = map (λ (i : Input). i.unit) inputs
 
--- the records of inputs as they come to a run: record k of each port, in port order, round by round
-abbrev pub timed : PacketRecord → Time × List ℕ
-timed p = (p.time, p.bytes)
-
+-- the records of inputs in the order of a run: record k of each port, in port order, round by round
 abbrev pub records_in : Input → List (Time × List ℕ)
-records_in i = map timed i.records
+records_in i = map (λ (r : PacketRecord). (r.time, r.bytes)) i.records
 
 abbrev pub arrivals_of : List Input → List (Arrival Time)
 arrivals_of inputs = interleaved (map records_in inputs)
 
--- how many records each input was asked for when this port comes next in a round
+-- how often each input was read when this port comes next in a round
 abbrev pub asked : ℕ → ℕ → ℕ → ℕ
 asked round port q = if nat_lt q port then round + 1 else round
 
--- an input that is open gave a record each time that it was asked, and one that has ended did not at last
+-- an open input gave a record each time, and one that has ended did not the last time
 abbrev pub AnswersSo : InputState → ℕ → ℕ → Type 0
 AnswersSo Open given wanted = given ≡ wanted
 AnswersSo Whole given wanted = given < wanted
@@ -97,12 +101,11 @@ AnswersSo (Cut byte) given wanted = given < wanted
 
 -- all inputs were asked in turn until this port comes next in this round
 abbrev pub AskedUntil : ℕ → ℕ → List Input → Type 0
-AskedUntil round port inputs =
-    (q : ℕ) (i : Input) → slice_get inputs q ≡ Some i → AnswersSo i.state (length i.records) (asked round port q)
+AskedUntil round port inputs = (q : ℕ) (i : Input) → slice_get inputs q ≡ Some i → AnswersSo i.state (length i.records) (asked round port q)
 
 -- ---- runs of an engine
 
--- what was counted of a port in a run with these outcomes
+-- the counts of a port in a run with these outcomes
 abbrev pub tally_of : ℕ → List (Arrival Time) → List Outcome → Tallies → Tallies
 tally_of port [] outcomes t = t
 tally_of port (a ∷ arrivals) [] t = t
@@ -112,7 +115,7 @@ tally_of port (a ∷ arrivals) (o ∷ outcomes) t = tally_of port arrivals outco
 abbrev pub capture_of : List (Time × List ℕ) → List PacketRecord
 capture_of records = map captured records
 
--- from one engine to a later one there was a run on these arrivals, with these captures, and it was counted
+-- a run on these arrivals, with these captures, leads from one engine to a later one, and was counted
 pub record HasRun (e e' : EngineState) (arrivals : List (Arrival Time)) (captures : List (List (Time × List ℕ))) : Type 0 where
   pub answers : List Bool
   pub outcomes : List Outcome
@@ -126,7 +129,7 @@ pub record HasRun (e e' : EngineState) (arrivals : List (Arrival Time)) (capture
 
 -- the capture of a port in a run, as it is written
 abbrev pub capture_at : List (List (Time × List ℕ)) → ℕ → List PacketRecord
-capture_at captures port = option_map_or capture_of (slice_get captures port) []
+capture_at captures port = option_map_or (map captured) (slice_get captures port) []
 
 -- ---- outputs
 
@@ -134,40 +137,35 @@ capture_at captures port = option_map_or capture_of (slice_get captures port) []
 abbrev pub records_text : TimeUnit → List PacketRecord → List ℕ
 records_text unit records = flat_map (record_text unit) records
 
--- each writer was given the records that stand at its port, as far as its bytes are known
-abbrev pub AreWritten : TimeUnit → List (Option (List ℕ)) → List (Option (List ℕ)) → (ℕ → List PacketRecord) → Type 0
-AreWritten unit olds news records =
-    (port : ℕ) (old new : Option (List ℕ)) → slice_get olds port ≡ Some old → slice_get news port ≡ Some new →
-    Appends old new (records_text unit (records port))
+-- each writer was given the records of its port
+abbrev pub AreWritten : TimeUnit → List Device → List Device → (ℕ → List PacketRecord) → Type 0
+AreWritten unit held holds records = (port : ℕ) → At held holds port (λ old new. IsGiven old new (records_text unit (records port)))
 
--- ---- how a run goes
+-- ---- the course of a run
 
--- The run has read these inputs, one for each port, and ran on their records: each turn and each drain, and all was written, in
--- nanoseconds if any input has them.
-pub record Went (unit : TimeUnit) (e e' : EngineState) (olds news : List (Option (List ℕ))) (held holds : List (Option (List ℕ))) (inputs : List Input) : Type
-    0 where
+-- The run was on the records of these inputs, one for each port: each turn and each drain, and everything was written, in nanoseconds if any input
+-- has them.
+pub record Went (unit : TimeUnit) (e e' : EngineState) (held holds : List Device) (inputs : List Input) : Type 0 where
   pub inputs_many : length inputs ≡ length e.setting.env.ports
   pub unit_is : unit ≡ unit_for (units_of inputs)
-  pub read : AreRead olds news inputs
   pub captures : List (List (Time × List ℕ))
   pub many : length captures ≡ length e.setting.env.ports
   pub run : HasRun e e' (arrivals_of inputs) captures
   pub wrote : AreWritten unit held holds (capture_at captures)
 
--- the input of this port has a fault behind its records, and the others were asked in their turn
-pub record HasFault (olds news : List (Option (List ℕ))) (inputs : List Input) (port : ℕ) (error : PcapError) : Type 0 where
+-- the input of this port has a fault after its records, and the others were read in their turn
+pub record HasFault (had left : List Device) (inputs : List Input) (port : ℕ) (error : PcapError) : Type 0 where
   pub round : ℕ
   pub order : AskedUntil round port inputs
   pub input : Input
   pub input_is : slice_get inputs port ≡ Some input
   pub is_open : input.state ≡ Open
-  pub fault : (old new : Option (List ℕ)) → slice_get olds port ≡ Some old → slice_get news port ≡ Some new
-      → WhereKnown old new (λ bytes rest. Refuses input.unit input.records error bytes rest)
+  pub fault : At had left port (IsReadTo input error)
+  pub others : (q : ℕ) (i : Input) → q ≢ port → slice_get inputs q ≡ Some i → At had left q (IsRead i)
 
-abbrev pub is_over : InputState → Bool
-is_over Open = false
-is_over Whole = true
-is_over (Cut byte) = true
+-- every input has ended
+abbrev pub AreOver : List Input → Type 0
+AreOver inputs = AllByRecursion (λ (i : Input). i.state ≢ Open) inputs
 
 -- ---- turns and drains of a run
 
@@ -181,12 +179,12 @@ pub record TakesTurn (port : ℕ) (e e' : EngineState) (bytes : List ℕ) : Type
   -- each port has its transmit list
   pub lists : length e'.world.outboxes ≡ length e'.setting.env.ports
 
--- behind a record there was a turn with its bytes, and behind anything else none
+-- after a record there was a turn with its bytes, and after anything else none
 abbrev pub TurnsOn : ℕ → EngineState → EngineState → List ℕ → Result Next PcapError → Type 0
 TurnsOn port e e' bytes (Ok (Record time len)) = (len ≤ length bytes) × TakesTurn port e e' (take len bytes)
 TurnsOn port e e' bytes answer = e' ≡ e
 
--- what comes next in a capture was read, and where it is a record a turn was taken
+-- what comes next in a capture was read, and if it is a record a turn was taken
 abbrev pub ReadsTurn : ℕ → EngineState → EngineState → Standing → Standing → Option (List ℕ) → Option (List ℕ) → Result Next PcapError → Type 0
 ReadsTurn port e e' source source' a b answer =
     (bytes : List ℕ) × WhereKnown a b (λ left rest. Continues source source' left rest bytes answer) × TurnsOn port e e' bytes answer
@@ -195,16 +193,15 @@ ReadsTurn port e e' source source' a b answer =
 abbrev pub drained_at : Time → World → ℕ → List PacketRecord
 drained_at time w port = capture_at (records_at time w) port
 
--- the first so many transmit lists are empty
+-- the first n transmit lists are empty
 abbrev pub emptied : ℕ → List (List Packet) → List (List Packet)
 emptied zero lists = lists
 emptied (suc n) [] = []
 emptied (suc n) (packets ∷ lists) = [] ∷ emptied n lists
 
--- the drains of the first so many ports: what each wrote, and what was counted of it
-pub record DrainedFirst (n : ℕ) (unit : TimeUnit) (time : Time) (e e' : EngineState) (held holds : List (Option (List ℕ))) : Type 0 where
-  pub wrote : (q : ℕ) (old new : Option (List ℕ)) → slice_get held q ≡ Some old → slice_get holds q ≡ Some new
-      → Appends old new (if nat_lt q n then records_text unit (drained_at time e.world q) else [])
+-- the drains of the first n ports: what each wrote, and what was counted of it
+pub record DrainedFirst (n : ℕ) (unit : TimeUnit) (time : Time) (e e' : EngineState) (held holds : List Device) : Type 0 where
+  pub wrote : (q : ℕ) → At held holds q (λ old new. IsGiven old new (if nat_lt q n then records_text unit (drained_at time e.world q) else []))
   pub is : e' ≡ record e { world = record e.world { outboxes = emptied n e.world.outboxes }; tallies = e'.tallies }
   pub each : length e'.tallies ≡ length e.tallies
   pub tallies : (q : ℕ) → q < length e.setting.env.ports
@@ -214,22 +211,26 @@ pub record DrainedFirst (n : ℕ) (unit : TimeUnit) (time : Time) (e e' : Engine
       }
 
 -- the drains of all ports
-abbrev pub DrainedAll : TimeUnit → Time → EngineState → EngineState → List (Option (List ℕ)) → List (Option (List ℕ)) → Type 0
+abbrev pub DrainedAll : TimeUnit → Time → EngineState → EngineState → List Device → List Device → Type 0
 DrainedAll unit time e e' held holds = DrainedFirst (length e.setting.env.ports) unit time e e' held holds
 
--- the writer of a port failed in the drains: those before it wrote all, it a part, and those behind it nothing
-pub record DrainsStopped (unit : TimeUnit) (time : Time) (e e' : EngineState) (held holds : List (Option (List ℕ))) (port : ℕ) : Type 0 where
+-- n records were written whole, and a part of the next, with at most one call for each byte
+pub record DrainedPart (unit : TimeUnit) (records : List PacketRecord) (sent : ℕ) (old new : Device) : Type 0 where
+  pub part : WrotePart old.bytes new.bytes unit records sent
+  pub calls : new.calls ≤ old.calls + length (records_text unit (take (sent + 1) records))
+
+-- the writer of a port failed in the drains: those before it wrote everything, it a part, and those after it nothing
+pub record DrainsStopped (unit : TimeUnit) (time : Time) (e e' : EngineState) (held holds : List Device) (port : ℕ) : Type 0 where
   pub there : port < length e.setting.env.ports
   pub engine : EngineState
-  pub mids : List (Option (List ℕ))
+  pub mids : List Device
   pub first : DrainedFirst port unit time e engine held mids
   pub others : (q : ℕ) → q ≢ port → slice_get holds q ≡ slice_get mids q
   pub whole : ℕ
-  pub own : (old new : Option (List ℕ)) → slice_get held port ≡ Some old → slice_get holds port ≡ Some new →
-      WrotePart old new unit (drained_at time e.world port) whole
+  pub own : At held holds port (DrainedPart unit (drained_at time e.world port) whole)
   pub is : e' ≡ drained port whole engine
 
--- ---- how inputs stand while a run goes on
+-- ---- inputs during a run
 
 -- what a source has read of an input
 abbrev pub HasReadSo : InputState → Standing → List PacketRecord → List ℕ → List ℕ → Type 0
@@ -249,11 +250,15 @@ pub record Stands (p : Progress) (i : Input) : Type 0 where
   pub goes_on : IsGoingOn i.state p.source (length i.records)
   pub few : length i.records ≤ MOST_RECORDS
 
-pub record AllStand (olds news : List (Option (List ℕ))) (progress : List Progress) (inputs : List Input) : Type 0 where
+-- this input was read by a source, with at most this many calls
+pub record IsReadBy (i : Input) (source : Standing) (old new : Device) : Type 0 where
+  pub has : WhereKnown old.bytes new.bytes (HasReadSo i.state source i.records)
+  pub calls : new.calls ≤ old.calls + length (text i.unit i.records) + last_pulls i.state
+
+pub record AllStand (had left : List Device) (progress : List Progress) (inputs : List Input) : Type 0 where
   pub many : length progress ≡ length inputs
   pub each : (q : ℕ) (p : Progress) (i : Input) → slice_get progress q ≡ Some p → slice_get inputs q ≡ Some i → Stands p i
-  pub read : (q : ℕ) (p : Progress) (i : Input) (old new : Option (List ℕ)) → slice_get progress q ≡ Some p → slice_get inputs q ≡ Some i
-      → slice_get olds q ≡ Some old → slice_get news q ≡ Some new → WhereKnown old new (λ bytes rest. HasReadSo i.state p.source i.records bytes rest)
+  pub read : (q : ℕ) (p : Progress) (i : Input) → slice_get progress q ≡ Some p → slice_get inputs q ≡ Some i → At had left q (IsReadBy i p.source)
 
 -- how many records all inputs have given
 abbrev pub records_many : List Input → ℕ
@@ -261,24 +266,23 @@ records_many [] = 0
 records_many (i ∷ inputs) = length i.records + records_many inputs
 
 -- a run from an engine before its first turn to another one, in a round in which a port comes next
-pub record Along (unit : TimeUnit) (e e' : EngineState) (olds news held holds : List (Option (List ℕ))) (progress : List Progress) (inputs : List Input)
-    (round port : ℕ) : Type 0 where
+pub record Along (unit : TimeUnit) (e e' : EngineState) (t : Transfer) (progress : List Progress) (inputs : List Input) (round port : ℕ) : Type 0 where
   pub first : e.turns ≡ 0
-  pub held_many : length held ≡ length e.setting.env.ports
+  pub held_many : length t.held ≡ length e.setting.env.ports
   pub inputs_many : length inputs ≡ length e.setting.env.ports
   pub unit_is : unit ≡ unit_for (units_of inputs)
-  pub stand : AllStand olds news progress inputs
+  pub stand : AllStand t.had t.left progress inputs
   pub order : AskedUntil round port inputs
   pub total : length (arrivals_of inputs) ≡ records_many inputs
   pub captures : List (List (Time × List ℕ))
   pub many : length captures ≡ length e.setting.env.ports
   pub run : HasRun e e' (arrivals_of inputs) captures
-  pub wrote : AreWritten unit held holds (capture_at captures)
+  pub wrote : AreWritten unit t.held t.holds (capture_at captures)
 
 -- ---- one step of a run
 
--- what follows an answer of an input: behind a record all ports are drained
-abbrev pub Follows : ℕ → TimeUnit → EngineState → EngineState → InputState → List (Option (List ℕ)) → List (Option (List ℕ)) → Result Next PcapError →
+-- what follows the result of an input: after a record all ports are drained
+abbrev pub Follows : ℕ → TimeUnit → EngineState → EngineState → InputState → List Device → List Device → Result Next PcapError →
     Result ⊤ RunCause → Type 0
 Follows port unit e e' state held holds (Ok (Record time len)) (Ok done) = (state ≡ Open) × DrainedAll unit time e e' held holds
 Follows port unit e e' state held holds (Ok (Record time len)) (Err cause) =
@@ -287,25 +291,24 @@ Follows port unit e e' state held holds (Ok End) answer = (state ≡ Whole) × (
 Follows port unit e e' state held holds (Ok (next.Cut byte)) answer = (state ≡ Cut byte) × (answer ≡ Ok tt) × (e' ≡ e) × (holds ≡ held)
 Follows port unit e e' state held holds (Err error) answer = (state ≡ Open) × (answer ≡ Err (In port error)) × (e' ≡ e) × (holds ≡ held)
 
--- an input that is open is asked for what comes next
-pub record Advances (port : ℕ) (unit : TimeUnit) (e e' : EngineState) (p p' : Progress) (old new : Option (List ℕ)) (held holds : List (Option (List ℕ)))
+-- an open input is read
+pub record Advances (port : ℕ) (unit : TimeUnit) (e e' : EngineState) (p p' : Progress) (old new : Device) (held holds : List Device)
     (answer : Result ⊤ RunCause) : Type 0 where
   pub next : Result Next PcapError
-  -- behind the turn
+  -- after the turn
   pub engine : EngineState
-  pub read : ReadsTurn port e engine p.source p'.source old new next
+  pub read : ReadsTurn port e engine p.source p'.source old.bytes new.bytes next
+  pub pulls : new.calls ≤ old.calls + most_pulls next
   pub in_range : IsInRange p.source next
   pub moves : Moves p.source p'.source next
   pub follows : Follows port unit engine e' p'.state held holds next answer
 
--- A writer failed in the drains behind a turn. There was a run on all records but the last, all of which was written; then a
--- turn with the last; and then the drains behind it, in port order, of which that of a port stopped. Until then the inputs were
--- asked in turn.
-pub record FailedAt (unit : TimeUnit) (e e' : EngineState) (olds news : List (Option (List ℕ))) (held holds : List (Option (List ℕ))) (inputs : List Input)
-    (port : ℕ) : Type 0 where
+-- A writer failed in the drains after a turn. There was a run on all records but the last, all of which was written; then a turn with the last; and
+-- then the drains after it, in port order, which stopped at that of a port. Until then the inputs were asked in turn.
+pub record FailedAt (unit : TimeUnit) (e e' : EngineState) (t : Transfer) (inputs : List Input) (port : ℕ) : Type 0 where
   pub inputs_many : length inputs ≡ length e.setting.env.ports
   pub unit_is : unit ≡ unit_for (units_of inputs)
-  pub read : AreRead olds news inputs
+  pub read : AreRead t.had t.left inputs
   pub before : List (Arrival Time)
   pub last : Arrival Time
   pub arrivals_are : arrivals_of inputs ≡ before ++ last ∷ []
@@ -315,37 +318,33 @@ pub record FailedAt (unit : TimeUnit) (e e' : EngineState) (olds news : List (Op
   pub captures : List (List (Time × List ℕ))
   pub many : length captures ≡ length e.setting.env.ports
   pub run : HasRun e engine before captures
-  pub mids : List (Option (List ℕ))
-  pub mids_many : length mids ≡ length held
-  pub wrote : AreWritten unit held mids (capture_at captures)
+  pub mids : List Device
+  pub mids_many : length mids ≡ length t.held
+  pub wrote : AreWritten unit t.held mids (capture_at captures)
   pub behind : EngineState
   pub turn : TakesTurn last.port engine behind last.bytes
-  pub stopped : DrainsStopped unit last.time behind e' mids holds port
+  pub stopped : DrainsStopped unit last.time behind e' mids t.holds port
 
 -- a run stops in a round
-abbrev pub Stops : TimeUnit → EngineState → EngineState → List (Option (List ℕ)) → List (Option (List ℕ)) → List (Option (List ℕ)) → List (Option (List ℕ)) →
-    List Progress → RunCause → Type 0
-Stops unit e e' olds news held holds progress (In port error) =
+abbrev pub Stops : TimeUnit → EngineState → EngineState → Transfer → List Progress → RunCause → Type 0
+Stops unit e e' t progress (In port error) =
     (inputs : List Input) × (map (λ (i : Input). i.state) inputs ≡ map (λ (p : Progress). p.state) progress)
-    × Went unit e e' olds news held holds inputs × HasFault olds news inputs port error
-Stops unit e e' olds news held holds progress (Out port) =
-    (inputs : List Input) × (map (λ (i : Input). i.state) inputs ≡ map (λ (p : Progress). p.state) progress)
-    × FailedAt unit e e' olds news held holds inputs port
-Stops unit e e' olds news held holds progress cause = ⊥
+    × Went unit e e' t.held t.holds inputs × HasFault t.had t.left inputs port error
+Stops unit e e' t progress (Out port) =
+    (inputs : List Input) × (map (λ (i : Input). i.state) inputs ≡ map (λ (p : Progress). p.state) progress) × FailedAt unit e e' t inputs port
+Stops unit e e' t progress cause = ⊥
 
 -- a round, from a run in which its first port comes next
-abbrev pub IsRound : TimeUnit → EngineState → EngineState → EngineState → List (Option (List ℕ)) → List (Option (List ℕ)) → List (Option (List ℕ)) →
-    List (Option (List ℕ)) → List Progress → ℕ → Result ⊤ RunCause → Type 0
-IsRound unit e0 e e' olds news held holds progress round (Ok done) = (inputs : List Input) × Along unit e0 e' olds news held holds progress inputs (round + 1) 0
-IsRound unit e0 e e' olds news held holds progress round (Err cause) = Stops unit e0 e' olds news held holds progress cause
+abbrev pub IsRound : TimeUnit → EngineState → EngineState → EngineState → Transfer → List Progress → ℕ → Result ⊤ RunCause → Type 0
+IsRound unit e0 e e' t progress round (Ok done) = (inputs : List Input) × Along unit e0 e' t progress inputs (round + 1) 0
+IsRound unit e0 e e' t progress round (Err cause) = Stops unit e0 e' t progress cause
 
 -- all rounds: at the end every input has ended
-abbrev pub AreRounds : TimeUnit → EngineState → EngineState → List (Option (List ℕ)) → List (Option (List ℕ)) → List (Option (List ℕ)) →
-    List (Option (List ℕ)) → List Progress → Result ⊤ RunCause → Type 0
-AreRounds unit e e' olds news held holds progress (Ok done) =
+abbrev pub AreRounds : TimeUnit → EngineState → EngineState → Transfer → List Progress → Result ⊤ RunCause → Type 0
+AreRounds unit e e' t progress (Ok done) =
     (inputs : List Input) × (map (λ (i : Input). i.state) inputs ≡ map (λ (p : Progress). p.state) progress)
-    × Went unit e e' olds news held holds inputs × AllByRecursion (λ (i : Input). is_over i.state ≡ true) inputs
-AreRounds unit e e' olds news held holds progress (Err cause) = Stops unit e e' olds news held holds progress cause
+    × Went unit e e' t.held t.holds inputs × AreRead t.had t.left inputs × AreOver inputs
+AreRounds unit e e' t progress (Err cause) = Stops unit e e' t progress cause
 
 -- every input has ended
 abbrev pub NoneIsOpen : List Progress → Type 0

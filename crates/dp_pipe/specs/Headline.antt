@@ -1,6 +1,5 @@
--- What the run of a pipeline promises, from captures to captures.
-use Rattle.std.specs.Prelude.{◌≡◌, ℕ, ◌+◌, ◌==◌, ◌<◌, ◌≤◌, ◌⊎◌, Bool, true, nat_lt, if◌then◌else◌, List, [], ◌∷◌, ◌++◌, length, take, Option, Some, slice_get}
-use Rattle.std.specs.List.{AllByRecursion}
+-- The promise of the run of a pipeline, from captures to captures.
+use Rattle.std.specs.Prelude.{◌≡◌, ℕ, ◌+◌, ◌==◌, ◌<◌, ◌≤◌, ◌⊎◌, Bool, true, nat_lt, if◌then◌else◌, List, [], ◌∷◌, ◌++◌, length, take, Some, slice_get}
 use Rattle.std.specs.Io.KnownBytes.{Appends}
 use Rattle.dp_pcap.specs.declared.time.Time.{Time}
 use Rattle.dp_pcap.specs.declared.time.Unit.{Unit as TimeUnit}
@@ -13,25 +12,24 @@ use Rattle.dp_model.specs.Safety.{Beginning, IsOfRun}
 use Rattle.dp_model.specs.Starts.{IsStart}
 use Rattle.dp_model.specs.CopyMachine.{Captures}
 use Rattle.dp_engine.specs.declared.report.InputState.{InputState}
-use Rattle.dp_engine.specs.declared.report.InputState.TheVariants.{Open}
 use Rattle.dp_engine.specs.declared.report.PortReport.{PortReport}
 use Rattle.dp_engine.specs.declared.report.Report.{Report}
 use Rattle.dp_engine.specs.Needs.{bytes_needed}
 use Rattle.dp_engine.specs.Reports.{IsWhole}
 use Rattle.dp_engine.specs.Steps.{routes_of}
 use Rattle.dp_engine.specs.Tallies.{how_many, is_got, is_nobuf, is_oversize, refused_of}
+use Rattle.dp_pipe.specs.Devices.{Device, Transfer, IsGiven, At}
 use Rattle.dp_pipe.specs.declared.forwarding.RunCause.{RunCause}
 use Rattle.dp_pipe.specs.declared.forwarding.RunCause.TheVariants.{Memory, NoRoom, In, Out}
 use Rattle.dp_pipe.specs.Pipelines.{Plan}
-use Rattle.dp_pipe.specs.Forwarding.{Input, AreRead, AskedUntil, HasFault, arrivals_of, capture_at, is_over, unit_for, units_of}
-use Rattle.dp_pipe.specs.Running.{setting_in, programs_in, IsIdle, HasHeaderFault, HeadersStopped, AreKept}
+use Rattle.dp_pipe.specs.Forwarding.{Input, AreRead, AskedUntil, HasFault, arrivals_of, capture_at, AreOver, unit_for, units_of}
+use Rattle.dp_pipe.specs.Running.{setting_in, programs_in, IsIdle, AreUnread, HasHeaderFault, HeadersStopped}
 
 -- ---- a run of packets
 
--- A run of a pipeline's programs on these records, where the calls of the pattern are refused: from a world in which no packet is,
--- the outcome of each allocation call, what became of each record, and what each port sent, with the record's time.
--- No node run in it is ever stuck. And what the ports sent is what they send in the machine in which each packet has bytes of its
--- own, on the same records, where the allocation calls have the same outcomes.
+-- A run of a pipeline's programs on these records, with the calls of the pattern refused: from a world without packets, the outcome of each
+-- allocation call, what became of each record, and what each port sent, with the record's time. No node run in it is ever stuck. And what the ports
+-- sent is what they send in the machine in which each packet has its own bytes, on the same records, given the same outcomes of allocation calls.
 pub record PacketRun (p : Plan) (pattern : List ℕ) (arrivals : List (Arrival Time)) : Type 0 where
   pub first : World
   pub start : IsStart p.env first
@@ -46,10 +44,9 @@ pub record PacketRun (p : Plan) (pattern : List ℕ) (arrivals : List (Arrival T
 
 -- ---- what was written
 
--- each writer was given these bytes, as far as its bytes are known
-abbrev pub AreGiven : List (Option (List ℕ)) → List (Option (List ℕ)) → (ℕ → List ℕ) → Type 0
-AreGiven held holds bytes = (port : ℕ) (old new : Option (List ℕ)) → slice_get held port ≡ Some old → slice_get holds port ≡ Some new →
-    Appends old new (bytes port)
+-- each writer was given these bytes
+abbrev pub AreGiven : List Device → List Device → (ℕ → List ℕ) → Type 0
+AreGiven held holds bytes = (port : ℕ) → At held holds port (λ old new. IsGiven old new (bytes port))
 
 -- the whole capture of a port: the header, and what it sent
 abbrev pub capture_text : TimeUnit → List (List (Time × List ℕ)) → ℕ → List ℕ
@@ -63,8 +60,8 @@ outcomes_at port [] outcomes = []
 outcomes_at port (a ∷ arrivals) [] = []
 outcomes_at port (a ∷ arrivals) (o ∷ outcomes) = if a.port == port then o ∷ outcomes_at port arrivals outcomes else outcomes_at port arrivals outcomes
 
--- the numbers of a port: how many of its records were received, found no buffer and were too large, how many were written whole,
--- and how far its input was read
+-- the counts of a port: how many of its records were received, found no buffer and were too large, how many were written whole, and how far its input
+-- was read
 abbrev pub port_numbers : List Outcome → ℕ → InputState → PortReport
 port_numbers outcomes sent state = record {
   received = how_many is_got outcomes;
@@ -74,7 +71,7 @@ port_numbers outcomes sent state = record {
   state = state;
 }
 
--- the numbers of a run on what was read of these inputs, of which each port has written so many records whole
+-- the counts of a run on what was read of these inputs, of which each port has written this many records whole
 pub record HasNumbers (p : Plan) (pattern : List ℕ) (arrivals : List (Arrival Time)) (run : PacketRun p pattern arrivals) (inputs : List Input) (sent : ℕ →
     ℕ) (r : Report) : Type 0 where
   pub many : length r.ports.items ≡ length p.env.ports
@@ -88,64 +85,62 @@ pub record HasNumbers (p : Plan) (pattern : List ℕ) (arrivals : List (Arrival 
   pub refused : r.refused ≡ refused_of pattern run.last.calls
   pub cut : r.cut ≡ run.last.cuts
 
--- ---- all was forwarded
+-- ---- everything was forwarded
 
--- Each input was read to its end, a whole capture or one that is cut short; there was a run on the records of all inputs, record k
--- of each port in port order, round by round; and each writer was given the whole capture of its port, in nanoseconds if any
--- input has them.
-pub record Forwarded (p : Plan) (pattern : List ℕ) (olds news held holds : List (Option (List ℕ))) (r : Report) : Type 0 where
+-- Each input was read to its end, a whole capture or one that is cut short; there was a run on the records of all inputs, record k of each port in
+-- port order, round by round; and each writer was given the whole capture of its port, in nanoseconds if any input has them.
+pub record Forwarded (p : Plan) (pattern : List ℕ) (t : Transfer) (r : Report) : Type 0 where
   pub room : bytes_needed p.env ≤ p.region
   pub inputs : List Input
   pub many : length inputs ≡ length p.env.ports
-  pub read : AreRead olds news inputs
-  pub ended : AllByRecursion (λ (i : Input). is_over i.state ≡ true) inputs
+  pub read : AreRead t.had t.left inputs
+  pub ended : AreOver inputs
   pub run : PacketRun p pattern (arrivals_of inputs)
-  pub wrote : AreGiven held holds (capture_text (unit_for (units_of inputs)) run.captures)
+  pub wrote : AreGiven t.held t.holds (capture_text (unit_for (units_of inputs)) run.captures)
   pub numbers : HasNumbers p pattern (arrivals_of inputs) run inputs (λ port. length (capture_at run.captures port)) r
 
 -- ---- an input is at fault
 
 -- The header of this port's input is the first with a fault: nothing was written.
-pub record HeaderRefused (p : Plan) (olds news held holds : List (Option (List ℕ))) (port : ℕ) (error : PcapError) (r : Report) : Type 0 where
+pub record HeaderRefused (p : Plan) (t : Transfer) (port : ℕ) (error : PcapError) (r : Report) : Type 0 where
   pub room : bytes_needed p.env ≤ p.region
-  pub fault : HasHeaderFault olds news port error
-  pub kept : AreKept held holds
+  pub fault : HasHeaderFault t.had t.left port error
+  pub kept : t.holds ≡ t.held
   pub idle : IsIdle p.env r
 
--- The input of this port is the first with a fault, behind a record: there was a run on the records before, and each writer was
--- given the whole capture of its port in that run.
-pub record StoppedReading (p : Plan) (pattern : List ℕ) (olds news held holds : List (Option (List ℕ))) (port : ℕ) (error : PcapError)
-    (r : Report) : Type 0 where
+-- The input of this port is the first with a fault, after a record: there was a run on the records before, and each writer was given the whole
+-- capture of its port in that run.
+pub record StoppedReading (p : Plan) (pattern : List ℕ) (t : Transfer) (port : ℕ) (error : PcapError) (r : Report) : Type 0 where
   pub room : bytes_needed p.env ≤ p.region
   pub inputs : List Input
   pub many : length inputs ≡ length p.env.ports
-  pub read : AreRead olds news inputs
-  pub fault : HasFault olds news inputs port error
+  pub fault : HasFault t.had t.left inputs port error
   pub run : PacketRun p pattern (arrivals_of inputs)
-  pub wrote : AreGiven held holds (capture_text (unit_for (units_of inputs)) run.captures)
+  pub wrote : AreGiven t.held t.holds (capture_text (unit_for (units_of inputs)) run.captures)
   pub numbers : HasNumbers p pattern (arrivals_of inputs) run inputs (λ port. length (capture_at run.captures port)) r
 
 -- ---- a writer fails
 
--- The header of this port's output was not written whole: those before it were, and nothing behind it; no record was read.
-pub record HeaderUnwritten (p : Plan) (olds news held holds : List (Option (List ℕ))) (port : ℕ) (r : Report) : Type 0 where
+-- The header of this port's output was not written whole: those before it were, and none after it; no record was read.
+pub record HeaderUnwritten (p : Plan) (t : Transfer) (port : ℕ) (r : Report) : Type 0 where
   pub room : bytes_needed p.env ≤ p.region
   pub inputs : List Input
   pub many : length inputs ≡ length p.env.ports
-  pub read : AreRead olds news inputs
-  pub none : AllByRecursion (λ (i : Input). (i.records ≡ []) × (i.state ≡ Open)) inputs
-  pub stopped : HeadersStopped (unit_for (units_of inputs)) held holds port
+  pub read : AreRead t.had t.left inputs
+  pub none : AreUnread inputs
+  pub stopped : HeadersStopped (unit_for (units_of inputs)) t.held t.holds port
   pub idle : IsIdle p.env r
 
--- the first so many records of a capture were written whole, and a part of the next that is not all of it
-pub record WroteFront (old new : Option (List ℕ)) (unit : TimeUnit) (records : List PacketRecord) (sent : ℕ) : Type 0 where
+-- the first n records of a capture were written whole, and a proper part of the next
+pub record WroteFront (unit : TimeUnit) (records : List PacketRecord) (sent : ℕ) (old new : Device) : Type 0 where
   pub next : PacketRecord
   pub next_is : slice_get records sent ≡ Some next
   pub bytes : ℕ
   pub part : bytes < length (record_text unit next)
-  pub wrote : Appends old new (text unit (take sent records) ++ take bytes (record_text unit next))
+  pub wrote : Appends old.bytes new.bytes (text unit (take sent records) ++ take bytes (record_text unit next))
+  pub calls : new.calls ≤ old.calls + length (text unit (take (sent + 1) records))
 
--- a run that goes on by one more record: its turn, and then the drains of all ports
+-- a run with one more record: its turn, and then the drains of all ports
 pub record GoesOnBy (p : Plan) (pattern : List ℕ) (before : List (Arrival Time)) (last : Arrival Time) (earlier : PacketRun p pattern before)
     (run : PacketRun p pattern (before ++ last ∷ [])) : Type 0 where
   pub first : run.first ≡ earlier.first
@@ -159,21 +154,21 @@ pub record GoesOnBy (p : Plan) (pattern : List ℕ) (before : List (Arrival Time
   pub captures_are : run.captures ≡ joined earlier.captures (records_at last.time mid)
   pub last_is : run.last ≡ with_empty_outboxes mid
 
--- how many records each port has written whole, where the writer of one fails: those before it have written all, it so many, and
--- those behind it what was sent before the last record
+-- how many records each port has written whole, where the writer of one fails: those before it have written all, it this many, and those after it
+-- what was sent before the last record
 abbrev pub sent_until : ℕ → ℕ → List (List (Time × List ℕ)) → List (List (Time × List ℕ)) → ℕ → ℕ
 sent_until port own captures earlier q =
     if nat_lt q port then length (capture_at captures q) else if q == port then own else length (capture_at earlier q)
 
--- The writer of this port failed in the drains behind a record, the last that was read; the inputs were asked in turn until then.
--- There was a run on the records before, and a run through the last. The writers before this one were given the whole capture of
--- their port in the run through the last record, and those behind it the whole capture in the run before; this one was given a
--- front of its capture in the run through the last record, with all that it had sent before.
-pub record StoppedWriting (p : Plan) (pattern : List ℕ) (olds news held holds : List (Option (List ℕ))) (port : ℕ) (r : Report) : Type 0 where
+-- The writer of this port failed in the drains after a record, the last that was read; the inputs were asked in turn until then. There was a run on
+-- the records before, and a run through the last. The writers before this one were given the whole capture of their port in the run through the last
+-- record, and those after it the whole capture in the run before; this one was given a front of its capture in the run through the last record, with
+-- all that it had sent before.
+pub record StoppedWriting (p : Plan) (pattern : List ℕ) (t : Transfer) (port : ℕ) (r : Report) : Type 0 where
   pub room : bytes_needed p.env ≤ p.region
   pub inputs : List Input
   pub many : length inputs ≡ length p.env.ports
-  pub read : AreRead olds news inputs
+  pub read : AreRead t.had t.left inputs
   pub before : List (Arrival Time)
   pub last : Arrival Time
   pub arrivals_are : arrivals_of inputs ≡ before ++ last ∷ []
@@ -183,25 +178,18 @@ pub record StoppedWriting (p : Plan) (pattern : List ℕ) (olds news held holds 
   pub run : PacketRun p pattern (before ++ last ∷ [])
   pub goes_on : GoesOnBy p pattern before last earlier run
   pub there : port < length p.env.ports
-  pub ahead : (q : ℕ) (old new : Option (List ℕ)) → q < port → slice_get held q ≡ Some old → slice_get holds q ≡ Some new
-      → Appends old new (capture_text (unit_for (units_of inputs)) run.captures q)
+  pub ahead : (q : ℕ) → q < port → At t.held t.holds q (λ old new. IsGiven old new (capture_text (unit_for (units_of inputs)) run.captures q))
   pub sent : ℕ
   pub not_less : length (capture_at earlier.captures port) ≤ sent
-  pub own : (old new : Option (List ℕ)) → slice_get held port ≡ Some old → slice_get holds port ≡ Some new
-      → WroteFront old new (unit_for (units_of inputs)) (capture_at run.captures port) sent
-  pub behind : (q : ℕ) (old new : Option (List ℕ)) → port < q → slice_get held q ≡ Some old → slice_get holds q ≡ Some new
-      → Appends old new (capture_text (unit_for (units_of inputs)) earlier.captures q)
+  pub own : At t.held t.holds port (WroteFront (unit_for (units_of inputs)) (capture_at run.captures port) sent)
+  pub after : (q : ℕ) → port < q → At t.held t.holds q (λ old new. IsGiven old new (capture_text (unit_for (units_of inputs)) earlier.captures q))
   pub numbers : HasNumbers p pattern (before ++ last ∷ []) run inputs (sent_until port sent run.captures earlier.captures) r
 
--- ---- what is answered
+-- ---- the result
 
--- Why a run stopped, and what it did until then. Without memory, and exactly where the region is smaller than the engine needs,
--- there was none.
-abbrev pub StoppedBy : Plan → List ℕ → List (Option (List ℕ)) → List (Option (List ℕ)) → List (Option (List ℕ)) → List (Option (List ℕ)) → RunCause → Report →
-    Type 0
-StoppedBy p pattern olds news held holds Memory r = IsIdle p.env r
-StoppedBy p pattern olds news held holds NoRoom r = (p.region < bytes_needed p.env) × IsIdle p.env r
-StoppedBy p pattern olds news held holds (In port error) r =
-    HeaderRefused p olds news held holds port error r ⊎ StoppedReading p pattern olds news held holds port error r
-StoppedBy p pattern olds news held holds (Out port) r =
-    HeaderUnwritten p olds news held holds port r ⊎ StoppedWriting p pattern olds news held holds port r
+-- Why a run stopped, and what it did until then. Without memory, and where the region is smaller than the engine needs, there was none.
+abbrev pub StoppedBy : Plan → List ℕ → Transfer → RunCause → Report → Type 0
+StoppedBy p pattern t Memory r = IsIdle p.env r
+StoppedBy p pattern t NoRoom r = (p.region < bytes_needed p.env) × IsIdle p.env r
+StoppedBy p pattern t (In port error) r = HeaderRefused p t port error r ⊎ StoppedReading p pattern t port error r
+StoppedBy p pattern t (Out port) r = HeaderUnwritten p t port r ⊎ StoppedWriting p pattern t port r

@@ -1,4 +1,4 @@
--- What the keys of a TOML table hold.
+-- The values at the keys of a TOML table.
 use Rattle.std.specs.Prelude.{ℕ, ℤ, pos, negsuc, Bool, ◌&&◌, nat_le, List, [], ◌∷◌, Option, Some, None, is_some, option_and_then, option_map, if◌then◌else◌}
 use Rattle.std.specs.List.{list_all, list_any}
 use Rattle.std.specs.Option.{option_map_or}
@@ -10,11 +10,11 @@ abbrev pub listed : Items → List Data
 listed no_items = []
 listed (item d ds) = d ∷ listed ds
 
--- the elements of a value, and none of what is no array
+-- the elements of a value; none where it is no array
 abbrev pub elements_of : Data → List Data
 elements_of d = option_map_or listed (as_array d) []
 
--- the elements of the array at a key, and none where there is no array
+-- the elements of the array at a key; none where there is no array
 abbrev pub elements_at : List ℕ → Members → List Data
 elements_at key table = option_map_or elements_of (get_member key table) []
 
@@ -45,12 +45,12 @@ is_among keys key = list_any (λ known. bytes_eq known key) keys
 abbrev pub has_only : List (List ℕ) → Members → Bool
 has_only keys table = list_all (is_among keys) (keys_in table)
 
--- a whole number from 0 to most
+-- a whole number from 0 to `most`
 abbrev pub up_to : ℕ → ℤ → Option ℕ
 up_to most (pos n) = if nat_le n most then Some n else None
 up_to most (negsuc n) = None
 
--- the whole number at a key, if it is at most so great
+-- the whole number at a key, if it is at most that
 abbrev pub number_at : List ℕ → ℕ → Members → Option ℕ
 number_at key most table = option_and_then (up_to most) (option_and_then as_integer (get_member key table))
 
@@ -58,7 +58,7 @@ number_at key most table = option_and_then (up_to most) (option_and_then as_inte
 abbrev pub text_at : List ℕ → Members → Option (List ℕ)
 text_at key table = option_and_then as_str (get_member key table)
 
--- the text at a key that may be missing
+-- the text at an optional key
 abbrev pub text_if_any : Option Data → Option (Option (List ℕ))
 text_if_any None = Some None
 text_if_any (Some d) = option_map (λ text. Some text) (as_str d)

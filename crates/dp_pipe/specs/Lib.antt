@@ -16,3 +16,4 @@ pub mod Setup
 pub mod Surveys
 pub mod Tracing
 pub mod Views
+pub mod Watched

@@ -1,10 +1,9 @@
--- What the loading of a pipeline file answers.
+-- The result of loading a pipeline file.
 use Rattle.std.specs.Prelude.{◌≡◌, ℕ, ◌⊎◌, List, map, Option, None, Ok}
 use Rattle.dp_model.specs.Environments.{fault_of}
 use Rattle.dp_lpm.specs.Routes.{RouteTable}
 use Rattle.toml.specs.Data.{Members}
 use Rattle.dp_pipe.specs.declared.error.PipeError.{PipeError}
-use Rattle.dp_pipe.specs.declared.error.PipeError.TheVariants.{Memory}
 use Rattle.dp_pipe.specs.declared.nodes.How.{How}
 use Rattle.dp_pipe.specs.Setup.{Setup, setup_in}
 use Rattle.dp_pipe.specs.Config.{IsTable, environment_of, HoldAll, IsFaultOf}
@@ -12,7 +11,7 @@ use Rattle.dp_pipe.specs.Files.{FileMap}
 use Rattle.dp_pipe.specs.Nodes.{Node, nodes_of, AreLoaded, FailsAtFirst}
 use Rattle.dp_pipe.specs.Pipelines.{Plan}
 
--- the nodes that a file names
+-- the nodes in a file
 abbrev pub nodes_in : How → Setup → List Node
 nodes_in how s = nodes_of how (map (λ port. port.files) s.ports) (map (λ ring. ring.files) s.rings)
 
@@ -34,7 +33,7 @@ pub record IsLoadedFrom (known : Option FileMap) (how : How) (text : List ℕ) (
   pub fits : fault_of (environment_of setup) ≡ None
   pub plan : IsPlanOf known how setup p
 
--- the text is a file whose environment and tables there are, but a node of it is not loaded
+-- the text is a file with an environment and tables, but a node of it is not loaded
 pub record HasBadNode (known : Option FileMap) (how : How) (text : List ℕ) (e : PipeError) : Type 0 where
   pub top : Members
   pub setup : Setup
@@ -45,7 +44,7 @@ pub record HasBadNode (known : Option FileMap) (how : How) (text : List ℕ) (e 
   pub filled : HoldAll setup.tables tables
   pub fails : FailsAtFirst known (environment_of setup) (nodes_in how setup) e
 
--- why no pipeline is loaded: what is wrong with the text, or else the first node that is not loaded; but memory can run out at
--- any time
+-- why no pipeline is loaded: what is wrong with the text, else the first node that is not loaded; but memory can run out once the text is known to be
+-- UTF-8
 abbrev pub IsUnloaded : Option FileMap → How → List ℕ → PipeError → Type 0
-IsUnloaded known how text e = (e ≡ Memory) ⊎ IsFaultOf text e ⊎ HasBadNode known how text e
+IsUnloaded known how text e = IsFaultOf text e ⊎ HasBadNode known how text e

@@ -22,13 +22,13 @@ use Rattle.dp_pipe.specs.Files.{FileMap, IsFile, IsNoFile}
 
 -- ---- which files are read
 
--- a node: where it gets its packets from, its program file, and its certificate file where one is read
+-- a node: where its packets come from, its program file, and its certificate file if one is read
 pub record Node : Type 0 where
   pub entry : Entry
   pub program : List ℕ
   pub cert : Option (List ℕ)
 
--- the certificate file that is read, where one is
+-- the certificate file to read, if there is one
 abbrev pub cert_read : How → NodeFiles → Option (List ℕ)
 cert_read Given files = files.cert
 cert_read Inferred files = None
@@ -41,7 +41,7 @@ abbrev pub numbered : How → (ℕ → Entry) → ℕ → List NodeFiles → Lis
 numbered how kind k [] = []
 numbered how kind k (files ∷ more) = node_of how (kind k) files ∷ numbered how kind (k + 1) more
 
--- one for each port, and then one for each ring
+-- one for each port, then one for each ring
 abbrev pub nodes_of : How → List NodeFiles → List NodeFiles → List Node
 nodes_of how ports rings = numbered how Port 0 ports ++ numbered how Ring 0 rings
 
@@ -53,16 +53,15 @@ pub record IsProgramOf (known : Option FileMap) (name : List ℕ) (program : Lis
   pub file : IsFile known name text
   pub reads : Reads text program
 
--- The file spells the certificate, with so many rows; and it is the one that the text is read as, in which each row has eight
--- facts and eight bounds: rows of other lengths may be spelled so too.
+-- The file spells the certificate, with n rows; and it is the one that the text is read as, in which each row has eight facts and eight bounds: rows
+-- of other lengths could be spelled so too.
 pub record IsCertOf (known : Option FileMap) (name : List ℕ) (n : ℕ) (cert : Certificate) : Type 0 where
   pub text : List ℕ
   pub file : IsFile known name text
   pub spelled : CertText n text cert
   pub reads : cert_of n text ≡ Ok cert
 
--- The certificate is the one that its file spells, where one is read. Else it has the version of its rows, and no other has
--- more that is known, if the program is forward
+-- The certificate is the one in its file, if one is read. Else it has the version of its rows, and if the program is forward no other says more
 abbrev pub HasCert : Option FileMap → Option (List ℕ) → Question → Type 0
 HasCert known None q = IsWith q (certificate_of q.rows) × SaysMost q.program q.env q.entry q.rows
 HasCert known (Some name) q = (cert : Certificate) × IsWith q cert × IsCertOf known name (length q.program) cert
@@ -77,7 +76,7 @@ pub record IsLoaded (known : Option FileMap) (env : Environment) (node : Node) (
 
 -- ---- why a node has none
 
--- a file of the node is not there, or is too long
+-- a file of the node is missing or too long
 pub record IsMissing (known : Option FileMap) (entry : Entry) (name : List ℕ) (e : PipeError) : Type 0 where
   pub is : e ≡ errors.File entry
   pub file : IsNoFile known name
@@ -118,14 +117,13 @@ pub record IsWithoutCert (env : Environment) (entry : Entry) (program : List Ins
 abbrev pub HasNoProgram : Option FileMap → Entry → List ℕ → PipeError → Type 0
 HasNoProgram known entry name e = IsMissing known entry name e ⊎ IsBadProgram known entry name e
 
--- why there is no certificate for a program, or none that it is accepted with
+-- why a program has no certificate, or none with which it is accepted
 abbrev pub HasNoCert : Option FileMap → Environment → Entry → Option (List ℕ) → List Instr → PipeError → Type 0
 HasNoCert known env entry None program e = IsWithoutCert env entry program e
 HasNoCert known env entry (Some name) program e =
     IsMissing known entry name e ⊎ IsBadCert known entry name (length program) e ⊎ IsRefusedBy known env entry name program e
 
--- why a node is not loaded: first what is wrong with its program, then what is wrong with its certificate; but memory can run
--- out at any time
+-- why a node is not loaded: first what is wrong with its program, then with its certificate; but memory can run out at any time
 abbrev pub Fails : Option FileMap → Environment → Node → PipeError → Type 0
 Fails known env node e =
     (e ≡ errors.Memory) ⊎ HasNoProgram known node.entry node.program e

@@ -1,4 +1,4 @@
--- What a pipeline is.
+-- Pipelines as contracts see them.
 use Rattle.std.specs.Prelude.{◌≡◌, ℕ, ◌+◌, ◌<◌, List, length, map, Some, None, slice_get, string_bytes}
 use Rattle.dp_model.specs.declared.env.Entry.{Entry}
 use Rattle.dp_model.specs.declared.env.Entry.TheVariants.{Port, Ring}
@@ -9,8 +9,7 @@ use Rattle.dp_lpm.specs.Routes.{RouteTable, HasSmallHops}
 use Rattle.dp_check.specs.Faults.{IsChecked}
 use Rattle.dp_pipe.specs.declared.file_names.PortNames.{PortNames}
 
--- what a contract sees of a pipeline: the region in bytes, a checked program for each port and then for each ring, and the
--- captures that each port reads and writes
+-- a pipeline: the region in bytes, a checked program for each port and then for each ring, and the captures that each port reads and writes
 pub record Plan : Type 0 where
   pub env : Environment
   pub region : ℕ
@@ -49,7 +48,7 @@ input_of port = string_bytes port.input
 abbrev pub output_of : PortNames → List ℕ
 output_of port = string_bytes port.output
 
--- what a contract sees of a pipeline of these parts
+-- the value of a pipeline with these parts
 abbrev pub plan_of : Environment → ℕ → List RouteTable → List Question → List PortNames → Plan
 plan_of env region tables nodes ports = record {
   env = env;

@@ -1,4 +1,4 @@
--- How a route is written, and the table that takes routes in.
+-- How routes are written, and adding them to a table.
 use Rattle.std.specs.Prelude.{◌≡◌, ℕ, ◌+◌, ◌-◌, ◌*◌, ◌&&◌, ◌==◌, nat_le, List, [], ◌∷◌, length, take, slice_get, Option, Some, None, option_and_then}
 use Rattle.std.specs.Prelude.{option_map, if◌then◌else◌}
 use Rattle.std.specs.Char.{is_ascii_digit}
@@ -15,7 +15,7 @@ abbrev pub decimal_after : ℕ → List ℕ → ℕ
 decimal_after n [] = n
 decimal_after n (digit ∷ digits) = decimal_after (n * 10 + (digit - 48)) digits
 
--- the number of 1 to so many decimal digits
+-- the number of 1 to n decimal digits
 abbrev pub number_in : ℕ → List ℕ → Option ℕ
 number_in most digits =
     if (nat_le 1 (length digits) && nat_le (length digits) most) && list_all is_ascii_digit digits
@@ -25,11 +25,11 @@ number_in most digits =
 abbrev pub byte_if : ℕ → Option ℕ
 byte_if n = if nat_le n 255 then Some n else None
 
--- a part of an address
+-- one byte of an address
 abbrev pub byte_in : List ℕ → Option ℕ
 byte_in digits = option_and_then byte_if (number_in 3 digits)
 
--- what stands before the first of a byte, and what follows it: all and nothing where there is none
+-- a text split at the first occurrence of a byte: all and nothing where there is none
 abbrev pub before : ℕ → List ℕ → List ℕ
 before byte text = before_first (λ b. b == byte) text
 
@@ -53,31 +53,31 @@ route_in text =
     (number_in 2 (after 47 (before 32 text))))
     (address_in (before 47 (before 32 text)))
 
--- the route that a value of a file is
+-- the route in a value of a file
 abbrev pub route_of : Data → Option Route
 route_of d = option_and_then route_in (as_str d)
 
--- why a table does not take what should be a route
+-- why a table refuses what should be a route
 abbrev pub refusal : RouteTable → Option Route → Option RouteError
 refusal table None = Some Unreadable
 refusal table (Some route) = option_map Refused (add_fault table route.ip route.depth route.hop)
 
--- the table with what should be a route beside its own routes
+-- the table with what should be a route added
 abbrev pub PutsIn : RouteTable → RouteTable → Option Route → Type 0
 PutsIn old new None = ⊥
 PutsIn old new (Some route) = Puts old new (added route.ip route.depth route.hop)
 
--- one value is taken in as a route
+-- one value is added as a route
 pub record Takes (old new : RouteTable) (value : Data) : Type 0 where
   pub free : refusal old (route_of value) ≡ None
   pub puts : PutsIn old new (route_of value)
 
--- the values are taken in as routes, one after the other
+-- the values are added as routes, one after the other
 abbrev pub TakesAll : RouteTable → RouteTable → List Data → Type 0
 TakesAll old new [] = old ≡ new
 TakesAll old new (value ∷ values) = (middle : RouteTable) × Takes old middle value × TakesAll middle new values
 
--- the value at the index is the first that is not taken in, and why
+-- the value at the index is the first that is refused, and why
 pub record IsFirstRefused (old : RouteTable) (values : List Data) (index : ℕ) (cause : RouteError) : Type 0 where
   pub reached : RouteTable
   pub before : TakesAll old reached (take index values)

@@ -1,11 +1,11 @@
--- What the run of a pipeline answers: what it read, the run of packets that it made, what it wrote, and what it reports.
-use Rattle.std.specs.Prelude.{◌≡◌, ℕ, ◌<◌, ◌≤◌, ◌⊎◌, List, [], ◌∷◌, length, map, take, replicate, Option, Some, slice_get, Result, Ok, Err, ⊤}
+-- The result of the run of a pipeline: what it read, its run of packets, what it wrote, and its report.
+use Rattle.std.specs.Prelude.{◌≡◌, ℕ, ◌+◌, ◌<◌, ◌≤◌, ◌⊎◌, List, [], ◌∷◌, length, map, take, replicate, slice_get, Result, Ok, Err, ⊤}
 use Rattle.std.specs.List.{AllByRecursion}
-use Rattle.std.specs.Io.KnownBytes.{Appends, Keeps}
+use Rattle.dp_pcap.specs.declared.format.TheConstants.{HEADER_SIZE}
 use Rattle.dp_pcap.specs.declared.time.Unit.{Unit as TimeUnit}
 use Rattle.dp_pcap.specs.declared.error.PcapError.{PcapError}
 use Rattle.dp_pcap.specs.Source.{WhereKnown, HeaderAnswers, IsStart}
-use Rattle.dp_pcap.specs.Text.{header_text, AppendsPart}
+use Rattle.dp_pcap.specs.Text.{header_text}
 use Rattle.dp_model.specs.Environments.{Environment}
 use Rattle.dp_model.specs.Machine.{Setting}
 use Rattle.dp_model.specs.Runs.{Nodes}
@@ -20,6 +20,7 @@ use Rattle.dp_engine.specs.Reports.{port_report, IsWhole}
 use Rattle.dp_engine.specs.Schemes.{nodes_of}
 use Rattle.dp_engine.specs.Steps.{setting_of}
 use Rattle.dp_engine.specs.Tallies.{refused_of}
+use Rattle.dp_pipe.specs.Devices.{Device, Transfer, IsGiven, IsGivenPart, At}
 use Rattle.dp_pipe.specs.declared.forwarding.RunCause.{RunCause}
 use Rattle.dp_pipe.specs.declared.forwarding.RunCause.TheVariants.{Memory, NoRoom, In, Out}
 use Rattle.dp_pipe.specs.declared.forwarding.Progress.{Progress}
@@ -29,7 +30,7 @@ use Rattle.dp_pipe.specs.Pipelines.{Plan}
 
 -- ---- the run of packets
 
--- what the node runs of a pipeline rest on where these allocation calls are refused, and its programs
+-- what the node runs of a pipeline need where these allocation calls are refused, and its programs
 abbrev pub setting_in : Plan → List ℕ → Setting
 setting_in p pattern = setting_of p.env p.tables pattern
 
@@ -38,7 +39,7 @@ programs_in p = nodes_of p.env p.nodes
 
 -- ---- the report
 
--- the numbers of a pipeline none of whose records was read
+-- the counts of a pipeline none of whose records was read
 pub record IsIdle (env : Environment) (r : Report) : Type 0 where
   pub ports : r.ports.items ≡ map (λ _. port_report Open no_tallies) env.ports
   pub rings : r.rings.items ≡ map (λ _. 0) env.rings
@@ -47,13 +48,13 @@ pub record IsIdle (env : Environment) (r : Report) : Type 0 where
   pub refused : r.refused ≡ 0
   pub cut : r.cut ≡ 0
 
--- the numbers of ports with how far their inputs were read
+-- the counts of ports with how far their inputs were read
 abbrev pub with_states : List InputState → List PortReport → List PortReport
 with_states (state ∷ states) (n ∷ ports) = record n { state = state } ∷ with_states states ports
 with_states [] ports = ports
 with_states (state ∷ states) [] = []
 
--- all buffers are free, whatever is answered
+-- all buffers are free, whatever is returned
 abbrev pub AllFree : Environment → Result Report RunFault → Type 0
 AllFree env (Ok report) = IsWhole env report
 AllFree env (Err fault) = IsWhole env fault.report
@@ -67,74 +68,77 @@ begun p = record { unit = p.source.unit; records = []; state = p.state }
 abbrev pub all_begun : List Progress → List Input
 all_begun progress = map begun progress
 
--- the first so many readers have read a header
-abbrev pub HeadersRead : ℕ → List (Option (List ℕ)) → List (Option (List ℕ)) → Type 0
-HeadersRead n olds news = (inputs : List Input) × (n ≤ length inputs) × AreRead olds news inputs
+-- no record was read of these inputs, which are open
+abbrev pub AreUnread : List Input → Type 0
+AreUnread inputs = AllByRecursion (λ (i : Input). (i.records ≡ []) × (i.state ≡ Open)) inputs
 
--- the header of this port's input is the first with a fault, and the readers behind it were not called
-pub record HasHeaderFault (olds news : List (Option (List ℕ))) (port : ℕ) (error : PcapError) : Type 0 where
-  pub before : HeadersRead port olds news
-  pub fault : (old new : Option (List ℕ)) → slice_get olds port ≡ Some old → slice_get news port ≡ Some new
-      → WhereKnown old new (λ bytes rest. HeaderAnswers bytes rest (Err error))
-  pub behind : (q : ℕ) (old new : Option (List ℕ)) → port < q → slice_get olds q ≡ Some old → slice_get news q ≡ Some new → Keeps old new
+-- the first n readers have read a header
+abbrev pub HeadersRead : ℕ → List Device → List Device → Type 0
+HeadersRead n had left = (inputs : List Input) × (length inputs ≡ n) × AreUnread inputs × AreRead had left inputs
 
--- the writers hold what they held
-abbrev pub AreKept : List (Option (List ℕ)) → List (Option (List ℕ)) → Type 0
-AreKept olds news = (q : ℕ) (old new : Option (List ℕ)) → slice_get olds q ≡ Some old → slice_get news q ≡ Some new → Keeps old new
+-- a reader gave bytes that are no header, or failed inside one, in at most one call for each of its bytes
+pub record IsBadHeader (error : PcapError) (old new : Device) : Type 0 where
+  pub answers : WhereKnown old.bytes new.bytes (λ bytes rest. HeaderAnswers bytes rest (Err error))
+  pub calls : new.calls ≤ old.calls + HEADER_SIZE
+
+-- the header of this port's input is the first with a fault, and the readers after it were not called
+pub record HasHeaderFault (had left : List Device) (port : ℕ) (error : PcapError) : Type 0 where
+  pub there : port < length had
+  pub many : length left ≡ length had
+  pub before : HeadersRead port had left
+  pub fault : At had left port (IsBadHeader error)
+  pub after : (q : ℕ) → port < q → slice_get left q ≡ slice_get had q
 
 -- each writer was given a header
-abbrev pub HeadersWritten : TimeUnit → List (Option (List ℕ)) → List (Option (List ℕ)) → Type 0
-HeadersWritten unit held holds = (q : ℕ) (old new : Option (List ℕ)) → slice_get held q ≡ Some old → slice_get holds q ≡ Some new →
-    Appends old new (header_text unit)
+abbrev pub HeadersWritten : TimeUnit → List Device → List Device → Type 0
+HeadersWritten unit held holds = (q : ℕ) → At held holds q (λ old new. IsGiven old new (header_text unit))
 
--- the header of this port's output is the first that was not written whole: those before it were, and nothing behind it
-pub record HeadersStopped (unit : TimeUnit) (held holds : List (Option (List ℕ))) (port : ℕ) : Type 0 where
-  pub before : (q : ℕ) (old new : Option (List ℕ)) → q < port → slice_get held q ≡ Some old → slice_get holds q ≡ Some new → Appends old new (header_text unit)
-  pub own : (old new : Option (List ℕ)) → slice_get held port ≡ Some old → slice_get holds port ≡ Some new → AppendsPart old new (header_text unit)
-  pub behind : (q : ℕ) (old new : Option (List ℕ)) → port < q → slice_get held q ≡ Some old → slice_get holds q ≡ Some new → Keeps old new
+-- the header of this port's output is the first that was not written whole: those before it were, and none after it
+pub record HeadersStopped (unit : TimeUnit) (held holds : List Device) (port : ℕ) : Type 0 where
+  pub there : port < length held
+  pub many : length holds ≡ length held
+  pub before : (q : ℕ) → q < port → At held holds q (λ old new. IsGiven old new (header_text unit))
+  pub own : At held holds port (λ old new. IsGivenPart old new (header_text unit))
+  pub after : (q : ℕ) → port < q → slice_get holds q ≡ slice_get held q
 
 -- a source that has read no record yet, of an input that is open
 pub record IsBegun (p : Progress) : Type 0 where
   pub source : IsStart p.source
   pub state : p.state ≡ Open
 
--- why not all headers were read, and why not all were written
-abbrev pub IsHeaderCause : List (Option (List ℕ)) → List (Option (List ℕ)) → RunCause → Type 0
-IsHeaderCause olds news (In port error) = HasHeaderFault olds news port error
-IsHeaderCause olds news cause = ⊥
+-- why not all headers were read, or not all were written
+abbrev pub IsHeaderCause : List Device → List Device → RunCause → Type 0
+IsHeaderCause had left (In port error) = HasHeaderFault had left port error
+IsHeaderCause had left cause = ⊥
 
-abbrev pub IsWriteCause : TimeUnit → List (Option (List ℕ)) → List (Option (List ℕ)) → RunCause → Type 0
+abbrev pub IsWriteCause : TimeUnit → List Device → List Device → RunCause → Type 0
 IsWriteCause unit held holds (Out port) = HeadersStopped unit held holds port
 IsWriteCause unit held holds cause = ⊥
 
--- ---- an engine that is open
+-- ---- an open engine
 
 -- A header was at fault, or not written whole, and no record was read.
-abbrev pub HeadersFail : EngineState → EngineState → List (Option (List ℕ)) → List (Option (List ℕ)) → List (Option (List ℕ)) → List (Option (List ℕ)) →
-    List Progress → Result ⊤ RunCause → Type 0
-HeadersFail e e' olds news held holds progress (Err (In port error)) =
-    HasHeaderFault olds news port error × AreKept held holds × AllByRecursion IsBegun progress × (e' ≡ e)
-HeadersFail e e' olds news held holds progress (Err (Out port)) =
-    (length progress ≡ length e.setting.env.ports) × AreRead olds news (all_begun progress)
-    × HeadersStopped (unit_for (units_of (all_begun progress))) held holds port × AllByRecursion IsBegun progress × (e' ≡ e)
-HeadersFail e e' olds news held holds progress answer = ⊥
+abbrev pub HeadersFail : EngineState → EngineState → Transfer → List Progress → Result ⊤ RunCause → Type 0
+HeadersFail e e' t progress (Err (In port error)) =
+    HasHeaderFault t.had t.left port error × (t.holds ≡ t.held) × AllByRecursion IsBegun progress × (e' ≡ e)
+HeadersFail e e' t progress (Err (Out port)) =
+    (length progress ≡ length e.setting.env.ports) × AreRead t.had t.left (all_begun progress)
+    × HeadersStopped (unit_for (units_of (all_begun progress))) t.held t.holds port × AllByRecursion IsBegun progress × (e' ≡ e)
+HeadersFail e e' t progress answer = ⊥
 
--- All headers were written, of the one unit of time in which records are, and then all rounds were made.
-pub record RoundsMade (e e' : EngineState) (olds news held holds : List (Option (List ℕ))) (progress : List Progress) (answer : Result ⊤ RunCause) : Type
-    0 where
+-- All headers were written, in the one unit of the records, and then all rounds were taken.
+pub record RoundsMade (e e' : EngineState) (t : Transfer) (progress : List Progress) (answer : Result ⊤ RunCause) : Type 0 where
   pub unit : TimeUnit
-  pub mids : List (Option (List ℕ))
-  pub mids_many : length mids ≡ length held
-  pub headers : HeadersWritten unit held mids
-  pub rounds : AreRounds unit e e' olds news mids holds progress answer
+  pub mids : List Device
+  pub mids_many : length mids ≡ length t.held
+  pub headers : HeadersWritten unit t.held mids
+  pub rounds : AreRounds unit e e' (record t { held = mids }) progress answer
 
--- headers in, headers out, and all rounds: what is known behind an answer
-abbrev pub GoesForward : EngineState → EngineState → List (Option (List ℕ)) → List (Option (List ℕ)) → List (Option (List ℕ)) → List (Option (List ℕ)) →
-    List Progress → Result ⊤ RunCause → Type 0
-GoesForward e e' olds news held holds progress answer =
-    HeadersFail e e' olds news held holds progress answer ⊎ RoundsMade e e' olds news held holds progress answer
+-- headers in, headers out, and all rounds: what is known after a result
+abbrev pub GoesForward : EngineState → EngineState → Transfer → List Progress → Result ⊤ RunCause → Type 0
+GoesForward e e' t progress answer = HeadersFail e e' t progress answer ⊎ RoundsMade e e' t progress answer
 
--- the numbers of an engine whose inputs were read so far
+-- the counts of an engine whose inputs were read so far
 pub record IsReportOf (e : EngineState) (progress : List Progress) (r : Report) : Type 0 where
   pub ports : r.ports.items ≡ with_states (map (λ (p : Progress). p.state) progress) (map (port_report Open) (take (length e.setting.env.ports) e.tallies))
   pub rings : r.rings.items ≡ take (length e.setting.env.rings) (flushed e).left
@@ -143,7 +147,7 @@ pub record IsReportOf (e : EngineState) (progress : List Progress) (r : Report) 
   pub refused : r.refused ≡ refused_of e.setting.pattern e.world.calls
   pub cut : r.cut ≡ e.world.cuts
 
--- the report of an answer, and what its run came to
+-- the report of a result, and the outcome of its run
 abbrev pub report_of : Result Report RunFault → Report
 report_of (Ok report) = report
 report_of (Err fault) = fault.report
@@ -152,9 +156,9 @@ abbrev pub answer_of : Result Report RunFault → Result ⊤ RunCause
 answer_of (Ok report) = Ok tt
 answer_of (Err fault) = Err fault.cause
 
--- ---- what is answered
+-- ---- the result
 
--- an engine of a pipeline that was opened, before its first turn: in its world no packet is
+-- an engine of a pipeline before its first turn: its world has no packets
 pub record IsFirst (p : Plan) (pattern : List ℕ) (first : EngineState) : Type 0 where
   pub room : bytes_needed p.env ≤ p.region
   pub setting : first.setting ≡ setting_in p pattern
@@ -164,19 +168,18 @@ pub record IsFirst (p : Plan) (pattern : List ℕ) (first : EngineState) : Type 
   pub tallies : first.tallies ≡ replicate 8 no_tallies
   pub left : first.left ≡ replicate 8 0
 
--- A run of a pipeline that came to an open engine: the engine before its first turn and behind the last one, how far each input
--- was read, and the report.
-pub record RanOn (p : Plan) (pattern : List ℕ) (olds news held holds : List (Option (List ℕ))) (answer : Result Report RunFault) : Type 0 where
+-- A run of a pipeline that got an open engine: the engine before its first turn and after the last one, how far each input was read, and the report.
+pub record RanOn (p : Plan) (pattern : List ℕ) (t : Transfer) (answer : Result Report RunFault) : Type 0 where
   pub first : EngineState
   pub is_first : IsFirst p pattern first
   pub last : EngineState
   pub progress : List Progress
-  pub went : GoesForward first last olds news held holds progress (answer_of answer)
+  pub went : GoesForward first last t progress (answer_of answer)
   pub reported : IsReportOf last progress (report_of answer)
 
--- why no engine was opened
+-- why no engine was opened; whether there is room is known before memory is asked for
 abbrev pub IsUnopened : Plan → RunCause → Type 0
-IsUnopened p Memory = ⊤
+IsUnopened p Memory = bytes_needed p.env ≤ p.region
 IsUnopened p NoRoom = p.region < bytes_needed p.env
 IsUnopened p cause = ⊥
 
@@ -184,8 +187,6 @@ abbrev pub Unopened : Plan → Result Report RunFault → Type 0
 Unopened p (Ok report) = ⊥
 Unopened p (Err fault) = IsUnopened p fault.cause × IsIdle p.env fault.report
 
--- What a run answers: the bytes that each reader had and has left, and those that each writer held and holds, as far as they are
--- known.
-abbrev pub RunAnswers : Plan → List ℕ → List (Option (List ℕ)) → List (Option (List ℕ)) → List (Option (List ℕ)) → List (Option (List ℕ)) →
-    Result Report RunFault → Type 0
-RunAnswers p pattern olds news held holds answer = RanOn p pattern olds news held holds answer ⊎ Unopened p answer
+-- the result of a run in terms of its engine
+abbrev pub RunAnswers : Plan → List ℕ → Transfer → Result Report RunFault → Type 0
+RunAnswers p pattern t answer = RanOn p pattern t answer ⊎ Unopened p answer

@@ -1,4 +1,4 @@
--- The setup of a pipeline file: how the table of its text is read, part by part.
+-- The setup in a pipeline file: how the table of its text is read, part by part.
 use Rattle.std.specs.Prelude.{ℕ, ◌+◌, ◌%◌, Bool, true, ◌&&◌, ◌==◌, nat_le, List, [], ◌∷◌, Option, Some, None, option_and_then, option_map, ok_or, Result, Ok}
 use Rattle.std.specs.Prelude.{Err, if◌then◌else◌, codes}
 use Rattle.toml.specs.Data.{Data, Members, get_member, as_table}
@@ -14,7 +14,7 @@ use Rattle.dp_pipe.specs.declared.error.Part.{Part}
 use Rattle.dp_pipe.specs.declared.error.Part.TheVariants.{Top, Pool, Table, Ring, Port}
 use Rattle.dp_pipe.specs.Keys.{elements_at, elements_of, is_array_of, is_text, is_table, has_only, number_at, text_at, text_if_any}
 
--- the largest share and the most segments that a file can say: what one byte has room for
+-- the largest share, and the most segments, that a file can have: the largest byte
 abbrev pub largest_small : ℕ
 largest_small = 255
 
@@ -65,7 +65,7 @@ pool_in table =
     (number_at (codes "count") greatest table)
     else None
 
--- a number that is at least 1
+-- a number of at least 1
 abbrev pub rules_if : ℕ → Option ℕ
 rules_if n = if nat_le 1 n then Some n else None
 
@@ -98,7 +98,7 @@ node_files_in table =
     (text_if_any (get_member (codes "cert") table)))
     (text_at (codes "node") table)
 
--- what each packet of a ring meets
+-- the fact that each packet of a ring satisfies
 abbrev pub fact_in : Members → Option Fact
 fact_in table =
     option_and_then (λ share. option_and_then (λ head. option_and_then
@@ -163,7 +163,7 @@ port_in table =
 abbrev pub region_if : ℕ → Option ℕ
 region_if n = if nat_le least_region n && n % cache_line == 0 then Some n else None
 
--- an array of tables, or nothing at all
+-- an array of tables, or missing
 abbrev pub is_tables : Option Data → Bool
 is_tables None = true
 is_tables (Some d) = is_array_of is_table d
@@ -172,7 +172,7 @@ is_tables (Some d) = is_array_of is_table d
 abbrev pub top_keys : List (List ℕ)
 top_keys = codes "region" ∷ codes "pool" ∷ codes "table" ∷ codes "ring" ∷ codes "port" ∷ []
 
--- whether the top has no other keys, and arrays of tables where it may
+-- whether the top has no other keys, and arrays of tables at those that may have them
 abbrev pub is_top : Members → Bool
 is_top top =
     has_only top_keys top && is_tables (get_member (codes "pool") top) && is_tables (get_member (codes "table") top)
@@ -183,7 +183,7 @@ abbrev pub region_in : Members → Option ℕ
 region_in top =
     if is_top top then option_and_then region_if (number_at (codes "region") largest_region top) else None
 
--- the second reading, with what the first gave, if it gave anything
+-- the second reading, after the first if that gave something
 abbrev pub and_then : {A B E : Type 0} → Result A E → (A → Result B E) → Result B E
 and_then (Ok x) next = next x
 and_then (Err e) next = Err e
@@ -192,14 +192,14 @@ and_then (Err e) next = Err e
 abbrev pub Bad : Type 0
 Bad = Part × ℕ
 
--- the parts of an array, or the first that has a bad key; k is the index of the first of them
+-- the parts of an array, or the first with a bad key; k is the index of the first of them
 abbrev pub each : {A : Type 0} → Part → (Members → Option A) → ℕ → List Data → Result (List A) Bad
 each kind read k [] = Ok []
 each kind read k (d ∷ ds) =
     and_then (ok_or (option_and_then read (as_table d)) (kind, k)) (λ x.
     and_then (each kind read (k + 1) ds) (λ xs. Ok (x ∷ xs)))
 
--- the setup of a file, or the first part with a bad key: the top, then the pools, the tables, the rings and the ports
+-- the setup of a file, or the first part with a bad key: the top, then pools, tables, rings and ports
 abbrev pub setup_in : Members → Result Setup Bad
 setup_in top =
     and_then (ok_or (region_in top) (Top, 0)) (λ region.

@@ -1,4 +1,4 @@
--- The names that a pipeline file gives of one node.
+-- The names in a pipeline file for one node.
 use Rattle.std.specs.Prelude.{Option, option_map, slice_get}
 use Rattle.dp_model.specs.declared.env.Entry.{Entry}
 use Rattle.dp_model.specs.declared.env.Entry.TheVariants.{Port, Ring}
@@ -6,7 +6,7 @@ use Rattle.dp_pipe.specs.declared.config.Config.{Config}
 use Rattle.dp_pipe.specs.Setup.{NodeFiles}
 use Rattle.dp_pipe.specs.Views.{node_names}
 
--- the names of the files of a node, where there is one with this entry
+-- the file names of the node with this entry, if there is one
 abbrev pub files_at : Config → Entry → Option NodeFiles
 files_at config (Port port) = option_map (λ names. node_names names.files) (slice_get config.ports.items port)
 files_at config (Ring ring) = option_map node_names (slice_get config.rings.items ring)

@@ -1,14 +1,84 @@
--- Internal, no public contract names it: what a traced run answers.
-use Rattle.std.specs.Prelude.{ℕ, Option, Some, None, ⊤}
+-- What a tracer is shown of a run, and the result of a traced run.
+use Rattle.std.specs.Prelude.{◌≡◌, ℕ, ◌+◌, ◌≤◌, Option, Some, None, List, [], ◌∷◌, length, ⊤}
+use Rattle.std.specs.List.{AllByRecursion}
+use Rattle.dp_model.specs.Machine.{Setting, World}
+use Rattle.dp_model.specs.Runs.{Arrival, Nodes, Took, with_empty_outboxes}
+use Rattle.dp_pcap.specs.declared.time.Time.{Time}
+use Rattle.dp_engine.specs.declared.engine.Turn.{Turn}
+use Rattle.dp_engine.specs.Engines.{EngineState}
+use Rattle.dp_engine.specs.Outcomes.{outcome_of}
+use Rattle.dp_engine.specs.Watching.{Event, WatchesTurn}
+use Rattle.dp_pipe.specs.Pipelines.{Plan}
+use Rattle.dp_pipe.specs.Running.{IsFirst}
 use Rattle.dp_pipe.specs.declared.forwarding.RunCause.{RunCause}
 use Rattle.dp_pipe.specs.declared.forwarding.RunCause.TheVariants.{In}
+
+-- what is reported between turns: that a record comes to a port, with its length; and how its turn ended, with the world then
+pub data Note : Type 0 where
+  Came : (port : ℕ) → (time : Time) → (len : ℕ) → Note
+  Ended : (turn : Turn) → (world : World) → Note
+
+-- a record comes: it is reported, its turn is watched, and how it ended is reported
+pub record TracesTurn {V : Type 0} (sees : V → Event → V → Type 0) (told : V → Note → V → Type 0) (v v' : V) (c : Setting) (nodes : Nodes) (a : Arrival Time)
+    (w w' : World) : Type 0 where
+  pub before : V
+  pub came : told v (Came a.port a.time (length a.bytes)) before
+  pub turn : Turn
+  pub after : V
+  pub watched : WatchesTurn sees before after c nodes a.port a.bytes w (outcome_of turn.outcome) turn.runs w'
+  pub took : Took w w' turn.steps turn.cuts
+  pub ended : told after (Ended turn w') v'
+
+-- these records come, one after the other, and what each turn put into transmit lists is dropped after it
+abbrev pub Traces : {V : Type 0} → (V → Event → V → Type 0) → (V → Note → V → Type 0) → V → V → Setting → Nodes → List (Arrival Time) → World → World → Type 0
+Traces sees told v v' c nodes [] w w' = (v' ≡ v) × (w' ≡ w)
+Traces {V} sees told v v' c nodes (a ∷ arrivals) w w' =
+    (mid : V) × (turned : World) × TracesTurn sees told v mid c nodes a w turned
+    × Traces sees told mid v' c nodes arrivals (with_empty_outboxes turned) w'
+
+-- the port is traced: it is the only one, or all are
+abbrev pub IsTraced : Option ℕ → ℕ → Type 0
+IsTraced None port = ⊤
+IsTraced (Some only) port = port ≡ only
+
+-- from one engine to a later one a tracer was shown n records, of that port if only one is traced, and nothing else
+pub record HasTraced {V : Type 0} (sees : V → Event → V → Type 0) (told : V → Note → V → Type 0) (v v' : V) (only : Option ℕ) (count : ℕ) (e e' : EngineState)
+    : Type 0 where
+  pub arrivals : List (Arrival Time)
+  pub traces : Traces sees told v v' e.setting e.nodes arrivals e.world e'.world
+  pub only_is : AllByRecursion (λ (a : Arrival Time). IsTraced only a.port) arrivals
+  pub many : length arrivals ≡ count
+  pub setting : e'.setting ≡ e.setting
+  pub nodes : e'.nodes ≡ e.nodes
+  pub turns : e'.turns ≡ e.turns + count
+
+-- A traced run of a pipeline takes the turns of a run from its start: those of at most n records, each of which came to the port that is traced.
+pub record TracesFirst {V : Type 0} (sees : V → Event → V → Type 0) (told : V → Note → V → Type 0) (v v' : V) (p : Plan) (pattern : List ℕ) (only : Option ℕ)
+    (most : ℕ) : Type 0 where
+  pub first : EngineState
+  pub is_first : IsFirst p pattern first
+  pub last : EngineState
+  pub count : ℕ
+  pub few : count ≤ most
+  pub traced : HasTraced sees told v v' only count first last
+
+-- ---- Internal: the result of a traced run
+
+-- the turn of a record that was read was shown
+pub record TracesRead {V : Type 0} (sees : V → Event → V → Type 0) (told : V → Note → V → Type 0) (v v' : V) (port : ℕ) (time : Time) (e e' : EngineState)
+    : Type 0 where
+  pub bytes : List ℕ
+  pub traces : TracesTurn sees told v v' e.setting e.nodes (record { port = port; time = time; bytes = bytes }) e.world e'.world
+  pub setting : e'.setting ≡ e.setting
+  pub nodes : e'.nodes ≡ e.nodes
+  pub turns : e'.turns ≡ e.turns + 1
+
+-- if there was one, and else nothing
+abbrev pub TracesOne : {V : Type 0} → (V → Event → V → Type 0) → (V → Note → V → Type 0) → V → V → ℕ → Option Time → EngineState → EngineState → Type 0
+TracesOne sees told v v' port None e e' = (v' ≡ v) × (e' ≡ e)
+TracesOne sees told v v' port (Some time) e e' = TracesRead sees told v v' port time e e'
 
 -- a fault of an input
 abbrev pub IsOfInput : RunCause → Type 0
 IsOfInput (In port error) = ⊤
 IsOfInput _ = ⊥
-
--- how many turns a record is, where there is one
-abbrev pub one_if_some : {A : Type 0} → Option A → ℕ
-one_if_some None = 0
-one_if_some (Some a) = 1

@@ -1,4 +1,4 @@
--- Internal, but for `node_names`: what the values of the reader stand for.
+-- Internal, except `node_names`: the values of the reader's types.
 use Rattle.std.specs.Prelude.{◌≡◌, ℕ, List, map, option_map, string_bytes, Result, Ok, Err}
 use Rattle.toml.specs.Data.{Data}
 use Rattle.toml.specs.View as toml
@@ -18,7 +18,7 @@ use Rattle.dp_pipe.specs.Setup as spec
 abbrev pub values : List Value → List Data
 values vs = map toml.view vs
 
--- what lent names and parts stand for
+-- the values of borrowed names and parts
 abbrev pub node_files : NodeFiles → spec.NodeFiles
 node_files f = record { node = f.node.now; cert = option_map (λ text. text.now) f.cert }
 
@@ -48,13 +48,13 @@ node_names n = record { node = string_bytes n.node; cert = option_map string_byt
 abbrev pub port_names : PortNames → spec.NodeFiles × List ℕ × List ℕ
 port_names n = (node_names n.files, string_bytes n.input, string_bytes n.output)
 
--- the error is what reading gives, unless memory ran out
+-- the error is that of the definition, unless memory ran out
 abbrev pub FailsAs : {Y : Type 0} → PipeError → Result Y spec.Bad → Type 0
 FailsAs Memory read = Unit {0}
 FailsAs (BadKey kind index) read = read ≡ Err (kind, index)
 FailsAs _ read = ⊥
 
--- what was returned is what reading gives, as `view` sees it, unless memory ran out
+-- the code returns what the definition does, seen through `view`, unless memory ran out
 abbrev pub Gives : {X Y : Type 0} → (X → Y) → Result X PipeError → Result Y spec.Bad → Type 0
 Gives view (Ok x) read = read ≡ Ok (view x)
 Gives view (Err e) read = FailsAs e read

@@ -1,4 +1,4 @@
-//! Causes, by their numbers and in words.
+//! The numbers and texts of causes.
 
 ghost use Rattle.std.specs.Prelude.{◌≡◌};
 ghost use Rattle.dp_pipe.specs.Causes.{number_of, number_of_route};
@@ -9,7 +9,7 @@ use std::error::Error;
 use std::fmt;
 
 impl PipeError {
-    /// The number of the cause, 1 to 9, and 0 for memory.
+    /// The number of the cause, 1 to 9; 0 for memory.
     pub fn number(self) -> u8
         ensures { result ≡ number_of self }
     {
@@ -29,7 +29,7 @@ impl PipeError {
 }
 
 impl RouteError {
-    /// The number of the cause: that of the table's refusal, and 6 for a route that cannot be read.
+    /// The number of the cause: that of the table's refusal, or 6 for a route that cannot be read.
     pub fn number(self) -> u8
         ensures { result ≡ number_of_route self }
     {
@@ -57,7 +57,7 @@ impl fmt::Display for Part {
     }
 }
 
-/// A node as it is named in texts, such as `port 0` or `ring 3`.
+/// The name of a node in texts, as `port 0` or `ring 3`.
 #[derive(Clone, Copy, Debug, PartialEq, Eq)]
 pub struct NodeName(pub Entry);
 
@@ -75,7 +75,7 @@ impl fmt::Display for NodeName {
     }
 }
 
-/// Causes 1 to 7 as a number, a name, and where and why; 8 and 9 as what became of the node.
+/// Causes 1 to 7 as a number, a name, and where and why; 8 and 9 as the verdict on the node.
 impl fmt::Display for PipeError {
     ghost use Rattle.std.specs.Prelude.{Some};
     ghost use Rattle.dp_pipe.specs.Causes.{text_of};

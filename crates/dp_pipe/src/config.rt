@@ -1,4 +1,4 @@
-//! From the text of a pipeline file to its configuration.
+//! Reads the text of a pipeline file as a configuration.
 
 ghost use Rattle.std.specs.Prelude.{◌≡◌, map, option_map, string_bytes, IfOk, IfErr};
 ghost use Rattle.std.specs.List.{All};
@@ -17,12 +17,12 @@ use dp_model::{Env, PortSpec, RingSpec};
 use std::alloc::{AllocError, Global};
 use toml::Table;
 
-/// The configuration that a pipeline file gives.
+/// The configuration in a pipeline file.
 #[derive(Drop)]
 pub(crate) struct Config {
     /// The size of the region in bytes: a multiple of `dp_region::CACHE_LINE`, from `LEAST_REGION` to `LARGEST_REGION`.
     pub region: u32,
-    /// What its programs are written for.
+    /// The environment of its programs.
     pub env: Env,
     /// The tables, each with its routes.
     pub tables: Vec<Lpm>,
@@ -32,12 +32,15 @@ pub(crate) struct Config {
     pub rings: Vec<NodeNames>,
 }
 
-/// The table of a text.
+/// Parses a text as TOML.
 fn table_of(alloc: Global, text: &[u8]) -> Result<Table, PipeError>
     ensures ok { IfOk result (λ t. spec.IsTable text.now (table_view t)) }
     ensures err { IfErr result (spec.IsTextFault text.now) }
 {
-    match toml::table_from_slice(alloc, text) {
+    let Ok(text) = str::from_utf8(text) else {
+        return Err(PipeError::NotToml);
+    };
+    match toml::table_from_str(alloc, text) {
         Ok(table) => Ok(table),
         Err(error) if error.is_memory() => Err(PipeError::Memory),
         Err(_) => Err(PipeError::NotToml),
@@ -56,7 +59,7 @@ fn specs_of_ports(alloc: Global, ports: &[PortPart<'_>]) -> Result<Vec<PortSpec>
     ports.iter().map(|port| port.spec).collect(alloc)
 }
 
-/// The environment that a file asks for; more than 255 tables count as 255.
+/// The environment in a file; more than 255 tables count as 255.
 fn env_of(alloc: Global, setup: &Setup<'_>) -> Result<Env, PipeError>
     ensures ok { IfOk result (λ env. spec.IsEnv (view.setup setup.now) env) }
     ensures err { IfErr result (spec.IsEnvFault (view.setup setup.now)) }
@@ -88,7 +91,7 @@ fn kept_files(alloc: Global, files: NodeFiles<'_>) -> Result<NodeNames, AllocErr
     })
 }
 
-/// The names of each ring's files.
+/// The file names of each ring's node.
 fn names_of_rings(alloc: Global, rings: &[RingPart<'_>]) -> Result<Vec<NodeNames>, AllocError>
     ensures { IfOk result (λ v. map view.node_names v.items ≡ map (λ r. view.node_files r.files) rings.now) }
 {
@@ -109,7 +112,7 @@ fn port_names(alloc: Global, port: &PortPart<'_>) -> Result<PortNames, AllocErro
     })
 }
 
-/// The names of each port's files.
+/// The file names of each port.
 fn names_of_ports(alloc: Global, ports: &[PortPart<'_>]) -> Result<Vec<PortNames>, AllocError>
     ensures { IfOk result (λ v. map view.port_names v.items ≡ map (λ p. spec.names_of_port (view.port_part p)) ports.now) }
 {
@@ -120,7 +123,7 @@ fn names_of_ports(alloc: Global, ports: &[PortPart<'_>]) -> Result<Vec<PortNames
     Ok(names)
 }
 
-/// The table of this index, with its routes.
+/// Makes a table with its routes.
 fn filled(alloc: Global, index: usize, part: &TablePart<'_>) -> Result<Lpm, PipeError>
     ensures ok { IfOk result (λ table. spec.Holds (view.table_part part.now) table) }
     ensures err { IfErr result (spec.IsFillFault index (view.table_part part.now)) }
@@ -140,7 +143,7 @@ fn filled(alloc: Global, index: usize, part: &TablePart<'_>) -> Result<Lpm, Pipe
     }
 }
 
-/// The tables, each with its routes.
+/// Makes all tables with their routes.
 fn tables_of(alloc: Global, tables: &[TablePart<'_>]) -> Result<Vec<Lpm>, PipeError>
     ensures ok { IfOk result (λ v. spec.HoldAll (map view.table_part tables.now) v.items) }
     ensures err { IfErr result (spec.IsTablesFault (map view.table_part tables.now)) }
@@ -169,10 +172,10 @@ fn config_of(alloc: Global, setup: &Setup<'_>) -> Result<Config, PipeError>
     })
 }
 
-/// The configuration of a text.
+/// Reads a text as a configuration.
 ///
 /// # Errors
-/// `Memory` where the memory is refused, else the first of `NotToml`, `BadKey`, `BadEnv` and `BadTable` that there is.
+/// `Memory` where memory is refused, else the first of `NotToml`, `BadKey`, `BadEnv` and `BadTable` that applies.
 pub(crate) fn configure(alloc: Global, text: &[u8]) -> Result<Config, PipeError>
     ensures ok { IfOk result (spec.IsConfigOf text.now) }
     ensures err { IfErr result (spec.IsFaultOf text.now) }

@@ -13,7 +13,7 @@ pub enum FetchFault {
     /// There is no such file, or it cannot be read.
     #[error("the file cannot be fetched")]
     Missing,
-    /// There is not enough memory.
+    /// The allocator refused memory.
     #[error("out of memory")]
     Memory,
 }
@@ -21,7 +21,7 @@ pub enum FetchFault {
 /// A part of a pipeline file: its top, or one of the tables of an array.
 #[derive(Clone, Copy, Debug, PartialEq, Eq)]
 pub enum Part {
-    /// Beside and above all tables of arrays.
+    /// The top level, outside all tables of arrays.
     Top,
     /// A `[[pool]]`.
     Pool,
@@ -33,7 +33,7 @@ pub enum Part {
     Port,
 }
 
-/// Why a route is not taken into its table.
+/// Why a route is refused.
 #[derive(Clone, Copy, Debug, PartialEq, Eq)]
 pub enum RouteError {
     /// The table refuses it.
@@ -42,27 +42,27 @@ pub enum RouteError {
     Unreadable,
 }
 
-/// Why a pipeline is not loaded, in the order in which the causes are looked for. Indices count from 0.
+/// Why a pipeline is not loaded, in the order of the tests. Indexes count from 0.
 #[derive(Clone, Copy, Debug, PartialEq, Eq)]
 pub enum PipeError {
-    /// There is not enough memory.
+    /// The allocator refused memory.
     Memory,
-    /// The text is no TOML.
+    /// The text is not TOML.
     NotToml,
-    /// A key is missing, unknown, of the wrong type or out of its range in a part.
+    /// In a part a key is missing, unknown, of the wrong type or out of its range.
     BadKey {
-        /// The kind of part.
+        /// The kind of the part.
         part: Part,
-        /// Which of its kind, 0 at the top.
+        /// Its index among its kind; 0 at the top.
         index: usize,
     },
-    /// There is no such environment.
+    /// The environment is refused.
     BadEnv(EnvError),
-    /// A route is not taken into its table.
+    /// A route of a table is refused.
     BadTable {
-        /// The table.
+        /// The index of the table.
         table: usize,
-        /// The route in it.
+        /// The index of the route.
         route: usize,
         /// Why.
         cause: RouteError,
@@ -73,13 +73,13 @@ pub enum PipeError {
     Asm(Entry, dp_lang::Fault),
     /// A node's certificate text has a fault.
     BadCert(Entry, dp_cert::Fault),
-    /// No certificate is inferred for a node's program.
+    /// No certificate is found for a node's program.
     NotInferred {
         /// The node.
         node: Entry,
         /// The least label, from 0, at which a rule fails with the last certificate that was tried.
         label: u16,
-        /// The number of the first rule that fails there, 2 to 11: each certificate that is tried has a row for each instruction.
+        /// The number of the first rule that fails there, 2 to 11: every certificate that is tried has a row for each instruction.
         rule: u8,
     },
     /// A node's program is refused with its certificate.

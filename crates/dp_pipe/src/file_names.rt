@@ -1,6 +1,6 @@
-//! The names of files that a pipeline file gives.
+//! The file names in a pipeline file.
 
-/// The files of a node: its program, and its certificate where one is named.
+/// The files of a node: its program, and its certificate if one is named.
 #[derive(Debug, Drop)]
 pub(crate) struct NodeNames {
     /// The program file.
@@ -14,8 +14,8 @@ pub(crate) struct NodeNames {
 pub(crate) struct PortNames {
     /// Its node's files.
     pub files: NodeNames,
-    /// The capture that it reads.
+    /// The capture that the port reads.
     pub input: String,
-    /// The capture that it writes.
+    /// The capture that the port writes.
     pub output: String,
 }

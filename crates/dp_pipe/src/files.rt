@@ -1,4 +1,4 @@
-//! Where programs and certificates come from.
+//! Where the files of programs and certificates come from.
 
 ghost use Rattle.std.specs.Prelude.{◌≡◌, ℕ, List, Option, IfOk, IsErrOf};
 ghost use Rattle.dp_pipe.specs.Files.{HasBytes, HasNone};
@@ -9,20 +9,18 @@ use std::alloc::Global;
 /// The most bytes of a program, of a certificate and of a pipeline file.
 pub const LONGEST_FILE: usize = 1_048_576;
 
-/// Files that are fetched by their names, such as those of a folder.
+/// Files that are fetched by name, as those of a folder.
 ///
-/// In a contract its files may be known.
+/// Contracts see the bytes of each file, where they are known.
 pub trait Files {
     // The bytes of each file by its name, where they are known.
     ghost known: { Self → Option (List ℕ → Option (List ℕ)) };
 
-    /// The bytes of a file. One that is longer than [`LONGEST_FILE`] may be cut behind that many and one more, unless
-    /// the files are known.
+    /// Returns the bytes of a file. One that is longer than [`LONGEST_FILE`] may be cut after one byte more, unless the files are known.
     ///
     /// # Errors
     ///
-    /// [`FetchFault::Missing`] where there is no such file or it cannot be read, and [`FetchFault::Memory`] where the memory
-    /// for its bytes is refused.
+    /// [`FetchFault::Missing`] where there is no such file or it cannot be read, and [`FetchFault::Memory`] where memory for its bytes is refused.
     fn fetch(&mut self, alloc: Global, name: &str) -> Result<Vec<u8>, FetchFault>
         ensures found { IfOk result (λ bytes. HasBytes (known self.old) name.now bytes.items) }
         ensures missing { IsErrOf result FetchFault.Missing → HasNone (known self.old) name.now }

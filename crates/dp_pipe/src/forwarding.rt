@@ -1,22 +1,23 @@
-//! A run from captures to captures, over an engine that is open: headers, then record by record, round by round.
-ghost use Rattle.std.specs.Prelude.{◌≡◌, ℕ, ◌+◌, ◌<◌, ◌≤◌, ◌↔◌, true, false, [], List, Option, Ok, Err, length, map, take, slice_get, Some, OnOk, OnErr};
+//! Runs an open engine from captures to captures: headers, then record by record, round by round.
+ghost use Rattle.std.specs.Prelude.{◌≡◌, ℕ, ◌+◌, ◌<◌, ◌≤◌, ◌↔◌, true, false, [], List, Ok, Err, length, map, take, slice_get, Some, OnOk, OnErr};
 ghost use Rattle.std.specs.Prelude.{IfOk, IfErr, IsOk, IsErr, IsErrOf, IsTrue};
-ghost use Rattle.dp_pcap.specs.Source.{body_in, IsInRange, Moves, failed_pulls};
-ghost use Rattle.dp_pipe.specs.Devices.{AllSound, AllFared, FaredAlone, failed_reader, failed_writer, failed_drain};
+ghost use Rattle.dp_pcap.specs.Source.{body_in, IsInRange, Moves, most_pulls, failed_pulls};
+ghost use Rattle.dp_pipe.specs.Devices.{Device, seen, transfer, AllSound, AllFared, FaredAlone, failed_reader, failed_writer, failed_drain};
 ghost use Rattle.dp_pipe.specs.Forwarding.{Input, ReadsTurn, DrainedAll, DrainsStopped, DrainedFirst, Advances, Along, IsRound, AreRounds};
 ghost use Rattle.dp_pipe.specs.Forwarding.{NoneIsOpen, SomeIsOpen};
+ghost use Rattle.dp_pipe.specs.Watched.{ShowsNext, ShowsTurns};
 ghost use Rattle.dp_engine.specs.Engines.{EngineState};
 ghost use Rattle.dp_pcap.specs.declared.format.TheConstants.{NANOS_A_SECOND};
 ghost use Rattle.dp_pcap.specs.declared.time.Time.{Time as InSeconds};
 ghost use Rattle.dp_pcap.specs.declared.time.Unit.{Unit as TimeUnit};
 
-use dp_engine::{Engine, InputState};
+use dp_engine::{Engine, InputState, Known, Watch};
 use dp_pcap::{
     Feed, HEAD_SIZE, LARGEST_RECORD, MOST_RECORDS, Next, PcapError, Sink, Source, Time, Unit,
     next_record, pass_record, put_header, read_header, record_at_hand,
 };
 
-/// The most turns of a run: eight inputs of as many records as a capture has.
+/// The most turns of a run: as many as eight captures can have records.
 pub const MOST_TURNS: u64 = 8 * MOST_RECORDS as u64;
 
 /// The most rounds of a run: one for each record of an input, and one in which all have ended.
@@ -25,11 +26,11 @@ pub(crate) const ROUNDS: u32 = MOST_RECORDS + 1;
 /// Why a run stopped.
 #[derive(Clone, Copy, Debug, PartialEq, Eq)]
 pub enum RunCause {
-    /// There was not enough memory. Nothing was read or written.
+    /// The allocator refused memory. Nothing was read or written.
     Memory,
     /// The region is smaller than the engine needs. Nothing was read or written.
     NoRoom,
-    /// The input of this port has this fault, in its header or behind the records that were read.
+    /// The input of this port has this fault, in its header or after the records that were read.
     In(u8, PcapError),
     /// The writer of this port failed.
     Out(u8),
@@ -42,7 +43,7 @@ pub(crate) struct Progress {
     pub state: InputState,
 }
 
-// The bytes of a record: those that the reader has at hand, or those in the buffer.
+// The bytes of a record: those that the reader has buffered, or those in the buffer.
 #[inline(always)]
 fn bytes_of<'a, R: Feed>(r: &'a R, buf: &'a [u8], is_held: bool, len: usize) -> &'a [u8]
     requires held { IsTrue is_held → HEAD_SIZE + len ≤ length (R.at_hand r.now) }
@@ -57,19 +58,20 @@ fn bytes_of<'a, R: Feed>(r: &'a R, buf: &'a [u8], is_held: bool, len: usize) -> 
     }
 }
 
-// Reads what comes next in an input and, where it is a record, takes a turn with it. Mostly the reader has it at hand, and the
-// mbuf's is the only copy of its bytes.
+// Reads what comes next in an input and, if it is a record, takes a watched turn with it. Usually the reader has buffered the record, and the mbuf's
+// is the only copy of its bytes.
 #[inline(always)]
-fn next_turn<R: Feed>(
-    engine: &mut Engine,
+fn next_turn<K: Known, R: Feed, V: Watch>(
+    engine: &mut Engine<K>,
     port: u8,
     r: &mut R,
     source: &mut Source,
     buf: &mut [u8],
+    watch: &mut V,
 ) -> Result<Next, PcapError>
     requires exists { port < length engine.old.setting.env.ports }
     requires buf { LARGEST_RECORD ≤ length buf.old }
-    // Eight inputs of so many records at most are as many turns as an engine takes.
+    // Eight inputs with at most that many records are no more turns than an engine takes.
     requires limit { engine.old.turns + MOST_RECORDS ≤ MOST_TURNS + source.old.given }
     requires open { source.old.is_open ≡ true }
     ensures turn { ReadsTurn port engine.old engine.new source.old source.new (R.remaining r.old) (R.remaining r.new) result }
@@ -77,7 +79,9 @@ fn next_turn<R: Feed>(
     ensures source { Moves source.old source.new result }
     ensures failed { IsErrOf result PcapError.Read ↔ IsTrue (R.is_broken r.new) }
     ensures stays { IsTrue (R.is_broken r.old) → IsTrue (R.is_broken r.new) }
+    ensures counted { R.calls r.new ≤ R.calls r.old + most_pulls result }
     ensures failures { R.failures r.new ≡ R.failures r.old + failed_pulls result }
+    ensures shown { ShowsNext V.sees watch.old watch.new port engine.old engine.new result }
 {
     let (time, len, is_held) = match record_at_hand(r, source) {
         Some((time, len)) => (time, len, true),
@@ -86,21 +90,27 @@ fn next_turn<R: Feed>(
             other => return other,
         },
     };
-    let _turn = engine.turn(port, bytes_of(r, buf, is_held, len));
+    let _turn = engine.watched_turn(port, bytes_of(r, buf, is_held, len), watch);
     if is_held {
         pass_record(r, source, len);
     }
     Ok(Next::Record(time, len))
 }
 
-// Drains the transmit lists of all ports, in port order, at one time. The port whose writer failed, if one did.
-fn drain_all<W: Sink>(engine: &mut Engine, time: Time, unit: Unit, outs: &mut [W]) -> Result<(), u8>
+// Drains the transmit lists of all ports, in port order, with one time. Returns the port whose writer failed, if one did.
+fn drain_all<K: Known, W: Sink>(
+    engine: &mut Engine<K>,
+    time: Time,
+    unit: Unit,
+    outs: &mut [W],
+) -> Result<(), u8>
     requires many { length outs.old ≡ length engine.old.setting.env.ports }
     requires few { length outs.old ≤ 8 }
     requires counted { length engine.old.tallies ≡ 8 }
     requires nano { time.nano < NANOS_A_SECOND }
-    ensures ok { OnOk result (DrainedAll unit time engine.old engine.new (map W.contents outs.old) (map W.contents outs.new)) }
-    ensures err { IfErr result (λ port. DrainsStopped unit time engine.old engine.new (map W.contents outs.old) (map W.contents outs.new) port) }
+    ensures ok { OnOk result (DrainedAll unit time engine.old engine.new (map (seen W.contents W.calls) outs.old) (map (seen W.contents W.calls) outs.new)) }
+    ensures err { IfErr result (λ port. DrainsStopped unit time engine.old engine.new (map (seen W.contents W.calls) outs.old)
+        (map (seen W.contents W.calls) outs.new) port) }
     ensures many_out { length outs.new ≡ length outs.old }
     ensures broken { IfErr result (λ port. (w : W) → slice_get outs.new port ≡ Some w → IsTrue (W.is_broken w)) }
     ensures fared { AllSound W.is_broken outs.old → AllFared W.is_broken W.failures (failed_drain result) outs.old outs.new }
@@ -123,15 +133,16 @@ pub(crate) fn is_open(input: &Progress) -> bool
     input.state == InputState::Open
 }
 
-// Asks an input for what comes next, if it is open. Behind a record there is a turn, and then all ports are drained.
-fn ask<R: Feed, W: Sink>(
-    engine: &mut Engine,
+// Reads what comes next in an input, if it is open. After a record it takes a watched turn, and drains all ports.
+fn ask<K: Known, R: Feed, W: Sink, V: Watch>(
+    engine: &mut Engine<K>,
     port: u8,
     input: &mut Progress,
     r: &mut R,
     outs: &mut [W],
     unit: Unit,
     buf: &mut [u8],
+    watch: &mut V,
 ) -> Result<(), RunCause>
     requires exists { port < length engine.old.setting.env.ports }
     requires many { length outs.old ≡ length engine.old.setting.env.ports }
@@ -140,8 +151,9 @@ fn ask<R: Feed, W: Sink>(
     requires buf { LARGEST_RECORD ≤ length buf.old }
     requires open { input.old.state ≡ InputState.Open → input.old.source.is_open ≡ true }
     requires limit { input.old.state ≡ InputState.Open → engine.old.turns + MOST_RECORDS ≤ MOST_TURNS + input.old.source.given }
-    ensures step { input.old.state ≡ InputState.Open → Advances port unit engine.old engine.new input.old input.new (R.remaining r.old) (R.remaining r.new)
-        (map W.contents outs.old) (map W.contents outs.new) result }
+    ensures step { input.old.state ≡ InputState.Open → Advances port unit engine.old engine.new input.old input.new
+        (seen R.remaining R.calls r.old) (seen R.remaining R.calls r.new)
+        (map (seen W.contents W.calls) outs.old) (map (seen W.contents W.calls) outs.new) result }
     ensures over { (input.old.state ≡ InputState.Open → ⊥) → (result ≡ Ok tt) × (engine.new ≡ engine.old) × (input.new ≡ input.old) × (r.new ≡ r.old)
         × (outs.new ≡ outs.old) }
     ensures many { length outs.new ≡ length outs.old }
@@ -149,11 +161,12 @@ fn ask<R: Feed, W: Sink>(
     ensures reader { input.old.state ≡ InputState.Open → IsTrue (R.is_broken r.new) → result ≡ Err (RunCause.In port PcapError.Read) }
     ensures fared_reader { FaredAlone R.is_broken R.failures (failed_reader result) port r.old r.new }
     ensures fared_writers { AllSound W.is_broken outs.old → AllFared W.is_broken W.failures (failed_writer result) outs.old outs.new }
+    ensures shown { ShowsTurns V.sees watch.old watch.new engine.old engine.new result }
 {
     if !is_open(input) {
         return Ok(());
     }
-    match next_turn(engine, port, r, &mut input.source, buf) {
+    match next_turn(engine, port, r, &mut input.source, buf, watch) {
         Ok(Next::Record(time, _)) => match drain_all(engine, time, unit, outs) {
             Ok(()) => Ok(()),
             Err(failed) => Err(RunCause::Out(failed)),
@@ -170,14 +183,15 @@ fn ask<R: Feed, W: Sink>(
     }
 }
 
-// Asks each input that is open once, in port order.
-fn round<R: Feed, W: Sink>(
-    engine: &mut Engine,
+// Does that once for each open input, in port order.
+fn round<K: Known, R: Feed, W: Sink, V: Watch>(
+    engine: &mut Engine<K>,
     inputs: &mut [Progress],
     ins: &mut [R],
     outs: &mut [W],
     unit: Unit,
     buf: &mut [u8],
+    watch: &mut V,
 ) -> Result<(), RunCause>
     requires inputs { length inputs.old ≡ length engine.old.setting.env.ports }
     requires ins { length ins.old ≡ length engine.old.setting.env.ports }
@@ -185,19 +199,30 @@ fn round<R: Feed, W: Sink>(
     requires few { length outs.old ≤ 8 }
     requires counted { length engine.old.tallies ≡ 8 }
     requires buf { LARGEST_RECORD ≤ length buf.old }
-    requires along { (e0 : EngineState) × (olds : List (Option (List ℕ))) × (held : List (Option (List ℕ))) × (read : List Input) × (k : ℕ)
-        × Along unit e0 engine.old olds (map R.remaining ins.old) held (map W.contents outs.old) inputs.old read k 0 }
-    ensures goes { (e0 : EngineState) (olds held : List (Option (List ℕ))) (read : List Input) (k : ℕ) →
-        Along unit e0 engine.old olds (map R.remaining ins.old) held (map W.contents outs.old) inputs.old read k 0
-        → IsRound unit e0 engine.old engine.new olds (map R.remaining ins.new) held (map W.contents outs.new) inputs.new k result }
+    requires along { (e0 : EngineState) × (had : List Device) × (held : List Device) × (read : List Input) × (k : ℕ)
+        × Along unit e0 engine.old (transfer had (map (seen R.remaining R.calls) ins.old) held (map (seen W.contents W.calls) outs.old)) inputs.old read k 0 }
+    ensures goes { (e0 : EngineState) (had held : List Device) (read : List Input) (k : ℕ) →
+        Along unit e0 engine.old (transfer had (map (seen R.remaining R.calls) ins.old) held (map (seen W.contents W.calls) outs.old)) inputs.old read k 0
+        → IsRound unit e0 engine.old engine.new (transfer had (map (seen R.remaining R.calls) ins.new) held (map (seen W.contents W.calls) outs.new))
+        inputs.new k result }
     ensures many { (length inputs.new ≡ length inputs.old) × (length ins.new ≡ length ins.old) × (length outs.new ≡ length outs.old)
         × (length buf.new ≡ length buf.old) }
     ensures fared_readers { AllFared R.is_broken R.failures (failed_reader result) ins.old ins.new }
     ensures fared_writers { AllSound W.is_broken outs.old → AllFared W.is_broken W.failures (failed_writer result) outs.old outs.new }
+    ensures shown { ShowsTurns V.sees watch.old watch.new engine.old engine.new result }
 {
     for port in 0..inputs.len() as u8 {
         let k = port as usize;
-        ask(engine, port, &mut inputs[k], &mut ins[k], outs, unit, buf)?;
+        ask(
+            engine,
+            port,
+            &mut inputs[k],
+            &mut ins[k],
+            outs,
+            unit,
+            buf,
+            watch,
+        )?;
     }
     Ok(())
 }
@@ -215,14 +240,15 @@ fn is_any_open(inputs: &[Progress]) -> bool
     false
 }
 
-// Round by round, until every input has ended.
-pub(crate) fn rounds<R: Feed, W: Sink>(
-    engine: &mut Engine,
+// Takes rounds until every input has ended.
+pub(crate) fn rounds<K: Known, R: Feed, W: Sink, V: Watch>(
+    engine: &mut Engine<K>,
     inputs: &mut [Progress],
     ins: &mut [R],
     outs: &mut [W],
     unit: Unit,
     buf: &mut [u8],
+    watch: &mut V,
 ) -> Result<(), RunCause>
     requires inputs { length inputs.old ≡ length engine.old.setting.env.ports }
     requires ins { length ins.old ≡ length engine.old.setting.env.ports }
@@ -230,20 +256,22 @@ pub(crate) fn rounds<R: Feed, W: Sink>(
     requires few { length outs.old ≤ 8 }
     requires counted { length engine.old.tallies ≡ 8 }
     requires buf { LARGEST_RECORD ≤ length buf.old }
-    requires along { (e0 : EngineState) × (olds : List (Option (List ℕ))) × (held : List (Option (List ℕ))) × (read : List Input)
-        × Along unit e0 engine.old olds (map R.remaining ins.old) held (map W.contents outs.old) inputs.old read 0 0 }
-    ensures goes { (e0 : EngineState) (olds held : List (Option (List ℕ))) (read : List Input) →
-        Along unit e0 engine.old olds (map R.remaining ins.old) held (map W.contents outs.old) inputs.old read 0 0
-        → AreRounds unit e0 engine.new olds (map R.remaining ins.new) held (map W.contents outs.new) inputs.new result }
+    requires along { (e0 : EngineState) × (had : List Device) × (held : List Device) × (read : List Input)
+        × Along unit e0 engine.old (transfer had (map (seen R.remaining R.calls) ins.old) held (map (seen W.contents W.calls) outs.old)) inputs.old read 0 0 }
+    ensures goes { (e0 : EngineState) (had held : List Device) (read : List Input) →
+        Along unit e0 engine.old (transfer had (map (seen R.remaining R.calls) ins.old) held (map (seen W.contents W.calls) outs.old)) inputs.old read 0 0
+        → AreRounds unit e0 engine.new (transfer had (map (seen R.remaining R.calls) ins.new) held (map (seen W.contents W.calls) outs.new))
+        inputs.new result }
     ensures many { length inputs.new ≡ length inputs.old }
     ensures fared_readers { AllFared R.is_broken R.failures (failed_reader result) ins.old ins.new }
     ensures fared_writers { AllSound W.is_broken outs.old → AllFared W.is_broken W.failures (failed_writer result) outs.old outs.new }
+    ensures shown { ShowsTurns V.sees watch.old watch.new engine.old engine.new result }
 {
     for k in 0..ROUNDS {
         if !is_any_open(inputs) {
             return Ok(());
         }
-        round(engine, inputs, ins, outs, unit, buf)?;
+        round(engine, inputs, ins, outs, unit, buf, watch)?;
     }
     Ok(())
 }

@@ -1,4 +1,4 @@
-//! What the keys of a TOML table hold.
+//! Reads the values at the keys of a TOML table.
 
 ghost use Rattle.std.specs.Prelude.{◌≡◌, ◌≤◌, map, string_bytes, IfSome, option_map, option_and_then};
 ghost use Rattle.std.specs.List.{list_all, list_any};
@@ -29,7 +29,7 @@ fn are_among(table: &Table, keys: &[&str]) -> bool
     table.keys().all(|key| is_among(keys, key.as_str()))
 }
 
-/// Whether each key of a table is one of these.
+/// Whether each key of a table is in the list.
 pub fn has_only(table: &Table, keys: &[&str]) -> bool
     ensures { result ≡ spec.has_only (map (λ known. known.now) keys.now) (table_view table.now) }
 {
@@ -42,7 +42,7 @@ fn integer_at(table: &Table, key: &str) -> Option<i64>
     value_at(table, key)?.as_integer()
 }
 
-/// The whole number at a key, from 0 to most.
+/// The whole number at a key, from 0 to `most`.
 pub fn number_at(table: &Table, key: &str, most: u32) -> Option<u32>
     ensures number { result ≡ spec.number_at key.now most (table_view table.now) }
     ensures most { IfSome result (λ n. n ≤ most) }
@@ -62,7 +62,7 @@ pub fn text_at<'a>(table: &'a Table, key: &str) -> Option<&'a str>
     value_at(table, key)?.as_str()
 }
 
-/// The text at a key that may be missing; nothing where something else stands there.
+/// The text at an optional key; nothing where the value is no text.
 pub fn text_if_any<'a>(table: &'a Table, key: &str) -> Option<Option<&'a str>>
     ensures { option_map (option_map (λ s. s.now)) result ≡ spec.text_if_any (get_member key.now (table_view table.now)) }
 {
@@ -75,7 +75,7 @@ pub fn text_if_any<'a>(table: &'a Table, key: &str) -> Option<Option<&'a str>>
     }
 }
 
-/// The elements of a value, and none of what is no array.
+/// The elements of a value; none where it is no array.
 pub fn elements_of(value: &Value) -> &[Value]
     ensures { map view result.now ≡ spec.elements_of (view value.now) }
 {
@@ -85,7 +85,7 @@ pub fn elements_of(value: &Value) -> &[Value]
     }
 }
 
-/// The elements of the array at a key, and none where there is no array.
+/// The elements of the array at a key; none where there is no array.
 pub fn elements_at<'a>(table: &'a Table, key: &str) -> &'a [Value]
     ensures { map view result.now ≡ spec.elements_at key.now (table_view table.now) }
 {

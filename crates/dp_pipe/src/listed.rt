@@ -1,4 +1,4 @@
-//! Files that are in memory already.
+//! Files in memory, for programs and certificates that are not read from the host.
 
 ghost use Rattle.std.specs.Prelude.{◌≡◌, find, option_map};
 ghost use Rattle.std.specs.Str.{bytes_eq};
@@ -16,7 +16,7 @@ pub struct NamedBytes<'a> {
     pub bytes: &'a [u8],
 }
 
-/// Files that are in memory already; of two with the same name, the first counts.
+/// Files in memory; of two with the same name, the first counts.
 #[derive(Clone, Copy, Debug)]
 pub struct Listed<'a> {
     /// The files.

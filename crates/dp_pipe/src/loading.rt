@@ -1,4 +1,4 @@
-//! From a pipeline file to a pipeline.
+//! Loads a pipeline: its text, then the programs and certificates that it names.
 
 ghost use Rattle.std.specs.Prelude.{◌≡◌, IfErr, IfOk};
 ghost use Rattle.dp_pipe.specs.Loads.{IsLoadedFrom, IsUnloaded};
@@ -10,12 +10,13 @@ use crate::nodes::{How, load_nodes};
 use crate::pipeline::Pipeline;
 use std::alloc::Global;
 
-/// The pipeline of a text, with the programs that it names. The text's format stands in docs/formats.md.
+/// Loads the pipeline of a text, with the programs that it names. docs/reference/formats.md describes the text.
 ///
 /// # Errors
 ///
-/// The first cause of [`PipeError`]: 1 to 4 by the text alone, then node by node, ports first, those of its program and its
-/// certificate. [`PipeError::Memory`] may come at any time. Files were fetched then, and nothing else has changed.
+/// The first cause of [`PipeError`]: 1 to 4 from the text alone, then node by node, ports first, those of its program and its
+/// certificate. [`PipeError::Memory`] may come in place of any, except that a text is not UTF-8, which is found without memory. Files were
+/// fetched then; nothing else has changed.
 pub fn load<F: Files>(
     alloc: Global,
     text: &[u8],

@@ -1,4 +1,4 @@
-//! Node programs and their certificates, from files.
+//! Loads node programs and their certificates from files.
 
 ghost use Rattle.std.specs.Prelude.{◌≡◌, ◌≤◌, ◌<◌, ◌+◌, ◌⊎◌, length, map, Some, IfOk, IfErr, IsTrue, slice_get, string_bytes};
 ghost use Rattle.std.specs.Option.{option_map};
@@ -24,7 +24,7 @@ use std::alloc::Global;
 /// Where certificates come from.
 #[derive(Clone, Copy, Debug, PartialEq, Eq)]
 pub enum How {
-    /// Those that are named are read, and where none is named one is inferred.
+    /// Named ones are read, and the others are inferred.
     Given,
     /// All are inferred.
     Inferred,
@@ -58,7 +58,7 @@ pub fn bytes_of<F: Files>(
     }
 }
 
-// The program that a file reads as.
+// Reads a file as a program.
 fn program_of<F: Files>(
     alloc: Global,
     files: &mut F,
@@ -77,7 +77,7 @@ fn program_of<F: Files>(
     }
 }
 
-/// The certificate that a file of a node spells, with so many rows.
+/// Reads a file of a node as a certificate of `n` rows.
 ///
 /// # Errors
 ///
@@ -102,7 +102,7 @@ pub fn cert_of<F: Files>(
     }
 }
 
-// The program, checked with the certificate that a file spells.
+// Checks the program with the certificate in a file.
 #[tactic(auto, using(crate::proofs::Gathered::spelled_cert))]
 fn given<F: Files>(
     alloc: Global,
@@ -133,7 +133,7 @@ fn given<F: Files>(
     }
 }
 
-// The program, checked with a certificate that is inferred.
+// Checks the program with an inferred certificate.
 fn inferred(alloc: Global, env: &Env, node: Entry, program: Program) -> Result<Checked, PipeError>
     ensures env { IfOk result (λ q. q.env ≡ env.now) }
     ensures entry { IfOk result (λ q. q.entry ≡ node) }
@@ -152,7 +152,7 @@ fn inferred(alloc: Global, env: &Env, node: Entry, program: Program) -> Result<C
     }
 }
 
-// The certificate file that is read, where one is.
+// The certificate file to read, if there is one.
 fn cert_read(how: How, names: &NodeNames) -> Option<&str>
     ensures { option_map (λ name. name.now) result ≡ cert_read how (node_names names.now) }
 {
@@ -165,14 +165,14 @@ fn cert_read(how: How, names: &NodeNames) -> Option<&str>
     }
 }
 
-/// A node's program, checked with its certificate.
+/// Loads a node's program, checked with its certificate.
 ///
 /// # Errors
 ///
 /// In this order: [`PipeError::File`] where the program file cannot be fetched or is longer than 1,048,576 bytes, and
 /// [`PipeError::Asm`]; where a certificate is named, and not all are inferred, [`PipeError::File`] for its file,
-/// [`PipeError::BadCert`] and [`PipeError::Refused`]; else [`PipeError::NotInferred`], for a forward program exactly where it
-/// is accepted with no certificate, with the label and the rule of one that was tried. [`PipeError::Memory`] may come at any time.
+/// [`PipeError::BadCert`] and [`PipeError::Refused`]; else [`PipeError::NotInferred`], with the label and the rule of a certificate that was
+/// tried; for a forward program exactly where it is accepted with none. [`PipeError::Memory`] may come at any time.
 pub(crate) fn load_node<F: Files>(
     alloc: Global,
     files: &mut F,
@@ -192,7 +192,7 @@ pub(crate) fn load_node<F: Files>(
     }
 }
 
-// The entry and the files of a node, by its index: ports come first, and then rings.
+// The entry and the files of a node, by index: ports come first, then rings.
 fn node_at<'a>(
     ports: &'a [PortNames],
     rings: &'a [NodeNames],
@@ -212,11 +212,11 @@ fn node_at<'a>(
     }
 }
 
-/// The programs of all nodes: one for each port, and then one for each ring.
+/// Loads the programs of all nodes: one for each port, then one for each ring.
 ///
 /// # Errors
 ///
-/// That of the first node which is not loaded, or [`PipeError::Memory`].
+/// That of the first node that is not loaded, or [`PipeError::Memory`].
 pub(crate) fn load_nodes<F: Files>(
     alloc: Global,
     files: &mut F,

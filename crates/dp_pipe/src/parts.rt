@@ -1,4 +1,4 @@
-//! The parts of a pipeline file: how each kind is read from its table.
+//! Reads each kind of part of a pipeline file from its table.
 
 ghost use Rattle.std.specs.Prelude.{◌≡◌, ◌≤◌, Option, option_and_then, option_map, IfSome};
 ghost use Rattle.dp_model.specs.declared.env.PoolSpec.{PoolSpec};
@@ -75,7 +75,7 @@ fn node_files_in(table: &Table) -> Option<NodeFiles<'_>>
     })
 }
 
-/// What each packet of a ring meets.
+/// The fact that each packet of a ring satisfies.
 fn fact_in(table: &Table) -> Option<Fact>
     ensures { result ≡ spec.fact_in (table_view table.now) }
 {
@@ -140,7 +140,7 @@ fn port_in(table: &Table) -> Option<PortPart<'_>>
     })
 }
 
-/// Whether an array of tables stands at a key, or nothing at all.
+/// Whether a key has an array of tables, or is missing.
 fn has_tables(table: &Table, key: &str) -> bool
     ensures { result ≡ spec.is_tables (get_member key.now (table_view table.now)) }
 {
@@ -150,7 +150,7 @@ fn has_tables(table: &Table, key: &str) -> bool
     }
 }
 
-/// Whether the top has no other keys, and arrays of tables where it may.
+/// Whether the top has no other keys, and arrays of tables at those that may have them.
 fn is_top(top: &Table) -> bool
     ensures { result ≡ spec.is_top (table_view top.now) }
 {

@@ -13,8 +13,8 @@ use dp_lpm::Lpm;
 use dp_model::Env;
 use std::marker::Model;
 
-/// A pipeline: its environment and tables, a checked program for each port and each ring, and the captures of its ports. Only
-/// [`load`](crate::load) makes one.
+/// A pipeline: its environment and tables, a checked program for each port and each ring, and the captures of its ports. Only [`load`](crate::load)
+/// makes one.
 #[derive(Drop)]
 pub struct Pipeline {
     env: Env,
@@ -35,8 +35,8 @@ impl Model for Pipeline {
 }
 
 impl Pipeline {
-    /// The pipeline of these parts: as many tables as the environment has, with no hop above `MAX_HOP`, a node for each port and then for each ring, each
-    /// checked with the environment and its entry, and the names of each port's captures.
+    /// Makes a pipeline of these parts: as many tables as the environment has, with no hop above `MAX_HOP`; a node for each port and then for each
+    /// ring, each checked with the environment and its entry; and the names of each port's captures.
     pub(crate) fn new(
         region: u32,
         env: Env,
@@ -61,7 +61,7 @@ impl Pipeline {
         }
     }
 
-    /// The environment that its programs are checked for.
+    /// The environment for which its programs are checked.
     pub fn env(&self) -> &Env
         ensures same { result.now ≡ self.now.env }
         // The parts fit together.
@@ -70,7 +70,7 @@ impl Pipeline {
         &self.env
     }
 
-    /// The size of the region that it runs in, in bytes.
+    /// The size of its region, in bytes.
     pub fn region(&self) -> u32
         ensures same { result ≡ self.now.region }
         // A multiple of 64 from 4,096 to 1,073,741,824.
@@ -79,7 +79,7 @@ impl Pipeline {
         self.region
     }
 
-    /// Its tables, each with its routes: as many as its environment has.
+    /// Its tables with their routes: as many as its environment has.
     pub fn tables(&self) -> &[Lpm]
         ensures same { result.now ≡ self.now.tables }
         ensures plan { IsPlan self.now }
@@ -87,21 +87,21 @@ impl Pipeline {
         self.tables.as_slice()
     }
 
-    /// How many ports it has, 1 to 8.
+    /// The number of ports, 1 to 8.
     pub fn ports(&self) -> usize
         ensures { result ≡ length self.now.env.ports }
     {
         self.env.ports().len()
     }
 
-    /// How many rings it has, 0 to 8.
+    /// The number of rings, 0 to 8.
     pub fn rings(&self) -> usize
         ensures { result ≡ length self.now.env.rings }
     {
         self.env.rings().len()
     }
 
-    /// How many nodes it has: one for each port and one for each ring.
+    /// The number of nodes: one for each port and one for each ring.
     pub fn nodes(&self) -> usize
         ensures count { result ≡ length self.now.nodes }
         ensures parts { result ≡ length self.now.env.ports + length self.now.env.rings }
@@ -109,7 +109,7 @@ impl Pipeline {
         self.nodes.len()
     }
 
-    /// The checked program of a node: ports come first, and then rings.
+    /// The checked program of a node: ports come first, then rings.
     pub fn node(&self, k: usize) -> &Checked
         requires { k < length self.now.env.ports + length self.now.env.rings }
         ensures node { slice_get self.now.nodes k ≡ Some result.now }
@@ -135,7 +135,7 @@ impl Pipeline {
         self.ports[port].output.as_str()
     }
 
-    /// Its parts, for an engine.
+    /// Takes the pipeline apart, for an engine.
     pub(crate) fn into_parts(self) -> (Env, Vec<Lpm>, Vec<Checked>)
         ensures env { result.0 ≡ self.env }
         ensures tables { result.1.items ≡ self.tables }

@@ -1,4 +1,4 @@
-//! The whole of a pipeline file, read from its table, or the first part with a bad key.
+//! Reads a whole pipeline file from its table, or finds the first part with a bad key.
 
 ghost use Rattle.std.specs.Prelude.{map};
 ghost use Rattle.toml.specs.View.{table_view};
@@ -30,8 +30,7 @@ fn parts_in<'a, P: ArrayPart<'a> + Drop>(
     Ok(parts)
 }
 
-/// The setup in a file's table, or the first part with a bad key: the top, then the pools, the tables, the rings and the
-/// ports.
+/// Reads the setup from a file's table, or finds the first part with a bad key: the top, then pools, tables, rings and ports.
 pub fn setup_in<'a>(alloc: Global, top: &'a Table) -> Result<Setup<'a>, PipeError>
     ensures { view.Gives view.setup result (spec.setup_in (table_view top.now)) }
 {

@@ -1,4 +1,4 @@
-//! Routes: how they are written, and tables that take them in.
+//! Routes as they are written, and adding them to tables.
 
 ghost use Rattle.std.specs.Prelude.{◌≡◌, ◌≤◌, ◌<◌, ◌^◌, ◌==◌, length, position, IfSome, IfErr, OnOk, IsTrue};
 ghost use Rattle.std.specs.Char.{is_ascii_digit};
@@ -26,7 +26,7 @@ fn are_digits(text: &[u8]) -> bool
     text.iter().all(|b| b.is_ascii_digit())
 }
 
-/// The number that digits make.
+/// The number of decimal digits.
 fn decimal(digits: &[u8]) -> u32
     requires few { length digits.now ≤ 8 }
     requires digits { IsTrue (list_all is_ascii_digit digits.now) }
@@ -40,7 +40,7 @@ fn decimal(digits: &[u8]) -> u32
     value
 }
 
-/// The number of 1 to so many decimal digits.
+/// The number of 1 to `most` decimal digits.
 fn number_in(most: usize, digits: &[u8]) -> Option<u32>
     requires { most ≤ 8 }
     ensures value { result ≡ spec.number_in most digits.now }
@@ -53,7 +53,7 @@ fn number_in(most: usize, digits: &[u8]) -> Option<u32>
     }
 }
 
-/// A part of an address.
+/// One byte of an address.
 fn byte_in(digits: &[u8]) -> Option<u32>
     ensures value { result ≡ spec.byte_in digits.now }
     ensures most { IfSome result (λ n. n ≤ 255) }
@@ -68,7 +68,7 @@ fn offset_of(byte: u8, text: &[u8]) -> Option<usize>
     text.iter().position(|b| *b == byte)
 }
 
-/// What stands before the first of a byte, and what follows it: all and nothing where there is none.
+/// Splits a text at the first occurrence of a byte: all and nothing where there is none.
 fn cut(byte: u8, text: &[u8]) -> (&[u8], &[u8])
     ensures before { result.0.now ≡ spec.before byte text.now }
     ensures after { result.1.now ≡ spec.after byte text.now }
@@ -107,7 +107,7 @@ pub fn route_in(text: &[u8]) -> Option<Route>
     })
 }
 
-/// The route that a value of a file is.
+/// The route in a value of a file.
 fn route_of(value: &Value) -> Option<Route>
     ensures value { result ≡ spec.route_of (view value.now) }
     ensures depth { IfSome result (λ route. route.depth ≤ 255) }
@@ -115,7 +115,7 @@ fn route_of(value: &Value) -> Option<Route>
     route_in(value.as_str()?.as_bytes())
 }
 
-/// A table takes a value in as a route.
+/// Adds a value to a table as a route.
 fn add_route(table: &mut Lpm, value: &Value) -> Result<(), RouteError>
     ensures ok { OnOk result (spec.Takes table.old table.new (view value.now)) }
     ensures refused { IfErr result (λ cause. spec.refusal table.old (spec.route_of (view value.now)) ≡ Some cause) }
@@ -130,7 +130,7 @@ fn add_route(table: &mut Lpm, value: &Value) -> Result<(), RouteError>
     }
 }
 
-/// A table takes values in as routes, one after the other, up to the first that is refused: its index, and why.
+/// Adds values to a table as routes, one after the other, up to the first that is refused: returns its index, and why.
 pub fn add_routes(table: &mut Lpm, routes: &[Value]) -> Result<(), (usize, RouteError)>
     ensures ok { OnOk result (spec.TakesAll table.old table.new (values routes.now)) }
     ensures refused { IfErr result (λ e. spec.IsFirstRefused table.old (values routes.now) e.0 e.1) }

@@ -1,4 +1,4 @@
-//! The run of a pipeline, from captures to captures.
+//! Runs a pipeline from captures to captures.
 
 ghost use Rattle.std.specs.Prelude.{◌≡◌, ◌+◌, ◌<◌, ◌≤◌, ◌++◌, ◌∷◌, ◌⊎◌, ◌↔◌, [], Err, false, length, map, replicate, OnOk, OnErr, IfOk};
 ghost use Rattle.std.specs.Prelude.{IfErr, IsOk, IsTrue, vec_len};
@@ -8,34 +8,37 @@ ghost use Rattle.dp_pcap.specs.Source.{IsStart};
 ghost use Rattle.dp_engine.specs.Engines.{EngineState, IsAscending, no_tallies};
 ghost use Rattle.dp_engine.specs.Needs.{bytes_needed};
 ghost use Rattle.dp_engine.specs.Reports.{port_report, IsWhole};
-ghost use Rattle.dp_pipe.specs.Devices.{AllSound, AllFared, failed_reader, failed_writer};
+ghost use Rattle.dp_pipe.specs.Devices.{seen, transfer, AllSound, AllFared, failed_reader, failed_writer};
 ghost use Rattle.dp_pipe.specs.Forwarding as forwarding;
 ghost use Rattle.dp_pipe.specs.Forwarding.{AllStand, units_of};
 ghost use Rattle.dp_model.specs.Environments.{Environment};
 ghost use Rattle.dp_pipe.specs.Headline.{Forwarded, StoppedBy};
 ghost use Rattle.dp_pipe.specs.Pipelines.{IsPlan};
 ghost use Rattle.dp_pipe.specs.Running as spec;
+ghost use Rattle.dp_pipe.specs.Watched.{ShowsTurns, WatchesRun};
 
 use crate::forwarding::{Progress, RunCause, rounds};
 use crate::opening::opened;
 use crate::pipeline::Pipeline;
 use arrayvec::ArrayVec;
 use dp_copies::clones_are_copies;
-use dp_engine::{Engine, InputState, PoolReport, PortReport, Report};
+use dp_engine::{
+    Engine, InputState, Known, Nothing, PoolReport, PortReport, Report, Silent, Watch,
+};
 use dp_model::{Env, PoolSpec, PortSpec, RingSpec, runs_keep_safe};
 use dp_pcap::{Feed, LARGEST_RECORD, Sink, Time, Unit, put_header, read_header};
 use std::alloc::Global;
 
-/// A run that stopped.
+/// A run that stopped early.
 #[derive(Drop)]
 pub struct RunFault {
     /// Why it stopped.
     pub cause: RunCause,
-    /// Its numbers until then, in which every buffer is free. An input that was not read to its end is open.
+    /// The report so far, in which every buffer is free. An input that was not read to its end is open.
     pub report: Report,
 }
 
-// Keeps a source that is open, in a list with room for it.
+// Adds an open source to a list with room for it.
 fn keep(inputs: &mut Vec<Progress>, input: Progress)
     requires room { vec_len inputs.old < vec_capacity inputs.old }
     ensures items { inputs.new.items ≡ inputs.old.items ++ input ∷ [] }
@@ -48,7 +51,7 @@ fn keep(inputs: &mut Vec<Progress>, input: Progress)
     }
 }
 
-// Reads the headers of the inputs, in port order, and keeps a source for each that was read.
+// Reads the headers of the inputs, in port order, and adds a source for each.
 pub(crate) fn read_headers<R: Feed>(
     ins: &mut [R],
     inputs: &mut Vec<Progress>,
@@ -56,10 +59,11 @@ pub(crate) fn read_headers<R: Feed>(
     requires few { length ins.old ≤ 8 }
     requires none { (inputs.old.items ≡ []) × (vec_len inputs.old ≡ 0) }
     requires room { 8 ≤ vec_capacity inputs.old }
-    ensures ok { OnOk result (AllStand (map R.remaining ins.old) (map R.remaining ins.new) inputs.new.items (spec.all_begun inputs.new.items)) }
+    ensures ok { OnOk result (AllStand (map (seen R.remaining R.calls) ins.old) (map (seen R.remaining R.calls) ins.new) inputs.new.items
+        (spec.all_begun inputs.new.items)) }
     ensures all { OnOk result (length inputs.new.items ≡ length ins.old) }
     ensures most { length inputs.new.items ≤ length ins.old }
-    ensures err { IfErr result (spec.IsHeaderCause (map R.remaining ins.old) (map R.remaining ins.new)) }
+    ensures err { IfErr result (spec.IsHeaderCause (map (seen R.remaining R.calls) ins.old) (map (seen R.remaining R.calls) ins.new)) }
     ensures begun { AllByRecursion spec.IsBegun inputs.new.items }
     ensures many { length ins.new ≡ length ins.old }
     ensures sound { IsOk result → AllSound R.is_broken ins.new }
@@ -110,8 +114,8 @@ fn unit_for(inputs: &[Progress]) -> Unit
 // Writes the headers of the outputs, in port order.
 fn put_headers<W: Sink>(outs: &mut [W], unit: Unit) -> Result<(), RunCause>
     requires few { length outs.old ≤ 8 }
-    ensures ok { OnOk result (spec.HeadersWritten unit (map W.contents outs.old) (map W.contents outs.new)) }
-    ensures err { IfErr result (spec.IsWriteCause unit (map W.contents outs.old) (map W.contents outs.new)) }
+    ensures ok { OnOk result (spec.HeadersWritten unit (map (seen W.contents W.calls) outs.old) (map (seen W.contents W.calls) outs.new)) }
+    ensures err { IfErr result (spec.IsWriteCause unit (map (seen W.contents W.calls) outs.old) (map (seen W.contents W.calls) outs.new)) }
     ensures many { length outs.new ≡ length outs.old }
     ensures sound { IsOk result → AllSound W.is_broken outs.new }
     ensures fared { AllFared W.is_broken W.failures (failed_writer result) outs.old outs.new }
@@ -124,13 +128,14 @@ fn put_headers<W: Sink>(outs: &mut [W], unit: Unit) -> Result<(), RunCause>
     Ok(())
 }
 
-// Runs an engine that is open: headers in, headers out, and then record by record.
-fn forward<R: Feed, W: Sink>(
-    engine: &mut Engine,
+// Runs an open engine: headers in, headers out, then record by record.
+fn forward<K: Known, R: Feed, W: Sink, V: Watch>(
+    engine: &mut Engine<K>,
     inputs: &mut Vec<Progress>,
     ins: &mut [R],
     outs: &mut [W],
     buf: &mut [u8],
+    watch: &mut V,
 ) -> Result<(), RunCause>
     requires first { engine.old.turns ≡ 0 }
     requires counted { length engine.old.tallies ≡ 8 }
@@ -140,19 +145,20 @@ fn forward<R: Feed, W: Sink>(
     requires none { (inputs.old.items ≡ []) × (vec_len inputs.old ≡ 0) }
     requires room { 8 ≤ vec_capacity inputs.old }
     requires buf { LARGEST_RECORD ≤ length buf.old }
-    ensures forward { spec.GoesForward engine.old engine.new (map R.remaining ins.old) (map R.remaining ins.new) (map W.contents outs.old)
-        (map W.contents outs.new) inputs.new.items result }
+    ensures forward { spec.GoesForward engine.old engine.new (transfer (map (seen R.remaining R.calls) ins.old) (map (seen R.remaining R.calls) ins.new)
+        (map (seen W.contents W.calls) outs.old) (map (seen W.contents W.calls) outs.new)) inputs.new.items result }
     ensures many { length inputs.new.items ≤ length engine.old.setting.env.ports }
     ensures setting { engine.new.setting ≡ engine.old.setting }
     ensures counted { length engine.new.tallies ≡ 8 }
     ensures sound { IsOk result → AllSound R.is_broken ins.new × AllSound W.is_broken outs.new }
     ensures fared_readers { AllFared R.is_broken R.failures (failed_reader result) ins.old ins.new }
     ensures fared_writers { AllFared W.is_broken W.failures (failed_writer result) outs.old outs.new }
+    ensures shown { ShowsTurns V.sees watch.old watch.new engine.old engine.new result }
 {
     read_headers(ins, inputs)?;
     let unit = unit_for(inputs.as_slice());
     put_headers(outs, unit)?;
-    rounds(engine, inputs.as_mut_slice(), ins, outs, unit, buf)
+    rounds(engine, inputs.as_mut_slice(), ins, outs, unit, buf, watch)
 }
 
 // Sets how far each input was read.
@@ -165,7 +171,7 @@ fn set_states(ports: &mut [PortReport], inputs: &[Progress])
     }
 }
 
-// The answer of a run that came to this outcome, with its report.
+// The result of a run with this outcome and report.
 fn answer_with(outcome: Result<(), RunCause>, report: Report) -> Result<Report, RunFault>
     ensures outcome { spec.answer_of result ≡ outcome }
     ensures report { spec.report_of result ≡ report }
@@ -179,12 +185,13 @@ fn answer_with(outcome: Result<(), RunCause>, report: Report) -> Result<Report, 
 }
 
 // Runs an engine to its end.
-fn run_through<R: Feed, W: Sink>(
-    engine: Engine,
+fn run_through<K: Known, R: Feed, W: Sink, V: Watch>(
+    engine: Engine<K>,
     inputs: &mut Vec<Progress>,
     ins: &mut [R],
     outs: &mut [W],
     buf: &mut [u8],
+    watch: &mut V,
 ) -> Result<Report, RunFault>
     requires first { engine.turns ≡ 0 }
     requires counted { length engine.tallies ≡ 8 }
@@ -194,22 +201,26 @@ fn run_through<R: Feed, W: Sink>(
     requires none { (inputs.old.items ≡ []) × (vec_len inputs.old ≡ 0) }
     requires room { 8 ≤ vec_capacity inputs.old }
     requires buf { LARGEST_RECORD ≤ length buf.old }
-    ensures through { (last : EngineState) × spec.GoesForward engine last (map R.remaining ins.old) (map R.remaining ins.new) (map W.contents outs.old)
-        (map W.contents outs.new) inputs.new.items (spec.answer_of result) × spec.IsReportOf last inputs.new.items (spec.report_of result) }
+    ensures through { (last : EngineState) × spec.GoesForward engine last
+        (transfer (map (seen R.remaining R.calls) ins.old) (map (seen R.remaining R.calls) ins.new)
+        (map (seen W.contents W.calls) outs.old) (map (seen W.contents W.calls) outs.new)) inputs.new.items (spec.answer_of result)
+        × spec.IsReportOf last inputs.new.items (spec.report_of result) }
+    ensures shown { (last : EngineState) × ShowsTurns V.sees watch.old watch.new engine last (spec.answer_of result)
+        × spec.IsReportOf last inputs.new.items (spec.report_of result) }
     ensures free { spec.AllFree engine.setting.env result }
     ensures sound { IsOk result → AllSound R.is_broken ins.new × AllSound W.is_broken outs.new }
     ensures fared_readers { AllFared R.is_broken R.failures (failed_reader (spec.answer_of result)) ins.old ins.new }
     ensures fared_writers { AllFared W.is_broken W.failures (failed_writer (spec.answer_of result)) outs.old outs.new }
 {
     let mut engine = engine;
-    let outcome = forward(&mut engine, inputs, ins, outs, buf);
+    let outcome = forward(&mut engine, inputs, ins, outs, buf, watch);
     let (mut report, region) = engine.finish();
     region.close();
     set_states(report.ports.as_mut_slice(), inputs.as_slice());
     answer_with(outcome, report)
 }
 
-// The numbers of pools of which every buffer is free.
+// The counts of pools with every buffer free.
 fn free_pools(specs: &[PoolSpec]) -> ArrayVec<PoolReport, 8>
     requires { length specs.now ≤ 8 }
     ensures { result.items ≡ map (λ p. record { free = p.count; count = p.count }) specs.now }
@@ -222,7 +233,7 @@ fn free_pools(specs: &[PoolSpec]) -> ArrayVec<PoolReport, 8>
     pools
 }
 
-// The numbers of ports of which no input was read.
+// The counts of ports of which no input was read.
 fn idle_ports(specs: &[PortSpec]) -> ArrayVec<PortReport, 8>
     requires { length specs.now ≤ 8 }
     ensures { result.items ≡ map (λ _. port_report InputState.Open no_tallies) specs.now }
@@ -268,30 +279,39 @@ fn idle_report(env: &Env) -> Report
 }
 
 // Opens the engine of a pipeline, and runs it to its end.
-fn answer<R: Feed, W: Sink>(
+fn answer<K: Known, R: Feed, W: Sink, V: Watch>(
     alloc: Global,
     pipeline: Pipeline,
     ins: &mut [R],
     outs: &mut [W],
     pattern: Vec<u64>,
+    watch: &mut V,
 ) -> Result<Report, RunFault>
     requires readers { length ins.old ≡ length pipeline.env.ports }
     requires writers { length outs.old ≡ length pipeline.env.ports }
     requires pattern { IsAscending 0 pattern.items }
-    ensures answers { spec.RunAnswers pipeline pattern.items (map R.remaining ins.old) (map R.remaining ins.new) (map W.contents outs.old)
-        (map W.contents outs.new) result }
+    ensures answers { spec.RunAnswers pipeline pattern.items (transfer (map (seen R.remaining R.calls) ins.old) (map (seen R.remaining R.calls) ins.new)
+        (map (seen W.contents W.calls) outs.old) (map (seen W.contents W.calls) outs.new)) result }
     ensures free { spec.AllFree pipeline.env result }
-    ensures untouched { IfErr result (λ f. (f.cause ≡ RunCause.Memory) ⊎ (f.cause ≡ RunCause.NoRoom) → (ins.new ≡ ins.old) × (outs.new ≡ outs.old)) }
+    ensures untouched { IfErr result (λ f. (f.cause ≡ RunCause.Memory) ⊎ (f.cause ≡ RunCause.NoRoom)
+        → (ins.new ≡ ins.old) × (outs.new ≡ outs.old) × (watch.new ≡ watch.old)) }
     ensures sound { IsOk result → AllSound R.is_broken ins.new × AllSound W.is_broken outs.new }
     ensures fared_readers { AllFared R.is_broken R.failures (failed_reader (spec.answer_of result)) ins.old ins.new }
     ensures fared_writers { AllFared W.is_broken W.failures (failed_writer (spec.answer_of result)) outs.old outs.new }
+    ensures shown { (spec.answer_of result ≡ Err RunCause.Memory) ⊎ (spec.answer_of result ≡ Err RunCause.NoRoom)
+        ⊎ WatchesRun V.sees watch.old watch.new pipeline pattern.items result }
     ensures plan { IsPlan pipeline }
 {
     let idle = idle_report(pipeline.env());
-    match opened(alloc, pipeline, pattern) {
-        Ok((engine, mut inputs, mut buf)) => {
-            run_through(engine, &mut inputs, ins, outs, buf.as_mut_slice())
-        }
+    match opened::<K>(alloc, pipeline, pattern) {
+        Ok((engine, mut inputs, mut buf)) => run_through(
+            engine,
+            &mut inputs,
+            ins,
+            outs,
+            buf.as_mut_slice(),
+            watch,
+        ),
         Err(cause) => Err(RunFault {
             cause,
             report: idle,
@@ -299,25 +319,77 @@ fn answer<R: Feed, W: Sink>(
     }
 }
 
-/// Runs a pipeline from captures to captures: one reader and one writer for each port, in port order. Record k of each input,
-/// in port order, round by round, is one turn of its engine, behind which all transmit lists are written with the record's time.
-/// The headers are read and then written first, with nanoseconds if any input has them, else microseconds. The allocation calls
-/// whose numbers stand in `pattern` are refused.
-///
-/// No node run is ever stuck. What a port sends is what it sends where each packet has bytes of its own and the allocation calls
-/// have the same outcomes: no write is seen through another packet.
-///
-/// All memory is taken before anything is read: the engine's region, a buffer for a record, and a list of the inputs. Whatever
-/// is answered, all packets are given up at the end and all buffers are free.
+/// Runs a pipeline as [`run`] does, under a watcher: it is shown each node run of each turn, instruction by instruction, in order, and
+/// nothing else; on [`RunCause::Memory`] and [`RunCause::NoRoom`] it is shown nothing. Programs that are among `K` run as machine code of
+/// their own, others are interpreted; nothing else depends on `K`.
 ///
 /// # Errors
 ///
-/// [`RunCause::Memory`] where a growth is refused and [`RunCause::NoRoom`] exactly where the pipeline's region is smaller than
-/// its engine needs; nothing was read or written then. [`RunCause::In`] names the first input with a fault, in the order in which they are read:
-/// the outputs are those of the run on the records before, and nothing where the fault is in a header. [`RunCause::Out`] names
-/// the port whose writer failed: it was given a part of its output in the run through that record, the ports before it all of
-/// theirs, and those behind it theirs in the run before; of headers the ports before have theirs, and those behind it nothing.
-/// A reader or writer that failed is not called again.
+/// Those of [`run`].
+pub fn run_watched<K: Known, R: Feed, W: Sink, V: Watch>(
+    alloc: Global,
+    pipeline: Pipeline,
+    ins: &mut [R],
+    outs: &mut [W],
+    pattern: Vec<u64>,
+    watch: &mut V,
+) -> Result<Report, RunFault>
+    requires readers { length ins.old ≡ length pipeline.env.ports }
+    requires writers { length outs.old ≡ length pipeline.env.ports }
+    requires pattern { IsAscending 0 pattern.items }
+    ensures forwarded { IfOk result (Forwarded pipeline pattern.items (record {
+      had = map (seen R.remaining R.calls) ins.old;
+      left = map (seen R.remaining R.calls) ins.new;
+      held = map (seen W.contents W.calls) outs.old;
+      holds = map (seen W.contents W.calls) outs.new;
+    })) }
+    ensures stopped { IfErr result (λ f. StoppedBy pipeline pattern.items (record {
+      had = map (seen R.remaining R.calls) ins.old;
+      left = map (seen R.remaining R.calls) ins.new;
+      held = map (seen W.contents W.calls) outs.old;
+      holds = map (seen W.contents W.calls) outs.new;
+    }) f.cause f.report) }
+    // Whether there is room is known before memory is asked for.
+    ensures no_room { spec.answer_of result ≡ Err RunCause.NoRoom ↔ pipeline.region < bytes_needed pipeline.env }
+    ensures untouched { IfErr result (λ f. (f.cause ≡ RunCause.Memory) ⊎ (f.cause ≡ RunCause.NoRoom) → (ins.new ≡ ins.old) × (outs.new ≡ outs.old)
+        × (watch.new ≡ watch.old)) }
+    // Where all went well, no device is broken.
+    ensures sound { IsOk result → AllSound R.is_broken ins.new × AllSound W.is_broken outs.new }
+    // A device is broken if it was before, or if the result names it; one call of the named one failed, and none of the others.
+    ensures fared_readers { AllFared R.is_broken R.failures (failed_reader (spec.answer_of result)) ins.old ins.new }
+    ensures fared_writers { AllFared W.is_broken W.failures (failed_writer (spec.answer_of result)) outs.old outs.new }
+    // The watcher is shown the turns of that run, and nothing else.
+    ensures shown { (spec.answer_of result ≡ Err RunCause.Memory) ⊎ (spec.answer_of result ≡ Err RunCause.NoRoom)
+        ⊎ WatchesRun V.sees watch.old watch.new pipeline pattern.items result }
+{
+    // The laws of such runs.
+    runs_keep_safe::<Time>();
+    clones_are_copies::<Time>();
+    answer::<K, R, W, V>(alloc, pipeline, ins, outs, pattern, watch)
+}
+
+/// Runs a pipeline from captures to captures: one reader and one writer for each port, in port order. Record k of each input,
+/// in port order, round by round, is one turn of its engine, after which all transmit lists are written with the record's time.
+/// The headers are read and then written first, with nanoseconds if any input has them, else microseconds. The allocation calls
+/// whose numbers are in `pattern` are refused.
+///
+/// No node run is ever stuck. What a port sends is what it sends where each packet has its own bytes and the allocation calls
+/// have the same outcomes: no write is seen through another packet.
+///
+/// All memory is taken before anything is read: the engine's region, a buffer for a record, and a list of the inputs. Whatever
+/// is returned, all packets are freed at the end, and all buffers are free.
+///
+/// No input is read ahead of its turn. A reader is called at most once for each byte of its header and of its records, and of one
+/// record more where its input ends or has a fault; a writer is called at most once for each byte that it is given.
+///
+/// # Errors
+///
+/// [`RunCause::NoRoom`] exactly where the pipeline's region is smaller than its engine needs, which is known before memory is asked
+/// for, and [`RunCause::Memory`] where memory is refused; nothing was read or written then. [`RunCause::In`] names the first
+/// input with a fault, in the order in which they are read: the outputs are those of the run on the records before it, and nothing
+/// where the fault is in a header. [`RunCause::Out`] names the port whose writer failed: it was given a part of its output in the
+/// run through the last record that was read, the ports before it all of theirs, and those after it theirs in the run before; of
+/// headers the ports before have theirs, and those after it nothing. A reader or writer that failed is not called again.
 pub fn run<R: Feed, W: Sink>(
     alloc: Global,
     pipeline: Pipeline,
@@ -328,24 +400,26 @@ pub fn run<R: Feed, W: Sink>(
     requires readers { length ins.old ≡ length pipeline.env.ports }
     requires writers { length outs.old ≡ length pipeline.env.ports }
     requires pattern { IsAscending 0 pattern.items }
-    ensures answers { spec.RunAnswers pipeline pattern.items (map R.remaining ins.old) (map R.remaining ins.new) (map W.contents outs.old)
-        (map W.contents outs.new) result }
-    ensures forwarded { IfOk result (Forwarded pipeline pattern.items (map R.remaining ins.old) (map R.remaining ins.new) (map W.contents outs.old)
-        (map W.contents outs.new)) }
-    ensures stopped { IfErr result (λ f. StoppedBy pipeline pattern.items (map R.remaining ins.old) (map R.remaining ins.new) (map W.contents outs.old)
-        (map W.contents outs.new) f.cause f.report) }
-    ensures no_room { (spec.answer_of result ≡ Err RunCause.Memory) ⊎ ((spec.answer_of result
-        ≡ Err RunCause.NoRoom) ↔ (pipeline.region < bytes_needed pipeline.env)) }
-    ensures free { spec.AllFree pipeline.env result }
+    ensures forwarded { IfOk result (Forwarded pipeline pattern.items (record {
+      had = map (seen R.remaining R.calls) ins.old;
+      left = map (seen R.remaining R.calls) ins.new;
+      held = map (seen W.contents W.calls) outs.old;
+      holds = map (seen W.contents W.calls) outs.new;
+    })) }
+    ensures stopped { IfErr result (λ f. StoppedBy pipeline pattern.items (record {
+      had = map (seen R.remaining R.calls) ins.old;
+      left = map (seen R.remaining R.calls) ins.new;
+      held = map (seen W.contents W.calls) outs.old;
+      holds = map (seen W.contents W.calls) outs.new;
+    }) f.cause f.report) }
+    // Whether there is room is known before memory is asked for.
+    ensures no_room { spec.answer_of result ≡ Err RunCause.NoRoom ↔ pipeline.region < bytes_needed pipeline.env }
     ensures untouched { IfErr result (λ f. (f.cause ≡ RunCause.Memory) ⊎ (f.cause ≡ RunCause.NoRoom) → (ins.new ≡ ins.old) × (outs.new ≡ outs.old)) }
     // Where all went well, no device is broken.
     ensures sound { IsOk result → AllSound R.is_broken ins.new × AllSound W.is_broken outs.new }
-    // A device is broken where the answer names it, or it was; and one call of the named one failed, and of the others none.
+    // A device is broken if it was before, or if the result names it; one call of the named one failed, and none of the others.
     ensures fared_readers { AllFared R.is_broken R.failures (failed_reader (spec.answer_of result)) ins.old ins.new }
     ensures fared_writers { AllFared W.is_broken W.failures (failed_writer (spec.answer_of result)) outs.old outs.new }
 {
-    // The laws of such runs.
-    runs_keep_safe::<Time>();
-    clones_are_copies::<Time>();
-    answer(alloc, pipeline, ins, outs, pattern)
+    run_watched::<Nothing, R, W, Silent>(alloc, pipeline, ins, outs, pattern, &mut Silent)
 }

@@ -1,4 +1,4 @@
-//! The setup that a pipeline file describes, lent by the text's table, and the limits of its numbers that no other crate has.
+//! The setup in a pipeline file, borrowed from the text's table, and the limits of its numbers that no other crate has.
 
 ghost use Rattle.std.specs.Prelude.{◌≤◌};
 ghost use Rattle.dp_lpm.specs.declared.limits.TheConstants.{MAX_GROUPS, MAX_RULES};
@@ -6,7 +6,7 @@ ghost use Rattle.dp_lpm.specs.declared.limits.TheConstants.{MAX_GROUPS, MAX_RULE
 use dp_model::{PoolSpec, PortSpec, RingSpec};
 use toml::Value;
 
-/// The largest number of bytes in what is known of a packet.
+/// The largest number of bytes in a fact.
 pub(crate) const LARGEST_COUNT: u32 = 65_535;
 
 /// The largest share, and the most segments.
@@ -19,7 +19,7 @@ pub struct NodeFiles<'a> {
     pub cert: Option<&'a str>,
 }
 
-/// A `[[table]]`: the most rules and groups, and the texts of its list.
+/// A `[[table]]`: the most rules and groups, and the texts of its routes.
 #[derive(Clone, Copy)]
 pub struct TablePart<'a> {
     pub rules: u32,

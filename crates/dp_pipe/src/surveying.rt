@@ -18,14 +18,14 @@ pub struct Survey {
 }
 
 impl Survey {
-    /// What its programs are written for.
+    /// The environment of its programs.
     pub fn env(&self) -> &Env
         ensures { result.now ≡ self.now.config.env }
     {
         &self.config.env
     }
 
-    /// The names of the files of a node.
+    /// The file names of a node.
     fn names(&self, node: Entry) -> Option<&NodeNames>
         ensures { option_map (λ names. node_names names.now) result ≡ files_at self.now.config node }
     {
@@ -38,14 +38,14 @@ impl Survey {
         }
     }
 
-    /// The name of a node's program file, where the pipeline has the node.
+    /// The name of a node's program file, if the pipeline has the node.
     pub fn program(&self, node: Entry) -> Option<&str>
         ensures { option_map (λ name. name.now) result ≡ option_map (λ files. files.node) (files_at self.now.config node) }
     {
         Some(self.names(node)?.node.as_str())
     }
 
-    /// The name of a node's certificate file, where one is named.
+    /// The name of a node's certificate file, if one is named.
     pub fn cert(&self, node: Entry) -> Option<&str>
         ensures { option_map (λ name. name.now) result ≡ option_and_then (λ files. files.cert) (files_at self.now.config node) }
     {
@@ -56,11 +56,11 @@ impl Survey {
     }
 }
 
-/// The survey of a pipeline's text, where its format and its environment are in order.
+/// Reads a pipeline's text alone.
 ///
 /// # Errors
 ///
-/// [`PipeError::Memory`], or the first of `NotToml`, `BadKey`, `BadEnv` and `BadTable` that there is.
+/// [`PipeError::Memory`], or the first of `NotToml`, `BadKey`, `BadEnv` and `BadTable` that applies.
 pub fn survey_of(alloc: Global, text: &[u8]) -> Result<Survey, PipeError>
     ensures ok { IfOk result (λ survey. IsConfigOf text.now survey.config) }
     ensures err { IfErr result (IsFaultOf text.now) }

@@ -1,42 +1,51 @@
-//! Traced runs: the first records of a pipeline's captures, with somebody who looks on.
+//! Traces runs: shows the turns of the first records of a pipeline's captures to a tracer.
 
-ghost use Rattle.std.specs.Prelude.{◌≡◌, ◌+◌, ◌<◌, ◌≤◌, ◌⊎◌, ◌↔◌, [], Err, length, IfOk, IfErr, IfSome, OnOk, vec_len};
+ghost use Rattle.std.specs.Prelude.{◌≡◌, ℕ, ◌+◌, ◌<◌, ◌≤◌, ◌⊎◌, ◌↔◌, [], Err, length, MatchResult, IfErr, IsTrue, vec_len};
 ghost use Rattle.std.specs.Vec.{vec_capacity};
-ghost use Rattle.dp_pcap.specs.declared.format.TheConstants.{NANOS_A_SECOND};
-ghost use Rattle.dp_engine.specs.Engines.{IsAscending};
 ghost use Rattle.dp_engine.specs.Needs.{bytes_needed};
-ghost use Rattle.dp_pipe.specs.Tracing.{IsOfInput, one_if_some};
+ghost use Rattle.dp_engine.specs.Engines.{IsAscending};
+ghost use Rattle.dp_pipe.specs.Tracing.{IsTraced, HasTraced, TracesFirst, TracesOne, IsOfInput};
 
 use crate::forwarding::{MOST_TURNS, Progress, ROUNDS, RunCause, is_open};
 use crate::opening::opened;
 use crate::pipeline::Pipeline;
 use crate::running::read_headers;
-use dp_engine::{Engine, InputState, Turn, View, Watch};
-use dp_pcap::{Feed, LARGEST_RECORD, Next, OfWrite, PcapError, Time, Unit, next_record};
+use dp_engine::{Engine, InputState, Known, Turn, View, Watch};
+use dp_pcap::{Feed, LARGEST_RECORD, Next, PcapError, Time, next_record};
 use std::alloc::Global;
-use std::io;
 
-/// Looks on at a traced run: at each record, each node run and each instruction.
+/// Watches a traced run: each record, each node run and each instruction.
+///
+/// In a contract a tracer has what it makes of each note, besides what it makes of each event (`sees`).
 pub trait Tracer: Watch {
-    /// A record comes to a port: its time, and how many bytes it has.
-    fn record(&mut self, port: u8, time: Time, len: usize);
+    ghost use Rattle.dp_pipe.specs.Tracing.{Note, Came, Ended};
 
-    /// The turn with that record is over. What stands in transmit lists then is sent.
-    fn turned(&mut self, turn: Turn, view: View<'_>);
+    // Relates the tracer before a note to the tracer after it.
+    ghost told: { Self → Note → Self → Type 0 };
+
+    /// A record comes to a port: its time, and its length in bytes.
+    fn record(&mut self, port: u8, time: Time, len: usize)
+        ensures { told self.old (Came port time len) self.new };
+
+    /// The turn with that record is over. What is then in transmit lists is sent.
+    fn turned(&mut self, turn: Turn, view: View<'_>)
+        ensures { told self.old (Ended turn view.entry.state.world) self.new };
 }
 
 /// Which records are traced.
 #[derive(Clone, Copy, Debug, PartialEq, Eq)]
 pub struct Traced {
-    /// How many at most: up to [`MOST_TURNS`].
+    /// The most records: up to [`MOST_TURNS`].
     pub records: u32,
-    /// Those of one port, or those of all in the order of a run.
+    /// Only those of one port, or those of all ports in the order of a run.
     pub port: Option<u8>,
 }
 
 impl Traced {
     // Whether the records of a port are traced.
-    fn is_of(self, port: u8) -> bool {
+    fn is_of(self, port: u8) -> bool
+        ensures { IsTrue result → IsTraced self.port port }
+    {
         match self.port {
             Some(only) => only == port,
             None => true,
@@ -44,22 +53,9 @@ impl Traced {
     }
 }
 
-// Sends what stands in the transmit lists of all ports, in port order, to nowhere.
-fn send_nowhere(engine: &mut Engine, ports: u8, time: Time)
-    requires ports { ports ≡ length engine.old.setting.env.ports }
-    requires nano { time.nano < NANOS_A_SECOND }
-    ensures setting { engine.new.setting ≡ engine.old.setting }
-    ensures turns { engine.new.turns ≡ engine.old.turns }
-{
-    let mut nowhere = OfWrite::new(io::sink());
-    for port in 0..ports {
-        let _sent = engine.drain(port, time, Unit::Nano, &mut nowhere);
-    }
-}
-
-// Reads what comes next in an input and, where it is a record, takes a turn with it. The time of that record.
-fn trace_next<R: Feed, T: Tracer>(
-    engine: &mut Engine,
+// Reads what comes next in an input and, if it is a record, takes a turn with it. Returns the time of that record.
+fn trace_next<K: Known, R: Feed, T: Tracer>(
+    engine: &mut Engine<K>,
     port: u8,
     input: &mut Progress,
     r: &mut R,
@@ -69,9 +65,8 @@ fn trace_next<R: Feed, T: Tracer>(
     requires exists { port < length engine.old.setting.env.ports }
     requires buf { LARGEST_RECORD ≤ length buf.old }
     requires limit { engine.old.turns < MOST_TURNS }
-    ensures setting { engine.new.setting ≡ engine.old.setting }
-    ensures turns { IfOk result (λ time. engine.new.turns ≡ engine.old.turns + one_if_some time) }
-    ensures nano { IfOk result (λ time. IfSome time (λ t. t.nano < NANOS_A_SECOND)) }
+    ensures traced { MatchResult result (λ time. TracesOne T.Watch.sees T.told tracer.old tracer.new port time engine.old engine.new)
+        (λ _. (tracer.new ≡ tracer.old) × (engine.new ≡ engine.old)) }
     ensures buf { length buf.new ≡ length buf.old }
 {
     match next_record(r, &mut input.source, buf)? {
@@ -92,9 +87,44 @@ fn trace_next<R: Feed, T: Tracer>(
     }
 }
 
-// Asks each input that is traced and open once, in port order, and sends what a record's turn put into transmit lists.
-fn trace_round<R: Feed, T: Tracer>(
-    engine: &mut Engine,
+// Does that for a port that is traced and open, if more records are wanted. What the turn put into transmit lists is dropped after it.
+fn trace_port<K: Known, R: Feed, T: Tracer>(
+    engine: &mut Engine<K>,
+    port: u8,
+    input: &mut Progress,
+    r: &mut R,
+    buf: &mut [u8],
+    which: &mut Traced,
+    tracer: &mut T,
+) -> Result<(), PcapError>
+    requires exists { port < length engine.old.setting.env.ports }
+    requires buf { LARGEST_RECORD ≤ length buf.old }
+    requires limit { engine.old.turns + which.old.records ≤ MOST_TURNS }
+    ensures traced { (count : ℕ) × HasTraced T.Watch.sees T.told tracer.old tracer.new which.old.port count engine.old engine.new
+        × (which.new.records + count ≡ which.old.records) }
+    ensures port { which.new.port ≡ which.old.port }
+    ensures buf { length buf.new ≡ length buf.old }
+{
+    if which.records == 0 || !is_open(input) {
+        return Ok(());
+    }
+    if !which.is_of(port) {
+        return Ok(());
+    }
+    match trace_next(engine, port, input, r, buf, tracer) {
+        Ok(Some(_time)) => {
+            which.records -= 1;
+            engine.flush_lists();
+            Ok(())
+        }
+        Ok(None) => Ok(()),
+        Err(error) => Err(error),
+    }
+}
+
+// Does that once for each input that is traced and open, in port order.
+fn trace_round<K: Known, R: Feed, T: Tracer>(
+    engine: &mut Engine<K>,
     inputs: &mut [Progress],
     ins: &mut [R],
     buf: &mut [u8],
@@ -106,23 +136,25 @@ fn trace_round<R: Feed, T: Tracer>(
     requires few { length ins.old ≤ 8 }
     requires buf { LARGEST_RECORD ≤ length buf.old }
     requires limit { engine.old.turns + which.old.records ≤ MOST_TURNS }
-    ensures setting { engine.new.setting ≡ engine.old.setting }
+    ensures traced { (count : ℕ) × HasTraced T.Watch.sees T.told tracer.old tracer.new which.old.port count engine.old engine.new
+        × (which.new.records + count ≡ which.old.records) }
+    ensures port { which.new.port ≡ which.old.port }
     ensures many { (length inputs.new ≡ length inputs.old) × (length ins.new ≡ length ins.old) × (length buf.new ≡ length buf.old) }
-    ensures limit { OnOk result (engine.new.turns + which.new.records ≤ MOST_TURNS) }
     ensures cause { IfErr result IsOfInput }
 {
     let ports = ins.len() as u8;
     for port in 0..ports {
         let k = usize::from(port);
-        if which.records == 0 || !which.is_of(port) || !is_open(&inputs[k]) {
-            continue;
-        }
-        match trace_next(engine, port, &mut inputs[k], &mut ins[k], buf, tracer) {
-            Ok(Some(time)) => {
-                which.records -= 1;
-                send_nowhere(engine, ports, time);
-            }
-            Ok(None) => {}
+        match trace_port(
+            engine,
+            port,
+            &mut inputs[k],
+            &mut ins[k],
+            buf,
+            which,
+            tracer,
+        ) {
+            Ok(()) => {}
             Err(error) => return Err(RunCause::In(port, error)),
         }
     }
@@ -137,9 +169,36 @@ fn is_any_left(inputs: &[Progress], which: Traced) -> bool {
             .any(|(port, input)| which.is_of(port) && is_open(input))
 }
 
-// Traces an engine that is open: headers in, and then record by record, round by round.
-fn trace_records<R: Feed, T: Tracer>(
-    engine: &mut Engine,
+// Traces the records of inputs whose headers were read, round by round.
+fn trace_rounds<K: Known, R: Feed, T: Tracer>(
+    engine: &mut Engine<K>,
+    inputs: &mut [Progress],
+    ins: &mut [R],
+    buf: &mut [u8],
+    which: Traced,
+    tracer: &mut T,
+) -> Result<(), RunCause>
+    requires inputs { length inputs.old ≡ length engine.old.setting.env.ports }
+    requires ins { length ins.old ≡ length engine.old.setting.env.ports }
+    requires few { length ins.old ≤ 8 }
+    requires buf { LARGEST_RECORD ≤ length buf.old }
+    requires limit { engine.old.turns + which.records ≤ MOST_TURNS }
+    ensures traced { (count : ℕ) × HasTraced T.Watch.sees T.told tracer.old tracer.new which.port count engine.old engine.new × (count ≤ which.records) }
+    ensures cause { IfErr result IsOfInput }
+{
+    let mut which = which;
+    for k in 0..ROUNDS {
+        if !is_any_left(inputs, which) {
+            return Ok(());
+        }
+        trace_round(engine, inputs, ins, buf, &mut which, tracer)?;
+    }
+    Ok(())
+}
+
+// Traces an open engine: headers in, then record by record, round by round.
+fn trace_records<K: Known, R: Feed, T: Tracer>(
+    engine: &mut Engine<K>,
     inputs: &mut Vec<Progress>,
     ins: &mut [R],
     buf: &mut [u8],
@@ -153,28 +212,23 @@ fn trace_records<R: Feed, T: Tracer>(
     requires room { 8 ≤ vec_capacity inputs.old }
     requires buf { LARGEST_RECORD ≤ length buf.old }
     requires limit { which.records ≤ MOST_TURNS }
+    ensures traced { (count : ℕ) × HasTraced T.Watch.sees T.told tracer.old tracer.new which.port count engine.old engine.new × (count ≤ which.records) }
     ensures cause { IfErr result IsOfInput }
 {
     read_headers(ins, inputs)?;
-    let mut which = which;
-    for k in 0..ROUNDS {
-        if !is_any_left(inputs.as_slice(), which) {
-            return Ok(());
-        }
-        trace_round(engine, inputs.as_mut_slice(), ins, buf, &mut which, tracer)?;
-    }
-    Ok(())
+    trace_rounds(engine, inputs.as_mut_slice(), ins, buf, which, tracer)
 }
 
-/// Traces a pipeline: takes the turns of its first records as [`run`](crate::run) does, with one who looks on, and writes nothing.
-/// What a turn puts into transmit lists is sent to nowhere behind it. The allocation calls whose numbers stand in `pattern` are refused.
+/// Traces a pipeline: takes the turns of its first records as [`run`](crate::run) does, shows each to the tracer, and writes nothing.
+/// What a turn puts into transmit lists is dropped after it. The allocation calls whose numbers are in `pattern` are refused.
+/// Programs that are among `K` run as machine code of their own; nothing else depends on `K`.
 ///
 /// # Errors
 ///
-/// [`RunCause::Memory`] where a growth is refused and [`RunCause::NoRoom`] exactly where the pipeline's region is smaller than its
-/// engine needs; nothing was read or traced then. [`RunCause::In`] where an input has a fault, in its header or behind the records that were
-/// traced.
-pub fn trace<R: Feed, T: Tracer>(
+/// [`RunCause::NoRoom`] exactly where the pipeline's region is smaller than its engine needs, which is known before memory is asked
+/// for, and [`RunCause::Memory`] where memory is refused; nothing was read or traced then. [`RunCause::In`] where an input has a
+/// fault, in its header or after the records that were traced.
+pub fn trace<K: Known, R: Feed, T: Tracer>(
     alloc: Global,
     pipeline: Pipeline,
     ins: &mut [R],
@@ -185,10 +239,14 @@ pub fn trace<R: Feed, T: Tracer>(
     requires readers { length ins.old ≡ length pipeline.env.ports }
     requires pattern { IsAscending 0 pattern.items }
     requires limit { which.records ≤ MOST_TURNS }
-    ensures no_room { (result ≡ Err RunCause.Memory) ⊎ ((result ≡ Err RunCause.NoRoom) ↔ (pipeline.region < bytes_needed pipeline.env)) }
+    // Whether there is room is known before memory is asked for.
+    ensures no_room { result ≡ Err RunCause.NoRoom ↔ pipeline.region < bytes_needed pipeline.env }
+    // It is shown the first turns of a run, and nothing else.
+    ensures traced { (result ≡ Err RunCause.Memory) ⊎ (result ≡ Err RunCause.NoRoom)
+        ⊎ TracesFirst T.Watch.sees T.told tracer.old tracer.new pipeline pattern.items which.port which.records }
     ensures untouched { IfErr result (λ cause. (cause ≡ RunCause.Memory) ⊎ (cause ≡ RunCause.NoRoom) → (ins.new ≡ ins.old) × (tracer.new ≡ tracer.old)) }
 {
-    let (mut engine, mut inputs, mut buf) = opened(alloc, pipeline, pattern)?;
+    let (mut engine, mut inputs, mut buf) = opened::<K>(alloc, pipeline, pattern)?;
     let outcome = trace_records(
         &mut engine,
         &mut inputs,

@@ -1,4 +1,4 @@
--- Several gets, one after another, and several puts.
+-- Several gets, and several puts, one after another.
 use Rattle.std.proofs.Common.{◌≡◌, ℕ, zero, suc, ◌+◌, Bool, true, false, not, cond, List, [], ◌∷◌, ◌++◌, length, slice_get, slice_set, Some, refl, sym, ap}
 use Rattle.std.proofs.Common.{subst, ◌∙◌, arith}
 use Rattle.std.specs.Prelude.{unwrap_or}
@@ -30,13 +30,13 @@ pub are_got_more : (old mid : PoolView) (is : List ℕ) (i : ℕ) → AreGot old
 are_got_more old mid [] i same was_in = (ap (λ v. slice_get v.out i) (sym same) ∙ was_in, ap (λ v. got v i) same)
 are_got_more old mid (j ∷ is) i more was_in = (more.0, are_got_more (got old j) mid is i more.1 was_in)
 
--- what stays as they are handed out
+-- what gets keep
 pub got_keeps : (is : List ℕ) (old new : PoolView) → AreGot old is new → (new.zones ≡ old.zones) × (new.objects ≡ old.objects) × (new.size ≡ old.size)
     × (new.cache ≡ old.cache)
 got_keeps [] old new same = (ap (λ v. v.zones) same, ap (λ v. v.objects) same, ap (λ v. v.size) same, ap (λ v. v.cache) same)
 got_keeps (i ∷ is) old new more = got_keeps is (got old i) new more.1
 
--- ---- what was handed out is out
+-- ---- what was taken is out
 
 get_other : (xs : List Bool) (i j : ℕ) (b : Bool) → (i ≡ j → ⊥) → slice_get (slice_set xs i b) j ≡ slice_get xs j
 get_other [] i j b off = refl
@@ -60,12 +60,12 @@ set_swap (x ∷ xs) (suc i) (suc j) a b off = ap (λ l. x ∷ l) (set_swap xs i 
 apart : (out : List Bool) (i j : ℕ) → slice_get out i ≡ Some true → slice_get out j ≡ Some false → i ≡ j → ⊥
 apart out i j first second same = true≢false (ap (λ o. unwrap_or o false) (sym first ∙ (ap (slice_get out) same ∙ second)))
 
--- an index that is out stays out while others are handed out
+-- an index that is out stays out while others are taken
 stays_out : (is : List ℕ) (old new : PoolView) (i : ℕ) → AreGot old is new → slice_get old.out i ≡ Some true → slice_get new.out i ≡ Some true
 stays_out [] old new i same out = ap (λ v. slice_get v.out i) same ∙ out
 stays_out (j ∷ is) old new i more out = stays_out is (got old j) new i more.1 (get_other old.out j i true (λ e. apart old.out i j out more.0 (sym e)) ∙ out)
 
--- and comes back beside them
+-- putting it back commutes with the others
 back_beside : (is : List ℕ) (old new : PoolView) (i : ℕ) (xs : List Bool) → AreGot old is new → slice_get old.out i ≡ Some true → AreOut xs is →
     AreOut (back i xs) is
 back_beside [] old new i xs same out are = tt
@@ -82,7 +82,7 @@ got_out (i ∷ is) old new more =
     let here = get_same old.out i true false more.0 in
     (stays_out is (got old i) new i more.1 here, back_beside is (got old i) new i new.out more.1 here (got_out is (got old i) new more.1))
 
--- ---- what stays as they come back
+-- ---- what puts keep
 
 all_kept : (is : List ℕ) (p : PoolView) → ((all_back p is).zones ≡ p.zones) × ((all_back p is).objects ≡ p.objects) × ((all_back p is).size ≡ p.size)
     × ((all_back p is).cache ≡ p.cache)

@@ -11,7 +11,7 @@ use Rattle.dp_pool.proofs.Once.{hit, occurs-append}
 use Rattle.dp_pool.proofs.Steps.{gone, back_cached}
 use Rattle.dp_pool.proofs.Views.{view_of, with_state, eqb-no, put_more}
 
--- one of them goes
+-- one of them leaves
 from_middle : (front tail queue : List ℕ) (k i : ℕ) → occurs i ((front ++ k ∷ tail) ++ queue) ≡ hit k i + occurs i ((front ++ tail) ++ queue)
 from_middle front tail queue k i =
     let old = occurs-append i (front ++ k ∷ tail) queue in
@@ -24,7 +24,7 @@ one_less : (cache cached available k : ℕ) → 0 < cache → cached ≡ k + 1 �
 one_less cache cached available k some is =
     ap₂ (λ a b. cond a 0 (cond b (min cache available) cached - 1)) (eqb-no cache some) (eqb-no cached (omega (arith, is))) ∙ omega (arith, is)
 
--- the last of the cache are handed out, in order
+-- the last of the cache are taken, in order
 pub tail_handed : (n cache : ℕ) (front tail : List ℕ) (queue : RingView) → (1 ≤ length tail → 0 < cache) → AreOnce n ((front ++ tail) ++ queue.entries)
     → AreHanded (view_of cache n (front ++ tail) queue) tail (view_of cache n front queue) × AreOnce n (front ++ queue.entries)
 tail_handed n cache front [] queue some are = (

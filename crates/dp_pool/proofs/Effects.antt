@@ -1,19 +1,19 @@
--- What the steps of a pool do to how often each index stands in the cache and the queue together.
+-- What the steps of a pool do to how often each index occurs in the cache and the queue together.
 use Rattle.std.proofs.Common.{◌≡◌, ℕ, ◌+◌, List, [], ◌∷◌, ◌++◌, take, drop, sym, ap, ◌∙◌, arith, append_assoc}
 use Rattle.std.proofs.lemmas.List.{take-append-drop}
 use Rattle.dp_pool.specs.Once.{occurs}
 use Rattle.dp_pool.proofs.Once.{hit, occurs-append}
 
--- the first of the queue goes
+-- the first of the queue leaves
 pub from_queue : (cached queue : List ℕ) (k i : ℕ) → occurs i (cached ++ k ∷ queue) ≡ hit k i + occurs i (cached ++ queue)
 from_queue cached queue k i =
     let old = occurs-append i cached (k ∷ queue) in let new = occurs-append i cached queue in omega (arith, old, new)
 
--- the last of the cache goes
+-- the last of the cache leaves
 pub from_cache : (cached queue : List ℕ) (k i : ℕ) → occurs i ((cached ++ k ∷ []) ++ queue) ≡ hit k i + occurs i (cached ++ queue)
 from_cache cached queue k i = ap (occurs i) (append_assoc cached (k ∷ []) queue) ∙ from_queue cached queue k i
 
--- one more stands at the end of the queue
+-- one more is appended to the queue
 pub to_queue : (cached queue : List ℕ) (k i : ℕ) → occurs i (cached ++ (queue ++ k ∷ [])) ≡ hit k i + occurs i (cached ++ queue)
 to_queue cached queue k i =
     let new = occurs-append i cached (queue ++ k ∷ []) in

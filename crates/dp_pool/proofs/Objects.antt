@@ -1,4 +1,4 @@
--- Objects in the bytes of their zone, and what a write into one leaves of the others.
+-- Objects in the bytes of their zone; a write into one keeps the others.
 use Rattle.std.proofs.Common.{◌≡◌, ℕ, zero, suc, ◌+◌, ◌-◌, ◌*◌, ◌<◌, ◌≤◌, ltb, List, [], ◌∷◌, length, slice_set, refl, sym, ap, ap₂, ◌∙◌, arith, inl, inr}
 use Rattle.std.specs.Prelude.{slice_index_or}
 use lib.ListN.{get_or}
@@ -22,7 +22,7 @@ pub offset_from : (size offset i : ℕ) → offset ≤ object_offset size offset
 offset_from size offset zero = omega arith
 offset_from size offset (suc i) = let rest = offset_from size (offset + stride_of size) i in omega (arith, rest)
 
--- an object ends before the offset behind the last
+-- an object ends before the end of the last
 pub offset_within : (size offset n i : ℕ) → i < n → object_offset size offset i + stride_of size ≤ object_offset size offset n
 offset_within size offset zero i less = absurd (omega (arith, less))
 offset_within size offset (suc n) zero less = offset_from size (offset + stride_of size) n
@@ -40,7 +40,7 @@ object_is bytes size offset (suc n) (suc i) less = object_is bytes size (offset 
 
 -- ---- writes
 
--- a write inside of a part of the bytes
+-- a write inside a part of the bytes
 bytes_in-inside : (xs : List ℕ) (q n at : ℕ) (ws : List ℕ) → at + length ws ≤ n → q + n ≤ length xs → bytes_in (with_bytes xs (q + at) ws) q n
     ≡ overwritten (bytes_in xs q n) at ws
 bytes_in-inside xs q n at ws fits room =

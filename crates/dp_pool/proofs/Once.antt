@@ -24,7 +24,7 @@ occurs-append i (x ∷ xs) ys = let rest = occurs-append i xs ys in omega (arith
 
 -- ---- how many there are
 
--- how often the n indexes from i on stand in the list, together
+-- how often the n indexes from i on occur in the list, together
 abbrev total : ℕ → ℕ → List ℕ → ℕ
 total i zero ins = 0
 total i (suc n) ins = occurs i ins + total (suc i) n ins
@@ -126,7 +126,7 @@ absent_from_set i (suc n) (suc m) k old new b at less others is =
     ap₂ (λ (b : Bool) (bs : List Bool). b ∷ bs) (ap (λ j. eqb j 0) (others i (λ same. omega (arith, same, at))))
     (absent_from_set (suc i) n m k old new b (omega (arith, at)) (omega (arith, less)) others is)
 
--- one index goes: it is absent then, and was not before
+-- one index leaves: it is absent then, and was not before
 pub absent_taken : (n k : ℕ) (old new : List ℕ) → k < n → ((i : ℕ) → occurs i old ≡ hit k i + occurs i new) → AreOnce n old →
     absent n new ≡ slice_set (absent n old) k true
 absent_taken n k old new less more are =
@@ -135,7 +135,7 @@ absent_taken n k old new less more are =
     (let is = more k in let here = hit_same k in let once = are.once k in
     ap (λ m. eqb m 0) (let none : occurs k new ≡ 0 = omega (arith, is, here, once) in none))
 
--- one index comes: it is not absent then
+-- one index joins: it is not absent then
 pub absent_put : (n k : ℕ) (old new : List ℕ) → k < n → ((i : ℕ) → occurs i new ≡ hit k i + occurs i old) → absent n new ≡ slice_set (absent n old) k false
 absent_put n k old new less more =
     absent_from_set 0 n k k old new false (omega arith) less (λ j off. let is = more j in
@@ -164,7 +164,7 @@ put_once n k old new less out more are = record {
   ];
 }
 
--- ---- what is known of an index that stands there, or not
+-- ---- whether an index is in the list
 
 length-absent_from : (i n : ℕ) (ins : List ℕ) → length (absent_from i n ins) ≡ n
 length-absent_from i zero ins = refl
@@ -182,7 +182,7 @@ absent_from_get i (suc n) (suc m) ins less =
 pub absent_get : (n m : ℕ) (ins : List ℕ) → m < n → slice_get (absent n ins) m ≡ Some (eqb (occurs m ins) 0)
 absent_get n m ins less = absent_from_get 0 n m ins less ∙ ap (λ j. Some (eqb (occurs j ins) 0)) (let at : 0 + m ≡ m = omega arith in at)
 
--- an index that stands there is below n, and not absent
+-- an index of the list is below n, and not absent
 pub present : (n k : ℕ) (ins rest : List ℕ) → ((i : ℕ) → occurs i ins ≡ hit k i + occurs i rest) → AreOnce n ins →
     (k < n) × (slice_get (absent n ins) k ≡ Some false)
 present n k ins rest more are =
@@ -198,7 +198,7 @@ present n k ins rest more are =
       ],
     )
 
--- an index that is absent is below n, and stands nowhere
+-- an absent index is below n, and not in the list
 pub missing : (n k : ℕ) (ins : List ℕ) → slice_get (absent n ins) k ≡ Some true → (k < n) × (occurs k ins ≡ 0)
 missing n k ins is =
     let within = slice_get_within (absent n ins) k true is in

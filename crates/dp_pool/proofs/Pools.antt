@@ -1,4 +1,4 @@
--- What is true of every pool.
+-- What holds of every pool.
 use Rattle.std.proofs.Common.{◌≡◌, ℕ, zero, suc, ◌+◌, ◌*◌, ◌<◌, ◌≤◌, Bool, List, [], ◌∷◌, length, take, drop, sym, ap, ◌∙◌, arith}
 use Rattle.std.specs.Prelude.{slice_index, slice_index_or, slice_set}
 use Rattle.dp_region.specs.Spans.{bytes_in, with_bytes, overlaid}
@@ -34,7 +34,7 @@ small_drop zero xs small k = small k
 small_drop (suc n) [] small k = omega arith
 small_drop (suc n) (x ∷ xs) small k = small_drop n xs (λ j. small (suc j)) k
 
--- and so are those of each object
+-- the bytes of each object are below 256
 small_objects : (bytes : List ℕ) (size offset n : ℕ) → ((k : ℕ) → slice_index bytes k < 256) →
     (i k : ℕ) → slice_index (slice_index_or (objects_from bytes size offset n) i []) k < 256
 small_objects bytes size offset zero small i k = omega arith
@@ -57,7 +57,7 @@ is_pool size cache cached n bytes out zones long some few room small sizes cache
       cache = (caches.0, omega (arith, objects, caches.1));
     }
 
--- an object's index times the part of each object is its offset
+-- an index times the stride is the object's offset
 pub offset_is : (size i : ℕ) → i * stride_of size ≡ object_offset size 0 i
 offset_is size i = sym (object_offset_is size 0 i ∙ omega arith)
 
@@ -89,7 +89,7 @@ module _ (zone : ZoneView) (indexes : IndexView) (count size index : ℕ) (now :
   pub object_bytes : bytes_in zone.bytes (object_offset size 0 index) size ≡ object_in now index
   object_bytes = sym (object_is zone.bytes size 0 count index index_below) ∙ ap (λ v. object_in v index) is
 
-  -- bytes that are written into the zone at an object's offset are written into the object
+  -- writing bytes into the zone at an object's offset writes them into the object
   pub pool_written : (at : ℕ) (ws : List ℕ) (offset : ℕ) (new : ZoneView) → offset ≡ object_offset size 0 index → at + length ws ≤ now.size →
       count * stride_of size ≤ length zone.bytes
       → new ≡ record zone { bytes = with_bytes zone.bytes (offset + at) ws } → pool_of new indexes count size ≡ with_written now index at ws
@@ -107,7 +107,7 @@ module _ (zone : ZoneView) (indexes : IndexView) (count size index : ℕ) (now :
       ∙ (ap (with_objects (pool_of zone indexes count size)) objects
       ∙ ap (λ v. with_written v index at ws) is)
 
-  -- what is left in an object that was lent is left in the zone from its offset on
+  -- bytes lent from the zone at the object's offset come back into the object
   pub pool_left : (offset : ℕ) → offset ≡ object_offset size 0 index → count * stride_of size ≤ length zone.bytes →
       (ws : List ℕ) → pool_of (record zone { bytes = overlaid zone.bytes offset ws }) indexes count size ≡ with_left index now ws
   pool_left offset is_offset room ws =
@@ -116,7 +116,7 @@ module _ (zone : ZoneView) (indexes : IndexView) (count size index : ℕ) (now :
       ∙ (ap (with_objects (pool_of zone indexes count size)) (objects_left zone.bytes size 0 count index ws index_below (omega (arith, end, room)))
       ∙ ap (λ v. with_left index v ws) is)
 
-  -- as many bytes as the object has become the object, and nothing else changes
+  -- a write of the object's full length becomes the object, and nothing else changes
   pub left_alone : count * stride_of size ≤ length zone.bytes → (ws : List ℕ) → length ws ≡ now.size → with_left index now ws ≡ with_object now index ws
   left_alone room ws long =
       let sizes = ap (λ v. v.size) is in

@@ -1,4 +1,4 @@
--- The steps of a pool's indexes, each as what it leaves in the cache and the queue.
+-- What each step of a pool's indexes does to the cache and the queue.
 use Rattle.std.proofs.Common.{◌≡◌, ℕ, ◌+◌, ◌≤◌, true, false, List, [], ◌∷◌, ◌++◌, length, take, drop, slice_get, Some, None, refl, sym, ap, subst, ◌∙◌, arith}
 use Rattle.std.proofs.Common.{length-append}
 use Rattle.std.proofs.lemmas.Option.{none-some}
@@ -8,15 +8,15 @@ use Rattle.dp_pool.specs.Queues.{in_count, taken, back}
 use Rattle.dp_pool.proofs.Once.{hit, length_once, count_absent, taken_once, put_once, absent_taken, absent_put, present, missing, once_same, absent_same}
 use Rattle.dp_pool.proofs.Effects.{from_queue, from_cache, to_queue, moved_out}
 
--- how many are in: those of the cache and those of the queue
+-- how many are in: the cache and the queue together
 pub in_count_parts : (n : ℕ) (cached queue : List ℕ) → AreOnce n (cached ++ queue) → in_count (absent n (cached ++ queue)) ≡ length cached + length queue
 in_count_parts n cached queue are = count_absent n (cached ++ queue) are ∙ length-append cached queue
 
--- and together they are at most n
+-- together they are at most n
 pub few_parts : (n : ℕ) (cached queue : List ℕ) → AreOnce n (cached ++ queue) → length cached + length queue ≤ n
 few_parts n cached queue are = let few = length_once n (cached ++ queue) are in let long = length-append cached queue in omega (arith, few, long)
 
--- what is left where an index k is handed out
+-- the list after an index k is taken
 pub record Gone (n : ℕ) (old new : List ℕ) (k : ℕ) : Type 0 where
   pub once : AreOnce n new
   pub was_in : slice_get (absent n old) k ≡ Some false
@@ -43,7 +43,7 @@ gone_cached n k old cached queue is are =
     subst (λ xs. Gone n (xs ++ queue) (cached ++ queue) k) (sym is)
     (gone n k ((cached ++ k ∷ []) ++ queue) (cached ++ queue) (λ i. from_cache cached queue k i) (subst (λ xs. AreOnce n (xs ++ queue)) is are))
 
--- what is left where an index k comes back
+-- the list after an index k is put back
 pub record Back (n : ℕ) (old new : List ℕ) (k : ℕ) : Type 0 where
   pub once : AreOnce n new
   pub out : absent n new ≡ back k (absent n old)
@@ -62,7 +62,7 @@ pub back_cached : (n k : ℕ) (cached queue : List ℕ) → slice_get (absent n 
     Back n (cached ++ queue) ((cached ++ k ∷ []) ++ queue) k
 back_cached n k cached queue is are = came n k (cached ++ queue) ((cached ++ k ∷ []) ++ queue) (λ i. from_cache cached queue k i) is are
 
--- ---- an index that comes back to the cache
+-- ---- an index that is put back into the cache
 
 module _ (n k : ℕ) (cached queue pushed : List ℕ) (is : pushed ≡ cached ++ k ∷ []) (out : slice_get (absent n (cached ++ queue)) k
     ≡ Some true) (are : AreOnce n (cached ++ queue)) where
@@ -75,7 +75,7 @@ module _ (n k : ℕ) (cached queue pushed : List ℕ) (is : pushed ≡ cached ++
   pub pushed_few : length pushed + length queue ≤ n
   pushed_few = few_parts n pushed queue pushed_back.once
 
-  -- and then the cache gives its end to the queue
+  -- and the cache moves its end to the queue
   pub flushed_back : (keep : ℕ) → Back n (cached ++ queue) (take keep pushed ++ (queue ++ drop keep pushed)) k
   flushed_back keep = record {
     once = once_same n (pushed ++ queue) (take keep pushed ++ (queue ++ drop keep pushed)) (λ i. moved_out pushed queue keep i) pushed_back.once;

@@ -1,4 +1,4 @@
--- The indexes below a number, and whether one is among those that are in.
+-- The indexes below a number, and whether one is in.
 use Rattle.std.proofs.Common.{◌≡◌, ℕ, zero, suc, ◌+◌, ◌<◌, ◌≤◌, Bool, true, false, not, ◌&&◌, ◌||◌, cond, eqb, ltb, List, [], ◌∷◌, ◌++◌, length}
 use Rattle.std.proofs.Common.{length-append, replicate, refl, sym, ap, ap₂, ◌∙◌, arith, inl, inr}
 use Rattle.std.specs.Prelude.{unwrap_or}
@@ -85,7 +85,7 @@ neither a b = elim (eqb_tells (a + b) 0) [
   ]
 ]
 
--- an index is out that is below n and stands neither in the cache nor in the queue
+-- an index below n that is neither in the cache nor in the queue is out
 pub out_is : (n i : ℕ) (cached queue : List ℕ) → i < n → (not (list_any (λ x. eqb x i) cached) && not (list_any (λ x. eqb x i) queue))
     ≡ is_out_in (absent n (cached ++ queue)) i
 out_is n i cached queue less =

@@ -1,4 +1,4 @@
--- What a contract sees of indexes, from the cache and the queue.
+-- What a contract sees of indexes, computed from the cache and the queue.
 use Rattle.std.proofs.Common.{◌≡◌, ℕ, ◌+◌, ◌-◌, ◌*◌, ◌/◌, ◌<◌, ◌≤◌, Bool, true, false, cond, eqb, leb, List, ◌++◌, length, ap₂, arith, inl, inr}
 use Rattle.std.proofs.lemmas.Bool.{cases_Bool, leb-true, leb-false}
 use Rattle.std.proofs.lemmas.Bool.Decides.{eqb_tells}
@@ -20,14 +20,14 @@ view_of cache count cached queue = record {
 abbrev pub with_state : IndexView → ℕ → List Bool → IndexView
 with_state v cached out = record v { cached = cached; out = out }
 
--- an index is handed out, with or without the cache
+-- an index is taken, with or without the cache
 abbrev pub got_queued : ℕ → IndexView → IndexView
 got_queued k v = record v { out = taken k v.out }
 
 abbrev pub got_cached : ℕ → IndexView → IndexView
 got_cached k v = record v { out = taken k v.out; cached = v.cached - 1 }
 
--- an index comes back, and so many are cached then
+-- an index is put back, and this number is then cached
 abbrev pub put_back : ℕ → ℕ → IndexView → IndexView
 put_back k cached v = record v { out = back k v.out; cached = cached }
 

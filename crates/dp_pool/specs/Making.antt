@@ -1,4 +1,4 @@
--- Pools that are made: which there are, and why there is none.
+-- Which pools can be made, and why one is refused.
 use Rattle.std.specs.Prelude.{◌≡◌, ℕ, ◌+◌, ◌*◌, ◌≤◌, ◌⊎◌, codes, false, List, [], ◌∷◌, ◌++◌, length, replicate}
 use Rattle.std.specs.Int.{IsNextPowerOfTwo}
 use Rattle.dp_heap.specs.declared.elements.Element.{Element}
@@ -9,7 +9,7 @@ use Rattle.dp_pool.specs.declared.error.PoolError.{PoolError}
 use Rattle.dp_pool.specs.declared.error.PoolError.TheVariants.{BadCount, BadSize, BadCache, Zone}
 use Rattle.dp_pool.specs.Pools.{most_objects, largest_object, largest_cache, PoolView, stride_of}
 
--- how many objects a pool may have, of which size, and with which cache
+-- permitted numbers of objects, sizes and caches
 abbrev pub IsPoolCount : ℕ → Type 0
 IsPoolCount n = (1 ≤ n) × (n ≤ most_objects)
 
@@ -26,41 +26,40 @@ object_name name = name ++ codes ".obj"
 abbrev pub queue_name : List ℕ → List ℕ
 queue_name name = name ++ codes ".ring"
 
--- how long they are: a part of its own for each object, and 4 bytes for each slot of the queue, which has as many
--- slots as the smallest power of two above n
+-- the lengths of the zones: one stride for each object, and 4 bytes for each slot of the queue, whose number is the smallest power of two above n
 abbrev pub object_len : ℕ → ℕ → ℕ
 object_len n size = n * stride_of size
 
 abbrev pub IsQueueLen : ℕ → ℕ → Type 0
 IsQueueLen n len = (count : ℕ) × IsNextPowerOfTwo (n + 1) count × (len ≡ 4 * count)
 
--- a zone of that name and length is taken from the heap and stands last in the table
+-- a zone of that name and length is taken from the heap and appended to the table
 pub record Reserves (name : List ℕ) (len : ℕ) (old : List Reserved) (before : List Element) (offset : ℕ) (new : List Reserved) (after : List Element) : Type
     0 where
   pub reservable : IsReservable name len 0 old
   pub taken : Taken before (rounded len) (alignment 0) offset after
   pub table : new ≡ old ++ record { name = name; offset = offset; len = rounded len } ∷ []
 
--- no pool is made, for this reason and no earlier one
+-- no pool is made, for this cause and no earlier one
 abbrev pub IsPoolRefused : PoolError → List ℕ → ℕ → ℕ → ℕ → List Reserved → List Element → Type 0
 IsPoolRefused BadCount name n size cache table es = ¬ IsPoolCount n
 IsPoolRefused BadSize name n size cache table es = IsPoolCount n × ¬ IsObjectSize size
 IsPoolRefused BadCache name n size cache table es = IsPoolCount n × IsObjectSize size × ¬ IsCacheSize n cache
--- by the zone of the objects, or with that by the zone of the queue
+-- a zone's error: that of the objects, or of the queue once the objects have theirs
 IsPoolRefused (Zone error) name n size cache table es =
     IsPoolCount n × IsObjectSize size × IsCacheSize n cache
     × (IsZoneRefused error (object_name name) (object_len n size) 0 table es
     ⊎ ((len offset : ℕ) × (mid : List Reserved) × (left : List Element) × IsQueueLen n len
     × Reserves (object_name name) (object_len n size) table es offset mid left × IsZoneRefused error (queue_name name) len 0 mid left))
 
--- the number of a reason
+-- the number of a cause
 abbrev pub number_of : PoolError → ℕ
 number_of BadCount = 1
 number_of BadSize = 2
 number_of BadCache = 3
 number_of (Zone error) = 4
 
--- a pool of n objects is made, all of them in: its zones are taken, the objects' first
+-- a pool of n objects is made, all in: its zones are taken, the objects' first
 pub record IsMade (name : List ℕ) (n size cache : ℕ) (home : Home) (old : List Reserved) (before : List Element) (p : PoolView) (new : List Reserved)
     (after : List Element) : Type 0 where
   pub count : IsPoolCount n

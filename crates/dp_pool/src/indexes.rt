@@ -1,4 +1,4 @@
-//! The indexes of a pool's objects: a queue of those that are in, and a cache in front of it.
+//! The indexes of a pool's objects: a queue of those that are in, with a cache before it.
 
 ghost use Rattle.std.specs.Prelude.{◌≡◌, ℕ, ◌+◌, ◌-◌, ◌*◌, ◌/◌, ◌<◌, ◌≤◌, ◌++◌, ◌∷◌, [], length, take, drop, min, not, true, false, IsNone, IfSome};
 ghost use Rattle.std.specs.Prelude.{MatchOption, Some, slice_get, slice_set, count_by, replicate, ◌==◌, ◌↔◌, IsTrue};
@@ -12,20 +12,20 @@ use arrayvec::ArrayVec;
 use dp_ring::Ring;
 use std::marker::Model;
 
-/// The most indexes that stand in a cache at once: one that is for 512 (`LARGEST_CACHE`) is emptied down to that where it
-/// comes to one and a half times as many, as DPDK flushes one.
+/// The most indexes in a cache at once. A cache for 512 (`LARGEST_CACHE`) is cut back to 512 when it reaches one and a half times that, as DPDK
+/// flushes one.
 const MOST_IN_CACHE: usize = 768;
 
-// What the cache's places hold before indexes are read into them.
+// What the cache's slots hold before indexes are read into them.
 const BLANKS: [u32; MOST_IN_CACHE] = [0; MOST_IN_CACHE];
 
-/// The indexes below a number, of which each is in or out. Those that are in stand in the queue or in the cache.
+/// The indexes from 0 up to a number, each in or out. Those that are in are in the queue or in the cache.
 pub(crate) struct Indexes {
     queue: Ring,
     cached: ArrayVec<u32, MOST_IN_CACHE>,
-    // How many the cache is for.
+    // The number of indexes that the cache is for.
     cache: u32,
-    // How many indexes there are.
+    // The number of indexes, in and out.
     count: u32,
 }
 
@@ -53,7 +53,7 @@ impl Model for Indexes {
         × (length v.cached.items ≤ most_in_cache - 1) × (v.cache ≡ 0 → length v.cached.items ≡ 0) × (v.count ≤ most_objects) };
 }
 
-// Moves the first indexes of the queue to the end of the cache, into which they are read at once.
+// Moves the first indexes of the queue to the end of the cache, in one read.
 #[inline(never)]
 fn move_in(queue: &mut Ring, cached: &mut ArrayVec<u32, MOST_IN_CACHE>, number: u32)
     requires there { number ≤ length queue.old.entries }
@@ -66,7 +66,7 @@ fn move_in(queue: &mut Ring, cached: &mut ArrayVec<u32, MOST_IN_CACHE>, number: 
     queue.dequeue_bulk(&mut cached.as_mut_slice()[held..]);
 }
 
-// Moves all that the cache holds beyond a number to the end of the queue.
+// Moves all but the first `keep` indexes of the cache to the end of the queue.
 #[inline(never)]
 fn move_out(queue: &mut Ring, cached: &mut ArrayVec<u32, MOST_IN_CACHE>, keep: usize)
     requires some { keep ≤ length cached.old.items }
@@ -78,7 +78,7 @@ fn move_out(queue: &mut Ring, cached: &mut ArrayVec<u32, MOST_IN_CACHE>, keep: u
     cached.truncate(keep);
 }
 
-// Puts indexes at the end of the cache.
+// Appends indexes to the cache.
 #[inline(always)]
 fn extend(cached: &mut ArrayVec<u32, MOST_IN_CACHE>, indexes: &[u32])
     requires { length cached.old.items + length indexes.now ≤ most_in_cache }
@@ -87,7 +87,7 @@ fn extend(cached: &mut ArrayVec<u32, MOST_IN_CACHE>, indexes: &[u32])
     let _ = cached.try_extend_from_slice(indexes);
 }
 
-// Puts all indexes below a number into an empty queue, in order.
+// Puts all indexes below `count` into an empty queue, in order.
 fn fill(queue: &mut Ring, count: u32)
     requires empty { queue.old.entries ≡ [] }
     requires room { count < queue.old.count }
@@ -98,7 +98,7 @@ fn fill(queue: &mut Ring, count: u32)
     }
 }
 
-// Whether an index is one of them.
+// Whether an index is in the list.
 fn is_one_of(indexes: &[u32], index: u32) -> bool
     ensures { result ≡ list_any (λ x. x == index) indexes.now }
 {
@@ -106,7 +106,7 @@ fn is_one_of(indexes: &[u32], index: u32) -> bool
 }
 
 impl Indexes {
-    /// All the indexes below a number, in an empty queue that has room for one more.
+    /// All indexes below `count`, in an empty queue that has room for one more.
     pub(crate) fn over(queue: Ring, count: u32, cache: u32) -> Indexes
         requires empty { queue.entries ≡ [] }
         requires room { count < queue.count }
@@ -131,7 +131,7 @@ impl Indexes {
         }
     }
 
-    /// The queue, with any entries.
+    /// Hands the queue back. Its entries are left open.
     pub(crate) fn into_queue(self) -> Ring
         ensures { (result.name ≡ self.name) × (result.home ≡ self.home) × (result.offset ≡ self.offset) × (result.len ≡ self.len) }
     {
@@ -154,14 +154,14 @@ impl Indexes {
         !is_one_of(self.cached.as_slice(), index) && !self.queue.contains(index)
     }
 
-    /// How many are in.
+    /// The number of indexes that are in.
     pub(crate) fn available(&self) -> u32
         ensures { result ≡ in_count self.now.out }
     {
         self.cached.len() as u32 + self.queue.count()
     }
 
-    /// How many stand in the cache.
+    /// The number of indexes in the cache.
     pub(crate) fn cached(&self) -> u32
         ensures value { result ≡ self.now.cached }
         ensures there { result ≤ in_count self.now.out }
@@ -169,7 +169,7 @@ impl Indexes {
         self.cached.len() as u32
     }
 
-    // Hands out the first index of the queue.
+    // Takes the first index of the queue.
     fn next_queued(&mut self) -> u32
         requires cache { self.old.cache ≡ 0 }
         requires some { 0 < in_count self.old.out }
@@ -182,7 +182,7 @@ impl Indexes {
         index
     }
 
-    // Hands out the last index of the cache.
+    // Takes the last index of the cache.
     #[inline(always)]
     fn next_cached(&mut self) -> u32
         requires { 0 < self.old.cached }
@@ -204,7 +204,7 @@ impl Indexes {
         move_in(&mut self.queue, &mut self.cached, number);
     }
 
-    // Hands out an index where the cache holds none, which is filled first if it is for some.
+    // Takes an index where the cache is empty: fills the cache first, unless it is for none.
     fn get_refilled(&mut self) -> Option<u32>
         requires { self.old.cached ≡ 0 }
         ensures { MatchOption result ((in_count self.old.out ≡ 0) × (self.new ≡ self.old)) (λ i. (slice_get self.old.out i ≡ Some false)
@@ -220,7 +220,7 @@ impl Indexes {
         Some(self.next_cached())
     }
 
-    // Whether the cache holds an index; then it is for some.
+    // Whether the cache has an index; if so, it is not for none.
     #[inline(always)]
     fn has_cached(&self) -> bool
         ensures some { result ≡ true → (0 < self.now.cached) × (0 < self.now.cache) }
@@ -229,7 +229,7 @@ impl Indexes {
         !self.cached.is_empty()
     }
 
-    /// Hands out an index that is in; `None` where none is.
+    /// Takes an index that is in the list, or returns `None` if none is.
     #[inline(always)]
     pub(crate) fn get(&mut self) -> Option<u32>
         ensures { MatchOption result ((in_count self.old.out ≡ 0) × (self.new ≡ self.old)) (λ i. (slice_get self.old.out i ≡ Some false)
@@ -241,7 +241,7 @@ impl Indexes {
         self.get_refilled()
     }
 
-    /// Hands out the last indexes of the cache, in order.
+    /// Takes the last indexes of the cache, in order.
     #[inline(always)]
     pub(crate) fn take_cached(&mut self, indexes: &mut [u32])
         requires { length indexes.old ≤ self.old.cached }
@@ -253,7 +253,7 @@ impl Indexes {
         self.cached.truncate(left);
     }
 
-    // Takes an index back at the end of the queue.
+    // Appends an index to the queue.
     fn put_queued(&mut self, index: u32)
         requires { slice_get self.old.out index ≡ Some true }
         ensures { self.new ≡ record self.old { out = back index self.old.out } }
@@ -261,7 +261,7 @@ impl Indexes {
         self.queue.enqueue(index);
     }
 
-    // Takes an index back at the end of the cache, which keeps as many as it is for where it is half as full again.
+    // Appends an index to the cache. A cache that reaches one and a half times its size is cut back to its size.
     #[inline(always)]
     fn put_cached(&mut self, index: u32)
         requires out { slice_get self.old.out index ≡ Some true }
@@ -274,7 +274,7 @@ impl Indexes {
         }
     }
 
-    /// Takes an index back that is out.
+    /// Puts an index back that is out.
     #[inline(always)]
     pub(crate) fn put(&mut self, index: u32)
         requires { slice_get self.old.out index ≡ Some true }
@@ -287,7 +287,7 @@ impl Indexes {
         }
     }
 
-    // Whether so many indexes may join the cache without any going to the queue.
+    // Whether `number` indexes fit into the cache without moving any to the queue.
     #[inline(always)]
     fn has_room(&self, number: usize) -> bool
         ensures { IsTrue result ↔ ((0 < self.now.cache) × (self.now.cached + number < 3 * self.now.cache / 2)) }
@@ -296,7 +296,7 @@ impl Indexes {
         number < least && self.cached.len() < least - number
     }
 
-    // Takes indexes back at the end of the cache, all of which it keeps.
+    // Appends indexes to the cache, which has room for all of them.
     #[inline(always)]
     fn put_all_cached(&mut self, indexes: &[u32])
         requires out { AreOut self.old.out indexes.now }
@@ -307,7 +307,7 @@ impl Indexes {
         extend(&mut self.cached, indexes);
     }
 
-    // Takes indexes back, one after another.
+    // Puts indexes back, one after another.
     fn put_each(&mut self, indexes: &[u32])
         requires { AreOut self.old.out indexes.now }
         ensures { self.new ≡ all_returned self.old indexes.now }
@@ -317,7 +317,7 @@ impl Indexes {
         }
     }
 
-    /// Takes indexes back that are out, as so many puts.
+    /// Puts back indexes that are out; the same as one `put` for each.
     #[inline(always)]
     pub(crate) fn put_all(&mut self, indexes: &[u32])
         requires { AreOut self.old.out indexes.now }

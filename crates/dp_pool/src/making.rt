@@ -1,4 +1,4 @@
-//! Pools that are made, and taken apart.
+//! Makes a pool: tests its numbers, and reserves the zones of its objects and its queue.
 
 ghost use Rattle.std.specs.Prelude.{◌≡◌, ◌+◌, ◌*◌, ◌<◌, ◌≤◌, ◌++◌, true, false, codes, length, replicate, IfOk, IfErr, IfSome, IfNone, OnErr, MatchResult};
 ghost use Rattle.std.specs.Prelude.{count_by, not, max, ◌⊎◌};
@@ -15,16 +15,16 @@ use dp_heap::Heap;
 use dp_region::CACHE_LINE;
 use dp_zone::{Zone, ZoneError, Zones};
 
-/// The most objects of a pool: as many as have indexes of 2 bytes in the header of an mbuf, but for one.
+/// The most objects of a pool: all whose indexes fit into 2 bytes of an mbuf's header, less one.
 pub const MOST_OBJECTS: u32 = 65_535;
 
-/// The bytes of the largest object: the header of an mbuf and 4,096 of data.
+/// The size of the largest object, in bytes: the header of an mbuf and 4,096 of data.
 pub const LARGEST_OBJECT: u32 = 4224;
 
-/// The most indexes that a cache is for: DPDK's `RTE_MEMPOOL_CACHE_MAX_SIZE`.
+/// The most indexes that a cache may be for: DPDK's `RTE_MEMPOOL_CACHE_MAX_SIZE`.
 pub const LARGEST_CACHE: u32 = 512;
 
-// The name of a zone of the pool of that name, if it is short enough for a zone.
+// The pool's name with a suffix, if that is short enough for a zone's name.
 fn with_suffix(name: &str, suffix: &str) -> Option<ArrayString<32>>
     requires { length suffix.now ≤ 5 }
     ensures some { IfSome result (λ t. t.bytes ≡ name.now ++ suffix.now) }
@@ -39,7 +39,7 @@ fn with_suffix(name: &str, suffix: &str) -> Option<ArrayString<32>>
     Some(text)
 }
 
-// Why there is no pool of these numbers, whatever its zones.
+// The error that these numbers cause, whatever the zones are.
 pub(crate) fn refused_numbers(count: u32, size: u32, cache: u32) -> Option<PoolError>
     ensures some { IfSome result (λ e. (e ≡ PoolError.BadCount × ¬ IsPoolCount count)
         ⊎ ((e ≡ PoolError.BadSize × IsPoolCount count × ¬ IsObjectSize size)
@@ -58,7 +58,7 @@ pub(crate) fn refused_numbers(count: u32, size: u32, cache: u32) -> Option<PoolE
     None
 }
 
-// What an object takes.
+// The bytes that an object of this size takes in its zone.
 pub(crate) fn stride_of(size: u32) -> u32
     requires { size ≤ largest_object }
     ensures { result ≡ stride_of size }
@@ -66,7 +66,7 @@ pub(crate) fn stride_of(size: u32) -> u32
     (size + (CACHE_LINE - 1)) / CACHE_LINE * CACHE_LINE
 }
 
-// How many slots the queue has: the smallest power of two above the number of objects.
+// The number of slots of the queue: the smallest power of two above the number of objects.
 pub(crate) fn queue_count(count: u32) -> u32
     requires { (1 ≤ count) × (count ≤ most_objects) }
     ensures next { IsNextPowerOfTwo (count + 1) result }
@@ -75,7 +75,7 @@ pub(crate) fn queue_count(count: u32) -> u32
     (count + 1).next_power_of_two()
 }
 
-// A zone of the pool of that name.
+// Reserves one of the zones of the pool of that name.
 pub(crate) fn reserve(
     heap: &mut Heap,
     zones: &mut Zones,

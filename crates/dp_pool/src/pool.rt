@@ -1,4 +1,4 @@
-//! A mempool.
+//! The pool's public calls.
 
 ghost use Rattle.std.specs.Borrow.{Lends, Array, sem, u8 as byte};
 ghost use Rattle.std.specs.Prelude.{◌≡◌, ℕ, ◌+◌, ◌*◌, ◌<◌, ◌≤◌, List, true, false, not, Some, length, replicate, slice_get, slice_index, count_by, nat_le};
@@ -20,18 +20,18 @@ use dp_ring::Ring;
 use dp_zone::{Zone, Zones};
 use std::marker::Model;
 
-/// Objects of one size, of which each is in or handed out. They stand in a zone of their own, reached by their index,
-/// and the indexes of those that are in stand in a queue with a cache in front of it. It ends by `unmake`.
+/// Objects of one size, each in or out. They lie in a zone of their own, reached by index; the indexes of those that are in are in a queue with a
+/// cache before it. `unmake` ends it.
 pub struct Pool {
     objects: Zone,
     indexes: Indexes,
-    // How many objects there are, how many bytes each has, and how many it takes.
+    // The number of objects, the size of one, and the bytes that one takes in the zone.
     count: u32,
     size: u32,
     stride: u32,
 }
 
-// The numbers of a pool: its objects, their size, what its cache is for, and the slots of its queue.
+// The numbers of a pool: objects, their size, the size of the cache, slots of the queue.
 #[derive(Clone, Copy)]
 struct Numbers {
     count: u32,
@@ -68,7 +68,7 @@ impl Model for Pool {
         × (p.indexes.cache ≤ largest_cache) × (3 * p.indexes.cache ≤ 2 * p.count) };
 }
 
-// Where an object begins in the zone of so many, each of which takes so many bytes.
+// The offset of an object in the zone of `count` objects that take `stride` bytes each.
 #[inline(always)]
 #[tactic(auto, using(crate::proofs::Pools::offset_is, crate::proofs::Pools::offset_ends))]
 fn offset_of(index: u32, count: u32, size: u32, stride: u32) -> u32
@@ -89,7 +89,7 @@ fn are_small(bytes: &[u8])
 }
 
 impl Pool {
-    // The pool over its two zones, all objects in.
+    // Makes a pool of its two zones, with all objects in.
     fn over(objects: Zone, queue: Zone, numbers: Numbers) -> Pool
         requires numbers { IsPoolCount numbers.count × IsObjectSize numbers.size × IsCacheSize numbers.count numbers.cache }
         requires room { numbers.count * stride_of numbers.size ≤ length objects.bytes }
@@ -115,9 +115,9 @@ impl Pool {
         }
     }
 
-    /// A pool of `count` objects (1 to `MOST_OBJECTS`) of `size` bytes (1 to `LARGEST_OBJECT`), all of them in, with a cache for
-    /// `cache` indexes (at most `LARGEST_CACHE` and at most two thirds of the objects). It reserves the zones `NAME.obj` and `NAME.ring`. An
-    /// error is the first that applies, and then zones and elements are as before.
+    /// Makes a pool of `count` objects (1 to `MOST_OBJECTS`) of `size` bytes (1 to `LARGEST_OBJECT`), all in, with a cache for `cache` indexes
+    /// (at most `LARGEST_CACHE`, and at most two thirds of the objects). It reserves the zones `NAME.obj` and `NAME.ring`. On an error, the
+    /// first that applies, zones and elements are as before.
     pub fn make(
         heap: &mut Heap,
         zones: &mut Zones,
@@ -157,8 +157,7 @@ impl Pool {
         Ok(Pool::over(objects, queue, numbers))
     }
 
-    /// Ends the pool, whatever is out: the names of its two zones go from the table, and their bytes back to the heap, which has to be
-    /// the one in which the pool was made.
+    /// Ends the pool, whatever is out, and gives its two zones back. `heap` must be the one in which the pool was made.
     pub fn unmake(self, heap: &mut Heap, zones: &mut Zones)
         requires { self.zones.home ≡ heap.old.home }
         ensures table { zones.new ≡ without_name self.zones.object_name (without_name self.zones.queue_name zones.old) }
@@ -179,7 +178,7 @@ impl Pool {
         zones.give_back(heap, objects);
     }
 
-    /// How many objects there are.
+    /// The number of objects.
     #[tactic(auto, using(crate::proofs::Pools::counted, crate::proofs::Pools::is_pool))]
     pub fn count(&self) -> u32
         ensures value { result ≡ length self.now.objects }
@@ -189,7 +188,7 @@ impl Pool {
         self.count
     }
 
-    /// How many bytes an object has.
+    /// The size of an object, in bytes.
     #[inline(always)]
     pub fn size(&self) -> u32
         ensures { result ≡ self.now.size }
@@ -197,7 +196,7 @@ impl Pool {
         self.size
     }
 
-    /// How many objects are in.
+    /// The number of objects that are in.
     #[inline(always)]
     pub fn available(&self) -> u32
         ensures { result ≡ in_count self.now.out }
@@ -205,7 +204,7 @@ impl Pool {
         self.indexes.available()
     }
 
-    /// How many indexes stand in the cache.
+    /// The number of indexes in the cache.
     pub fn cached(&self) -> u32
         ensures value { result ≡ self.now.cached }
         ensures there { result ≤ in_count self.now.out }
@@ -213,14 +212,14 @@ impl Pool {
         self.indexes.cached()
     }
 
-    /// Whether an object is out; false where there is no such object. The whole queue is looked at.
+    /// Whether an object is out; false where there is no such object. It looks at the whole queue.
     pub fn is_out(&self, index: u32) -> bool
         ensures { result ≡ is_out_in self.now.out index }
     {
         self.indexes.is_out(index)
     }
 
-    /// Hands out an object that is in, by its index; `None` where none is.
+    /// Takes an object that is in and returns its index, or `None` where none is in.
     #[inline(always)]
     pub fn get(&mut self) -> Option<u32>
         ensures { MatchOption result ((in_count self.old.out ≡ 0) × (self.new ≡ self.old)) (λ i. (slice_get self.old.out i ≡ Some false)
@@ -229,7 +228,7 @@ impl Pool {
         self.indexes.get()
     }
 
-    // Hands out an object for each slot of the list.
+    // Takes an object for each slot of the list.
     fn get_all(&mut self, indexes: &mut [u32])
         requires { length indexes.old ≤ in_count self.old.out }
         ensures got { AreGot self.old indexes.new self.new }
@@ -243,7 +242,7 @@ impl Pool {
         }
     }
 
-    // Hands out the objects whose indexes stand last in the cache.
+    // Takes the objects whose indexes are last in the cache.
     #[inline(always)]
     fn take_cached(&mut self, indexes: &mut [u32])
         requires { length indexes.old ≤ self.old.cached }
@@ -253,8 +252,8 @@ impl Pool {
         self.indexes.take_cached(indexes);
     }
 
-    /// Hands out an object for each slot of the list, as so many gets, or none and answers false where fewer are in. Each
-    /// is out then, and stands once in the list (`out`).
+    /// Takes an object for each slot of the list, the same as one `get` for each. Answers false, and takes none, where fewer are in. On success each
+    /// is out and occurs once in the list (`out`).
     #[inline(always)]
     #[tactic(auto, using(crate::proofs::Bulk::got_keeps, crate::proofs::Bulk::got_out))]
     pub fn get_bulk(&mut self, indexes: &mut [u32]) -> bool
@@ -277,7 +276,7 @@ impl Pool {
         true
     }
 
-    /// Takes back an object that is out.
+    /// Puts an object back that is out.
     #[inline(always)]
     pub fn put(&mut self, index: u32)
         requires { slice_get self.old.out index ≡ Some true }
@@ -286,7 +285,7 @@ impl Pool {
         self.indexes.put(index);
     }
 
-    /// Takes back objects that are out, as so many puts. None may stand twice in the list.
+    /// Puts objects back that are out, the same as one `put` for each. No index may occur twice in the list.
     #[inline(always)]
     pub fn put_bulk(&mut self, indexes: &[u32])
         requires { AreOut self.old.out indexes.now }
@@ -297,7 +296,7 @@ impl Pool {
         self.indexes.put_all(indexes);
     }
 
-    /// The bytes of an object, whose index is below `count`.
+    /// The bytes of an object, for reading. The index must be below `count`.
     #[inline(always)]
     pub fn object(&self, index: u32) -> &[u8]
         requires { index < length self.now.objects }
@@ -308,8 +307,7 @@ impl Pool {
         &self.objects.bytes()[offset..offset + self.size as usize]
     }
 
-    /// The bytes of an object, to be written. Whoever leaves as many bytes there as an object has, which is all that Rust
-    /// lets happen, has changed that object alone (`whole`).
+    /// The bytes of an object, for writing. Writing through a slice keeps its length, so only this object changes (`whole`).
     #[inline(always)]
     pub fn object_mut(&mut self, index: u32) -> &mut [u8]
         requires { index < length self.old.objects }
@@ -322,7 +320,7 @@ impl Pool {
         self.objects.part_mut(offset, self.size)
     }
 
-    /// Writes bytes into an object from an offset on. They fit into it.
+    /// Writes bytes into an object from offset `at` on. They must fit into it.
     #[inline(always)]
     pub fn write(&mut self, index: u32, at: u32, bytes: &[u8])
         requires object { index < length self.old.objects }
@@ -333,7 +331,7 @@ impl Pool {
         self.objects.write(offset + at, bytes);
     }
 
-    /// Writes `len` zeros into an object from an offset on. They fit into it.
+    /// Writes `len` zeros into an object from offset `at` on. They must fit into it.
     #[inline(always)]
     pub fn clear(&mut self, index: u32, at: u32, len: u32)
         requires object { index < length self.old.objects }

@@ -1,4 +1,4 @@
--- Bytes that are written into others, and spans that come back as they were lent.
+-- Writing bytes into others; lending a span, writing it and taking it back.
 use Rattle.std.proofs.Common.{◌≡◌, ℕ, ◌+◌, ◌≤◌, Bool, false, cond, ltb, List, [], ◌∷◌, ◌++◌, length, drop, refl, sym, ap, ◌∙◌, arith, length-drop}
 use mathlib.Core.List.{append-nil}
 use Rattle.std.proofs.lemmas.Bool.{or_parts}
@@ -11,12 +11,12 @@ none : (xs : List ℕ) → length xs ≡ 0 → xs ≡ []
 none [] e = refl
 none (x ∷ xs) e = absurd (omega arith)
 
--- all the bytes are written
+-- a write of the full length replaces all bytes
 pub with_bytes-whole : (ys ws : List ℕ) → length ws ≡ length ys → with_bytes ys 0 ws ≡ ws
 with_bytes-whole ys ws e =
     ap (λ (l : List ℕ). ws ++ l) (none (drop (0 + length ws) ys) (length-drop (0 + length ws) ys ∙ omega arith)) ∙ append-nil ws
 
--- what is lent and comes back
+-- lending a span and taking it back changes nothing
 pub without_with : (r : Span) (ls : List Span) → listed r ls ≡ false → without_span r (with_span r ls) ≡ ls
 without_with r [] new = ap (λ (t : Bool). cond t [] (r ∷ [])) (is_span-same r)
 without_with r (s ∷ ss) new =
@@ -27,7 +27,7 @@ without_with r (s ∷ ss) new =
     (λ e. ap (λ (t : Bool). without_span r (cond t (r ∷ s ∷ ss) (s ∷ with_span r ss))) e
     ∙ ap (λ (t : Bool). cond t (with_span r ss) (s ∷ without_span r (with_span r ss))) off.0 ∙ ap (λ (l : List Span). s ∷ l) (without_with r ss off.1))
 
--- a span that is lent, written over and given back
+-- lending a span, writing it and taking it back is a write
 pub stored : (r : RegionView) (p n : ℕ) (ws : List ℕ) → length ws ≡ n → p + n ≤ length r.bytes → listed (p, n) r.lent ≡ false
     → record {
       home = r.home;

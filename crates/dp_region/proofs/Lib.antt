@@ -1,4 +1,4 @@
--- The lemma files.
+-- Lists the lemma files.
 pub mod Bytes
 pub mod Lodging
 pub mod Rights

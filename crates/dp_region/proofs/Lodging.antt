@@ -24,7 +24,7 @@ filled : (c : ℕ) → 0 < c → has_block c ≡ true
 filled c some = not_from_false _ (ne_eqb c 0 (λ e. omega arith))
 
 module _ {M : Type 1} {𝓤 : Ura M} (𝓛 : Logic 𝓤) (xs : List ℕ) (n : ℕ) (long : n ≡ length xs) where
-  -- the run is the whole block: no room is left behind it
+  -- the run is the whole block: no room is left after it
   pub moves_in : (b o : ℕ) → 0 < n → n < 2 ^ 63 → ent 𝓤 (sem 𝓛 (run_owns (block_ptr b o) xs)) (sem 𝓛 (lodged u8 (block_ptr b o) n n xs))
   moves_in b o some small =
       let end = o + n * 1 in let none : 0 ≡ n - n = omega arith in

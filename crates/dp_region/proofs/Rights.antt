@@ -1,4 +1,4 @@
--- The rights to give spans back: one is handed out, and comes back. Assumes `Logic`.
+-- The rights to give spans back: handing one out, and taking it back. Assumes `Logic`.
 use Rattle.std.proofs.Common.{◌≡◌, ℕ, Bool, true, false, not, ◌||◌, List, [], refl, sym, ap, subst, ◌∙◌}
 use mathlib.Core.Option.{Option, none, some}
 use mathlib.Mathlib.Data.Part.{Part, ◌∈◌}
@@ -39,13 +39,13 @@ sums true x y here there =
 sums false x y here there = subst (λ (z : Bool). right_if (not x) ∈ cell none (right_if (not z))) (sym (there refl))
     (Opt.mem-none-op token.op (right_if (not x)))
 
--- with r handed out
+-- the right of r is handed out
 handed : (r : Span) (ls : List Span) → listed r ls ≡ false → others ls ∈ Rights.op (one r) (others (with_span r ls))
 handed r ls new = rows (one r) (others (with_span r ls)) (others ls) (λ q. sums (is_span q r) (listed q ls) (listed q (with_span r ls))
     (λ e. (ap (λ (s : Span). listed s ls) (is_span-true q r e) ∙ new, listed-with q r ls ∙ ap (λ (t : Bool). t || listed q ls) e))
     (λ e. listed-with q r ls ∙ ap (λ (t : Bool). t || listed q ls) e))
 
--- with r back
+-- the right of r is back
 back : (r : Span) (ls : List Span) (low high : ℕ) → Spaced low high ls → listed r ls ≡ true → others (without_span r ls) ∈ Rights.op (one r) (others ls)
 back r ls low high t out = rows (one r) (others ls) (others (without_span r ls)) (λ q. sums (is_span q r) (listed q (without_span r ls)) (listed q ls)
     (λ e. let same = is_span-true q r e in
@@ -68,7 +68,7 @@ module _ {M : Type 1} {𝓤 : Ura M} (𝓛 : Logic 𝓤) where
     abbrev Both : SProp 𝓤
     Both = sep 𝓤 (sem 𝓛 (ticket h r)) (sem 𝓛 (tickets_but h ls))
 
-    -- a ticket that someone has is out
+    -- the span of a ticket that someone holds is lent
     pub ticket_known : ent 𝓤 Both (guard 𝓤 (listed r ls ≡ true) Both)
     ticket_known = own_sum 𝓛 Rights h.rights (one r) (others ls) (guard 𝓤 (listed r ls ≡ true) Both) (λ c m.
         guard_i 𝓤 (listed r ls ≡ true) Both (by_test (listed r ls) (λ e. e) (λ e. absurd (clash e m.0))))

@@ -1,4 +1,4 @@
--- A `&` to each byte that is not lent: those of a span that is not lent are a slice's. Assumes `Logic`.
+-- A shared reference to each byte that is not lent gives a slice of any span that is not lent. Assumes `Logic`.
 use Rattle.std.proofs.Common.{◌≡◌, ℕ, zero, suc, ◌+◌, Bool, List, [], ◌∷◌, refl, arith}
 use lib.ListN.{take, drop}
 use seplogic.Ra.Ura.{Ura}

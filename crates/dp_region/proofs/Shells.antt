@@ -1,4 +1,4 @@
--- A shell: made of a vector without its bytes, and filled. Assumes `Logic`.
+-- Taking a vector's bytes out makes a shell; putting bytes in makes a vector. Assumes `Logic`.
 use Rattle.std.proofs.Common.{◌≡◌, ℕ, ◌<◌, List, [], ◌∷◌, ◌++◌, length, refl, sym, ◌∙◌, subst, Vec}
 use Rattle.std.proofs.lemmas.List.{with_items_is}
 use seplogic.Ra.Ura.{Ura}
@@ -24,7 +24,7 @@ use Rattle.dp_region.proofs.Words.{Fits, told, put_together, taken_apart}
 abbrev pub cased : Val → Val
 cased u = vstruct (of_list (u ∷ []))
 
--- what is left to be filled
+-- what waits for its bytes
 abbrev waits : Extent → List Val → Inside → Fml
 waits e vs s = fsep (feq ℕ s.vec.len e.len) (fall (List ℕ) (λ xs. fwand (filled_owns e xs)
     (Shell.TheInside.the_row.own_val (record { vec = with_items s.vec xs }) vs)))

@@ -1,4 +1,4 @@
--- Spans that are added and removed.
+-- Adding and removing spans.
 use Rattle.std.proofs.Common.{◌≡◌, ℕ, ◌+◌, ◌<◌, ◌≤◌, Bool, true, false, cond, ◌&&◌, ◌||◌, leb, ltb, eqb, List, [], ◌∷◌, refl, sym, ap, subst, ◌∙◌, arith}
 use mathlib.Core.Logic.{⊎_elim}
 use Rattle.std.proofs.lemmas.Bool.{ltb-true, ltb-false, leb-true, lt-ltb, le-leb, eq-eqb, cases_lt, and_parts, and_from, or_parts, or_from, or_left, or_right}
@@ -57,14 +57,14 @@ spaced_bound [] low high t = leb-true low high t
 spaced_bound (r ∷ rs) low high t = let parts = spaced_out low high r rs t in let above = parts.0 in
     let rest = spaced_bound rs (r.0 + r.1) high parts.2 in omega arith
 
--- below low nothing is lent
+-- nothing below low is lent
 pub unlent_below : (ls : List Span) (low high k : ℕ) → Spaced low high ls → k < low → is_lent ls k ≡ false
 unlent_below [] low high k t h = refl
 unlent_below (r ∷ rs) low high k t h =
     let parts = spaced_out low high r rs t in let above = parts.0 in
     or_from (covers r k) (is_lent rs k) (covers-below r k (omega arith)) (unlent_below rs (r.0 + r.1) high k parts.2 (omega arith))
 
--- where one of them lies
+-- the bounds of a span of the list
 pub listed_bounds : (q : Span) (ls : List Span) (low high : ℕ) → Spaced low high ls → listed q ls ≡ true → (low ≤ q.0) × (0 < q.1) × (q.0 + q.1 ≤ high)
 listed_bounds q [] low high t e = absurd (true≢false (sym e))
 listed_bounds q (r ∷ rs) low high t e =
@@ -113,7 +113,7 @@ module _ (r : Span) where
       (λ e. subst (Spaced low high) (sym (ap (λ (t : Bool). cond t ss (s ∷ without_span r ss)) e))
       (spaced_in low high s (without_span r ss) parts.0 parts.1 (spaced_without ss (s.0 + s.1) high parts.2)))
 
-  -- outside r, what is lent stays so
+  -- removing r changes nothing outside r
   pub lent_without : (ls : List Span) (k : ℕ) → covers r k ≡ false → is_lent (without_span r ls) k ≡ is_lent ls k
   lent_without [] k out = refl
   lent_without (s ∷ ss) k out = by_test (is_span r s)
@@ -121,7 +121,7 @@ module _ (r : Span) where
       ∙ sym (ap (λ (t : Bool). t || is_lent ss k) (subst (λ (q : Span). covers q k ≡ false) (is_span-true r s e) out)))
       (λ e. ap (λ (t : Bool). is_lent (cond t ss (s ∷ without_span r ss)) k) e ∙ ap (λ (t : Bool). covers s k || t) (lent_without ss k out))
 
-  -- inside it nothing is
+  -- after removing r nothing inside it is lent
   pub unlent_without : (ls : List Span) (low high : ℕ) → Spaced low high ls → listed r ls ≡ true → IsUnlent (without_span r ls) r.0 r.1
   unlent_without [] low high t e k a b = refl
   unlent_without (s ∷ ss) low high t e k a b =

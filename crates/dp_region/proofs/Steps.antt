@@ -1,4 +1,4 @@
--- The names that walks cite, in one place.
+-- The names that the walks cite, in one place.
 pub use Rattle.std.proofs.Common.{◌≡◌, ℕ, ◌+◌, ◌*◌, ◌^◌, ◌<◌, ◌≤◌, true, List, [], ◌∷◌, ◌++◌, length, refl, sym, ap, subst, ◌∙◌, arith, add-zero, le-leb}
 pub use mir.Syntax.{w64, seq, assign, place, rv_opd, copy, return}
 pub use mir.Val.{Val, vint, vptr}

@@ -1,4 +1,4 @@
--- The bytes that are not lent: a span of them is taken out, and put back. Assumes `Logic`.
+-- Taking a span out of the bytes that are not lent, and putting it back. Assumes `Logic`.
 use Rattle.std.proofs.Common.{◌≡◌, ℕ, ◌+◌, ◌<◌, ◌≤◌, Bool, true, false, ◌||◌, List, [], ◌∷◌, ◌++◌, length, take, drop, refl, sym, ap, ◌∙◌, arith}
 use lib.Seq.{length-take-le}
 use seplogic.Ra.Ura.{Ura}
@@ -33,7 +33,7 @@ module _ {M : Type 1} {𝓤 : Ura M} (𝓛 : Logic 𝓤) (b : ℕ) where
   abbrev byte : ℕ → ℕ → Fml
   byte x o = part_at u8 full_share x b o
 
-  -- what is lent is the same, as far as the bytes reach
+  -- `unlent` depends only on which of its bytes are lent
   stay : (ls ls' : List Span) (o k : ℕ) (xs : List ℕ) → ((j : ℕ) → k ≤ j → j < k + length xs → is_lent ls j ≡ is_lent ls' j) →
       ⟦ unlent ls b o k xs ⟧ ⊢ ⟦ unlent ls' b o k xs ⟧
   stay ls ls' o k [] same = id⊢ 𝓤 (emp 𝓤)
@@ -94,7 +94,7 @@ module _ {M : Type 1} {𝓤 : Ura M} (𝓛 : Logic 𝓤) (b : ℕ) where
       after : (j : ℕ) → p + n ≤ j → j < p + n + length (drop (p + n) xs) → is_lent ls j ≡ is_lent ls' j
       after j a q = same j (covers-above (p, n) j a)
 
-    -- the span is lent
+    -- taking a span out
     pub taken : IsUnlent ls p n → ⟦ unlent ls b o 0 xs ⟧ ⊢ ⟦ bytes full_share (bytes_in xs p n) b (o + p) ⟧ ∗ ⟦ unlent (with_span (p, n) ls) b o 0 xs ⟧
     taken free =
         let f = front in
@@ -115,7 +115,7 @@ module _ {M : Type 1} {𝓤 : Ura M} (𝓛 : Logic 𝓤) (b : ℕ) where
         use2 𝓛 (‵ (unlent ls' b o 0 (take p xs ++ (mid ++ rest)))) (glue ls' o 0 (o + p) p (take p xs) (mid ++ rest) (omega arith) (omega arith)) $
         rewrite ! 0 (λ (l : List ℕ). ‵ (unlent ls' b o 0 l)) (unspliced xs p n) refl $ done !
 
-    -- and comes back with the bytes ws
+    -- putting it back with the bytes ws
     pub given_back : (ws : List ℕ) (low high : ℕ) → Spaced low high ls → listed (p, n) ls ≡ true → length ws ≡ n
         → ⟦ bytes full_share ws b (o + p) ⟧ ∗ ⟦ unlent ls b o 0 xs ⟧ ⊢ ⟦ unlent (without_span (p, n) ls) b o 0 (with_bytes xs p ws) ⟧
     given_back ws low high t out long =
@@ -137,7 +137,7 @@ module _ {M : Type 1} {𝓤 : Ura M} (𝓛 : Logic 𝓤) (b : ℕ) where
         use2 𝓛 (‵ (unlent ls' b o 0 (take p xs ++ (ws ++ rest)))) (glue ls' o 0 (o + p) p (take p xs) (ws ++ rest) (omega arith) (omega arith)) $
         rewrite ! 0 (λ (m : ℕ). ‵ (unlent ls' b o 0 (take p xs ++ (ws ++ drop (p + m) xs)))) (sym long) refl $ done !
 
-  -- with nothing lent, all the bytes
+  -- with nothing lent, `unlent` is all the bytes
   pub whole_out : (o : ℕ) (xs : List ℕ) → ⟦ unlent [] b o 0 xs ⟧ ⊢ ⟦ bytes full_share xs b o ⟧
   whole_out o xs = all_out [] o 0 xs (λ j p q. refl)
 
@@ -145,7 +145,7 @@ module _ {M : Type 1} {𝓤 : Ura M} (𝓛 : Logic 𝓤) (b : ℕ) where
   whole_in o xs = all_in [] o 0 xs (λ j p q. refl)
 
 module _ {M : Type 1} {𝓤 : Ura M} (𝓛 : Logic 𝓤) where
-  -- a run is its bytes, one by one
+  -- a run is its bytes, each by itself
   pub run_out : (p : Ptr) (xs : List ℕ) → ent 𝓤 (sem 𝓛 (run_owns p xs))
       (guard 𝓤 (p ≡ block_ptr (block_of p) (count_of p)) (sem 𝓛 (bytes full_share xs (block_of p) (count_of p))))
   run_out null_ptr xs = never_e 𝓤 _

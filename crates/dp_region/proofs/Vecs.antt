@@ -1,4 +1,4 @@
--- A vector of bytes is a run of them and what waits for its return. Assumes `Logic`.
+-- A vector of bytes is a run and what waits for its return. Assumes `Logic`.
 use Rattle.std.proofs.Common.{◌≡◌, ℕ, ◌<◌, List, [], ◌∷◌, true, refl, sym, arith, Vec}
 use Rattle.std.proofs.lemmas.Bool.{ne_eqb, not_from_false}
 use Rattle.std.proofs.lemmas.List.{with_items_is}
@@ -28,7 +28,7 @@ module _ {M : Type 1} {𝓤 : Ura M} (𝓛 : Logic 𝓤) (v : Vec ℕ Global) wh
   abbrev ⟦◌⟧ : Fml → SProp 𝓤
   ⟦ P ⟧ = sem 𝓛 P
 
-  -- the bytes xs in its block, with the room behind them and the right to free it
+  -- the bytes xs in their block, with the room after them and the right to free it
   abbrev Block : Ptr → List ℕ → Fml
   Block p xs = block_with_items (ghosts.dealloc_token v.alloc) u8 p v.len v.cap xs
 

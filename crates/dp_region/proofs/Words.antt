@@ -1,4 +1,4 @@
--- Machine values of the types, and a struct's from its fields' and back. Assumes `Logic`.
+-- Machine values of the types; a struct as its fields and back. Assumes `Logic`.
 use Rattle.std.proofs.Common.{◌≡◌, List, [], ◌∷◌, refl, subst}
 use lib.Dec.{T}
 use seplogic.Ra.Ura.{Ura}
@@ -29,7 +29,7 @@ word_of τ [] typed = absurd typed
 word_of τ (v ∷ []) typed = record { value = v; alone = refl; fits = typed.0 }
 word_of τ (v ∷ w ∷ ws) typed = absurd typed.1
 
--- a struct of these fields, whatever its name: what it owns does not read that
+-- what a struct of these fields owns does not depend on its name
 abbrev pub nameless : List RattleType → Shape
 nameless Rs = record { name = []; args = []; types = []; fields = Rs }
 

@@ -1,4 +1,4 @@
--- What the parts of a region own.
+-- Who owns which memory: runs, cells and tickets.
 use Rattle.std.specs.Prelude.{refl, ℕ, ◌+◌, Bool, true, false, not, List, [], ◌∷◌, length}
 use Rattle.std.specs.Coded.{Coded, code_by, coded×, coded_ℕ}
 use mathlib.Core.Option.{Option, none, some}
@@ -15,7 +15,7 @@ use denote.Sharing.{nothing, beside}
 use denote.Struct.Lending.{lent_at}
 use Rattle.dp_region.specs.Spans.{Span, is_span, listed, is_lent}
 
--- where a block's bytes begin, and how many there are
+-- an address and a length: where a block's bytes are
 pub record Extent : Type 0 where
   pub ptr : Ptr
   pub len : ℕ
@@ -32,7 +32,7 @@ run_owns p xs = lies_at (Array u8 (length xs)) full_share p xs
 abbrev pub filled_owns : Extent → List ℕ → Fml
 filled_owns e xs = fsep (feq ℕ (length xs) e.len) (run_owns e.ptr xs)
 
--- which region it is: where its bytes begin, and the name of the rights to give its parts back
+-- the identity of a region: where its bytes begin, and the name of the rights to give its parts back
 pub record Home : Type 0 where
   pub block : ℕ
   pub start : ℕ
@@ -43,11 +43,11 @@ abbrev pub home_code : Coded Home
 home_code = code_by (ℕ × (ℕ × ℕ)) (coded× coded_ℕ (coded× coded_ℕ coded_ℕ)) (λ h. (h.block, (h.start, h.rights)))
     (λ p. record { block = p.0; start = p.1.0; rights = p.1.1 }) (λ _. refl)
 
--- the byte at k of it
+-- the address of the byte at offset k
 abbrev pub ptr_at : Home → ℕ → Ptr
 ptr_at h k = block_ptr h.block (h.start + k)
 
--- for each span one right, which one owner has
+-- one right for each span, which has one owner
 abbrev pub Rights : Algebra
 Rights = each (coded× coded_ℕ coded_ℕ) (maybe token)
 
@@ -59,11 +59,11 @@ right_if false = none
 abbrev pub ticket : Home → Span → Fml
 ticket h r = fown Rights h.rights (λ q. right_if (is_span q r))
 
--- those of all the spans that are not out
+-- the rights of all spans that are not lent
 abbrev pub tickets_but : Home → List Span → Fml
 tickets_but h ls = fown Rights h.rights (λ q. right_if (not (listed q ls)))
 
--- P, if the test fails
+-- P, where the test is false
 abbrev pub unless : Bool → Fml → Fml
 unless true P = ftrue
 unless false P = P
@@ -73,12 +73,12 @@ shared_unless true t = nothing
 shared_unless false t = t
 
 module _ (ls : List Span) (b : ℕ) where
-  -- those of the bytes xs that are not lent. They lie from b, o on, which is the offset k of the region
+  -- the bytes of xs that are not lent. xs lies at b, o, which is the offset k of the region
   abbrev pub unlent : ℕ → ℕ → List ℕ → Fml
   unlent o k [] = ftrue
   unlent o k (x ∷ xs) = fsep (unless (is_lent ls k) (part_at u8 full_share x b o)) (unlent (o + 1) (k + 1) xs)
 
-  -- what a `&` to them holds
+  -- what a shared reference to them holds
   abbrev pub unlent_shared : ℕ → ℕ → List ℕ → Lft → Fml
   unlent_shared o k [] = nothing
   unlent_shared o k (x ∷ xs) = beside (shared_unless (is_lent ls k) (lent_at u8 (block_ptr b o) x)) (unlent_shared (o + 1) (k + 1) xs)
@@ -87,6 +87,6 @@ module _ (ls : List Span) (b : ℕ) where
 abbrev pub cells_own : Home → List Span → List ℕ → Fml
 cells_own h ls xs = fsep (unlent ls h.block h.start 0 xs) (tickets_but h ls)
 
--- what a `&` to one holds
+-- what a shared reference to a `Cells` holds
 abbrev pub cells_shared : Home → List Span → List ℕ → Lft → Fml
 cells_shared h ls xs = unlent_shared ls h.block h.start 0 xs

@@ -1,4 +1,4 @@
-//! A block, as its holder has it.
+//! A block, as its holder sees it.
 ghost use Rattle.std.specs.Prelude.{◌≡◌, ℕ, ◌+◌, ◌^◌, ◌<◌, ◌≤◌, length};
 ghost use Rattle.std.specs.Borrow.{Lends, Array, sem, u8 as byte};
 ghost use Rattle.dp_region.specs.Spans.{bytes_in, with_bytes};
@@ -11,7 +11,7 @@ use byteorder::{ByteOrder, LittleEndian};
 use std::marker::Model;
 use std_alloc::vec::Lodged;
 
-/// Bytes of a region that are lent, at least one. They go back by `Region::reclaim`. Offsets in a block count from its start.
+/// Bytes that a region has lent, at least one. `Region::reclaim` takes them back. Offsets in a block count from its start.
 pub struct Block {
     offset: u32,
     len: u32,
@@ -35,7 +35,7 @@ impl Model for Block {
 }
 
 impl Block {
-    // The bytes of the run, which lie at `offset` of the region that the ticket is of.
+    // Makes a block of a run that lies at `offset` of the ticket's region.
     pub(crate) fn over(ptr: *mut u8, offset: u32, len: u32, run: Run, ticket: Ticket) -> Block
         requires run { (run.start ≡ ptr) × (length run.bytes ≡ len) × (0 < len) }
         requires ticket { (ticket.offset ≡ offset) × (ticket.len ≡ len) × (ptr ≡ ptr_at ticket.home offset) }
@@ -49,7 +49,7 @@ impl Block {
         }
     }
 
-    // The run, and the right to give it back.
+    // Splits the block into its run and the right to give it back.
     pub(crate) fn into_parts(self) -> (Run, Ticket)
         ensures run { (result.0.start ≡ ptr_at self.home self.offset) × (result.0.bytes ≡ self.bytes) }
         ensures ticket { (result.1.home ≡ self.home) × (result.1.offset ≡ self.offset) × (result.1.len ≡ length self.bytes) }
@@ -63,14 +63,14 @@ impl Block {
         (vacate(bytes), ticket)
     }
 
-    /// Where it begins in its region.
+    /// The offset of the block's first byte in its region.
     pub fn offset(&self) -> u32
         ensures { result ≡ self.now.offset }
     {
         self.offset
     }
 
-    /// How many bytes it has.
+    /// The number of bytes.
     pub fn len(&self) -> u32
         ensures value { result ≡ length self.now.bytes }
         ensures some { 0 < result }
@@ -78,14 +78,14 @@ impl Block {
         self.len
     }
 
-    /// Its bytes.
+    /// The bytes, for reading.
     pub fn bytes(&self) -> &[u8]
         ensures { result.now ≡ self.now.bytes }
     {
         self.bytes.as_slice()
     }
 
-    /// Its bytes, to be changed.
+    /// The bytes, for writing.
     pub fn bytes_mut(&mut self) -> &mut [u8]
         ensures* writes_back { sem 𝓛 (Lends the_row (Array byte 0) self.entry result (with_content self.old)) }
         ensures value { result.now ≡ self.old.bytes }
@@ -93,7 +93,7 @@ impl Block {
         self.bytes.as_mut_slice()
     }
 
-    /// The `len` bytes at `at`, which are in the block, to be changed.
+    /// The `len` bytes from `at` on, for writing. They must lie in the block.
     pub fn part_mut(&mut self, at: u32, len: u32) -> &mut [u8]
         requires { at + len ≤ length self.old.bytes }
         ensures* writes_back { sem 𝓛 (Lends the_row (Array byte 0) self.entry result (with_part at self.old)) }
@@ -104,7 +104,7 @@ impl Block {
         self.bytes.slice_mut(at..at + len)
     }
 
-    /// The number in the 2 bytes at `at`, which are in the block.
+    /// Reads the 2-byte number at `at`. Its bytes must lie in the block.
     pub fn load_u16(&self, at: u32) -> u16
         requires { at + 2 ≤ length self.now.bytes }
         ensures { result ≡ number_at self.now.bytes at 2 }
@@ -113,7 +113,7 @@ impl Block {
         LittleEndian::read_u16(&self.bytes.as_slice()[at..at + 2])
     }
 
-    /// The number in the 4 bytes at `at`, which are in the block.
+    /// Reads the 4-byte number at `at`. Its bytes must lie in the block.
     pub fn load_u32(&self, at: u32) -> u32
         requires { at + 4 ≤ length self.now.bytes }
         ensures { result ≡ number_at self.now.bytes at 4 }
@@ -122,7 +122,7 @@ impl Block {
         LittleEndian::read_u32(&self.bytes.as_slice()[at..at + 4])
     }
 
-    /// Puts `value` into the 2 bytes at `at`, which are in the block.
+    /// Writes `value` into the 2 bytes at `at`, which must lie in the block.
     pub fn store_u16(&mut self, at: u32, value: u16)
         requires { at + 2 ≤ length self.old.bytes }
         ensures stored { self.new ≡ record self.old { bytes = with_number self.old.bytes at 2 value } }
@@ -132,7 +132,7 @@ impl Block {
         LittleEndian::write_u16(&mut self.bytes.as_mut_slice()[at..at + 2], value);
     }
 
-    /// Puts `value` into the 4 bytes at `at`, which are in the block.
+    /// Writes `value` into the 4 bytes at `at`, which must lie in the block.
     pub fn store_u32(&mut self, at: u32, value: u32)
         requires { at + 4 ≤ length self.old.bytes }
         ensures stored { self.new ≡ record self.old { bytes = with_number self.old.bytes at 4 value } }
@@ -142,7 +142,7 @@ impl Block {
         LittleEndian::write_u32(&mut self.bytes.as_mut_slice()[at..at + 4], value);
     }
 
-    // Puts `value` into the 8 bytes at `at`, which are in the block.
+    // Writes `value` into the 8 bytes at `at`, which must lie in the block.
     pub(crate) fn store_u64(&mut self, at: u32, value: u64)
         requires { at + 8 ≤ length self.old.bytes }
         ensures stored { self.new ≡ record self.old { bytes = with_number self.old.bytes at 8 value } }
@@ -152,7 +152,7 @@ impl Block {
         LittleEndian::write_u64(&mut self.bytes.as_mut_slice()[at..at + 8], value);
     }
 
-    /// Copies the `len` bytes at `from` to `to`. Both lie in the block, and may overlap.
+    /// Copies the `len` bytes at `from` to `to`. Both ranges must lie in the block, and may overlap.
     pub fn copy_within(&mut self, from: u32, len: u32, to: u32)
         requires { (from + len ≤ length self.old.bytes) × (to + len ≤ length self.old.bytes) }
         ensures copied { self.new ≡ record self.old { bytes = with_bytes self.old.bytes to (bytes_in self.old.bytes from len) } }

@@ -1,5 +1,4 @@
-//! The base of the crate: memory as a resource of the proofs. A value of these types that has no fields costs nothing
-//! when the program runs.
+//! Memory as a resource of the proofs. Values of these types that have no fields do not exist when the program runs.
 ghost use Rattle.std.specs.Prelude.{◌≡◌, ℕ, List, length};
 ghost use Rattle.std.specs.Vec.{with_items};
 ghost use base.Fml.{ftrue, fex, fall, fwand, fsep, feq};
@@ -15,7 +14,7 @@ mod parts;
 pub(crate) use cells::{Cells, Ticket};
 pub(crate) use parts::{attach, detach, house, vacate};
 
-// The right to the bytes from `start` on, which nothing else reaches.
+// The right to the bytes from `start` on. Nothing else reaches them.
 pub(crate) struct Run {
     ghost start: { Ptr },
     ghost bytes: { List ℕ },
@@ -25,7 +24,7 @@ impl Model for Run {
     ghost also_owns = { λ r. run_owns r.start r.bytes };
 }
 
-// A vector whose bytes are out as a run. It takes any run of its extent, and is a vector again.
+// A vector without its bytes. It becomes a vector again with any run of the same extent.
 pub(crate) struct Shell {
     vec: Vec<u8, Global>,
 }

@@ -1,4 +1,4 @@
-//! The region, as its owner has it.
+//! The region, as its owner sees it.
 ghost use Rattle.std.specs.Prelude.{◌≡◌, ℕ, ◌+◌, ◌<◌, ◌≤◌, true, [], length, replicate, IfOk};
 ghost use Rattle.dp_region.specs.Spans.{Span, listed, IsUnlent, with_span, without_span, Spaced, bytes_in, with_bytes};
 ghost use Rattle.dp_region.specs.Ownership.{Home, ptr_at};
@@ -12,21 +12,21 @@ use std::alloc::Global;
 use std::marker::Model;
 use thiserror::Error;
 
-/// The bytes of a cache line, as DPDK's `RTE_CACHE_LINE_SIZE`: a region is a multiple of it.
+/// The bytes of a cache line, as DPDK's `RTE_CACHE_LINE_SIZE`. The size of a region is a multiple of it.
 pub const CACHE_LINE: u32 = 64;
 
-/// The bytes of the smallest region.
+/// The size of the smallest region, in bytes.
 pub const LEAST_REGION: u32 = 4096;
 
-/// The bytes of the largest region.
+/// The size of the largest region, in bytes.
 pub const LARGEST_REGION: u32 = 1_073_741_824;
 
-/// The memory for a region was refused.
+/// The allocator refused the memory for a region.
 #[derive(Clone, Copy, Debug, PartialEq, Eq, Error)]
 #[error("out of memory")]
 pub struct Memory;
 
-/// One region of raw memory. It ends by `close`.
+/// One region of raw memory. `close` ends it.
 pub struct Region {
     ptr: *mut u8,
     size: u32,
@@ -50,8 +50,8 @@ impl Model for Region {
 }
 
 impl Region {
-    /// A region of `size` bytes, all 0: a multiple of `CACHE_LINE`, from `LEAST_REGION` to `LARGEST_REGION`. `Memory` where that much
-    /// is not to be had.
+    /// Allocates a region of `size` bytes, all 0. The size must be a multiple of `CACHE_LINE`, from `LEAST_REGION` to `LARGEST_REGION`. Answers
+    /// `Memory` where the allocator refuses.
     pub fn new(alloc: Global, size: u32) -> Result<Region, Memory>
         requires { IsRegionSize size }
         ensures { IfOk result (λ r. (r.bytes ≡ replicate size 0) × (r.lent ≡ [])) }
@@ -69,7 +69,7 @@ impl Region {
         })
     }
 
-    /// How many bytes there are.
+    /// The number of bytes, lent ones included.
     pub fn size(&self) -> u32
         ensures value { result ≡ length self.now.bytes }
         ensures range { IsRegionSize result }
@@ -77,7 +77,7 @@ impl Region {
         self.size
     }
 
-    /// Lends the `len` bytes from `offset` on, at least one, of which none is lent yet. They are as they were.
+    /// Lends the `len` bytes from `offset` on, at least one, none of them lent yet. The block has the bytes that were there.
     pub fn lend(&mut self, offset: u32, len: u32) -> Block
         requires some { 0 < len }
         requires unlent { IsFree self.old offset len }
@@ -91,7 +91,7 @@ impl Region {
         Block::over(ptr, offset, len, run, ticket)
     }
 
-    /// Takes back a block of this region. Its bytes stay as the holder left them.
+    /// Takes a block of this region back. Its bytes stay as the holder left them.
     pub fn reclaim(&mut self, block: Block)
         requires { block.home ≡ self.old.home }
         ensures was_lent { listed (span_of block) self.old.lent ≡ true }
@@ -105,7 +105,7 @@ impl Region {
         replace_with(&mut self.cells, block.into_parts(), give);
     }
 
-    /// Frees the memory, of which nothing may be lent.
+    /// Frees the memory. Nothing may be lent.
     pub fn close(self)
         requires { self.lent ≡ [] }
     {
@@ -126,7 +126,7 @@ impl Region {
         self.cells.view(ptr, offset as usize, len as usize)
     }
 
-    /// The number in the 4 bytes at `offset`, none of them lent.
+    /// Reads the 4-byte number at `offset`. None of its bytes may be lent.
     pub fn load_u32(&self, offset: u32) -> u32
         requires { IsFree self.now offset 4 }
         ensures { result ≡ number_at self.now.bytes offset 4 }
@@ -134,7 +134,7 @@ impl Region {
         LittleEndian::read_u32(self.bytes(offset, 4))
     }
 
-    /// The number in the 8 bytes at `offset`, none of them lent.
+    /// Reads the 8-byte number at `offset`. None of its bytes may be lent.
     pub fn load_u64(&self, offset: u32) -> u64
         requires { IsFree self.now offset 8 }
         ensures { result ≡ number_at self.now.bytes offset 8 }
@@ -142,7 +142,7 @@ impl Region {
         LittleEndian::read_u64(self.bytes(offset, 8))
     }
 
-    /// Puts `value` into the 4 bytes at `offset`, none of them lent.
+    /// Writes `value` into the 4 bytes at `offset`, none of them lent.
     pub fn store_u32(&mut self, offset: u32, value: u32)
         requires { IsFree self.old offset 4 }
         ensures stored { self.new ≡ record self.old { bytes = with_number self.old.bytes offset 4 value } }
@@ -153,7 +153,7 @@ impl Region {
         self.reclaim(block);
     }
 
-    /// Puts `value` into the 8 bytes at `offset`, none of them lent.
+    /// Writes `value` into the 8 bytes at `offset`, none of them lent.
     pub fn store_u64(&mut self, offset: u32, value: u64)
         requires { IsFree self.old offset 8 }
         ensures stored { self.new ≡ record self.old { bytes = with_number self.old.bytes offset 8 value } }
@@ -165,7 +165,7 @@ impl Region {
     }
 }
 
-// The span (offset, length) of the bytes leaves, as a run and the right to give it back.
+// Takes the span (offset, length) out of the cells: its run, and the right to give it back.
 fn take(cells: Cells, span: (usize, usize)) -> (Cells, (Run, Ticket))
     requires { (0 < span.1) × (span.0 + span.1 ≤ length cells.bytes) × IsUnlent cells.lent span.0 span.1 }
     ensures cells { (result.0.home ≡ cells.home) × (result.0.bytes ≡ cells.bytes) × (result.0.lent ≡ with_span span cells.lent) }
@@ -177,7 +177,7 @@ fn take(cells: Cells, span: (usize, usize)) -> (Cells, (Run, Ticket))
     (cells, (run, ticket))
 }
 
-// A run comes back by the right to that.
+// Puts a run back into the cells. The ticket names its span.
 fn give(cells: Cells, back: (Run, Ticket)) -> (Cells, ())
     requires { (back.1.home ≡ cells.home) × (back.0.start ≡ ptr_at cells.home back.1.offset) × (length back.0.bytes ≡ back.1.len) }
     ensures { (listed (back.1.offset, back.1.len) cells.lent ≡ true) × (result.0.home ≡ cells.home)

@@ -1,4 +1,4 @@
--- How the entries of a ring stand in its bytes, and what one more does to them.
+-- The entries of a ring in its bytes, and what one more does to them.
 use Rattle.std.proofs.Common.{◌≡◌, ℕ, zero, suc, ◌+◌, ◌-◌, ◌*◌, ◌^◌, ◌<◌, ◌≤◌, cond, ltb, List, [], ◌∷◌, ◌++◌, length, slice_get, Some, None, refl, sym, ap}
 use Rattle.std.proofs.Common.{◌∙◌, arith, inl, inr}
 use Rattle.std.specs.Prelude.{◌⊎◌}
@@ -14,7 +14,7 @@ length_entries bytes count first (suc n) = let rest = length_entries bytes count
 
 -- ---- slots
 
--- a slot behind another, with or without a turn
+-- the slot n places after another, with and without wrapping
 pub slot_cases : (count first n : ℕ) → ((first + n < count) × (slot_behind count first n ≡ first + n))
     ⊎ ((count ≤ first + n) × (slot_behind count first n ≡ first + n - count))
 slot_cases count first n = elim (cases_Bool (ltb (first + n) count)) [
@@ -40,7 +40,7 @@ slot_behind-small count first n small few = elim (slot_cases count first n) [
   | inr c ↦ omega (arith, c.0, c.1)
 ]
 
--- one further behind is as far behind the next
+-- n + 1 places after a slot is n places after the next one
 pub slot_behind-next : (count first n : ℕ) → first < count → suc n < count → slot_behind count (next_slot count first) n ≡ slot_behind count first (suc n)
 slot_behind-next count first n small few = elim (next_cases count first) [
   | inl c ↦ elim (slot_cases count (next_slot count first) n) [
@@ -65,7 +65,7 @@ slot_behind-next count first n small few = elim (next_cases count first) [
   ]
 ]
 
--- a slot further behind is another one
+-- different distances lead to different slots
 slot_behind-other : (count first i n : ℕ) → first < count → i < n → n < count → slot_behind count first i ≡ slot_behind count first n → ⊥
 slot_behind-other count first i n small less few same = elim (slot_cases count first i) [
   | inl a ↦ elim (slot_cases count first n) [
@@ -80,7 +80,7 @@ slot_behind-other count first i n small less few same = elim (slot_cases count f
 
 -- ---- one more entry
 
--- the last of the entries stands so far behind the first
+-- the last entry is n places after the first
 entries_from-last : (bytes : List ℕ) (count first n : ℕ) → first < count → n < count → entries_from bytes count first (suc n)
     ≡ entries_from bytes count first n ++ number_at bytes (4 * slot_behind count first n) 4 ∷ []
 entries_from-last bytes count first zero small few = elim (slot_cases count first 0) [
@@ -93,7 +93,7 @@ entries_from-last bytes count first (suc n) small few =
     ∙ ap (λ p. entries_from bytes count (next_slot count first) n ++ number_at bytes (4 * p) 4 ∷ [])
     (slot_behind-next count first n small (omega (arith, few))))
 
--- what is written elsewhere leaves the entries
+-- a write to another slot leaves the entries
 entries_from-kept : (bytes : List ℕ) (count p v first n : ℕ) → first < count → p < count → n < count → 4 * count ≤ length bytes
     → ((i : ℕ) → i < n → slot_behind count first i ≡ p → ⊥)
     → entries_from (with_number bytes (4 * p) 4 v) count first n ≡ entries_from bytes count first n
@@ -116,7 +116,7 @@ entries_from-kept bytes count p v first (suc n) small slot few room off =
     (number_at-other bytes (4 * p) v (omega (arith, slot, room)) (4 * first) (omega (arith, small, room)) apart)
     ∙ ap (λ xs. number_at bytes (4 * first) 4 ∷ xs) rest
 
--- an entry that is written behind the others is the last
+-- a number written after the last entry is the new last entry
 pub entries_pushed : (bytes : List ℕ) (count first used v : ℕ) → first < count → used + 1 < count → 4 * count ≤ length bytes → v < 2 ^ 32
     → entries_from (with_number bytes (4 * slot_behind count first used) 4 v) count first (used + 1) ≡ entries_from bytes count first used ++ v ∷ []
 entries_pushed bytes count first used v small few room fits =

@@ -1,4 +1,4 @@
--- Several entries that are stored or taken at once: so many in slots that follow on each other, and the others from the first slot on.
+-- Several entries stored or taken at once: in consecutive slots up to the end, and the rest from slot 0 on.
 use Rattle.std.proofs.Common.{◌≡◌, ℕ, suc, ◌+◌, ◌-◌, ◌*◌, ◌<◌, ◌≤◌, ltb, List, [], ◌∷◌, ◌++◌, length, take, drop, refl, sym, ap, ◌∙◌, arith, inl, inr}
 use Rattle.std.specs.Prelude.{◌⊎◌, slice_index}
 use lib.ListN.{length-append, length-drop}
@@ -9,7 +9,7 @@ use Rattle.dp_region.specs.Region.{number_at}
 use Rattle.dp_ring.specs.Rings.{next_slot, entries_from, slot_behind, IsRun, Stores}
 use Rattle.dp_ring.proofs.Entries.{slot_cases, slot_behind-next, next_slot-small, slot_behind-small, slice_get_entries, length_entries}
 
--- an entry of the list
+-- one entry of the list
 entry_is : (bytes : List ℕ) (count first n k : ℕ) → first < count → n < count → k < n → slice_index (entries_from bytes count first n) k
     ≡ number_at bytes (4 * slot_behind count first k) 4
 entry_is bytes count first n k small few less =
@@ -22,7 +22,7 @@ here count first small = elim (slot_cases count first 0) [
   | inr c ↦ absurd (omega (arith, c.0, small))
 ]
 
--- the entries are these, if each number is
+-- the entries are these if each number is
 entries_are : (bytes : List ℕ) (count first : ℕ) (es : List ℕ) → first < count → length es < count
     → ((i : ℕ) → i < length es → number_at bytes (4 * slot_behind count first i) 4 ≡ slice_index es i)
     → entries_from bytes count first (length es) ≡ es
@@ -33,11 +33,11 @@ entries_are bytes count first (e ∷ es) small few each =
     ∙ ap (λ xs. e ∷ xs) (entries_are bytes count (next_slot count first) es (next_slot-small count first small) (omega (arith, few)) (λ i less.
     ap (λ p. number_at bytes (4 * p) 4) (slot_behind-next count first i small (omega (arith, few, less))) ∙ each (suc i) (omega (arith, less))))
 
--- ---- slots: of m numbers behind so many entries, n stand before the slots begin again
+-- ---- slots: of m numbers appended to `used` entries, n fit before the slots begin again
 
 module _ (count first used m n : ℕ) (small : first < count) (few : used + m < count) (most : n ≤ m) (fits : n ≤ count - slot_behind count first used)
     (cut : (n ≡ m) ⊎ (n ≡ count - slot_behind count first used)) where
-  -- the first n follow on each other
+  -- the first n are consecutive
   before_turn : (j : ℕ) → j < n → slot_behind count first (used + j) ≡ slot_behind count first used + j
   before_turn j less = elim (slot_cases count first used) [
     | inl a ↦ elim (slot_cases count first (used + j)) [
@@ -50,7 +50,7 @@ module _ (count first used m n : ℕ) (small : first < count) (few : used + m < 
     ]
   ]
 
-  -- the others stand from the first slot on
+  -- the others lie from slot 0 on
   behind_turn : (j : ℕ) → n ≤ j → j < m → slot_behind count first (used + j) ≡ j - n
   behind_turn j past less = elim cut [
     | inl e ↦ absurd (omega (arith, e, past, less))
@@ -63,7 +63,7 @@ module _ (count first used m n : ℕ) (small : first < count) (few : used + m < 
     ]
   ]
 
-  -- these stand before the entries and the first n
+  -- they lie below the entries and the first n
   turned_below : (i : ℕ) → i < used + n → m - n ≤ slot_behind count first i
   turned_below i less = elim cut [
     | inl e ↦ omega (arith, e)
@@ -76,7 +76,7 @@ module _ (count first used m n : ℕ) (small : first < count) (few : used + m < 
     ]
   ]
 
-  -- the first n stand beside the entries
+  -- the first n lie outside the entries
   beside : (i : ℕ) → i < used → (slot_behind count first i + 1 ≤ slot_behind count first used)
       ⊎ (slot_behind count first used + n ≤ slot_behind count first i)
   beside i less = elim (slot_cases count first used) [
@@ -90,7 +90,7 @@ module _ (count first used m n : ℕ) (small : first < count) (few : used + m < 
     ]
   ]
 
--- ---- m numbers are stored behind the entries
+-- ---- m numbers are appended
 
 stored_length : (bytes : List ℕ) (count first used : ℕ) (values : List ℕ) → length (entries_from bytes count first used ++ values) ≡ used + length values
 stored_length bytes count first used values = length-append (entries_from bytes count first used) values
@@ -107,7 +107,7 @@ entries_stored count first used n values old mid new small few room most fits cu
     let all = stored_length old count first used values in
     let front_long = length-take-le n values most in
     let back_long = length-drop n values in
-    -- what is neither in the second run nor, if it is an entry, in the first
+    -- a slot outside the second run and, if it holds an entry, outside the first
     let kept_by_back : (i : ℕ) → i < used + n → number_at new (4 * slot_behind count first i) 4 ≡ number_at mid (4 * slot_behind count first i) 4 = λ i less.
     let slot = slot_behind-small count first i small (omega (arith, less, few, most)) in
     let off = turned_below count first used m n small few most fits cut i less in
@@ -187,7 +187,7 @@ entries_loaded count first used m n bytes front back small few all most fits cut
           ∙ (sym (far (j - n) (omega (arith, over, within, back_long))) ∙ (ap (λ q. number_at bytes (4 * q) 4) (sym at) ∙ sym entry))
     ])
 
--- further behind a slot behind the first
+-- places after a slot add up
 slot_behind-twice : (count first m i : ℕ) → first < count → m + i < count → slot_behind count (slot_behind count first m) i
     ≡ slot_behind count first (m + i)
 slot_behind-twice count first m i small few = elim (slot_cases count first m) [

@@ -1,4 +1,4 @@
--- Numbers that are read from bytes where others were written over a part of them.
+-- Reading numbers from bytes of which a part was overwritten.
 use Rattle.std.proofs.Common.{◌≡◌, ℕ, ◌+◌, ◌*◌, ◌^◌, ◌<◌, ◌≤◌, List, ◌++◌, ◌-◌, length, take, drop, refl, sym, ap, ◌∙◌, arith, inl, inr, below_more}
 use Rattle.std.specs.Prelude.{slice_index}
 use borrow.Rule.Slice.PartMut.{put_mid}
@@ -12,7 +12,7 @@ use Rattle.dp_region.specs.Region.{number_at, with_number}
 use Rattle.dp_region.specs.Laws.{length-with_bytes, number_at-same, number_at-other, number_at-kept}
 use Rattle.dp_ring.specs.Rings.{IsRun, Stores}
 
--- a number of what was written
+-- a number inside what was written
 number_at-inside : (xs : List ℕ) (p : ℕ) (ws : List ℕ) (q : ℕ) → p + length ws ≤ length xs → q + 4 ≤ length ws → number_at (with_bytes xs p ws) (p + q) 4
     ≡ number_at ws q 4
 number_at-inside xs p ws q fits room =
@@ -33,7 +33,7 @@ same_number xs ys same =
     ∙ (ap (λ n. get_or ys 0 0 + 256 * (get_or ys 1 0 + 256 * (n + 256 * (get_or xs 3 0 + 0)))) (same 2 (omega arith))
     ∙ ap (λ n. get_or ys 0 0 + 256 * (get_or ys 1 0 + 256 * (get_or ys 2 0 + 256 * (n + 0)))) (same 3 (omega arith))))
 
--- a number of a part of the bytes
+-- a number in a part of the bytes
 pub number_in_part : (xs : List ℕ) (at m q : ℕ) → q + 4 ≤ m → number_at xs (at + q) 4 ≡ little_number 4 (drop q (bytes_in xs at m))
 number_in_part xs at m q room = same_number (bytes_in xs (at + q) 4) (drop q (bytes_in xs at m)) (λ j h.
     in_run xs (at + q) 4 j 0 h
@@ -50,7 +50,7 @@ run_more bytes numbers k long less fits before = below_more _ k
     (ap (λ p. number_at (with_number bytes (4 * k) 4 (slice_index numbers k)) p 4) (omega arith)
     ∙ number_at-same bytes (4 * k) (slice_index numbers k) (omega (arith, long, less)) fits)
 
--- numbers that are written over a part of the bytes
+-- numbers written over a part of the bytes
 pub stores : (slot : ℕ) (numbers old ws : List ℕ) → 4 * (slot + length numbers) ≤ length old → length ws ≡ 4 * length numbers → IsRun ws 0 numbers →
     Stores slot numbers old (with_bytes old (4 * slot) ws)
 stores slot numbers old ws fits long run = record {
@@ -61,7 +61,7 @@ stores slot numbers old ws fits long run = record {
   others = λ q room off. number_at-kept old (4 * slot) ws q (omega arith) room (⊎_elim (λ a. inl a) (λ b. inr (omega arith)) off);
 }
 
--- a part of the bytes that was lent and written over
+-- a part of the bytes that was lent and overwritten
 pub written_over : (xs ys : List ℕ) (p n : ℕ) (ws : List ℕ) → ys ≡ xs → p + n ≤ length xs → length ws ≡ n
     → take (length xs) (put_mid p (p + n - p) ys ws ++ drop (length (put_mid p (p + n - p) ys ws)) xs) ≡ with_bytes xs p ws
 written_over xs ys p n ws same fits long =

@@ -5,8 +5,7 @@ use Rattle.dp_region.specs.Ownership.{Home, home_code}
 use Rattle.dp_region.specs.Region.{number_at}
 use Rattle.dp_zone.specs.Zones.{ZoneView}
 
--- what a contract sees of a ring: how many slots it has, of which one stays unused, its entries, first in first, and
--- the name, the region, the offset and the length of the zone in which it stands
+-- a ring: the number of slots, of which one stays unused; its entries, first in first; and the name, region, offset and length of its zone
 pub record RingView : Type 0 where
   pub count : ℕ
   pub entries : List ℕ
@@ -23,11 +22,11 @@ ring_code =
     (λ r. (r.count, (r.entries, (r.name, (r.home, (r.offset, r.len))))))
     (λ p. record { count = p.0; entries = p.1.0; name = p.1.1.0; home = p.1.1.1.0; offset = p.1.1.1.1.0; len = p.1.1.1.1.1 }) (λ _. refl)
 
--- the most slots of a ring
+-- the most slots that a ring may have
 abbrev pub most_slots : ℕ
 most_slots = 65536
 
--- how many slots a ring may have. Nothing here rests on its being a power of two, as DPDK's rings want it
+-- how many slots a ring may have. It need not be a power of two, as DPDK's rings want it
 abbrev pub IsCount : ℕ → Type 0
 IsCount n = (2 ≤ n) × (n ≤ most_slots)
 
@@ -35,21 +34,21 @@ IsCount n = (2 ≤ n) × (n ≤ most_slots)
 abbrev pub empty_over : ZoneView → ℕ → RingView
 empty_over zone count = record { count = count; entries = []; name = zone.name; home = zone.home; offset = zone.offset; len = length zone.bytes }
 
--- how many more entries it can take
+-- how many more entries fit
 abbrev pub room_in : RingView → ℕ
 room_in r = r.count - 1 - length r.entries
 
--- with these entries behind its own
+-- the ring with these entries appended
 abbrev pub with_more : RingView → List ℕ → RingView
 with_more r values = record r { entries = r.entries ++ values }
 
--- without its first n entries
+-- the ring without its first n entries
 abbrev pub without_first : RingView → ℕ → RingView
 without_first r n = record r { entries = drop n r.entries }
 
--- ---- how the entries stand in the zone's bytes
+-- ---- how the entries lie in the zone's bytes
 
--- the slot behind one
+-- the slot after one
 abbrev pub next_slot : ℕ → ℕ → ℕ
 next_slot count i = if nat_lt (i + 1) count then i + 1 else 0
 
@@ -58,15 +57,15 @@ abbrev pub entries_from : List ℕ → ℕ → ℕ → ℕ → List ℕ
 entries_from bytes count first zero = []
 entries_from bytes count first (suc n) = number_at bytes (4 * first) 4 ∷ entries_from bytes count (next_slot count first) n
 
--- the slot that is so far behind one
+-- the slot n places after one
 abbrev pub slot_behind : ℕ → ℕ → ℕ → ℕ
 slot_behind count first n = if nat_lt (first + n) count then first + n else first + n - count
 
--- the numbers stand in the slots from one on
+-- the numbers lie in consecutive slots from one on
 abbrev pub IsRun : List ℕ → ℕ → List ℕ → Type 0
 IsRun bytes slot numbers = (k : ℕ) → k < length numbers → number_at bytes (4 * (slot + k)) 4 ≡ slice_index numbers k
 
--- they do so in the new bytes, and each number that is beside them is as in the old ones
+-- new has these numbers in the slots from `slot` on, and every number outside them as old has it
 pub record Stores (slot : ℕ) (numbers old new : List ℕ) : Type 0 where
   pub long : length new ≡ length old
   pub stored : IsRun new slot numbers

@@ -1,4 +1,4 @@
-//! A ring of numbers.
+//! A ring over a zone: its slots, and the calls that put entries in and take them out.
 
 ghost use Rattle.std.specs.Prelude.{◌≡◌, ℕ, ◌+◌, ◌-◌, ◌*◌, ◌<◌, ◌≤◌, ◌⊎◌, ◌++◌, [], ◌∷◌, length, take, drop, min, nat_lt, nat_le, if◌then◌else◌, slice_get};
 ghost use Rattle.std.specs.Prelude.{Some, None, MatchOption, ◌==◌};
@@ -9,14 +9,14 @@ use crate::runs::{load_one, load_run, store_one, store_run};
 use dp_zone::Zone;
 use std::marker::Model;
 
-/// A ring of `count` slots, from 2 to 65,536, of which one stays unused. It stands in a zone of at
-/// least 4 bytes a slot, and gives it back by `into_zone`.
+/// A ring of `count` slots, from 2 to 65,536, of which one stays unused. It lies in a zone of at least 4 bytes for each slot; `into_zone` hands that
+/// back.
 pub struct Ring {
     zone: Zone,
     count: u32,
     // The slot of the first entry.
     first: u32,
-    // How many entries there are.
+    // The number of entries.
     used: u32,
 }
 
@@ -56,7 +56,7 @@ fn slot_behind(count: u32, first: u32, n: u32) -> u32
     }
 }
 
-// The slot behind one.
+// The slot after `slot`.
 #[inline(always)]
 fn next_slot(count: u32, slot: u32) -> u32
     requires { (slot < count) × (count ≤ most_slots) }
@@ -67,7 +67,7 @@ fn next_slot(count: u32, slot: u32) -> u32
     if next < count { next } else { 0 }
 }
 
-// How many of so many numbers stand from a slot on before the slots begin again.
+// How many of `number` entries fit from `slot` on before the slots begin again at 0.
 fn before_turn(count: u32, slot: u32, number: usize) -> usize
     requires { slot < count }
     ensures most { (result ≤ number) × (result ≤ count - slot) }
@@ -78,7 +78,7 @@ fn before_turn(count: u32, slot: u32, number: usize) -> usize
 }
 
 impl Ring {
-    /// An empty ring in a zone.
+    /// Makes an empty ring of `count` slots in a zone.
     pub fn over(zone: Zone, count: u32) -> Ring
         requires count { IsCount count }
         requires room { 4 * count ≤ length zone.bytes }
@@ -92,7 +92,7 @@ impl Ring {
         }
     }
 
-    /// How many entries there are.
+    /// The number of entries.
     #[tactic(auto, using(crate::proofs::Entries::counted))]
     #[inline(always)]
     pub fn count(&self) -> u32
@@ -102,7 +102,7 @@ impl Ring {
         self.used
     }
 
-    /// How many more entries it can take.
+    /// The number of free slots: how many more entries fit.
     #[tactic(auto, using(crate::proofs::Entries::counted))]
     #[inline(always)]
     pub fn free_count(&self) -> u32
@@ -111,7 +111,7 @@ impl Ring {
         self.count - 1 - self.used
     }
 
-    /// The `k`-th entry from the first, from 0, if there are so many.
+    /// The `k`-th entry, counted from 0 at the front, or `None` where there are fewer.
     #[tactic(auto, using(crate::proofs::Entries::counted, crate::proofs::Entries::entry_at, crate::proofs::Entries::no_entry_at))]
     pub fn peek(&self, k: u32) -> Option<u32>
         ensures { result ≡ slice_get self.now.entries k }
@@ -123,7 +123,7 @@ impl Ring {
         Some(load_one(&self.zone, slot))
     }
 
-    /// Whether a number is one of the entries. All of them are looked at.
+    /// Whether `value` is one of the entries. It looks at all of them.
     pub fn contains(&self, value: u32) -> bool
         ensures { result ≡ list_any (λ x. x == value) self.now.entries }
     {
@@ -138,7 +138,7 @@ impl Ring {
         false
     }
 
-    // Puts an entry behind the others.
+    // Appends an entry. There must be a free slot.
     #[tactic(auto, using(crate::proofs::Entries::counted, crate::proofs::Entries::entries_pushed))]
     #[inline(always)]
     fn push(&mut self, value: u32)
@@ -151,7 +151,7 @@ impl Ring {
         self.used = used + 1;
     }
 
-    // Takes the first entry out.
+    // Takes the first entry out. There must be one.
     #[inline(always)]
     fn pop(&mut self) -> u32
         requires { 0 < length self.old.entries }
@@ -164,7 +164,7 @@ impl Ring {
         value
     }
 
-    /// Puts an entry behind the others, or answers false where the ring is full.
+    /// Appends an entry. Answers false, and changes nothing, where the ring is full.
     #[inline(always)]
     pub fn enqueue(&mut self, value: u32) -> bool
         ensures taken { result ≡ nat_lt 0 (room_in self.old) }
@@ -177,7 +177,7 @@ impl Ring {
         true
     }
 
-    /// Takes the first entry out, if there is one.
+    /// Takes the first entry out, or returns `None` if the ring is empty.
     #[inline(always)]
     pub fn dequeue(&mut self) -> Option<u32>
         ensures first { result ≡ slice_get self.old.entries 0 }
@@ -189,7 +189,7 @@ impl Ring {
         Some(self.pop())
     }
 
-    // Puts entries behind the others, in order.
+    // Appends entries in order. There must be a free slot for each.
     fn push_all(&mut self, values: &[u32])
         requires { length values.now ≤ room_in self.old }
         ensures { self.new ≡ with_more self.old values.now }
@@ -201,7 +201,7 @@ impl Ring {
         self.used += values.len() as u32;
     }
 
-    // Fills the list with the first entries, in order.
+    // Copies the first entries into `values`, in order.
     fn read_all(&self, values: &mut [u32])
         requires { length values.old ≤ length self.now.entries }
         ensures { values.new ≡ take (length values.old) self.now.entries }
@@ -212,7 +212,7 @@ impl Ring {
         load_run(&self.zone, 0, far);
     }
 
-    // Lets the first entries go.
+    // Removes the first `number` entries.
     fn skip(&mut self, number: usize)
         requires { number ≤ length self.old.entries }
         ensures { self.new ≡ without_first self.old number }
@@ -222,7 +222,7 @@ impl Ring {
         self.used = left;
     }
 
-    // Takes the first entries out, in order, as many as there are slots for them.
+    // Takes out as many of the first entries as `values` holds, in order.
     fn pop_all(&mut self, values: &mut [u32])
         requires { length values.old ≤ length self.old.entries }
         ensures first { values.new ≡ take (length values.old) self.old.entries }
@@ -232,7 +232,7 @@ impl Ring {
         self.skip(values.len());
     }
 
-    /// Puts all entries behind the others, in order, or none and answers false where the free slots are fewer.
+    /// Appends all of the values in order. Answers false, and appends none, where fewer slots are free.
     pub fn enqueue_bulk(&mut self, values: &[u32]) -> bool
         ensures taken { result ≡ nat_le (length values.now) (room_in self.old) }
         ensures entries { self.new ≡ (if nat_le (length values.now) (room_in self.old) then with_more self.old values.now else self.old) }
@@ -244,7 +244,7 @@ impl Ring {
         true
     }
 
-    /// Fills the list with the first entries, in order, or takes none and answers false where the entries are fewer.
+    /// Takes as many of the first entries as `values` holds, in order. Answers false, and takes none, where there are fewer.
     pub fn dequeue_bulk(&mut self, values: &mut [u32]) -> bool
         ensures taken { result ≡ nat_le (length values.old) (length self.old.entries) }
         ensures first { values.new ≡ (if nat_le (length values.old) (length self.old.entries) then take (length values.old) self.old.entries else values.old) }
@@ -257,7 +257,7 @@ impl Ring {
         true
     }
 
-    /// Puts as many of the entries as can be behind the others, in order, and answers how many.
+    /// Appends as many of the values as fit, in order, and returns how many.
     pub fn enqueue_burst(&mut self, values: &[u32]) -> usize
         ensures number { result ≡ min (length values.now) (room_in self.old) }
         ensures entries { self.new ≡ with_more self.old (take (min (length values.now) (room_in self.old)) values.now) }
@@ -267,8 +267,7 @@ impl Ring {
         number
     }
 
-    /// Takes as many of the first entries as there are and as the list holds, in order, and answers how many. The
-    /// rest of the list stays.
+    /// Takes as many of the first entries as there are and as `values` holds, in order, and returns how many. The rest of `values` stays.
     pub fn dequeue_burst(&mut self, values: &mut [u32]) -> usize
         ensures number { result ≡ min (length values.old) (length self.old.entries) }
         ensures first { values.new ≡ take (min (length values.old) (length self.old.entries)) self.old.entries
@@ -280,7 +279,7 @@ impl Ring {
         number
     }
 
-    /// Gives the zone back, with any bytes.
+    /// Hands the zone back. Its bytes are left open.
     pub fn into_zone(self) -> Zone
         ensures offset { (result.name ≡ self.name) × (result.home ≡ self.home) × (result.offset ≡ self.offset) }
         ensures len { length result.bytes ≡ self.len }

@@ -1,4 +1,4 @@
-//! Numbers in the slots of a zone: one alone, and runs of them, one behind the other.
+//! Reads and writes the numbers in the slots of a zone: one, or a run of consecutive slots.
 ghost use Rattle.std.specs.Prelude.{◌≡◌, ℕ, ◌+◌, ◌*◌, ◌<◌, ◌≤◌, length, slice_index};
 ghost use Rattle.dp_region.specs.Region.{number_at, with_number};
 ghost use Rattle.dp_ring.specs.Rings.{IsRun, Stores};
@@ -15,7 +15,7 @@ fn write_number(bytes: &mut [u8], at: usize, number: u32)
     LittleEndian::write_u32(&mut bytes[at..at + 4], number);
 }
 
-// Writes numbers over bytes, of which there are just enough.
+// Writes numbers over bytes, four for each.
 fn write_numbers(bytes: &mut [u8], numbers: &[u32])
     requires { length bytes.old ≡ 4 * length numbers.now }
     ensures run { IsRun bytes.new 0 numbers.now }
@@ -26,7 +26,7 @@ fn write_numbers(bytes: &mut [u8], numbers: &[u32])
     }
 }
 
-/// Writes a number into a slot of a zone.
+/// Writes `number` into a slot.
 #[inline(always)]
 pub(crate) fn store_one(zone: &mut Zone, slot: u32, number: u32)
     requires { 4 * slot + 4 ≤ length zone.old.bytes }
@@ -35,7 +35,7 @@ pub(crate) fn store_one(zone: &mut Zone, slot: u32, number: u32)
     write_number(zone.bytes_mut(), 4 * slot as usize, number);
 }
 
-/// The number in a slot of a zone.
+/// Reads the number in a slot.
 #[inline(always)]
 pub(crate) fn load_one(zone: &Zone, slot: u32) -> u32
     requires { 4 * slot + 4 ≤ length zone.now.bytes }
@@ -45,7 +45,7 @@ pub(crate) fn load_one(zone: &Zone, slot: u32) -> u32
     LittleEndian::read_u32(&zone.bytes()[at..at + 4])
 }
 
-/// Writes numbers into the slots of a zone from one on.
+/// Writes numbers into consecutive slots from `slot` on.
 pub(crate) fn store_run(zone: &mut Zone, slot: u32, numbers: &[u32])
     requires { 4 * (slot + length numbers.now) ≤ length zone.old.bytes }
     ensures bytes { Stores slot numbers.now zone.old.bytes zone.new.bytes }
@@ -55,7 +55,7 @@ pub(crate) fn store_run(zone: &mut Zone, slot: u32, numbers: &[u32])
     write_numbers(&mut zone.bytes_mut()[at..at + 4 * numbers.len()], numbers);
 }
 
-/// Reads the numbers in the slots of a zone from one on.
+/// Reads numbers from consecutive slots, from `slot` on.
 pub(crate) fn load_run(zone: &Zone, slot: u32, numbers: &mut [u32])
     requires { 4 * (slot + length numbers.old) ≤ length zone.now.bytes }
     ensures { IsRun zone.now.bytes slot numbers.new }

@@ -1,4 +1,4 @@
--- Tables in which each name stands once.
+-- Tables in which each name occurs once.
 use Rattle.std.proofs.Common.{◌≡◌, ℕ, Bool, true, false, ◌||◌, cond, List, [], ◌∷◌, ◌++◌, Some, None, refl, sym, ap, subst, ◌∙◌}
 use Rattle.std.proofs.lemmas.Bool.{true≢false, or_parts}
 use Rattle.std.proofs.lemmas.Bool.Decides.{same_from_decides}
@@ -20,7 +20,7 @@ none_of : (a b : Bool) → a ≡ false → b ≡ false → (a || b) ≡ false
 none_of true b is none = absurd (true≢false is)
 none_of false b is none = none
 
--- a zone behind the others adds its name alone
+-- appending a zone adds its name alone
 fresh_behind : (name : List ℕ) (table : List Reserved) (r : Reserved) → has_name name table ≡ false → same_name r.name name ≡ false →
     has_name name (table ++ r ∷ []) ≡ false
 fresh_behind name [] r none other = none_of (same_name r.name name) false other refl
@@ -28,14 +28,14 @@ fresh_behind name (q ∷ table) r none other =
     let parts = or_parts (is_named name q) (has_name name table) none in
     none_of (is_named name q) (has_name name (table ++ r ∷ [])) parts.0 (fresh_behind name table r parts.1 other)
 
--- a zone of a new name may stand behind the others
+-- appending a zone of a new name keeps the names distinct
 pub apart_more : (table : List Reserved) (r : Reserved) → AreApart table → has_name r.name table ≡ false → AreApart (table ++ r ∷ [])
 apart_more [] r apart fresh = (refl, tt)
 apart_more (q ∷ table) r apart fresh =
     let parts = or_parts (is_named r.name q) (has_name r.name table) fresh in
     (fresh_behind q.name table r apart.0 (same_back r.name q.name ∙ parts.0), apart_more table r apart.1 parts.1)
 
--- what is not there is not there without another either
+-- removing a zone adds no name
 none_without : (name other : List ℕ) (table : List Reserved) → has_name name table ≡ false → has_name name (without_name other table) ≡ false
 none_without name other [] none = refl
 none_without name other (r ∷ table) none = by (is_named other r) (none_without name other table parts.1) where
@@ -46,7 +46,7 @@ none_without name other (r ∷ table) none = by (is_named other r) (none_without
   by true rest = parts.1
   by false rest = none_of (is_named name r) (has_name name (without_name other table)) parts.0 rest
 
--- those that are left stand once too
+-- removing a zone keeps the names distinct
 pub apart_without : (name : List ℕ) (table : List Reserved) → AreApart table → AreApart (without_name name table)
 apart_without name [] apart = tt
 apart_without name (r ∷ table) apart = by (is_named name r) (apart_without name table apart.1) where
@@ -60,7 +60,7 @@ not_found name (r ∷ table) none =
     let parts = or_parts (is_named name r) (has_name name table) none in
     ap (λ b. cond b (Some r) (zone_named name table)) parts.0 ∙ not_found name table parts.1
 
--- a name that goes is not found any more
+-- a removed name is not found any more
 pub gone_without : (name : List ℕ) (table : List Reserved) → AreApart table → zone_named name (without_name name table) ≡ None
 gone_without name [] apart = refl
 gone_without name (r ∷ table) apart = by (is_named name r) refl (gone_without name table apart.1) where
@@ -68,9 +68,9 @@ gone_without name (r ∷ table) apart = by (is_named name r) refl (gone_without 
   by true is rest = not_found name table (subst (λ n. has_name n table ≡ false) ((bytes_eq-Decides r.name name).0 is) apart.0)
   by false is rest = ap (λ b. cond b (Some r) (zone_named name (without_name name table))) is ∙ rest
 
--- ---- what the entries say
+-- ---- the same for entries
 
--- an entry of a new name may stand behind the others
+-- appending an entry of a new name keeps the names distinct
 pub apart_entries : (entries : List Entry) (e : Entry) (name : List ℕ) → AreApart (table_of entries) → e.name.bytes ≡ name → has_name name (table_of entries)
     ≡ false → AreApart (table_of (entries ++ e ∷ []))
 apart_entries entries e name apart named fresh =

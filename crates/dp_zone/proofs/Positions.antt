@@ -1,4 +1,4 @@
--- What is known where no element passes a test.
+-- Where no position is found, no element passes the test.
 use Rattle.std.proofs.Common.{◌≡◌, ℕ, suc, ◌+◌, ◌≤◌, Bool, true, false, not, ◌||◌, cond, ltb, List, [], ◌∷◌, length, Some, None, position, refl, ap, arith}
 use Rattle.std.specs.Prelude.{is_some}
 use Rattle.std.specs.List.{list_any, prefix_len, position_or_len}
@@ -16,7 +16,7 @@ missed : (b : Bool) (n : ℕ) → cond b (Some n) None ≡ None → b ≡ false
 missed true n is = absurd (true≢false (ap is_some is))
 missed false n is = refl
 
--- where there is no first element that passes, none passes
+-- without a first element that passes, none passes
 pub none_from_position : {X : Type 0} (p : X → Bool) (xs : List X) → position p xs ≡ None → list_any p xs ≡ false
 none_from_position p xs is = none_passes p xs (ltb-false (position_or_len p xs) (length xs)
     (missed (ltb (position_or_len p xs) (length xs)) (position_or_len p xs) is))

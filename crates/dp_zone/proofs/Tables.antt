@@ -10,7 +10,7 @@ use Rattle.dp_zone.specs.Names.{same_name}
 use Rattle.dp_zone.specs.Zones.{Reserved, info_of, has_name, zone_named, without_name}
 use Rattle.dp_zone.specs.Entries.{entry_of, table_of}
 
--- an entry has the name where the table has it
+-- some entry has the name exactly where the table has it
 pub has_name_any : (name : List ℕ) (entries : List Entry) → list_any (λ e. same_name e.name.bytes name) entries ≡ has_name name (table_of entries)
 has_name_any name [] = refl
 has_name_any name (e ∷ entries) = ap (λ b. same_name e.name.bytes name || b) (has_name_any name entries)
@@ -26,7 +26,7 @@ zone_named_entry name (e ∷ entries) = by (same_name e.name.bytes name) (find (
       by true x y is = refl
       by false x y is = is
 
--- what a look-up tells
+-- what a look-up returns
 pub lookup_found : (name : List ℕ) (entries : List Entry) (e : Entry) → find (λ e. same_name e.name.bytes name) entries ≡ Some e
     → Some (record { offset = e.offset; len = e.len }) ≡ option_map info_of (zone_named name (table_of entries))
 lookup_found name entries e is = ap (λ o. option_map info_of (option_map entry_of o)) (sym is) ∙ ap (option_map info_of) (zone_named_entry name entries)
@@ -35,7 +35,7 @@ pub lookup_missed : (name : List ℕ) (entries : List Entry) → find (λ e. sam
     None ≡ option_map info_of (zone_named name (table_of entries))
 lookup_missed name entries is = ap (λ o. option_map info_of (option_map entry_of o)) (sym is) ∙ ap (option_map info_of) (zone_named_entry name entries)
 
--- ---- an entry that goes
+-- ---- removing an entry
 
 cond_true : {X : Type 0} (b : Bool) (x y : X) → b ≡ true → x ≡ cond b x y
 cond_true true x y is = refl
@@ -45,7 +45,7 @@ cond_false : {X : Type 0} (b : Bool) (x y : X) → b ≡ false → y ≡ cond b 
 cond_false true x y is = absurd (true≢false is)
 cond_false false x y is = refl
 
--- without its first entry of a name the table has lost that name's zone
+-- removing its first entry of a name removes that zone from the table
 pub table_without : (name : List ℕ) (d : Entry) (entries : List Entry) (k : ℕ) → k < length entries → same_name (get_or entries k d).name.bytes name ≡ true
     → ((j : ℕ) → j < k → same_name (get_or entries j d).name.bytes name ≡ false)
     → table_of (remove entries k) ≡ without_name name (table_of entries)
@@ -62,7 +62,7 @@ table_removed name d entries left k at is =
     let known = position-Some (λ (e : Entry). same_name e.name.bytes name) entries k d at in
     ap table_of is ∙ table_without name d entries k known.0 known.1 known.2
 
--- a table without the name stays
+-- removing a name that no entry has changes nothing
 pub table_stays : (name : List ℕ) (entries : List Entry) → list_any (λ e. same_name e.name.bytes name) entries ≡ false →
     table_of entries ≡ without_name name (table_of entries)
 table_stays name [] none = refl

@@ -1,4 +1,4 @@
--- What the entries of a table say.
+-- The entries of a table as values.
 use Rattle.std.specs.Prelude.{List, map}
 use Rattle.dp_zone.specs.declared.zones.Entry.{Entry}
 use Rattle.dp_zone.specs.Zones.{Reserved}

@@ -7,7 +7,7 @@ use Rattle.std.specs.Str.{bytes_eq}
 abbrev pub longest_name : ℕ
 longest_name = 31
 
--- whether a name has some characters and no more than that, each visible: 33 to 126
+-- whether a name has 1 to `longest_name` characters, each visible: 33 to 126
 abbrev pub is_name : List ℕ → Bool
 is_name name = nat_le 1 (length name) && nat_le (length name) longest_name && list_all (λ b. nat_le 33 b && nat_le b 126) name
 

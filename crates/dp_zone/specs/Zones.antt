@@ -1,4 +1,4 @@
--- Zones: what a contract sees of one, and of the table of those that are reserved.
+-- Zones, and the table of those that are reserved, as contracts see them.
 use Rattle.std.specs.Prelude.{◌≡◌, refl, ℕ, ◌<◌, ◌≤◌, Bool, true, false, List, [], ◌∷◌, length, Option, find, if◌then◌else◌}
 use Rattle.std.specs.List.{list_any}
 use Rattle.std.specs.Coded.{Coded, code_by, coded×, coded_list, coded_ℕ}
@@ -26,11 +26,11 @@ zone_code =
     code_by (List ℕ × (Home × (ℕ × List ℕ))) (coded× (coded_list coded_ℕ) (coded× home_code (coded× coded_ℕ (coded_list coded_ℕ))))
     (λ z. (z.name, (z.home, (z.offset, z.bytes)))) (λ p. record { name = p.0; home = p.1.0; offset = p.1.1.0; bytes = p.1.1.1 }) (λ _. refl)
 
--- z with ws as its bytes. Where ws has another length it is cut, or filled up from z's
+-- z with the bytes ws. A longer ws is cut, and a shorter one keeps the rest of z's bytes
 abbrev pub with_content : ZoneView → List ℕ → ZoneView
 with_content z ws = record z { bytes = refilled z.bytes ws }
 
--- z with ws over its bytes from an offset on
+-- z with ws written over its bytes from an offset on
 abbrev pub with_part : ℕ → ZoneView → List ℕ → ZoneView
 with_part at z ws = record z { bytes = overlaid z.bytes at ws }
 
@@ -60,7 +60,7 @@ abbrev pub without_name : List ℕ → List Reserved → List Reserved
 without_name name [] = []
 without_name name (r ∷ rs) = if is_named name r then rs else r ∷ without_name name rs
 
--- of each name one zone at most
+-- no name occurs twice
 abbrev pub AreApart : List Reserved → Type 0
 AreApart [] = Unit {0}
 AreApart (r ∷ rs) = (has_name r.name rs ≡ false) × AreApart rs
@@ -69,12 +69,12 @@ AreApart (r ∷ rs) = (has_name r.name rs ≡ false) × AreApart rs
 abbrev pub most_zones : ℕ
 most_zones = 64
 
--- what every table is
+-- what holds of every table
 pub record IsZoneTable (table : List Reserved) : Type 0 where
   pub few : length table ≤ most_zones
   pub apart : AreApart table
 
--- what a look-up tells of it
+-- what a look-up returns of it
 abbrev pub info_of : Reserved → ZoneInfo
 info_of r = record { offset = r.offset; len = r.len }
 
@@ -82,7 +82,7 @@ info_of r = record { offset = r.offset; len = r.len }
 abbrev pub IsLength : ℕ → Type 0
 IsLength len = (0 < len) × (len ≤ largest_region)
 
--- a request is refused by this error: none of the earlier ones applies
+-- a request is refused with this error: none of the earlier ones applies
 abbrev pub IsZoneRefused : ZoneError → List ℕ → ℕ → ℕ → List Reserved → List Element → Type 0
 IsZoneRefused BadName name len align table es = is_name name ≡ false
 IsZoneRefused BadLength name len align table es = (is_name name ≡ true) × ¬ IsLength len
@@ -103,7 +103,7 @@ number_of Exists = 4
 number_of Full = 5
 number_of NoRoom = 6
 
--- a request that no error but NoRoom applies to
+-- a request to which no error but NoRoom applies
 pub record IsReservable (name : List ℕ) (len align : ℕ) (table : List Reserved) : Type 0 where
   pub named : is_name name ≡ true
   pub length_fits : IsLength len

@@ -4,10 +4,10 @@ ghost use Rattle.dp_zone.specs.Zones.{number_of};
 
 use thiserror::Error;
 
-/// Why a zone is not reserved: the first of these that applies.
+/// Why `reserve` refuses a zone: the first of these that applies.
 #[derive(Clone, Copy, Debug, PartialEq, Eq, Drop, Error)]
 pub enum ZoneError {
-    /// The name has no character or more than `LONGEST_NAME`, or one of them is not from 33 to 126.
+    /// The name has no characters or more than `LONGEST_NAME`, or one of them is not from 33 to 126.
     #[error("bad zone name")]
     BadName,
     /// The length is 0 or above `dp_region::LARGEST_REGION`.
@@ -16,19 +16,19 @@ pub enum ZoneError {
     /// The alignment is neither 0 nor a power of two.
     #[error("bad zone alignment")]
     BadAlign,
-    /// There is a zone of that name.
+    /// The table has a zone of that name.
     #[error("the zone exists")]
     Exists,
-    /// There are `MOST_ZONES` zones.
+    /// The table has `MOST_ZONES` zones.
     #[error("too many zones")]
     Full,
-    /// No free part of the heap is large enough.
+    /// No free element of the heap has room.
     #[error("no room for the zone")]
     NoRoom,
 }
 
 impl ZoneError {
-    /// Its number, from 1, in the order in which the causes are looked for.
+    /// The number of the cause, from 1, in the order in which they are tested.
     pub fn number(self) -> u8
         ensures { result ≡ number_of self }
     {

@@ -1,4 +1,4 @@
-//! Names of zones.
+//! Names of zones: which texts are permitted.
 
 ghost use Rattle.std.specs.Prelude.{◌≡◌, ◌&&◌, nat_le, true, false, IfSome, IfNone};
 ghost use Rattle.std.specs.List.{list_all};
@@ -7,7 +7,7 @@ ghost use Rattle.dp_zone.specs.Names.{is_name, same_name};
 use arrayvec::ArrayString;
 use std::marker::Model;
 
-/// The most characters of a zone's name, one fewer than DPDK's `RTE_MEMZONE_NAMESIZE`, which counts the end of the text.
+/// The most characters of a zone's name, one fewer than DPDK's `RTE_MEMZONE_NAMESIZE`, which counts the final zero.
 pub const LONGEST_NAME: usize = 31;
 
 /// The name of a zone: 1 to `LONGEST_NAME` visible ASCII characters, without blanks.
@@ -27,14 +27,14 @@ impl Model for ZoneName {
     ghost invariant = { λ n. is_name n.text.bytes ≡ true };
 }
 
-/// Whether all are visible characters.
+/// Whether all bytes are visible characters.
 fn are_visible(bytes: &[u8]) -> bool
     ensures { result ≡ list_all (λ b. nat_le 33 b && nat_le b 126) bytes.now }
 {
     bytes.iter().all(|b| *b >= 33 && *b <= 126)
 }
 
-/// Whether a text is a name.
+/// Whether `text` is a name.
 pub(crate) fn is_name(text: &str) -> bool
     ensures { result ≡ is_name text.now }
 {
@@ -42,7 +42,7 @@ pub(crate) fn is_name(text: &str) -> bool
 }
 
 impl ZoneName {
-    /// The name of this text, or `None` where it is none.
+    /// Makes a name of `text`, or `None` where it is none.
     pub fn new(text: &str) -> Option<ZoneName>
         ensures some { IfSome result (λ n. (n ≡ text.now) × (is_name text.now ≡ true)) }
         ensures none { IfNone result (is_name text.now ≡ false) }
@@ -55,28 +55,28 @@ impl ZoneName {
         Some(ZoneName { text: name })
     }
 
-    /// Its text.
+    /// The text of the name.
     pub fn as_str(&self) -> &str
         ensures { result.now ≡ self.now }
     {
         self.text.as_str()
     }
 
-    // Its text, in room of its own.
+    // A copy of the text.
     pub(crate) fn text(&self) -> ArrayString<LONGEST_NAME>
         ensures { result.bytes ≡ self.now }
     {
         self.text
     }
 
-    /// Whether this text is the name.
+    /// Whether the name is `text`.
     pub fn is(&self, text: &str) -> bool
         ensures { result ≡ same_name self.now text.now }
     {
         self.as_str() == text
     }
 
-    /// The same name again.
+    /// A copy of the name.
     pub fn copy(&self) -> ZoneName
         ensures { result ≡ self.now }
     {

@@ -1,4 +1,4 @@
-//! A zone.
+//! A zone, as its holder sees it.
 
 ghost use Rattle.std.specs.Prelude.{◌≡◌, ℕ, ◌+◌, ◌<◌, ◌≤◌, length, replicate};
 ghost use Rattle.std.specs.Borrow.{Lends, Array, sem, u8 as byte};
@@ -11,7 +11,7 @@ use crate::name::ZoneName;
 use dp_region::Block;
 use std::marker::Model;
 
-/// A named block of a heap. It goes back by `Zones::give_back`.
+/// A named block of a heap. `Zones::give_back` takes it back.
 pub struct Zone {
     name: ZoneName,
     block: Block,
@@ -28,14 +28,14 @@ impl Model for Zone {
 }
 
 impl Zone {
-    // The zone of this name that a block is.
+    // Makes a zone of a name and a block.
     pub(crate) fn over(name: ZoneName, block: Block) -> Zone
         ensures { result ≡ record { name = name; home = block.home; offset = block.offset; bytes = block.bytes } }
     {
         Zone { name, block }
     }
 
-    // The name and the block.
+    // Splits the zone into its name and its block.
     pub(crate) fn into_parts(self) -> (ZoneName, Block)
         ensures { (result.0 ≡ self.name) × (result.1 ≡ record { home = self.home; offset = self.offset; bytes = self.bytes }) }
     {
@@ -50,14 +50,14 @@ impl Zone {
         &self.name
     }
 
-    /// Where it begins, in bytes from the region's start.
+    /// The offset of its first byte, in bytes from the region's start.
     pub fn offset(&self) -> u32
         ensures { result ≡ self.now.offset }
     {
         self.block.offset()
     }
 
-    /// How many bytes it has.
+    /// The number of bytes.
     pub fn len(&self) -> u32
         ensures value { result ≡ length self.now.bytes }
         ensures some { 0 < result }
@@ -65,14 +65,14 @@ impl Zone {
         self.block.len()
     }
 
-    /// Its bytes.
+    /// Its bytes, for reading.
     pub fn bytes(&self) -> &[u8]
         ensures { result.now ≡ self.now.bytes }
     {
         self.block.bytes()
     }
 
-    /// Its bytes, to be written.
+    /// Its bytes, for writing.
     pub fn bytes_mut(&mut self) -> &mut [u8]
         ensures* writes_back { sem 𝓛 (Lends the_row (Array byte 0) self.entry result (with_content self.old)) }
         ensures value { result.now ≡ self.old.bytes }
@@ -80,7 +80,7 @@ impl Zone {
         self.block.bytes_mut()
     }
 
-    /// The `len` bytes from `at` on, which are in the zone, to be written.
+    /// The `len` bytes from `at` on, for writing. They must lie in the zone.
     pub fn part_mut(&mut self, at: u32, len: u32) -> &mut [u8]
         requires { at + len ≤ length self.old.bytes }
         ensures* writes_back { sem 𝓛 (Lends the_row (Array byte 0) self.entry result (with_part at self.old)) }
@@ -90,7 +90,7 @@ impl Zone {
         self.block.part_mut(at, len)
     }
 
-    /// The number in the 2 bytes from `at` on, which are in the zone, the lowest first.
+    /// Reads the little-endian 2-byte number at `at`. Its bytes must lie in the zone.
     pub fn load_u16(&self, at: u32) -> u16
         requires { at + 2 ≤ length self.now.bytes }
         ensures { result ≡ number_at self.now.bytes at 2 }
@@ -98,7 +98,7 @@ impl Zone {
         self.block.load_u16(at)
     }
 
-    /// The number in the 4 bytes from `at` on, which are in the zone, the lowest first.
+    /// Reads the little-endian 4-byte number at `at`. Its bytes must lie in the zone.
     pub fn load_u32(&self, at: u32) -> u32
         requires { at + 4 ≤ length self.now.bytes }
         ensures { result ≡ number_at self.now.bytes at 4 }
@@ -106,7 +106,7 @@ impl Zone {
         self.block.load_u32(at)
     }
 
-    /// Writes a number into the 2 bytes from `at` on, which are in the zone, the lowest first.
+    /// Writes `v` into the 2 bytes at `at`, little-endian. They must lie in the zone.
     pub fn store_u16(&mut self, at: u32, v: u16)
         requires { at + 2 ≤ length self.old.bytes }
         ensures { self.new ≡ record self.old { bytes = with_number self.old.bytes at 2 v } }
@@ -114,7 +114,7 @@ impl Zone {
         self.block.store_u16(at, v);
     }
 
-    /// Writes a number into the 4 bytes from `at` on, which are in the zone, the lowest first.
+    /// Writes `v` into the 4 bytes at `at`, little-endian. They must lie in the zone.
     pub fn store_u32(&mut self, at: u32, v: u32)
         requires { at + 4 ≤ length self.old.bytes }
         ensures { self.new ≡ record self.old { bytes = with_number self.old.bytes at 4 v } }
@@ -122,7 +122,7 @@ impl Zone {
         self.block.store_u32(at, v);
     }
 
-    /// Copies `len` bytes from `from` to `to`. The two parts lie in the zone, and may overlap.
+    /// Copies `len` bytes from `from` to `to`. Both ranges must lie in the zone, and may overlap.
     pub fn copy_within(&mut self, from: u32, len: u32, to: u32)
         requires { (from + len ≤ length self.old.bytes) × (to + len ≤ length self.old.bytes) }
         ensures { self.new ≡ record self.old { bytes = with_bytes self.old.bytes to (bytes_in self.old.bytes from len) } }
@@ -130,7 +130,7 @@ impl Zone {
         self.block.copy_within(from, len, to);
     }
 
-    /// Writes bytes from `at` on. They fit into the zone.
+    /// Writes `bytes` from `at` on. They must fit into the zone.
     pub fn write(&mut self, at: u32, bytes: &[u8])
         requires { at + length bytes.now ≤ length self.old.bytes }
         ensures { self.new ≡ record self.old { bytes = with_bytes self.old.bytes at bytes.now } }
@@ -139,7 +139,7 @@ impl Zone {
         self.block.bytes_mut()[at..at + bytes.len()].copy_from_slice(bytes);
     }
 
-    /// Writes `len` zeros from `at` on. They fit into the zone.
+    /// Writes `len` zeros from `at` on. They must fit into the zone.
     pub fn clear(&mut self, at: u32, len: u32)
         requires { at + len ≤ length self.old.bytes }
         ensures { self.new ≡ record self.old { bytes = with_bytes self.old.bytes at (replicate len 0) } }

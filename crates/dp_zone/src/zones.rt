@@ -1,4 +1,4 @@
-//! The table of zones.
+//! The table of the zones that are reserved.
 
 ghost use Rattle.std.specs.Prelude.{◌≡◌, ◌+◌, ◌<◌, ◌≤◌, ◌&&◌, List, [], ◌∷◌, ◌++◌, length, Contains, IfOk, IfErr, IfSome, IfNone, OnOk, OnErr, MatchResult};
 ghost use Rattle.std.specs.Prelude.{find, position, option_map, None, true, false};
@@ -20,14 +20,14 @@ use std::marker::Model;
 /// The most zones of a table. DPDK has 2,560, `RTE_MAX_MEMZONE`.
 pub const MOST_ZONES: usize = 64;
 
-/// Where a zone is: its offset, in bytes from the region's start, and how many bytes it has.
+/// Where a zone is: its offset, in bytes from the region's start, and its length in bytes.
 #[derive(Clone, Copy, Debug, PartialEq, Eq)]
 pub struct ZoneInfo {
     pub offset: u32,
     pub len: u32,
 }
 
-// What the table knows of a zone.
+// What the table knows of one zone.
 #[derive(Clone, Copy, Default, Drop)]
 struct Entry {
     name: ArrayString<LONGEST_NAME>,
@@ -36,7 +36,7 @@ struct Entry {
 }
 
 impl Entry {
-    // Whether it has this name.
+    // Whether the zone has this name.
     fn is(&self, name: &str) -> bool
         ensures { result ≡ same_name self.now.name.bytes name.now }
     {
@@ -65,7 +65,7 @@ fn entry_named(entries: &[Entry], name: &str) -> Option<Entry>
     entries.iter().copied().find(|e| e.is(name))
 }
 
-/// A table of at most `MOST_ZONES` zones, each with a name of its own.
+/// A table of at most `MOST_ZONES` zones with distinct names.
 #[derive(Drop)]
 pub struct Zones {
     entries: ArrayVec<Entry, MOST_ZONES>,
@@ -93,7 +93,7 @@ impl Zones {
         }
     }
 
-    /// How many zones there are: at most `MOST_ZONES`, each of a name of its own.
+    /// The number of zones, at most `MOST_ZONES`.
     pub fn count(&self) -> usize
         ensures value { result ≡ length self.now }
         ensures table { IsZoneTable self.now }
@@ -109,7 +109,7 @@ impl Zones {
         any_named(self.entries.as_slice(), name)
     }
 
-    /// Where the zone of that name is, if there is one.
+    /// Looks a zone up by its name.
     #[tactic(auto, using(crate::proofs::Tables::lookup_found, crate::proofs::Tables::lookup_missed))]
     pub fn lookup(&self, name: &str) -> Option<ZoneInfo>
         ensures { result ≡ option_map info_of (zone_named name.now self.now) }
@@ -123,7 +123,7 @@ impl Zones {
         }
     }
 
-    // Why no zone of these is reserved, whatever the heap holds.
+    // The error that refuses this request whatever the heap holds, if there is one.
     fn refusal(&self, name: &str, len: u32, align: u32) -> Option<ZoneError>
         ensures none { IfNone result (IsReservable name.now len align self.now) }
         ensures some { IfSome result (λ e. (es : List Element) → IsZoneRefused e name.now len align self.now es) }
@@ -146,7 +146,7 @@ impl Zones {
         None
     }
 
-    // Takes the zone of that name out of the table.
+    // Removes the zone of that name from the table.
     fn forget(&mut self, name: &str)
         ensures table { self.new ≡ without_name name.now self.old }
         ensures gone { zone_named name.now self.new ≡ None }
@@ -156,8 +156,8 @@ impl Zones {
         }
     }
 
-    /// A new zone of that name: `len` bytes, rounded up to cache lines, aligned to `align` (0 counts as one). It begins with the
-    /// bytes that were there. An error is the first that applies, and then nothing has changed.
+    /// Reserves a zone of `len` bytes, rounded up to cache lines, at a multiple of `align` (0 or a power of two; at least a cache line). Its bytes
+    /// are those that were there. On an error, the first of [`ZoneError`] that applies, nothing changes.
     pub fn reserve(
         &mut self,
         heap: &mut Heap,
@@ -195,8 +195,7 @@ impl Zones {
         }
     }
 
-    /// Gives a zone of that heap back: its name is free again, so that no zone of that name is found, and its bytes are
-    /// the heap's.
+    /// Gives a zone back to the heap that it is of. Its name is free again.
     pub fn give_back(&mut self, heap: &mut Heap, zone: Zone)
         requires { zone.home ≡ heap.old.home }
         ensures was_out { IsOut zone.offset heap.old.elements }

@@ -1,4 +1,4 @@
-//! Drains whose writer fails at each of its bytes.
+//! Drains whose writer fails after each number of bytes.
 ghost use Rattle.std.specs.Prelude.{◌<◌};
 
 use crate::given::{Act, FORWARD, opened, play_to, pool, port, says, written};
@@ -10,7 +10,7 @@ use std::test::Fail;
 // Three records: one of one segment, one without bytes, and one of three segments.
 const RECORDS: [&[u8]; 3] = [&[7; 5], &[], &[9; 150]];
 
-// How many of them are whole in so many bytes: they end behind 21, 37 and 203.
+// How many of them are whole in the first `bytes`: they end after 21, 37 and 203.
 fn whole_in(bytes: usize) -> u32 {
     match bytes {
         0..=20 => 0,
@@ -20,8 +20,8 @@ fn whole_in(bytes: usize) -> u32 {
     }
 }
 
-// Whether all is well with a drain of the three records by a writer that takes so many bytes a call and fails behind the
-// first `left`: these are written, as many records are told as end within them, and nothing is left to be sent or in use.
+// Whether a drain of the three records is right, by a writer that takes `most` bytes a call and fails after `left`: these bytes are written, the
+// records that end within them are reported, and nothing is left to be sent or in use.
 fn are_answered(rt: &HostRuntime, most: usize, left: usize) -> Result<bool, Fail>
     requires { 0 < most }
 {

@@ -6,7 +6,7 @@ const RECORD: [u8; 16] = [
     0xf0, 0xf1, 2, 3, 4, 0xf5, 0xf6, 0xf7, 0xf8, 0xf9, 10, 11, 12, 13, 14, 15,
 ];
 
-// Cuts 14 bytes off, and drops what is shorter.
+// Cuts 14 bytes off, and drops shorter packets.
 const STRIP: &str = "iflen p0,14,L4\nadj p0,14\ntx p0,r0,L4\nexit\nL4:\nfree p0\nexit\n";
 
 #[test]
@@ -18,11 +18,11 @@ fn fourteen_bytes_are_cut_off(rt: HostRuntime) -> Result<(), Fail> {
     Ok(())
 }
 
-// Sends the packet, and gives up its clone.
+// Sends the packet, and frees its clone.
 const CLONE_FREED: &str =
     "clone p1,p0,0,no\ntx p0,r0,full\nfree p1\nexit\nfull: free p1\nno: free p0\nexit\n";
 
-// Sends the clone, and gives up the packet before that.
+// Sends the clone, after the packet is freed.
 const CLONE_SENT: &str =
     "clone p1,p0,0,no\nfree p0\ntx p1,r0,full\nexit\nfull: free p1\nexit\nno: free p0\nexit\n";
 
@@ -38,7 +38,7 @@ fn a_clone_is_freed_or_sent(rt: HostRuntime) -> Result<(), Fail> {
     Ok(())
 }
 
-// Two buffers serve each record in turn.
+// Two buffers are enough for many records, one after the other.
 #[test]
 fn buffers_serve_again(rt: HostRuntime) -> Result<(), Fail> {
     let env = one_port(2, 32)?;
@@ -62,7 +62,7 @@ fn a_clone_without_a_buffer_is_refused(rt: HostRuntime) -> Result<(), Fail> {
     Ok(())
 }
 
-// A list of two places takes one packet.
+// A transmit list of two slots takes one packet.
 #[test]
 fn a_full_list_keeps_the_packet(rt: HostRuntime) -> Result<(), Fail> {
     let env = one_port(64, 2)?;
@@ -74,7 +74,7 @@ fn a_full_list_keeps_the_packet(rt: HostRuntime) -> Result<(), Fail> {
     Ok(())
 }
 
-// A new packet in front: its segment and the record's come out in one record.
+// A new packet before the record's: both segments are written as one record.
 #[test]
 fn chained_segments_are_one_record(rt: HostRuntime) -> Result<(), Fail> {
     let env = one_port(64, 32)?;
@@ -103,7 +103,7 @@ fn new_bytes_are_zero(rt: HostRuntime) -> Result<(), Fail> {
     Ok(())
 }
 
-// Bytes 3 and 4, at a place that byte 2 names, are written at a place that it names too.
+// Loads bytes 3 and 4 at an offset that byte 2 gives, and stores them at an offset that it gives too.
 #[test]
 fn places_are_reckoned(rt: HostRuntime) -> Result<(), Fail> {
     let env = one_port(64, 32)?;
@@ -118,7 +118,7 @@ fn places_are_reckoned(rt: HostRuntime) -> Result<(), Fail> {
     Ok(())
 }
 
-// Each form without packets. What it calculates is written as eight bytes.
+// Each form without packets. The result is written as eight bytes.
 const NUMBERS: &str = "iflen p0,64,no\n\
     set r1,18446744073709551615\nadd r1,2\nstore p0,0,8,r1\n\
     set r2,3\nsub r2,5\nstore p0,8,8,r2\n\

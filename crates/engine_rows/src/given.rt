@@ -12,13 +12,13 @@ use dp_pcap::{OfWrite, Sink, Time, Unit};
 use dp_region::Region;
 use std::test::Fail;
 
-/// Sends the packet where it came from, or drops it.
+/// Sends the packet out of the port that it came from, or drops it.
 pub const FORWARD: &str = "tx p0,r0,d\nexit\nd: free p0\nexit\n";
 
-/// Where records are written: second 1, fraction 2.
+/// The time of written records: second 1, fraction 2.
 pub const TIME: Time = Time { sec: 1, nano: 2000 };
 
-/// Of a ring that takes any packet.
+/// The fact of a ring that takes any packet.
 pub const ANY: Fact = Fact::Held {
     share: 0,
     head: 0,
@@ -28,7 +28,7 @@ pub const ANY: Fact = Fact::Held {
     segs: 64,
 };
 
-/// So many buffers with so much room, without a cache.
+/// A pool of `count` buffers with data rooms of `room` bytes, without a cache.
 pub fn pool(count: u32, room: u32) -> PoolSpec {
     PoolSpec {
         count,
@@ -37,7 +37,7 @@ pub fn pool(count: u32, room: u32) -> PoolSpec {
     }
 }
 
-/// Receives into the first pool, in so many segments, and has a transmit list of so many places.
+/// A port that receives into the first pool, in at most `segs` segments, with a transmit list of `queue` slots.
 pub fn port(segs: u32, queue: u32) -> PortSpec {
     PortSpec {
         pool: 0,
@@ -46,7 +46,7 @@ pub fn port(segs: u32, queue: u32) -> PortSpec {
     }
 }
 
-/// One pool of so many buffers, and one port with a transmit list of so many places.
+/// One pool of `count` buffers, and one port with a transmit list of `queue` slots.
 pub fn one_port(count: u32, queue: u32) -> Result<Env, Fail>
     ensures { IfOk result (λ env. (length env.ports ≡ 1) × (length env.rings ≡ 0) × (env.tables ≡ 0)) }
 {
@@ -65,7 +65,7 @@ pub fn checked(rt: &HostRuntime, text: &str, env: &Env, entry: Entry) -> Result<
     }
 }
 
-// Whom the program at a place serves, where the ports come before the rings.
+// The entry of the program at an index, where the ports come before the rings.
 fn entry_of(ports: usize, k: usize) -> Result<Entry, Fail>
     ensures port { IfOk result (λ entry. k < ports → entry ≡ Entry.Port k) }
     ensures ring { IfOk result (λ entry. ports ≤ k → entry ≡ Entry.Ring (k - ports)) }
@@ -96,7 +96,7 @@ pub fn nodes(rt: &HostRuntime, env: &Env, texts: &[&str]) -> Result<Vec<Checked>
     Ok(nodes)
 }
 
-/// A region that is as large as an engine of the environment needs, and no larger than it has to be.
+/// A region exactly as large as an engine of the environment needs.
 pub fn region(rt: &HostRuntime, env: &Env) -> Result<Region, Fail>
     ensures { IfOk result (λ r. r.lent ≡ []) }
 {
@@ -107,7 +107,7 @@ pub fn region(rt: &HostRuntime, env: &Env) -> Result<Region, Fail>
     Ok(Region::new(rt.alloc(), size as u32)?)
 }
 
-/// An engine in a region that is just large enough.
+/// An engine in a region that is exactly large enough.
 pub fn opened(rt: &HostRuntime, env: &Env, tables: Vec<Lpm>, texts: &[&str]) -> Result<Engine, Fail>
     requires nodes { length texts.now ≡ length env.now.ports + length env.now.rings }
     requires tables { length tables.items ≡ env.now.tables }
@@ -130,7 +130,7 @@ pub fn opened(rt: &HostRuntime, env: &Env, tables: Vec<Lpm>, texts: &[&str]) -> 
     }
 }
 
-/// What is done to an engine.
+/// What a test does to an engine.
 #[derive(Clone, Copy)]
 pub enum Act<'a> {
     /// A turn of a port with a record of at most 4,096 bytes.
@@ -139,8 +139,7 @@ pub enum Act<'a> {
     Drain(u8),
 }
 
-/// What became of an engine: the last turn, what the last drain answered, how many packets the port of the last act had to
-/// send then, and the numbers at the end.
+/// What became of an engine: the last turn, the result of the last drain, how many packets the port of the last act then had to send, and the report.
 #[derive(Drop)]
 pub struct Played {
     pub turn: Option<Turn>,
@@ -149,7 +148,7 @@ pub struct Played {
     pub report: Report,
 }
 
-// One of them. What is beyond the limits is left out.
+// Does one act. An act beyond the limits is skipped.
 fn done<W: Sink>(
     engine: &mut Engine,
     env: &Env,
@@ -178,7 +177,7 @@ fn done<W: Sink>(
     }
 }
 
-/// Does this to an engine, and ends it. What it drains goes to the writer.
+/// Does all acts, and ends the engine. Drains go to the writer.
 pub fn play_to<W: Sink>(engine: Engine, env: &Env, acts: &[Act<'_>], w: &mut W) -> Played
     requires { engine.setting.env ≡ env.now }
 {
@@ -202,7 +201,7 @@ pub fn play_to<W: Sink>(engine: Engine, env: &Env, acts: &[Act<'_>], w: &mut W) 
     }
 }
 
-/// The same, and what was written.
+/// The same, and returns what was written.
 pub fn play(rt: &HostRuntime, engine: Engine, env: &Env, acts: &[Act<'_>]) -> (Played, Vec<u8>)
     requires { engine.setting.env ≡ env.now }
 {
@@ -211,7 +210,7 @@ pub fn play(rt: &HostRuntime, engine: Engine, env: &Env, acts: &[Act<'_>]) -> (P
     (played, w.into_inner())
 }
 
-/// These records, of less than 256 bytes each, as they are written at second 1 and fraction 2.
+/// These records, of fewer than 256 bytes each, as they are written at second 1, fraction 2.
 pub fn written(rt: &HostRuntime, records: &[&[u8]]) -> Result<Vec<u8>, Fail> {
     let mut bytes = Vec::new(rt.alloc());
     for record in records {
@@ -224,14 +223,14 @@ pub fn written(rt: &HostRuntime, records: &[&[u8]]) -> Result<Vec<u8>, Fail> {
     Ok(bytes)
 }
 
-/// What port 0 wrote, and the numbers.
+/// What port 0 wrote, and the report.
 #[derive(Drop)]
 pub struct Ran {
     pub output: Vec<u8>,
     pub report: Report,
 }
 
-/// Each record has a turn at port 0 and is drained there. No tables.
+/// Gives each record a turn at port 0, and drains it. No tables.
 pub fn run(rt: &HostRuntime, env: &Env, texts: &[&str], records: &[&[u8]]) -> Result<Ran, Fail>
     requires nodes { length texts.now ≡ length env.now.ports + length env.now.rings }
     requires tables { env.now.tables ≡ 0 }
@@ -249,8 +248,8 @@ pub fn run(rt: &HostRuntime, env: &Env, texts: &[&str], records: &[&[u8]]) -> Re
     })
 }
 
-/// Whether the report says this of one port and one pool: how many records were received, all of them with buffers, and
-/// sent, how many buffers the pool has, all of them free, and how many allocation calls there were, none of them refused.
+/// Whether the report has this for one port and one pool: that many records received, all of them with buffers, and sent; that many buffers, all
+/// free; and that many allocation calls, none refused.
 pub fn says(report: &Report, received: u64, sent: u64, buffers: u64, calls: u64) -> bool {
     let port = PortReport {
         received,
@@ -268,7 +267,7 @@ pub fn says(report: &Report, received: u64, sent: u64, buffers: u64, calls: u64)
         && report.refused == 0
 }
 
-/// Whether each port received and sent so many records.
+/// Whether each port received and sent that many records.
 pub fn each_port(report: &Report, received: u64, sent: u64) -> bool {
     report
         .ports

@@ -1,4 +1,4 @@
-//! Engines over regions, and what they write, as tests.
+//! Tests of engines over regions, and of what they write.
 #![tactic(auto)]
 
 #[cfg(test)]
@@ -8,9 +8,15 @@ mod forms;
 #[cfg(test)]
 mod given;
 #[cfg(test)]
+mod known;
+#[cfg(test)]
 mod loops;
 #[cfg(test)]
 mod many;
+#[cfg(test)]
+mod passes;
+#[cfg(test)]
+mod programs;
 #[cfg(test)]
 mod refusals;
 #[cfg(test)]

@@ -1,4 +1,4 @@
-//! Node runs that come back to labels.
+//! Node runs with loops.
 use crate::given::{Act, one_port, opened, play, run, says};
 use dp_engine::{Outcome, Turn};
 use std::test::Fail;
@@ -10,7 +10,7 @@ const COUNT: &str = "set r1,0\na: add r1,1\njlt r1,257,a\ntx p0,r0,d\nexit\nd: f
 
 const COUNT_ON: &str = "set r1,0\na: add r1,1\njlt r1,258,a\ntx p0,r0,d\nexit\nd: free p0\nexit\n";
 
-// Holds three packets, and has nowhere to go.
+// Holds three packets and jumps to itself.
 const HELD_BACK: &str =
     "clone p1,p0,0,d\nclone p2,p0,0,c\na: jmp a\nc: free p1\nd: free p0\nexit\n";
 

@@ -28,12 +28,12 @@ fn two_ports_send_to_each_other(rt: HostRuntime) -> Result<(), Fail> {
     Ok(())
 }
 
-// Two clones and a new packet, each sent or given up.
+// Makes two clones and a new packet, and sends or frees each.
 const BUSY: &str =
     "clone p1,p0,0,a\ntx p0,r0,b\nalloc p2,0,c\nappend p2,3\nchain p2,p1\ntx p2,r0,d\nexit\n\
     d: free p2\nexit\nc: free p1\nexit\nb: free p0\nfree p1\nexit\na: free p0\nexit\n";
 
-// A cache of a pool changes nothing of what is written.
+// A pool's cache changes nothing that is written.
 #[test]
 fn a_cache_changes_no_capture(rt: HostRuntime) -> Result<(), Fail> {
     let port = port(4, 4);
@@ -59,7 +59,7 @@ fn a_cache_changes_no_capture(rt: HostRuntime) -> Result<(), Fail> {
     Ok(())
 }
 
-// Eight pools with so many buffers each, four tables, eight rings and eight ports of so many places.
+// Eight pools with `count` buffers each, four tables, eight rings, and eight ports with `places` slots.
 fn eight(count: u32, room: u32, places: u32) -> Result<Env, Fail>
     ensures { IfOk result (λ env. (length env.ports ≡ 8) × (length env.rings ≡ 8) × (env.tables ≡ 4)) }
 {
@@ -99,7 +99,7 @@ fn four_tables(rt: &HostRuntime) -> Result<Vec<Lpm>, Fail>
     Ok(Vec::from_array(rt.alloc(), tables)?)
 }
 
-// Each port writes the hop of a table and puts the packet into a ring of its own; that ring's program sends it back.
+// Each port writes a table's hop into the packet and puts it into a ring of its own; that ring's program sends it back.
 const TO_RING: [&str; 8] = [
     "iflen p0,4,d\nload r1,p0,0,4\nlookup r2,0,r1,d\nstore p0,0,4,r2\nenq p0,0,d\nexit\nd: free p0\nexit\n",
     "iflen p0,4,d\nload r1,p0,0,4\nlookup r2,1,r1,d\nstore p0,0,4,r2\nenq p0,1,d\nexit\nd: free p0\nexit\n",

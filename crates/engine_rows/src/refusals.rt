@@ -7,8 +7,7 @@ use std::test::Fail;
 
 const RECORD: [u8; 5] = [0xf0, 0xf1, 2, 3, 4];
 
-// Sends the clone with a new packet in front; without a clone the packet but its first byte, and with no new packet the
-// packet but its last.
+// Sends the clone with a new packet before it; without a clone, the packet without its first byte; without a new packet, the packet without its last.
 const THREE_CALLS: &str =
     "clone p1,p0,0,uncloned\nalloc p2,0,alone\nappend p2,2\nchain p2,p1\nfree p0\ntx p2,r0,full\nexit\n\
     full: free p2\nexit\n\
@@ -16,8 +15,7 @@ const THREE_CALLS: &str =
     uncloned: iflen p0,1,drop\nadj p0,1\ntx p0,r0,drop\nexit\n\
     drop: free p0\nexit\n";
 
-// What became of the record, what was written, how many buffers are free then, and how many allocation calls there were
-// and were refused.
+// The outcome of the record, what was written, the free buffers afterwards, and the allocation calls that were made and refused.
 #[derive(Drop)]
 struct Turned {
     outcome: Option<Outcome>,
@@ -27,7 +25,7 @@ struct Turned {
     refused: u64,
 }
 
-// A turn with the record and its drain, where a call is refused.
+// Takes a turn with the record and drains, with one call refused.
 fn refusing(rt: &HostRuntime, call: u64) -> Result<Turned, Fail>
     requires { 0 < call }
 {
@@ -46,7 +44,7 @@ fn refusing(rt: &HostRuntime, call: u64) -> Result<Turned, Fail>
     })
 }
 
-// Whether it became that, with this output, so many calls and so many of them refused, and all buffers free.
+// Whether the turn has this outcome, output, number of calls and of refused ones, and all buffers are free.
 fn is(turned: &Turned, outcome: Outcome, output: &[u8], calls: u64, refused: u64) -> bool {
     turned.outcome == Some(outcome)
         && turned.output.as_slice() == output

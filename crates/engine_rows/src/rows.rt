@@ -1,4 +1,4 @@
-//! Regions of the size that is needed, rings and transmit lists that are full, writers that fail, and tables.
+//! Regions of exactly the needed size, full rings and transmit lists, writers that fail, and tables.
 ghost use Rattle.std.specs.Prelude.{◌≡◌, [], length, IfOk, IfErr};
 
 use crate::given::{
@@ -14,10 +14,10 @@ use std::test::Fail;
 // Puts the packet into ring 0, or drops it.
 const LOOP: &str = "enq p0,0,d\nexit\nd: free p0\nexit\n";
 
-// All of four buffers are free.
+// All four buffers are free.
 const FOUR: PoolReport = PoolReport { free: 4, count: 4 };
 
-// Four buffers of one pool, a port and a ring with so many places, and a table where one is wanted.
+// Four buffers of one pool, a port and a ring with `places` slots, and a table if one is wanted.
 fn with_ring(places: u32, tables: u8) -> Result<Env, Fail>
     ensures { IfOk result (λ env. (length env.ports ≡ 1) × (length env.rings ≡ 1) × (env.tables ≡ tables)) }
 {
@@ -28,7 +28,7 @@ fn with_ring(places: u32, tables: u8) -> Result<Env, Fail>
     Ok(Env::new(&[pool(4, 2176)], tables, &[ring], &[port(1, 2)])?)
 }
 
-// Whether it was opened; and how many bytes the region has that comes back.
+// Whether it was opened; and the size of the region that comes back.
 fn ended(answer: Result<Engine, OpenFault>) -> (bool, u32)
     requires { IfErr answer (λ fault. fault.region.lent ≡ []) }
 {
@@ -68,7 +68,7 @@ fn an_engine_needs_so_many_bytes(rt: HostRuntime) -> Result<(), Fail> {
     Ok(())
 }
 
-// A packet that always goes back into its ring is served 32 times, and is there at the end.
+// A packet that always goes back into its ring is served 32 times, and is still there at the end.
 #[test]
 fn a_ring_is_served_a_number_of_times(rt: HostRuntime) -> Result<(), Fail> {
     let env = with_ring(2, 0)?;
@@ -88,7 +88,7 @@ fn a_ring_is_served_a_number_of_times(rt: HostRuntime) -> Result<(), Fail> {
     Ok(())
 }
 
-// The first packet goes into the ring, its clone finds no place there and goes out, and a third finds none in either.
+// The first packet goes into the ring; its clone finds the ring full and is sent; a third finds both full.
 const THREE: &str = "clone p1,p0,0,b\nclone p2,p0,0,a\nenq p0,0,c\nenq p1,0,d\nfree p2\nexit\n\
     d: tx p1,r0,f\ntx p2,r0,g\nexit\n\
     c: free p0\nf: free p1\ng: free p2\nexit\n\
@@ -107,11 +107,11 @@ fn full_rings_and_lists_keep_the_packet(rt: HostRuntime) -> Result<(), Fail> {
     Ok(())
 }
 
-// A writer that fails within the second record: nothing is left in the list.
+// A writer that fails within the second record leaves nothing in the list.
 #[test]
 fn a_writer_that_fails_empties_the_list(rt: HostRuntime) -> Result<(), Fail> {
     let env = one_port(64, 32)?;
-    // the first record, and the times of the second
+    // The first record, and the time of the second.
     let mut wanted = written(&rt, &[&[7; 60]])?;
     wanted.extend_from_slice(&[1, 0, 0, 0, 2, 0, 0, 0])?;
     let acts = [
@@ -129,7 +129,7 @@ fn a_writer_that_fails_empties_the_list(rt: HostRuntime) -> Result<(), Fail> {
     Ok(())
 }
 
-// Writes the hop of the first four bytes over them; what has none goes out as it came.
+// Writes the hop of the first four bytes over them; a packet without a hop is sent as it came.
 const ROUTE: &str =
     "iflen p0,4,d\nload r1,p0,0,4\nlookup r2,0,r1,m\nstore p0,0,4,r2\nm: tx p0,r0,d\nexit\nd: free p0\nexit\n";
 

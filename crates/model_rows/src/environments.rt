@@ -1,4 +1,4 @@
-//! Environments: which there are, and why there is none.
+//! Environments that are accepted, and the causes that refuse others.
 
 use dp_model::{Entry, Env, EnvError, Fact, PoolSpec, PortSpec, RingSpec, Row};
 use std::test::Fail;
@@ -26,7 +26,7 @@ fn port(pool: u32, segs: u32, queue: u32) -> PortSpec {
     PortSpec { pool, segs, queue }
 }
 
-/// Why there is no environment of these, if there is none.
+/// Why an environment of these is refused, if it is.
 fn fault(
     pools: &[PoolSpec],
     tables: u8,

@@ -2,7 +2,7 @@
 
 use dp_model::{Fact, Row};
 
-/// What is known of a packet in one segment.
+/// The fact of a packet in one segment.
 pub fn single(share: u8, head: u16, tail: u16, first: u16, last: u16) -> Fact {
     Fact::Held {
         share,
@@ -19,7 +19,7 @@ pub fn at_port() -> Row {
     Row::of_entry(single(2, 128, 0, 0, 0), 0)
 }
 
-/// That row, where the first packet registers have these shares, and the others nothing.
+/// That row with these shares in the first packet registers, and the others empty.
 pub fn with_shares(shares: &[Option<u8>]) -> Row {
     let mut row = at_port();
     for (fact, share) in row.facts.iter_mut().zip(shares) {

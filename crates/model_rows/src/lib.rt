@@ -1,5 +1,5 @@
-//! The calls of dp_model and of dp_lpm on values whose answers are known, and the rows with which tests begin, also those of
-//! check_rows. It is a crate of its own, so that the tests cost those no time.
+//! Tests of dp_model and dp_lpm on values with known answers, and the rows with which tests begin, also those of check_rows. It is a crate of its
+//! own, so that changing tests does not prove the crates again.
 #![tactic(auto)]
 
 mod known;

@@ -1,4 +1,4 @@
-//! Rows with known answers, and the table beside one list of rules.
+//! Tables with known answers, and a table beside one plain list of rules.
 
 mod plain;
 
@@ -6,7 +6,7 @@ use dp_lpm::{Lpm, LpmError, MAX_GROUPS, MAX_HOP, MAX_RULES, MAX_TABLES, Memory, 
 use plain::Plain;
 use std::test::Fail;
 
-/// The address of four numbers.
+/// The address of four bytes.
 fn ip(a: u8, b: u8, c: u8, d: u8) -> u32 {
     u32::from_be_bytes([a, b, c, d])
 }
@@ -118,7 +118,7 @@ fn every_depth_over_one_address(rt: HostRuntime) -> Result<(), Fail> {
         );
         assert_eq!(rt; table.lookup(address), Some(u32::from(depth)));
     }
-    // An address that leaves the prefixes at one bit has the rule before that bit.
+    // An address that leaves the prefix at one bit gets the rule above that bit.
     for bit in 0..32u8 {
         let other = address ^ (1 << (31 - bit));
         let hop = if bit == 0 { None } else { Some(u32::from(bit)) };
@@ -132,7 +132,7 @@ fn every_depth_over_one_address(rt: HostRuntime) -> Result<(), Fail> {
     Ok(())
 }
 
-/// Numbers that follow no pattern, the same in each run.
+/// Random numbers, the same in each run.
 #[derive(Drop)]
 struct Numbers {
     state: u64,
@@ -147,7 +147,7 @@ impl Numbers {
         (self.state / 0x1_0000_0000) as u32
     }
 
-    /// An address in one of four times 256, or any.
+    /// A random address, mostly in one of four blocks of 256.
     fn address(&mut self) -> u32 {
         let any = self.next();
         if self.next() % 8 == 0 {
@@ -156,7 +156,7 @@ impl Numbers {
         0x0a01_0000 + any % 1024
     }
 
-    /// A depth of 1 to 32, mostly a great one.
+    /// A random depth from 1 to 32, mostly a large one.
     fn depth(&mut self) -> u8 {
         let any = self.next();
         if self.next() % 4 == 0 {
@@ -202,7 +202,7 @@ fn the_table_and_the_list_agree(rt: HostRuntime) -> Result<(), Fail> {
     Ok(())
 }
 
-/// How many of so many look-ups the two forms answer differently.
+/// How many of `count` look-ups differ between the two.
 fn differing(table: &Lpm, list: &Plain, numbers: &mut Numbers, count: u32) -> u32 {
     let mut differing = 0u32;
     for _ in 0..count {
@@ -214,7 +214,7 @@ fn differing(table: &Lpm, list: &Plain, numbers: &mut Numbers, count: u32) -> u3
     differing
 }
 
-/// A rule that is any: its address, depth and hop.
+/// A random rule: address, depth and hop.
 fn rule(numbers: &mut Numbers) -> (u32, u8, u32) {
     let address = numbers.address();
     let depth = numbers.depth();
@@ -232,7 +232,7 @@ fn a_thousand_rules_with_groups_to_spare(rt: HostRuntime) -> Result<(), Fail> {
         let answer = table.add(address, depth, hop);
         assert_eq!(rt; answer, list.add(address, depth, hop), "add {step}");
         if let Err(error) = answer {
-            // the rules are used up, and not the groups
+            // The rules run out before the groups do.
             assert_eq!(rt; error, LpmError::RulesFull, "add {step}");
             refused = refused.wrapping_add(1);
         }
@@ -271,7 +271,7 @@ fn rules_are_counted(rt: HostRuntime) -> Result<(), Fail> {
     Ok(())
 }
 
-/// A table that sends what begins with so many bits of an address to a hop.
+/// A table with one rule: addresses that begin with these bits go to `hop`.
 fn one_rule(rt: &HostRuntime, ip: u32, depth: u8, hop: u32) -> Result<Lpm, Fail> {
     let mut table = Lpm::new(rt.alloc(), 1, 0)?;
     table.add(ip, depth, hop)?;

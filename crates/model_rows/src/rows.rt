@@ -1,12 +1,11 @@
-//! Facts, rows and registers, on known values.
+//! Facts, rows and registers with known values.
 
 use crate::known::{at_port, dead, single, with_shares};
 use dp_model::{
     Fact, Holding, NumberRegister, Operand, Packet, PacketRegister, Row, Rule, Width,
     accepted_programs_are_safe, accepted_programs_are_sound, budgets_are_as_they_read,
-    layers_stay_well_formed, longest_prefixes_agree, numbers_are_as_called, pipelines_keep_safe,
-    runs_are_as_they_read, runs_keep_safe, turns_stay_ready, whole_runs_end_with_whole_pools,
-    worlds_stay_well_formed,
+    longest_prefixes_agree, numbers_are_as_called, pipelines_keep_safe, runs_are_as_they_read,
+    runs_keep_safe, turns_stay_ready, whole_runs_end_with_whole_pools, worlds_stay_well_formed,
 };
 
 #[test]
@@ -119,7 +118,6 @@ fn laws_can_be_called(_rt: HostRuntime) {
     pipelines_keep_safe();
     runs_keep_safe::<u32>();
     worlds_stay_well_formed();
-    layers_stay_well_formed();
     longest_prefixes_agree();
     numbers_are_as_called();
     runs_are_as_they_read::<u32>();

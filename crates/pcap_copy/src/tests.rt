@@ -31,7 +31,7 @@ fn hundred_bytes(alloc: Global) -> Result<Vec<u8>, AllocError> {
     Ok(bytes)
 }
 
-// The next record, into a buffer that is long enough.
+// Reads the next record into a buffer that is long enough.
 fn next<R: Feed>(
     rt: &impl Abort,
     r: &mut R,
@@ -42,7 +42,7 @@ fn next<R: Feed>(
     next_record(r, source, buf.as_mut_slice())
 }
 
-// A copy, by a buffer that is long enough.
+// Copies with a buffer that is long enough.
 fn copied<R: Feed, W: Sink>(
     rt: &impl Abort,
     r: &mut R,

@@ -5,7 +5,7 @@ use dp_model::{Entry, EnvError};
 use dp_pipe::{Part, PipeError, RouteError};
 use std::test::Fail;
 
-/// Whether a cause is shown so.
+/// Whether a cause is displayed so.
 fn shows(rt: &HostRuntime, error: PipeError, text: &str) -> Result<bool, Fail> {
     Ok(format!(in rt.alloc(); "{error}")?.as_str() == text)
 }

@@ -5,7 +5,7 @@ use dp_pipe::{How, Listed, NamedBytes, PipeError, Pipeline, load};
 /// Four buffers with room for 2,176 bytes, without a cache.
 pub const POOL: &str = "[[pool]]\ncount = 4\ncache = 0\nroom = 2176\n";
 
-/// Sends the packet where it came from, or drops it.
+/// Sends the packet out of the port that it came from, or drops it.
 pub const FORWARD: &str = "tx p0,r0,d\nexit\nd: free p0\nexit\n";
 
 /// A file in memory, by its name and its text.
@@ -16,7 +16,7 @@ pub fn file<'a>(name: &'a str, text: &'a str) -> NamedBytes<'a> {
     }
 }
 
-/// What becomes of the pipeline of a text whose nodes' files are these.
+/// The pipeline of a text whose nodes' files are these, or why it is not loaded.
 pub fn loaded(
     rt: &HostRuntime,
     text: &str,

@@ -1,4 +1,5 @@
-//! Pipeline files and the nodes that they name, as tests over `load` and `survey_of`, so that they cost dp_pipe no time.
+//! Tests of pipeline files and the nodes that they name, over `load` and `survey_of`, in a crate of their own, so that changing them does not prove
+//! dp_pipe again.
 #![tactic(auto)]
 
 #[cfg(test)]

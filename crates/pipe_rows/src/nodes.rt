@@ -8,10 +8,10 @@ use std::test::Fail;
 
 const STRIP: &str = "iflen p0,14,L4\nadj p0,14\ntx p0,r0,L4\nexit\nL4:\nfree p0\nexit\n";
 
-/// It gives its packet up nowhere.
+/// Keeps its packet, so that it is refused.
 const LOST: &str = "exit\n";
 
-/// The digits of the rows of strip's certificate, without the zeros behind them.
+/// The digits of the rows of strip's certificate, without the zeros after them.
 const STRIP_ROWS: [&str; 6] = [
     "010102008000000000000001",
     "01010200800000000e000001",
@@ -35,7 +35,7 @@ fn strip_cert(rt: &HostRuntime) -> Result<Vec<u8>, Fail> {
     Ok(text)
 }
 
-/// The lines that name a node's files; an empty name of a certificate is none.
+/// The lines that name a node's files; an empty name of a certificate stands for none.
 fn names(rt: &HostRuntime, node: (&str, &str)) -> Result<String, AllocError> {
     let (program, cert) = node;
     if cert.is_empty() {
@@ -56,7 +56,7 @@ fn text_of(rt: &HostRuntime, port: (&str, &str), ring: (&str, &str)) -> Result<S
     )
 }
 
-/// What becomes of a pipeline of one port and one ring whose files are these: `strip`, `forward`, `lost`, `bad`, `long` and
+/// The pipeline of one port and one ring with these files, or why it is not loaded: `strip`, `forward`, `lost`, `bad`, `long` and
 /// `strip.cert`.
 fn with_nodes(
     rt: &HostRuntime,

@@ -1,4 +1,4 @@
-//! Pipeline files: the causes for which they are refused, and what is read of the others.
+//! Pipeline files: why some are refused, and what is read of the others.
 
 use crate::given::{FORWARD, POOL, file, loaded};
 use dp_lpm::LpmError;
@@ -21,7 +21,7 @@ fn refusal(rt: &HostRuntime, text: &[u8]) -> Option<PipeError> {
     survey_of(rt.alloc(), text).err()
 }
 
-/// A whole file of these parts, with a word changed where it first stands.
+/// A whole file of these parts, with a word changed where it first occurs.
 fn changed(rt: &HostRuntime, old: &str, new: &str) -> Result<String, AllocError> {
     let alloc = rt.alloc();
     let text = format!(in alloc; "region = 10368\n{POOL}{TABLE}{RING}{PORT}")?;
@@ -41,12 +41,12 @@ const TWO_PORTS: &str =
     [[port]]\npool = 0\nsegs = 1\nqueue = 4\nnode = \"multicast.dpv\"\nin = \"a.pcap\"\nout = \"a.out\"\n\
     [[port]]\npool = 0\nsegs = 1\nqueue = 4\nnode = \"forward.dpv\"\nin = \"b.pcap\"\nout = \"b.out\"\n";
 
-/// How many pools, ports and tables an environment has.
+/// The numbers of pools, ports and tables of an environment.
 fn in_env(env: &Env) -> (usize, usize, u8) {
     (env.pools().len(), env.ports().len(), env.tables())
 }
 
-/// How many tables, rings and ports a pipeline has.
+/// The numbers of tables, rings and ports of a pipeline.
 fn counts(pipeline: &Pipeline) -> [usize; 3] {
     [pipeline.tables().len(), pipeline.rings(), pipeline.ports()]
 }
@@ -64,12 +64,12 @@ fn has_files(rt: &HostRuntime, text: &str, node: Entry, program: &str, cert: Opt
     }
 }
 
-/// Where the first table sends the address.
+/// The hop of the first table for an address.
 fn hop(pipeline: &Pipeline, ip: u32) -> Option<u32> {
     pipeline.tables().first()?.lookup(ip)
 }
 
-/// How many routes the first table has.
+/// The number of routes of the first table.
 fn routes(pipeline: &Pipeline) -> Option<usize> {
     Some(pipeline.tables().first()?.len())
 }
@@ -188,7 +188,7 @@ fn environments_are_refused(rt: HostRuntime) -> Result<(), Fail> {
     Ok(())
 }
 
-/// The second route of the table is not taken in.
+/// The second route of the table is refused.
 fn bad_route(cause: RouteError) -> Option<PipeError> {
     Some(PipeError::BadTable {
         table: 0,

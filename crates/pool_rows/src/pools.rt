@@ -1,4 +1,4 @@
-//! Pools that are made, emptied, filled and taken apart.
+//! Pools that are made, emptied, filled and unmade.
 ghost use Rattle.std.specs.Prelude.{◌≡◌, ◌<◌, length, replicate};
 ghost use Rattle.dp_pool.specs.Pools.{with_object};
 ghost use Rattle.dp_heap.specs.Elements.{count_of, is_busy};
@@ -11,7 +11,7 @@ use std::alloc::Global;
 use std::process::Abort;
 use std::test::Fail;
 
-// Why there is no pool of these. If there is one, it is taken apart at once.
+// Why a pool with these numbers is refused. If it is not, it is unmade at once.
 fn refusal(
     heap: &mut Heap,
     zones: &mut Zones,
@@ -38,7 +38,7 @@ fn get(pool: &mut Pool) -> Option<u32>
     pool.get()
 }
 
-// Puts an object back that is out, and says whether it was.
+// Puts an object back that is out; returns whether it was.
 fn put(pool: &mut Pool, index: u32) -> bool
     ensures { pool.new.zones ≡ pool.old.zones }
 {
@@ -49,12 +49,12 @@ fn put(pool: &mut Pool, index: u32) -> bool
     true
 }
 
-// How many indexes are in the cache, and how many are in.
+// The number of indexes in the cache, and of those that are in.
 fn state(pool: &Pool) -> (u32, u32) {
     (pool.cached(), pool.available())
 }
 
-// Lends an object to write it, and leaves the others alone.
+// Lends an object for writing, and leaves the others alone.
 fn fill(pool: &mut Pool, index: u32, byte: u8)
     requires { index < length pool.old.objects }
     ensures { pool.new ≡ with_object pool.old index (replicate pool.old.size byte) }
@@ -310,7 +310,7 @@ fn causes(rt: HostRuntime) -> Result<(), Fail> {
     Ok(())
 }
 
-// How many are in after a get, and after a put.
+// How many objects are in after a get, and after a put.
 fn after_get(pool: &mut Pool) -> u32
     ensures { pool.new.zones ≡ pool.old.zones }
 {
@@ -325,7 +325,7 @@ fn after_put(pool: &mut Pool, index: u32) -> u32
     pool.available()
 }
 
-// How many of six are in after each get, of which the last finds none, and after each put.
+// How many of six objects are in after each get, the last of which finds none, and after each put.
 fn counts(rt: &impl Abort, alloc: Global, cache: u32) -> ([u32; 7], [u32; 6]) {
     let mut heap = Heap::new(Region::new(alloc, 4096).expect(rt, "memory"));
     let mut zones = Zones::new();
@@ -361,12 +361,12 @@ fn what_the_cache_holds_is_in(rt: HostRuntime) {
     }
 }
 
-// The number that an object is given.
+// The number that is written into an object.
 fn number_of(index: u32, round: u32) -> u32 {
     index.wrapping_mul(1_000_003).wrapping_add(round)
 }
 
-// Writes a number at the end of each of 40 objects, if there are so many, of 100 bytes.
+// Writes a number at the end of each of 40 objects of 100 bytes, if the pool has that many.
 fn number_all(pool: &mut Pool, round: u32) -> bool
     ensures { pool.new.zones ≡ pool.old.zones }
 {
@@ -393,7 +393,7 @@ fn are_numbered(pool: &Pool, round: u32) -> bool {
     true
 }
 
-// Takes so many objects in one call and puts them back in another, and says whether there were so many.
+// Takes objects in one call and puts them back in another; returns whether there were that many.
 fn in_and_out(pool: &mut Pool, indexes: &mut [u32]) -> bool
     ensures { pool.new.zones ≡ pool.old.zones }
 {

@@ -1,8 +1,8 @@
-//! What the loads and stores answer, on bytes and numbers worked out by hand.
+//! What loads and stores return, on bytes and numbers worked out by hand.
 ghost use Rattle.std.specs.Prelude.{◌≡◌, ◌≤◌, [], length};
 ghost use Rattle.dp_region.specs.Region.{IsRegionSize, least_region};
 
-use dp_region::{Block, Memory, Region};
+use dp_region::{Block, LARGEST_REGION, Memory, Region};
 use std::alloc::Global;
 use std::process::Abort;
 use std::test::Fail;
@@ -24,7 +24,7 @@ fn write_high(high: &mut Block)
     high.store_u32(4, 0x0605_0403);
 }
 
-// Two blocks are out at once, are written, and come back. What they began with.
+// Lends two blocks at once, writes them, and takes them back; returns what they began with.
 fn visit(region: &mut Region) -> (u8, u8, u32, u32, u32)
     requires { (region.old.lent ≡ []) × (least_region ≤ length region.old.bytes) }
     ensures { (region.new.lent ≡ []) × (least_region ≤ length region.new.bytes) }
@@ -82,7 +82,7 @@ fn bytes_stay_as_the_holder_left_them(rt: HostRuntime) -> Result<(), Fail> {
     Ok(())
 }
 
-// With the first allocation refused, it is `Memory`.
+// With the first allocation refused, `new` returns `Memory`.
 #[test]
 fn want_of_memory_is_told(rt: HostRuntime) {
     match Region::new(rt.alloc(), 4096) {
@@ -91,8 +91,8 @@ fn want_of_memory_is_told(rt: HostRuntime) {
     }
 }
 
-// What is read back of a number at the end of a new region, and of one in a part of it that is lent, which comes back. The
-// region is closed.
+// Writes a number at the end of a new region, and one in a part of it that is lent and taken back; returns both as they are read. The region is
+// closed.
 fn used(rt: &impl Abort, alloc: Global, size: u32, number: u32) -> (u32, u32)
     requires { IsRegionSize size }
 {
@@ -107,7 +107,17 @@ fn used(rt: &impl Abort, alloc: Global, size: u32, number: u32) -> (u32, u32)
     (inside, outside)
 }
 
-// All is given back, so as many regions as one likes may follow one another.
+// The largest region can be had where there is memory.
+#[test]
+fn the_largest_region_can_be_had(rt: HostRuntime) {
+    let number = 0x0102_0304;
+    assert_eq!(rt;
+        used(&rt, rt.alloc(), LARGEST_REGION, number),
+        (number, number)
+    );
+}
+
+// All memory is freed, so any number of regions can follow one another.
 #[test]
 fn ten_thousand_regions_follow_one_another(rt: HostRuntime) {
     for k in 0..2500u32 {

@@ -6,7 +6,7 @@ use dp_region::Region;
 use dp_ring::Ring;
 use dp_zone::Zones;
 
-// The three calls that may move nothing keep the ring where it is.
+// The three calls that may move nothing keep the ring in its zone.
 fn offer(ring: &mut Ring, value: u32) -> bool
     ensures { ring.new.home ≡ ring.old.home }
 {

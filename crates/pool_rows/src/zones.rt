@@ -17,7 +17,7 @@ const WHOLE: Element = Element {
     pad: 0,
 };
 
-// Why there is no zone of these. If there is one, it goes back at once.
+// Why a zone is refused. If it is not, it is given back at once.
 fn refusal(
     zones: &mut Zones,
     heap: &mut Heap,
@@ -81,8 +81,8 @@ fn refused_in_order(rt: HostRuntime) {
     assert_eq!(rt; again, None);
 }
 
-// Reserves so many zones, whose names are one character, and says what then stands against a new name, a name that is
-// there and a bad length. All go back.
+// Reserves zones with names of one character until `left` is 0, and returns what then refuses a new name, a name that exists and a bad length. All
+// zones are given back.
 fn beside(rt: &impl Abort, zones: &mut Zones, heap: &mut Heap, left: u8) -> [Option<ZoneError>; 3]
     requires { left ≤ 64 }
     ensures home { heap.new.home ≡ heap.old.home }

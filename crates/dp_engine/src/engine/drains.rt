@@ -1,4 +1,4 @@
-//! Drains of an engine: transmit lists are written to captures, and what is left is given up.
+//! Drains and flushes: writing transmit lists to captures, and freeing what is left.
 ghost use Rattle.std.specs.Prelude.{◌≡◌, ◌+◌, ◌<◌, ◌≤◌, [], false, length, flat_map, take, MatchResult, IfOk, IfErr, IsOk, IsErr, IsTrue};
 ghost use Rattle.std.specs.Io.KnownBytes.{Appends};
 ghost use Rattle.dp_model.specs.Machine.{live};
@@ -10,12 +10,12 @@ ghost use Rattle.dp_engine.specs.Outcomes.{sent_of};
 ghost use Rattle.dp_engine.specs.Engines.{drained, left_at, with_left, flushed};
 
 use crate::engine::{Engine, WriteFault};
+use crate::known::Known;
 use dp_pcap::{Sink, Time, Unit};
 
-impl Engine {
-    /// Writes the records of a port's transmit list at that time, first to last, in the spelling of classic pcap 2.4, and gives
-    /// up its packets, also where the writer fails. Answers how many records were written; an error tells how many were
-    /// written whole before the writer failed.
+impl<K: Known> Engine<K> {
+    /// Writes the packets of a port's transmit list as records of that time, first to last, in the spelling of classic pcap 2.4, and frees them, also
+    /// where the writer fails. Returns how many records were written; an error has how many were written whole before the writer failed.
     pub fn drain<W: Sink>(
         &mut self,
         port: u8,
@@ -50,7 +50,7 @@ impl Engine {
         }
     }
 
-    // Gives up what is left in a ring, and counts it.
+    // Frees the packets of a ring, and counts them as left.
     fn leave(&mut self, ring: u8)
         requires { ring < length self.old.setting.env.rings }
         ensures { self.new ≡ left_at ring self.old }
@@ -59,7 +59,7 @@ impl Engine {
         self.machine.clear_left(ring);
     }
 
-    // Gives up what is left in a transmit list.
+    // Frees the packets of a transmit list.
     fn drop_sent(&mut self, port: u8)
         requires { port < length self.old.setting.env.ports }
         ensures { self.new ≡ drained port 0 self.old }
@@ -67,7 +67,7 @@ impl Engine {
         self.machine.clear_sent(port);
     }
 
-    // Gives up what is left in all rings, and counts it ring by ring.
+    // Frees the packets of all rings, and counts them ring by ring.
     fn flush_rings(&mut self)
         ensures { self.new ≡ record self.old { world = with_empty_rings self.old.world; left = with_left self.old.left (left_in_rings self.old.world) } }
     {
@@ -77,8 +77,8 @@ impl Engine {
         }
     }
 
-    // Gives up what is left in all transmit lists.
-    fn flush_lists(&mut self)
+    /// Frees the packets of all transmit lists. They are not written, and do not count as sent.
+    pub fn flush_lists(&mut self)
         ensures { self.new ≡ record self.old { world = with_empty_outboxes self.old.world } }
     {
         let ports = self.plan.env().ports().len();
@@ -87,8 +87,7 @@ impl Engine {
         }
     }
 
-    /// Gives up all packets that are left in rings and transmit lists; those in rings are counted as left. Every buffer is free
-    /// then.
+    /// Frees all packets in rings and transmit lists; those in rings count as left. Every buffer is free then.
     pub fn flush(&mut self)
         ensures empty { self.new ≡ flushed self.old }
         ensures free { live (between self.new.world) ≡ [] }

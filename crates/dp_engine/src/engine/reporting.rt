@@ -8,12 +8,13 @@ ghost use Rattle.dp_engine.specs.Reports.{IsReport, port_report, pool_reports};
 ghost use Rattle.dp_engine.specs.Tallies.{refused_of};
 
 use crate::engine::Engine;
+use crate::known::Known;
 use crate::machine::Machine;
 use crate::report::{InputState, PoolReport, PortReport, Report, Tallies};
 use arrayvec::ArrayVec;
 use dp_model::PoolSpec;
 
-// How many of these are at most that.
+// How many numbers of the pattern are at most `calls`.
 fn reached(pattern: &[u64], calls: u64) -> u64
     ensures { result ≡ refused_of pattern.now calls }
 {
@@ -26,7 +27,7 @@ fn reached(pattern: &[u64], calls: u64) -> u64
     count
 }
 
-// The numbers of ports.
+// The counts of the ports.
 fn port_reports(tallies: &[Tallies]) -> ArrayVec<PortReport, 8>
     requires { length tallies.now ≤ 8 }
     ensures { result.items ≡ map (port_report InputState.Open) tallies.now }
@@ -44,7 +45,7 @@ fn port_reports(tallies: &[Tallies]) -> ArrayVec<PortReport, 8>
     ports
 }
 
-// The numbers of rings.
+// The counts of the rings.
 fn ring_reports(left: &[u64]) -> ArrayVec<u64, 8>
     requires { length left.now ≤ 8 }
     ensures { result.items ≡ left.now }
@@ -56,7 +57,7 @@ fn ring_reports(left: &[u64]) -> ArrayVec<u64, 8>
     rings
 }
 
-// The numbers of pools, between two node runs.
+// The counts of the pools, between two node runs.
 fn pool_reports(machine: &Machine, specs: &[PoolSpec]) -> ArrayVec<PoolReport, 8>
     requires idle { AllByRecursion (λ o. o ≡ None) machine.now.state.packets }
     requires pools { machine.now.pools ≡ specs.now }
@@ -73,8 +74,8 @@ fn pool_reports(machine: &Machine, specs: &[PoolSpec]) -> ArrayVec<PoolReport, 8
     pools
 }
 
-impl Engine {
-    /// The numbers so far. The states of the inputs are open.
+impl<K: Known> Engine<K> {
+    /// The counts so far. The states of the inputs are open.
     pub fn report(&self) -> Report
         ensures { IsReport self.now result }
     {

@@ -1,17 +1,20 @@
-//! Turns of an engine.
+//! One turn of an engine: a record is received, its port's program runs, then up to 32 programs on packets of rings.
 ghost use Rattle.std.specs.Prelude.{◌≡◌, ◌<◌, ◌≤◌, length};
 ghost use Rattle.dp_pcap.specs.declared.format.TheConstants.{LARGEST_RECORD};
 ghost use Rattle.dp_model.specs.Runs.{runs_of};
 ghost use Rattle.dp_engine.specs.Engines.{most_turns, tallies_at, counted_at, records_of, TakesTurn};
 ghost use Rattle.dp_engine.specs.Outcomes.{outcome_of};
+ghost use Rattle.dp_engine.specs.Watching.{WatchesTurn};
 
 use crate::engine::{Engine, Outcome, Turn};
+use crate::known::Known;
 use crate::report::Tallies;
 use crate::serving::{arrive, serve};
 use crate::view::View;
 use crate::watch::{Silent, Watch};
+use dp_model::budgets_are_as_they_read;
 
-// One record more at a port, of which that became.
+// Counts one record at `port` by its outcome.
 fn count(tallies: &mut [Tallies; 8], port: u8, outcome: Outcome)
     requires there { port < 8 }
     requires few { records_of (tallies_at tallies.old port) < most_turns }
@@ -24,10 +27,10 @@ fn count(tallies: &mut [Tallies; 8], port: u8, outcome: Outcome)
     }
 }
 
-impl Engine {
-    /// A turn with a record of at most 262,144 bytes that came to a port which exists: it is received and the port's program
-    /// runs, or it is dropped; then up to 32 node runs follow, each on the front packet of the lowest ring that has one.
-    /// An engine takes at most 134,217,728 turns. No node run is ever stuck.
+impl<K: Known> Engine<K> {
+    /// Takes a turn with a record of at most 262,144 bytes at a port, which must exist: receives it and runs the port's program, or drops it; then up
+    /// to 32 node runs follow, each on the front packet of the lowest ring that has one. An engine takes at most 1,099,511,627,776 turns (2^40). No
+    /// node run is ever stuck.
     pub fn turn(&mut self, port: u8, bytes: &[u8]) -> Turn
         requires exists { port < length self.old.setting.env.ports }
         requires limit { self.old.turns < most_turns }
@@ -37,15 +40,18 @@ impl Engine {
         self.watched_turn(port, bytes, &mut Silent)
     }
 
-    /// A turn, as [`turn`](Engine::turn) takes it, at which somebody looks on: at the beginning of each node run, and behind each
-    /// instruction.
+    /// A turn, as [`turn`](Engine::turn), under a watcher: it is shown the start of each node run, and each instruction after it ran, in order, and
+    /// nothing else.
     #[inline(always)]
     pub fn watched_turn<W: Watch>(&mut self, port: u8, bytes: &[u8], watch: &mut W) -> Turn
         requires exists { port < length self.old.setting.env.ports }
         requires limit { self.old.turns < most_turns }
         requires size { length bytes.now ≤ LARGEST_RECORD }
-        ensures { TakesTurn self.old self.new port bytes.now result }
+        ensures taken { TakesTurn self.old self.new port bytes.now result }
+        ensures watched { WatchesTurn W.sees watch.old watch.new self.old.setting self.old.nodes port bytes.now self.old.world (outcome_of result.outcome)
+            result.runs self.new.world }
     {
+        budgets_are_as_they_read();
         self.turns += 1;
         let (outcome, own) = arrive(&self.plan, &mut self.machine, port, bytes, watch);
         count(&mut self.tallies, port, outcome);
@@ -58,7 +64,7 @@ impl Engine {
         }
     }
 
-    /// The machine as it is between two turns.
+    /// The machine between two turns.
     pub fn view(&self) -> View<'_>
         ensures { result.state.world ≡ self.now.world }
     {
@@ -66,7 +72,7 @@ impl Engine {
     }
 }
 
-// How many node runs there are on what a record became.
+// The number of node runs on a record with this outcome.
 fn runs_of(outcome: Outcome) -> u8
     ensures value { result ≡ runs_of (outcome_of outcome) }
     ensures bound { result ≤ 1 }

@@ -1,4 +1,4 @@
-//! The calls on the packets of registers.
+//! Calls on the packets in registers.
 ghost use Rattle.std.specs.Prelude.{◌≡◌, ◌≢◌, ℕ, ◌+◌, ◌^◌, ◌<◌, ◌≤◌, true, false, not, List, [], ◌++◌, length, slice_get, Some, option_map, is_some};
 ghost use Rattle.dp_model.specs.Arithmetic.{bytes_in};
 ghost use Rattle.dp_model.specs.Buffers.{Number, Buffers, ChangesOnly};
@@ -13,7 +13,7 @@ use crate::machine::register::Register;
 use crate::machine::{Machine, is_listed};
 use dp_model::{Env, Packet as Handle, PacketRegister, Width};
 
-// The handle in a register, which holds a packet.
+// The handle in a register that holds a packet.
 #[inline(always)]
 pub(super) fn handle_in(registers: &[Register; 8], p: PacketRegister) -> Handle
     requires { (h : ℕ) × (slice_get registers.now p ≡ Some (Some h)) }
@@ -30,7 +30,7 @@ pub(super) fn is_held_in(registers: &[Register; 8], p: PacketRegister) -> bool
 }
 
 impl Machine {
-    // The room in front of the first segment's bytes.
+    // The free bytes before the first segment's data.
     pub(crate) fn headroom(&self, p: PacketRegister) -> u16
         requires { (k : Packet) × Holds self.now.state p k }
         ensures { (k : Packet) → Holds self.now.state p k → result ≡ headroom k }
@@ -39,7 +39,7 @@ impl Machine {
         self.mbufs.headroom(&packet)
     }
 
-    // The room behind the last segment's bytes.
+    // The free bytes after the last segment's data.
     pub(crate) fn tailroom(&self, p: PacketRegister) -> u16
         requires { (k : Packet) × Holds self.now.state p k }
         ensures { (k : Packet) → Holds self.now.state p k → result ≡ tailroom self.now.pools k }
@@ -57,7 +57,7 @@ impl Machine {
         self.mbufs.last_len(&packet)
     }
 
-    // That many bytes less behind.
+    // Cuts `n` bytes off the end of the last segment.
     pub(crate) fn trim(&mut self, p: PacketRegister, n: u16)
         requires { (k : Packet) × Holds self.old.state p k × (n ≤ last_len k) }
         ensures { (k : Packet) → Holds self.old.state p k → self.new ≡ moved (with_packet p (at_end (less_behind n) k) self.old.state) self.old }
@@ -66,7 +66,7 @@ impl Machine {
         self.mbufs.trim(&packet, n);
     }
 
-    // That many zero bytes in front.
+    // Adds `n` zero bytes before the first segment.
     pub(crate) fn prepend(&mut self, p: PacketRegister, n: u16)
         requires { (k : Packet) × Holds self.old.state p k × (n ≤ headroom k) × IsHeadSole (live self.old.state) k }
         ensures { (k : Packet) → Holds self.old.state p k → self.new ≡ moved
@@ -76,7 +76,7 @@ impl Machine {
         self.mbufs.prepend(&packet, n);
     }
 
-    // That many zero bytes behind.
+    // Adds `n` zero bytes after the last segment.
     pub(crate) fn append(&mut self, p: PacketRegister, n: u16)
         requires { (k : Packet) × Holds self.old.state p k × (n ≤ tailroom self.old.pools k) × IsTailSole (live self.old.state) k }
         ensures { (k : Packet) → Holds self.old.state p k → self.new ≡ moved
@@ -86,7 +86,7 @@ impl Machine {
         self.mbufs.append(&packet, n);
     }
 
-    // The number at an offset of the first segment, the highest byte first.
+    // Loads the big-endian number at an offset of the first segment.
     pub(crate) fn load(&self, p: PacketRegister, offset: u64, width: Width) -> u64
         requires { (k : Packet) × Holds self.now.state p k × (offset + bytes_in width ≤ first_len k) }
         ensures { (k : Packet) → Holds self.now.state p k → result ≡ loaded offset (bytes_in width) k self.now.state.world.buffers }
@@ -95,7 +95,7 @@ impl Machine {
         self.mbufs.load(&packet, offset, width)
     }
 
-    // Writes the low bytes of a number at an offset of the first segment.
+    // Stores the low bytes of a number, big-endian, at an offset of the first segment.
     pub(crate) fn store(&mut self, p: PacketRegister, offset: u64, width: Width, n: u64)
         requires { (k : Packet) × Holds self.old.state p k × (offset + bytes_in width ≤ first_len k) × IsHeadSole (live self.old.state) k }
         ensures { (k : Packet) → Holds self.old.state p k → self.new ≡ moved
@@ -105,7 +105,7 @@ impl Machine {
         self.mbufs.store(&packet, offset, width, n);
     }
 
-    // The second packet behind the first. Its register is empty then.
+    // Appends the second packet to the first. Its register is empty then.
     pub(crate) fn chain(&mut self, front: PacketRegister, back: PacketRegister)
         requires { (k : Packet) × (t : Packet) × Holds self.old.state front k × Holds self.old.state back t × (front ≢ back)
             × (length k + length t ≤ most_segments) }
@@ -118,7 +118,7 @@ impl Machine {
         self.registers[usize::from(back.number())] = Register::empty();
     }
 
-    // A packet of one segment without bytes into an empty register; or the call is refused.
+    // Allocates a packet of one empty segment into an empty register. Answers false where the call is refused.
     pub(crate) fn alloc(
         &mut self,
         env: &Env,
@@ -149,7 +149,7 @@ impl Machine {
         }
     }
 
-    // A packet that shares the buffers of another into an empty register; or the call is refused.
+    // Clones a packet into an empty register. Answers false where the call is refused.
     pub(crate) fn clone_of(
         &mut self,
         env: &Env,

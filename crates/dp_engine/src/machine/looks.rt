@@ -1,6 +1,6 @@
-//! What can be seen of a machine.
-ghost use Rattle.std.specs.Prelude.{◌≡◌, ◌<◌, ◌≤◌, false, length, slice_get, Some, IsTrue};
-ghost use Rattle.dp_model.specs.Packets.{Packet, Segment, refs, packet_bytes, segment_bytes};
+//! What a view can see of a machine.
+ghost use Rattle.std.specs.Prelude.{◌≡◌, ◌<◌, ◌≤◌, false, length, slice_get, Some, IsTrue, IfSome, IfNone};
+ghost use Rattle.dp_model.specs.Packets.{Packet, Segment, refs, packet_bytes, segment_bytes, available};
 ghost use Rattle.dp_model.specs.Machine.{Holds, IsEmpty, live};
 
 use crate::machine::Machine;
@@ -16,7 +16,7 @@ impl Machine {
         is_held_in(&self.registers, p)
     }
 
-    // How many segments the packet has.
+    // The number of the packet's segments.
     pub(crate) fn segments(&self, p: PacketRegister) -> u32
         requires { (k : Packet) × Holds self.now.state p k }
         ensures { (k : Packet) → Holds self.now.state p k → result ≡ length k }
@@ -25,7 +25,7 @@ impl Machine {
         self.mbufs.segments(&packet)
     }
 
-    // How many bytes the packet has.
+    // The length of the packet, in bytes.
     pub(crate) fn length(&self, p: PacketRegister) -> u32
         requires { (k : Packet) × Holds self.now.state p k }
         ensures { (k : Packet) → Holds self.now.state p k → result ≡ length (packet_bytes self.now.state.world.buffers k) }
@@ -44,7 +44,7 @@ impl Machine {
         self.mbufs.segment_bytes(&packet, index)
     }
 
-    // How many segments of all packets have a segment's buffer.
+    // How many segments of all packets refer to a segment's buffer.
     pub(crate) fn segment_refs(&self, p: PacketRegister, index: u32) -> u32
         requires { (k : Packet) × Holds self.now.state p k × (index < length k) }
         ensures { (k : Packet) (s : Segment) → Holds self.now.state p k → slice_get k index ≡ Some s → result ≡ refs (live self.now.state) s.buffer }
@@ -53,17 +53,28 @@ impl Machine {
         self.mbufs.refs(&packet, index)
     }
 
-    // How many rings there are.
+    // The number of rings.
     pub(crate) fn rings(&self) -> usize
         ensures { result ≡ length self.now.frames.rings }
     {
         self.rings.len()
     }
 
-    // How many transmit lists there are.
+    // The number of transmit lists.
     pub(crate) fn lists(&self) -> usize
         ensures { result ≡ length self.now.frames.outboxes }
     {
         self.outboxes.len()
+    }
+
+    // How many buffers of a pool are free, where there is one of this number.
+    pub(crate) fn free_in(&self, pool: u32) -> Option<u32>
+        ensures some { IfSome result (λ n. n ≡ available self.now.pools (live self.now.state) pool) }
+        ensures none { IfNone result (length self.now.pools ≤ pool) }
+    {
+        match self.mbufs.available_in(pool) {
+            Some(free) => Some(free),
+            None => None,
+        }
     }
 }

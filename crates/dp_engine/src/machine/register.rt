@@ -1,10 +1,10 @@
-//! Packet registers.
+//! A packet register: a handle, with a flag for whether it has a packet.
 ghost use Rattle.std.specs.Prelude.{◌≡◌, ◌∷◌, Some, None, IsSome, is_some, replicate};
 
 use std::marker::Model;
 
-/// A packet's handle, or nothing. Which of the two it is stands beside the handle, and nothing tests it: the checker has settled
-/// that a register holds a packet wherever its handle is asked for.
+/// The handle of a packet, or nothing. A flag beside the handle says which, and nothing tests it: the checker has made sure that a register holds a
+/// packet wherever its handle is used.
 #[derive(Drop)]
 pub(crate) struct Register {
     handle: u32,
@@ -57,7 +57,7 @@ impl Register {
     }
 }
 
-/// Eight registers without a packet.
+/// Eight empty registers.
 pub(crate) fn no_packets() -> [Register; 8]
     ensures { result ≡ replicate 8 None }
 {
@@ -73,7 +73,7 @@ pub(crate) fn no_packets() -> [Register; 8]
     ]
 }
 
-/// Eight registers, of which the first has a packet.
+/// Eight registers, the first with a packet.
 pub(crate) fn one_packet(handle: u32) -> [Register; 8]
     ensures { result ≡ Some handle ∷ replicate 7 None }
 {

@@ -1,4 +1,4 @@
--- Internal: what each instruction that handles no packet does to the numbers, where it leads, and what is known there.
+-- Internal: instructions that handle no packet: what they do to the numbers, where they lead, and what is known there.
 use Rattle.std.proofs.Common.{◌≡◌, ◌⊎◌, ℕ, zero, suc, ◌+◌, ◌-◌, ◌*◌, ◌/◌, ◌%◌, ◌^◌, ◌<◌, ◌≤◌, min, max, Bool, true, false, List, [], ◌∷◌, Option, Some, None}
 use Rattle.std.proofs.Common.{refl, sym, ◌∙◌, ap, arith, inl, inr}
 use Rattle.std.specs.Option.{option_map_or}
@@ -23,7 +23,7 @@ use Rattle.dp_model.specs.Machine.{Setting, State, Move, Acts, moves_to, calcula
 
 -- ---- numbers and their bounds
 
--- what is said of two numbers is no less where both are more
+-- f of larger numbers is no smaller
 abbrev pub Grows : (ℕ → ℕ → ℕ) → Type 0
 Grows top = (m n m' n' : ℕ) → m ≤ m' → n ≤ n' → top m n ≤ top m' n'
 
@@ -40,7 +40,7 @@ ones_are limit zero = (0, refl)
 ones_are zero (suc n) = (0, refl)
 ones_are (suc limit) (suc n) = let (k, e) = ones_are limit (suc n / 2) in (suc k, omega (arith, e, two-pow-succ k))
 
--- both numbers have bits only where all ones have
+-- both numbers have bits only where `all_ones` has
 within_ones : (m n : ℕ) → (k : ℕ) × (m < 2 ^ k) × (n < 2 ^ k) × (all_ones (max m n) + 1 ≡ 2 ^ k)
 within_ones m n =
     let above = ones_enough (max m n) (max m n) (omega arith) in
@@ -70,7 +70,7 @@ shifted_more m n k le = le-div (m / 2 ^ k) n (2 ^ k) (omega (arith, one-le-pow k
 
 -- ---- the instructions
 
--- what an instruction does that handles no packet
+-- what an instruction that handles no packet does
 abbrev pub Plain : Setting → State → Option (ℕ × List ℕ) → Move → Type 0
 Plain c s o m = (after : ℕ × List ℕ) × (o ≡ Some after) × (m ≡ moves_to after.0 (record s { numbers = after.1 }))
 
@@ -81,8 +81,7 @@ IsPlain i = (c : Setting) (label : ℕ) (s : State) (m : Move) →
 abbrev pub same : {A : Type 0} → (A → A) × (A → A)
 same = (λ a. a, λ a. a)
 
--- What an instruction gives to a register r, out of r and an operand, and what is known of it; where it jumps, and what is
--- known of r there
+-- What an instruction writes to a register r, from r and an operand, and what is known of it; where it jumps, and what is known of r there
 pub data Calculation (i : Instr) : Type 0 where
   Sets : (r : ℕ) (x : Operand) (number top : ℕ → ℕ → ℕ)
       → ((tables : List (List Route)) (label : ℕ) (ns : List ℕ) → calculated tables label ns i ≡ sets label ns r (number (slice_index ns r) (value ns x)))
@@ -107,7 +106,7 @@ abbrev pub calculates : {i : Instr} → Calculation i → Bool
 calculates (Handles_packets none) = false
 calculates _ = true
 
--- each instruction is one of them, or handles packets
+-- each instruction is one of these, or handles packets
 unfoldable pub calculation_of : (i : Instr) → Calculation i
 calculation_of (Set r n) = Sets r (Constant n) (λ m n. n) (λ m n. n) (λ tables label ns. refl) (λ env label row. refl) (λ m n. omega arith)
     (λ m n m' n' le le'. le') (λ c label s m. same)

@@ -1,13 +1,13 @@
--- Internal: laws of tests, what follows either way.
+-- Internal: case analysis on tests.
 use Rattle.std.proofs.Common.{◌≡◌, ℕ, Bool, true, false, cond, refl}
 use Rattle.std.specs.Prelude.{MatchBool}
 
--- what follows whether a test is true or false follows
+-- what follows from a test being true and from its being false
 pub by_cases : {G : Type 0} (b : Bool) → (b ≡ true → G) → (b ≡ false → G) → G
 by_cases true f g = f refl
 by_cases false f g = g refl
 
--- where a test is true, the first of two facts is to be shown, and where it is false the second
+-- where a test is true, the first of two facts is to be proved, and where it is false the second
 pub match_true : (b : Bool) (P Q : Type 0) → b ≡ true → P → MatchBool b P Q
 match_true true P Q e x = x
 match_true false P Q e x = cc
@@ -21,6 +21,6 @@ pub matched : {G : Type 0} (b : Bool) (P Q : Type 0) → MatchBool b P Q → (P 
 matched true P Q h f g = f h
 matched false P Q h f g = g h
 
--- what a test counts for
+-- 1 for true
 abbrev pub one_if : Bool → ℕ
 one_if b = cond b 1 0

@@ -1,4 +1,4 @@
--- Internal: laws of counts of segments; each buffer stays owned as it should where no count grows.
+-- Internal: counts of segments. Each buffer keeps its owners where no count grows.
 use Rattle.std.proofs.Common.{◌≡◌, ℕ, ◌+◌, ◌≤◌, Bool, true, false, cond, List, [], ◌∷◌, ◌++◌, refl, sym, ◌∙◌, ap, arith, not, ◌&&◌, subst, ⊎_elim}
 use Rattle.std.specs.Prelude.{count_by, map}
 use Rattle.std.specs.List.{AllByRecursion}
@@ -23,7 +23,7 @@ tally-cons test s rest = sum_by-cons (λ x. cond (test x) 1 0) s rest
 pub tally-append : (test : Segment → Bool) (xs ys : List Segment) → tally test (xs ++ ys) ≡ tally test xs + tally test ys
 tally-append test xs ys = sum_by-append (λ x. cond (test x) 1 0) xs ys
 
--- a count above 0 has a segment that passes, of which all that holds of each holds
+-- a positive count has a segment that passes, for which everything holds that holds for each
 pub tally_found : (test : Segment → Bool) (P : Segment → Type 0) (xs : List Segment) → AllByRecursion P xs → 1 ≤ tally test xs
     → (s : Segment) × (test s ≡ true) × P s
 tally_found test P [] all one = absurd (omega arith)
@@ -38,11 +38,11 @@ pub tally_none : (test : Segment → Bool) (xs : List Segment) → AllByRecursio
 tally_none test [] all = refl
 tally_none test (s ∷ rest) all = let none : one_if (test s) ≡ 0 = ap one_if all.0 in omega (arith, none, tally-cons test s rest, tally_none test rest all.1)
 
--- what passes is counted: so a segment is known to be among others
+-- a segment is known to be among others since every count includes it
 abbrev pub IsAmong : Segment → List Segment → Type 0
 IsAmong s xs = (test : Segment → Bool) → test s ≡ true → 1 ≤ tally test xs
 
--- what holds of each segment that is among them holds of all
+-- what holds of each segment of the longer list holds of those among it
 pub all_among : (P : Segment → Type 0) (xs : List Segment) → ((s : Segment) → IsAmong s xs → P s) → AllByRecursion P xs
 all_among P [] each = tt
 all_among P (s ∷ rest) each = (
@@ -63,7 +63,7 @@ tally_zero test (s ∷ rest) none = (go (test s) refl, tally_zero test rest (ome
 abbrev pub has_mbuf : Number → Segment → Bool
 has_mbuf n s = same_number s.mbuf n
 
--- whether it is so without being its buffer
+-- the same, and it is not the segment's buffer
 abbrev pub is_indirect_at : Number → Segment → Bool
 is_indirect_at n s = same_number s.mbuf n && not (same_number s.buffer n)
 
@@ -75,13 +75,13 @@ mbufs live n = tally (has_mbuf n) live
 abbrev pub indirects : List Segment → Number → ℕ
 indirects live n = tally (is_indirect_at n) live
 
--- the same by counts
+-- ownership in terms of counts
 pub record AreCounted (pools : List PoolSpec) (live : List Segment) : Type 0 where
   pub exist : (n : Number) → 1 ≤ mbufs live n → IsNumber pools n
   pub once : (n : Number) → mbufs live n ≤ 1
   pub direct : (n : Number) → 1 ≤ refs live n → indirects live n ≡ 0
 
--- it does not matter which of two numbers comes first
+-- `same_number` is symmetric
 pub same_number_sym : (a b : Number) → same_number a b ≡ same_number b a
 same_number_sym a b = go (same_number a b) (same_number b a) refl refl
   where
@@ -109,7 +109,7 @@ distinct_mbufs (s ∷ rest) once =
       distinct_mbufs rest (λ n. omega (arith, once n, tally-cons (has_mbuf n) s rest)),
     )
 
--- what has its own mbuf as a buffer is direct
+-- a segment whose mbuf is some segment's buffer is direct
 direct_of : (live : List Segment) → ((n : Number) → 1 ≤ refs live n → indirects live n ≡ 0) → (s t : Segment) → IsAmong s live → IsAmong t live
     → s.buffer ≡ t.mbuf → t.buffer ≡ t.mbuf
 direct_of live direct s t there here e =
@@ -121,7 +121,7 @@ direct_of live direct s t there here e =
     absurd (omega (arith, none, here (is_indirect_at t.mbuf) hit)))
     (cases_Bool (same_number t.buffer t.mbuf)))
 
--- what is owned by counts is owned
+-- ownership follows from counts
 pub owned_of_counts : (pools : List PoolSpec) (live : List Segment) → AreCounted pools live → AreOwned pools live
 owned_of_counts pools live counts = record {
   mbufs = all_among (λ s. IsNumber pools s.mbuf) live (λ s among. counts.exist s.mbuf (among (has_mbuf s.mbuf) (same_number_refl s.mbuf)));
@@ -163,7 +163,7 @@ all_direct : (n : Number) (s : Segment) (live : List Segment) → same_number s.
 all_direct n s [] is all = tt
 all_direct n s (t ∷ rest) is all = (not_indirect n s t is all.0, all_direct n s rest is all.1)
 
--- and the other way round
+-- and counts from ownership
 pub counts_of_owned : (pools : List PoolSpec) (live : List Segment) → AreOwned pools live → AreCounted pools live
 counts_of_owned pools live owned = record {
   exist = λ n one. let (s, hit, is) = tally_found (has_mbuf n) (λ s. IsNumber pools s.mbuf) live owned.mbufs one in subst (IsNumber pools)
@@ -175,13 +175,13 @@ counts_of_owned pools live owned = record {
       tally_none (is_indirect_at n) live (all_direct n s live hit all);
 }
 
--- fewer segments, or the same ones, as far as mbufs and buffers go
+-- no more segments than before, as far as mbufs and buffers go
 pub record AreFewer (live live' : List Segment) : Type 0 where
   pub mbufs : (n : Number) → mbufs live' n ≤ mbufs live n
   pub buffers : (n : Number) → refs live' n ≤ refs live n
   pub indirects : (n : Number) → indirects live' n ≤ indirects live n
 
--- buffers stay owned where no count grows
+-- buffers keep their owners where no count grows
 pub fewer_owned : (pools : List PoolSpec) (live live' : List Segment) → AreFewer live live' → AreOwned pools live → AreOwned pools live'
 fewer_owned pools live live' fewer owned =
     let counts = counts_of_owned pools live owned in
@@ -191,7 +191,7 @@ fewer_owned pools live live' fewer owned =
       direct = λ n one. omega (arith, counts.direct n (omega (arith, one, fewer.buffers n)), fewer.indirects n);
     })
 
--- no count grows where no count of any test does
+-- no count grows if none grows for any test
 pub fewer_by : (live live' : List Segment) → ((test : Segment → Bool) → tally test live' ≤ tally test live) → AreFewer live live'
 fewer_by live live' le = record {
   mbufs = λ n. le (has_mbuf n);

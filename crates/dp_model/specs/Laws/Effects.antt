@@ -1,4 +1,4 @@
--- Internal: what an instruction may do to a machine, one of fourteen effects, and where it leads. Who wants what all instructions keep goes through these.
+-- Internal: the fourteen effects that instructions can have on a machine, and where each leads. A proof about all instructions goes through these.
 use Rattle.std.proofs.Common.{◌≡◌, ◌⊎◌, ℕ, ◌+◌, ◌≤◌, ◌≢◌, Bool, true, false, cond, List, [], ◌∷◌, ◌++◌, length, Option, Some, refl, sym, subst, inl, inr}
 use Rattle.std.specs.Prelude.{slice_get, slice_index, nat_lt}
 use Rattle.dp_model.specs.declared.instr.Instr.{Instr}
@@ -16,7 +16,7 @@ use Rattle.dp_model.specs.Limits.{most_segments}
 use Rattle.dp_model.specs.Laws.Cases.{matched}
 use Rattle.dp_model.specs.Laws.Calculations.{calculated_next}
 
--- what an instruction did to a state, with what stood there before
+-- an instruction's effect on a state, with what was there before
 pub data Effect (c : Setting) (s : State) (m : Move) : Type 0 where
   Kept : m.state ≡ s → m.answers ≡ [] → Effect c s m
   Calculated : (numbers : List ℕ) → m.state ≡ record s { numbers = numbers } → m.answers ≡ [] → Effect c s m
@@ -76,7 +76,7 @@ module _ (c : Setting) (label : ℕ) (s : State) (i : Instr) (m : Move) where
       ((written : Instr → Option ℕ) → NamesWritten written → WritesAt (written i) effect) → Did c label s i m
   did m' is effect leads writes = subst (Did c label s i) (sym is) (record { effect = effect; leads = leads; writes = writes })
 
-  -- a test leaves all as it is, wherever it leads
+  -- a test changes nothing, wherever it leads
   tested : (b : Bool) (l : ℕ) → label_of i ≡ Some l → m ≡ branches b label l s → Did c label s i m
   tested true l names is = did _ is (Kept refl refl) (inr names) quiet
   tested false l names is = did _ is (Kept refl refl) (inl refl) quiet
@@ -87,7 +87,7 @@ module _ (c : Setting) (label : ℕ) (s : State) (i : Instr) (m : Move) where
   left true l s' names is effect writes = did _ is effect (inl refl) writes
   left false l s' names is effect writes = did _ is (Kept refl refl) (inr names) quiet
 
--- each instruction has one of them
+-- each instruction has one of these effects
 pub did_of : (c : Setting) (label : ℕ) (s : State) (i : Instr) (m : Move) → Acts c label s i m → Did c label s i m
 did_of c label s (Alloc p pool l) m (empty, there, call) = matched (is_denied c s pool 1) _ _ call
     (λ is. did c label s (Alloc p pool l) m _ is (Refused refl refl) (inr refl) quiet)

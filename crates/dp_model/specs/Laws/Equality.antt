@@ -1,4 +1,4 @@
--- Internal: laws of equal environments. The tests decide equality, and so they are equivalences.
+-- Internal: laws of equal environments. The tests decide equality, so they are equivalences.
 use Rattle.std.specs.Prelude.{◌≡◌, ℕ, true, ◌&&◌, ◌==◌, refl}
 use Rattle.std.specs.Bool.{Decides}
 use Rattle.std.specs.Cmp.{IsPartialEquivalence, IsEquivalence, partial_equiv_from_equiv}
@@ -14,7 +14,7 @@ use Rattle.dp_model.specs.declared.env.PortSpec.{PortSpec}
 use Rattle.dp_model.specs.Environments.{Environment}
 use Rattle.dp_model.specs.Equality.{same_pool, same_fact, same_ring, same_port, same_environment}
 
--- ---- the tests decide
+-- ---- the tests decide equality
 
 itself : (n : ℕ) → (n == n) ≡ true
 itself n = eq-eqb n n refl

@@ -1,4 +1,4 @@
--- Internal: laws of groups of registers that share, who belongs to which, and what edits of a row leave.
+-- Internal: groups of registers: who belongs to which, and what edits of a row keep.
 use Rattle.std.proofs.Common.{◌≡◌, ◌≢◌, ℕ, zero, suc, ◌+◌, Bool, true, false, List, [], ◌∷◌, length, Option, Some, None, refl, ◌∙◌, ap, subst, arith, ◌⊎◌}
 use Rattle.std.proofs.Common.{◌-◌, cond, sym, inl, inr, ⊎_elim, ◌&&◌, get_or}
 use Rattle.std.specs.Prelude.{slice_get, slice_set, option_and_then, nat_le, ◌==◌, ◌≢◌}
@@ -20,7 +20,7 @@ use Rattle.dp_model.specs.Groups.{group_of, is_in, size, share_of_group, belongs
 use Rattle.dp_model.specs.Laws.Lists.{get_set_other, get_set_same, all_at}
 use Rattle.dp_model.specs.Laws.Cases.{one_if, by_cases}
 
--- a test of what there is can only be true where there is something
+-- a test of an optional value can be true only where there is one
 pub map_or_true : {X : Type 0} (test : X → Bool) (o : Option X) → option_map_or test o false ≡ true → (x : X) × (o ≡ Some x) × (test x ≡ true)
 map_or_true test None h = cc
 map_or_true test (Some x) h = (x, refl, h)
@@ -29,7 +29,7 @@ map_or_true test (Some x) h = (x, refl, h)
 pub size-cons : (f : Fact) (facts : List Fact) (g : ℕ) → size (f ∷ facts) g ≡ one_if (is_in g f) + size facts g
 size-cons f facts g = sum_by-cons (λ x. cond (is_in g x) 1 0) f facts
 
--- as many registers where the same ones belong
+-- equal sizes where the same registers belong
 pub size_same : (xs ys : List Fact) (g h : ℕ) → length xs ≡ length ys → ((i : ℕ) → belongs xs g i ≡ belongs ys h i) → size xs g ≡ size ys h
 size_same [] [] g h e same = refl
 size_same [] (y ∷ ys) g h e same = absurd (omega arith)
@@ -50,22 +50,22 @@ belongs_there facts g p h = go (slice_get facts p) refl
     go None e = let no : false ≡ true = sym (ap (λ o. option_map_or (is_in g) o false) e) ∙ h in cc
     go (Some f) e = (f, e, sym (belongs_at facts g p f e) ∙ h)
 
--- a register belongs to what it did where the fact of another is written
+-- writing one register's fact keeps what the others belong to
 pub belongs_other : (facts : List Fact) (g p i : ℕ) (f : Fact) → i ≢ p → belongs (slice_set facts p f) g i ≡ belongs facts g i
 belongs_other facts g p i f ne = ap (λ o. option_map_or (is_in g) o false) (get_set_other facts p i f ne)
 
--- a register whose fact is written belongs to what the new fact says
+-- a register belongs to what its new fact says
 pub belongs_set : (facts : List Fact) (g p : ℕ) (f f' : Fact) → slice_get facts p ≡ Some f → belongs (slice_set facts p f') g p ≡ is_in g f'
 belongs_set facts g p f f' e = belongs_at (slice_set facts p f') g p f' (get_set_same facts p f' f e)
 
 not_group : (g : ℕ) → (0 == share_of_group g) ≡ false
 not_group g = ne_eqb 0 (8 + g) (λ e. absurd (omega (arith, e)))
 
--- the share of a sole packet names no group
+-- the share of a sole packet is no group's
 pub sole_no_group : (g : ℕ) → (2 == share_of_group g) ≡ false
 sole_no_group g = ne_eqb 2 (8 + g) (λ e. absurd (omega (arith, e)))
 
--- the share of a packet of which nothing is known names no group
+-- the share of a loose packet is no group's
 pub loose_no_group : (g : ℕ) → (0 == share_of_group g) ≡ false
 loose_no_group g = not_group g
 
@@ -116,19 +116,19 @@ reshared_out : (x g share : ℕ) (f : Fact) → is_in g f ≡ false → is_in x 
 reshared_out x g share Empty e = refl
 reshared_out x g share (Held old head tail first last segs) e = ap (λ t. cond t share old == share_of_group x) e
 
--- where a group gets a new share, its registers belong to what the share names
+-- in a group that gets a new share, registers belong to what the share says
 pub belongs_in : (facts : List Fact) (x g share i : ℕ) → belongs facts g i ≡ true → belongs (reshared g share facts) x i ≡ (share == share_of_group x)
 belongs_in [] x g share i e = cc
 belongs_in (f ∷ facts) x g share zero e = reshared_in x g share f e
 belongs_in (f ∷ facts) x g share (suc i) e = belongs_in facts x g share i e
 
--- and the others to what they did
+-- others belong to what they did
 pub belongs_out : (facts : List Fact) (x g share i : ℕ) → belongs facts g i ≡ false → belongs (reshared g share facts) x i ≡ belongs facts x i
 belongs_out [] x g share i e = refl
 belongs_out (f ∷ facts) x g share zero e = reshared_out x g share f e
 belongs_out (f ∷ facts) x g share (suc i) e = belongs_out facts x g share i e
 
--- two lists of facts that put the same registers into a group: each register belongs to it in both or in neither
+-- two rows with the same registers in a group: each register belongs to it in both or in neither
 pub same_at : (xs ys : List Fact) (g : ℕ) → same_registers xs ys g ≡ true → (length ys ≡ length xs) × ((i : ℕ) → belongs ys g i ≡ belongs xs g i)
 same_at [] [] g e = (refl, λ i. refl)
 same_at [] (y ∷ ys) g e = cc
@@ -142,7 +142,7 @@ same_at (x ∷ xs) (y ∷ ys) g e =
     at first each zero = first
     at first each (suc i) = each i
 
--- where each group of a row is kept, so is the group of one of its facts
+-- where each group of a row is kept, so is the group of each fact
 pub kept_at : (as' : List Fact) (bs : List Fact) (i g : ℕ) (f : Fact)
     → list_all (λ other. option_map_or (same_registers as' bs) (group_of other) true) bs ≡ true → slice_get bs i ≡ Some f → is_in g f ≡ true
     → same_registers as' bs g ≡ true
@@ -150,7 +150,7 @@ kept_at as' bs i g f e at inside =
     let here = all_at (λ other. option_map_or (same_registers as' bs) (group_of other) true) bs i f e at in
     sym (ap (λ o. option_map_or (same_registers as' bs) o true) (is_in_group g f inside)) ∙ here
 
--- a row without the group of a register, by what that group is
+-- a row after a register's group is dissolved, by cases of that group
 pub dissolved_is : (row : Row) (p : ℕ) (o : Option ℕ) → group_at row p ≡ o → dissolved row p ≡ option_map_or (λ g. with_shares row g 0) o row
 dissolved_is row p o e = ap (λ o. option_map_or (λ g. with_shares row g 0) o row) e
 
@@ -196,7 +196,7 @@ pub groups_of_row : (row : Row) → is_well_formed_row row ≡ true → are_grou
 groups_of_row row e =
     (and_parts (list_all is_fact_of_row row.facts) (are_groups row.facts) (and_parts (list_all is_fact_of_row row.facts && are_groups row.facts) _ e).0).1
 
--- the register that a group is named by belongs to it
+-- the register that names a group belongs to it
 pub least_belongs : (facts : List Fact) (g m : ℕ) → least facts g ≡ Some m → belongs facts g m ≡ true
 least_belongs facts g m e = or_at facts m ∙ (position-Some (is_in g) facts m Empty e).1
   where
@@ -205,7 +205,7 @@ least_belongs facts g m e = or_at facts m ∙ (position-Some (is_in g) facts m E
     or_at (f ∷ facts) zero = refl
     or_at (f ∷ facts) (suc m) = or_at facts m
 
--- where any register belongs to a group, that of its own name does
+-- where any register belongs to a group, the one that names it does
 pub named_by : (facts : List Fact) (g i : ℕ) → are_groups facts ≡ true → belongs facts g i ≡ true → belongs facts g g ≡ true
 named_by facts g i e inside =
     let (f, at, is) = belongs_there facts g i inside in
@@ -215,11 +215,11 @@ named_by facts g i e inside =
     (and_parts (nat_le 2 (size facts g)) (option_map_or (λ p. p == g) (least facts g) false) group).1 in
     subst (λ n. belongs facts g n ≡ true) (eqb-true p g same) (least_belongs facts g p first)
 
--- no register belongs to a group where that of its own name does not
+-- where the register that would name a group is not in it, no register is
 pub unnamed : (facts : List Fact) (m : ℕ) → are_groups facts ≡ true → belongs facts m m ≡ false → (i : ℕ) → belongs facts m i ≡ false
 unnamed facts m e out i = by_cases (belongs facts m i) (λ inside. let wrong : true ≡ false = sym (named_by facts m i e inside) ∙ out in cc) (λ outside. outside)
 
--- the fact of a register that is said to hold a packet
+-- the fact of a register that holds a packet
 pub fact_at : (row : Row) (p : ℕ) (h : Holding) → held_at row p ≡ Some h → slice_get row.facts p ≡ Some (held h)
 fact_at row p h e = go (slice_get row.facts p) refl
   where
@@ -231,11 +231,11 @@ fact_at row p h e = go (slice_get row.facts p) refl
         (sym (ap (λ o. option_and_then holding o) at) ∙ e) in
         at ∙ ap (λ j. Some (held j)) same
 
--- a row in which the fact of a register that holds a packet is changed
+-- a row after the fact of a register with a packet is changed
 pub changed_is : (row : Row) (p : ℕ) (f : Holding → Holding) (h : Holding) → held_at row p ≡ Some h → changed row p f ≡ with_fact row p (held (f h))
 changed_is row p f h e = ap (λ o. option_map_or (λ j. with_fact row p (held (f j))) o row) e
 
--- what is left of a group is named by one of its registers, so by none of another group
+-- what remains of a group is named by one of its registers, so by none of another group
 pub left_name : (row : Row) (p g m : ℕ) → are_groups row.facts ≡ true → (f : Fact) → slice_get row.facts p ≡ Some f → belongs (emptied row p).facts g m ≡ true
     → (m ≡ g) ⊎ ((i : ℕ) → belongs (emptied row p).facts m i ≡ false)
 left_name row p g m fits f at inside = ⊎_elim inl (λ ne. inr (none ne)) (cases_eq m g)

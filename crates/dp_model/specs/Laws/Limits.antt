@@ -1,4 +1,4 @@
--- Internal: laws of environments without a fault, whose numbers are small.
+-- Internal: environments without a fault have small numbers.
 use Rattle.std.proofs.Common.{◌≡◌, ℕ, zero, suc, ◌+◌, ◌≤◌, Bool, true, false, not, cond, ◌&&◌, List, [], ◌∷◌, length, Option, Some, None, refl, sym, ◌∙◌, arith}
 use Rattle.std.specs.Prelude.{nat_le, slice_get, option_map, position, if◌then◌else◌}
 use Rattle.std.specs.List.{position_from}
@@ -24,7 +24,7 @@ numbers_known e h =
     let (h5, pools) = and_parts (nat_le 1 (length e.pools)) (nat_le (length e.pools) 8) h4 in
     (leb-true (length e.pools) 8 pools, leb-true (length e.rings) 8 rings, leb-true (length e.ports) 8 ports)
 
--- no fault where the test is true, and none behind it
+-- no fault where the test is true, and none after it
 pub if_none : {X : Type 0} → (b : Bool) (a : Option X) (x : X) → (if b then a else Some x) ≡ None → (b ≡ true) × (a ≡ None)
 if_none true a x h = (refl, h)
 if_none false a x h = cc

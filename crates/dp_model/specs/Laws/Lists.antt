@@ -1,4 +1,4 @@
--- Internal: laws of lists, what a write leaves, and what holds of each element.
+-- Internal: lists: what a write keeps, and what holds of each element.
 use Rattle.std.proofs.Common.{◌≡◌, ◌≢◌, ℕ, zero, suc, ◌+◌, Bool, true, List, [], ◌∷◌, ◌++◌, Some, refl, ap, arith, ◌<◌, length, subst, ◌&&◌, add-one, drop}
 use Rattle.std.proofs.Common.{slice_get, slice_set, take}
 use Rattle.std.specs.Prelude.{slice_get, slice_set}
@@ -21,13 +21,13 @@ get_set_same [] p x y h = cc
 get_set_same (z ∷ xs) zero x y h = refl
 get_set_same (z ∷ xs) (suc p) x y h = get_set_same xs p x y h
 
--- there is an element at each place within
+-- each index within the length has an element
 pub get_within : {X : Type 0} (xs : List X) (i : ℕ) → i < length xs → (x : X) × (slice_get xs i ≡ Some x)
 get_within [] i h = absurd (omega arith)
 get_within (x ∷ xs) zero h = (x, refl)
 get_within (x ∷ xs) (suc i) h = get_within xs i (omega arith)
 
--- two lists that are alike at each place: what stands across from an element of the second
+-- two lists that are related at each index: the partner of an element of the second
 pub zip_back : {X Y : Type 0} (R : X → Y → Type 0) (xs : List X) (ys : List Y) (i : ℕ) (y : Y) → AllZip R xs ys → slice_get ys i ≡ Some y
     → (x : X) × (slice_get xs i ≡ Some x) × R x y
 zip_back R [] [] i y h e = cc
@@ -36,7 +36,7 @@ zip_back R (x ∷ xs) [] i y h e = absurd h
 zip_back R (x ∷ xs) (z ∷ ys) zero y h e = (x, refl, subst (R x) (same_Some z y e) h.0)
 zip_back R (x ∷ xs) (z ∷ ys) (suc i) y h e = zip_back R xs ys i y h.1 e
 
--- what holds of two joined lists holds of the first
+-- what holds of all of two joined lists holds of the first
 pub all_left : {X : Type 0} (P : X → Type 0) (xs ys : List X) → AllByRecursion P (xs ++ ys) → AllByRecursion P xs
 all_left P [] ys h = tt
 all_left P (x ∷ xs) ys h = (h.0, all_left P xs ys h.1)
@@ -52,7 +52,7 @@ each_at P [] p x all e = cc
 each_at P (y ∷ xs) zero x all e = subst P (same_Some y x e) all.0
 each_at P (y ∷ xs) (suc p) x all e = each_at P xs p x all.1 e
 
--- the tests at each place, from an index on
+-- tests at each index, from one on
 each_step : {A : Type 0} → (test : A → A → Bool) (xs ys : List A) (i : ℕ) (x y : A) → slice_get xs i ≡ Some x → slice_get ys i ≡ Some y
     → at_each_index test (drop i xs) (drop i ys) ≡ (test x y && at_each_index test (drop (suc i) xs) (drop (suc i) ys))
 each_step test (x' ∷ xs) (y' ∷ ys) zero x y e f = cc
@@ -60,7 +60,7 @@ each_step test (x' ∷ xs) (y' ∷ ys) (suc i) x y e f = each_step test xs ys i 
 each_step test [] ys i x y e f = cc
 each_step test (x' ∷ xs) [] i x y e f = cc
 
--- tests at each place, from an index on: the one there, and the rest
+-- tests at each index, from one on: the one there, and the rest
 pub each_index_drop : {A : Type 0} → (test : A → A → Bool) (xs ys : List A) (i : ℕ) (x y : A) → slice_get xs i ≡ Some x → slice_get ys i ≡ Some y
     → at_each_index test (drop i xs) (drop i ys) ≡ (test x y && at_each_index test (drop (i + 1) xs) (drop (i + 1) ys))
 each_index_drop test xs ys i x y e f = rw add-one (each_step test xs ys i x y e f)

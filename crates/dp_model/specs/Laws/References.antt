@@ -1,4 +1,4 @@
--- Internal: laws of references, what each packet adds, and what registers hold.
+-- Internal: references: what each packet adds, and what registers hold.
 use Rattle.std.proofs.Common.{◌≡◌, ◌≢◌, ℕ, zero, suc, ◌+◌, ◌≤◌, true, cond, List, [], ◌∷◌, ◌++◌, Option, Some, None, refl, ◌∙◌, ap, arith, false, not, ◌||◌}
 use Rattle.std.specs.Prelude.{slice_get, slice_set}
 use Rattle.std.proofs.lemmas.List.Sums.{sum_by-append, sum_by-cons}
@@ -16,12 +16,12 @@ use Rattle.dp_model.specs.Laws.Stored.{same_number_refl}
 pub refs-append : (xs ys : List Segment) (b : Number) → refs (xs ++ ys) b ≡ refs xs b + refs ys b
 refs-append xs ys b = sum_by-append (λ s. cond (same_number s.buffer b) 1 0) xs ys
 
--- the references of what a register holds
+-- the references of a register's packet
 abbrev pub refs_of : Option Packet → Number → ℕ
 refs_of None b = 0
 refs_of (Some k) b = refs k b
 
--- a register set
+-- a register is set
 pub refs_set : (packets : List (Option Packet)) (p : ℕ) (o o' : Option Packet) (b : Number) → slice_get packets p ≡ Some o
     → refs (segments_held (slice_set packets p o')) b + refs_of o b ≡ refs (segments_held packets) b + refs_of o' b
 refs_set [] p o o' b h = cc
@@ -39,18 +39,18 @@ refs_set (None ∷ packets) (suc p) o o' b h = refs_set packets p o o' b h
 refs_set (Some k ∷ packets) (suc p) o o' b h =
     omega (arith, refs_set packets p o o' b h, refs-append k (segments_held packets) b, refs-append k (segments_held (slice_set packets p o')) b)
 
--- what a register holds is part of what is held
+-- a register's packet is part of all that is held
 pub refs_held : (packets : List (Option Packet)) (i : ℕ) (o : Option Packet) (b : Number) → slice_get packets i ≡ Some o
     → refs_of o b ≤ refs (segments_held packets) b
 refs_held packets i o b h = omega (arith, refs_set packets i o None b h)
 
--- what two registers hold is part of what is held
+-- the packets of two registers are part of all that is held
 pub refs_two : (packets : List (Option Packet)) (i p : ℕ) (o u : Option Packet) (b : Number) → i ≢ p → slice_get packets i ≡ Some o
     → slice_get packets p ≡ Some u → refs_of o b + refs_of u b ≤ refs (segments_held packets) b
 refs_two packets i p o u b ne hi hp =
     omega (arith, refs_set packets p u None b hp, refs_held (slice_set packets p None) i o b (get_set_other packets p i None ne ∙ hi))
 
--- where the packet has a buffer with one reference, it still has one
+-- a buffer of the packet with one reference keeps one
 abbrev pub Keeps : List Segment → List Segment → Packet → Type 0
 Keeps live live' k = (b : Number) → 1 ≤ refs k b → refs live b ≡ 1 → refs live' b ≡ 1
 
@@ -65,13 +65,13 @@ refs_first s rest =
     let e : cond (same_number s.buffer s.buffer) one 0 ≡ one = ap (λ b. cond b one 0) (same_number_refl s.buffer) in
     omega (arith, e, refs-cons s rest s.buffer)
 
--- a sole packet stays so where its buffers keep their one reference
+-- a sole packet stays sole where its buffers keep their one reference
 pub sole_kept : (live live' k rest : List Segment) → Keeps live live' k → ((b : Number) → 1 ≤ refs rest b → 1 ≤ refs k b) → IsSole live rest → IsSole live' rest
 sole_kept live live' k [] keeps part h = tt
 sole_kept live live' k (s ∷ rest) keeps part h =
     (keeps s.buffer (part s.buffer (refs_first s rest)) h.0, sole_kept live live' k rest keeps (λ b m. part b (omega (arith, refs-cons s rest b))) h.1)
 
--- so what is known of how a packet is shared stays
+-- so facts about its share stay true
 pub share_kept : (live live' : List Segment) (share : ℕ) (k : Packet) → Keeps live live' k → IsShared live share k → IsShared live' share k
 share_kept live live' zero k keeps h = tt
 share_kept live live' (suc zero) [] keeps h = tt
@@ -89,7 +89,7 @@ free_zero (s ∷ rest) n h =
     let none : one_if (same_number s.buffer n) ≡ 0 = ap one_if other in
     omega (arith, none, refs-cons s rest n, free_zero rest n t.1)
 
--- the references of a state are those of its registers, of its rings and of its transmit lists
+-- the references of a state are those of registers, rings and transmit lists
 pub live_parts : (s : State) (b : Number)
     → refs (live s) b ≡ refs (segments_held s.packets) b + (refs (segments_listed s.world.rings) b + refs (segments_listed s.world.outboxes) b)
 live_parts s b =

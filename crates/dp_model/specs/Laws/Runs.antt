@@ -1,4 +1,4 @@
--- Internal: laws of runs, where they begin, and one more turn.
+-- Internal: runs: where they begin, and one more turn.
 use Rattle.std.proofs.Common.{◌≡◌, ℕ, zero, suc, Bool, List, [], ◌∷◌, ◌++◌, length, replicate, map, refl, sym, ◌∙◌, ap, subst, arith, append_assoc}
 use Rattle.std.specs.List.{AllZip, AllByRecursion}
 use Rattle.std.proofs.lemmas.List.{append-nil, length-map}
@@ -51,7 +51,7 @@ module _ {A : Type 0} where
   joined_assoc (x ∷ xs) (y ∷ ys) (z ∷ zs) = ap (λ a. a ∷ joined (joined xs ys) zs) (append_assoc x y z)
       ∙ ap (λ as_. (x ++ (y ++ z)) ∷ as_) (joined_assoc xs ys zs)
 
--- what a run shows with one more turn
+-- what a run shows after one more turn
 abbrev pub with_turn : {T : Type 0} → T → Outcome → List Bool → World → Shown T → Shown T
 with_turn time outcome answers w shown = record {
   answers = shown.answers ++ answers;
@@ -104,7 +104,7 @@ pub nothing_mapped : {Z : Type 0} (zs : List Z) → segments_listed (map (λ _. 
 nothing_mapped [] = refl
 nothing_mapped (z ∷ zs) = nothing_mapped zs
 
--- nor a packet that is out of its limits
+-- nor a packet outside its limits
 pub no_lists : {Z : Type 0} (zs : List Z) → AllByRecursion (AllByRecursion IsPacket) (map (λ _. []) zs)
 no_lists [] = tt
 no_lists (z ∷ zs) = (tt, no_lists zs)

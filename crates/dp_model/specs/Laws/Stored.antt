@@ -1,4 +1,4 @@
--- Internal: laws of the bytes of buffers, when one of them is written.
+-- Internal: the bytes of buffers after one of them is written.
 use Rattle.std.proofs.Common.{◌≡◌, ◌≢◌, ℕ, zero, suc, ◌+◌, ◌-◌, ◌≤◌, true, List, [], ◌∷◌, ◌++◌, refl, ◌∙◌, ap, arith, ◌<◌, false, length, sym, subst, get_or}
 use Rattle.std.proofs.Common.{set, ⊎_elim, ◌⊎◌, take, drop, inl, inr, length-append, length-take, length-drop}
 use Rattle.std.proofs.lemmas.Bool.{eq-eqb, and_from, and_parts, eqb-true, cases_eq, cases_lt, both_ways, cases_Bool}
@@ -39,7 +39,7 @@ bytes_other buffers n b bytes h = ⊎_elim
     (λ apart. ap (λ xs. get_or xs b.index []) (get_or-set_other buffers n.pool b.pool _ [] (λ e. apart (sym e))))
     (cases_eq n.pool b.pool)
 
--- a buffer that has bytes is there
+-- a buffer with bytes exists
 there_inside : (xs : List (List ℕ)) (i : ℕ) → 0 < length (get_or xs i []) → i < length xs
 there_inside [] i h = absurd (omega arith)
 there_inside (x ∷ xs) zero h = omega arith
@@ -50,14 +50,14 @@ there_outside [] p i h = absurd (omega arith)
 there_outside (x ∷ xs) zero i h = omega arith
 there_outside (x ∷ xs) (suc p) i h = omega (arith, there_outside xs p i h)
 
--- the bytes of a buffer that is written, where there is one with bytes
+-- the new bytes of a buffer, where it exists
 pub bytes_same : (buffers : Buffers) (n : Number) (bytes : List ℕ) → 0 < length (bytes_of buffers n) → bytes_of (with_bytes buffers n bytes) n ≡ bytes
 bytes_same buffers n bytes some =
     ap (λ xs. get_or xs n.index [])
     (get_or-set_same buffers n.pool (set (get_or buffers n.pool []) n.index bytes) [] (there_outside buffers n.pool n.index some))
     ∙ get_or-set_same (get_or buffers n.pool []) n.index bytes [] (there_inside (get_or buffers n.pool []) n.index some)
 
--- a buffer that is written has the new bytes, or there is none
+-- a buffer that is written has the new bytes, or does not exist
 pub bytes_either : (buffers : Buffers) (n : Number) (bytes : List ℕ)
     → (bytes_of (with_bytes buffers n bytes) n ≡ bytes) ⊎ (bytes_of (with_bytes buffers n bytes) n ≡ bytes_of buffers n)
 bytes_either buffers n bytes = ⊎_elim
@@ -81,7 +81,7 @@ written_each P buffers n b bytes old new = ⊎_elim
     (λ no. subst P (sym (bytes_other buffers n b bytes no)) old)
     (cases_Bool (same_number n b))
 
--- bytes that are overwritten stay as many
+-- overwriting keeps the length
 pub length_overwritten : (old new : List ℕ) (start : ℕ) → start + length new ≤ length old → length (overwritten old start new) ≡ length old
 length_overwritten old new start h =
     omega (
@@ -93,7 +93,7 @@ length_overwritten old new start h =
       length-drop (start + length new) old,
     )
 
--- a byte in front of what is written stays
+-- a byte before the write stays
 overwritten_before : (old new : List ℕ) (start k : ℕ) → start ≤ length old → k < start → get_or (overwritten old start new) k 0 ≡ get_or old k 0
 overwritten_before old new start k fits less =
     let front : length (take start old) ≡ start = length-take-le start old fits in
@@ -110,7 +110,7 @@ overwritten_in old new start k fits from to =
     ∙ get_or-append-add (take start old) (new ++ drop (start + length new) old) (k - start) 0
     ∙ get_or-append new (drop (start + length new) old) 0 (k - start) (omega (arith, from, to))
 
--- a byte behind it stays
+-- a byte after it stays
 overwritten_behind : (old new : List ℕ) (start k : ℕ) → start ≤ length old → start + length new ≤ k
     → get_or (overwritten old start new) k 0 ≡ get_or old k 0
 overwritten_behind old new start k fits past =
@@ -128,14 +128,14 @@ overwritten_behind old new start k fits past =
 range_at : (xs : List ℕ) (offset len k : ℕ) → k < len → get_or (slice_range xs offset (offset + len)) k 0 ≡ get_or xs (offset + k) 0
 range_at xs offset len k less = get_or-take (offset + len - offset) (drop offset xs) k 0 (omega (arith, less)) ∙ get_or-drop offset xs k 0
 
--- a part has as many bytes as are asked for
+-- a part has as many bytes as requested
 range_long : (xs : List ℕ) (offset len : ℕ) → offset + len ≤ length xs → length (slice_range xs offset (offset + len)) ≡ len
 range_long xs offset len fits =
     let many : length (slice_range xs offset (offset + len)) ≡ offset + len - offset = length-take-le (offset + len - offset) (drop offset xs)
     (omega (arith, length-drop offset xs, fits)) in
     omega (arith, many)
 
--- a part that is written within
+-- a part that is overwritten within
 pub range_overwritten : (old new : List ℕ) (offset len start : ℕ) → start + length new ≤ len → offset + len ≤ length old
     → slice_range (overwritten old (offset + start) new) offset (offset + len) ≡ overwritten (slice_range old offset (offset + len)) start new
 range_overwritten old new offset len start short long =

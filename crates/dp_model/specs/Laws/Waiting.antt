@@ -1,4 +1,4 @@
--- Internal: laws of packets that wait in rings.
+-- Internal: packets that wait in rings.
 use Rattle.std.proofs.Common.{◌≡◌, ℕ, zero, suc, List, [], ◌∷◌, ◌++◌, Option, Some, None, refl, ◌∙◌, ap, subst, arith, sym, map}
 use Rattle.std.specs.Prelude.{slice_get, slice_set, flat_map, option_map}
 use Rattle.std.specs.List.{AllByRecursion, AllZip}
@@ -15,7 +15,7 @@ use Rattle.dp_model.specs.Laws.References.{refs-append, Keeps, share_kept}
 use Rattle.dp_model.specs.Laws.Lists.{all_left, all_right, all_join}
 
 module _ (pools : List PoolSpec) where
-  -- a packet meets a fact as before where its buffers keep their one reference
+  -- a packet satisfies a fact as before where its buffers keep their one reference
   pub meets_kept : (live live' : List Segment) (h : Holding) (k : Packet) → Keeps live live' k → Meets pools live h k → Meets pools live' h k
   meets_kept live live' h k keeps m =
       record {
@@ -28,7 +28,7 @@ module _ (pools : List PoolSpec) where
         segs = m.segs;
       }
 
-  -- so it is with what a register holds
+  -- so does the packet of a register
   pub describes_kept : (live live' : List Segment) (h : Option Holding) (o : Option Packet) → ((k : Packet) → o ≡ Some k → Keeps live live' k)
       → Describes pools live h o → Describes pools live' h o
   describes_kept live live' None None keeps d = tt
@@ -47,7 +47,7 @@ module _ (pools : List PoolSpec) where
     ring_kept live live' spec packets (λ b one. keeps b (omega (arith, refs-append k (flat_map (λ k. k) packets) b))) h.1,
   )
 
-  -- and with all packets in rings
+  -- so do all packets in rings
   pub rings_kept : (live live' : List Segment) (specs : List RingSpec) (rings : List (List Packet)) → Keeps live live' (segments_listed rings)
       → AllZip (RingHolds pools live) specs rings → AllZip (RingHolds pools live') specs rings
   rings_kept live live' [] [] keeps h = tt
@@ -58,7 +58,7 @@ module _ (pools : List PoolSpec) where
     rings_kept live live' specs rings (λ b one. keeps b (omega (arith, refs-append (flat_map (λ k. k) r) (segments_listed rings) b))) h.1,
   )
 
--- the packet is the first of its ring, and the rings that are left have it no more
+-- the packet is the first of its ring, and is not in the rings that remain
 abbrev pub IsTaken : List (List Packet) → Waiting Packet → Type 0
 IsTaken rings next = (packets : List Packet) × (slice_get rings next.ring ≡ Some (next.packet ∷ packets)) × (next.rings ≡ slice_set rings next.ring packets)
 
@@ -77,7 +77,7 @@ waits ([] ∷ rings) next e = later (first_waiting rings) refl (waits rings)
 waits ((k ∷ packets) ∷ rings) next e =
     subst (IsTaken ((k ∷ packets) ∷ rings)) (same_Some _ next e) (packets, refl, refl)
 
--- what holds of all segments in rings holds of the packet and of those that stay
+-- what holds of all segments in rings holds of the packet and of the rest
 pub all_pop : (P : Segment → Type 0) (lists : List (List Packet)) (i : ℕ) (k : Packet) (packets : List Packet) → slice_get lists i ≡ Some (k ∷ packets)
     → AllByRecursion P (segments_listed lists) → AllByRecursion P k × AllByRecursion P (segments_listed (slice_set lists i packets))
 all_pop P [] i k packets e all = cc

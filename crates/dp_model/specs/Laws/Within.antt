@@ -1,4 +1,4 @@
--- Internal: laws of segments that lie within their buffers.
+-- Internal: segments that lie within their buffers.
 use Rattle.std.proofs.Common.{◌≡◌, ℕ, zero, suc, ◌+◌, ◌-◌, ◌<◌, ◌≤◌, List, [], ◌∷◌, ◌++◌, length, Option, Some, None, sym, ap, subst, arith, ◌*◌, ◌/◌, max, map}
 use Rattle.std.specs.Prelude.{slice_get}
 use Rattle.std.specs.List.{AllByRecursion}
@@ -34,7 +34,7 @@ parts P s all =
 abbrev pub IsInside : Setting → State → Type 0
 IsInside c s = IsWithin c.env.pools s.world.buffers (live s)
 
--- what holds of all segments that are held holds of those of one register
+-- what holds of all held segments holds of those of one register
 pub all_held : (P : Segment → Type 0) (packets : List (Option Packet)) (p : ℕ) (k : Packet) → AllByRecursion P (segments_held packets)
     → slice_get packets p ≡ Some (Some k) → AllByRecursion P k
 all_held P [] p k all h = cc
@@ -43,11 +43,11 @@ all_held P (Some j ∷ packets) zero k all h = subst (AllByRecursion P) (same_So
 all_held P (None ∷ packets) (suc p) k all h = all_held P packets p k all h
 all_held P (Some j ∷ packets) (suc p) k all h = all_held P packets p k (all_right P j (segments_held packets) all) h
 
--- what a register holds lies within
+-- a register's packet lies within its buffers
 pub inside_held : (c : Setting) (s : State) (p : ℕ) (k : Packet) → IsInside c s → Holds s p k → AllByRecursion (Lies c.env.pools) k
 inside_held c s p k well holds = all_held (Lies c.env.pools) s.packets p k (parts (Lies c.env.pools) s well.lie).held holds
 
--- the segments of a received packet lie within their buffers, where there are enough of them
+-- a received packet's segments lie within their buffers, where there are enough of them
 pub lies_received : (pools : List PoolSpec) (segments : List Segment) (pool : ℕ) (ns : List Number) (len : ℕ) → default_headroom ≤ room_at pools pool
     → len ≤ length ns * (room_at pools pool - default_headroom) → AllByRecursion (IsFresh pools segments pool) ns
     → AllByRecursion (Lies pools) (received (room_at pools pool) ns len)
@@ -65,14 +65,14 @@ lies_received pools segments pool (n ∷ m ∷ ns) len room le all =
     fewer : (c r len : ℕ) → len ≤ suc (suc c) * r → len - r ≤ suc c * r
     fewer c r len h = omega (arith, h)
 
--- as many segments as are needed hold the record
+-- the segments that are needed have room for the record
 pub needed_holds : (room len : ℕ) → 0 < room → len ≤ max 1 ((len + (room - 1)) / room) * room
 needed_holds room len pos =
     let q = (len + (room - 1)) / room in
     let more : q ≤ max 1 q = omega arith in
     omega (arith, pos, mul-le-mul_right room more)
 
--- what holds of a packet and of what is between two node runs holds where the node run begins
+-- what holds of a packet and between two node runs holds where the node run begins
 pub all_first : (P : Segment → Type 0) (k : Packet) (number : ℕ) (w : World) → AllByRecursion P k → AllByRecursion P (live (between w))
     → AllByRecursion P (live (first_state k number w))
 all_first P k number w here rest = all_join P (k ++ []) (live (between w)) (all_join P k [] here tt) rest
@@ -81,7 +81,7 @@ none_at_all : {Z : Type 0} (P : Segment → Type 0) (zs : List Z) → AllByRecur
 none_at_all P [] = tt
 none_at_all P (z ∷ zs) = none_at_all P zs
 
--- before the first record live segments lie within their buffers: there are none
+-- before the first record live segments lie within their buffers, as there are none
 pub start_inside : (c : Setting) (w : World) → IsStart c.env w → IsInside c (between w)
 start_inside c w start =
     record {

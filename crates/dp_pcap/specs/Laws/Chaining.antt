@@ -1,4 +1,4 @@
--- Internal: lemmas for callers: what several calls, one after the other, come to.
+-- Internal: several calls, one after another.
 use Rattle.std.specs.Prelude.{◌≡◌, ℕ, ◌+◌, List, [], ◌∷◌, ◌++◌, length, take, Option, None, Some}
 use Rattle.std.specs.List.{flat_map}
 use Rattle.std.specs.Io.KnownBytes.{Appends}

@@ -1,5 +1,4 @@
-//! The bytes of a region while parts of them are lent, and the rights to give those back.
-//! Neither takes any memory.
+//! The bytes of a region that are not lent, and the rights to give lent spans back. Neither exists when the program runs.
 ghost use Rattle.std.specs.Prelude.{◌≡◌, ℕ, ◌+◌, ◌^◌, ◌<◌, ◌≤◌, true, List, [], length};
 ghost use Rattle.dp_region.specs.Spans.{Span, listed, IsUnlent, with_span, without_span, Spaced, bytes_in, with_bytes};
 ghost use Rattle.dp_region.specs.Ownership.{Home, ptr_at, ticket, cells_own, cells_shared};
@@ -8,7 +7,7 @@ use super::Run;
 use std::marker::Model;
 use std::slice;
 
-// Those of `bytes` that are not in a span of `lent`.
+// The bytes of `bytes` that lie in no span of `lent`.
 pub(crate) struct Cells {
     ghost home: { Home },
     ghost bytes: { List ℕ },
@@ -22,7 +21,7 @@ impl Model for Cells {
     ghost also_shares = { λ c _ κ. cells_shared c.home c.lent c.bytes κ };
 }
 
-// The right to give a span back. There is one for each span that is lent.
+// The right to give one lent span back. There is exactly one for each.
 pub(crate) struct Ticket {
     ghost home: { Home },
     ghost offset: { ℕ },

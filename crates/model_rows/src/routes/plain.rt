@@ -1,4 +1,4 @@
-//! The plain form of a table: one list of rules, gone over whole at each call.
+//! The plain form of a table: one list of rules, of which each call reads all.
 
 use dp_lpm::LpmError;
 use std::alloc::{AllocError, Global};
@@ -17,7 +17,7 @@ pub struct Plain {
     groups: usize,
 }
 
-/// Whether the first bits of two addresses are the same.
+/// Whether the first bits of two addresses are equal.
 fn agree(a: u32, b: u32, depth: u8) -> bool {
     depth == 0 || depth > 32 || (a ^ b).leading_zeros() >= u32::from(depth)
 }
@@ -42,7 +42,7 @@ impl Plain {
             .any(|rule| rule.depth > 24 && agree(rule.prefix, ip, 24))
     }
 
-    /// How many first 24 bits the deep rules have.
+    /// How many prefixes of 24 bits the deep rules have.
     fn groups_used(&self) -> usize {
         let mut firsts: [u32; 256] = [0; 256];
         let mut used = 0usize;

@@ -1,4 +1,4 @@
-//! How often devices are called, and what they are asked behind a failure.
+//! How often devices are called, and what they are asked after a failure.
 use super::{MICRO_HEADER, NANO_HEADER, ROOM, copied, hundred_bytes, next};
 use dp_pcap::{
     Failed, FailingFeed, Feed, Next, OfBufReader, OfBufWriter, OfRead, OfWrite, PcapError, Sink,
@@ -28,12 +28,18 @@ impl<F: Feed> Feed for Counting<F> {
 
     ghost at_hand = { λ d. F.at_hand d.inner };
 
+    ghost truncated = { λ d. F.truncated d.inner };
+
     fn held(&self) -> &[u8] {
         self.inner.held()
     }
 
     fn pass(&mut self, n: usize) {
         self.inner.pass(n);
+    }
+
+    fn note_truncated(&mut self) {
+        self.inner.note_truncated();
     }
 
     fn pull(&mut self, buf: &mut [u8]) -> Result<usize, Failed> {
@@ -71,7 +77,7 @@ fn three_records(alloc: Global) -> Result<Vec<u8>, AllocError> {
     Ok(bytes)
 }
 
-// A record that is at hand is the one that comes next, and stepping over it is no call.
+// A record at hand is the one that comes next, and stepping over it is no call.
 #[test]
 fn what_is_at_hand_comes_next(rt: HostRuntime) -> Result<(), Fail> {
     let bytes = three_records(rt.alloc())?;
@@ -104,7 +110,7 @@ fn what_is_at_hand_comes_next(rt: HostRuntime) -> Result<(), Fail> {
     Ok(())
 }
 
-// A part of a record is none, and neither is one whose head is wrong.
+// A part of a record is not at hand, and neither is one with a bad head.
 #[test]
 fn nothing_else_is_at_hand(rt: HostRuntime) -> Result<(), Fail> {
     let bytes = three_records(rt.alloc())?;
@@ -135,7 +141,81 @@ fn nothing_is_at_hand_without_a_buffer(rt: HostRuntime) -> Result<(), Fail> {
     Ok(())
 }
 
-// From a reader that gives all it is asked for.
+// Reads every record, those that are at hand there, and how many the feed noted of which the capture holds only the front.
+fn read_all<R: Feed, A: Abort>(rt: &A, r: &mut R, buf: &mut Vec<u8>) -> Result<usize, PcapError> {
+    let mut source = read_header(r)?;
+    let mut count = 0usize;
+    for _ in 0..5 {
+        match record_at_hand(r, &source) {
+            Some((_, len)) => pass_record(r, &mut source, len),
+            None => match next(rt, r, &mut source, buf)? {
+                Next::Record(_, _) => {}
+                _ => return Ok(count),
+            },
+        }
+        count = count.wrapping_add(1);
+    }
+    Ok(count)
+}
+
+// A record is truncated where its packet had more bytes than were captured, whether it is at hand or read in parts.
+#[test]
+fn truncated_records_are_counted(rt: HostRuntime) -> Result<(), Fail> {
+    let mut buf = vec![in rt.alloc(); 0u8; ROOM]?;
+    for (at, byte, wanted) in [
+        (36, 14, 0),
+        (36, 15, 1),
+        (37, 1, 1),
+        (36, 13, 0),
+        (66, 1, 1),
+        (69, 255, 1),
+    ] {
+        let mut bytes = three_records(rt.alloc())?;
+        assert!(rt; at < bytes.len());
+        bytes[at] = byte;
+        for room in [0usize, 16, 54, 146, 200] {
+            let inner = BufReader::with_capacity(rt.alloc(), room, bytes.as_slice())?;
+            let mut r = OfBufReader::new(inner);
+            assert_eq!(rt; read_all(&rt, &mut r, &mut buf), Ok(3), "{at} {room}");
+            assert_eq!(rt; r.truncated(), wanted, "{at} {room}");
+        }
+        let mut r = OfRead::new(bytes.as_slice());
+        assert_eq!(rt; read_all(&rt, &mut r, &mut buf), Ok(3), "{at}");
+        assert_eq!(rt; r.truncated(), wanted, "{at}");
+    }
+    Ok(())
+}
+
+// How many truncated records a feed counts in these bytes.
+fn truncated_in<A: Abort>(
+    rt: &A,
+    alloc: Global,
+    bytes: &[u8],
+    buf: &mut Vec<u8>,
+) -> Result<u64, Fail> {
+    let inner = BufReader::with_capacity(alloc, 256, bytes)?;
+    let mut r = OfBufReader::new(inner);
+    assert!(rt; read_all(rt, &mut r, buf).is_ok());
+    Ok(r.truncated())
+}
+
+// A record that ends before its captured bytes do was not read, so it is not counted.
+#[test]
+fn a_cut_record_is_not_truncated(rt: HostRuntime) -> Result<(), Fail> {
+    let mut buf = vec![in rt.alloc(); 0u8; ROOM]?;
+    let mut bytes = three_records(rt.alloc())?;
+    assert!(rt; bytes.len() == 146);
+    bytes[36] = 200;
+    bytes[82] = 200;
+    for (length, wanted) in [(146, 2), (145, 1), (86, 1), (54, 1), (53, 0), (24, 0)] {
+        let front = bytes.get(..length).expect(&rt, "bytes");
+        let counted = truncated_in(&rt, rt.alloc(), front, &mut buf)?;
+        assert_eq!(rt; counted, wanted, "{length}");
+    }
+    Ok(())
+}
+
+// A reader that gives all that it is asked for.
 #[test]
 fn a_call_a_piece(rt: HostRuntime) -> Result<(), Fail> {
     let bytes = three_records(rt.alloc())?;
@@ -167,7 +247,7 @@ fn a_call_a_piece(rt: HostRuntime) -> Result<(), Fail> {
     Ok(())
 }
 
-// Fails its first call alone, and counts them all.
+// Fails its first call only, and counts all calls.
 #[derive(Drop)]
 struct FailsOnce {
     count: usize,
@@ -183,7 +263,7 @@ impl Read for FailsOnce {
     }
 }
 
-// An interrupted read breaks the device, and the reader is not asked again.
+// An interrupted read breaks the device, and the reader is not called again.
 #[test]
 fn a_failed_reader_is_left_alone(rt: HostRuntime) -> Result<(), Fail> {
     let mut r = OfRead::new(FailsOnce { count: 0 });
@@ -194,7 +274,7 @@ fn a_failed_reader_is_left_alone(rt: HostRuntime) -> Result<(), Fail> {
     Ok(())
 }
 
-// Behind a buffer too.
+// The same with a buffer in between.
 #[test]
 fn a_failed_reader_behind_a_buffer_is_left_alone(rt: HostRuntime) -> Result<(), Fail> {
     let inner = BufReader::with_capacity(rt.alloc(), 64, FailsOnce { count: 0 })?;
@@ -250,7 +330,7 @@ impl Write for TakesNothing {
     }
 }
 
-// A writer that takes nothing has failed, and is not asked again.
+// A writer that takes nothing has failed, and is not called again.
 #[test]
 fn a_writer_that_takes_nothing_has_failed(rt: HostRuntime) -> Result<(), Fail> {
     let mut w = OfWrite::new(TakesNothing { count: 0 });
@@ -263,7 +343,58 @@ fn a_writer_that_takes_nothing_has_failed(rt: HostRuntime) -> Result<(), Fail> {
     Ok(())
 }
 
-// Takes at most so many bytes a call, and notes how many it was offered in each.
+// Fails its first call alone, and counts them all.
+#[derive(Drop)]
+struct RefusesOnce {
+    count: usize,
+}
+
+impl Write for RefusesOnce {
+    fn write(&mut self, buf: &[u8]) -> io::Result<usize> {
+        self.count = self.count.wrapping_add(1);
+        if self.count == 1 {
+            return Err(io::ErrorKind::BrokenPipe.into());
+        }
+        Ok(buf.len())
+    }
+
+    fn flush(&mut self) -> io::Result<()> {
+        Ok(())
+    }
+}
+
+// A failed write breaks the device, and the writer is not asked again.
+#[test]
+fn a_failed_writer_is_left_alone(rt: HostRuntime) -> Result<(), Fail> {
+    let mut w = OfWrite::new(RefusesOnce { count: 0 });
+    assert_eq!(rt; put_header(&mut w, Unit::Micro), Err(PcapError::Write));
+    assert_eq!(rt; put_header(&mut w, Unit::Micro), Err(PcapError::Write));
+    let RefusesOnce { count } = w.into_inner();
+    assert_eq!(rt; count, 1);
+    Ok(())
+}
+
+// Behind a buffer too, whether it is smaller than a piece or holds some.
+#[test]
+fn a_failed_writer_behind_a_buffer_is_left_alone(rt: HostRuntime) -> Result<(), Fail> {
+    for (room, sound) in [(0usize, 0usize), (8, 0), (25, 1), (60, 2)] {
+        let inner = BufWriter::with_capacity(rt.alloc(), room, RefusesOnce { count: 0 })?;
+        let mut w = OfBufWriter::new(inner);
+        for call in 0..5usize {
+            let wanted = if call < sound {
+                Ok(())
+            } else {
+                Err(PcapError::Write)
+            };
+            assert_eq!(rt; put_header(&mut w, Unit::Micro), wanted, "{room} {call}");
+        }
+        let inner = w.into_inner();
+        assert_eq!(rt; inner.get_ref().count, 1, "{room}");
+    }
+    Ok(())
+}
+
+// Takes at most a number of bytes a call, and records how many it was offered in each.
 #[derive(Drop)]
 struct Noting {
     most: usize,
@@ -283,7 +414,7 @@ impl Write for Noting {
     }
 }
 
-// The header, the record's head and its bytes are a piece each: a writer is offered a piece whole, and then what it left of it.
+// The header, the record's head and its bytes are one piece each: a writer is offered a whole piece, and then the rest of it.
 #[test]
 fn a_writer_is_offered_a_piece_and_then_its_rest(rt: HostRuntime) -> Result<(), Fail> {
     let bytes = hundred_bytes(rt.alloc())?;

@@ -1,6 +1,8 @@
-//! What is read of captures.
-use super::{MICRO_HEADER, ROOM, copied, hundred_bytes, next};
-use dp_pcap::{Failed, FailingFeed, Next, OfRead, OfWrite, PcapError, Time, Unit, read_header};
+//! Reading captures.
+use super::{MICRO_HEADER, NANO_HEADER, ROOM, copied, hundred_bytes, next};
+use dp_pcap::{
+    Failed, FailingFeed, Next, OfRead, OfWrite, PcapError, Time, Unit, link_type, read_header,
+};
 use std::io;
 use std::io::Read;
 use std::process::Abort;
@@ -55,7 +57,7 @@ fn reads_a_cut_capture(rt: HostRuntime) -> Result<(), Fail> {
     Ok(())
 }
 
-// A byte of the header is another.
+// One byte of the header is changed.
 #[test]
 fn refuses_headers(rt: HostRuntime) -> Result<(), Fail> {
     let rows = [
@@ -86,7 +88,25 @@ fn refuses_headers(rt: HostRuntime) -> Result<(), Fail> {
     Ok(())
 }
 
-// A fraction of 1,000,000, a length of 262,145, both of these, and the most that is taken.
+// The whole field, in the order of the capture; none without a magic number, or before the header's end.
+#[test]
+fn names_link_types(rt: HostRuntime) -> Result<(), Fail> {
+    let mut header = NANO_HEADER;
+    assert_eq!(rt; link_type(header.as_slice()), Some(1));
+    header[20] = 113;
+    header[23] = 4;
+    assert_eq!(rt; link_type(header.as_slice()), Some(0x0400_0071));
+    assert_eq!(rt; link_type(&header[..23]), None);
+    header[1] = 0;
+    assert_eq!(rt; link_type(header.as_slice()), None);
+    let big = [
+        0xa1u8, 0xb2, 0xc3, 0xd4, 0, 2, 0, 4, 0, 0, 0, 0, 0, 0, 0, 0, 0, 0, 0, 0, 0, 0, 1, 20, 0,
+    ];
+    assert_eq!(rt; link_type(big.as_slice()), Some(276));
+    Ok(())
+}
+
+// A fraction of 1,000,000, a length of 262,145, both of these, and the largest that are accepted.
 #[test]
 fn refuses_records(rt: HostRuntime) -> Result<(), Fail> {
     let mut buf = vec![in rt.alloc(); 0u8; ROOM]?;
@@ -122,7 +142,7 @@ fn refuses_records(rt: HostRuntime) -> Result<(), Fail> {
     Ok(())
 }
 
-// The longest record that is taken, whole.
+// The longest record that is accepted, whole.
 #[test]
 fn reads_the_longest_record(rt: HostRuntime) -> Result<(), Fail> {
     let mut buf = vec![in rt.alloc(); 0u8; ROOM]?;
@@ -209,7 +229,7 @@ fn readers_fail_anywhere(rt: HostRuntime) -> Result<(), Fail> {
     Ok(())
 }
 
-// 16,777,216 records of no bytes, and a byte more.
+// 16,777,216 records without bytes, and one byte more.
 #[test]
 fn counts_records(rt: HostRuntime) -> Result<(), Fail> {
     let mut buf = vec![in rt.alloc(); 0u8; ROOM]?;

@@ -1,4 +1,4 @@
-//! What is written of captures.
+//! Writing captures.
 use super::{MICRO_HEADER, NANO_HEADER, ROOM, copied, hundred_bytes};
 use dp_pcap::{
     FailingSink, OfBufReader, OfBufWriter, OfRead, OfWrite, PcapError, Time, Unit, put_bytes,
@@ -21,7 +21,7 @@ const BIG_NANO_HEADER: [u8; 24] = [
     0xa1, 0xb2, 0x3c, 0x4d, 0, 2, 0, 4, 0, 0, 0, 0, 0, 0, 0, 0, 0, 4, 0, 0, 0, 0, 0, 1,
 ];
 
-// One record in each of the four spellings is copied to the one of its unit that is written.
+// One record in each of the four spellings is copied to the written spelling of its unit.
 #[test]
 fn copies_all_spellings(rt: HostRuntime) -> Result<(), Fail> {
     let mut buf = vec![in rt.alloc(); 0u8; ROOM]?;
@@ -87,7 +87,7 @@ fn a_writer_fails_its_fifth_call(rt: HostRuntime) -> Result<(), Fail> {
     Ok(())
 }
 
-// The writer takes a few bytes a call and fails behind j bytes, for each j.
+// The writer takes a few bytes a call and fails after j bytes, for each j.
 #[test]
 fn writers_fail_anywhere(rt: HostRuntime) -> Result<(), Fail> {
     let bytes = hundred_bytes(rt.alloc())?;

@@ -1,4 +1,4 @@
--- What is read, and why not.
+-- What is read, and why it is not.
 use Rattle.std.proofs.Common.{◌≡◌, Ok, subst}
 use Rattle.dp_cert.specs.Reading.{Gives, cert_of}
 use Rattle.dp_cert.proofs.Found.{is_found}

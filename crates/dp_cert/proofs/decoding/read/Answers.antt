@@ -8,7 +8,7 @@ use Rattle.dp_cert.proofs.decoding.read.Goals as goal
 pub returns-in_default : goal.returns-in_default
 returns-in_default c = no_version c.args.n c.args.text.now (sym c.version_in.ensures ∙ c.in_default.is)
 
--- what stands behind the first line
+-- the bytes after the first line
 behind : (text : List ℕ) → take (length text - 11) (drop 11 text) ≡ drop 11 text
 behind text = take_all (length text - 11) (drop 11 text) (omega (arith, length-drop 11 text))
 

@@ -1,4 +1,4 @@
--- A line whose digits are bytes is the row that they spell, and no row where they are not.
+-- A line whose digits decode gives the row that they spell, or none.
 use Rattle.std.proofs.Common.{◌≡◌, true, rules, refl}
 use Rattle.dp_cert.specs.Reading.{is_line}
 use Rattle.dp_cert.proofs.Rows.{row_some, row_none}

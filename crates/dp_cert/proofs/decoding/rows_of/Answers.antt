@@ -1,4 +1,4 @@
--- Each line is one more row or the first fault, and a line too few or too many is a fault.
+-- Each line adds a row or is the first fault; a line too few or too many is a fault.
 use Rattle.std.proofs.Common.{◌≡◌, ◌<◌, ◌∙◌, take, drop, length, rules, arith}
 use Rattle.std.proofs.lemmas.Result.{err_from_is_err_and}
 use Rattle.dp_cert.proofs.Rows.{take_min, drop_min}

@@ -1,4 +1,4 @@
--- The spelling tells the rows.
+-- The spelling determines the rows.
 use Rattle.dp_cert.proofs.Again.{one_spelling}
 use Rattle.dp_cert.proofs.laws.certificates_have_one_spelling.Goals as goal
 

@@ -1,4 +1,4 @@
--- What is spelled is read again.
+-- What is spelled is read back.
 use Rattle.dp_cert.proofs.Again.{cert_again}
 use Rattle.dp_cert.proofs.laws.encoded_certificates_are_read_again.Goals as goal
 

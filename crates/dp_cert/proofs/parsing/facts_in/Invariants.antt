@@ -1,4 +1,4 @@
--- The facts so far, with those that are left to read, are those of the bytes.
+-- The facts so far and those to come are those of the bytes.
 use Rattle.std.proofs.Common.{◌≡◌, ◌++◌, ◌-◌, ◌*◌, take, drop, length}
 use Rattle.dp_cert.specs.Reading.{fact_in, parts_in}
 use Rattle.dp_cert.proofs.parsing.facts_in.Given as goal

@@ -1,4 +1,4 @@
--- The facts stand behind the first byte, and the bounds behind the facts.
+-- The facts follow the first byte, and the bounds follow the facts.
 use Rattle.std.proofs.Common.{arith, length, take, drop, ◌≡◌, ◌-◌, refl}
 use Rattle.std.proofs.lemmas.List.{take_all, length-drop}
 use Rattle.dp_cert.specs.Reading.{row_in}

@@ -1,4 +1,4 @@
--- What is left to test decides.
+-- The rest of the list decides.
 use Rattle.std.proofs.Common.{◌≡◌, drop}
 use Rattle.std.specs.Prelude.{nat_le}
 use Rattle.dp_model.specs.Rows.{at_each_index}

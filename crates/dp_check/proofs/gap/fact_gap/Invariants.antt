@@ -1,4 +1,4 @@
--- What is left to compare decides.
+-- The rest of the list decides.
 use Rattle.std.proofs.Common.{◌≡◌, drop}
 use Rattle.dp_model.specs.Rows.{at_each_index, entails_fact}
 use Rattle.dp_check.specs.Diagnoses.{first_weaker, first_failing}

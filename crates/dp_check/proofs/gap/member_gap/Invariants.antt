@@ -1,4 +1,4 @@
--- What is left to compare decides.
+-- The rest of the list decides.
 use Rattle.std.proofs.Common.{◌≡◌, drop}
 use Rattle.std.proofs.Math.Bool.{beq}
 use Rattle.dp_model.specs.Groups.{at_each_index, is_in}

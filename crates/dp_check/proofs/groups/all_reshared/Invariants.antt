@@ -1,4 +1,4 @@
--- So far the places have their shares.
+-- The indexes so far have their shares.
 use Rattle.std.proofs.Common.{◌≡◌, ◌++◌, take, drop, length, map}
 use Rattle.dp_model.specs.Groups.{reshared_fact}
 use Rattle.dp_check.proofs.groups.all_reshared.Given as goal

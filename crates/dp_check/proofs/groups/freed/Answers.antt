@@ -1,4 +1,4 @@
--- What is left of the group has its name.
+-- The rest of the group has its name.
 use Rattle.std.proofs.Common.{sym, ◌∙◌, ap}
 use Rattle.dp_model.specs.Rows.{renamed}
 use Rattle.dp_check.proofs.RowLemmas.{freed_some}

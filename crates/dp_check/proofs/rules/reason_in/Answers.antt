@@ -1,4 +1,4 @@
--- What each rule's part ensures.
+-- Each rule's function ensures its part.
 use Rattle.std.proofs.Common.{refl}
 use Rattle.dp_check.specs.Faults.{question}
 use Rattle.dp_check.proofs.rules.reason_in.Goals as goal

@@ -1,4 +1,4 @@
--- What is left to look at decides.
+-- The rest of the list decides.
 use Rattle.std.proofs.Common.{◌≡◌, not, drop}
 use Rattle.std.specs.List.{list_all, position_from}
 use Rattle.dp_model.specs.Rows.{is_empty}

@@ -1,4 +1,4 @@
--- The elements are gone through from the lowest offset.
+-- The walk starts at the lowest offset.
 use Rattle.std.proofs.Common.{rules, sym, ◌∙◌}
 use borrow.Author.Tests.{tests}
 use Rattle.std.proofs.lemmas.Iterator.Consumers.{YieldsList-from_first}

@@ -1,4 +1,4 @@
--- A line more is played.
+-- One more line runs.
 use Rattle.std.proofs.Common.{◌≡◌, ◌<◌, ℕ, Some, ap, length, suc, sym, ◌∙◌}
 use Rattle.std.specs.Prelude.{option_map}
 use Rattle.dp_cli.specs.Scripts.{lines_left, stage}

@@ -1,4 +1,4 @@
--- The lines so far were played.
+-- The lines so far ran.
 use Rattle.std.proofs.Common.{◌+◌, ◌<◌, ◌^◌, suc, length}
 use Rattle.std.specs.Prelude.{IfSome, option_map}
 use Rattle.std.specs.Option.{option_map_or}

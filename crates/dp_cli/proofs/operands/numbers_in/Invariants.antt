@@ -1,4 +1,4 @@
--- The numbers so far, and then those of the words that are left.
+-- The numbers so far, then those of the rest of the words.
 use Rattle.std.proofs.Common.{◌≡◌, map}
 use Rattle.dp_cli.specs.Operands.{ascending_in}
 use Rattle.dp_cli.proofs.Numbers.{continued, left}

@@ -1,14 +1,11 @@
--- What a traced run answered was told.
-use Rattle.std.proofs.Common.{Err, inl, map, ap, refl}
-use Rattle.dp_pipe.specs.declared.forwarding.RunCause.TheVariants.{Memory}
+-- The result of a traced run was reported.
 use Rattle.dp_cli.proofs.trace.trace_line.Goals as goal
 
-pub returns-in-Ok-clause-answer : goal.returns-in-Ok-clause-answer
-returns-in-Ok-clause-answer g c = record { answer = c.in-Ok.run'.answer; traced = c.in-Ok.ensures.traced; told = c.tell_trace.ensures.status }
-
-pub returns-in-Err-clause-answer : goal.returns-in-Err-clause-answer
-returns-in-Err-clause-answer g c = record {
-  answer = Err Memory;
-  traced = record { no_room = inl refl; untouched = λ early. ap (map g.R.Feed.remaining) (c.in-Err.ensures.untouched refl) };
-  told = c.tell_fault.ensures.status;
+pub returns : goal.returns
+returns g c = record {
+  answer = c.traced-run.result.answer;
+  traced = c.traced-run.ensures;
+  found = c.found_of-found.result;
+  is_found = c.found_of-found.ensures;
+  reported = c.report_trace.ensures;
 }

@@ -1,4 +1,4 @@
--- The nodes so far were told of, and no fault was told.
+-- The nodes so far were reported, and no fault was.
 use Rattle.std.proofs.Common.{◌≡◌, ◌⊎◌, ◌<◌, ℕ}
 use Rattle.dp_cli.specs.Judging.{EndedAt}
 use Rattle.dp_cli.proofs.verdicts.tell_all.Given as goal

@@ -1,4 +1,4 @@
--- The configuration of the text is that of which the nodes were asked.
+-- The configuration of the text is that whose nodes were asked about.
 use Rattle.std.proofs.Common.{None, Some, sym, subst, inr}
 use Rattle.dp_cli.specs.Judging.{IsPipelineTold}
 use Rattle.dp_cli.proofs.verdicts.tell_pipeline.Goals as goal

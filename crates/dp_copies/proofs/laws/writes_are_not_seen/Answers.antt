@@ -1,4 +1,4 @@
--- A step acts on the state with one step more, in which the same packets stand.
+-- A step acts on the state with one more step counted, which has the same packets.
 use Rattle.std.proofs.Common.{sym, subst}
 use Rattle.dp_model.specs.Machine.{with_step}
 use Rattle.dp_model.specs.Laws.Steps.{budget_keeps}

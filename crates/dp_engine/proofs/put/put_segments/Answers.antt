@@ -1,4 +1,4 @@
--- A record written segment by segment: the segment that is written is settled once, and each goal is one step from there.
+-- A record written segment by segment: the segment is derived once, and each goal is one step from there.
 use Rattle.std.proofs.Common.{◌≡◌, ◌+◌, length, Some, arith, rules, refl, append-nil, []}
 use Rattle.std.specs.Prelude.{slice_get}
 use Rattle.dp_model.specs.Packets.{Packet, Segment, packet_bytes, segment_bytes}

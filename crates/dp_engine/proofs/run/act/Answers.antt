@@ -14,7 +14,7 @@ returns-clause-acts c =
     } in
     allocates_to S c.args.label c.args.m.now c.alloc.new.self c.args.instr.now c.in-Alloc-by_instr.into c.in-Alloc-by_instr.pool c.in-Alloc-by_instr.refused _
     c.alloc.result
-    c.in-Alloc-by_instr.is c.requires.has did c.branch-alloc.ensures
+    c.in-Alloc-by_instr.is c.requires.has did c.branch-alloc.ensures.leads
 
 pub returns-2-clause-acts : goal.returns-2-clause-acts
 returns-2-clause-acts c =
@@ -26,7 +26,7 @@ returns-2-clause-acts c =
     } in
     clones_to S c.args.label c.args.m.now c.clone_of.new.self c.args.instr.now c.in-Clone-by_instr.into c.in-Clone-by_instr.from c.in-Clone-by_instr.pool
     c.in-Clone-by_instr.refused _
-    c.clone_of.result c.in-Clone-by_instr.is c.requires.has did c.branch-clone_of.ensures
+    c.clone_of.result c.in-Clone-by_instr.is c.requires.has did c.branch-clone_of.ensures.leads
 
 pub overflow_cast-number : goal.overflow_cast-number
 overflow_cast-number c =
@@ -52,7 +52,7 @@ returns-7-clause-acts c =
     } in
     sends_to (setting_of c.args.env.now c.args.tables.now c.args.pattern.now) c.args.label c.args.m.now c.send.new.self c.args.instr.now c.in-Tx-by_instr.packet
     c.in-Tx-by_instr.port c.in-Tx-by_instr.full c.number-3.result _ c.send.result c.requires.fits c.in-Tx-by_instr.is c.number-3.ensures c.requires.has did
-    c.branch-send.ensures
+    c.branch-send.ensures.leads
 
 pub enqueue-requires-clause-there : goal.enqueue-requires-clause-there
 enqueue-requires-clause-there c =
@@ -69,7 +69,7 @@ returns-8-clause-acts c =
     } in
     queues_to (setting_of c.args.env.now c.args.tables.now c.args.pattern.now) c.args.label c.args.m.now c.enqueue.new.self c.args.instr.now
     c.in-Enq-by_instr.packet
-    c.in-Enq-by_instr.ring c.in-Enq-by_instr.full _ c.enqueue.result c.requires.fits c.in-Enq-by_instr.is c.requires.has did c.branch-enqueue.ensures
+    c.in-Enq-by_instr.ring c.in-Enq-by_instr.full _ c.enqueue.result c.requires.fits c.in-Enq-by_instr.is c.requires.has did c.branch-enqueue.ensures.leads
 
 pub hop_in-requires : goal.hop_in-requires
 hop_in-requires c =

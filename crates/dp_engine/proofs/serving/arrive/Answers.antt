@@ -1,5 +1,4 @@
--- A record at a port: what is known of the port, of what is received and of the node run on it is settled once, and each goal is one
--- step from there.
+-- A record at a port: what is known of the port, of what is received and of the node run on it is derived once, and each goal is one step from there.
 use Rattle.std.proofs.Common.{◌≡◌, ◌≤◌, ℕ, Bool, false, List, [], ◌∷◌, length, refl, sym, ◌∙◌, ap, subst, arith}
 use Rattle.std.specs.Prelude.{slice_index_or}
 use Rattle.dp_model.specs.declared.env.PortSpec.{PortSpec}
@@ -10,6 +9,12 @@ use Rattle.dp_model.specs.Runs.{Got, Receives}
 use Rattle.dp_engine.specs.Handles.{Core}
 use Rattle.dp_engine.specs.Steps.{setting_of, FitsIn, CanRun, Runs}
 use Rattle.dp_engine.proofs.Served.{AtPort, Received, setting_is, at_port, received_with, received_is}
+use Rattle.dp_model.specs.declared.env.Entry.TheVariants.{Port}
+use Rattle.dp_model.specs.Machine.{Ended}
+use Rattle.dp_engine.specs.Midway.{Watches}
+use Rattle.dp_engine.specs.Watching.{Began}
+use Rattle.dp_engine.proofs.Shown.{received_shows}
+use Rattle.dp_engine.proofs.Turning.{port_small}
 use Rattle.dp_engine.proofs.serving.arrive.Goals as goal
 use Rattle.dp_engine.proofs.serving.arrive.Goals.{After-from, After-pattern, After-tables, After-run}
 
@@ -90,6 +95,9 @@ returns-then-not-receive-clause-arrives g c =
       (spec_of c.ports.result.now c.from.result, at.program, at.spec_is, at.program_is, (fits g here.After-pattern, sym denied, refl, world)),
     )
 
+pub begin-requires : goal.begin-requires
+begin-requires g c = port_small c.args.plan.now c.args.port c.env-env.ensures.pipeline c.requires.exists
+
 pub run-requires-clause-sound : goal.run-requires-clause-sound
 run-requires-clause-sound g c =
     let here = goal.at.run-requires-clause-sound g c in
@@ -125,3 +133,62 @@ returns-clause-rests g c =
       rest = c.env-env.ensures.safe.arrives c.port_program-program.result.now c.args.port (spec_of c.ports.result.now c.from.result) c.args.bytes.now
           c.args.m.now.state.world c.run.new.m.state.world Got answers c.port_program-program.ensures.same at.spec_is c.requires.rests.rest receives;
     }
+
+pub returns-then-needed-spec-clause-watched : goal.returns-then-needed-spec-clause-watched
+returns-then-needed-spec-clause-watched g c =
+    let at = there g (goal.at.returns-then-needed-spec-clause-watched g c).After-from in
+    let pools = c.pools.ensures.same ∙ ap (λ (x : Environment). x.pools) c.env-env.ensures.same in
+    let need : c.needed.result ≡ segments_needed c.args.plan.now.setting.env.pools (spec_of c.ports.result.now c.from.result).pool (length c.args.bytes.now)
+    = rw pools at c.needed.ensures in
+    record {
+      answers = [];
+      events = [];
+      shows = (
+        spec_of c.ports.result.now c.from.result,
+        at.program,
+        at.spec_is,
+        at.program_is,
+        (omega (arith, need, c.if-needed-spec.true), refl, refl),
+        refl,
+      );
+      seen = refl;
+    }
+
+pub returns-then-not-receive-clause-watched : goal.returns-then-not-receive-clause-watched
+returns-then-not-receive-clause-watched g c =
+    let here = goal.at.returns-then-not-receive-clause-watched g c in
+    let at = there g here.After-from in
+    let denied = rw (c.env-env.ensures.same, c.pattern.ensures) at c.if-not-receive.ensures.denied in
+    let world = ap (λ (x : Core). x.state.world) (c.if-not-receive.ensures.refused refl) in
+    record {
+      answers = false ∷ [];
+      events = [];
+      shows = (
+        spec_of c.ports.result.now c.from.result,
+        at.program,
+        at.spec_is,
+        at.program_is,
+        (fits g here.After-pattern, sym denied, refl, world),
+        refl,
+      );
+      seen = refl;
+    }
+
+pub returns-clause-watched : goal.returns-clause-watched
+returns-clause-watched g c =
+    let here = goal.at.returns-clause-watched g c in
+    let p = c.args.plan.now in
+    let spec = spec_of c.ports.result.now c.from.result in
+    let program = c.port_program-program.result.now in
+    let s1 = c.receive.new.self.state in
+    let at = there g here.After-from in
+    let setting = setting_is p.setting c.env-env.result.now c.tables.result.now c.pattern-2.result.now c.env-env.ensures.same c.tables.ensures
+    c.pattern-2.ensures in
+    let denied = rw (c.env-env.ensures.same, c.pattern.ensures) at c.if-not-receive.ensures.denied in
+    let got = received_with p.setting (setting_of c.env-env.result.now [] c.pattern.result.now) spec.pool c.args.port c.args.bytes.now
+    c.args.m.now.state.world s1 c.env-env.ensures.same (c.if-not-receive.ensures.received refl) in
+    let watched = subst (λ (x : Setting). Watches g.W.Watch.sees c.begin.new.self c.run.new.watch x program s1 Ended c.run.new.m.state) setting
+    c.run.ensures.watched in
+    let begun = subst (λ (x : Core). g.W.Watch.sees c.args.watch.now (Began (Port c.args.port) x.state) c.begin.new.self) c.of.ensures c.begin.ensures in
+    received_shows g.W.Watch.sees c.args.watch.now c.begin.new.self c.run.new.watch p program c.args.port spec c.args.bytes.now c.args.m.now.state.world s1
+    c.run.new.m.state at.spec_is c.port_program-program.ensures.same (fits g here.After-pattern) (sym denied) got begun watched

@@ -1,4 +1,4 @@
--- The zones of an engine, laid out: what they take in all, and what is left below each, is settled once, and each goal follows from that.
+-- The zones of an engine, laid out: what they take in all, and what is left below each, is derived once, and each goal follows from that.
 use Rattle.std.proofs.Common.{◌≡◌, ℕ, ◌+◌, ◌-◌, ◌*◌, ◌≤◌, List, length, map, take, get_or, sym, ap, subst, ◌∙◌, arith}
 use Rattle.std.specs.List.{AllByRecursion}
 use Rattle.std.proofs.lemmas.List.{length-take-le}
@@ -14,7 +14,7 @@ use Rattle.dp_engine.proofs.Plans.{IsPlan, plan, some_pools, laid_out, rings_of,
 use Rattle.dp_engine.proofs.space.lay_out.Goals as goal
 use Rattle.dp_engine.proofs.space.lay_out.Goals.{After-power_above, After-as_slice, After-as_slice-2}
 
--- how many slots the transmit lists and the rings have
+-- the slots of the transmit lists and the rings
 lists_are : (c : After-power_above) → c.list_counts-lists.result.items ≡ list_counts c.args.env.now
 lists_are c = c.list_counts-lists.ensures ∙ ap (λ (xs : List PortSpec). map (λ x. x.queue) xs) c.ports.ensures
 

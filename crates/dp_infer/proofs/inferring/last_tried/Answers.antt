@@ -1,4 +1,4 @@
--- What is found says most, and where it fails, all do.
+-- The certificate that is found says most, and where it fails, all do.
 use Rattle.std.proofs.Common.{ap}
 use Rattle.dp_cert.specs.Spelling.{Certificate}
 use Rattle.dp_infer.proofs.Infers.{most_of, none_of, most_anyway, if_any}

@@ -1,4 +1,4 @@
--- There are as many rows as instructions, and there stay so many.
+-- There are as many rows as instructions, before and after.
 use Rattle.std.proofs.Common.{length, ap, sym, ◌∙◌}
 use Rattle.std.proofs.lemmas.List.{with_items_is}
 use Rattle.dp_cert.specs.Spelling.{Certificate}

@@ -1,4 +1,4 @@
--- What is left of the program does the rest.
+-- The rest of the program completes the pass.
 use Rattle.std.proofs.Common.{◌≡◌, IsTrue, drop}
 use Rattle.std.specs.List.{list_all}
 use Rattle.dp_model.specs.Rows.{is_well_formed_row}

@@ -1,4 +1,4 @@
--- So far the places are paired.
+-- The indexes so far are paired.
 use Rattle.std.proofs.Common.{◌≡◌, ◌++◌, max, take, drop, length}
 use Rattle.dp_infer.specs.Joins as spec
 use Rattle.dp_infer.proofs.join.greater_bounds.Given as goal

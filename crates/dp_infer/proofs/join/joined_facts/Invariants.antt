@@ -1,4 +1,4 @@
--- So far the places are done.
+-- The indexes so far are done.
 use Rattle.std.proofs.Common.{◌≡◌, ◌++◌, take, drop, length, map}
 use Rattle.dp_infer.specs.Joins as spec
 use Rattle.dp_infer.proofs.join.joined_facts.Given as goal

@@ -1,4 +1,4 @@
--- The bounds so far, and those that are left.
+-- The bounds so far, and the rest.
 use Rattle.std.proofs.Common.{◌≡◌, drop}
 use Rattle.dp_model.specs.Arithmetic.{greatest}
 use Rattle.dp_infer.specs.Settling.{bound_from}

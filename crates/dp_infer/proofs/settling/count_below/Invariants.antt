@@ -1,4 +1,4 @@
--- The counts so far, and those that are left.
+-- The counts so far, and the rest.
 use Rattle.std.proofs.Common.{◌≡◌, drop}
 use Rattle.dp_infer.specs.Settling.{count_from}
 use Rattle.dp_infer.proofs.settling.count_below.Given as goal

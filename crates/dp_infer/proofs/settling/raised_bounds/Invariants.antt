@@ -1,4 +1,4 @@
--- So far the places are done.
+-- The indexes so far are done.
 use Rattle.std.proofs.Common.{◌≡◌, ◌++◌, take, drop, length}
 use Rattle.dp_infer.specs.Joins.{paired}
 use Rattle.dp_infer.specs.Settling as spec

@@ -1,4 +1,4 @@
--- The passes that are left do the rest. Rows stay as many, and well formed.
+-- The remaining passes complete the result. The number of rows stays, and so does their form.
 use Rattle.std.proofs.Common.{◌≡◌, ◌-◌, length, IsTrue}
 use Rattle.std.specs.List.{list_all}
 use Rattle.dp_model.specs.Rows.{is_well_formed_row}

@@ -1,4 +1,4 @@
--- What is left of the program does the rest. Rows stay as many, and well formed.
+-- The rest of the program completes the pass. The number of rows stays, and so does their form.
 use Rattle.std.proofs.Common.{◌≡◌, length, drop, IsTrue}
 use Rattle.std.specs.List.{list_all}
 use Rattle.dp_model.specs.Rows.{is_well_formed_row}

@@ -1,4 +1,4 @@
--- `pieces`: a line is cut into one piece at least.
+-- `pieces`: a line has at least one piece.
 use Rattle.std.proofs.Common.{◌≡◌, ◌<◌, ℕ, Bool, List, length, map, Result, Ok, Err, Bor, ap, arith}
 use Rattle.std.specs.Prelude.{IfOk}
 use Rattle.std.specs.Global.{Vec}

@@ -1,4 +1,4 @@
--- `trim_start`: what is left is trimmed alike.
+-- `trim_start`: trimming the rest gives the same.
 use Rattle.std.proofs.Common.{◌≡◌, length}
 use Rattle.dp_lang.specs.Lines as spec
 use Rattle.dp_lang.proofs.lines.trim_start.Given as goal

@@ -1,4 +1,4 @@
--- `print`: the instructions so far are printed, and the rest is left.
+-- `print`: the instructions so far are printed, and the rest is to come.
 use Rattle.std.proofs.Common.{◌≡◌, ◌++◌, drop, string_bytes}
 use Rattle.dp_lang.specs.Printing.{printed_from, printed}
 use Rattle.dp_lang.proofs.printer.print.Given as goal

@@ -1,4 +1,4 @@
--- `push_arguments`: the operands so far are printed, and the rest is left.
+-- `push_arguments`: the operands so far are printed, and the rest is to come.
 use Rattle.std.proofs.Common.{◌≡◌, [], ◌∷◌, ◌++◌, drop, map, string_bytes}
 use Rattle.std.specs.Prelude.{encode_utf8}
 use Rattle.dp_lang.specs.Views.{numbered}

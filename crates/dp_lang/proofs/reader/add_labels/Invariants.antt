@@ -1,4 +1,4 @@
--- `add_labels`: the labels so far, and the pieces that are left.
+-- `add_labels`: the labels so far, and the rest of the pieces.
 use Rattle.std.proofs.Common.{◌≡◌, drop, map}
 use Rattle.dp_lang.specs.Lines.{trim_start}
 use Rattle.dp_lang.specs.Reading.{labels_after}

@@ -1,4 +1,4 @@
--- `each_argument`: the operands so far, and the parts that are left.
+-- `each_argument`: the operands so far, and the rest of the parts.
 use Rattle.std.proofs.Common.{◌≡◌, drop, map}
 use Rattle.dp_lang.specs.Reading.{each_argument}
 use Rattle.dp_lang.specs.Views.{argument}

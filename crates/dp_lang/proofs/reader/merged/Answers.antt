@@ -1,4 +1,4 @@
--- `merged`: the least of both errors.
+-- `merged`: the lesser of both errors.
 use Rattle.dp_lang.proofs.LineErrors.{both_stop}
 use Rattle.dp_lang.proofs.reader.merged.Goals as goal
 

@@ -1,4 +1,4 @@
--- `instr_of`: what is built of the operands spells the statement.
+-- `instr_of`: the instruction built from the operands spells the statement.
 use Rattle.std.proofs.Common.{rules, ◌≡◌, Some, None, refl, sym, ◌∙◌, map}
 use Rattle.dp_lang.specs.Fields.{label_in}
 use Rattle.dp_lang.specs.Forms.{kinds_of, spelled}

@@ -1,4 +1,4 @@
--- `instrs_of`: the statements so far, and those that are left.
+-- `instrs_of`: the statements so far, and the rest.
 use Rattle.std.proofs.Common.{◌≡◌, drop, map}
 use Rattle.dp_lang.specs.Reading.{all_statements, target_in}
 use Rattle.dp_lang.specs.Forms.{spelled}

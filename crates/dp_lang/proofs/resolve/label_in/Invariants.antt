@@ -1,4 +1,4 @@
--- `label_in`: the label of all operands is that of the ones that are left.
+-- `label_in`: the label of all operands is that of the rest.
 use Rattle.std.proofs.Common.{◌≡◌, drop}
 use Rattle.dp_lang.specs.Fields.{label_in}
 use Rattle.dp_lang.specs.Reading.{target_in}

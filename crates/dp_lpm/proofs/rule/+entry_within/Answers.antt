@@ -1,4 +1,4 @@
--- The rule of the depth, or else those of the depths below.
+-- The rule of this depth, or else those of smaller depths.
 use Rattle.std.proofs.Common.{sym, ◌∙◌, ap, subst, arith}
 use Rattle.dp_lpm.specs.Routes.{deepest_within}
 use Rattle.dp_lpm.specs.Rules.{routes_of, entry_of, IsFound, IsMissing}

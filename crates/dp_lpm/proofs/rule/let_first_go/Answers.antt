@@ -1,4 +1,4 @@
--- The next part goes down, and at last all of them have.
+-- The next part moves down, until all have.
 use Rattle.std.proofs.Common.{rules, ◌≡◌, ◌+◌, ◌-◌, ◌<◌, ◌≤◌, length, drop, sym, ◌∙◌, ap, subst, arith}
 use Rattle.std.proofs.Math.Seq.{paste}
 use borrow.Rule.Slice.PartMut.{put_mid, mid_of}

@@ -1,4 +1,4 @@
--- The rules that went down so far, and the others.
+-- The rules that moved down so far, and the others.
 use Rattle.std.proofs.Common.{◌-◌}
 use Rattle.dp_lpm.proofs.Removing.{GoneDown}
 use Rattle.dp_lpm.proofs.rule.let_first_go.Given as goal

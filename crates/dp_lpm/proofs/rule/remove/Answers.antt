@@ -1,4 +1,4 @@
--- The rules in front, and those behind one index down.
+-- The rules before the index, and those after it moved down by one.
 use Rattle.std.proofs.Common.{suc, ◌-◌, ◌++◌, ◌<◌, take, drop, length, ap, sym, ◌∙◌, arith}
 use Rattle.std.proofs.lemmas.List.{with_items_is}
 use borrow.Rule.Slice.PartMut.{put_mid, same_len_mid}

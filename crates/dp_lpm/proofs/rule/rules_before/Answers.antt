@@ -1,4 +1,4 @@
--- The rules that come before are those in front of the answer.
+-- The rules that come before are those below the returned index.
 use Rattle.std.proofs.Common.{arith, rules}
 use Rattle.std.specs.Prelude.{nat_lt}
 use Rattle.std.proofs.lemmas.Bool.{ltb-true, ltb-false}

@@ -1,4 +1,4 @@
--- The four little bytes of a count of references are its two words.
+-- The four little-endian bytes of a count of references are its two words.
 use Rattle.std.proofs.Common.{◌∙◌}
 use Rattle.dp_mbuf.proofs.HeaderFields.{refs_bytes}
 use Rattle.dp_mbuf.proofs.header.bytes_of_refs.Goals as goal

@@ -1,4 +1,4 @@
--- The fields stand where the definition of a header reads them.
+-- The fields lie where the definition of a header reads them.
 use Rattle.std.proofs.Common.{rules}
 use Rattle.dp_mbuf.specs.Headers.{header_of}
 use Rattle.dp_mbuf.proofs.header.read_header.Goals as goal

@@ -1,4 +1,4 @@
--- Two words that are written one behind the other are written at once.
+-- Two words written one after the other are one write.
 use Rattle.std.proofs.Common.{◌+◌, ◌∙◌, [], ap}
 use Rattle.dp_model.specs.Buffers.{overwritten}
 use Rattle.dp_mbuf.specs.Headers.{then_word}

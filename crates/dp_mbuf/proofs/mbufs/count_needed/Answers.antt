@@ -1,4 +1,4 @@
--- Rounding up is adding all but one before.
+-- Rounding a division up.
 use Rattle.std.proofs.Common.{◌≡◌, ap, arith, ◌∙◌}
 use Rattle.std.specs.Prelude.{max}
 use Rattle.dp_mbuf.proofs.Parting.{parts_are}

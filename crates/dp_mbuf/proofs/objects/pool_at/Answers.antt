@@ -1,4 +1,4 @@
--- The pool stands in its slot, since it is present.
+-- The slot has a pool, since it exists.
 use Rattle.std.proofs.Common.{◌≡◌, sym, subst, arith}
 use Rattle.dp_mbuf.specs.Objects.{present, pool_in, HasRooms}
 use Rattle.dp_mbuf.proofs.ObjectLemmas.{present_at, present_below, first_at}

@@ -1,4 +1,4 @@
--- One object more with each step, which begins with zeros.
+-- Each step marks one object more.
 use Rattle.std.proofs.Common.{arith}
 use Rattle.dp_mbuf.proofs.Unhooking.{unhooked_more}
 use Rattle.dp_mbuf.proofs.objects.unhook_objects.Goals as goal

@@ -1,4 +1,4 @@
--- The buffer of the segment has one more reference, and a new mbuf has its header.
+-- The segment's buffer has one reference more, and a new mbuf has its header.
 use Rattle.std.proofs.Common.{◌∙◌}
 use Rattle.dp_mbuf.proofs.InHand.{object_after}
 use Rattle.dp_mbuf.proofs.steps.clone_segment.Goals as goal

@@ -1,4 +1,4 @@
--- As many bytes as fit are written in a new mbuf.
+-- As many bytes as fit are written into a new mbuf.
 use Rattle.std.proofs.Common.{◌≡◌, ◌∙◌, ap, subst, take, length}
 use Rattle.std.proofs.lemmas.List.{take_min}
 use Rattle.dp_mbuf.specs.Steps.{FilledBy}

@@ -1,4 +1,4 @@
--- The buffer is there still when the mbuf is put back.
+-- The buffer still exists when the mbuf is put back.
 use Rattle.dp_mbuf.proofs.InHand.{object_after}
 use Rattle.dp_mbuf.proofs.steps.release.Goals as goal
 

@@ -17,4 +17,5 @@ loop-at-preserved g c =
       stays = λ h. search rules;
       counted = omega (arith, pulled.counted);
       failures = omega arith;
+      noted = omega arith;
     }

@@ -1,6 +1,6 @@
--- `look`: the reader gave a record's head whole, and then bytes behind it, or it failed inside them.
+-- `look`: the reader gave a record's head whole, and then bytes after it, or it failed inside them.
 use Rattle.std.proofs.Common.{rules, arith, take, length-take}
-use Rattle.dp_pcap.proofs.Known.{fails_in_body, two_reads, as_it_was}
+use Rattle.dp_pcap.proofs.Known.{fails_in_body, noted, two_reads, as_it_was}
 use Rattle.dp_pcap.proofs.reading.look.Goals as goal
 
 pub returns-in_default-fill-clause-answer : goal.returns-in_default-fill-clause-answer
@@ -44,7 +44,8 @@ returns-then-came-len-clause-behind g c =
 
 pub returns-clause-ahead : goal.returns-clause-ahead
 returns-clause-ahead g c =
-    two_reads _ _ _ (take c.in-Ok.got c.fill.new.buf) (take c.in-Ok-fill.came c.fill-2.new.buf) _ c.in-Ok.ensures.bytes.0 c.in-Ok-fill.ensures.bytes.0
+    rw c.note.ensures.bytes
+    (two_reads _ _ _ (take c.in-Ok.got c.fill.new.buf) (take c.in-Ok-fill.came c.fill-2.new.buf) _ c.in-Ok.ensures.bytes.0 c.in-Ok-fill.ensures.bytes.0
     (omega (
       arith,
       length-take c.in-Ok.got c.fill.new.buf,
@@ -52,4 +53,10 @@ returns-clause-ahead g c =
       length-take c.in-Ok-fill.came c.fill-2.new.buf,
       c.fill-2.auto.buf,
       length-take c.in_ok-time.len c.args.buf.now,
-    ))
+    )))
+
+pub returns-clause-truncated : goal.returns-clause-truncated
+returns-clause-truncated g c =
+    rw c.note.ensures.bytes
+    (noted _ _ _ _ c.fill.new.buf (take c.in-Ok-fill.came c.fill-2.new.buf) c.in-Ok.got _ _ c.in-Ok.ensures.bytes.0 (search rules) (search rules)
+    c.in-Ok-fill.ensures.bytes.0 (search rules))

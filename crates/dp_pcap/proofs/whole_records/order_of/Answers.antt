@@ -1,4 +1,4 @@
--- The version tells the order.
+-- The version decides the byte order.
 use Rattle.std.proofs.Common.{◌≡◌, ◌-◌, ◌∙◌, ap, arith, drop, length, length-drop, sym, take_all}
 use Rattle.dp_pcap.specs.declared.byte_order.Order.TheVariants.{Big}
 use Rattle.dp_pcap.specs.Capture.{number}

@@ -1,4 +1,4 @@
--- `env_of`: what the setup gives is what the environment is made of.
+-- `env_of`: the environment is made of what the setup has.
 use Rattle.std.proofs.Common.{◌∙◌, refl, sym, ap}
 use Rattle.dp_model.specs.Environments.{fault_of}
 use Rattle.dp_pipe.proofs.Environments.{same_environment}

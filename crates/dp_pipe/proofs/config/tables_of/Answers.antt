@@ -1,4 +1,4 @@
--- `tables_of`: one table more, and the first that is not filled.
+-- `tables_of`: one more table, and the first that is not filled.
 use Rattle.std.proofs.Common.{sym}
 use Rattle.std.proofs.lemmas.List.Elements.{All-push}
 use Rattle.std.proofs.lemmas.Result.{err_from_is_err_and}

@@ -1,4 +1,4 @@
--- `tables_of`: the tables so far hold their routes, and no hop of theirs is too great.
+-- `tables_of`: the tables so far have their routes, and none of their hops is too great.
 use Rattle.std.proofs.Common.{take, map}
 use Rattle.std.specs.List.{All}
 use Rattle.dp_pipe.specs.Config.{HoldAll}

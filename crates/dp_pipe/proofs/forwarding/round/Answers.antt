@@ -1,21 +1,26 @@
--- `round`: one input more, and the first at which the run stops. Each call is opened once, at the input that is asked.
-use Rattle.std.proofs.Common.{rules, ◌≡◌, ℕ, List, Option, Result, Ok, Err, length, map, sym, ap, ◌∙◌, arith}
+-- `round`: one more input, and the first at which the run stops. Each call is derived once, at the input that is asked.
+use Rattle.std.proofs.Common.{rules, ◌≡◌, ◌≤◌, ℕ, List, Result, Ok, Err, length, map, sym, ap, ◌∙◌, arith}
 use Rattle.std.specs.Prelude.{slice_index_or, slice_set, ⊤}
 use Rattle.std.proofs.lemmas.Option.{slice_get-get_or}
 use Rattle.std.proofs.lemmas.List.{length-set}
+use Rattle.dp_pcap.specs.declared.format.TheConstants.{LARGEST_RECORD}
 use Rattle.dp_engine.specs.Engines.{EngineState}
 use Rattle.dp_pipe.specs.declared.forwarding.RunCause.{RunCause}
-use Rattle.dp_pipe.specs.Devices.{AllFared, AllSound, failed_reader, failed_writer}
+use Rattle.dp_pipe.specs.Devices.{Device, seen, transfer, AllFared, AllSound, failed_reader, failed_writer}
 use Rattle.dp_pipe.specs.Forwarding.{Input, Along}
+use Rattle.dp_pipe.specs.Watched.{ShowsTurns}
+use Rattle.dp_pipe.proofs.Watched.{shown_on}
 use Rattle.dp_pipe.proofs.Faring.{reader_then, writers_then}
 use Rattle.dp_pipe.proofs.Rounding.{Comes, there_now, many_now, counted_now, open_now, limit_now, asked_on, asked_stops, round_over}
 use Rattle.dp_pipe.proofs.forwarding.round.Goals as goal
 use Rattle.dp_pipe.proofs.forwarding.round.Goals.{After-index-ins-k, After-ask}
 
--- the input of the port and its reader, where the run goes along
-opened : (g : _) (c : After-index-ins-k g) (e0 : EngineState) (olds held : List (Option (List ℕ))) (read : List Input) (k : ℕ)
-    → Along c.args.unit e0 c.args.engine.now olds (map g.R.Feed.remaining c.args.ins.now) held (map g.W.Sink.contents c.args.outs.now) c.args.inputs.now read k
-    0 → Comes g.R.Feed.remaining g.W.Sink.contents c.args.unit e0 c.loop-port.engine olds held c.loop-port.ins c.loop-port.outs c.loop-port.inputs k
+-- the input of the port and its reader, where the run continues
+opened : (g : _) (c : After-index-ins-k g) (e0 : EngineState) (olds held : List Device) (read : List Input) (k : ℕ)
+    → Along c.args.unit e0 c.args.engine.now (transfer olds (map (seen g.R.Feed.remaining g.R.Feed.calls) c.args.ins.now) held (map
+    (seen g.W.Sink.contents g.W.Sink.calls) c.args.outs.now)) c.args.inputs.now read k
+    0 → Comes (seen g.R.Feed.remaining g.R.Feed.calls) (seen g.W.Sink.contents g.W.Sink.calls) c.args.unit e0 c.loop-port.engine olds held c.loop-port.ins
+    c.loop-port.outs c.loop-port.inputs k
     c.loop-port.port (slice_index_or c.loop-port.inputs c.loop-port.port c.index-inputs-k.result)
     (slice_index_or c.loop-port.ins c.loop-port.port c.index-ins-k.result)
 opened g c e0 olds held read k start =
@@ -35,12 +40,13 @@ opened g c e0 olds held read k start =
     }
 
 -- the same, of the run that there is
-found : (g : _) (c : After-index-ins-k g) → Comes g.R.Feed.remaining g.W.Sink.contents c.args.unit c.requires.along.0 c.loop-port.engine c.requires.along.1
+found : (g : _) (c : After-index-ins-k g) → Comes (seen g.R.Feed.remaining g.R.Feed.calls)
+    (seen g.W.Sink.contents g.W.Sink.calls) c.args.unit c.requires.along.0 c.loop-port.engine c.requires.along.1
     c.requires.along.2 c.loop-port.ins c.loop-port.outs c.loop-port.inputs c.requires.along.4 c.loop-port.port
     (slice_index_or c.loop-port.inputs c.loop-port.port c.index-inputs-k.result) (slice_index_or c.loop-port.ins c.loop-port.port c.index-ins-k.result)
 found g c = opened g c _ _ _ _ _ c.requires.along.5
 
--- how the devices fared, by what was answered
+-- how the devices are after each result
 readers : (g : _) (c : After-ask g) (given : Result ⊤ RunCause) → c.ask.result ≡ given
     → AllFared g.R.Feed.is_broken g.R.Feed.failures (failed_reader given) c.args.ins.now (slice_set c.loop-port.ins c.loop-port.port c.ask.new.r)
 readers g c given is =
@@ -56,24 +62,24 @@ writers g c given is =
     writers_then g.W.Sink.is_broken g.W.Sink.failures c.ask.result given c.args.outs.now c.loop-port.outs c.ask.new.outs inv.outs inv.writers
     c.ask.ensures.fared_writers is
 
--- what is answered where the run stops
+-- what was shown, by what was answered
+shown : (g : _) (c : After-ask g) (given : Result ⊤ RunCause) → c.ask.result ≡ given
+    → ShowsTurns g.V.Watch.sees c.args.watch.now c.ask.new.watch c.args.engine.now c.ask.new.engine given
+shown g c given is =
+    shown_on g.V.Watch.sees c.args.watch.now c.loop-port.watch c.ask.new.watch c.args.engine.now c.loop-port.engine c.ask.new.engine c.ask.result given is
+    c.loop-port.invariant.shown c.ask.ensures.shown
+
+-- the result where the run stops
 gone : (g : _) (c : goal.After-from_residual g) → c.from_residual.result ≡ Err c.in_err-ask.field-0.0
 gone g c = search rules
 
-pub ask-requires-clause-exists : goal.ask-requires-clause-exists
-ask-requires-clause-exists g c = there_now (found g (goal.at.ask-requires-clause-exists g c).After-index-ins-k)
-
-pub ask-requires-clause-many : goal.ask-requires-clause-many
-ask-requires-clause-many g c = many_now (found g (goal.at.ask-requires-clause-many g c).After-index-ins-k)
-
-pub ask-requires-clause-counted : goal.ask-requires-clause-counted
-ask-requires-clause-counted g c = counted_now (found g (goal.at.ask-requires-clause-counted g c).After-index-ins-k)
-
-pub ask-requires-clause-open : goal.ask-requires-clause-open
-ask-requires-clause-open g c = open_now (found g (goal.at.ask-requires-clause-open g c).After-index-ins-k)
-
-pub ask-requires-clause-limit : goal.ask-requires-clause-limit
-ask-requires-clause-limit g c = limit_now (found g (goal.at.ask-requires-clause-limit g c).After-index-ins-k)
+pub ask-requires : goal.ask-requires
+ask-requires g c =
+    let here = found g (goal.at.ask-requires g c).After-index-ins-k in
+    let inv = c.loop-port.invariant in
+    let few : length c.loop-port.outs ≤ 8 = omega (arith, inv.outs, c.requires.few) in
+    let buf : LARGEST_RECORD ≤ length c.loop-port.buf = rw inv.buf c.requires.buf in
+    (omega arith, (there_now here, (many_now here, (few, (counted_now here, (buf, (open_now here, limit_now here)))))))
 
 pub loop-port-preserved : goal.loop-port-preserved
 loop-port-preserved g c =
@@ -88,6 +94,7 @@ loop-port-preserved g c =
           c.in_ok-ask.was;
       readers = readers g (goal.at.loop-port-preserved g c).After-ask (Ok tt) c.in_ok-ask.was;
       writers = writers g (goal.at.loop-port-preserved g c).After-ask (Ok tt) c.in_ok-ask.was;
+      shown = shown g (goal.at.loop-port-preserved g c).After-ask (Ok tt) c.in_ok-ask.was;
     }
 
 pub returns-in_err-ask-clause-goes : goal.returns-in_err-ask-clause-goes
@@ -116,3 +123,10 @@ returns-clause-fared_readers g c = c.loop-port.invariant.readers
 
 pub returns-clause-fared_writers : goal.returns-clause-fared_writers
 returns-clause-fared_writers g c = c.loop-port.invariant.writers
+
+pub returns-in_err-ask-clause-shown : goal.returns-in_err-ask-clause-shown
+returns-in_err-ask-clause-shown g c =
+    shown g (goal.at.returns-in_err-ask-clause-shown g c).After-ask c.from_residual.result (c.in_err-ask.was ∙ sym (gone g c))
+
+pub returns-clause-shown : goal.returns-clause-shown
+returns-clause-shown g c = c.loop-port.invariant.shown

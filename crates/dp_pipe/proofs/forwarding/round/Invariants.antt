@@ -1,8 +1,9 @@
--- `round`: the run goes along, port by port.
-use Rattle.std.proofs.Common.{◌≡◌, ℕ, false, List, Option, length, map}
+-- `round`: the run continues, port by port.
+use Rattle.std.proofs.Common.{◌≡◌, ℕ, false, List, length, map}
 use Rattle.dp_engine.specs.Engines.{EngineState}
-use Rattle.dp_pipe.specs.Devices.{AllSound, AllFared}
+use Rattle.dp_pipe.specs.Devices.{Device, seen, transfer, AllSound, AllFared}
 use Rattle.dp_pipe.specs.Forwarding.{Input, Along}
+use Rattle.dp_pipe.specs.Watched.{HasShown}
 use Rattle.dp_pipe.proofs.forwarding.round.Given as goal
 
 abbrev pub invariant-loop-port : goal.invariant-loop-port
@@ -11,9 +12,12 @@ invariant-loop-port g l = record {
   ins : length l.ins ≡ length l.fn.ins;
   outs : length l.outs ≡ length l.fn.outs;
   buf : length l.buf ≡ length l.fn.buf;
-  goes : (e0 : EngineState) (olds held : List (Option (List ℕ))) (read : List Input) (k : ℕ) →
-      Along l.unit e0 l.fn.engine olds (map g.R.Feed.remaining l.fn.ins) held (map g.W.Sink.contents l.fn.outs) l.fn.inputs read k 0
-      → (now : List Input) × Along l.unit e0 l.engine olds (map g.R.Feed.remaining l.ins) held (map g.W.Sink.contents l.outs) l.inputs now k l.port;
+  goes : (e0 : EngineState) (olds held : List Device) (read : List Input) (k : ℕ) →
+      Along l.unit e0 l.fn.engine (transfer olds (map (seen g.R.Feed.remaining g.R.Feed.calls) l.fn.ins) held (map
+      (seen g.W.Sink.contents g.W.Sink.calls) l.fn.outs)) l.fn.inputs read k 0
+      → (now : List Input) × Along l.unit e0 l.engine (transfer olds (map (seen g.R.Feed.remaining g.R.Feed.calls) l.ins) held (map
+      (seen g.W.Sink.contents g.W.Sink.calls) l.outs)) l.inputs now k l.port;
   readers : AllFared g.R.Feed.is_broken g.R.Feed.failures (λ q. false) l.fn.ins l.ins;
   writers : AllSound g.W.Sink.is_broken l.fn.outs → AllFared g.W.Sink.is_broken g.W.Sink.failures (λ q. false) l.fn.outs l.outs;
+  shown : HasShown g.V.Watch.sees l.fn.watch l.watch l.fn.engine l.engine;
 }

@@ -1,18 +1,22 @@
--- `rounds`: one round more, the end of all inputs, and a stop. The run and each call of `round` are opened once.
-use Rattle.std.proofs.Common.{rules, ◌≡◌, ℕ, List, Option, Result, Ok, Err, length, map, refl, sym, ap, ◌∙◌, arith}
+-- `rounds`: one more round, the end of all inputs, and a stop. The run and each call of `round` are derived once.
+use Rattle.std.proofs.Common.{rules, ◌≡◌, ◌≤◌, List, Result, Ok, Err, length, map, refl, sym, ap, ◌∙◌, arith}
 use Rattle.std.specs.Prelude.{⊤}
+use Rattle.dp_pcap.specs.declared.format.TheConstants.{LARGEST_RECORD}
 use Rattle.dp_engine.specs.Engines.{EngineState}
 use Rattle.dp_pipe.specs.declared.forwarding.RunCause.{RunCause}
-use Rattle.dp_pipe.specs.Devices.{AllFared, AllSound, failed_reader, failed_writer}
+use Rattle.dp_pipe.specs.Devices.{Device, seen, transfer, AllFared, AllSound, failed_reader, failed_writer}
 use Rattle.dp_pipe.specs.Forwarding.{Input, Along, IsRound}
+use Rattle.dp_pipe.specs.Watched.{ShowsTurns}
+use Rattle.dp_pipe.proofs.Watched.{shown_on}
 use Rattle.dp_pipe.proofs.Faring.{readers_then, writers_then}
 use Rattle.dp_pipe.proofs.Rounding.{went_all, none_left, round_ok, round_err}
 use Rattle.dp_pipe.proofs.forwarding.rounds.Goals as goal
 use Rattle.dp_pipe.proofs.forwarding.rounds.Goals.{In-loop-k, After-round}
 
--- the run goes along, in the round that comes next
-along : (g : _) (c : In-loop-k g) → (now : List Input) × Along c.args.unit c.requires.along.0 c.loop-k.engine c.requires.along.1
-    (map g.R.Feed.remaining c.loop-k.ins) c.requires.along.2 (map g.W.Sink.contents c.loop-k.outs) c.loop-k.inputs now c.loop-k.k 0
+-- the run continues, in the round that comes next
+along : (g : _) (c : In-loop-k g) → (now : List Input) × Along c.args.unit c.requires.along.0 c.loop-k.engine (transfer c.requires.along.1 (map
+    (seen g.R.Feed.remaining g.R.Feed.calls) c.loop-k.ins) c.requires.along.2 (map
+    (seen g.W.Sink.contents g.W.Sink.calls) c.loop-k.outs)) c.loop-k.inputs now c.loop-k.k 0
 along g c = c.loop-k.invariant.goes _ _ _ _ c.requires.along.4
 
 -- as many ports as at first
@@ -22,14 +26,15 @@ ports g c =
     ∙ sym (ap (λ (x : EngineState). length x.setting.env.ports) (along g c).1.run.stays)
 
 -- the round that was made
-went : (g : _) (c : After-round g) (e0 : EngineState) (olds held : List (Option (List ℕ))) (read : List Input)
-    → Along c.args.unit e0 c.args.engine.now olds (map g.R.Feed.remaining c.args.ins.now) held (map g.W.Sink.contents c.args.outs.now) c.args.inputs.now read 0
-    0 → IsRound c.args.unit e0 c.loop-k.engine c.round.new.engine olds (map g.R.Feed.remaining c.round.new.ins) held
-    (map g.W.Sink.contents c.round.new.outs) c.round.new.inputs c.loop-k.k c.round.result
+went : (g : _) (c : After-round g) (e0 : EngineState) (olds held : List Device) (read : List Input)
+    → Along c.args.unit e0 c.args.engine.now (transfer olds (map (seen g.R.Feed.remaining g.R.Feed.calls) c.args.ins.now) held (map
+    (seen g.W.Sink.contents g.W.Sink.calls) c.args.outs.now)) c.args.inputs.now read 0
+    0 → IsRound c.args.unit e0 c.loop-k.engine c.round.new.engine (transfer olds (map (seen g.R.Feed.remaining g.R.Feed.calls) c.round.new.ins) held (map
+    (seen g.W.Sink.contents g.W.Sink.calls) c.round.new.outs)) c.round.new.inputs c.loop-k.k c.round.result
 went g c e0 olds held read start =
     let (now, along) = c.loop-k.invariant.goes e0 olds held read start in c.round.ensures.goes e0 olds held now c.loop-k.k along
 
--- how the devices fared, by what was answered
+-- how the devices are after each result
 readers : (g : _) (c : After-round g) (given : Result ⊤ RunCause) → c.round.result ≡ given
     → AllFared g.R.Feed.is_broken g.R.Feed.failures (failed_reader given) c.args.ins.now c.round.new.ins
 readers g c given is =
@@ -44,27 +49,53 @@ writers g c given is =
     writers_then g.W.Sink.is_broken g.W.Sink.failures c.round.result given c.args.outs.now c.loop-k.outs c.round.new.outs inv.outs inv.writers
     c.round.ensures.fared_writers is
 
--- what is answered where the run stops
+-- what was shown, by what was answered
+shown : (g : _) (c : After-round g) (given : Result ⊤ RunCause) → c.round.result ≡ given
+    → ShowsTurns g.V.Watch.sees c.args.watch.now c.round.new.watch c.args.engine.now c.round.new.engine given
+shown g c given is =
+    shown_on g.V.Watch.sees c.args.watch.now c.loop-k.watch c.round.new.watch c.args.engine.now c.loop-k.engine c.round.new.engine c.round.result given is
+    c.loop-k.invariant.shown c.round.ensures.shown
+
+-- the result where the run stops
 gone : (g : _) (c : goal.After-from_residual g) → c.from_residual.result ≡ Err c.in_err-round.field-0.0
 gone g c = search rules
 
-pub round-requires-clause-inputs : goal.round-requires-clause-inputs
-round-requires-clause-inputs g c = c.loop-k.invariant.inputs ∙ c.requires.inputs ∙ ports g (goal.at.round-requires-clause-inputs g c).In-loop-k
-
-pub round-requires-clause-ins : goal.round-requires-clause-ins
-round-requires-clause-ins g c = c.loop-k.invariant.ins ∙ c.requires.ins ∙ ports g (goal.at.round-requires-clause-ins g c).In-loop-k
-
-pub round-requires-clause-outs : goal.round-requires-clause-outs
-round-requires-clause-outs g c = c.loop-k.invariant.outs ∙ c.requires.outs ∙ ports g (goal.at.round-requires-clause-outs g c).In-loop-k
-
-pub round-requires-clause-counted : goal.round-requires-clause-counted
-round-requires-clause-counted g c =
-    (along g (goal.at.round-requires-clause-counted g c).In-loop-k).1.run.each ∙ sym c.requires.along.4.run.each ∙ c.requires.counted
-
-pub round-requires-clause-along : goal.round-requires-clause-along
-round-requires-clause-along g c =
-    let (now, going) = along g (goal.at.round-requires-clause-along g c).In-loop-k in
-    (c.requires.along.0, c.requires.along.1, c.requires.along.2, now, c.loop-k.k, going)
+pub round-requires : goal.round-requires
+round-requires g c =
+    let inv = c.loop-k.invariant in
+    let same = ports g (goal.at.round-requires g c).In-loop-k in
+    let (now, going) = along g (goal.at.round-requires g c).In-loop-k in
+    let counted = going.run.each ∙ sym c.requires.along.4.run.each ∙ c.requires.counted in
+    let few : length c.loop-k.outs ≤ 8 = omega (arith, inv.outs, c.requires.few) in
+    let buf : LARGEST_RECORD ≤ length c.loop-k.buf = rw inv.buf c.requires.buf in (
+      omega arith,
+      (
+        inv.inputs ∙ c.requires.inputs ∙ same,
+        (
+          inv.ins ∙ c.requires.ins ∙ same,
+          (
+            inv.outs ∙ c.requires.outs ∙ same,
+            (
+              few,
+              (
+                counted,
+                (
+                  buf,
+                  (
+                    c.requires.along.0,
+                    c.requires.along.1,
+                    c.requires.along.2,
+                    now,
+                    c.loop-k.k,
+                    going,
+                  ),
+                ),
+              ),
+            ),
+          ),
+        ),
+      ),
+    )
 
 pub loop-k-preserved : goal.loop-k-preserved
 loop-k-preserved g c =
@@ -80,6 +111,7 @@ loop-k-preserved g c =
           (went g (goal.at.loop-k-preserved g c).After-round e0 olds held read start);
       readers = readers g (goal.at.loop-k-preserved g c).After-round (Ok tt) c.in_ok-round.was;
       writers = writers g (goal.at.loop-k-preserved g c).After-round (Ok tt) c.in_ok-round.was;
+      shown = shown g (goal.at.loop-k-preserved g c).After-round (Ok tt) c.in_ok-round.was;
     }
 
 pub returns-then-not-is_any_open-clause-goes : goal.returns-then-not-is_any_open-clause-goes
@@ -117,3 +149,13 @@ returns-clause-fared_readers g c = c.loop-k.invariant.readers
 
 pub returns-clause-fared_writers : goal.returns-clause-fared_writers
 returns-clause-fared_writers g c = c.loop-k.invariant.writers
+
+pub returns-then-not-is_any_open-clause-shown : goal.returns-then-not-is_any_open-clause-shown
+returns-then-not-is_any_open-clause-shown g c = c.loop-k.invariant.shown
+
+pub returns-in_err-round-clause-shown : goal.returns-in_err-round-clause-shown
+returns-in_err-round-clause-shown g c =
+    shown g (goal.at.returns-in_err-round-clause-shown g c).After-round c.from_residual.result (c.in_err-round.was ∙ sym (gone g c))
+
+pub returns-clause-shown : goal.returns-clause-shown
+returns-clause-shown g c = c.loop-k.invariant.shown

@@ -1,4 +1,4 @@
--- `elements_of`: the elements of an array, and none of another value.
+-- `elements_of`: the elements of an array; none of another value.
 use Rattle.std.proofs.Common.{map, sym}
 use Rattle.toml.specs.View.{view}
 use Rattle.dp_pipe.proofs.Elements.{listed_items}

@@ -1,4 +1,4 @@
--- One node more, or the first that is not loaded.
+-- One more node, or the first that is not loaded.
 use Rattle.std.proofs.Common.{◌≤◌, ◌∙◌, List, length, map, inr, arith}
 use Rattle.std.proofs.lemmas.List.{length-map}
 use Rattle.std.proofs.lemmas.Result.{err_from_is_err_and}

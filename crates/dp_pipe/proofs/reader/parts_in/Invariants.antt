@@ -1,4 +1,4 @@
--- What was read so far, before what is still to be read, is what the whole array is.
+-- What was read so far, before what is still to be read, is the whole array.
 use Rattle.std.proofs.Common.{◌≡◌, drop, map}
 use Rattle.dp_pipe.specs.Setup.{each}
 use Rattle.dp_pipe.specs.Views.{values}

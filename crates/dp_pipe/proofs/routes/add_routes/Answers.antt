@@ -1,4 +1,4 @@
--- `add_routes`: one route more.
+-- `add_routes`: one more route.
 use Rattle.std.proofs.Common.{sym}
 use Rattle.dp_pipe.proofs.Taking.{route_more}
 use Rattle.dp_pipe.proofs.routes.add_routes.Goals as goal

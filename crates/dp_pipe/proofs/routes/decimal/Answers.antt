@@ -1,4 +1,4 @@
--- `decimal`: one digit more, and a byte that is none.
+-- `decimal`: one more digit, and a byte that is none.
 use Rattle.std.proofs.Common.{◌<◌, arith}
 use Rattle.dp_pipe.proofs.Digits.{digit_at, stays_small}
 use Rattle.dp_pipe.proofs.routes.decimal.Goals as goal

@@ -1,4 +1,4 @@
--- `decimal`: the number so far, and the digits that are left.
+-- `decimal`: the number so far, and the rest of the digits.
 use Rattle.std.proofs.Common.{◌≡◌, ◌<◌, ◌^◌, drop}
 use Rattle.dp_pipe.specs.Routes.{decimal_after}
 use Rattle.dp_pipe.proofs.routes.decimal.Given as goal

@@ -1,4 +1,4 @@
--- `number_in`: a number of so many digits.
+-- `number_in`: a number of few enough digits.
 use Rattle.std.proofs.Common.{length, arith}
 use Rattle.dp_pipe.proofs.Digits.{within}
 use Rattle.dp_pipe.proofs.routes.number_in.Goals as goal

@@ -1,23 +1,23 @@
 -- `forward`: headers in, headers out, and all rounds.
-use Rattle.std.proofs.Common.{rules, ◌≡◌, ◌∙◌, inl, inr, Err, sym, subst, arith, length, map, drop, refl, false}
+use Rattle.std.proofs.Common.{rules, ◌≡◌, ◌≤◌, ◌∙◌, inl, inr, Err, sym, ap, subst, arith, length, map, drop, refl, false}
 use Rattle.std.proofs.lemmas.List.{length-map}
 use Rattle.dp_pipe.specs.Forwarding.{AreRounds}
 use Rattle.dp_pipe.specs.Running.{all_begun}
 use Rattle.dp_pipe.proofs.Stopping.{are_read}
 use Rattle.dp_pipe.proofs.Through.{along_none, back, fail_read, fail_write, stays_rounds}
-use Rattle.dp_pipe.specs.Devices.{AllFared, failed_reader, failed_writer}
+use Rattle.dp_pipe.specs.Devices.{seen, transfer, AllFared, failed_reader, failed_writer}
 use Rattle.dp_pipe.proofs.Faring.{all_same, all_then, no_writer, no_reader, sound_readers, sound_writers}
 use Rattle.dp_pipe.proofs.running.forward.Goals as goal
 use Rattle.dp_pipe.proofs.running.forward.Goals.{After-from_residual, After-from_residual-in_err-put_headers, In_ok-read_headers}
 
--- what is answered where a header is at fault, and where one is not written
+-- the result where a header is at fault, and where one is not written
 not_read : (g : _) (c : After-from_residual g) → c.from_residual.result ≡ Err c.in_err-read_headers.field-0.0
 not_read g c = search rules
 
 not_written : (g : _) (c : After-from_residual-in_err-put_headers g) → c.from_residual-in_err-put_headers.result ≡ Err c.in_err-put_headers.field-0.0
 not_written g c = search rules
 
--- how the readers fared where all headers were read
+-- how the readers are after all headers were read
 read : (g : _) (c : In_ok-read_headers g) → AllFared g.R.Feed.is_broken g.R.Feed.failures (λ q. false) c.args.ins.now c.read_headers.new.ins
 read g c =
     subst (λ x. AllFared g.R.Feed.is_broken g.R.Feed.failures (failed_reader x) c.args.ins.now c.read_headers.new.ins) c.in_ok-read_headers.was
@@ -26,8 +26,9 @@ read g c =
 pub returns-in_err-read_headers-clause-forward : goal.returns-in_err-read_headers-clause-forward
 returns-in_err-read_headers-clause-forward g c =
     let gone = not_read g (goal.at.returns-in_err-read_headers-clause-forward g c).After-from_residual in
-    rw gone (inl (fail_read c.args.engine.now (map g.R.Feed.remaining c.args.ins.now) (map g.R.Feed.remaining c.read_headers.new.ins)
-    (map g.W.Sink.contents c.args.outs.now) c.read_headers.new.inputs.items
+    rw gone (inl (fail_read c.args.engine.now (map (seen g.R.Feed.remaining g.R.Feed.calls) c.args.ins.now) (map
+    (seen g.R.Feed.remaining g.R.Feed.calls) c.read_headers.new.ins)
+    (map (seen g.W.Sink.contents g.W.Sink.calls) c.args.outs.now) c.read_headers.new.inputs.items
     c.in_err-read_headers.field-0.0 c.in_err-read_headers.ensures.begun c.in_err-read_headers.ensures.err))
 
 pub returns-in_err-read_headers-clause-many : goal.returns-in_err-read_headers-clause-many
@@ -39,48 +40,81 @@ returns-in_err-put_headers-clause-forward g c =
     let here : c.as_slice.result.now ≡ c.read_headers.new.inputs.items = search rules in
     let stand = c.in_ok-read_headers.ensures.ok in
     let cause = rw (c.unit_for-unit.ensures, here) at c.in_err-put_headers.ensures.err in
-    rw gone (inl (fail_write c.args.engine.now (map g.R.Feed.remaining c.args.ins.now) (map g.R.Feed.remaining c.read_headers.new.ins)
-    (map g.W.Sink.contents c.args.outs.now) (map g.W.Sink.contents c.put_headers.new.outs)
+    rw gone (inl (fail_write c.args.engine.now (map (seen g.R.Feed.remaining g.R.Feed.calls) c.args.ins.now) (map
+    (seen g.R.Feed.remaining g.R.Feed.calls) c.read_headers.new.ins)
+    (map (seen g.W.Sink.contents g.W.Sink.calls) c.args.outs.now) (map (seen g.W.Sink.contents g.W.Sink.calls) c.put_headers.new.outs)
     c.read_headers.new.inputs.items c.in_err-put_headers.field-0.0 (c.in_ok-read_headers.ensures.all
-    ∙ c.requires.readers) (are_read (map g.R.Feed.remaining c.args.ins.now) (map g.R.Feed.remaining c.read_headers.new.ins)
+    ∙ c.requires.readers) (are_read (map (seen g.R.Feed.remaining g.R.Feed.calls) c.args.ins.now) (map
+    (seen g.R.Feed.remaining g.R.Feed.calls) c.read_headers.new.ins)
     c.read_headers.new.inputs.items (all_begun c.read_headers.new.inputs.items) stand)
     c.read_headers.ensures.begun cause))
 
-pub rounds-requires-clause-along : goal.rounds-requires-clause-along
-rounds-requires-clause-along g c =
+pub rounds-requires : goal.rounds-requires
+rounds-requires g c =
     let here : c.as_mut_slice.result.now ≡ c.read_headers.new.inputs.items = search rules in
     let unread : c.as_slice.result.now ≡ c.read_headers.new.inputs.items = search rules in
-    let mids = map g.W.Sink.contents c.put_headers.new.outs in
-    let many : length mids ≡ length c.args.engine.now.setting.env.ports = length-map c.put_headers.new.outs g.W.Sink.contents ∙ c.put_headers.ensures.many
+    let mids = map (seen g.W.Sink.contents g.W.Sink.calls) c.put_headers.new.outs in
+    let many : length mids ≡ length c.args.engine.now.setting.env.ports = length-map c.put_headers.new.outs (seen g.W.Sink.contents g.W.Sink.calls)
+    ∙ c.put_headers.ensures.many
     ∙ c.requires.writers in
-    rw here (
-      c.args.engine.now,
-      map g.R.Feed.remaining c.args.ins.now,
-      mids,
-      all_begun c.read_headers.new.inputs.items,
-      along_none c.unit_for-unit.result c.args.engine.now (map g.R.Feed.remaining c.args.ins.now) (map g.R.Feed.remaining c.read_headers.new.ins) mids
-          c.read_headers.new.inputs.items c.requires.first many
-          (c.in_ok-read_headers.ensures.all ∙ c.requires.readers) (rw unread at c.unit_for-unit.ensures) c.in_ok-read_headers.ensures.ok
-          c.read_headers.ensures.begun,
+    let inputs = ap length here ∙ c.in_ok-read_headers.ensures.all ∙ c.requires.readers in
+    let ins = c.read_headers.ensures.many ∙ c.requires.readers in
+    let outs = c.put_headers.ensures.many ∙ c.requires.writers in
+    let few : length c.put_headers.new.outs ≤ 8 = omega (arith, outs, c.requires.few) in
+    let along = along_none c.unit_for-unit.result c.args.engine.now (map (seen g.R.Feed.remaining g.R.Feed.calls) c.args.ins.now) (map
+    (seen g.R.Feed.remaining g.R.Feed.calls) c.read_headers.new.ins) mids
+    c.read_headers.new.inputs.items c.requires.first many
+    (c.in_ok-read_headers.ensures.all ∙ c.requires.readers) (rw unread at c.unit_for-unit.ensures) c.in_ok-read_headers.ensures.ok
+    c.read_headers.ensures.begun in (
+      omega arith,
+      (
+        inputs,
+        (
+          ins,
+          (
+            outs,
+            (
+              few,
+              (
+                c.requires.counted,
+                (
+                  c.requires.buf,
+                  (
+                    c.args.engine.now,
+                    map (seen g.R.Feed.remaining g.R.Feed.calls) c.args.ins.now,
+                    mids,
+                    all_begun c.read_headers.new.inputs.items,
+                    rw here along,
+                  ),
+                ),
+              ),
+            ),
+          ),
+        ),
+      ),
     )
 
 -- as many writers as ports
-writers_many : (g : _) (c : goal.After-slice_known-2-1 g) → length (map g.W.Sink.contents c.put_headers.new.outs) ≡ length c.args.engine.now.setting.env.ports
-writers_many g c = length-map c.put_headers.new.outs g.W.Sink.contents ∙ c.put_headers.ensures.many ∙ c.requires.writers
+writers_many : (g : _) (c : goal.After-slice_known-2-1 g) → length (map
+    (seen g.W.Sink.contents g.W.Sink.calls) c.put_headers.new.outs) ≡ length c.args.engine.now.setting.env.ports
+writers_many g c = length-map c.put_headers.new.outs (seen g.W.Sink.contents g.W.Sink.calls) ∙ c.put_headers.ensures.many ∙ c.requires.writers
 
--- all rounds, behind headers that were read and written
+-- all rounds, after headers that were read and written
 went : (g : _) (c : goal.After-slice_known-2-1 g)
-    → AreRounds c.unit_for-unit.result c.args.engine.now c.rounds.new.engine (map g.R.Feed.remaining c.args.ins.now) (map g.R.Feed.remaining c.rounds.new.ins)
-    (map g.W.Sink.contents c.put_headers.new.outs) (map g.W.Sink.contents c.rounds.new.outs) c.rounds.new.inputs c.rounds.result
+    → AreRounds c.unit_for-unit.result c.args.engine.now c.rounds.new.engine (transfer (map (seen g.R.Feed.remaining g.R.Feed.calls) c.args.ins.now) (map
+    (seen g.R.Feed.remaining g.R.Feed.calls) c.rounds.new.ins) (map (seen g.W.Sink.contents g.W.Sink.calls) c.put_headers.new.outs) (map
+    (seen g.W.Sink.contents g.W.Sink.calls) c.rounds.new.outs)) c.rounds.new.inputs c.rounds.result
 went g c =
     let here : c.as_mut_slice.result.now ≡ c.read_headers.new.inputs.items = search rules in
     let unread : c.as_slice.result.now ≡ c.read_headers.new.inputs.items = search rules in
-    let mids = map g.W.Sink.contents c.put_headers.new.outs in
-    let along = along_none c.unit_for-unit.result c.args.engine.now (map g.R.Feed.remaining c.args.ins.now) (map g.R.Feed.remaining c.read_headers.new.ins)
+    let mids = map (seen g.W.Sink.contents g.W.Sink.calls) c.put_headers.new.outs in
+    let along = along_none c.unit_for-unit.result c.args.engine.now (map (seen g.R.Feed.remaining g.R.Feed.calls) c.args.ins.now) (map
+    (seen g.R.Feed.remaining g.R.Feed.calls) c.read_headers.new.ins)
     mids c.read_headers.new.inputs.items c.requires.first (writers_many g c)
     (c.in_ok-read_headers.ensures.all ∙ c.requires.readers) (rw unread at c.unit_for-unit.ensures) c.in_ok-read_headers.ensures.ok
     c.read_headers.ensures.begun in
-    c.rounds.ensures.goes c.args.engine.now (map g.R.Feed.remaining c.args.ins.now) mids (all_begun c.read_headers.new.inputs.items) (rw here along)
+    c.rounds.ensures.goes c.args.engine.now (map (seen g.R.Feed.remaining g.R.Feed.calls) c.args.ins.now) mids (all_begun c.read_headers.new.inputs.items)
+    (rw here along)
 
 pub returns-clause-forward : goal.returns-clause-forward
 returns-clause-forward g c =
@@ -88,8 +122,8 @@ returns-clause-forward g c =
     let same = back c.read_headers.new.inputs.len c.rounds.new.inputs (drop (length c.rounds.new.inputs) c.read_headers.new.inputs.items) len in
     rw same (inr (record {
       unit = c.unit_for-unit.result;
-      mids = map g.W.Sink.contents c.put_headers.new.outs;
-      mids_many = writers_many g c ∙ sym c.requires.writers ∙ sym (length-map c.args.outs.now g.W.Sink.contents);
+      mids = map (seen g.W.Sink.contents g.W.Sink.calls) c.put_headers.new.outs;
+      mids_many = writers_many g c ∙ sym c.requires.writers ∙ sym (length-map c.args.outs.now (seen g.W.Sink.contents g.W.Sink.calls));
       headers = c.in_ok-put_headers.ensures.ok;
       rounds = went g c;
     }))

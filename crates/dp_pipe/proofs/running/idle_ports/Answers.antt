@@ -1,4 +1,4 @@
--- `idle_ports`: one port more.
+-- `idle_ports`: one more port.
 use Rattle.std.proofs.Common.{◌∙◌, sym, add-one}
 use Rattle.dp_engine.specs.declared.report.InputState.TheVariants.{Open}
 use Rattle.dp_engine.specs.Engines.{no_tallies}

@@ -1,4 +1,4 @@
--- `idle_rings`: one ring more.
+-- `idle_rings`: one more ring.
 use Rattle.std.proofs.Common.{◌∙◌, sym, add-one}
 use Rattle.dp_pipe.proofs.Heading.{same_more}
 use Rattle.dp_pipe.proofs.running.idle_rings.Goals as goal

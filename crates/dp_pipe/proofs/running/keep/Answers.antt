@@ -1,4 +1,4 @@
--- `keep`: an input more.
+-- `keep`: one more input.
 use Rattle.dp_pipe.proofs.running.keep.Goals as goal
 
 pub returns-clause-capacity : goal.returns-clause-capacity

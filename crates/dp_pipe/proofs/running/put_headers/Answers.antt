@@ -1,12 +1,12 @@
--- `put_headers`: one header more, and the first that is not written.
+-- `put_headers`: one more header, and the first that is not written.
 use Rattle.std.proofs.Common.{rules, ◌<◌, arith, length, slice_index_or}
 use Rattle.std.specs.Prelude.{Err, ⊤}
 use Rattle.std.proofs.lemmas.Bool.{ne_eqb}
 use Rattle.dp_pipe.specs.declared.forwarding.RunCause.TheVariants.{Out}
-use Rattle.dp_pipe.specs.Devices.{failed_writer}
-use Rattle.std.specs.Io.KnownBytes.{Appends}
+use Rattle.dp_pipe.specs.Devices.{IsGiven, seen, failed_writer}
 use Rattle.std.proofs.lemmas.Option.{slice_get-get_or}
 use Rattle.dp_pcap.specs.Text.{header_text}
+use Rattle.dp_pipe.proofs.Giving.{length_header}
 use Rattle.dp_pipe.proofs.Heading.{changed_more, all_changed, in_answers, new_all, headers_stopped}
 use Rattle.dp_pipe.proofs.Faring.{fared_well, failed_here, all_well, one_then}
 use Rattle.dp_pipe.proofs.running.put_headers.Goals as goal
@@ -17,14 +17,15 @@ loop-port-preserved g c =
     changed_more _ c.loop-port.port c.args.outs.now c.loop-port.outs (slice_index_or c.loop-port.outs c.loop-port.port c.index-outs-port.result)
     c.put_header.new.w c.loop-port.invariant
     (slice_get-get_or c.loop-port.outs c.loop-port.port c.index-outs-port.result within) (
-      search rules,
+      record { grown = search rules; calls = omega (arith, c.put_header.ensures.counted, length_header c.args.unit) },
       fared_well g.W.Sink.is_broken g.W.Sink.failures (slice_index_or c.loop-port.outs c.loop-port.port c.index-outs-port.result) c.put_header.new.w
           (search rules) (search rules) (search rules),
       search rules,
     )
 
 pub returns-clause-ok : goal.returns-clause-ok
-returns-clause-ok g c = λ q old new e e'. in_answers g.W.Sink.contents (λ a a'. Appends a a' (header_text c.args.unit)) c.args.outs.now c.loop-port.outs q
+returns-clause-ok g c = λ q old new e e'. in_answers (seen g.W.Sink.contents g.W.Sink.calls) (λ a a'. IsGiven a a' (header_text c.args.unit)) c.args.outs.now
+    c.loop-port.outs q
     (λ w w' here there. (all_changed _ c.loop-port.port c.args.outs.now c.loop-port.outs c.loop-port.invariant
     (omega (arith, c.loop-port-test.false, c.loop-port.auto.port-end)) q w w' here there).0) old new e e'
 
@@ -39,9 +40,10 @@ returns-clause-fared g c = all_well g.W.Sink.is_broken g.W.Sink.failures _ c.loo
 pub returns-then-is_err-clause-err : goal.returns-then-is_err-clause-err
 returns-then-is_err-clause-err g c =
     let within : c.loop-port.port < length c.loop-port.outs = omega (arith, c.loop-port-test.true, c.loop-port.invariant.many) in
-    headers_stopped g.W.Sink.contents _ c.args.unit c.loop-port.port c.args.outs.now c.loop-port.outs
+    headers_stopped (seen g.W.Sink.contents g.W.Sink.calls) _ c.args.unit c.loop-port.port c.args.outs.now c.loop-port.outs
     (slice_index_or c.loop-port.outs c.loop-port.port c.index-outs-port.result) c.put_header.new.w
-    c.loop-port.invariant (λ x x' changed. changed.0) (slice_get-get_or c.loop-port.outs c.loop-port.port c.index-outs-port.result within) (search rules)
+    c.loop-port.invariant (λ x x' changed. changed.0) (slice_get-get_or c.loop-port.outs c.loop-port.port c.index-outs-port.result within)
+    (record { grown = search rules; calls = omega (arith, c.put_header.ensures.counted, length_header c.args.unit) })
 
 pub returns-then-is_err-clause-fared : goal.returns-then-is_err-clause-fared
 returns-then-is_err-clause-fared g c =

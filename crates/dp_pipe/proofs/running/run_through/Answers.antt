@@ -1,4 +1,4 @@
--- `run_through`: the devices fared as all rounds left them.
+-- `run_through`: the devices are as all rounds left them.
 use Rattle.dp_pipe.proofs.running.run_through.Goals as goal
 
 pub returns-clause-fared_readers : goal.returns-clause-fared_readers

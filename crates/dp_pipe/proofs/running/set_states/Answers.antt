@@ -1,4 +1,4 @@
--- `set_states`: one state more.
+-- `set_states`: one more state.
 use Rattle.std.proofs.Common.{sym, add-one}
 use Rattle.dp_pipe.proofs.Heading.{more_answers}
 use Rattle.dp_pipe.proofs.running.set_states.Goals as goal

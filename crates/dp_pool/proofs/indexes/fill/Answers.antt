@@ -1,4 +1,4 @@
--- The next index stands at the end of the queue.
+-- The next index is appended to the queue.
 use Rattle.std.proofs.Common.{◌≡◌, suc, ◌+◌, ◌<◌, cond, [], ◌∷◌, length, ap, ◌∙◌, arith}
 use Rattle.std.proofs.lemmas.Bool.{lt-ltb}
 use Rattle.dp_ring.specs.Rings.{room_in, with_more}

@@ -1,4 +1,4 @@
--- The indexes so far stand in the queue.
+-- The indexes so far are in the queue.
 use Rattle.std.proofs.Common.{◌≡◌}
 use Rattle.dp_pool.specs.Once.{upto}
 use Rattle.dp_pool.proofs.indexes.fill.Given as goal

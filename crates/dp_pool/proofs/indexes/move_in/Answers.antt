@@ -1,4 +1,4 @@
--- The first of the queue stand over the blanks behind the others.
+-- The first of the queue replace the blanks after the others.
 use Rattle.std.proofs.Common.{rules, ◌≡◌, ◌-◌, ◌++◌, [], length, take, ap, ap₂, ◌∙◌}
 use Rattle.std.proofs.Math.Seq.{take-append_seam}
 use Rattle.std.proofs.lemmas.List.{places, append-nil}

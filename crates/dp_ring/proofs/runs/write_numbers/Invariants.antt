@@ -1,4 +1,4 @@
--- So many of the numbers are written.
+-- The first k numbers are written.
 use Rattle.std.proofs.Common.{◌≡◌, ℕ, ◌+◌, ◌*◌, ◌<◌}
 use Rattle.std.specs.Prelude.{slice_index}
 use Rattle.dp_region.specs.Region.{number_at}

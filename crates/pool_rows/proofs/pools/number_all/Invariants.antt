@@ -1,4 +1,4 @@
--- The zones of the pool are those of the start.
+-- The zones of the pool are those at the start.
 use Rattle.std.proofs.Common.{◌≡◌}
 use Rattle.pool_rows.proofs.pools.number_all.Given as goal
 

@@ -1,4 +1,4 @@
--- One zone fewer is left to reserve in each call.
+-- Each call has one zone fewer to reserve.
 use Rattle.pool_rows.proofs.zones.+beside.Given as goal
 
 abbrev pub decreases-beside : goal.decreases-beside

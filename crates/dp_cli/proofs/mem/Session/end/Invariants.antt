@@ -1,4 +1,4 @@
--- The blocks that are left are the heap's, and no others are out.
+-- The remaining blocks are the heap's, and no others are out.
 use Rattle.std.proofs.Common.{◌≡◌, All, length}
 use Rattle.dp_heap.specs.Elements.{count_of, is_busy}
 use Rattle.dp_cli.proofs.mem.Session.end.Given as goal

@@ -1,9 +1,9 @@
--- The pools, the rings and the transmit lists are those that stood in the space.
+-- The pools, rings and transmit lists are those that lie in the space.
 use Rattle.dp_engine.proofs.Parts.{parts_back}
 use Rattle.dp_engine.proofs.engine.Engine.close.Goals as goal
 
 pub close-requires-clause-home : goal.close-requires-clause-home
-close-requires-clause-home c =
+close-requires-clause-home g c =
     (parts_back c.self.inside.space c.self.inside.machine.frames c.into_parts-mbufs.result.0.zones c.into_parts-mbufs.result.1 c.into_parts-mbufs.result.2
     (record { pools = c.into_pools.result; rings = c.into_rings.result; lists = c.into_rings-2.result }) c.self.invariant.stand
     c.into_parts-mbufs.ensures.frames
@@ -11,7 +11,7 @@ close-requires-clause-home c =
     c.into_rings-2.ensures.same).0
 
 pub close-requires-clause-all : goal.close-requires-clause-all
-close-requires-clause-all c =
+close-requires-clause-all g c =
     (parts_back c.self.inside.space c.self.inside.machine.frames c.into_parts-mbufs.result.0.zones c.into_parts-mbufs.result.1 c.into_parts-mbufs.result.2
     (record { pools = c.into_pools.result; rings = c.into_rings.result; lists = c.into_rings-2.result }) c.self.invariant.stand
     c.into_parts-mbufs.ensures.frames

@@ -6,8 +6,8 @@ use Rattle.dp_engine.proofs.Emptied.{nothing_lives}
 use Rattle.dp_engine.proofs.engine.Engine.flush.Goals as goal
 
 pub returns-clause-empty : goal.returns-clause-empty
-returns-clause-empty c = c.flush_lists.ensures ∙ ap (λ (e : EngineState). record e { world = with_empty_outboxes e.world }) c.flush_rings.ensures
+returns-clause-empty g c = c.flush_lists.ensures ∙ ap (λ (e : EngineState). record e { world = with_empty_outboxes e.world }) c.flush_rings.ensures
 
 pub returns-clause-free : goal.returns-clause-free
-returns-clause-free c =
-    subst (λ (x : EngineState). live (between x.world) ≡ []) (sym (returns-clause-empty c)) (nothing_lives c.args.self.now)
+returns-clause-free g c =
+    subst (λ (x : EngineState). live (between x.world) ≡ []) (sym (returns-clause-empty g c)) (nothing_lives c.args.self.now)

@@ -5,13 +5,13 @@ use Rattle.dp_engine.proofs.Emptied.{has_all, dropped_to, dropped_next, all_drop
 use Rattle.dp_engine.proofs.engine.Engine.flush_lists.Goals as goal
 
 pub loop-port-preserved : goal.loop-port-preserved
-loop-port-preserved c =
+loop-port-preserved g c =
     let e = c.args.self.now in
     c.drop_sent.ensures ∙ ap (drained c.loop-port.port 0) c.loop-port.invariant ∙ dropped_next c.loop-port.port e ∙ ap (λ n. dropped_to n e)
     (sym (add-one c.loop-port.port))
 
 pub returns : goal.returns
-returns c =
+returns g c =
     let i = c.self.inside in
     let e = c.args.self.now in
     let all = has_all i.plan i.machine i.space i.turns i.tallies i.left c.self.invariant e c.self.view_is in

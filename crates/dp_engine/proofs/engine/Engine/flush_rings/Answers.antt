@@ -5,7 +5,7 @@ use Rattle.dp_engine.proofs.Emptied.{has_all, left_to, left_next, all_left}
 use Rattle.dp_engine.proofs.engine.Engine.flush_rings.Goals as goal
 
 pub loop-ring-preserved : goal.loop-ring-preserved
-loop-ring-preserved c =
+loop-ring-preserved g c =
     let i = c.self.inside in
     let e = c.args.self.now in
     let all = has_all i.plan i.machine i.space i.turns i.tallies i.left c.self.invariant e c.self.view_is in
@@ -15,7 +15,7 @@ loop-ring-preserved c =
     (sym (add-one c.loop-ring.ring))
 
 pub returns : goal.returns
-returns c =
+returns g c =
     let i = c.self.inside in
     let e = c.args.self.now in
     let all = has_all i.plan i.machine i.space i.turns i.tallies i.left c.self.invariant e c.self.view_is in

@@ -4,14 +4,14 @@ use Rattle.dp_engine.proofs.Emptied.{ring_within, left_kept, left_fits, leaves}
 use Rattle.dp_engine.proofs.engine.Engine.leave.Goals as goal
 
 pub overflow_add-self : goal.overflow_add-self
-overflow_add-self c =
+overflow_add-self g c =
     let e = c.self.inside in
     let (packets, there, count) = c.waiting.ensures.list in
     let few = left_fits e.plan e.machine e.space e.turns e.tallies e.left c.self.invariant c.args.ring packets there in
     rw c.from-2.ensures (omega (arith, c.from.ensures, count, few))
 
 pub invariant_of-self : goal.invariant_of-self
-invariant_of-self c =
+invariant_of-self g c =
     let e = c.self.inside in
     let (packets, there, count) = c.waiting.ensures.list in
     let long = ap (λ (x : EngineState). length x.setting.env.rings) c.self.view_is in
@@ -20,7 +20,7 @@ invariant_of-self c =
     (left_kept e.plan e.machine e.space e.turns e.tallies e.left c.self.invariant c.args.ring packets lt there)
 
 pub returns : goal.returns
-returns c =
+returns g c =
     let e = c.self.inside in
     let (packets, there, count) = c.waiting.ensures.list in
     rw (c.from.ensures, c.from-2.ensures) (leaves e.plan e.machine c.clear_left.new.self e.space e.turns e.tallies e.left c.args.self.now c.args.ring

@@ -10,22 +10,22 @@ use Rattle.dp_engine.proofs.Parts.{rings_first, without_entry}
 use Rattle.dp_engine.proofs.engine.Engine.open.Goals as goal
 
 pub over-requires : goal.over-requires
-over-requires c = rings_first c.args.region.home _ c.in-Ok.opened.1.rings c.in-Ok.ensures.opened.rings
+over-requires g c = rings_first c.args.region.home _ c.in-Ok.opened.1.rings c.in-Ok.ensures.opened.rings
 
 pub over-requires-2 : goal.over-requires-2
-over-requires-2 c = rings_first c.args.region.home _ c.in-Ok.opened.1.lists c.in-Ok.ensures.opened.lists
+over-requires-2 g c = rings_first c.args.region.home _ c.in-Ok.opened.1.lists c.in-Ok.ensures.opened.lists
 
 pub over-machine-requires-clause-none : goal.over-machine-requires-clause-none
-over-machine-requires-clause-none c h = no_slots c.over-mbufs.result.store.slots (65536 * length c.over-mbufs.result.store.pools) h c.over-mbufs.ensures.empty
+over-machine-requires-clause-none g c h = no_slots c.over-mbufs.result.store.slots (65536 * length c.over-mbufs.result.store.pools) h c.over-mbufs.ensures.empty
 
 pub over-machine-requires-clause-rings : goal.over-machine-requires-clause-rings
-over-machine-requires-clause-rings c = rw (c.over.ensures) (without_entry c.args.region.home _ c.in-Ok.opened.1.rings c.in-Ok.ensures.opened.rings)
+over-machine-requires-clause-rings g c = rw (c.over.ensures) (without_entry c.args.region.home _ c.in-Ok.opened.1.rings c.in-Ok.ensures.opened.rings)
 
 pub over-machine-requires-clause-outboxes : goal.over-machine-requires-clause-outboxes
-over-machine-requires-clause-outboxes c = rw (c.over-2.ensures) (without_entry c.args.region.home _ c.in-Ok.opened.1.lists c.in-Ok.ensures.opened.lists)
+over-machine-requires-clause-outboxes g c = rw (c.over-2.ensures) (without_entry c.args.region.home _ c.in-Ok.opened.1.lists c.in-Ok.ensures.opened.lists)
 
 pub invariant_of-result : goal.invariant_of-result
-invariant_of-result c =
+invariant_of-result g c =
     let parts = c.in-Ok.opened.1 in
     let core : c.over-machine.result ≡ first_core c.over-mbufs.result (rings_in parts.rings) (rings_in parts.lists) =
     c.over-machine.ensures ∙ (ap (λ (rs : List RingView). first_core c.over-mbufs.result rs c.over-2.result) c.over.ensures ∙ ap
@@ -36,7 +36,7 @@ invariant_of-result c =
     c.over-mbufs.ensures c.is_well_formed.ensures.world c.new-plan.result env c.new-plan.ensures.pipeline.limits c.new-plan.ensures.tables)
 
 pub returns-clause-opened : goal.returns-clause-opened
-returns-clause-opened c =
+returns-clause-opened g c =
     let parts = c.in-Ok.opened.1 in
     let first = first_core c.over-mbufs.result (rings_in parts.rings) (rings_in parts.lists) in
     let core : c.over-machine.result ≡ first =

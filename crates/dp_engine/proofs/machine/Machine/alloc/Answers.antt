@@ -1,4 +1,4 @@
--- A new packet: what came of the call is settled once, and each goal is one step from there.
+-- A new packet: the result of the call is derived once, and each goal is one step from there.
 use Rattle.std.proofs.Common.{[], sym}
 use Rattle.dp_model.specs.Buffers.{ChangesOnly}
 use Rattle.dp_model.specs.Packets.{allocated}
@@ -8,7 +8,7 @@ use Rattle.dp_engine.proofs.Registers.{Taken, allocated_taken, too_few}
 use Rattle.dp_engine.proofs.machine.Machine.alloc.Goals as goal
 use Rattle.dp_engine.proofs.machine.Machine.alloc.Goals.{In-Some}
 
--- the packet that is given
+-- the packet that is granted
 given : (c : In-Some) → Taken (setting_of c.args.env.now [] c.args.pattern.now) c.alloc.new.self.store
     (frames_of c.self.inside.mbufs.zones c.self.inside.rings c.self.inside.outboxes) c.self.inside.registers c.self.inside.numbers
     (lists_of c.self.inside.rings c.self.inside.outboxes) c.self.inside.calls (ran c.self.inside.steps.count c.self.inside.cuts c.self.inside.jumps)

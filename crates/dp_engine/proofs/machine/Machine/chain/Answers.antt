@@ -1,4 +1,4 @@
--- Two packets joined: what their registers hold is settled once, and each goal is one step from there.
+-- Two packets joined: what their registers hold is derived once, and each goal is one step from there.
 use Rattle.dp_model.specs.Packets.{Packet}
 use Rattle.dp_model.specs.Machine.{Holds}
 use Rattle.dp_engine.specs.Handles.{lists_of}

@@ -1,4 +1,4 @@
--- A clone of a packet: what its register holds, and what came of the call, is settled once, and each goal is one step from there.
+-- A clone of a packet: what its register holds, and the result of the call, are derived once, and each goal is one step from there.
 use Rattle.std.proofs.Common.{[], ◌≡◌, length, sym}
 use Rattle.dp_model.specs.Packets.{Packet, cloned}
 use Rattle.dp_model.specs.Machine.{Holds}
@@ -14,7 +14,7 @@ there : (c : After-handle_in-source) (k : Packet) → Holds c.args.self.now.stat
     (lists_of c.self.inside.rings c.self.inside.outboxes) c.args.from c.handle_in-source.result k
 there c k holds = held _ _ _ _ _ _ _ _ c.args.from c.handle_in-source.result k c.self.view_is c.self.invariant c.handle_in-source.ensures holds
 
--- the clone that is given
+-- the clone that is granted
 given : (c : In-Some) (k : Packet) → Held c.self.inside.mbufs.store.slots c.self.inside.registers (lists_of c.self.inside.rings c.self.inside.outboxes)
     c.args.from c.handle_in-source.result k
     → Taken (setting_of c.args.env.now [] c.args.pattern.now) c.clone_of.new.self.store

@@ -1,4 +1,4 @@
--- The first packet of a transmit list given up: the packet is found once, and each goal is one step from there.
+-- Freeing the first packet of a transmit list: the packet is found once, and each goal is one step from there.
 use Rattle.std.proofs.Common.{◌≡◌, ◌∷◌, Some}
 use Rattle.std.specs.Prelude.{drop, slice_get, slice_set}
 use Rattle.dp_model.specs.Packets.{Packet}

@@ -1,4 +1,4 @@
--- Where no handle stands anywhere, no slot has a packet.
+-- Where no handle occurs, no slot has a packet.
 use Rattle.dp_engine.specs.Handles.{frames_of, ran}
 use Rattle.dp_engine.proofs.Idling.{has_none}
 use Rattle.dp_engine.proofs.machine.Machine.into_parts.Goals as goal

@@ -1,4 +1,4 @@
--- No handle stands anywhere, and no slot has a packet.
+-- No handle occurs, and no slot has a packet.
 use Rattle.dp_engine.proofs.Idling.{stand_over}
 use Rattle.dp_engine.proofs.machine.Machine.over.Goals as goal
 

@@ -1,4 +1,4 @@
--- The record of a packet that waits: its handle is settled once, and each goal is one step from there.
+-- The record of a packet that waits: its handle is derived once, and each goal is one step from there.
 use Rattle.std.proofs.Common.{◌≡◌, ◌+◌, ◌≤◌, List, length, Some, None, sym, ◌∙◌, subst, ap}
 use Rattle.std.specs.Prelude.{slice_get}
 use Rattle.std.specs.Io.KnownBytes.{Appends}

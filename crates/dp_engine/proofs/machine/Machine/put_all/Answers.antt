@@ -1,4 +1,4 @@
--- The records of a transmit list: the packet whose record is written is settled once, and each goal is one step from there.
+-- The records of a transmit list: the packet whose record is written is derived once, and each goal is one step from there.
 use Rattle.std.proofs.Common.{◌≡◌, ◌+◌, List, [], length, Some, refl, sym, ap, ◌∙◌, arith, rules}
 use Rattle.std.specs.Prelude.{slice_get}
 use Rattle.std.proofs.lemmas.Option.{same_Some}
@@ -9,7 +9,7 @@ use Rattle.dp_engine.proofs.Writing.{at_slot, appends_piece, all_written, part_w
 use Rattle.dp_engine.proofs.machine.Machine.put_all.Goals as goal
 use Rattle.dp_engine.proofs.machine.Machine.put_all.Goals.{After-put}
 
--- the packet at the slot that the loop has come to
+-- the packet at the index that the loop has reached
 next : (g : _) (c : After-put g) (packets : List Packet) → slice_get c.args.self.now.state.world.outboxes c.args.port ≡ Some packets
     → (k : Packet) × (slice_get packets c.loop-at.at ≡ Some k)
 next g c packets box =

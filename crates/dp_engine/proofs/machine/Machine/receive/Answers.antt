@@ -1,4 +1,4 @@
--- Bytes received: what came of the call is settled once, and each goal is one step from there.
+-- Receiving bytes: the result of the call is derived once, and each goal is one step from there.
 use Rattle.std.proofs.Common.{[], sym}
 use Rattle.dp_engine.specs.Steps.{setting_of}
 use Rattle.dp_engine.specs.Handles.{ran, frames_of, lists_of}

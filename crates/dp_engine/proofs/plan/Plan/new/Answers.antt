@@ -1,4 +1,4 @@
--- A new plan: that it is one is settled once.
+-- A new plan: that it is one is derived once.
 use Rattle.std.proofs.Common.{[], length, ◌∙◌, ap}
 use Rattle.dp_model.specs.Laws.Lists.{each_at}
 use Rattle.dp_lpm.specs.Routes.{HasSmallHops}
@@ -7,7 +7,7 @@ use Rattle.dp_engine.specs.Laws.{plan_of}
 use Rattle.dp_engine.proofs.plan.Plan.new.Goals as goal
 
 pub invariant_of-result : goal.invariant_of-result
-invariant_of-result c =
+invariant_of-result g c =
     let parts = c.parted-ports.ensures in
     rw (c.copy-env.ensures.same, parts.ports, parts.rings, c.new-pattern.ensures.items, c.ports.ensures, c.copy-env.ensures.same)
     (plan_of c.args.env.now c.of.result c.args.nodes.items [] c.copy-env.ensures.fits c.requires.nodes (ap length c.of.ensures.same ∙ c.requires.tables)
@@ -15,7 +15,7 @@ invariant_of-result c =
     (λ k t at. each_at HasSmallHops c.of.result k t c.of.ensures.hops at))
 
 pub returns-clause-pipeline : goal.returns-clause-pipeline
-returns-clause-pipeline c = (invariant_of-result c).pipeline
+returns-clause-pipeline g c = (invariant_of-result g c).pipeline
 
 pub returns-clause-tables : goal.returns-clause-tables
-returns-clause-tables c = (invariant_of-result c).tables_fit
+returns-clause-tables g c = (invariant_of-result g c).tables_fit

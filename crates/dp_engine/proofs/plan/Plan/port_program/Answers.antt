@@ -1,15 +1,14 @@
 -- What a plan keeps for a port is a program.
 use Rattle.std.proofs.Common.{◌<◌, length, ap, arith}
-use Rattle.std.proofs.lemmas.List.{length-map}
 use Rattle.dp_lang.specs.Programs.{IsProgram}
 use Rattle.dp_engine.specs.Schemes.{Scheme}
-use Rattle.dp_engine.proofs.Parting.{items_at}
+use Rattle.dp_engine.proofs.Parting.{item_at}
 use Rattle.dp_engine.proofs.plan.Plan.port_program.Goals as goal
 
 pub returns-clause-program : goal.returns-clause-program
-returns-clause-program c =
+returns-clause-program g c =
     let kept = c.self.inside.ports.items in
     let env = ap (λ (s : Scheme). length s.setting.env.ports) c.self.view_is in
-    let inside : c.args.port < length kept = omega (arith, c.requires, env, c.self.invariant.pipeline.ports, length-map kept (λ v. v.items)) in
-    rw (c.deref-2.ensures.value, c.index-deref-from.is, c.from.ensures, c.deref.ensures.0)
-    (items_at (λ v. v.items) IsProgram kept c.args.port c.index-deref-from.result inside c.self.invariant.ports)
+    let inside : c.args.port < length kept = omega (arith, c.requires, env, c.self.invariant.pipeline.ports) in
+    rw (c.index-deref-from.is, c.from.ensures, c.deref.ensures.0)
+    (item_at IsProgram kept c.args.port c.index-deref-from.result inside c.self.invariant.ports)

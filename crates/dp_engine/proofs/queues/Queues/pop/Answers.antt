@@ -1,4 +1,4 @@
--- The first entry of a ring taken: which it is, and which ring waited first, is settled once.
+-- The first entry of a ring is taken: which one it is, and which ring waits first, are derived once.
 use Rattle.std.proofs.Common.{◌≡◌, ◌∙◌, refl, ap, sym, subst, arith, ◌≤◌}
 use Rattle.std.specs.Prelude.{slice_get}
 use Rattle.dp_ring.specs.Rings.{without_first}
@@ -13,7 +13,7 @@ entry : (c : After-pop_in-entry) → c.pop_in-entry.result ≡ slice_get (ring_a
 entry c =
     c.pop_in-entry.ensures.first ∙ ap (λ r. slice_get r.entries 0) (ring_is _ _ c.self.view_is c.self.invariant.0 _ _ _ c.from.ensures c.requires)
 
--- the number of the first ring that waits, before that
+-- the number of the first ring that waits, before the call
 first : (c : After-pop_in-entry) → c.self.inside.first ≡ first_slot c.args.self.now
 first c = c.self.invariant.2 ∙ ap first_slot c.self.view_is
 

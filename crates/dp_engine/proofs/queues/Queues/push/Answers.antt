@@ -1,4 +1,4 @@
--- An entry put behind the others of a ring: whether it is taken, and which ring waits first then, is settled once.
+-- An entry is appended to a ring: whether it fits, and which ring waits first then, are derived once.
 use Rattle.std.proofs.Common.{◌≡◌, ◌∙◌, ap, arith, [], ◌∷◌}
 use Rattle.std.specs.Prelude.{nat_lt, if◌then◌else◌}
 use Rattle.dp_ring.specs.Rings.{RingView, room_in, with_more}
@@ -13,7 +13,7 @@ use Rattle.dp_engine.proofs.queues.Queues.push.Goals.{else-is_taken-via-then-is_
 taken : (c : After-push_in-is_taken) → c.push_in-is_taken.result ≡ nat_lt 0 (room_in (ring_at c.args.self.now c.args.k))
 taken c = c.push_in-is_taken.ensures.taken ∙ ap (λ r. nat_lt 0 (room_in r)) (ring_is _ _ c.self.view_is c.self.invariant.0 _ _ _ c.from.ensures c.requires)
 
--- the number of the first ring that waits, before the entry and behind it
+-- the number of the first ring that waits, before the call and after it
 first : (c : After-push_in-is_taken) → c.self.inside.first ≡ first_slot c.args.self.now
 first c = c.self.invariant.2 ∙ ap first_slot c.self.view_is
 

@@ -1,4 +1,4 @@
--- The last pool of a stack: what is free for it is settled once.
+-- The last pool of a stack: what is free for it is derived once.
 use Rattle.std.proofs.Common.{◌≡◌, ◌+◌, ◌-◌, ◌*◌, ◌%◌, ap, sym, subst, ◌∙◌, arith, List, length}
 use Rattle.dp_heap.specs.Elements.{freed}
 use Rattle.dp_heap.specs.Laid.{HeapView}

@@ -1,4 +1,4 @@
--- A stack over a region: what it is is settled once.
+-- A stack over a region: what it is is derived once.
 use Rattle.std.proofs.Common.{◌≡◌, ◌+◌, ap, refl, sym, subst, ◌∙◌, arith, List, length}
 use Rattle.dp_heap.specs.declared.elements.Element.{Element}
 use Rattle.dp_heap.specs.Elements.{rounded, NothingFits, Taken}

@@ -1,4 +1,4 @@
--- The next pool of a stack: what the stack is then is settled once.
+-- The next pool of a stack: what the stack is then is derived once.
 use Rattle.std.proofs.Common.{◌≡◌, ◌+◌, ap, ◌∙◌, ◌∷◌, ◌++◌, [], length}
 use Rattle.dp_pool.specs.Making.{object_name, queue_name}
 use Rattle.dp_engine.specs.Names.{pool_name}

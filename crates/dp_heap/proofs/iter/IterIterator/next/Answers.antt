@@ -1,4 +1,4 @@
--- The next element is the one at the offset, and those behind it are left.
+-- The next element is the one at the offset, and those after it are left.
 use Rattle.std.proofs.Common.{◌+◌, ◌∷◌, ◌<◌, length, sym, ap, ◌∙◌, arith}
 use Rattle.dp_heap.specs.declared.elements.Element.{Element}
 use Rattle.dp_heap.proofs.Rest.{rest_of, nothing_left, next, reached, rest_next}

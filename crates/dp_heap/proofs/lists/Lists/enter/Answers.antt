@@ -1,4 +1,4 @@
--- The element links to the one that was first in its list, and that one back to it.
+-- The element links to the former first of its list, and that one links back.
 use Rattle.std.proofs.Common.{arith}
 use Rattle.dp_heap.proofs.Lent.{free_is}
 use Rattle.dp_heap.proofs.Enter.{own, first, long1, long2, entered_laid, entered}

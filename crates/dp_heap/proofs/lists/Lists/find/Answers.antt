@@ -1,4 +1,4 @@
--- A list is passed where none of its elements can hold the block.
+-- A list is left once none of its elements has room for the block.
 use Rattle.std.proofs.Common.{ℕ, ◌<◌, subst}
 use Rattle.dp_heap.proofs.Walk.{past_begins, past_more, past_below, past_all}
 use Rattle.dp_heap.proofs.lists.Lists.find.Goals as goal

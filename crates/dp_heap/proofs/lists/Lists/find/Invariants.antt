@@ -1,4 +1,4 @@
--- No element of the lists before this one can hold the block.
+-- No element of the lists before this one has room for the block.
 use Rattle.std.proofs.Common.{◌-◌}
 use Rattle.dp_heap.proofs.Walk.{Past}
 use Rattle.dp_heap.proofs.lists.Lists.find.Given as goal

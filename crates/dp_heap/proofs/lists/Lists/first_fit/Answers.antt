@@ -1,4 +1,4 @@
--- Where the walk along a list stops there is an element with a header, and its link leads on.
+-- Where the walk along a list stops there is an element with a header, whose link leads on.
 use Rattle.std.proofs.Common.{◌≡◌, ℕ, ◌∷◌, ◌++◌, sym, ap, subst, ◌∙◌, arith}
 use Rattle.dp_heap.specs.declared.elements.Element.{Element as Item}
 use Rattle.dp_heap.specs.declared.elements.State.TheVariants.{Free}

@@ -1,4 +1,4 @@
--- The walk has passed elements that cannot hold the block, and the list has an end.
+-- The elements that the walk has passed have no room for the block, and the list ends.
 use Rattle.std.proofs.Common.{length}
 use Rattle.dp_heap.proofs.Walk.{steps_left, Walked}
 use Rattle.dp_heap.proofs.lists.Lists.first_fit.Given as goal

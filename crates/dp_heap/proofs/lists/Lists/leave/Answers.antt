@@ -1,4 +1,4 @@
--- The elements before and behind in the list link to each other.
+-- The neighbours in the list link to each other.
 use Rattle.std.proofs.Common.{sym, ◌∙◌, arith}
 use Rattle.dp_heap.proofs.Lent.{free_is}
 use Rattle.dp_heap.proofs.Listing.{Header, header_of}

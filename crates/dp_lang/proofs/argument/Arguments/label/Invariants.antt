@@ -1,4 +1,4 @@
--- `label`: the label of all operands is that of the ones that are left.
+-- `label`: the label of all operands is that of the rest.
 use Rattle.std.proofs.Common.{◌≡◌, drop}
 use Rattle.dp_lang.specs.Views.{label_in}
 use Rattle.dp_lang.proofs.argument.Arguments.label.Given as goal

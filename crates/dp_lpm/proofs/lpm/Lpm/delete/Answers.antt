@@ -1,4 +1,4 @@
--- A table that a route was taken out of is a table of routes, and no hop is too great.
+-- A table with one route fewer is a table of routes, and no hop is too great.
 use Rattle.dp_lpm.specs.Kept.{routes_in}
 use Rattle.dp_lpm.proofs.Looking.{is_table, low_hops}
 use Rattle.dp_lpm.proofs.lpm.Lpm.delete.Goals as goal

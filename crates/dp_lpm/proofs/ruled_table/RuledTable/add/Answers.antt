@@ -1,4 +1,4 @@
--- The rule is in, and the entries of its prefix are its own where it is the deepest.
+-- The rule is in, and the entries of its prefix follow from it where it is the deepest.
 use Rattle.std.proofs.Common.{arith}
 use Rattle.dp_lpm.proofs.Adding.{rule_is, added_group, added_keeps}
 use Rattle.dp_lpm.proofs.ruled_table.RuledTable.add.Goals as goal

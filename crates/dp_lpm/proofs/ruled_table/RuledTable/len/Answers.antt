@@ -1,4 +1,4 @@
--- As many routes as rules.
+-- There are as many routes as rules.
 use Rattle.dp_lpm.proofs.Looking.{is_table}
 use Rattle.dp_lpm.proofs.ruled_table.RuledTable.len.Goals as goal
 

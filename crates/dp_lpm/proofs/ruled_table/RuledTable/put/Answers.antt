@@ -1,4 +1,4 @@
--- A new rule has room, and its first bits a group; or it is refused.
+-- A new rule has room, and a group for its first bits; or it is refused.
 use Rattle.std.proofs.Common.{◌≡◌, ◌++◌, ◌∷◌, take, drop, ◌∙◌, sym, ap, subst, arith, inl, inr}
 use Rattle.std.specs.Prelude.{vec_capacity}
 use Rattle.std.proofs.lemmas.List.{length-map}

@@ -1,4 +1,4 @@
--- In index of a rule, or as a new one.
+-- The rule replaces one, or is new.
 use Rattle.std.proofs.Common.{refl, subst}
 use Rattle.std.specs.Vec.{with_item}
 use Rattle.dp_lpm.specs.Rules.{IsFound, IsMissing}

@@ -1,4 +1,4 @@
--- The rule is out, and the entries of its prefix are those of the next.
+-- The rule is out, and the entries of its prefix follow from the next.
 use Rattle.std.proofs.Common.{◌-◌, refl, sym, ◌∙◌, ap, subst}
 use Rattle.dp_lpm.specs.declared.ruled_table.RuledTable.{RuledTable}
 use Rattle.dp_lpm.specs.Cells.{IsStorable}

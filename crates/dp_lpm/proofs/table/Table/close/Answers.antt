@@ -1,4 +1,4 @@
--- One rule fewer in the group of the first bits, which may be the last.
+-- The group of the first bits has one rule fewer, perhaps none.
 use Rattle.std.proofs.Common.{◌≡◌, ◌-◌, ◌+◌, ◌*◌, refl, sym, ◌∙◌, ap, subst, arith, length-set}
 use Rattle.std.specs.Vec.{with_item}
 use Rattle.std.specs.Prelude.{slice_index, slice_set}

@@ -1,4 +1,4 @@
--- One rule more in the group of the first bits, which may be new.
+-- The group of the first bits, perhaps a new one, has one rule more.
 use Rattle.std.proofs.Common.{◌+◌, ◌*◌, refl, sym, ◌∙◌, ap, subst, arith, length}
 use Rattle.std.specs.Prelude.{◌==◌, position}
 use Rattle.std.specs.Vec.{with_item, with_items}

@@ -1,4 +1,4 @@
--- The first blocks have settled.
+-- The first blocks are overwritten.
 use Rattle.std.proofs.Common.{◌*◌}
 use Rattle.dp_lpm.specs.Cells.{entry_in}
 use Rattle.dp_lpm.specs.Tables.{Settled}

@@ -1,4 +1,4 @@
--- Bytes are cut at the front of the first segment, which has as many.
+-- Bytes are cut off the front of the first segment, which has that many.
 use Rattle.std.proofs.Common.{arith}
 use Rattle.dp_mbuf.proofs.Live.{same_store, live_object, first_fits, adj_done}
 use Rattle.dp_mbuf.proofs.mbufs.Mbufs.adj.Goals as goal

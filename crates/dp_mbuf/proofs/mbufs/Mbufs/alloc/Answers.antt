@@ -1,4 +1,4 @@
--- A free object becomes a packet of one segment, or none is free and nothing has changed.
+-- A free object becomes a packet of one segment, or none is free and nothing changes.
 use Rattle.std.proofs.Common.{ap, ◌∙◌}
 use Rattle.std.specs.Prelude.{min}
 use Rattle.dp_mbuf.proofs.Live.{same_store}

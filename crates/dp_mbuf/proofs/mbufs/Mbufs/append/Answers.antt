@@ -1,4 +1,4 @@
--- Zeros behind the last segment: what stands free there is opened once.
+-- Zeros after the last segment: the tailroom is derived once.
 use Rattle.std.proofs.Common.{◌≡◌, ◌+◌, ◌≤◌, refl, ap, arith}
 use Rattle.dp_model.specs.Environments.{room_at}
 use Rattle.dp_mbuf.specs.Mbufs.{numbered}
@@ -13,7 +13,7 @@ use Rattle.dp_mbuf.proofs.mbufs.Mbufs.append.Goals.{After-header-tail}
 last : (c : After-header-tail) → c.header-tail.result ≡ header_at c.self.inside.objects (header_at c.self.inside.objects (numbered c.args.packet.now)).last
 last c = rw c.first_header-last.ensures at c.header-tail.ensures
 
--- so many bytes are free behind
+-- that many bytes are free at the end
 free : (c : After-header-tail) →
     (c.header-tail.result.offset + c.header-tail.result.len + c.args.n ≤ room_at (specs_of c.self.inside.objects) c.header-tail.result.buffer.pool)
     × HasObject c.self.inside.objects c.header-tail.result.buffer

@@ -1,4 +1,4 @@
--- As many objects are in the pool as the store has numbers free there.
+-- The pool has as many objects in as the store has free numbers there.
 use Rattle.std.proofs.Common.{sym, ◌∙◌}
 use Rattle.dp_mbuf.proofs.Live.{same_store}
 use Rattle.dp_mbuf.proofs.Allocs.{free_in}

@@ -1,4 +1,4 @@
--- Two packets joined: their first headers are opened once, and each goal is one step from there.
+-- Two packets joined: their first headers are derived once, and each goal is one step from there.
 use Rattle.std.proofs.Common.{arith, ◌∙◌}
 use Rattle.dp_mbuf.proofs.Live.{same_store, live_object}
 use Rattle.dp_mbuf.proofs.InHand.{object_after}

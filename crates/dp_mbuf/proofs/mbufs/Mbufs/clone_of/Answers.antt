@@ -1,4 +1,4 @@
--- A clone of a packet: the call is opened once, and each goal is one step of it.
+-- A clone: the call's start is derived once, and each goal is one step of it.
 use Rattle.std.proofs.Common.{refl, ap, arith, ◌∙◌}
 use Rattle.dp_model.specs.Packets.{Packet}
 use Rattle.dp_model.specs.Stores.{Has}
@@ -8,7 +8,7 @@ use Rattle.dp_mbuf.proofs.Cloning.{Opening, before, cloning_can, cloning_start, 
 use Rattle.dp_mbuf.proofs.mbufs.Mbufs.clone_of.Goals as goal
 use Rattle.dp_mbuf.proofs.mbufs.Mbufs.clone_of.Goals.{After-first_number}
 
--- the call, once its packet is known and mbufs enough are free
+-- the call, once its packet is known and enough mbufs are free
 opening : (c : After-first_number) (p : Packet) → Has c.args.self.now.store c.args.packet.now p →
     Opening c.self.inside.objects c.args.self.now.store c.args.packet.now p c.args.pool c.first_header-source.result.segs
 opening c p has =

@@ -1,4 +1,4 @@
--- So many segments are cloned and linked.
+-- The first k segments are cloned and linked.
 use Rattle.std.proofs.Common.{◌≡◌}
 use Rattle.dp_model.specs.Packets.{Packet}
 use Rattle.dp_model.specs.Stores.{Has}

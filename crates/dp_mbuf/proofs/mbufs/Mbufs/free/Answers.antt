@@ -1,34 +1,51 @@
--- The mbufs of a packet are given back one by one, along their links.
-use Rattle.std.proofs.Common.{◌∙◌}
+-- A packet of one segment is freed at once, any other mbuf by mbuf.
+use Rattle.std.proofs.Common.{◌≡◌, ◌∙◌, ap, sym}
+use Rattle.dp_mbuf.specs.Objects.{header_at}
+use Rattle.dp_mbuf.specs.Mbufs.{Freeing}
 use Rattle.dp_mbuf.proofs.InHand.{released_zones}
 use Rattle.dp_mbuf.proofs.Live.{same_store, same_zones, live_object}
-use Rattle.dp_mbuf.proofs.Freeing.{freeing_start, freeing_can, freeing_step, freeing_end}
+use Rattle.dp_mbuf.proofs.Freeing.{freeing_start, freeing_only, freed_only}
 use Rattle.dp_mbuf.proofs.mbufs.Mbufs.free.Goals as goal
+use Rattle.dp_mbuf.proofs.mbufs.Mbufs.free.Goals.{After-unhook-head}
+
+-- all its mbufs are in hand
+started : (c : After-unhook-head) →
+    Freeing c.unhook-head.new.objects c.first_number-first.result 0 c.unhook-head.result.segs c.args.self.now.store c.args.packet
+started c =
+    let set = rw c.first_number-first.ensures at c.unhook-head.ensures.now in
+    let was = rw c.first_number-first.ensures at c.unhook-head.ensures.was in
+    rw (c.first_number-first.ensures, was) (freeing_start _ _ _ _ (same_store c.self.view_is) c.self.invariant c.requires set)
+
+-- the first header's buffer stays
+buffer : (c : After-unhook-head) → (header_at c.unhook-head.new.objects c.first_number-first.result).buffer ≡ c.unhook-head.result.buffer
+buffer c = ap (λ h. h.buffer) c.unhook-head.ensures.now.here ∙ sym (ap (λ h. h.buffer) c.unhook-head.ensures.was)
 
 pub unhook-head-requires : goal.unhook-head-requires
-unhook-head-requires c = rw c.first_number.ensures (live_object _ _ c.args.packet (same_store c.self.view_is) c.self.invariant c.requires)
+unhook-head-requires c = rw c.first_number-first.ensures (live_object _ _ c.args.packet (same_store c.self.view_is) c.self.invariant c.requires)
 
-pub loop-i-init : goal.loop-i-init
-loop-i-init c = record {
-  packets =
-      let set = rw c.first_number.ensures at c.unhook-head.ensures.now in
-      let was = rw c.first_number.ensures at c.unhook-head.ensures.was in
-      rw (c.first_number-mbuf.ensures, was) (freeing_start _ _ _ _ (same_store c.self.view_is) c.self.invariant c.requires set);
-  zones = c.unhook-head.ensures.now.zones ∙ same_zones c.self.view_is;
-}
+pub release_only-requires-clause-can : goal.release_only-requires-clause-can
+release_only-requires-clause-can c =
+    let here = (goal.at.release_only-requires-clause-can c).After-unhook-head in
+    freeing_only _ _ _ _ _ _ (started here) c.if-segs-eq1.true (buffer here)
 
-pub release-mbuf-requires : goal.release-mbuf-requires
-release-mbuf-requires c = freeing_can _ _ _ _ _ _ c.loop-i.invariant.packets c.loop-i-test.true
-
-pub loop-i-preserved : goal.loop-i-preserved
-loop-i-preserved c = record {
-  packets =
-      freeing_step _ _ _ _ _ _ c.loop-i.invariant.packets _ _ c.loop-i-test.true c.release-mbuf.ensures.gone c.release-mbuf.ensures.next;
-  zones = released_zones _ _ _ _ c.release-mbuf.ensures.gone ∙ c.loop-i.invariant.zones;
-}
+pub release_all-requires : goal.release_all-requires
+release_all-requires c = (_, _, started (goal.at.release_all-requires c).After-unhook-head)
 
 pub invariant_of-self : goal.invariant_of-self
-invariant_of-self c = (freeing_end _ _ _ _ _ _ c.loop-i.invariant.packets c.loop-i-test.false).0
+invariant_of-self c =
+    let here = (goal.at.invariant_of-self c).After-unhook-head in
+    (freed_only _ _ _ _ _ _ (started here) c.if-segs-eq1.true (buffer here) _ c.release_only.ensures).0
 
-pub returns-clause-packets : goal.returns-clause-packets
-returns-clause-packets c = (freeing_end _ _ _ _ _ _ c.loop-i.invariant.packets c.loop-i-test.false).1
+pub invariant_of-self-else-segs-eq1 : goal.invariant_of-self-else-segs-eq1
+invariant_of-self-else-segs-eq1 c = (c.release_all.ensures.packets _ _ (started (goal.at.invariant_of-self-else-segs-eq1 c).After-unhook-head)).0
+
+pub returns-then-segs-eq1-clause-packets : goal.returns-then-segs-eq1-clause-packets
+returns-then-segs-eq1-clause-packets c =
+    let here = (goal.at.returns-then-segs-eq1-clause-packets c).After-unhook-head in
+    (freed_only _ _ _ _ _ _ (started here) c.if-segs-eq1.true (buffer here) _ c.release_only.ensures).1
+
+pub returns-then-segs-eq1-clause-zones : goal.returns-then-segs-eq1-clause-zones
+returns-then-segs-eq1-clause-zones c = released_zones _ _ _ _ c.release_only.ensures ∙ (c.unhook-head.ensures.now.zones ∙ same_zones c.self.view_is)
+
+pub returns-else-segs-eq1-clause-packets : goal.returns-else-segs-eq1-clause-packets
+returns-else-segs-eq1-clause-packets c = (c.release_all.ensures.packets _ _ (started (goal.at.returns-else-segs-eq1-clause-packets c).After-unhook-head)).1

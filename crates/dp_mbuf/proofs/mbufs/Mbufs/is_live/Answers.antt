@@ -1,4 +1,4 @@
--- A handle is a packet's where its object is out and has segments.
+-- A handle is a packet's exactly if its object is out and has segments.
 use Rattle.std.proofs.Common.{◌≡◌, ◌∙◌, ap, sym, length, arith}
 use Rattle.std.proofs.lemmas.Bool.{le-ltb}
 use Rattle.dp_mbuf.specs.Objects.{pool_in}

@@ -1,4 +1,4 @@
--- One segment after the other: the buffers so far have one reference each, or one has another number.
+-- One segment after the other: each buffer so far has one reference, or one has another number.
 use Rattle.std.proofs.Common.{◌≡◌, ◌<◌, length, refl, ap, arith, subst, sym, ◌∙◌}
 use Rattle.std.proofs.lemmas.List.{drop_all}
 use Rattle.dp_model.specs.Packets.{Packet, IsSole}
@@ -9,7 +9,7 @@ use Rattle.dp_mbuf.proofs.Reading.{links_of, many_of, part, walk_next, sole_more
 use Rattle.dp_mbuf.proofs.mbufs.Mbufs.is_sole.Goals as goal
 use Rattle.dp_mbuf.proofs.mbufs.Mbufs.is_sole.Goals.{After-first_header-segs}
 
--- the first header counts the segments
+-- the first header has the number of segments
 counted : (c : After-first_header-segs) (p : Packet) → Has c.args.self.now.store c.args.packet.now p → c.first_header-segs.result.segs ≡ length p
 counted c p has =
     ap (λ h. h.segs) c.first_header-segs.ensures ∙ (many_of _ _ c.args.packet.now (same_store c.self.view_is) c.self.invariant p has).0

@@ -1,4 +1,4 @@
--- The packet is sole if the segments from here on are.
+-- The packet is sole exactly if the segments from here on are.
 use Rattle.std.proofs.Common.{drop}
 use Rattle.dp_model.specs.Packets.{Packet, IsSole}
 use Rattle.dp_model.specs.Stores.{Has, segments_of}

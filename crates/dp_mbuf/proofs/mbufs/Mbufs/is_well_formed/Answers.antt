@@ -1,4 +1,4 @@
--- What is known of the pools and of the headers.
+-- What is known of the pools and the headers.
 use Rattle.std.proofs.Common.{arith}
 use Rattle.dp_mbuf.proofs.Live.{same_store}
 use Rattle.dp_mbuf.proofs.Owned.{owned, within, few_refs, few_mbufs, one_to_64}

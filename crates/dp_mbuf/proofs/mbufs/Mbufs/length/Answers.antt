@@ -1,4 +1,4 @@
--- The lengths of the segments are added up along their links, and never overflow.
+-- The lengths are added along the links, and never overflow.
 use Rattle.std.proofs.Common.{◌<◌, length, ap, arith}
 use Rattle.std.proofs.lemmas.List.{drop_all}
 use Rattle.dp_model.specs.Packets.{packet_bytes}

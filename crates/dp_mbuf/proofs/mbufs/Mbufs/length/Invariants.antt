@@ -1,4 +1,4 @@
--- The sum so far and the bytes of the segments from here on are the packet's.
+-- The sum so far plus the bytes from here on is the packet's length.
 use Rattle.std.proofs.Common.{◌≡◌, ◌+◌, length, drop}
 use Rattle.dp_model.specs.Packets.{Packet, packet_bytes}
 use Rattle.dp_model.specs.Stores.{Has}

@@ -1,4 +1,4 @@
--- Objects that are all in their pools and at which no packet begins are a store without packets.
+-- Pools with all objects in and no packet at any of them are a store without packets.
 use Rattle.dp_mbuf.proofs.Starting.{new_is}
 use Rattle.dp_mbuf.proofs.mbufs.Mbufs.over.Goals as goal
 

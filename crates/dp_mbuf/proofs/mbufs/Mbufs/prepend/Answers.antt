@@ -1,4 +1,4 @@
--- Zeros in front of the first segment: what stands free there is opened once.
+-- Zeros before the first segment: the headroom is derived once.
 use Rattle.std.proofs.Common.{◌≤◌, refl, ap, arith}
 use Rattle.dp_model.specs.Environments.{room_at}
 use Rattle.dp_mbuf.proofs.Live.{same_store, live_object}
@@ -7,7 +7,7 @@ use Rattle.dp_mbuf.proofs.Bytes.{first_part, before_first, prepended_done}
 use Rattle.dp_mbuf.proofs.mbufs.Mbufs.prepend.Goals as goal
 use Rattle.dp_mbuf.proofs.mbufs.Mbufs.prepend.Goals.{After-first_header-head}
 
--- so many bytes are free in front
+-- that many bytes are free at the front
 free : (c : After-first_header-head) → c.args.n ≤ c.first_header-head.result.offset
 free c = before_first _ _ c.args.packet.now (same_store c.self.view_is) c.self.invariant _ c.args.n c.first_header-head.ensures (
   c.requires.0,

@@ -1,4 +1,4 @@
--- The bytes of a segment stand in its buffer, from its offset on.
+-- The bytes of a segment lie in its buffer from its offset on.
 use Rattle.std.proofs.Common.{◌<◌, length, ap, arith, ◌∙◌}
 use Rattle.dp_model.specs.Packets.{Segment, segment_bytes}
 use Rattle.dp_mbuf.specs.Objects.{buffers_of}

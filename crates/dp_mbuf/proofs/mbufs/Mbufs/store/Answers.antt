@@ -1,4 +1,4 @@
--- The number is written in the first segment, which has its bytes.
+-- The number is written into the first segment, which has its bytes.
 use Rattle.std.proofs.Common.{refl, arith}
 use Rattle.dp_model.specs.Arithmetic.{bytes_in}
 use Rattle.dp_mbuf.proofs.Live.{same_store, live_object}

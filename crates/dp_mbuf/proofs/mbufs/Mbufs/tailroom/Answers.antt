@@ -1,4 +1,4 @@
--- The room behind the last segment is what its offset and its length leave of the data room.
+-- The tailroom is what the last segment's offset and length leave of the data room.
 use Rattle.std.proofs.Common.{arith}
 use Rattle.dp_mbuf.proofs.Live.{same_store, live_object, last_object, last_room, tailroom_is_left}
 use Rattle.dp_mbuf.proofs.mbufs.Mbufs.tailroom.Goals as goal

@@ -1,4 +1,4 @@
--- Bytes are cut at the end of the last segment, which has as many.
+-- Bytes are cut off the end of the last segment, which has that many.
 use Rattle.dp_mbuf.proofs.Live.{same_store, live_object, last_object, last_fits, trim_done}
 use Rattle.dp_mbuf.proofs.mbufs.Mbufs.trim.Goals as goal
 

@@ -1,4 +1,4 @@
--- The bytes behind the header of an object are its data room.
+-- The bytes after an object's header are its data room.
 use Rattle.std.proofs.Common.{◌≡◌, ◌-◌, sym, ◌∙◌, ap, arith, length, drop}
 use Rattle.dp_pool.specs.Pools.{object_in}
 use Rattle.dp_mbuf.specs.Objects.{pool_in}

@@ -1,4 +1,4 @@
--- A pool has its count of objects, and where there is no pool there are none.
+-- A pool has its number of objects, and a missing pool has none.
 use Rattle.std.proofs.Common.{◌∙◌, sym, arith}
 use Rattle.dp_mbuf.proofs.ObjectCalls.{counted, counted_none}
 use Rattle.dp_mbuf.proofs.objects.Objects.count.Goals as goal

@@ -1,4 +1,4 @@
--- One slot more with each step, and all are at the end.
+-- Each step marks one slot more.
 use Rattle.std.proofs.Common.{rules}
 use Rattle.dp_mbuf.proofs.Unhooking.{has_header, over_done}
 use Rattle.dp_mbuf.proofs.objects.Objects.over.Goals as goal

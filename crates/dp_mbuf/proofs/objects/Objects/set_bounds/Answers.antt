@@ -1,4 +1,4 @@
--- The pair of words that is written is the header's offset and length.
+-- The two words are the header's offset and length.
 use Rattle.std.proofs.Common.{refl}
 use Rattle.dp_mbuf.proofs.HeaderFields.{bounds_done}
 use Rattle.dp_mbuf.proofs.objects.Objects.set_bounds.Goals as goal

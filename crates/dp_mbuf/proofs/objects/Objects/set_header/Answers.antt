@@ -1,4 +1,4 @@
--- The bytes that are written in front are the header's.
+-- The bytes written at the front are the header's.
 use Rattle.dp_mbuf.proofs.HeaderFields.{header_done}
 use Rattle.dp_mbuf.proofs.objects.Objects.set_header.Goals as goal
 

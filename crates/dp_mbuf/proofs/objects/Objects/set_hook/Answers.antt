@@ -1,4 +1,4 @@
--- The words that are written are the header's number of segments and last mbuf.
+-- The words are the header's number of segments and last mbuf.
 use Rattle.std.proofs.Common.{◌∙◌, arith}
 use Rattle.dp_mbuf.proofs.ObjectCalls.{listed as pool_listed, fits, front_fits}
 use Rattle.dp_mbuf.proofs.ObjectLemmas.{object_pool}

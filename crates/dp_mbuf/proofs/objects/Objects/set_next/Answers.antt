@@ -1,4 +1,4 @@
--- The pair of words that is written is the header's next mbuf.
+-- The two words are the header's next mbuf.
 use Rattle.std.proofs.Common.{refl}
 use Rattle.dp_mbuf.proofs.HeaderFields.{next_done}
 use Rattle.dp_mbuf.proofs.objects.Objects.set_next.Goals as goal

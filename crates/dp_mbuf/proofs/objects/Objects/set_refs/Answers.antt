@@ -1,4 +1,4 @@
--- The bytes that are written in front are the header's references.
+-- The bytes written at the front are the header's references.
 use Rattle.dp_mbuf.proofs.HeaderFields.{refs_done}
 use Rattle.dp_mbuf.proofs.objects.Objects.set_refs.Goals as goal
 

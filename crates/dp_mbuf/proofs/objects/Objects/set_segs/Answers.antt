@@ -1,4 +1,4 @@
--- The bytes that are written in front are the header's number of segments.
+-- The bytes written at the front are the header's number of segments.
 use Rattle.dp_mbuf.proofs.HeaderFields.{segs_done}
 use Rattle.dp_mbuf.proofs.objects.Objects.set_segs.Goals as goal
 

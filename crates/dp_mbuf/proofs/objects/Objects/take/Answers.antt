@@ -1,4 +1,4 @@
--- An object of the pool is handed out, or none is free.
+-- An object of the pool is taken, or none is in.
 use Rattle.std.proofs.Common.{refl, sym}
 use Rattle.dp_mbuf.proofs.ObjectCalls.{listed as pool_listed, has, take_some, take_none}
 use Rattle.dp_mbuf.proofs.objects.Objects.take.Goals as goal

@@ -1,4 +1,4 @@
--- Bytes are written behind an object's header, within its data room.
+-- Bytes are written after an object's header, in its data room.
 use Rattle.std.proofs.Common.{◌∙◌, arith, length}
 use Rattle.dp_mbuf.proofs.ObjectCalls.{listed as pool_listed, fits, room_fits, room_small, room_done}
 use Rattle.dp_mbuf.proofs.ObjectLemmas.{object_pool}

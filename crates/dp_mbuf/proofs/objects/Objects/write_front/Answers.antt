@@ -1,4 +1,4 @@
--- Bytes are written in an object's header.
+-- Bytes are written into an object's header.
 use Rattle.std.proofs.Common.{◌∙◌, arith, length}
 use Rattle.dp_mbuf.proofs.ObjectCalls.{are, listed as pool_listed, fits, front_fits, front_done}
 use Rattle.dp_mbuf.proofs.ObjectLemmas.{object_pool, object_long}

@@ -1,4 +1,4 @@
--- A number is written behind an object's header, the highest byte first.
+-- A number is written after an object's header, big-endian.
 use Rattle.std.proofs.Common.{◌∙◌, arith}
 use Rattle.dp_model.specs.Arithmetic.{bytes_in, big_endian}
 use Rattle.dp_mbuf.proofs.Spelled.{length_spelled, small_spelled}

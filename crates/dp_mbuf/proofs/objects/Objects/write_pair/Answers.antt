@@ -1,4 +1,4 @@
--- Two words are written in an object's header.
+-- Two words are written into an object's header.
 use Rattle.std.proofs.Common.{◌∙◌, arith, []}
 use Rattle.dp_mbuf.specs.Headers.{then_word}
 use Rattle.dp_mbuf.proofs.HeaderFields.{small_words}

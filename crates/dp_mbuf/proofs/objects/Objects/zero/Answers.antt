@@ -1,4 +1,4 @@
--- Zeros are written behind an object's header, within its data room.
+-- Zeros are written after an object's header, in its data room.
 use Rattle.std.proofs.Common.{ℕ, ◌∙◌, arith}
 use Rattle.std.specs.Prelude.{replicate}
 use Rattle.std.proofs.lemmas.List.{length-replicate}

@@ -1,4 +1,4 @@
--- A count that begins: it has no bytes, so the walk makes it of nothing, and picks 0 for its number.
+-- A new count: it takes no bytes, so the walk makes it of nothing, with the number 0.
 use Rattle.std.proofs.Common.{[], ◌∷◌, refl}
 use Rattle.std.proofs.raw_atomic.Walks.{proved}
 use base.Fml.{ftrue}

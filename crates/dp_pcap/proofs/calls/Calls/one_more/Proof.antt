@@ -1,4 +1,4 @@
--- One call more: the walk reads nothing of the old count, makes a new one of nothing, and picks its number.
+-- One more call: the walk reads nothing of the old count, and makes a new one of nothing with its number.
 use Rattle.std.proofs.Common.{ℕ, ◌+◌, [], ◌∷◌, refl}
 use Rattle.std.proofs.raw_atomic.Walks.{proved}
 use base.Fml.{ftrue}
@@ -21,7 +21,7 @@ use Rattle.dp_pcap.proofs.calls.Calls.one_more.Statement.{statement}
 use Rattle.dp_pcap.proofs.calls.Calls.one_more.Code as code
 use Rattle.dp_pcap.proofs.CountLemmas.{count_of_nothing}
 
--- the old count, behind a `&`
+-- the old count, through a reference
 abbrev before : Slot 1
 before = shr_ref_to (0 ∷ []) tt (plain (λ _. the_row))
 

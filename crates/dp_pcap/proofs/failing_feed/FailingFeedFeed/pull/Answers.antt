@@ -1,4 +1,4 @@
--- `pull` of a failing feed: what it gives is a front of what the feed inside has, cut where it is to fail.
+-- `pull` of a failing feed gives a front of what the inner feed has, cut where it is to fail.
 use Rattle.std.proofs.Common.{◌≡◌, ℕ, ◌+◌, ◌-◌, ◌<◌, ◌≤◌, List, [], ◌++◌, Option, None, Some, rules, arith, length, take, drop, sym, ap, ◌∙◌, zero-le}
 use Rattle.std.proofs.Common.{take_all, length-take-le, length-append, length-drop}
 use Rattle.std.proofs.lemmas.List.{take-append-le}

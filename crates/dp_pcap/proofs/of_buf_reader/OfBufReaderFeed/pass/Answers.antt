@@ -1,4 +1,4 @@
--- `pass` of a buffered reader: what is consumed stood at hand.
+-- `pass` of a buffered reader: what is consumed was buffered.
 use Rattle.dp_pcap.proofs.AtHand.{passes}
 use Rattle.dp_pcap.proofs.of_buf_reader.OfBufReaderFeed.pass.Goals as goal
 

@@ -1,4 +1,4 @@
--- One offer more: the walk reads nothing of the old ones, makes new ones of nothing, and picks their list.
+-- One more offer: the walk reads nothing of the old ones, and makes new ones of nothing with their list.
 use Rattle.std.proofs.Common.{ℕ, List, [], ◌∷◌, ◌++◌, refl}
 use Rattle.std.proofs.raw_atomic.Walks.{proved}
 use base.Fml.{ftrue}
@@ -23,7 +23,7 @@ use Rattle.dp_pcap.proofs.offers.Offers.and.Statement.{statement}
 use Rattle.dp_pcap.proofs.offers.Offers.and.Code as code
 use Rattle.dp_pcap.proofs.OfferLemmas.{offers_of_nothing}
 
--- the old offers, behind a `&`
+-- the old offers, through a reference
 abbrev before : Slot 2
 before = shr_ref_to (0 ∷ []) tt (plain (λ _. the_row))
 

@@ -1,4 +1,4 @@
--- Offers that begin: they have no bytes, so the walk makes them of nothing, and picks the empty list.
+-- New offers: they take no bytes, so the walk makes them of nothing, with the empty list.
 use Rattle.std.proofs.Common.{[], ◌∷◌, refl}
 use Rattle.std.proofs.raw_atomic.Walks.{proved}
 use base.Fml.{ftrue}

@@ -1,4 +1,4 @@
--- A header has 24 bytes, and tells the order.
+-- A header has 24 bytes, and decides the byte order.
 use Rattle.std.proofs.Common.{◌≡◌, refl, subst, sym, ap, arith, length-take, ◌∙◌}
 use Rattle.dp_pcap.specs.Counting.{Counted, none_yet}
 use Rattle.dp_pcap.proofs.whole_records.WholeRecords.of_capture.Goals as goal

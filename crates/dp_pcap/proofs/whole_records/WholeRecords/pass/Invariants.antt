@@ -1,4 +1,4 @@
--- `pass`: the count stands behind the bytes that went by.
+-- `pass`: the count is that after the bytes that passed.
 use Rattle.std.proofs.Common.{length, ◌-◌}
 use Rattle.dp_pcap.proofs.Counting.{Passing}
 use Rattle.dp_pcap.proofs.whole_records.WholeRecords.pass.Given as goal

@@ -6,7 +6,7 @@ use Rattle.dp_pcap.proofs.Counting.{IsHead, head_ends, head_goes_on}
 use Rattle.dp_pcap.proofs.whole_records.WholeRecords.take_head.Goals as goal
 use Rattle.dp_pcap.proofs.whole_records.WholeRecords.take_head.Goals.{After-body_length}
 
--- the head that is whole now
+-- the head that is now whole
 head : (c : After-body_length) → IsHead c.self.inside.order c.self.inside.came (c.self.inside.came + c.min-taken.result - c.self.inside.came)
     c.min-taken.result c.body_length.result c.self.inside.head c.copy_from_slice.new.self c.args.bytes.now
 unfolding number
@@ -19,7 +19,7 @@ head c = record {
   is_long = c.body_length.ensures;
 }
 
--- no byte was left in front of it
+-- no byte was left before it
 none : (c : After-body_length) → c.self.inside.left ≡ 0
 none c = ap (λ (v : Counted). v.left) c.self.view_is ∙ c.requires.none
 

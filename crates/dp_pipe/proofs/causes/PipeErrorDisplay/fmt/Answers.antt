@@ -1,4 +1,4 @@
--- The last arm, which the search leaves.
+-- The last arm, which the search does not find.
 use Rattle.dp_pipe.proofs.causes.PipeErrorDisplay.fmt.Goals as goal
 
 pub returns-in-Refused-clause-writes : goal.returns-in-Refused-clause-writes

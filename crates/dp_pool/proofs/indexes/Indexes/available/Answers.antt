@@ -1,4 +1,4 @@
--- Those of the cache and those of the queue, together.
+-- Those of the cache and those of the queue add up.
 use Rattle.std.proofs.Common.{rules, ◌≡◌, ◌+◌, ◌≤◌, sym, ap, ◌∙◌, arith, length}
 use Rattle.dp_pool.specs.Queues.{in_count}
 use Rattle.dp_pool.proofs.Steps.{in_count_parts, few_parts}

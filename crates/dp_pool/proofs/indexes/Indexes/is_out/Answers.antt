@@ -1,4 +1,4 @@
--- It is out where it is below the number, and neither in the cache nor in the queue.
+-- An index is out exactly if it is below the number and neither in the cache nor in the queue.
 use Rattle.std.proofs.Common.{not, ◌&&◌, eqb, ◌++◌, sym, ap, ap₂, ◌∙◌}
 use Rattle.std.specs.List.{list_any}
 use Rattle.dp_pool.specs.Pools.{is_out_in}

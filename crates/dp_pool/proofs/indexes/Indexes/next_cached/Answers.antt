@@ -1,4 +1,4 @@
--- The last of the cache is handed out.
+-- The last of the cache is taken.
 use Rattle.std.proofs.Common.{◌≡◌, ◌+◌, ◌-◌, ◌∷◌, [], ◌++◌, length, slice_get, sym, ap, ap₂, ◌∙◌, arith, length-append}
 use Rattle.std.specs.Prelude.{option_to_list}
 use Rattle.dp_pool.proofs.Views.{view_of, with_state, got_cached}

@@ -1,4 +1,4 @@
--- The first of the queue is handed out.
+-- The first of the queue is taken.
 use Rattle.std.proofs.Common.{◌<◌, ◌++◌, length, drop, slice_get, sym, ap, ◌∙◌, subst, arith}
 use Rattle.dp_pool.specs.Once.{AreOnce}
 use Rattle.dp_pool.specs.Queues.{in_count}

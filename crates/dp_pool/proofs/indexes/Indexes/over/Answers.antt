@@ -1,4 +1,4 @@
--- All indexes stand in the queue.
+-- All indexes are in the queue.
 use Rattle.std.proofs.Common.{◌≡◌, ◌++◌, length, replicate, false, sym, ap, ap₂, subst, ◌∙◌, arith}
 use Rattle.dp_pool.specs.Once.{AreOnce, absent, upto}
 use Rattle.dp_pool.proofs.Upto.{once_upto, absent-upto}

@@ -1,4 +1,4 @@
--- The indexes stand at the end of the cache.
+-- The indexes are appended to the cache.
 use Rattle.std.proofs.Common.{◌≡◌, ◌<◌, ◌++◌, length, sym, ap, subst, ◌∙◌, arith, length-append}
 use Rattle.dp_pool.specs.Once.{AreOnce}
 use Rattle.dp_pool.specs.Queues.{AreOut, all_returned}

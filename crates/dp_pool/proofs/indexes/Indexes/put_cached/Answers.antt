@@ -1,4 +1,4 @@
--- The index stands at the end of the cache, or the cache has given its end to the queue.
+-- The index is last in the cache, or the cache has moved its end to the queue.
 use Rattle.std.proofs.Common.{◌≡◌, ℕ, ◌<◌, true, ◌++◌, length, take, slice_get, Some, sym, ap, ap₂, ◌∙◌, subst, arith}
 use lib.Seq.{length-take-le}
 use Rattle.dp_pool.specs.Once.{absent}
@@ -31,7 +31,7 @@ flushed c =
     (flushed_back n c.args.index c.self.inside.cached.items c.self.inside.queue.entries c.push.new.self.items c.push.ensures.items
     (out_of _ c.args.self.now c.args.index c.self.view_is c.requires.out) c.self.invariant.0 c.self.inside.cache))
 
--- the cache keeps as many as it is for
+-- the cache keeps its size
 keeps : (c : goal.After-move_out) → length c.move_out.new.cached.items ≡ c.self.inside.cache
 keeps c =
     let full = c.if-len-self.true in

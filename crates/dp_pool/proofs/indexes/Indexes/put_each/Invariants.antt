@@ -1,4 +1,4 @@
--- Those behind the index come back as they would have after those before it.
+-- The indexes after this one are put back as they would be after those before it.
 use Rattle.std.proofs.Common.{◌≡◌, drop}
 use Rattle.dp_pool.specs.Queues.{AreOut, all_returned}
 use Rattle.dp_pool.proofs.indexes.Indexes.put_each.Given as goal

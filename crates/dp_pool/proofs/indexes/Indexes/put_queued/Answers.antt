@@ -1,4 +1,4 @@
--- The index stands at the end of the queue.
+-- The index is appended to the queue.
 use Rattle.std.proofs.Common.{◌≡◌, ◌<◌, cond, [], ◌∷◌, ◌++◌, length, slice_get, sym, ap, ◌∙◌, subst, arith, length-append}
 use Rattle.std.proofs.lemmas.Bool.{lt-ltb}
 use Rattle.dp_ring.specs.Rings.{room_in, with_more}

@@ -1,4 +1,4 @@
--- The queue's front stands in the cache then, and the same indexes are in.
+-- The queue's front is then in the cache, and the same indexes are in.
 use Rattle.std.proofs.Common.{◌≡◌, min, ◌++◌, length, take, drop, sym, ap, ap₂, ◌∙◌, arith, length-append}
 use lib.Seq.{length-take-le}
 use Rattle.dp_pool.specs.Once.{absent}

@@ -1,4 +1,4 @@
--- The end of the cache is handed out.
+-- The end of the cache is taken.
 use Rattle.std.proofs.Common.{◌≡◌, ◌-◌, ◌∙◌, ◌++◌, length, take, drop, ap, subst, arith}
 use Rattle.std.proofs.lemmas.List.{take_rest}
 use Rattle.dp_pool.specs.Once.{AreOnce}

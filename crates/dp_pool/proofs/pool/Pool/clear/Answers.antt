@@ -1,4 +1,4 @@
--- The bytes go to the object's offset in the zone.
+-- The bytes are written at the object's offset in the zone.
 use Rattle.std.proofs.Common.{ℕ, replicate, arith}
 use Rattle.std.proofs.lemmas.List.{length-replicate}
 use Rattle.dp_pool.proofs.Pools.{index_below, pool_written}

@@ -1,4 +1,4 @@
--- One more object is handed out, to the next slot of the list.
+-- One more object is taken into the next slot of the list.
 use Rattle.std.proofs.Common.{◌≡◌, suc, ◌+◌, ◌∷◌, [], ◌++◌, take, slice_set, sym, ap, subst, ◌∙◌, arith}
 use Rattle.std.proofs.lemmas.List.{length-set}
 use lib.Seq.{take-suc-set}

@@ -1,4 +1,4 @@
--- So many objects are handed out.
+-- The first k slots have an object.
 use Rattle.std.proofs.Common.{◌≡◌, ◌+◌, length, take}
 use Rattle.dp_pool.specs.Queues.{in_count}
 use Rattle.dp_pool.specs.Pools.{AreGot}

@@ -1,4 +1,4 @@
--- Either both zones stand last in the table, or none does.
+-- Either both zones are last in the table, or neither is.
 use Rattle.std.proofs.Common.{◌*◌, refl, ap, ap₂, sym, subst, ◌∙◌}
 use Rattle.dp_zone.specs.Zones.{without_name}
 use Rattle.dp_pool.specs.Making.{Reserves, object_name, queue_name, object_len}

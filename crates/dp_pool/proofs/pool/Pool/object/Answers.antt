@@ -1,4 +1,4 @@
--- The object stands at its offset in the zone.
+-- The object is at its offset in the zone.
 use Rattle.std.proofs.Common.{◌≡◌, ◌+◌, ◌-◌, take, drop, ap, ap₂, ◌∙◌, arith}
 use Rattle.dp_region.specs.Spans.{bytes_in}
 use Rattle.dp_pool.proofs.Pools.{index_below, object_bytes}

@@ -1,4 +1,4 @@
--- What is left in the object is left in the zone.
+-- What comes back into the object comes back into the zone.
 use Rattle.std.proofs.Common.{refl, ap, ◌∙◌}
 use Rattle.dp_region.specs.Spans.{bytes_in}
 use Rattle.dp_pool.proofs.Pools.{index_below, object_bytes, pool_left, left_alone}

@@ -1,4 +1,4 @@
--- What comes back to the indexes comes back.
+-- What is put back to the indexes is put back to the pool.
 use Rattle.std.proofs.Common.{◌∙◌, ◌≤◌, ◌*◌, length, ap, subst, sym}
 use Rattle.dp_pool.specs.Queues.{AreOut}
 use Rattle.dp_pool.specs.Pools.{all_back}

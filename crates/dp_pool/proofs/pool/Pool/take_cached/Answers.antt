@@ -1,4 +1,4 @@
--- What the indexes hand out is handed out.
+-- What the indexes hand out the pool hands out.
 use Rattle.std.proofs.Common.{◌∙◌, ◌≤◌, ◌*◌, subst, sym}
 use Rattle.dp_pool.specs.Pools.{AreGot}
 use Rattle.dp_pool.proofs.Pools.{pool_of}

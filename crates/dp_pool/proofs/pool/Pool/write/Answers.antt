@@ -1,4 +1,4 @@
--- The bytes go to the object's offset in the zone.
+-- The bytes are written at the object's offset in the zone.
 use Rattle.dp_pool.proofs.Pools.{index_below, pool_written}
 use Rattle.dp_pool.proofs.pool.Pool.write.Goals as goal
 

@@ -1,4 +1,4 @@
--- A `&` to a shell shows nothing. Assumes `Logic`.
+-- A shared reference to a shell shows nothing. Assumes `Logic`.
 use base.Fraction.{full_share}
 use denote.Memory.{part_at}
 use denote.SharingLaws.{nothing_shr_laws}

@@ -1,4 +1,4 @@
--- The bytes of the block come back into their span, and the region has its size.
+-- The block's bytes replace its span, and the region keeps its size.
 use Rattle.std.proofs.Common.{◌≡◌, ℕ, true, List, length, sym, ap, ◌∙◌, arith}
 use Rattle.dp_region.specs.Spans.{Span, listed, Spaced, with_bytes}
 use Rattle.dp_region.specs.Ownership.{ptr_at}
@@ -6,7 +6,7 @@ use Rattle.dp_region.proofs.Spans.{listed_bounds}
 use Rattle.dp_region.specs.Laws.{length-with_bytes}
 use Rattle.dp_region.proofs.region.Region.reclaim.Goals as goal
 
--- bytes that come back are as many as were lent
+-- the bytes that come back are as many as were lent
 same_size : (xs : List ℕ) (ls : List Span) (p n : ℕ) (ws : List ℕ) → Spaced 0 (length xs) ls → listed (p, n) ls ≡ true → length ws ≡ n →
     length (with_bytes xs p ws) ≡ length xs
 same_size xs ls p n ws spaced out long =

@@ -1,4 +1,4 @@
--- The four bytes of the number are stored where they were lent.
+-- The four bytes of the number are lent, written and taken back.
 use Rattle.std.proofs.Common.{refl, lit<}
 use Rattle.byteorder.specs.Endian.{little_bytes}
 use Rattle.dp_region.proofs.Spans.{unlent_unlisted}

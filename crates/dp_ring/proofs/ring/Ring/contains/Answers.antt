@@ -1,4 +1,4 @@
--- One entry at a time is looked at.
+-- The search looks at one entry at a time.
 use Rattle.std.proofs.Common.{◌≡◌, suc, ◌+◌, eqb, inl, inr, drop, sym, ap, ◌∙◌, arith}
 use Rattle.std.proofs.lemmas.Bool.{eq-eqb}
 use Rattle.std.proofs.lemmas.Bool.Decides.{eqb_tells}

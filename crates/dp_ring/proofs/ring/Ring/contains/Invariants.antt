@@ -1,4 +1,4 @@
--- The number is one of the entries where it is one of those that are left.
+-- The number is an entry exactly if it is one of those that are left.
 use Rattle.std.proofs.Common.{◌≡◌, ◌==◌, drop}
 use Rattle.std.specs.List.{list_any}
 use Rattle.dp_ring.proofs.ring.Ring.contains.Given as goal

@@ -1,4 +1,4 @@
--- One more entry is stored behind the others.
+-- One more entry is stored after the others.
 use Rattle.std.proofs.Common.{◌≡◌, ◌+◌, ◌*◌, ◌<◌, ◌≤◌, ◌++◌, [], ◌∷◌, length, sym, ap, ◌∙◌, subst, arith}
 use Rattle.dp_region.specs.Region.{with_number}
 use Rattle.dp_region.specs.Laws.{length-with_number}
@@ -14,7 +14,7 @@ few c =
     let room : 0 < room_in (the_view c.self.inside) = subst (λ r. 0 < room_in r) (sym c.self.view_is) c.requires in
     omega (arith, is, room)
 
--- the slot is one of the zone's
+-- the slot lies in the zone
 fits : (c : goal.After-self-1) → 4 * c.slot_behind-slot.result + 4 ≤ length c.self.inside.zone.bytes
 fits c = let small = c.slot_behind-slot.ensures.bound in let room = c.self.invariant.3 in omega (arith, small, room)
 

@@ -1,4 +1,4 @@
--- The entries behind those that go are left.
+-- The entries after those that are removed are left.
 use Rattle.std.proofs.Common.{◌≡◌, ◌-◌, ◌≤◌, drop, length, sym, ap, ◌∙◌, subst, arith}
 use Rattle.dp_ring.specs.Rings.{without_first, entries_from}
 use Rattle.dp_ring.specs.contracts.ring.Ring.{the_view}
@@ -6,7 +6,7 @@ use Rattle.dp_ring.proofs.Entries.{counted}
 use Rattle.dp_ring.proofs.Turning.{entries_left}
 use Rattle.dp_ring.proofs.ring.Ring.skip.Goals as goal
 
--- so many are there
+-- the ring has that many entries
 there : (c : goal.After-self) → c.args.number ≤ c.self.inside.used
 there c =
     let is = counted c.self.inside.zone.bytes c.self.inside.count c.self.inside.first c.self.inside.used in

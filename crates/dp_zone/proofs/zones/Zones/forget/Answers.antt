@@ -1,4 +1,4 @@
--- The entry goes that has the name, if one has.
+-- The entry of the name is removed, if there is one.
 use Rattle.std.proofs.Common.{◌≡◌, position, Some, None, sym, ap, subst, ◌∙◌}
 use Rattle.dp_zone.specs.declared.zones.Entry.{Entry}
 use Rattle.dp_zone.specs.Names.{same_name}

@@ -1,4 +1,4 @@
--- The new zone has a name that no other has.
+-- The new zone's name is new to the table.
 use Rattle.std.proofs.Common.{◌≡◌, false, sym, subst, ◌∙◌}
 use Rattle.dp_zone.specs.Zones.{AreApart, has_name}
 use Rattle.dp_zone.specs.Entries.{table_of}

@@ -1,4 +1,4 @@
--- A `&` to a `Cells` lends each byte that is not lent already. Assumes `Logic`.
+-- A shared reference to a `Cells` lends each byte that is not lent already. Assumes `Logic`.
 use mathlib.Core.Bool.{Bool, true, false}
 use mathlib.Core.List.{List, [], ◌∷◌}
 use Prim.Native.Nat.{ℕ, ◌+◌}

@@ -1,4 +1,4 @@
--- `give`: a right names a span that is out, whose bytes come back. Assumes `Logic`.
+-- `give`: a ticket names a lent span, whose bytes come back. Assumes `Logic`.
 use Rattle.dp_region.proofs.Steps.{◌≡◌, ◌+◌, ◌^◌, ◌<◌, true, [], ◌∷◌, length, refl, sym, subst, arith, ftrue, full_share, fact, ‵, raw, ◌⊛◌, given, ◌$◌, ◌∵◌}
 use Rattle.dp_region.proofs.Steps.{ !, qed, done, move, keep, use1, use2, split, join, fsplit, fjoin, learn, rewrite, suffices, group, agg, enter, returns}
 use Rattle.dp_region.proofs.Steps.{no_more, alloc_all, pass_all, free_all, look_at, sets, yes, bytes, plain, nothing, heard, Stays, stay_dropped, says}

@@ -1,4 +1,4 @@
--- `new`: no byte is lent, and all the rights are fresh. Assumes `Logic`.
+-- `new`: no byte is lent, and all rights are fresh. Assumes `Logic`.
 use Rattle.dp_region.proofs.Steps.{◌≡◌, ◌^◌, ◌<◌, [], ◌∷◌, length, refl, sym, ap, ◌∙◌, arith, add-zero, le-leb, ftrue, GName, fown, full_share, fact, ‵, raw}
 use Rattle.dp_region.proofs.Steps.{◌⊛◌, some, given, later, ◌$◌, ◌∵◌, !, qed, done, move, keep, use0, use1, split, join, fjoin, pick, learn, await, suffices}
 use Rattle.dp_region.proofs.Steps.{group, agg, enter, returns, no_more, alloc_all, pass_all, free_all, look_at, sets, yes, block_ptr, block_of, count_of}

@@ -1,4 +1,4 @@
--- `take`: a span of the bytes leaves, with the right to give it back. Assumes `Logic`.
+-- `take`: a span of the bytes leaves with the right to give it back. Assumes `Logic`.
 use Rattle.dp_region.proofs.Steps.{◌+◌, ◌<◌, ◌≤◌, [], ◌∷◌, length, refl, arith, w64, ftrue, full_share, fact, ‵, raw, ◌⊛◌, ◌$◌, ◌∵◌, !, qed, done, move, keep}
 use Rattle.dp_region.proofs.Steps.{use1, split, join, fsplit, fjoin, suffices, group, agg, enter, returns, and_then, no_more, alloc_all, pass_all, free_all}
 use Rattle.dp_region.proofs.Steps.{look_at, get, sets, yes, usize, uint_vals, uint_Tells, bytes, plain, nothing, heard, Stays, stay_dropped, says, walk_of}

@@ -1,4 +1,4 @@
--- `view`: a `&` to bytes that are not lent is a slice of them. Assumes `Logic`.
+-- `view`: a shared reference to bytes that are not lent gives a slice of them. Assumes `Logic`.
 use Rattle.dp_region.proofs.Steps.{◌≡◌, ◌+◌, ◌*◌, ◌^◌, ◌≤◌, List, [], ◌∷◌, length, refl, sym, ap, arith, w64, seq, assign, place, rv_opd, copy, return, Val}
 use Rattle.dp_region.proofs.Steps.{vptr, vint, flft, ftrue, fact, tables, WpFn, ‵, raw, ◌⊛◌, prop, at_ret, ◌$◌, ◌∵◌, !, qed, done, move, keep, drop, use1}
 use Rattle.dp_region.proofs.Steps.{split, join, fsplit, fjoin, feq_i, flt_i, regoal, suffices, group, agg, enter, returns, of_opd, and_then, no_more, first}

@@ -1,8 +1,0 @@
--- One line more.
-use Rattle.dp_cli.specs.Report.{ring_line}
-use Rattle.dp_cli.proofs.Lines.{appends_line}
-use Rattle.dp_cli.proofs.report.print_rings.Goals as goal
-
-pub loop-k-preserved : goal.loop-k-preserved
-loop-k-preserved g c =
-    appends_line _ _ _ ring_line c.args.rings.now c.loop-k.k-counter 0 c.loop-k-test.true c.loop-k.invariant c.in_ok-writeln.ensures.bytes

@@ -1,0 +1,41 @@
+-- Texts that are printed, and how a command ends that prints them.
+use Rattle.std.specs.Prelude.{◌≡◌, ℕ, ◌⊎◌, List, [], ◌∷◌, ◌++◌, Bool, true, Option, Result, MatchResult, IfSome}
+use Rattle.std.specs.Io.KnownBytes.{Appends}
+use Rattle.dp_cli.specs.declared.printer.Printer.{Printer}
+use Rattle.dp_cli.specs.declared.fault.Fault.{Fault}
+use Rattle.dp_cli.specs.Told.{text_of_fault, finding_of, lines_behind, TellsMemory}
+
+-- a printer notes whether its writer failed
+abbrev pub Notes : {W A E : Type 0} → Printer W → Printer W → Result A E → Type 0
+Notes old new written = MatchResult written (λ _. new.has_failed ≡ old.has_failed) (λ _. new.has_failed ≡ true)
+
+-- what is seen of a printer: the bytes that its writer holds, where they are known, and whether a text could not be written
+pub record Paper : Type 0 where
+  pub bytes : Option (List ℕ)
+  pub failed : Bool
+
+abbrev pub paper : {W : Type 0} → (W → Option (List ℕ)) → Printer W → Paper
+paper contents p = record { bytes = contents p.to; failed = p.has_failed }
+
+-- a text was printed
+pub record Prints (old new : Paper) (text : List ℕ) : Type 0 where
+  pub grown : Appends old.bytes new.bytes text
+  pub sound : new.failed ≡ old.failed
+
+-- the line of a fault was written, and then the lines that say more, where their words are known
+pub record WritesFault (fault : Fault) (old new : Option (List ℕ)) : Type 0 where
+  pub between : Option (List ℕ)
+  pub line : Appends old between (text_of_fault fault ++ 10 ∷ [])
+  pub more : IfSome (lines_behind (finding_of fault)) (Appends between new)
+
+-- a fault was reported
+pub record PrintsFault (fault : Fault) (old new : Paper) : Type 0 where
+  pub lines : WritesFault fault old.bytes new.bytes
+  pub sound : new.failed ≡ old.failed
+
+-- A command ended. With the status that it is to end with, all was said that it is to say. Where a text could not be written, it ended with 3; or
+-- with 4, where memory ran out for one, and that was reported.
+abbrev pub IsEnded : ℕ → Type 0 → Paper → Paper → Paper → ℕ → Type 0
+IsEnded status said out err err' ended =
+    ((ended ≡ status) × said) ⊎ ((ended ≡ 3) × ((out.failed ≡ true) ⊎ (err'.failed ≡ true)))
+    ⊎ ((ended ≡ 4) × (out.failed ≡ true) × TellsMemory err.bytes err'.bytes)

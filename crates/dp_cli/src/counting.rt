@@ -1,0 +1,146 @@
+//! `dpv run --counts`: prints the programs of a run as in their sources, with how often each instruction ran.
+
+ghost use Rattle.std.specs.Prelude.{◌≡◌, ◌≤◌, OnOk, length, map};
+ghost use Rattle.std.specs.Io.KnownBytes.{Appends};
+ghost use Rattle.dp_engine.specs.Engines.{IsAscending};
+ghost use Rattle.dp_cli.specs.Counting.{counts_text};
+ghost use Rattle.dp_cli.specs.Printing.{paper};
+ghost use Rattle.dp_cli.specs.Run.{IsRunTold};
+
+pub mod programs;
+
+use crate::call::Call;
+use crate::counting::programs::{ProgramText, sources_of};
+use crate::fault::{MEMORY, status_unwritten};
+use crate::printer::Printer;
+use crate::run::inlet::Inlet;
+use crate::run::outlet::Outlet;
+use crate::run::{Ended, Reporting, run_line};
+use dp_counts::{
+    Counts, Levels, NodeSource, print_pools, print_programs, print_rings, print_tables,
+};
+use dp_engine::{Known, Silent};
+use dp_model::Env;
+use dp_pipe::Pipeline;
+use std::alloc::{AllocError, Global};
+use std::io::{self, Write};
+
+/// The counts of a run, and the sources of its programs.
+#[derive(Drop)]
+pub struct Counting<'a> {
+    /// The counts.
+    pub counts: Counts,
+    /// The sources, in the order of the nodes.
+    pub sources: Vec<NodeSource<'a>>,
+}
+
+impl<'a> Counting<'a> {
+    /// The counts of a run of these programs, at its start.
+    pub fn of(
+        alloc: Global,
+        pipeline: &Pipeline,
+        programs: &'a [ProgramText],
+    ) -> Result<Counting<'a>, AllocError> {
+        Ok(Counting {
+            sources: sources_of(alloc, pipeline, programs)?,
+            counts: Counts::new(alloc)?,
+        })
+    }
+}
+
+/// Prints the programs of a run with their counts, the sums for each table and each ring, and the least free buffers of each pool.
+pub fn print_counts<O: Write>(
+    counts: &Counts,
+    levels: &Levels,
+    env: &Env,
+    sources: &[NodeSource<'_>],
+    out: &mut O,
+) -> io::Result<()>
+    ensures { OnOk result (Appends (O.contents out.old) (O.contents out.new) (counts_text counts.now levels.now env.now sources.now)) }
+{
+    print_programs(counts, sources, out)?;
+    print_tables(counts, env.tables(), sources, out)?;
+    print_rings(counts, levels, env.rings(), sources, out)?;
+    print_pools(levels, env.pools(), out)
+}
+
+/// The counts to print, if requested.
+pub fn counting_in<'a, R>(
+    call: &Call<'_, '_, R>,
+    pipeline: &Pipeline,
+    programs: &'a [ProgramText],
+) -> Result<Option<Counting<'a>>, AllocError> {
+    if call.words.get_flag("counts") {
+        Ok(Some(Counting::of(call.alloc, pipeline, programs)?))
+    } else {
+        Ok(None)
+    }
+}
+
+/// Runs a pipeline as [`run_line`] does, and counts its steps if requested.
+pub fn run_counted<K: Known, I: Inlet, O: Outlet, P: Write, E: Write>(
+    alloc: Global,
+    pipeline: Pipeline,
+    ins: &mut [I],
+    outs: &mut [O],
+    pattern: Vec<u64>,
+    counting: &mut Option<Counting<'_>>,
+    reporting: Reporting<'_>,
+    out: &mut Printer<P>,
+    err: &mut Printer<E>,
+) -> Ended
+    requires readers { length ins.old ≡ length pipeline.env.ports }
+    requires writers { length outs.old ≡ length pipeline.env.ports }
+    requires pattern { IsAscending 0 pattern.items }
+    requires few { length outs.old ≤ 8 }
+    ensures { IsRunTold reporting.entry.names.now (map I.saw ins.new) reporting.entry.counts (paper P.contents out.old) (paper P.contents out.new)
+        (paper E.contents err.old) (paper E.contents err.new) result.settled result.status }
+{
+    match counting {
+        None => run_line::<K, Silent, I, O, P, E>(
+            alloc,
+            pipeline,
+            ins,
+            outs,
+            pattern,
+            &mut Silent,
+            reporting,
+            out,
+            err,
+        ),
+        Some(counting) => run_line::<K, Counts, I, O, P, E>(
+            alloc,
+            pipeline,
+            ins,
+            outs,
+            pattern,
+            &mut counting.counts,
+            reporting,
+            out,
+            err,
+        ),
+    }
+}
+
+/// Prints the counts, if requested, after a run that ended with this status, except for one that found no memory. Returns the status: that of the
+/// run, or that of a write that failed.
+pub fn report_counts<O: Write, E: Write>(
+    counting: &Option<Counting<'_>>,
+    env: &Env,
+    status: u8,
+    out: &mut Printer<O>,
+    err: &mut Printer<E>,
+) -> u8 {
+    let Some(counting) = counting else {
+        return status;
+    };
+    if status == MEMORY {
+        return status;
+    }
+    let levels = counting.counts.levels();
+    let sources = counting.sources.as_slice();
+    match print_counts(&counting.counts, &levels, env, sources, &mut out.to) {
+        Ok(()) => status,
+        Err(error) => status_unwritten(error, err),
+    }
+}

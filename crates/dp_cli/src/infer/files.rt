@@ -1,0 +1,42 @@
+//! `dpv infer` and `dpv infer-one` over the host's files.
+
+use crate::call::Call;
+use crate::fault::{Status, tell_usage};
+use crate::host_files::HostFiles;
+use crate::infer::certifying::infer_node;
+use crate::infer::infer_line;
+use crate::loading::load_file;
+use crate::operands::node_named;
+use crate::single_port::{Naming, one_env};
+use dp_model::Entry;
+use dp_pipe::How;
+use std::io::{self, Write};
+use std::rt::Files;
+
+/// The node that a word names; or the status, after reporting that it names none.
+pub fn node_in<E: Write>(which: &str, err: &mut E) -> Result<Entry, u8> {
+    match node_named(which) {
+        Some(node) => Ok(node),
+        None => Err(tell_usage(
+            err,
+            format_args!("error: '{which}' names no node: port or ring, and one digit"),
+        )),
+    }
+}
+
+/// Prints the certificate of a program of a pipeline file.
+pub fn infer_file<R: Files + Print, E: Write>(call: &Call<'_, '_, R>, err: &mut E) -> Status {
+    let node = node_in(call.word("WHICH"), err)?;
+    let pipeline = load_file(call, How::Inferred, err)?;
+    let out = &mut io::writer(call.rt);
+    Ok(infer_line(call.alloc, &pipeline, node, out, err))
+}
+
+/// Prints the certificate of a program by itself.
+pub fn infer_program<R: Files + Print, E: Write>(call: &Call<'_, '_, R>, err: &mut E) -> Status {
+    let mut files = HostFiles::new(call.rt, call.alloc, Naming::AsTheyStand);
+    let (env, node) = (one_env(), call.word("NODE"));
+    let out = &mut io::writer(call.rt);
+    let status = infer_node(call.alloc, &mut files, &env, Entry::Port(0), node, out, err);
+    Ok(files.tell_unfetched(status, err))
+}

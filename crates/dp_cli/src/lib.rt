@@ -1,0 +1,59 @@
+//! The commands of the program `dpv`, over readers, writers and files that the caller gives, and over those of the host.
+//!
+//! `run_command_line` is the program: it finds the command by the words, and returns the exit status. Each command has a function over
+//! readers and writers, such as `run_line`, whose contract says what was printed and with which status it ends; and in its folder a
+//! `files.rt`, which opens the host's files and calls it. Output goes to two writers, for standard output and standard error.
+//!
+//! Who owns what: the caller owns readers and writers, and lends them. `run_line` and `trace_line` consume the pipeline, so what is needed
+//! after a run, such as the names of its captures, is copied before. An `Outlet` may hold bytes back: `run_line` writes them out before it
+//! prints the report, so a caller must not close an output itself.
+//!
+//! What not to do: do not print to the writers of a `Printer` directly, as it remembers a failed write for the status; and do not open an
+//! output before `keep_apart` has compared it with the files that the run reads.
+#![tactic(auto)]
+
+mod call;
+mod check;
+mod compile;
+mod counting;
+mod details;
+mod fault;
+mod fault_reasons;
+mod files;
+mod host_files;
+mod infer;
+mod loading;
+mod mem;
+mod operands;
+mod printer;
+mod program;
+mod run;
+mod single_port;
+mod trace;
+mod verdicts;
+
+pub use check::check_line;
+pub use compile::compile_line;
+pub use fault::{DONE, FAULT, Fault, MEMORY, REFUSED, USAGE, Unwritten, tell_fault};
+pub use fault_reasons::{Finding, Reason, reason_of};
+pub use infer::certifying::infer_node;
+pub use infer::infer_line;
+pub use loading::load_line;
+pub use mem::mem_line;
+pub use operands::{node_named, numbers_in, port_in, records_in};
+pub use printer::Printer;
+pub use program::{run_command_line, run_compiled};
+pub use run::closing::Settled;
+pub use run::findings::CaptureNames;
+pub use run::guarded::Guarded;
+pub use run::inlet::Inlet;
+pub use run::outlet::{Incomplete, Outlet};
+pub use run::progress::Progress;
+pub use run::watched::{Seen, Watched};
+pub use run::{Ended, Reporting, fault_of, run_line};
+pub use single_port::{ONE_PORT, one_env};
+pub use trace::became::{Only, Picked};
+pub use trace::{Shown, trace_line};
+pub use verdicts::judged::Asked;
+pub use verdicts::show::Form;
+pub use verdicts::{Wanted, tell_node, tell_pipeline};

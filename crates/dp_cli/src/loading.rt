@@ -1,0 +1,241 @@
+//! Loads pipelines, and reports the first fault of one.
+
+ghost use Rattle.std.specs.Prelude.{◌≡◌, IfOk, IfErr, OnOk};
+ghost use Rattle.dp_pipe.specs.Loads.{IsLoadedFrom};
+ghost use Rattle.dp_cli.specs.Pipelines as spec;
+ghost use Rattle.dp_cli.specs.Printing.{IsEnded, Prints, PrintsFault, paper};
+ghost use Rattle.dp_cli.specs.Told.{refusal_line, status_of_fault};
+
+use crate::call::Call;
+use crate::counting::programs::{ProgramText, programs_of};
+use crate::details::write_details;
+use crate::fault::{FAULT, Fault, REFUSED, print_fault, status_unwritten, tell_fault};
+use crate::files;
+use crate::host_files::HostFiles;
+use crate::printer::Printer;
+use crate::run::same_file::{ReadFile, note_read};
+use crate::single_port::Naming;
+use dp_pipe::{Files, How, PipeError, Pipeline, load};
+use std::alloc::{AllocError, Global};
+use std::io::{self, Write};
+use std::rt;
+
+/// Why a pipeline was not loaded, and the status once that is reported.
+#[derive(Clone, Copy, Debug, Drop)]
+pub struct Unloaded {
+    pub status: u8,
+    pub error: PipeError,
+}
+
+/// The fault of a pipeline that is not loaded; none where a program is refused or has no certificate.
+fn fault_of(error: PipeError) -> Option<Fault<'static>>
+    ensures { result ≡ spec.fault_of error }
+{
+    match error {
+        PipeError::Memory => Some(Fault::Memory),
+        PipeError::NotInferred { .. } | PipeError::Refused { .. } => None,
+        _ => Some(Fault::Pipeline(error)),
+    }
+}
+
+/// Prints a fault, and answers the status.
+fn report_fault<O: Write, E: Write>(
+    fault: Fault<'_>,
+    out: &mut Printer<O>,
+    err: &mut Printer<E>,
+) -> u8
+    ensures { IsEnded (status_of_fault fault.entry) (PrintsFault fault.entry (paper E.contents err.old) (paper E.contents err.new)
+        × (paper O.contents out.new ≡ paper O.contents out.old)) (paper O.contents out.new) (paper E.contents err.old) (paper E.contents err.new) result }
+{
+    match print_fault(err, fault) {
+        Ok(()) => fault.status(),
+        Err(_) => FAULT,
+    }
+}
+
+/// Prints that a program is refused or has no certificate, and answers the status.
+fn report_refusal<O: Write, E: Write>(
+    error: PipeError,
+    out: &mut Printer<O>,
+    err: &mut Printer<E>,
+) -> u8
+    ensures { IsEnded REFUSED (Prints (paper O.contents out.old) (paper O.contents out.new) (refusal_line error)
+        × (paper E.contents err.new ≡ paper E.contents err.old)) (paper O.contents out.new) (paper E.contents err.old) (paper E.contents err.new) result }
+{
+    match out.line(error) {
+        Ok(()) => REFUSED,
+        Err(failure) => status_unwritten(failure, err),
+    }
+}
+
+/// Prints why a pipeline is not loaded, and answers the status.
+fn report_unloaded<O: Write, E: Write>(
+    error: PipeError,
+    out: &mut Printer<O>,
+    err: &mut Printer<E>,
+) -> u8
+    ensures { spec.IsUnloadedReported error (paper O.contents out.old) (paper O.contents out.new) (paper E.contents err.old) (paper E.contents err.new) result }
+{
+    match fault_of(error) {
+        Some(fault) => report_fault(fault, out, err),
+        None => report_refusal(error, out, err),
+    }
+}
+
+/// Loads the pipeline of a text and the files that it names. Reports the first fault: a program that is refused or has no
+/// certificate on `out`, all else on `err`.
+///
+/// # Errors
+///
+/// [`Unloaded`], once the fault is reported.
+pub fn load_or_report<F: Files, O: Write, E: Write>(
+    alloc: Global,
+    text: &[u8],
+    files: &mut F,
+    how: How,
+    out: &mut Printer<O>,
+    err: &mut Printer<E>,
+) -> Result<Pipeline, Unloaded>
+    ensures loaded { IfOk result (IsLoadedFrom (F.known files.old) how text.now) }
+    ensures silent { OnOk result ((out.new ≡ out.old) × (err.new ≡ err.old)) }
+    ensures fails { IfErr result (λ unloaded. spec.IsUnloadedTold (F.known files.old) how text.now (paper O.contents out.old) (paper O.contents out.new)
+        (paper E.contents err.old) (paper E.contents err.new) unloaded.error unloaded.status) }
+    ensures stays { F.known files.new ≡ F.known files.old }
+{
+    match load(alloc, text, files, how) {
+        Ok(pipeline) => Ok(pipeline),
+        Err(error) => Err(Unloaded {
+            status: report_unloaded(error, out, err),
+            error,
+        }),
+    }
+}
+
+/// The pipeline of a text and the files that it names; or the status, once the first fault is reported: a program that is refused
+/// or has no certificate on `out`, all else on `err`.
+///
+/// # Errors
+///
+/// The status: 1 where a program is refused or has no certificate, 4 for want of memory, and else 3; or 3 or 4 where the fault could not be
+/// written.
+pub fn load_line<F: Files, O: Write, E: Write>(
+    alloc: Global,
+    text: &[u8],
+    files: &mut F,
+    how: How,
+    out: &mut Printer<O>,
+    err: &mut Printer<E>,
+) -> Result<Pipeline, u8>
+    ensures loaded { IfOk result (IsLoadedFrom (F.known files.old) how text.now) }
+    ensures silent { OnOk result ((out.new ≡ out.old) × (err.new ≡ err.old)) }
+    ensures fails { IfErr result (spec.IsFaultTold (F.known files.old) how text.now (paper O.contents out.old) (paper O.contents out.new)
+        (paper E.contents err.old) (paper E.contents err.new)) }
+    ensures stays { F.known files.new ≡ F.known files.old }
+{
+    match load_or_report(alloc, text, files, how, out, err) {
+        Ok(pipeline) => Ok(pipeline),
+        Err(unloaded) => Err(unloaded.status),
+    }
+}
+
+/// The bytes of the file that a command is about; or the status, after reporting why it cannot be read.
+pub fn bytes_of<R: rt::Files, E: Write>(
+    call: &Call<'_, '_, R>,
+    err: &mut E,
+) -> Result<Vec<u8>, u8> {
+    let file = call.word("FILE");
+    match files::read(call.rt, call.alloc, file) {
+        Ok(bytes) => Ok(bytes),
+        Err(fault) => Err(tell_fault(err, fault.of_file(file))),
+    }
+}
+
+/// A pipeline, the texts of its programs if they are needed, and the plain files that were read for it.
+#[derive(Drop)]
+pub struct Loaded {
+    pub pipeline: Pipeline,
+    pub programs: Vec<ProgramText>,
+    pub reads: Vec<ReadFile>,
+}
+
+/// Loads the pipeline of a text, whose names mean these files, and keeps the texts of its programs if they are needed. Reports the first fault, and
+/// returns the status.
+fn load_keeping<R: rt::Files + Print, E: Write>(
+    call: &Call<'_, '_, R>,
+    text: &[u8],
+    naming: Naming<'_>,
+    how: How,
+    is_kept: bool,
+    err: &mut E,
+) -> Result<Loaded, u8> {
+    let mut files = HostFiles::new(call.rt, call.alloc, naming);
+    files.keep(is_kept);
+    let mut out = Printer::new(io::writer(call.rt));
+    let mut told = Printer::new(err);
+    let loaded = load_or_report(call.alloc, text, &mut files, how, &mut out, &mut told);
+    let err = told.into_inner();
+    match loaded {
+        Ok(pipeline) => match programs_of(call.alloc, &pipeline, text, files.kept(), naming) {
+            Ok(programs) => Ok(Loaded {
+                pipeline,
+                programs,
+                reads: files.into_reads(),
+            }),
+            Err(AllocError) => Err(tell_fault(err, Fault::Memory)),
+        },
+        Err(Unloaded { status, error }) => {
+            let status = files.tell_unfetched(status, err);
+            if status == FAULT {
+                // If these lines cannot be written, the status is not changed.
+                let _written = write_details(call, naming, &files.into_reads(), text, error, err);
+            }
+            Err(status)
+        }
+    }
+}
+
+/// Loads the pipeline of a text whose names mean these files. Reports the first fault, and returns the status.
+pub fn load_text<R: rt::Files + Print, E: Write>(
+    call: &Call<'_, '_, R>,
+    text: &[u8],
+    naming: Naming<'_>,
+    how: How,
+    err: &mut E,
+) -> Result<Loaded, u8> {
+    load_keeping(call, text, naming, how, call.words.get_flag("counts"), err)
+}
+
+/// Loads the pipeline file of a command, with the texts of its programs. Reports the first fault, and returns the status.
+pub fn load_with_programs<R: rt::Files + Print, E: Write>(
+    call: &Call<'_, '_, R>,
+    how: How,
+    err: &mut E,
+) -> Result<Loaded, u8> {
+    let text = bytes_of(call, err)?;
+    load_keeping(call, text.as_slice(), Naming::AsTheyStand, how, true, err)
+}
+
+/// Loads the pipeline of the file that a command is about. Reports the first fault, and returns the status.
+pub fn load_with_reads<R: rt::Files + Print, E: Write>(
+    call: &Call<'_, '_, R>,
+    how: How,
+    err: &mut E,
+) -> Result<Loaded, u8> {
+    let text = bytes_of(call, err)?;
+    let mut loaded = load_text(call, text.as_slice(), Naming::AsTheyStand, how, err)?;
+    match note_read(call.rt, call.alloc, &mut loaded.reads, call.word("FILE")) {
+        Ok(()) => Ok(loaded),
+        Err(fault) => Err(tell_fault(err, fault)),
+    }
+}
+
+/// The pipeline of the file that a command is about; or the status, after reporting the first fault.
+pub fn load_file<R: rt::Files + Print, E: Write>(
+    call: &Call<'_, '_, R>,
+    how: How,
+    err: &mut E,
+) -> Result<Pipeline, u8> {
+    let text = bytes_of(call, err)?;
+    let loaded = load_text(call, text.as_slice(), Naming::AsTheyStand, how, err)?;
+    Ok(loaded.pipeline)
+}

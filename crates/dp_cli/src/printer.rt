@@ -1,0 +1,69 @@
+//! Writers of texts that remember whether a text could not be written.
+
+ghost use Rattle.std.specs.Prelude.{◌≡◌, false, IfSome, OnOk};
+ghost use Rattle.std.specs.Fmt.{with_newline};
+ghost use Rattle.std.specs.Io.KnownBytes.{Appends};
+ghost use Rattle.dp_cli.specs.Printing.{Notes};
+
+use std::fmt::Display;
+use std::io::{Result, Write};
+
+/// A writer of texts that remembers whether one of them could not be written; the status of a command may then be 3 or 4.
+#[derive(Drop)]
+pub struct Printer<W> {
+    pub(crate) to: W,
+    has_failed: bool,
+}
+
+impl<W: Write> Printer<W> {
+    /// Prints to a writer.
+    pub fn new(to: W) -> Printer<W>
+        ensures to { result.to ≡ to }
+        ensures sound { result.has_failed ≡ false }
+    {
+        Printer {
+            to,
+            has_failed: false,
+        }
+    }
+
+    /// Whether a text could not be written.
+    pub fn has_failed(&self) -> bool
+        ensures { result ≡ self.now.has_failed }
+    {
+        self.has_failed
+    }
+
+    /// Returns the writer.
+    pub fn into_inner(self) -> W
+        ensures { result ≡ self.to }
+    {
+        let Printer { to, has_failed: _ } = self;
+        to
+    }
+
+    /// Prints a text as a line.
+    ///
+    /// # Errors
+    ///
+    /// The writer's.
+    pub fn line<T: Display + Drop>(&mut self, text: T) -> Result<()>
+        ensures printed { OnOk result (IfSome (with_newline (T.output text)) (Appends (W.contents self.old.to) (W.contents self.new.to))) }
+        ensures noted { Notes self.old self.new result }
+    {
+        let written = writeln!(&mut self.to, "{text}");
+        self.note(written)
+    }
+
+    /// Remembers a result of the writer.
+    pub(crate) fn note(&mut self, written: Result<()>) -> Result<()>
+        ensures same { result ≡ written }
+        ensures to { self.new.to ≡ self.old.to }
+        ensures noted { Notes self.old self.new written }
+    {
+        if written.is_err() {
+            self.has_failed = true;
+        }
+        written
+    }
+}

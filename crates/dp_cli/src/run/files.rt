@@ -1,0 +1,229 @@
+//! `dpv run` and `dpv one` over the host's files: opens the captures, and reports the run.
+
+ghost use Rattle.std.specs.Prelude.{◌≡◌, ◌≤◌, ◌++◌, IfOk, OnOk, Some, codes, length, map, option_map};
+ghost use Rattle.clap.specs.Matches.{first_value, found_of};
+ghost use Rattle.dp_cli.specs.Guarding.{ReadsInputs, read_name};
+ghost use Rattle.dp_cli.specs.Names.{AreInputs, AreOutputs, input_name, output_name};
+ghost use Rattle.dp_cli.specs.Operands.{calls_refused};
+ghost use Rattle.dp_engine.specs.Engines.{IsAscending};
+
+use crate::call::Call;
+use crate::compile::write_interpreted;
+use crate::counting::{Counting, counting_in, report_counts, run_counted};
+use crate::fault::{Fault, Status, tell_fault, tell_usage};
+use crate::loading::{Loaded, load_text, load_with_reads};
+use crate::operands::numbers_in;
+use crate::printer::Printer;
+use crate::run::Reporting;
+use crate::run::captures::{InputOf, OutputOf, create_outputs, open_inputs};
+use crate::run::drops::Drops;
+use crate::run::findings::{CaptureNames, names_of};
+use crate::run::progress::Telling;
+use crate::run::same_file::{ReadFile, keep_apart, note_read};
+use crate::run::truncated::write_truncated;
+use crate::single_port::{Naming, ONE_PORT, OneFiles};
+use dp_engine::{Known, Nothing, Report, need};
+use dp_pipe::{How, Pipeline, RunFault};
+use dp_region::{CACHE_LINE, LEAST_REGION};
+use std::alloc::Global;
+use std::io::{self, Write};
+use std::rt::Files;
+
+/// The allocation calls to be refused: those of a list, if there is one; or the status, once the fault is reported.
+fn refused_by<E: Write>(alloc: Global, list: Option<&str>, err: &mut E) -> Result<Vec<u64>, u8>
+    ensures calls { IfOk result (λ pattern. Some pattern.items ≡ calls_refused (option_map (λ word. word.now) list.entry)) }
+    ensures ascending { IfOk result (λ pattern. IsAscending 0 pattern.items) }
+{
+    let Some(list) = list else {
+        return Ok(Vec::new(alloc));
+    };
+    match numbers_in(alloc, list) {
+        Ok(Some(pattern)) => Ok(pattern),
+        Ok(None) => Err(tell_usage(
+            err,
+            format_args!(
+                "error: '{list}' is no list: numbers from 1 on, each above the one before it, joined by commas"
+            ),
+        )),
+        Err(_) => Err(tell_fault(err, Fault::Memory)),
+    }
+}
+
+/// The allocation calls that the command line refuses; or the status, once the fault is reported.
+pub fn refused_in<R, E: Write>(call: &Call<'_, '_, R>, err: &mut E) -> Result<Vec<u64>, u8>
+    ensures calls { IfOk result (λ pattern. Some pattern.items ≡ calls_refused (first_value (found_of call.now.words.now) (codes "refuse"))) }
+    ensures ascending { IfOk result (λ pattern. IsAscending 0 pattern.items) }
+{
+    refused_by(call.alloc, call.words.get_str("refuse"), err)
+}
+
+/// The captures that a run reads, and those that it writes.
+type Captures<F> = (Vec<InputOf<F>>, Vec<OutputOf<F>>);
+
+/// Opens the captures that a run reads, and makes those that it writes, where none of them is a file that it reads.
+fn open_captures<'a, R: Files>(
+    call: &Call<'_, '_, R>,
+    reads: &'a [ReadFile],
+    names: &'a [CaptureNames],
+    telling: Telling,
+) -> Result<Captures<R::File>, Fault<'a>>
+    requires { ReadsInputs reads.now names.now }
+    ensures inputs { IfOk result (λ captures. AreInputs captures.0.items names.now) }
+    ensures outputs { IfOk result (λ captures. AreOutputs captures.1.items (map output_name names.now)) }
+    ensures many { IfOk result (λ captures. (length captures.0.items ≡ length names.now) × (length captures.1.items ≡ length names.now)) }
+{
+    let (rt, alloc) = (call.rt, call.alloc);
+    let inputs = open_inputs(rt, alloc, names, telling)?;
+    let files = keep_apart(rt, alloc, reads, names)?;
+    let outputs = create_outputs(rt, alloc, files.as_slice())?;
+    Ok((inputs, outputs))
+}
+
+/// What a run dropped.
+fn drops_of(answer: &Result<Report, RunFault>) -> Drops {
+    match answer {
+        Ok(report) => Drops::of(report),
+        Err(fault) => Drops::of(&fault.report),
+    }
+}
+
+/// Writes the size of a region that is large enough.
+fn write_region<E: Write>(needed: u64, err: &mut E) -> io::Result<()> {
+    let line = u64::from(CACHE_LINE);
+    let least = needed.max(u64::from(LEAST_REGION));
+    writeln!(
+        err,
+        "  help: the pools, rings and ports need {needed} bytes: region = {}",
+        least.div_ceil(line).saturating_mul(line)
+    )
+}
+
+/// Adds the inputs to the files that a run reads.
+fn note_inputs<R: Files>(
+    call: &Call<'_, '_, R>,
+    reads: &mut Vec<ReadFile>,
+    names: &[CaptureNames],
+) -> Result<(), Fault<'static>>
+    ensures { OnOk result (map read_name reads.new.items ≡ map read_name reads.old.items ++ map input_name names.now) }
+{
+    for port in names {
+        note_read(call.rt, call.alloc, reads, port.input.as_str())?;
+    }
+    Ok(())
+}
+
+/// Runs a pipeline over its open captures, under a watcher that counts its steps if requested. Then prints the counts, and a cure if records were
+/// dropped or the region is too small.
+fn run_opened<K: Known, R: Files + Print, E: Write>(
+    call: &Call<'_, '_, R>,
+    pipeline: Pipeline,
+    captures: Captures<R::File>,
+    pattern: Vec<u64>,
+    counting: &mut Option<Counting<'_>>,
+    reporting: Reporting<'_>,
+    err: &mut E,
+) -> u8
+    requires inputs { length captures.0.items ≡ length pipeline.env.ports }
+    requires outputs { length captures.1.items ≡ length pipeline.env.ports }
+    requires few { length captures.1.items ≤ 8 }
+    requires pattern { IsAscending 0 pattern.items }
+{
+    let env = pipeline.env().copy();
+    let (region, needed) = (u64::from(pipeline.region()), need(&env));
+    let (mut inputs, mut outputs) = captures;
+    let (ins, outs) = (inputs.as_mut_slice(), outputs.as_mut_slice());
+    let mut out = Printer::new(io::writer(call.rt));
+    let mut told = Printer::new(err);
+    let (out, told, alloc) = (&mut out, &mut told, call.alloc);
+    let ended = run_counted::<K, _, _, _, _>(
+        alloc, pipeline, ins, outs, pattern, counting, reporting, out, told,
+    );
+    let status = report_counts(counting, &env, ended.status, out, told);
+    // If these lines cannot be written, the status is not changed.
+    let err = &mut told.to;
+    let _written = if region < needed {
+        write_region(needed, err)
+    } else {
+        drops_of(&ended.settled.answer).write(&env, err)
+    };
+    let _written = write_truncated(inputs.as_slice(), err);
+    status
+}
+
+/// Runs a pipeline: opens the captures that it reads and those that it writes, and runs it over these.
+fn run_pipeline<K: Known, R: Files + Print, E: Write>(
+    call: &Call<'_, '_, R>,
+    loaded: Loaded,
+    naming: Naming<'_>,
+    pattern: Vec<u64>,
+    err: &mut E,
+) -> u8
+    requires { IsAscending 0 pattern.items }
+{
+    let Loaded {
+        pipeline,
+        programs,
+        reads,
+    } = loaded;
+    let mut reads = reads;
+    let Ok(names) = names_of(call.alloc, &pipeline, naming) else {
+        return tell_fault(err, Fault::Memory);
+    };
+    let names = names.as_slice();
+    if let Err(fault) = note_inputs(call, &mut reads, names) {
+        return tell_fault(err, fault);
+    }
+    let telling = Telling {
+        is_on: call.words.get_flag("progress"),
+        to: call.to,
+    };
+    let Ok(mut counting) = counting_in(call, &pipeline, programs.as_slice()) else {
+        return tell_fault(err, Fault::Memory);
+    };
+    let captures = match open_captures(call, reads.as_slice(), names, telling) {
+        Ok(captures) => captures,
+        Err(fault) => return tell_fault(err, fault),
+    };
+    let reporting = Reporting {
+        names,
+        counts: telling.is_on,
+    };
+    run_opened::<K, R, E>(
+        call,
+        pipeline,
+        captures,
+        pattern,
+        &mut counting,
+        reporting,
+        err,
+    )
+}
+
+/// Runs the pipeline of a file. If requested, each of its programs that is not among `K` is reported first.
+pub fn run_file<K: Known, R: Files + Print, E: Write>(
+    call: &Call<'_, '_, R>,
+    reports_interpreted: bool,
+    err: &mut E,
+) -> Status {
+    let pattern = refused_in(call, err)?;
+    let loaded = load_with_reads(call, How::Given, err)?;
+    if reports_interpreted {
+        // If that cannot be written, the pipeline still runs.
+        let _written = write_interpreted::<K, E>(&loaded.pipeline, err);
+    }
+    let naming = Naming::AsTheyStand;
+    Ok(run_pipeline::<K, R, E>(call, loaded, naming, pattern, err))
+}
+
+/// Runs one node program on one port, from a file to a file.
+pub fn run_one_port<R: Files + Print, E: Write>(call: &Call<'_, '_, R>, err: &mut E) -> Status {
+    let naming = Naming::One(OneFiles {
+        node: call.word("NODE"),
+        cert: call.word("CERT"),
+        input: call.word("IN"),
+        output: call.word("OUT"),
+    });
+    let loaded = load_text(call, ONE_PORT.as_bytes(), naming, How::Given, err)?;
+    let pattern = Vec::new(call.alloc);
+    Ok(run_pipeline::<Nothing, R, E>(call, loaded, naming, pattern, err))
+}

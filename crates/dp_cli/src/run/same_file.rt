@@ -1,0 +1,261 @@
+//! Files that a run reads or writes, none of which an output may overwrite.
+
+ghost use Rattle.std.specs.Prelude.{◌≡◌, ◌++◌, ◌∷◌, [], find, map, string_bytes, option_map, None, IfNone, IfOk, IfSome, IsOk, OnOk};
+ghost use Rattle.dp_cli.specs.Guarding as spec;
+ghost use Rattle.dp_cli.specs.Guarding.{read_name};
+ghost use Rattle.dp_cli.specs.Told.{IsClash};
+
+use crate::fault::Fault;
+use crate::fault_reasons::Reason;
+use crate::run::findings::CaptureNames;
+use std::alloc::Global;
+use std::fs;
+use std::io::ErrorKind;
+use std::os::unix::fs::MetadataExt;
+use std::rt::Files;
+
+/// A file or a folder, by its device and its number there: the same under all its names.
+#[derive(Clone, Copy, Debug)]
+pub struct FileId {
+    pub device: u64,
+    pub number: u64,
+}
+
+/// A file that a run reads: which plain file it is. Devices and pipes are none: they have nothing to lose.
+#[derive(Debug, Drop)]
+pub struct ReadFile {
+    pub name: String,
+    pub id: Option<FileId>,
+}
+
+/// What the name of an output means.
+#[derive(Clone, Copy, Debug)]
+pub enum Target<'a> {
+    /// A plain file that exists.
+    There(FileId),
+    /// A file with this name, to be made in a folder.
+    New(FileId, &'a str),
+    /// A device, a pipe, or nothing that can be made.
+    Other,
+}
+
+/// Whether two files or folders are the same.
+fn is_same_file(left: FileId, right: FileId) -> bool
+    ensures { result ≡ spec.is_same_file left right }
+{
+    left.device == right.device && left.number == right.number
+}
+
+/// Whether the name of an output means this file.
+fn is_file(target: Target<'_>, file: FileId) -> bool
+    ensures { result ≡ spec.is_file target.entry file }
+{
+    match target {
+        Target::There(id) => is_same_file(id, file),
+        Target::New(_, _) | Target::Other => false,
+    }
+}
+
+/// Whether the name of an output means a file that the run reads.
+fn is_read(target: Target<'_>, read: &ReadFile) -> bool
+    ensures { result ≡ spec.is_read target.entry read.now }
+{
+    match read.id {
+        Some(id) => is_file(target, id),
+        None => false,
+    }
+}
+
+/// Whether the names of two outputs mean the same file.
+fn is_same_target(left: Target<'_>, right: Target<'_>) -> bool
+    ensures { result ≡ spec.is_same_target left.entry right.entry }
+{
+    match (left, right) {
+        (Target::There(one), Target::There(other)) => is_same_file(one, other),
+        (Target::New(folder, name), Target::New(other, its)) => {
+            is_same_file(folder, other) && name == its
+        }
+        _ => false,
+    }
+}
+
+/// The plain file that a name means, if there is one.
+///
+/// # Errors
+///
+/// [`Fault::Memory`] only.
+pub fn plain_file<R: Files>(rt: &R, name: &str) -> Result<Option<FileId>, Fault<'static>> {
+    match fs::metadata(rt, name) {
+        Ok(metadata) if metadata.is_file() => Ok(Some(FileId {
+            device: metadata.dev(),
+            number: metadata.ino(),
+        })),
+        Err(error) if error.kind() == ErrorKind::OutOfMemory => Err(Fault::Memory),
+        _ => Ok(None),
+    }
+}
+
+/// The folder that a name means, if there is one.
+fn folder<R: Files>(rt: &R, name: &str) -> Result<Option<FileId>, Fault<'static>> {
+    match fs::metadata(rt, name) {
+        Ok(metadata) if metadata.is_dir() => Ok(Some(FileId {
+            device: metadata.dev(),
+            number: metadata.ino(),
+        })),
+        Err(error) if error.kind() == ErrorKind::OutOfMemory => Err(Fault::Memory),
+        _ => Ok(None),
+    }
+}
+
+/// Splits a name into the folder and the file's name there.
+fn split_name(name: &str) -> (&str, &str) {
+    match name.rsplit_once('/') {
+        Some(("", file)) => ("/", file),
+        Some((folder, file)) => (folder, file),
+        None => (".", name),
+    }
+}
+
+/// The file that an output would be made as, if none has its name.
+fn new_file<'a, R: Files>(rt: &R, name: &'a str) -> Result<Target<'a>, Fault<'static>> {
+    let (parent, file) = split_name(name);
+    match folder(rt, parent)? {
+        Some(id) => Ok(Target::New(id, file)),
+        None => Ok(Target::Other),
+    }
+}
+
+/// What the name of an output means.
+fn target_of<'a, R: Files>(rt: &R, name: &'a str) -> Result<Target<'a>, Fault<'static>> {
+    match fs::metadata(rt, name) {
+        Ok(metadata) if metadata.is_file() => Ok(Target::There(FileId {
+            device: metadata.dev(),
+            number: metadata.ino(),
+        })),
+        Ok(_) => Ok(Target::Other),
+        Err(error) if error.kind() == ErrorKind::OutOfMemory => Err(Fault::Memory),
+        Err(error) if error.kind() == ErrorKind::NotFound => new_file(rt, name),
+        Err(_) => Ok(Target::Other),
+    }
+}
+
+/// The first of these files that the name of an output means.
+fn first_read<'a>(target: Target<'_>, reads: &'a [ReadFile]) -> Option<&'a ReadFile>
+    ensures { option_map (λ read. read.now) result ≡ find (spec.is_read target.entry) reads.now }
+{
+    reads.iter().find(|read| is_read(target, read))
+}
+
+/// Refuses an output that is a file which the run reads.
+fn refuse_read<'a>(
+    output: &'a str,
+    target: Target<'_>,
+    reads: &'a [ReadFile],
+) -> Result<(), Fault<'a>>
+    ensures refused { IfSome (find (spec.is_read target.entry) reads.now) (λ read.
+        IsClash output.now (string_bytes read.name) Reason.IsRead result) }
+    ensures passes { IfNone (find (spec.is_read target.entry) reads.now) (IsOk result) }
+    ensures unread { OnOk result (find (spec.is_read target.entry) reads.now ≡ None) }
+{
+    match first_read(target, reads) {
+        Some(read) => Err(Fault::Clash {
+            output,
+            other: read.name.as_str(),
+            reason: Reason::IsRead,
+        }),
+        None => Ok(()),
+    }
+}
+
+/// An output, and the file that its name means.
+#[derive(Clone, Copy, Debug)]
+pub struct Written<'a> {
+    pub name: &'a str,
+    pub target: Target<'a>,
+}
+
+/// The first of these outputs that is the same file.
+fn first_written<'b, 'a>(target: Target<'_>, earlier: &'b [Written<'a>]) -> Option<&'b Written<'a>>
+    ensures { option_map (λ other. other.now) result ≡ find (λ other. spec.is_same_target target.entry other.target) earlier.now }
+{
+    earlier
+        .iter()
+        .find(|other| is_same_target(target, other.target))
+}
+
+/// Refuses an output that is the file of another.
+fn refuse_twice<'a>(
+    output: &'a str,
+    target: Target<'_>,
+    earlier: &[Written<'a>],
+) -> Result<(), Fault<'a>>
+    ensures refused { IfSome (find (λ other. spec.is_same_target target.entry other.target) earlier.now) (λ other.
+        IsClash output.now other.name.now Reason.IsOutput result) }
+    ensures passes { IfNone (find (λ other. spec.is_same_target target.entry other.target) earlier.now) (IsOk result) }
+    ensures alone { OnOk result (find (λ other. spec.is_same_target target.entry other.target) earlier.now ≡ None) }
+{
+    match first_written(target, earlier) {
+        Some(other) => Err(Fault::Clash {
+            output,
+            other: other.name,
+            reason: Reason::IsOutput,
+        }),
+        None => Ok(()),
+    }
+}
+
+/// The output of this name, where it is no file which the run reads, and none of the earlier outputs.
+fn kept_apart<'a, R: Files>(
+    rt: &R,
+    name: &'a str,
+    reads: &'a [ReadFile],
+    earlier: &[Written<'a>],
+) -> Result<Written<'a>, Fault<'a>>
+    ensures name { IfOk result (λ written. written.name.now ≡ name.now) }
+    ensures apart { IfOk result (spec.IsApart reads.now earlier.now) }
+{
+    let target = target_of(rt, name)?;
+    refuse_read(name, target, reads)?;
+    refuse_twice(name, target, earlier)?;
+    Ok(Written { name, target })
+}
+
+/// The outputs of a run, by the names of its captures. Refuses the first that is a file which the run reads, or the output of an earlier port.
+/// Nothing was made or emptied then.
+pub fn keep_apart<'a, R: Files>(
+    rt: &R,
+    alloc: Global,
+    reads: &'a [ReadFile],
+    names: &'a [CaptureNames],
+) -> Result<Vec<Written<'a>>, Fault<'a>>
+    requires { spec.ReadsInputs reads.now names.now }
+    ensures { IfOk result (λ written. spec.AreApart reads.now names.now written.items) }
+{
+    let mut outputs = Vec::new(alloc);
+    for port in names {
+        let written = kept_apart(rt, port.output.as_str(), reads, outputs.as_slice())?;
+        if outputs.push(written).is_err() {
+            return Err(Fault::Memory);
+        }
+    }
+    Ok(outputs)
+}
+
+/// Adds a file that the run reads to a list.
+pub fn note_read<R: Files>(
+    rt: &R,
+    alloc: Global,
+    reads: &mut Vec<ReadFile>,
+    name: &str,
+) -> Result<(), Fault<'static>>
+    ensures { OnOk result (map read_name reads.new.items ≡ map read_name reads.old.items ++ name.now ∷ []) }
+{
+    let id = plain_file(rt, name)?;
+    let Ok(name) = String::from_str(alloc, name) else {
+        return Err(Fault::Memory);
+    };
+    match reads.push(ReadFile { name, id }) {
+        Ok(()) => Ok(()),
+        Err(_) => Err(Fault::Memory),
+    }
+}

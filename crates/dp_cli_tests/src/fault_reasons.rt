@@ -1,0 +1,209 @@
+//! The reasons of faults, and what readers and writers keep of a failure.
+
+use dp_cli::{
+    Fault, Finding, Guarded, MEMORY, Progress, Reason, Watched, fault_of, reason_of, tell_fault,
+};
+use dp_model::{Entry, EnvError};
+use dp_pcap::PcapError;
+use dp_pipe::{Part, PipeError, RouteError, RunCause};
+use std::alloc::Global;
+use std::io::{Error, Read, Result, Write, sink};
+use std::test::Fail;
+
+/// The errors of a file that is not there, of a disk that is full and of a device that cannot be read.
+const MISSING: i32 = 2;
+
+const FULL: i32 = 28;
+
+const UNREADABLE: i32 = 5;
+
+/// Whether a fault is reported so, with this status.
+fn is_told(alloc: Global, fault: Fault<'_>, status: u8, text: &str) -> bool {
+    let mut told = Vec::new(alloc);
+    tell_fault(&mut told, fault) == status && told.as_slice() == text.as_bytes()
+}
+
+#[test]
+fn a_reason_stands_behind_the_line_of_a_fault(rt: HostRuntime) {
+    let system = Reason::System(Error::from_raw_os_error(MISSING));
+    let cases = [
+        (
+            Fault::File("a", system),
+            "fault: file a\n  because: No such file or directory (os error 2)\n",
+        ),
+        (
+            Fault::File("a", Reason::TooLong),
+            "fault: file a\n  because: it is longer than 1048576 bytes\n",
+        ),
+        (
+            Fault::Clash {
+                output: "a",
+                other: "b",
+                reason: Reason::IsRead,
+            },
+            "fault: file a\n  file: b\n  because: the run reads this file, so it is not overwritten\n",
+        ),
+        (Fault::Region, "fault: region\n"),
+        (Fault::Line(7), "fault: line 7 bad command\n"),
+    ];
+    for (fault, text) in cases {
+        assert!(&rt; is_told(rt.alloc(), fault, 3, text), "{text}");
+    }
+    assert!(&rt; is_told(rt.alloc(), Fault::Memory, MEMORY, "fault: memory\n"));
+}
+
+#[test]
+fn a_pipeline_has_the_words_of_its_cause(rt: HostRuntime) {
+    let part = PipeError::BadKey {
+        part: Part::Ring,
+        index: 3,
+    };
+    let route = PipeError::BadTable {
+        table: 1,
+        route: 2,
+        cause: RouteError::Unreadable,
+    };
+    let cases = [
+        (
+            PipeError::NotToml,
+            "fault: pipeline 1 NotToml\n  because: the text is no TOML\n",
+        ),
+        (
+            part,
+            "fault: pipeline 2 BadKey ring 3\n  because: a key is missing, unknown, of the wrong type or out of its range\n",
+        ),
+        (
+            PipeError::BadEnv(EnvError::BadRing(4)),
+            "fault: pipeline 3 BadEnv 3 4\n  because: ring 4 is not within the limits\n",
+        ),
+        (
+            route,
+            "fault: pipeline 4 BadTable 1 2 6\n  because: the route is not written A.B.C.D/DEPTH HOP\n",
+        ),
+        (
+            PipeError::File(Entry::Port(1)),
+            "fault: pipeline 5 File port 1\n",
+        ),
+    ];
+    for (error, text) in cases {
+        assert!(&rt;
+            is_told(rt.alloc(), Fault::Pipeline(error), 3, text),
+            "{text}"
+        );
+    }
+    assert!(&rt; reason_of(PipeError::File(Entry::Port(1))).is_none());
+}
+
+#[test]
+fn a_capture_has_its_file_and_what_was_found(rt: HostRuntime) {
+    let full = Some(Finding {
+        file: Some("out"),
+        reason: Reason::System(Error::from_raw_os_error(FULL)),
+    });
+    let other = Some(Finding {
+        file: Some("in"),
+        reason: Reason::IsPcapng,
+    });
+    let link = RunCause::In(2, PcapError::BadLink);
+    let magic = RunCause::In(0, PcapError::BadMagic);
+    let cases = [
+        (
+            link,
+            None,
+            "fault: input 2 cause 3\n  because: the link type is not 1\n",
+        ),
+        (
+            magic,
+            other,
+            "fault: input 0 cause 1\n  file: in\n  because: it is a pcapng file, of which editcap -F pcap IN OUT makes a capture\n",
+        ),
+        (
+            RunCause::Out(1),
+            full,
+            "fault: output 1\n  file: out\n  because: No space left on device (os error 28)\n",
+        ),
+        (
+            RunCause::Out(1),
+            None,
+            "fault: output 1\n  because: the writer failed\n",
+        ),
+        (RunCause::NoRoom, full, "fault: region\n"),
+    ];
+    for (cause, found, text) in cases {
+        assert!(&rt;
+            is_told(rt.alloc(), fault_of(cause, found), 3, text),
+            "{text}"
+        );
+    }
+}
+
+/// A device that fails each call after a number of bytes.
+#[derive(Drop)]
+struct Short {
+    left: usize,
+}
+
+impl Read for Short {
+    fn read(&mut self, buf: &mut [u8]) -> Result<usize> {
+        if self.left == 0 {
+            return Err(Error::from_raw_os_error(UNREADABLE));
+        }
+        let given = self.left.min(buf.len());
+        self.left -= given;
+        Ok(given)
+    }
+}
+
+impl Write for Short {
+    fn write(&mut self, buf: &[u8]) -> Result<usize> {
+        if self.left == 0 {
+            return Err(Error::from_raw_os_error(FULL));
+        }
+        let taken = self.left.min(buf.len());
+        self.left -= taken;
+        Ok(taken)
+    }
+
+    fn flush(&mut self) -> Result<()> {
+        Ok(())
+    }
+}
+
+#[test]
+fn a_reader_keeps_its_error(rt: HostRuntime) {
+    let mut reader = Watched::new(Short { left: 3 }, Progress::new(sink(), 0, false));
+    let mut buf = [0; 8];
+    assert!(&rt; matches!(reader.read(&mut buf), Ok(3)));
+    assert!(&rt; reader.seen().failure.is_none());
+    assert!(&rt; reader.read(&mut buf).is_err());
+    let code = reader.seen().failure.and_then(|error| error.raw_os_error());
+    assert_eq!(&rt; code, Some(UNREADABLE));
+}
+
+#[test]
+fn a_pcapng_file_is_known_by_its_first_bytes(rt: HostRuntime) {
+    let cases: [(&[u8], bool); 4] = [
+        (b"\x0a\x0d\x0d\x0a\x1c\0", true),
+        (b"\x0a\x0d\x0d", false),
+        (b"\xd4\xc3\xb2\xa1\x0a\x0d", false),
+        (b"", false),
+    ];
+    for (bytes, is_pcapng) in cases {
+        let mut reader = Watched::new(bytes, Progress::new(sink(), 0, false));
+        let mut buf = [0; 8];
+        assert!(&rt; reader.read(&mut buf).is_ok());
+        assert_eq!(&rt; reader.seen().is_pcapng, is_pcapng);
+    }
+}
+
+#[test]
+fn a_writer_keeps_its_first_error(rt: HostRuntime) -> std::result::Result<(), Fail> {
+    let mut writer = Guarded::new(Short { left: 2 });
+    assert_eq!(&rt; writer.write(b"abc")?, 2);
+    assert!(&rt; writer.failure().is_none());
+    assert!(&rt; writer.write(b"c").is_err());
+    assert!(&rt; writer.write(b"c").is_err());
+    let code = writer.failure().and_then(|error| error.raw_os_error());
+    assert_eq!(&rt; code, Some(FULL));
+    Ok(())
+}

@@ -1,0 +1,12 @@
+-- One more program.
+use Rattle.std.proofs.Common.{refl}
+use Rattle.std.proofs.lemmas.Option.{slice_get_read}
+use Rattle.dp_counts.specs.Listings.{node_text}
+use Rattle.dp_counts.proofs.Lists.{appends_piece}
+use Rattle.dp_counts.proofs.listing.print_programs.Goals as goal
+
+pub loop-source-preserved : goal.loop-source-preserved
+loop-source-preserved g c =
+    appends_piece _ _ _ (node_text c.args.counts.now) c.args.sources.now c.loop-source.source-index c.source-item.result
+    (slice_get_read _ _ _ _ refl c.loop-source-test.true c.source-item.is)
+    c.loop-source.invariant c.in_ok-print_node.ensures

@@ -1,0 +1,8 @@
+-- One line more.
+use Rattle.dp_counts.specs.Totals.{line_of_pool}
+use Rattle.dp_counts.proofs.Lists.{appends_line}
+use Rattle.dp_counts.proofs.totals.print_few_pools.Goals as goal
+
+pub loop-k-preserved : goal.loop-k-preserved
+loop-k-preserved g c =
+    appends_line _ _ _ (line_of_pool c.args.levels.now) c.args.pools.now c.loop-k.k _ c.loop-k-test.true c.loop-k.invariant c.in_ok-print_pool.ensures

@@ -1,0 +1,5 @@
+pub mod Counting
+pub mod Listings
+pub mod Sources
+pub mod Sums
+pub mod Totals

@@ -1,0 +1,22 @@
+//! Counts node runs: for each instruction of each node, how often it ran, how often its jump was taken, and how often a node run was cut there.
+//!
+//! A caller makes `Counts` and gives them to `run_watched` of dp_pipe, or to an engine's `watched_turn`, as the watcher. An event
+//! updates one number or two and takes no memory. After the run, `print_programs` prints the programs in the words of their source with
+//! their counts, and `print_tables` and `print_rings` the sums for each table and ring.
+#![tactic(auto)]
+
+mod counts;
+mod laws;
+mod levels;
+mod listing;
+mod source;
+mod sums;
+mod totals;
+
+pub use counts::{Counts, StepCounts};
+pub use laws::counts_are_of_steps;
+pub use levels::Levels;
+pub use listing::print_programs;
+pub use source::{NodeSource, Role, SourceLine, Step, lines_of};
+pub use sums::{Total, total_of};
+pub use totals::{print_pools, print_rings, print_tables};

@@ -1,0 +1,6 @@
+use Rattle.std.proofs.Common.{◌≡◌}
+use Rattle.dp_engine.proofs.Emptied.{drained_to}
+use Rattle.dp_engine.proofs.engine.Engine.clear_lists.Given as goal
+
+abbrev pub invariant-loop-port : goal.invariant-loop-port
+invariant-loop-port g l = l.self ≡ drained_to l.port l.fn.self

@@ -1,0 +1,198 @@
+-- A step of a node run: what is known at its label, and where its instruction led.
+use Rattle.std.specs.List.{AllByRecursion}
+use Rattle.std.proofs.Common.{rules, ◌≡◌, ◌+◌, ◌-◌, List, Option, None, Some, refl, sym, ap, ◌∙◌, subst, arith}
+use Rattle.dp_model.specs.Machine.{with_cut, without_packets}
+use Rattle.dp_model.specs.Packets.{Segment}
+use Rattle.dp_engine.specs.declared.control.Control.TheVariants.{On, To}
+use Rattle.dp_engine.specs.declared.run.Went.TheVariants.{There}
+use Rattle.dp_engine.specs.declared.watch.Way.TheVariants as way
+use Rattle.dp_engine.specs.Handles.{Core, moved}
+use Rattle.dp_engine.specs.Midway.{Led}
+use Rattle.dp_engine.specs.Steps.{setting_of}
+use Rattle.dp_engine.proofs.Midways.{StandsWithin, stands_within, stepped_at, controlled_at, led_forward, led_back, led_end, led_out}
+use Rattle.dp_engine.proofs.Midways.{names_ran, names_to, seen_of, seen_to}
+use Rattle.dp_engine.proofs.run.step.Goals as goal
+use Rattle.dp_engine.proofs.run.step.Goals.{After-count_step, else-to-label-via-then-to-label+else-not-jump, else-to-label-via-else-to-label}
+
+-- where the run is
+standing : (g : _) (c : After-count_step g) → StandsWithin c.args.m.now c.args.ahead c.args.label c.args.instr.now
+standing g c =
+    let (P, m0, w0, h, here) = c.requires.midway in
+    stands_within g.W.Watch.sees (setting_of c.args.env.now c.args.tables.now c.args.pattern.now) P m0 w0 c.args.m.now c.args.watch.now c.args.ahead
+    c.args.label c.args.instr.now h here
+
+pub act-requires-clause-shifts : goal.act-requires-clause-shifts
+act-requires-clause-shifts g c = (standing g (goal.at.act-requires-clause-shifts g c).After-count_step).shifts
+
+pub act-requires-clause-few : goal.act-requires-clause-few
+act-requires-clause-few g c =
+    omega (
+      arith,
+      ap (λ (x : Core). x.state.world.calls) c.count_step.ensures,
+      (standing g (goal.at.act-requires-clause-few g c).After-count_step).few_calls,
+    )
+
+pub overflow_cast-label : goal.overflow_cast-label
+overflow_cast-label g c = omega (arith, (standing g (goal.at.overflow_cast-label g c).After-count_step).within)
+
+pub overflow_cast-label-in-On : goal.overflow_cast-label-in-On
+overflow_cast-label-in-On g c = omega (arith, (standing g (goal.at.overflow_cast-label-in-On g c).After-count_step).within)
+
+pub overflow_cast-label-then-not-jump : goal.overflow_cast-label-then-not-jump
+overflow_cast-label-then-not-jump g c = omega (arith, (standing g (goal.at.overflow_cast-label-then-not-jump g c).After-count_step).within)
+
+pub overflow_cast-label-in-To : goal.overflow_cast-label-in-To
+overflow_cast-label-in-To g c = omega (arith, (standing g (goal.at.overflow_cast-label-in-To g c).After-count_step).within)
+
+pub see-requires : goal.see-requires
+see-requires g c = omega (arith, (standing g (goal.at.see-requires g c).After-count_step).within)
+
+pub see-requires-in-On : goal.see-requires-in-On
+see-requires-in-On g c = omega (arith, (standing g (goal.at.see-requires-in-On g c).After-count_step).within)
+
+pub see-requires-then-not-jump : goal.see-requires-then-not-jump
+see-requires-then-not-jump g c = omega (arith, (standing g (goal.at.see-requires-then-not-jump g c).After-count_step).within)
+
+pub see-requires-in-To : goal.see-requires-in-To
+see-requires-in-To g c = omega (arith, (standing g (goal.at.see-requires-in-To g c).After-count_step).within)
+
+pub taken-requires-clause-few : goal.taken-requires-clause-few
+taken-requires-clause-few g c =
+    let at = standing g (goal.at.taken-requires-clause-few g c).After-count_step in
+    omega (arith, at.some, at.small)
+
+pub taken-requires-then-not-jump-clause-few : goal.taken-requires-then-not-jump-clause-few
+taken-requires-then-not-jump-clause-few g c =
+    let at = standing g (goal.at.taken-requires-then-not-jump-clause-few g c).After-count_step in
+    omega (arith, at.some, at.small)
+
+pub overflow_add-result-in-To : goal.overflow_add-result-in-To
+overflow_add-result-in-To g c =
+    let at = standing g (goal.at.overflow_add-result-in-To g c).After-count_step in
+    omega (arith, at.some, at.small)
+
+pub overflow_add-result-in-To-2 : goal.overflow_add-result-in-To-2
+overflow_add-result-in-To-2 g c =
+    let at = standing g (goal.at.overflow_add-result-in-To-2 g c).After-count_step in
+    omega (arith, at.some, at.small)
+
+pub cut-requires-clause-few : goal.cut-requires-clause-few
+cut-requires-clause-few g c =
+    let sees = g.W.Watch.sees in
+    let S = setting_of c.args.env.now c.args.tables.now c.args.pattern.now in
+    let m = c.args.m.now in
+    let m2 = c.act.new.m in
+    let v = c.args.watch.now in
+    let ahead = c.args.ahead in
+    let label = c.args.label in
+    let i = c.args.instr.now in
+    let (P, m0, w0, h, here) = c.requires.midway in
+    let s = controlled_at sees S P m0 w0 m c.count_step.new.self m2 v ahead label i c.in-Some.control (To c.from-to.result) h here c.count_step.ensures
+    (rw c.from-to.ensures c.in-To.is) c.in-Some.ensures.acts in
+    omega (arith, ap (λ (x : Core). x.state.world.cuts) (c.if-not-jump.ensures.over refl).1, s.cuts, h.few_cuts)
+
+pub returns-in-None : goal.returns-in-None
+returns-in-None g c =
+    let sees = g.W.Watch.sees in
+    let S = setting_of c.args.env.now c.args.tables.now c.args.pattern.now in
+    let m = c.args.m.now in
+    let m2 = c.act.new.m in
+    let v = c.args.watch.now in
+    let ahead = c.args.ahead in
+    let label = c.args.label in
+    let i = c.args.instr.now in
+    record {
+      led =
+          λ P m0 w0 h here.
+          let s = stepped_at sees S P m0 w0 m c.count_step.new.self m2 v ahead label i None h here c.count_step.ensures c.in-None.ensures.acts in
+          let pools = c.act.ensures.pools ∙ ap (λ (x : Core). x.pools) c.count_step.ensures in
+          let frames = c.act.ensures.frames ∙ ap (λ (x : Core). x.frames) c.count_step.ensures in
+          led_end sees S P m0 w0 m m2 v c.see.new.self ahead label c.taken.result h s pools frames (c.in-None.ensures.idle refl) c.taken.ensures.steps
+          c.taken.ensures.cuts (seen_of sees v c.see.new.self label way.Out c.of.result m2 c.of.ensures c.see.ensures);
+    }
+
+pub returns-in-On : goal.returns-in-On
+returns-in-On g c =
+    let sees = g.W.Watch.sees in
+    let S = setting_of c.args.env.now c.args.tables.now c.args.pattern.now in
+    let m = c.args.m.now in
+    let m2 = c.act.new.m in
+    let v = c.args.watch.now in
+    let ahead = c.args.ahead in
+    let label = c.args.label in
+    let i = c.args.instr.now in
+    record {
+      led =
+          λ P m0 w0 h here.
+          let s = controlled_at sees S P m0 w0 m c.count_step.new.self m2 v ahead label i c.in-Some.control On h here c.count_step.ensures c.in-On.is
+          c.in-Some.ensures.acts in
+          let pools = c.act.ensures.pools ∙ ap (λ (x : Core). x.pools) c.count_step.ensures in
+          let frames = c.act.ensures.frames ∙ ap (λ (x : Core). x.frames) c.count_step.ensures in
+          let v2 = c.see-in-On.new.self in
+          led_forward sees S P m0 w0 m m2 v v2 ahead label ahead (label + 1) way.On h s pools frames (omega arith) (omega arith) (refl, refl)
+          (seen_of sees v v2 label way.On c.of-in-On.result m2 c.of-in-On.ensures c.see-in-On.ensures);
+    }
+
+pub returns-then-not-jump : goal.returns-then-not-jump
+returns-then-not-jump g c =
+    let sees = g.W.Watch.sees in
+    let S = setting_of c.args.env.now c.args.tables.now c.args.pattern.now in
+    let m = c.args.m.now in
+    let m2 = c.act.new.m in
+    let v = c.args.watch.now in
+    let ahead = c.args.ahead in
+    let label = c.args.label in
+    let i = c.args.instr.now in
+    record {
+      led =
+          λ P m0 w0 h here.
+          let s = controlled_at sees S P m0 w0 m c.count_step.new.self m2 v ahead label i c.in-Some.control (To c.from-to.result) h here c.count_step.ensures
+          (rw c.from-to.ensures c.in-To.is) c.in-Some.ensures.acts in
+          let pools = c.act.ensures.pools ∙ ap (λ (x : Core). x.pools) c.count_step.ensures in
+          let frames = c.act.ensures.frames ∙ ap (λ (x : Core). x.frames) c.count_step.ensures in
+          let (over, same) = c.if-not-jump.ensures.over refl in
+          let is = c.cut.ensures ∙ ap (λ (x : Core). moved (without_packets (with_cut x.state)) x) same in
+          let v2 = c.see-then-not-jump.new.self in
+          led_out sees S P m0 w0 m m2 c.cut.new.self v v2 ahead label c.from-to.result c.taken-then-not-jump.result h s pools frames c.if-to-label.true over is
+          (subst (λ (x : Core). AllByRecursion (λ (o : Option (List Segment)). o ≡ None) x.state.packets) (sym is) (search rules))
+          c.taken-then-not-jump.ensures.steps c.taken-then-not-jump.ensures.cuts
+          (seen_of sees v v2 label way.Cut c.of-then-not-jump.result m2 (c.of-then-not-jump.ensures ∙ same) c.see-then-not-jump.ensures);
+    }
+
+pub returns-else-to-label : goal.returns-else-to-label
+returns-else-to-label g c =
+    let sees = g.W.Watch.sees in
+    let S = setting_of c.args.env.now c.args.tables.now c.args.pattern.now in
+    let m = c.args.m.now in
+    let m2 = c.act.new.m in
+    let v = c.args.watch.now in
+    let ahead = c.args.ahead in
+    let label = c.args.label in
+    let i = c.args.instr.now in
+    let m3 = c.else-to-label.m in
+    let v2 = c.see-in-To.new.self in
+    let to = c.from-to.result in
+    let ahead' = ahead + label + 1 - to in
+    record {
+      led =
+          λ P m0 w0 h here.
+          let s = controlled_at sees S P m0 w0 m c.count_step.new.self m2 v ahead label i c.in-Some.control (To to) h here c.count_step.ensures
+          (rw c.from-to.ensures c.in-To.is) c.in-Some.ensures.acts in
+          let pools = c.act.ensures.pools ∙ ap (λ (x : Core). x.pools) c.count_step.ensures in
+          let frames = c.act.ensures.frames ∙ ap (λ (x : Core). x.frames) c.count_step.ensures in
+          let names = names_ran S P m0.state (ahead + label - 65536) label m.state (Some to) m2.state i to here
+          (names_to i c.in-Some.control (To to) (rw c.from-to.ensures c.in-To.is) c.in-Some.ensures.names) s in
+          let more : c.args.ahead + c.args.label + 1 - c.from-to.result + c.from-to.result ≡ c.args.ahead + c.args.label + 1 =
+          omega (arith, h.keeps.0, s.ran.is_label, h.is.few) in
+          elim c.else-to-label.branch [
+            | else-to-label-via-then-to-label+else-not-jump w ↦
+                let (room, same) = w.if-not-jump.ensures.taken refl in
+                led_back sees S P m0 w0 m m2 m3 v v2 ahead label ahead' to (way.To to) h s pools frames w.if-to-label.true room (w.m-is ∙ same) more
+                (refl, names, ap (λ (x : Core). x.state) (w.m-is ∙ same))
+                (seen_to sees v v2 label c.in-To.there to c.from-to.ensures c.of-in-To.result m3 c.of-in-To.ensures c.see-in-To.ensures)
+            | else-to-label-via-else-to-label w ↦
+                subst (λ (x : Core). Led sees S P m0 w0 m label x v2 (There to ahead')) (sym w.m-is)
+                (led_forward sees S P m0 w0 m m2 v v2 ahead label ahead' to (way.To to) h s pools frames w.if-to-label.false more (refl, names, refl)
+                (seen_to sees v v2 label c.in-To.there to c.from-to.ensures c.of-in-To.result m2 (c.of-in-To.ensures ∙ w.m-is) c.see-in-To.ensures))
+          ];
+    }

@@ -1,0 +1,124 @@
+//! Passes: a turn, and the drains of all ports.
+ghost use Rattle.std.specs.Prelude.{◌≡◌, ◌<◌, ◌≤◌, List, length, slice_get, Some, IfSome, IfNone};
+ghost use Rattle.dp_model.specs.Packets.{Packet};
+ghost use Rattle.dp_pcap.specs.declared.format.TheConstants.{LARGEST_RECORD};
+ghost use Rattle.dp_engine.specs.Batches.{Holds, Passes, all_buffers, all_drained, frames_in, largest_batch, widest};
+ghost use Rattle.dp_engine.specs.Engines.{drained, most_turns};
+ghost use Rattle.dp_engine.specs.Shapes.{AreWaiting};
+
+use crate::batch::{BatchSize, SentRecord};
+use crate::engine::{Engine, Turn};
+use crate::known::Known;
+use dp_model::PoolSpec;
+
+/// What a pass did.
+#[derive(Clone, Copy, Debug, PartialEq, Eq)]
+pub struct Pass {
+    /// The turn.
+    pub turn: Turn,
+    /// What it sent: the number of records, and of their bytes.
+    pub sent: BatchSize,
+}
+
+// The number of buffers in all pools, where these are not too many.
+fn buffers_in(pools: &[PoolSpec]) -> usize
+    requires { all_buffers pools.now ≤ 65535 }
+    ensures { result ≡ all_buffers pools.now }
+{
+    let mut count = 0usize;
+    for pool in pools {
+        count += pool.count as usize;
+    }
+    count
+}
+
+// The largest data room of the pools.
+fn widest_room(pools: &[PoolSpec]) -> usize
+    ensures { result ≡ widest pools.now }
+{
+    let mut room = 0usize;
+    for pool in pools {
+        room = room.max(pool.room as usize);
+    }
+    room
+}
+
+impl<K: Known> Engine<K> {
+    /// The size of a batch with room for whatever a turn sends: as many records as there are buffers, each with the largest data room.
+    pub fn batch_size(&self) -> BatchSize
+        ensures { result ≡ largest_batch self.now.setting.env }
+    {
+        let pools = self.plan.env().pools();
+        let records = buffers_in(pools);
+        BatchSize {
+            records,
+            bytes: records * widest_room(pools),
+        }
+    }
+
+    /// The number of packets in a ring, if it exists.
+    pub fn waiting(&self, ring: u8) -> Option<u32>
+        ensures some { IfSome result (AreWaiting self.now.world.rings ring) }
+        ensures none { IfNone result (length self.now.setting.env.rings ≤ ring) }
+    {
+        if usize::from(ring) < self.plan.env().rings().len() {
+            Some(self.machine.waiting(ring))
+        } else {
+            None
+        }
+    }
+
+    // Copies the packets of all transmit lists to a batch that has room for them.
+    fn copy_sent(&self, time: u64, records: &mut [SentRecord], bytes: &mut [u8]) -> BatchSize
+        requires records { (largest_batch self.now.setting.env).records ≤ length records.old }
+        requires bytes { (largest_batch self.now.setting.env).bytes ≤ length bytes.old }
+        ensures holds { Holds time (frames_in self.now.world) records.new bytes.new result }
+        ensures many { (length records.new ≡ length records.old) × (length bytes.new ≡ length bytes.old) }
+    {
+        self.machine.copy_lists(time, records, bytes)
+    }
+
+    // Frees the packets of a port's transmit list, and counts them as sent.
+    fn count_sent(&mut self, port: u8)
+        requires { port < length self.old.setting.env.ports }
+        ensures { (packets : List Packet) → slice_get self.old.world.outboxes port ≡ Some packets → self.new ≡ drained port (length packets) self.old }
+    {
+        self.tallies[usize::from(port)].sent += u64::from(self.machine.queued(port));
+        self.machine.clear_sent(port);
+    }
+
+    // Frees the packets of all transmit lists, and counts them as sent.
+    fn clear_lists(&mut self)
+        ensures { self.new ≡ all_drained self.old }
+    {
+        let ports = self.plan.env().ports().len();
+        for port in 0..ports as u8 {
+            self.count_sent(port);
+        }
+    }
+
+    /// A turn, as [`turn`](Engine::turn), followed by the drains of all ports into arrays of the caller's: `records` port by port, first to last, and
+    /// their bytes one after the other in `bytes`. Both must be as long as [`batch_size`](Engine::batch_size) says. The time is handed on with each
+    /// record, in the caller's unit. It takes no memory.
+    pub fn pass(
+        &mut self,
+        port: u8,
+        frame: &[u8],
+        time: u64,
+        records: &mut [SentRecord],
+        bytes: &mut [u8],
+    ) -> Pass
+        requires exists { port < length self.old.setting.env.ports }
+        requires limit { self.old.turns < most_turns }
+        requires size { length frame.now ≤ LARGEST_RECORD }
+        requires records { (largest_batch self.old.setting.env).records ≤ length records.old }
+        requires bytes { (largest_batch self.old.setting.env).bytes ≤ length bytes.old }
+        ensures passes { Passes self.old self.new port frame.now result.turn time records.new bytes.new result.sent }
+        ensures many { (length records.new ≡ length records.old) × (length bytes.new ≡ length bytes.old) }
+    {
+        let turn = self.turn(port, frame);
+        let sent = self.copy_sent(time, records, bytes);
+        self.clear_lists();
+        Pass { turn, sent }
+    }
+}

@@ -1,0 +1,92 @@
+//! Transmit lists by their ports' numbers.
+
+ghost use Rattle.std.specs.Prelude.{◌≡◌, ◌<◌, ◌≤◌, ◌∷◌, [], length, nat_lt, if◌then◌else◌, slice_get, slice_set};
+ghost use Rattle.dp_ring.specs.Rings.{room_in, with_more, without_first};
+ghost use Rattle.dp_engine.specs.Queues.{rings_in, RingsFirst, ring_at};
+
+use crate::queues::{first_empty, pop_in, push_in, ring_in};
+use dp_ring::Ring;
+use std::marker::Model;
+
+/// At most eight rings of packet handles, by number from 0. It does not keep track of which one waits first, as `Queues` does.
+pub struct Lists {
+    rings: [Option<Ring>; 8],
+    // The number of rings.
+    count: u8,
+}
+
+impl Model for Lists {
+    ghost use Rattle.std.specs.Prelude.{◌≡◌, List, length};
+    ghost use Rattle.dp_ring.specs.Rings.{RingView};
+    ghost use Rattle.dp_engine.specs.Queues.{rings_in, RingsFirst};
+
+    ghost Value = { List RingView };
+
+    ghost view = { λ l. rings_in l.rings };
+
+    ghost invariant = { λ l. ((length l.rings ≡ 8) × RingsFirst l.rings) × (l.count ≡ length (rings_in l.rings)) };
+}
+
+impl Lists {
+    /// Takes these rings over, by slot.
+    pub fn over(rings: [Option<Ring>; 8]) -> Lists
+        requires { RingsFirst rings }
+        ensures { result ≡ rings_in rings }
+    {
+        let count = first_empty(&rings).unwrap_or(8) as u8;
+        Lists { rings, count }
+    }
+
+    /// The number of rings.
+    pub fn len(&self) -> usize
+        ensures value { result ≡ length self.now }
+        ensures bound { result ≤ 8 }
+    {
+        usize::from(self.count)
+    }
+
+    /// The number of entries of a ring.
+    pub fn count(&self, k: u8) -> u32
+        requires { k < length self.now }
+        ensures value { result ≡ length (ring_at self.now k).entries }
+        ensures bound { result < (ring_at self.now k).count }
+    {
+        ring_in(&self.rings, k).count()
+    }
+
+    /// The `i`-th entry of a ring from the front, if there is one.
+    pub fn peek(&self, k: u8, i: u32) -> Option<u32>
+        requires { k < length self.now }
+        ensures { result ≡ slice_get (ring_at self.now k).entries i }
+    {
+        ring_in(&self.rings, k).peek(i)
+    }
+
+    /// Appends an entry to a ring. Answers false where that is full.
+    pub fn push(&mut self, k: u8, entry: u32) -> bool
+        requires { k < length self.old }
+        ensures taken { result ≡ nat_lt 0 (room_in (ring_at self.old k)) }
+        ensures rings { self.new ≡ (if nat_lt 0 (room_in (ring_at self.old k)) then slice_set self.old k (with_more (ring_at self.old k) (entry ∷ []))
+            else self.old) }
+    {
+        push_in(&mut self.rings[usize::from(k)], entry)
+    }
+
+    /// Takes the first entry of a ring out, if there is one.
+    pub fn pop(&mut self, k: u8) -> Option<u32>
+        requires { k < length self.old }
+        ensures first { result ≡ slice_get (ring_at self.old k).entries 0 }
+        ensures rest { self.new ≡ slice_set self.old k (without_first (ring_at self.old k) 1) }
+    {
+        pop_in(&mut self.rings[usize::from(k)])
+    }
+
+    /// Hands the rings back, each in the slot of its number.
+    pub fn into_rings(self) -> [Option<Ring>; 8]
+        ensures same { rings_in result ≡ self }
+        ensures first { RingsFirst result }
+    {
+        let Lists { rings, count: _ } = self;
+        rings
+    }
+}

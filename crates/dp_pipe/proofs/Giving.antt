@@ -1,0 +1,110 @@
+-- What writers were given and what readers gave, piece by piece, with the calls for it.
+use Rattle.std.proofs.Common.{◌≡◌, ℕ, ◌+◌, ◌≤◌, List, [], ◌∷◌, ◌++◌, length, map, take, Option, Some, None, refl, sym, ◌∙◌, ap, subst, arith, length-append}
+use Rattle.std.proofs.Common.{append_assoc, take_all}
+use Rattle.std.specs.Prelude.{slice_get, flat_map}
+use Rattle.std.specs.Io.KnownBytes.{Appends}
+use Rattle.std.proofs.lemmas.Option.{same_Some}
+use Rattle.std.proofs.KnownBytes.{Appends-nil, Appends-trans}
+use Rattle.dp_pcap.specs.declared.time.Time.{Time}
+use Rattle.dp_pcap.specs.declared.time.Unit.{Unit as TimeUnit}
+use Rattle.dp_pcap.specs.Standing.{Standing}
+use Rattle.dp_pcap.specs.Source.{WhereKnown}
+use Rattle.dp_pcap.specs.Capture.{PacketRecord}
+use Rattle.dp_pcap.specs.Text.{header_text, head_text, record_text, text}
+use Rattle.dp_model.specs.Machine.{World}
+use Rattle.dp_model.specs.Runs.{records_at}
+use Rattle.dp_engine.specs.Drains.{captured, Written, WrotePart, IsCalledFor}
+use Rattle.dp_pipe.specs.Devices.{Device, IsGiven}
+use Rattle.dp_engine.specs.declared.report.InputState.{InputState}
+use Rattle.dp_engine.specs.declared.report.InputState.TheVariants.{Open, Whole, Cut}
+use Rattle.dp_pipe.specs.Forwarding.{Input, Gives, HasReadSo, IsRead, IsReadBy, DrainedPart, records_text}
+
+-- ---- lengths of texts
+
+pub length_header : (unit : TimeUnit) → length (header_text unit) ≡ 24
+unfolding header_text
+length_header unit = refl
+
+length_head : (unit : TimeUnit) (time : Time) (len : ℕ) → length (head_text unit time len) ≡ 16
+unfolding head_text
+length_head unit time len = refl
+
+length_record : (unit : TimeUnit) (r : PacketRecord) → length (record_text unit r) ≡ 16 + length r.bytes
+length_record unit r = omega (arith, length-append (head_text unit r.time (length r.bytes)) r.bytes, length_head unit r.time (length r.bytes))
+
+-- a capture with one record more is longer by that record
+length_records : (unit : TimeUnit) (xs : List PacketRecord) (r : PacketRecord) → length (records_text unit (xs ++ r ∷ []))
+    ≡ length (records_text unit xs) + (16 + length r.bytes)
+length_records unit [] r = omega (arith, length-append (record_text unit r) [], length_record unit r)
+length_records unit (x ∷ xs) r = omega (
+  arith,
+  length-append (record_text unit x) (records_text unit (xs ++ r ∷ [])),
+  length-append (record_text unit x) (records_text unit xs),
+  length_records unit xs r,
+)
+
+pub length_more : (unit : TimeUnit) (xs : List PacketRecord) (r : PacketRecord) → length (text unit (xs ++ r ∷ []))
+    ≡ length (text unit xs) + (16 + length r.bytes)
+length_more unit xs r = omega (
+  arith,
+  length-append (header_text unit) (records_text unit (xs ++ r ∷ [])),
+  length-append (header_text unit) (records_text unit xs),
+  length_records unit xs r,
+)
+
+-- a header alone
+pub length_none : (unit : TimeUnit) → length (text unit []) ≡ 24
+length_none unit = omega (arith, length-append (header_text unit) [], length_header unit)
+
+-- ---- writers
+
+pub given_nothing : (d : Device) → IsGiven d d []
+given_nothing d = record { grown = Appends-nil d.bytes; calls = omega arith }
+
+pub given_then : (a b c : Device) (bs cs : List ℕ) → IsGiven a b bs → IsGiven b c cs → IsGiven a c (bs ++ cs)
+given_then a b c bs cs first next = record {
+  grown = Appends-trans a.bytes b.bytes c.bytes bs cs first.grown next.grown;
+  calls = omega (arith, first.calls, next.calls, length-append bs cs);
+}
+
+-- a drain that wrote all its records
+pub drained_whole : (unit : TimeUnit) (time : Time) (port : ℕ) (w : World) (old new : Device) (sent : ℕ) (records : List (Time × List ℕ))
+    → slice_get (records_at time w) port ≡ Some records → sent ≡ length (map captured records)
+    → Appends old.bytes new.bytes (flat_map (record_text unit) (map captured records))
+    → Written unit time port w (λ rs. IsCalledFor old.calls new.calls unit (take (sent + 1) rs))
+    → IsGiven old new (flat_map (record_text unit) (map captured records))
+drained_whole unit time port w old new sent records at count wrote (others, at', called) =
+    let same : others ≡ records = same_Some _ _ (sym at' ∙ at) in
+    let all : take (sent + 1) (map captured others) ≡ map captured records =
+    ap (λ rs. take (sent + 1) (map captured rs)) same ∙ take_all (sent + 1) (map captured records) (omega (arith, count)) in
+    record { grown = wrote; calls = subst (λ rs. new.calls ≤ old.calls + length (flat_map (record_text unit) rs)) all called }
+
+-- a drain that failed
+pub drained_part : (unit : TimeUnit) (time : Time) (port : ℕ) (w : World) (old new : Device) (sent : ℕ) (records : List (Time × List ℕ))
+    → slice_get (records_at time w) port ≡ Some records → WrotePart old.bytes new.bytes unit (map captured records) sent
+    → Written unit time port w (λ rs. IsCalledFor old.calls new.calls unit (take (sent + 1) rs))
+    → DrainedPart unit (map captured records) sent old new
+drained_part unit time port w old new sent records at wrote (others, at', called) =
+    let same : others ≡ records = same_Some _ _ (sym at' ∙ at) in
+    record { part = wrote; calls = subst (λ rs. new.calls ≤ old.calls + length (records_text unit (take (sent + 1) (map captured rs)))) same called }
+
+-- ---- readers
+
+pub known_map : (a b : Option (List ℕ)) (P Q : List ℕ → List ℕ → Type 0) → ((left rest : List ℕ) → P left rest → Q left rest) → WhereKnown a b P
+    → WhereKnown a b Q
+known_map None b P Q f h = tt
+known_map (Some x) None P Q f h = absurd h
+known_map (Some x) (Some y) P Q f h = f x y h
+
+gives_of : (state : InputState) (s : Standing) (unit : TimeUnit) (records : List PacketRecord) (bytes rest : List ℕ) → s.unit ≡ unit →
+    HasReadSo state s records bytes rest → Gives state unit records bytes rest
+gives_of Open s unit records bytes rest same has = (s, has, same)
+gives_of Whole s unit records bytes rest same has = rw (← same) has
+gives_of (Cut byte) s unit records bytes rest same has = rw (← same) has
+
+-- what a source has read of an input
+pub read_as : (i : Input) (s : Standing) (a b : Device) → s.unit ≡ i.unit → IsReadBy i s a b → IsRead i a b
+read_as i s a b same by = record {
+  gives = known_map a.bytes b.bytes _ _ (λ bytes rest has. gives_of i.state s i.unit i.records bytes rest same has) by.has;
+  calls = by.calls;
+}

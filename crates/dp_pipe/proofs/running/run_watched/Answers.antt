@@ -1,0 +1,37 @@
+-- `run_watched`: the result, as the laws of runs have it for a pipeline that is ready.
+use Rattle.std.proofs.Common.{◌∙◌, map}
+use Rattle.std.proofs.lemmas.List.{length-map}
+use Rattle.dp_pipe.specs.Devices.{seen}
+use Rattle.dp_pipe.proofs.Headline.{all_forwarded}
+use Rattle.dp_pipe.proofs.PacketRuns.{IsReady}
+use Rattle.dp_pipe.proofs.Planned.{is_ready}
+use Rattle.dp_pipe.proofs.Stopped.{all_stopped, no_room_so}
+use Rattle.dp_pipe.proofs.running.run_watched.Goals as goal
+use Rattle.dp_pipe.proofs.running.run_watched.Goals.{After-answer}
+
+ready : (g : _) (c : After-answer g) → IsReady c.args.pipeline c.args.pattern.items
+ready g c =
+    is_ready c.args.pipeline c.args.pattern.items c.answer.ensures.plan
+    (record { safe = c.runs_keep_safe.ensures; copies = c.clones_are_copies.ensures })
+
+pub returns-clause-forwarded : goal.returns-clause-forwarded
+returns-clause-forwarded g c =
+    all_forwarded c.args.pipeline c.args.pattern.items (map (seen g.R.Feed.remaining g.R.Feed.calls) c.args.ins.now) (map
+    (seen g.R.Feed.remaining g.R.Feed.calls) c.answer.new.ins)
+    (map (seen g.W.Sink.contents g.W.Sink.calls) c.args.outs.now) (map (seen g.W.Sink.contents g.W.Sink.calls) c.answer.new.outs) c.answer.result
+    (ready g (goal.at.returns-clause-forwarded g c).After-answer) c.answer.ensures.answers
+
+pub returns-clause-stopped : goal.returns-clause-stopped
+returns-clause-stopped g c =
+    all_stopped c.args.pipeline c.args.pattern.items (map (seen g.R.Feed.remaining g.R.Feed.calls) c.args.ins.now) (map
+    (seen g.R.Feed.remaining g.R.Feed.calls) c.answer.new.ins)
+    (map (seen g.W.Sink.contents g.W.Sink.calls) c.args.outs.now) (map (seen g.W.Sink.contents g.W.Sink.calls) c.answer.new.outs) c.answer.result
+    (ready g (goal.at.returns-clause-stopped g c).After-answer) c.requires.pattern
+    (length-map c.args.outs.now (seen g.W.Sink.contents g.W.Sink.calls) ∙ c.requires.writers) c.answer.ensures.answers
+
+pub returns-clause-no_room : goal.returns-clause-no_room
+returns-clause-no_room g c =
+    no_room_so c.args.pipeline c.args.pattern.items (map (seen g.R.Feed.remaining g.R.Feed.calls) c.args.ins.now) (map
+    (seen g.R.Feed.remaining g.R.Feed.calls) c.answer.new.ins)
+    (map (seen g.W.Sink.contents g.W.Sink.calls) c.args.outs.now) (map
+    (seen g.W.Sink.contents g.W.Sink.calls) c.answer.new.outs) c.answer.result c.answer.ensures.answers
