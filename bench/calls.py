@@ -1,13 +1,12 @@
 #!/usr/bin/env python3
-"""Counts the machine instructions of calls of the heap, the ring, the pool, mbufs and the table of longest prefixes, beside DPDK.
+"""Counts the machine instructions of calls of the heap, the ring, the pool, mbufs and the longest-prefix table, beside DPDK.
 
 Usage: bench/calls.py
-It proves and builds the static library of crates/dp_bench and calls it from C (bench/calls/dpv.c), and where DPDK is
-installed does the same over DPDK (bench/calls/dpdk.c). An operation's count is the difference of two runs, of which only
-the number of rounds differs, as perf or valgrind count them: so it has its share of the loop round it and of the call
-of a round, and a look-up that of its random address. Prints one table: per operation both counts and the ratio. Where
-DPDK cannot be counted, its figures are those that were taken once on another machine, and marked by a star. It takes
-ten minutes under valgrind, most of them for the rules.
+It proves and builds the static library of crates/dp_bench and calls it from C (bench/calls/dpv.c), and if DPDK is installed does the same
+over DPDK (bench/calls/dpdk.c). An operation's count is the difference of two runs that differ only in the number of rounds, counted by perf
+or valgrind: so it includes its share of the loop around it and of the call of a round, and for a look-up that of its random address. Prints
+one table: per operation both counts and the ratio. If DPDK cannot be counted, its figures are from another machine, and marked by a star.
+It takes ten minutes under valgrind, most of them for the rules.
 """
 import functools
 import pathlib
@@ -59,7 +58,7 @@ def compiled(source: str, folder: pathlib.Path, words: list[str]) -> str:
 
 
 def library() -> list[str]:
-    """The static library, once it is proved and built, and what it calls of the C library."""
+    """The static library, proved and built, and the functions of the C library that it calls."""
     built = subprocess.run(["rt", "lib"], cwd=CRATE, stdout=subprocess.PIPE, text=True)
     if built.returncode != 0:
         sys.exit(built.stdout)
@@ -82,7 +81,7 @@ def between(program: str, name: str, like: str) -> float | None:
 
 
 def shown(number: float | None, star: str = "") -> str:
-    """A count as the table has it."""
+    """A count, formatted for the table."""
     return "-" if number is None else f"{number:,.0f}{star}" if number >= 100 else f"{number:.1f}{star}"
 
 

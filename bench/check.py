@@ -1,11 +1,11 @@
 #!/usr/bin/env python3
-"""Counts the machine instructions that the checker and the inferrer take for an instruction of a program of 1,024.
+"""Counts the machine instructions of the checker and the inferrer per instruction of a program of 1,024.
 
 Usage: bench/check.py [COMMIT ..]   (each commit's crates beside those that stand here)
-It builds a program of its own (bench/check/main.rt.txt) over copies of the crates, which proves them. A count is the difference of two
-runs, of which one has more rounds, as perf or valgrind count them. A program begins with a test of the packet's length and then has
-one line 1,021 times: a sum, a store or a jump. Where DPDK is installed, rte_bpf_load of a program of 1,024 stands beside them
-(bench/check/bpf.c). `infer` checks what it finds, too.
+It builds another program (bench/check/main.rt.txt) over copies of the crates, which proves them. A count is the difference of two runs, one
+with more rounds, counted by perf or valgrind. A program begins with a test of the packet's length and then repeats one line 1,021 times: a
+sum, a store or a jump. If DPDK is installed, rte_bpf_load of a program of 1,024 is measured beside them (bench/check/bpf.c). `infer` also
+checks its result.
 """
 import pathlib
 import shutil

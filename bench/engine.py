@@ -1,11 +1,11 @@
 #!/usr/bin/env python3
-"""Counts the machine instructions that an engine over mbufs takes for a record, captures read and written.
+"""Counts the machine instructions of an engine per record, with captures read and written.
 
 Usage: bench/engine.py [PROGRAM WORD ..]   (a program that runs a pipeline file; by default what ./dpv run begins)
-A pipeline's count is the difference of two runs, of which one has twice as many records of 60 bytes, as perf or valgrind count
-them. Prints two tables. The first has a line per pipeline: instructions per record, and how many instructions of its program a
-record runs. The second has what follows: a hop through a ring, and an instruction of two programs that load, add, compare and
-store, all beside a pipeline that only sends; and how a record of two ports compares with one of strip.
+A pipeline's count is the difference of two runs, one with twice as many records of 60 bytes, counted by perf or valgrind. Prints two
+tables. The first has a line per pipeline: instructions per record, and how many instructions of its program a record runs. The second has
+figures derived from these: a hop through a ring, and an instruction of two programs that load, add, compare and store, all compared with a
+pipeline that only sends; and a record of two ports compared with one of strip.
 """
 import pathlib
 import struct
@@ -24,7 +24,7 @@ CROSS = "set r1,1\nxor r1,r0\ntx p0,r1,d\nexit\nd: free p0\nexit\n"
 WAIT = "enq p0,0,d\nexit\nd: free p0\nexit\n"
 STRIP = "iflen p0,14,d\nadj p0,14\ntx p0,r0,d\nexit\nd: free p0\nexit\n"
 
-# One less in the time to live of an IPv4 packet, and its checksum as RFC 1624 has it. 24 instructions run.
+# Decrements the time to live of an IPv4 packet, and updates its checksum by RFC 1624. 24 instructions run.
 ROUTE = """iflen p0,34,d
 load r1,p0,12,2
 jeq r1,0x0800,a

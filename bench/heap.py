@@ -1,10 +1,10 @@
 #!/usr/bin/env python3
-"""Times heap scripts of 10,000 blocks under `dpv mem`, beside rte_malloc where DPDK is installed.
+"""Times heap scripts of 10,000 blocks under `dpv mem`, beside rte_malloc if DPDK is installed.
 
 Usage: bench/heap.py [PROGRAM]   (the program dpv; by default what ./dpv begins)
-Prints one table: per script its commands, the time of one command (the best of three runs, less that of a script with no
-command), the machine instructions of one where perf or valgrind can count them, and the time of rte_malloc with the ratio.
-The figures of dpv include reading the script and printing its answers.
+Prints one table: per script its commands, the time of one command (the best of three runs, minus that of a script with no command), the
+machine instructions of one if perf or valgrind can count them, and the time of rte_malloc with the ratio. The figures of dpv include
+reading the script and printing its results.
 """
 import pathlib
 import random

@@ -1,5 +1,5 @@
 #!/usr/bin/env python3
-"""Shows how much memory `dpv run` takes at most for many records, and for how long, where two ports send them to each other.
+"""Measures the greatest memory and the time of `dpv run` for many records, which two ports send to each other.
 
 Usage: bench/memory.py [PROGRAM WORD ..] [RECORDS ..]   (by default ./dpv run at the top of the repository, and 100000 and 10000000
 records of 60 bytes, half of them to each port)

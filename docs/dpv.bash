@@ -12,7 +12,7 @@ _dpv_nodes() {
     done
 }
 
-# The files whose names end so, and all folders.
+# The files with this ending, and all folders.
 _dpv_files() {
     compgen -f -X "!*.$1" -- "$2"
     compgen -d -- "$2"
@@ -21,7 +21,8 @@ _dpv_files() {
 # What may stand where the cursor is, a line each: the command, how many operands are before it, the first of them, the word so far.
 _dpv_operands() {
     case "$1 $2" in
-        "check 0" | "infer 0" | "explain 0" | "show 0" | "run 0" | "trace 0") _dpv_files toml "$4" ;;
+        "build 0") _dpv_files pkt "$4" ;;
+        "check 0" | "compile 0" | "infer 0" | "explain 0" | "show 0" | "run 0" | "trace 0") _dpv_files toml "$4" ;;
         "infer 1" | "explain 1" | "show 1") compgen -W "$(_dpv_nodes "$3")" -- "$4" ;;
         "one 0" | "infer-one 0" | "explain-one 0" | "show-one 0") _dpv_files dpv "$4" ;;
         "one 1" | "explain-one 1" | "show-one 1") _dpv_files cert "$4" ;;
@@ -31,15 +32,22 @@ _dpv_operands() {
 }
 
 _dpv() {
-    local word="${COMP_WORDS[COMP_CWORD]}" command="${COMP_WORDS[1]-}" first= count=0 place
-    local commands="one check infer infer-one explain explain-one show show-one run trace mem help"
-    if ((COMP_CWORD == 1)); then
-        mapfile -t COMPREPLY < <(compgen -W "$commands --help --version" -- "$word")
+    local word="${COMP_WORDS[COMP_CWORD]}" command first= count=0 place begin=1
+    local commands="one check compile infer infer-one explain explain-one show show-one run trace mem help" more=" build --unproved --compiled"
+    if ((COMP_CWORD > 1)) && [ "${COMP_WORDS[1]}" = --unproved ]; then
+        begin=2 more=
+    fi
+    if ((COMP_CWORD > 1)) && [ "${COMP_WORDS[1]}" = --compiled ]; then
+        begin=2 more= commands=run
+    fi
+    command="${COMP_WORDS[begin]-}"
+    if ((COMP_CWORD == begin)); then
+        mapfile -t COMPREPLY < <(compgen -W "$commands --help --version$more" -- "$word")
         return
     fi
-    for ((place = 2; place < COMP_CWORD; place++)); do
+    for ((place = begin + 1; place < COMP_CWORD; place++)); do
         case "${COMP_WORDS[place]}" in
-            --refuse | --records | --port) place=$((place + 1)) ;;
+            --refuse | --records | --port | --only | --instr) place=$((place + 1)) ;;
             -*) ;;
             *)
                 [ "$count" -gt 0 ] || first="${COMP_WORDS[place]}"
@@ -48,9 +56,9 @@ _dpv() {
         esac
     done
     case "$command $word" in
-        trace\ -*) mapfile -t COMPREPLY < <(compgen -W "--records --port --refuse --help" -- "$word") ;;
-        run\ -*) mapfile -t COMPREPLY < <(compgen -W "--refuse --progress --help" -- "$word") ;;
-        one\ -*) mapfile -t COMPREPLY < <(compgen -W "--progress --help" -- "$word") ;;
+        trace\ -*) mapfile -t COMPREPLY < <(compgen -W "--records --port --only --instr --refuse --help" -- "$word") ;;
+        run\ -*) mapfile -t COMPREPLY < <(compgen -W "--refuse --counts --progress --help" -- "$word") ;;
+        one\ -*) mapfile -t COMPREPLY < <(compgen -W "--counts --progress --help" -- "$word") ;;
         show\ -* | show-one\ -*) mapfile -t COMPREPLY < <(compgen -W "--dot --help" -- "$word") ;;
         help\ *) mapfile -t COMPREPLY < <(compgen -W "$commands" -- "$word") ;;
         *\ -*) mapfile -t COMPREPLY < <(compgen -W "--help" -- "$word") ;;

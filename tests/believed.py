@@ -1,12 +1,11 @@
 #!/usr/bin/env python3
-"""Keeps the table of docs/definitions.md that says, for each main promise, which definitions a reader has to believe.
+"""Keeps the table of docs/proofs/definitions.md that lists, for each main promise, the definitions that a reader has to believe.
 
 Usage: tests/believed.py [--write]
-A promise is the contract of a public function. It names definitions of specs/, these name others, and so on down to the
-library's own and to the types of the code. A type of the call, and of a field of such a type, that contracts see by a view
-(`impl Model`) has that to be believed too. The table has for each promise the modules in which definitions stand, the types
-whose views count, and how many lines both are, comments and imports aside. Without --write it says where the table is not
-what is counted, and exits with 1; with --write it puts the table right."""
+A promise is the contract of a public function. It names definitions of specs/, these name others, and so on down to the library's own and
+to the types of the code. If contracts see a type of the call, or of a field of such a type, by a view (`impl Model`), the view has to be
+believed too. The table has for each promise the modules of the definitions, the types whose views count, and the number of lines of both,
+without comments and imports. Without --write it reports where the table is wrong, and exits with 1; with --write it updates the table."""
 import collections
 import dataclasses
 import pathlib
@@ -14,9 +13,9 @@ import re
 import sys
 
 TOP = pathlib.Path(__file__).resolve().parent.parent
-PAGE = TOP / "docs" / "definitions.md"
+PAGE = TOP / "docs" / "proofs" / "definitions.md"
 BEGIN, END = "<!-- believed: begin -->", "<!-- believed: end -->"
-# Each promise: its crate, the file of src/ that has it, the function, and what it promises in few words.
+# Each promise: its crate, the file of src/ that has it, the function, and a short description.
 PROMISES = (
     ("dp_pipe", "running", "run", "captures to captures"),
     ("dp_pipe", "loading", "load", "a pipeline is what its text says"),
@@ -61,7 +60,7 @@ def imports_of(text: str) -> tuple[dict[str, tuple[str, str]], dict[str, str]]:
 
 
 def definitions_of(text: str) -> dict[str, list[str]]:
-    """The definitions of a module: a name's clauses stand together, and what is set in belongs to the line above it."""
+    """The definitions of a module: a name's clauses are adjacent, and an indented line belongs to the line above it."""
     found: dict[str, list[str]] = collections.defaultdict(list)
     name = None
     for line in text.splitlines():
@@ -199,7 +198,7 @@ def main() -> int:
     if there == wanted:
         return 0
     if "--write" not in sys.argv[1:]:
-        print("believed: the table in docs/definitions.md is not what is counted; tests/believed.py --write puts it right")
+        print("believed: the table in docs/proofs/definitions.md is not what is counted; tests/believed.py --write puts it right")
         return 1
     PAGE.write_text(before + BEGIN + wanted + END + behind)
     return 0

@@ -1,11 +1,11 @@
 #!/usr/bin/env python3
-"""Works out with scapy what the examples must send, and compares it with their stored captures. Run by hand, where scapy is installed.
+"""Computes with scapy what the examples must send, and compares it with their stored captures. Run by hand, with scapy installed.
 
 Usage: tests/by_scapy.py
-scapy takes each record of the input captures apart, changes fields by their names, and builds the packet and its checksums anew. What
-comes of it has to be what `expected*.pcap` of the folder holds: the same records in the same order, with the times of the inputs. No node
-program is read, and dpv is not run: `tests/examples.py` compares what dpv writes with the same captures. Prints a line for each folder, and
-exits with 1 where one differs."""
+scapy parses each record of the input captures, changes fields by their names, and builds the packet and its checksums again. The result has
+to equal `expected*.pcap` of the folder: the same records in the same order, with the times of the inputs. No node program is read, and dpv
+is not run: `tests/examples.py` compares what dpv writes with the same captures. Prints a line for each folder, and exits with 1 if one
+differs."""
 import ipaddress
 import itertools
 import pathlib
@@ -42,7 +42,7 @@ def has_ipv4(data: bytes) -> bool:
 
 
 def with_one_hop_less(frame: Packet) -> Packet | None:
-    """A frame whose IPv4 packet has one hop less, or none where that leaves it no hop."""
+    """A frame with the time to live of its IPv4 packet decremented, or none if that makes it 0."""
     if frame[IP].ttl <= 1:
         return None
     frame[IP].ttl -= 1
@@ -68,7 +68,7 @@ def put_tag(data: bytes) -> Iterator[Sent]:
 
 
 def take_a_hop(data: bytes) -> Iterator[Sent]:
-    """ttl: one hop less, where it is IPv4."""
+    """ttl: decrements the time to live of IPv4."""
     if not has_ipv4(data):
         yield 0, data
     elif (frame := with_one_hop_less(Ether(data))) is not None:
@@ -92,7 +92,7 @@ def route(data: bytes) -> Iterator[Sent]:
 
 
 def is_let_through(frame: Packet, length: int) -> bool:
-    """What the rules of acl say of a frame."""
+    """The verdict of acl's rules on a frame."""
     if frame.type == 0x0806:
         return ARP in frame
     if frame.type != 0x0800 or length < 38:
@@ -133,7 +133,7 @@ def split(data: bytes) -> Iterator[Sent]:
 
 
 def tunnel(data: bytes) -> Iterator[Sent]:
-    """gre: within an outer IPv4 packet. Padding of the frame stays behind it."""
+    """gre: within an outer IPv4 packet. Padding of the frame stays after it."""
     if has_ipv4(data) and (length := Ether(data)[IP].len) < 65_512:
         ether = Ether(dst="02:00:00:00:01:02", src="02:00:00:00:00:01")
         ends = {"src": "198.51.100.1", "dst": "198.51.100.2"}
@@ -150,13 +150,47 @@ def three_stages(data: bytes) -> Iterator[Sent]:
 
 
 def multicast(data: bytes) -> Iterator[Sent]:
-    """multicast, port 0: to port 1 behind four bytes, and back."""
+    """multicast, port 0: to port 1 after four bytes, and back."""
     yield from ((1, raw(Raw(b"\x0a\x0b\x0c\x0d") / Raw(data))), (0, data))
 
 
 def back_to_port_1(data: bytes) -> Iterator[Sent]:
     """multicast, port 1: as it is."""
     yield 1, data
+
+
+def tcp_of(data: bytes) -> TCP | None:
+    """The TCP header of a frame whose IPv4 packet has the whole of it."""
+    ip = Ether(data)[IP] if has_ipv4(data) else None
+    is_there = ip is not None and ip.proto == 6 and ip.frag == 0 and len(data) >= 14 + 4 * ip.ihl + 20
+    return ip[TCP] if is_there else None
+
+
+def screen(data: bytes) -> Iterator[Sent]:
+    """syn: drops what opens a connection to the network of the web servers, except to their ports."""
+    header = tcp_of(data)
+    opens = header is not None and header.flags.S and not header.flags.A
+    if not (opens and ipaddress.ip_address(Ether(data)[IP].dst) in WEB and header.dport not in (80, 443)):
+        yield 0, data
+
+
+def translate(data: bytes) -> Iterator[Sent]:
+    """nat: packets from within are sent under one address, with all checksums computed again."""
+    if has_ipv4(data) and ipaddress.ip_address(Ether(data)[IP].src) in ipaddress.ip_network("10.0.0.0/8"):
+        frame = Ether(data)
+        frame[IP].src = "198.51.100.1"
+        del frame[IP].chksum
+        if TCP in frame:
+            del frame[TCP].chksum
+        if UDP in frame and frame[UDP].chksum:
+            del frame[UDP].chksum
+        data = raw(frame)
+    yield 0, data
+
+
+def tap(data: bytes) -> Iterator[Sent]:
+    """tap: whole, and its first 64 bytes at port 1."""
+    yield from ((0, data), (1, data[:64]))
 
 
 # What each port of an example does with a record; the ports that the list lacks have none.
@@ -170,6 +204,9 @@ DONE: dict[str, list[Callable[[bytes], Iterator[Sent]]]] = {
     "splitter": [split],
     "gre": [tunnel],
     "stages": [three_stages],
+    "syn": [screen],
+    "nat": [translate],
+    "tap": [tap],
     "multicast": [multicast, back_to_port_1],
 }
 

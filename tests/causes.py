@@ -1,10 +1,10 @@
 #!/usr/bin/env python3
-"""Runs the built program dpv on pipelines with one fault: each cause, at each place where it may stand, with each number that it has.
+"""Runs the built program dpv on pipelines with one fault: each cause, at each possible place, with each of its numbers.
 
 Usage: tests/causes.py [PROGRAM]   (the built program; by default the one that ./dpv builds and runs; some seconds)
-The pipeline has as many parts as one can have: 8 pools, 4 tables, 8 rings and 8 ports, and each of its 16 nodes has a program and a
-certificate. What each fault has to be told as is stated here, case by case; tests/model only writes the certificates.
-Prints a line for each case that went another way, and a count for each cause; exits with 1 where there is such a case.
+The pipeline has the greatest number of parts: 8 pools, 4 tables, 8 rings and 8 ports, and each of its 16 nodes has a program and a
+certificate. The expected message of each fault is stated here, case by case; tests/model only writes the certificates. Prints a line for
+each case that failed, and a count for each cause; exits with 1 if a case failed.
 """
 import copy
 import pathlib
@@ -30,7 +30,7 @@ OTHERS = dict.fromkeys(("node", "cert", "in", "out", "routes"))
 
 
 class Case(NamedTuple):
-    """A pipeline, the files that it has in place of its own, and how `dpv check` ends: what it prints and tells are patterns."""
+    """A pipeline, the files that replace its own, and how `dpv check` ends: both outputs are patterns."""
 
     cause: str
     top: dict[str, Any]
@@ -88,7 +88,7 @@ def fault(cause: str, top: dict[str, Any], **files: bytes) -> Case:
 
 
 def no_toml() -> Iterator[Case]:
-    """Texts that are no TOML."""
+    """Texts that are not TOML."""
     texts = (b"=", b"region = ", b"# \xff", b"region = 4096\nregion = 4096", b"[[pool]", b"region = 99999999999999999999", b"a = " + b"[" * 81 + b"]" * 81)
     texts += (b"a = {,}", b"a = {b = 1,,}", b"a = {b\n= 1}", b"a = {b =\n1}", b"a = {b = 1\nc = 2}", rb'a = "\xg0"')
     for text in texts:
@@ -103,7 +103,7 @@ def newer_toml() -> Iterator[Case]:
 
 
 def wrong_values(key: str, value: Any) -> list[Any]:
-    """What a key may not be; None stands for no key at all."""
+    """Bad values of a key; None means that the key is missing."""
     if key == "routes":
         return [None, 1, "10.0.0.0/8 1", [1], ["10.0.0.0/8 1", True]]
     if isinstance(value, str):
@@ -130,7 +130,7 @@ def bad_keys() -> Iterator[Case]:
 
 
 def bad_envs() -> Iterator[Case]:
-    """Environments that there are not."""
+    """Bad environments."""
     many = {"pool": (0, 9, 255, 256, 300), "table": (5, 255, 256, 300), "ring": (9, 255, 256, 300), "port": (0, 9, 255, 256, 300)}
     for kind, counts in many.items():
         for count in counts:
@@ -202,7 +202,7 @@ def with_files(place: int, node: str = "strip.dpv", cert: str | None = None) -> 
 
 
 def bad_files() -> Iterator[Case]:
-    """Files that cannot be read, or are no program and no certificate, at each node."""
+    """Files that cannot be read, or are not a program or a certificate, at each node."""
     lines = strip_cert(0).splitlines(keepends=True)
     zero, one = b"0" * 306 + b"\n", b"1" * 306 + b"\n"
     certs: dict[bytes, tuple[int, int]] = {b"": (1, 1), b"dpv-cert 3\n" + b"".join(lines[1:]): (1, 1), b"dpv-cert 1": (1, 1)}
@@ -245,7 +245,7 @@ set r1,8; add r1,1; jmp d | set r1,7; add r1,1; jmp d | 0 J11
 
 
 def text_of(line: str) -> str:
-    """The program that stands in a line."""
+    """The program that is written in a line."""
     return line.replace("; ", "\n") + "\n" + (END if re.search(r"[ ,]d\b", line) else "")
 
 
@@ -319,7 +319,7 @@ def sound() -> Iterator[Case]:
 
 
 def ends_so(program: str, folder: pathlib.Path, case: Case) -> bool:
-    """Whether `dpv check` ends as the case says. Behind the line that tells of a fault there may be others that explain it."""
+    """Whether `dpv check` ends as the case says. Other lines may explain the fault after its first line."""
     files = {"it.toml": toml_of(case.top).encode(), **case.files}
     for name, data in files.items():
         (folder / name).write_bytes(data)
@@ -336,7 +336,7 @@ CASES = (sound, no_toml, newer_toml, bad_keys, bad_envs, bad_tables, bad_files, 
 
 
 def main() -> int:
-    """All of it."""
+    """Runs all cases."""
     program = asked()
     tried: Counter[str] = Counter()
     wrong = 0

@@ -1,4 +1,4 @@
-"""The program dpv as the tests start it: which one it is, what it tells, and the libraries that it is started with."""
+"""The program dpv as the tests start it: which one it is, what it prints, and the libraries that are loaded before it."""
 import pathlib
 import re
 import shutil
@@ -15,9 +15,9 @@ MULTICAST = TOP / "examples/multicast"
 
 
 def built() -> pathlib.Path:
-    """The program that ./dpv runs, which builds it where it has to."""
+    """The program that ./dpv runs, which builds it if needed."""
     subprocess.run([str(TOP / "dpv"), "--version"], check=True, stdout=subprocess.DEVNULL)
-    return TOP / "crates/dp_cli/out/dp_cli"
+    return TOP / "crates/dpv/out/dpv"
 
 
 def program_of(word: str | None) -> str:
@@ -32,18 +32,18 @@ def asked() -> str:
 
 @contextmanager
 def new_folder() -> Iterator[pathlib.Path]:
-    """A folder that is there for a while."""
+    """A temporary folder."""
     with tempfile.TemporaryDirectory() as name:
         yield pathlib.Path(name)
 
 
 def fixed(told: str) -> str:
-    """What is told, without the lines behind that of a fault: the file's name and the reason."""
-    return re.sub(r"(?ms)^  (?:file|because): .*", "", told)
+    """The output on standard error, without the details after a fault's line and the lines on dropped packets."""
+    return re.sub(r"(?m)^(?:(?:port|ring) \d+: |\d+ node runs were cut|note: (?:port|ring) \d is not compiled).*\n", "", re.sub(r"(?ms)^  (?:file|because|at|help): .*", "", told))
 
 
 def put_library(name: str, folder: pathlib.Path) -> pathlib.Path | None:
-    """The library of a C file that stands here, built in a folder; or nothing where there is no C compiler."""
+    """The library of a C file of tests/, built in a folder; or nothing if there is no C compiler."""
     compiler = shutil.which("cc") or shutil.which("gcc") or shutil.which("clang")
     if compiler is None:
         return None

@@ -3,10 +3,9 @@
 
 Usage: tests/each_byte.py [--digits | --all] [PROGRAM]   (the built program; by default the one that ./dpv builds and runs; some seconds)
 Each byte of the certificate is set to the digits 1, 8 and f and to a newline; with --digits to all digits (some minutes), and with --all to
-each other value (472,515 runs). Of the texts that are no certificate then, one is tried for each byte, with --all each. With each the
-certificate is refused, at the line and cause or at the label and rule that docs/certificate.md has, or the run is that of the certificate
-as it was, to the byte.
-Prints a line for each case that went another way, and a count; exits with 1 where there is such a case.
+each other value (472,515 runs). Of the texts that are not certificates then, one is tried for each byte, with --all each. Either the
+certificate is refused, at the line and cause or at the label and rule of docs/reference/certificate.md, or the run equals that of the unchanged
+certificate, to the byte. Prints a line for each case that failed, and a count; exits with 1 if a case failed.
 """
 import argparse
 import os
@@ -29,7 +28,7 @@ Ending = tuple[int, str, str, bytes | None]
 
 
 def report(received: int, state: str) -> str:
-    """The report of a run on so many records."""
+    """The report of a run on this number of records."""
     return f"port 0 received {received} nobuf 0 oversize 0 sent {received} input {state}\npool 0 free 64 of 64\ncalls {received} refused 0\n"
 
 
@@ -72,7 +71,7 @@ def run_on(place: Place, cert: bytes, data: bytes) -> Ending:
     place.put("cert", cert)
     place.put("in.pcap", data)
     ended = place.run(WORDS)
-    # Behind the line that tells of a fault there may be others that explain it.
+    # Other lines may explain the fault after its first line.
     told = ended.told.partition("\n")[0] + "\n" if ended.told else ""
     return ended.status, ended.printed, told, ended.written.get("out.pcap")
 

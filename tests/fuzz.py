@@ -1,18 +1,18 @@
 #!/usr/bin/env python3
-"""Runs the built program dpv on programs, certificates, pipelines, captures and heap scripts that are made at random, and judges each.
+"""Runs the built program dpv on random programs, certificates, pipelines, captures and heap scripts, and compares each run with tests/model.
 
-Usage: tests/fuzz.py [--seed N] [--cases N | --seconds N] [--jobs N] [--only KIND,..] [--keep FOLDER] [PROGRAM]
+Usage: tests/fuzz.py [--seed N] [--cases N | --seconds N] [--jobs N] [--only KIND,..] [--families N] [--keep FOLDER] [PROGRAM]
        tests/fuzz.py --again FOLDER [PROGRAM]
 KIND is one of one, check, infer, mem and run. The same seed makes the same cases, whatever the number of jobs; eight in a row share their
 programs. PROGRAM is by default the one that ./dpv builds and runs.
 
-What a case has to come to is worked out by tests/model from the files alone: the status, what is printed and told, and each byte that is
-written; so the texts are those that docs/ have, outputs are whole captures, and all buffers are free at the end. No other file is written.
-A fourth of the cases run once more, in one of these ways, and have to do the same: as they are; without caches, where pools have some;
-with reads and writes that take a byte or a few each. Or an allocation is refused: then a case does the same, or tells of it with status 4
-and has written nothing or all. No case may take more than a minute of the processor, half an hour by the clock, or 3 GiB of memory. Each
-finding is kept in a folder of its own: the files, the words, what was expected and what came; `--again` tries such a folder once more.
-Prints a line for each, and a count; exits with 1 where there is a finding.
+tests/model computes the expected result of a case from the files alone: the status, both outputs, and each byte that is written; so the
+texts are those of docs/, outputs are whole captures, and all buffers are free at the end. No other file is written. A fourth of the cases
+run once more, in one of these ways, with the same result: as they are; without caches, if pools have some; with reads and writes of a few
+bytes each. Or an allocation is refused: then a case does the same, or reports it with status 4 and has written nothing or all. No case may
+take more than a minute of processor time, half an hour by the clock, or 3 GiB of memory. Each finding is kept in its own folder: the files,
+the words, the expected and the actual result; `--again` tries such a folder once more. Prints a line for each, and a count; exits with 1 if
+there is a finding.
 """
 import argparse
 import contextlib
@@ -28,10 +28,10 @@ import sys
 import tempfile
 import time
 from collections import Counter
-from collections.abc import Iterator, Sequence
+from collections.abc import Callable, Iterator, Sequence
 from dataclasses import dataclass, field
 from random import Random
-from typing import Any, NamedTuple
+from typing import Any, NamedTuple, TypeVar
 
 from cases import MAKERS, Case, Family
 from command import fixed, program_of, put_library
@@ -42,6 +42,7 @@ MOST_WAIT = 1800
 MOST_MEMORY = 3 << 30
 WEIGHTS = {"one": 3, "check": 2, "infer": 2, "mem": 1, "run": 6}
 FAMILY = 8
+Counted = TypeVar("Counted")
 
 
 class Ended(NamedTuple):
@@ -78,7 +79,7 @@ class Tally:
 
 
 class TooLong(Exception):
-    """A run that is not over in time."""
+    """A run that did not end in time."""
 
 
 def give_up(_signal: int, _frame: object) -> None:
@@ -95,10 +96,10 @@ def bytes_of(name: str) -> bytes:
 
 
 class Place:
-    """This folder, in which the program runs. What it prints and tells goes to files in memory."""
+    """This folder, in which the program runs. Both outputs go to files in memory."""
 
     def __init__(self, program: str) -> None:
-        # Tables are large, and made sooner in large pages.
+        # Tables are large, and made faster in large pages.
         self.program, self.env = program, {b"GLIBC_TUNABLES": b"glibc.malloc.hugetlb=1"}
         self.streams = [os.memfd_create(name) for name in ("printed", "told")]
         self.files: dict[str, tuple[bytes, tuple[int, int]]] = {}
@@ -163,7 +164,7 @@ class Place:
 
 
 def as_it_is(state: os.stat_result) -> tuple[int, int]:
-    """By what it is seen that a file was written."""
+    """What changes when a file is written."""
     return state.st_size, state.st_mtime_ns
 
 
@@ -234,7 +235,9 @@ def runs_refused(place: Place, case: Case, ended: Ended, more: dict[bytes, bytes
     tells = (refused.status, refused.told) == (4, "fault: memory\n") and ended.printed.startswith(refused.printed)
     if tells and all(data in (b"", ended.written.get(name)) for name, data in refused.written.items()):
         return None
-    return None if refused[:4] == ended[:4] else f"allocation {more[b'REFUSE'].decode()} refused: {ended[:3]}, then {refused[:3]}"
+    # (the line at fault and the cure are left out where there is no memory for them)
+    same = refused._replace(told=fixed(refused.told))[:4] == ended._replace(told=fixed(ended.told))[:4]
+    return None if same else f"allocation {more[b'REFUSE'].decode()} refused: {ended[:3]}, then {refused[:3]}"
 
 
 def runs_once_more(place: Place, case: Case, ended: Ended, how: str, number: int, shims: pathlib.Path | None) -> str | None:
@@ -292,12 +295,13 @@ class Dice(Random):
 class Maker:
     """Makes cases by their numbers: those of a family, one behind the other, share their programs."""
 
-    def __init__(self, seed: str, kinds: list[str]) -> None:
-        self.seed, self.kinds = seed, kinds
+    def __init__(self, seed: str, kinds: list[str], families: int = 0) -> None:
+        self.seed, self.kinds, self.families = seed, kinds, families
         self.last: tuple[int, Family] | None = None
 
     def family(self, number: int) -> Family:
-        """The family of this number."""
+        """The family of this number; if there are fewer families, they repeat."""
+        number = number % self.families if self.families else number
         if self.last is None or self.last[0] != number:
             rng = Dice(f"{self.seed} {number}")
             kind = rng.choices(self.kinds, [WEIGHTS[kind] for kind in self.kinds])[0]
@@ -315,15 +319,22 @@ def numbers(jobs: int, first: int) -> Iterator[int]:
     return (FAMILY * family + k for family in itertools.count(first, jobs) for k in range(FAMILY))
 
 
-def work(asked: argparse.Namespace, shims: pathlib.Path | None, first: int, until: float) -> Tally:
-    """The cases of one job."""
-    tally, maker, home = Tally(), Maker(asked.seed, asked.only), os.getcwd()
-    resource.setrlimit(resource.RLIMIT_AS, (MOST_MEMORY, MOST_MEMORY))
-    signal.signal(signal.SIGALRM, give_up)
-    shared = "/dev/shm" if os.access("/dev/shm", os.W_OK) else None
+@contextlib.contextmanager
+def own_place(program: str) -> Iterator[Place]:
+    """A folder in memory that is there for a while, as the current one."""
+    home, shared = os.getcwd(), "/dev/shm" if os.access("/dev/shm", os.W_OK) else None
     with tempfile.TemporaryDirectory(dir=shared) as name:
         os.chdir(name)
-        place = Place(asked.program)
+        yield Place(program)
+        os.chdir(home)
+
+
+def work(asked: argparse.Namespace, shims: pathlib.Path | None, first: int, until: float) -> Tally:
+    """The cases of one job."""
+    tally, maker = Tally(), Maker(asked.seed, asked.only, asked.families)
+    resource.setrlimit(resource.RLIMIT_AS, (MOST_MEMORY, MOST_MEMORY))
+    signal.signal(signal.SIGALRM, give_up)
+    with own_place(asked.program) as place:
         for number in numbers(asked.jobs, first):
             if number >= asked.cases or time.monotonic() >= until:
                 break
@@ -332,7 +343,6 @@ def work(asked: argparse.Namespace, shims: pathlib.Path | None, first: int, unti
             if wrong:
                 tally.findings += 1
                 keep(case, wrong, number, asked.seed, asked.keep)
-        os.chdir(home)
     return tally
 
 
@@ -354,36 +364,48 @@ def again(program: str, folder: pathlib.Path, shims: pathlib.Path | None) -> int
     return 1 if wrong else 0
 
 
-def words() -> argparse.Namespace:
-    """What was asked for."""
-    parser = argparse.ArgumentParser(description="Runs dpv on what is made at random, and judges each run.")
+def parser_of(description: str, findings: str) -> argparse.ArgumentParser:
+    """The words of a script that tries random cases, and the folder of its findings."""
+    parser = argparse.ArgumentParser(description=description)
     parser.add_argument("program", nargs="?", metavar="PROGRAM")
     parser.add_argument("--seed", default="1")
     parser.add_argument("--cases", type=int, default=0)
     parser.add_argument("--seconds", type=float, default=0)
     parser.add_argument("--jobs", type=int, default=os.cpu_count() or 1)
-    parser.add_argument("--only", type=lambda text: text.split(","), default=list(WEIGHTS))
-    parser.add_argument("--keep", type=pathlib.Path, default=pathlib.Path(tempfile.gettempdir()) / "dpv_findings")
+    parser.add_argument("--keep", type=pathlib.Path, default=pathlib.Path(tempfile.gettempdir()) / findings)
     parser.add_argument("--again", type=pathlib.Path)
+    return parser
+
+
+def words(parser: argparse.ArgumentParser, cases: int) -> argparse.Namespace:
+    """What was asked for; as many cases where neither cases nor seconds are given."""
     asked = parser.parse_args()
     asked.program = program_of(asked.program)
     asked.keep = asked.keep.resolve()
-    asked.cases = asked.cases or (sys.maxsize if asked.seconds else 10_000)
+    asked.cases = asked.cases or (sys.maxsize if asked.seconds else cases)
     return asked
+
+
+def all_jobs(asked: argparse.Namespace, job: Callable[..., Counted], *more: object) -> Iterator[Counted]:
+    """What each job counted; a job is given the words, `more`, its number, and when to end."""
+    until = time.monotonic() + (asked.seconds or float("inf"))
+    with multiprocessing.Pool(asked.jobs) as pool:
+        yield from pool.starmap(job, [(asked, *more, first, until) for first in range(asked.jobs)], chunksize=1)
 
 
 def main() -> int:
     """All of it."""
-    asked, tally = words(), Tally()
+    parser, tally = parser_of("Runs dpv on what is made at random, and judges each run.", "dpv_findings"), Tally()
+    parser.add_argument("--only", type=lambda text: text.split(","), default=list(WEIGHTS))
+    parser.add_argument("--families", type=int, default=0)
+    asked = words(parser, 10_000)
     with tempfile.TemporaryDirectory() as folder:
         shims = put_shims(pathlib.Path(folder))
         if asked.again:
             return again(asked.program, asked.again.resolve(), shims)
         begun = time.monotonic()
-        until = begun + (asked.seconds or float("inf"))
-        with multiprocessing.Pool(asked.jobs) as pool:
-            for done in pool.starmap(work, [(asked, shims, first, until) for first in range(asked.jobs)], chunksize=1):
-                tally.add(done)
+        for done in all_jobs(asked, work, shims):
+            tally.add(done)
     print(f"fuzz: seed {asked.seed}, {tally.cases.total()} cases ({shown(tally.cases)}) in {time.monotonic() - begun:.0f} s")
     print(f"fuzz: by status {shown(tally.statuses)}; once more {shown(tally.again)}; {tally.records} records")
     print(f"fuzz: longest {tally.seconds:.1f} s, largest {tally.memory // 1024} MiB; {tally.findings} findings")

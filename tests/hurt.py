@@ -1,9 +1,9 @@
 #!/usr/bin/env python3
-"""Runs the built program dpv on programs, pipelines and texts that are to cost as much as they can, and measures what they do.
+"""Runs the built program dpv on programs, pipelines and texts that are made to cost as much as possible, and measures them.
 
 Usage: tests/hurt.py [--only TEXT] [PROGRAM]   (by default the program that ./dpv builds and runs; some minutes)
-Prints a line for each: what it is, the time to load it, the time of a record, and the memory; then for texts and heap scripts. docs/limits.md has what was measured.
-Exits with 1 where one ends in another way than it has to, or with other numbers of records.
+Prints a line for each: its name, the time to load it, the time of a record, and the memory; then for texts and heap scripts. docs/users/limits.md
+has the measurements. Exits with 1 if one does not end as expected, or with other numbers of records.
 """
 import argparse
 import itertools
@@ -42,7 +42,7 @@ class Load:
 
 
 class Used(NamedTuple):
-    """What a run used, and how it ended."""
+    """The time and memory of a run, and how it ended."""
 
     status: int
     seconds: float

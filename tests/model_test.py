@@ -1,5 +1,5 @@
 #!/usr/bin/env python3
-"""Tries tests/model itself on runs whose outcome was worked out by hand, and what tests/fuzz.py does with a run.
+"""Tests tests/model itself on runs whose result was worked out by hand, and how tests/fuzz.py handles a run.
 
 Usage: tests/model_test.py   (needs no program; some seconds)
 """
@@ -185,20 +185,19 @@ class Runs(Case):
     def test_output_that_is_there(self) -> None:
         text = pipeline([Pool(4, 0, 2176)], [port(0, "forward"), port(1, "forward")])
         one, two = capture((1, 2, SIXTY)), capture((1, 2, b""), (1, 2, b""))
-        for name in ("in0", "./in1"):
+        for name in ("in0", "./in1", "forward", "./forward"):
             done = self.run_on(text.replace("out1", name), one, two)
             self.assertEqual((done.status, done.told, done.written), (3, f"fault: file {name}\n", {}))
-        self.assertEqual([*self.run_on(text.replace("out1", "forward"), one, two).written], ["out0", "forward"])
+        (self.folder / "old").write_bytes(b"old")
+        self.assertEqual([*self.run_on(text.replace("out1", "old"), one, two).written], ["out0", "old"])
+        self.assertEqual(self.run_on(text.replace("out1", "old"), one, b"").written, {"out0": b""})
 
     def test_output_that_is_named_twice(self) -> None:
-        text = pipeline([Pool(4, 0, 2176)], [port(0, "forward"), port(1, "forward")]).replace("out1", "out0")
-        small, large = capture((1, 2, b"")), capture((1, 2, SIXTY))
-        longest = capture(*[(1, 2, SIXTY)] * 1000)
-        for first, second in ((small, large), (large, small)):
-            alone = [self.run_on(text, data, capture()).written["out0"] for data in (first, second)]
-            twice = self.run_on(text, first, second)
-            self.assertEqual(twice.written, {"out0": alone[1] + alone[0][len(alone[1]) :]})
-        self.assertIsNone(self.run_on(text, longest, small).written)
+        text = pipeline([Pool(4, 0, 2176)], [port(0, "forward"), port(1, "forward")])
+        for first, second in (("out0", "out0"), ("out0", "./out0"), ("old", "old"), ("./old", "old")):
+            (self.folder / "old").write_bytes(b"old")
+            done = self.run_on(text.replace("out0", first).replace("out1", second), capture(), capture())
+            self.assertEqual((done.status, done.told, done.written), (3, f"fault: file {second}\n", {}))
 
     def test_backward_jumps(self) -> None:
         env = answers.ONE
@@ -282,7 +281,7 @@ class Rules(unittest.TestCase):
 
 
 class Texts(unittest.TestCase):
-    """Causes of what is no text."""
+    """Causes for which texts are refused."""
 
     def test_programs(self) -> None:
         for text, (line, cause) in TEXTS.items():
@@ -326,6 +325,15 @@ class Texts(unittest.TestCase):
             with self.assertRaises(ValueError):
                 toml.read(text)
 
+    def test_carriage_returns(self) -> None:
+        """A carriage return belongs to one newline or is refused, in blanks, comments and strings."""
+        for text in ("# x\r\na = 1\r\n", "a = 1\r\n\r\n", "\r\na = 1"):
+            self.assertEqual(toml.read(text), {"a": 1})
+        self.assertEqual(toml.read('a = """\r\nb\r\n"""'), {"a": "b\n"})
+        for text in ("# x\r\r\n", "a = 1\r\r\n", "a = 1\r", "\r", "a =\r1", "# x\r# y\n", 'a = """b\r\r\n"""', "a = '''b\r'''", "a = [1,\r2]"):
+            with self.assertRaises(ValueError):
+                toml.read(text)
+
     def test_captures(self) -> None:
         self.assertEqual(captures.read(capture(magic=0xA1B2C3D3)).ending, "1")
         self.assertEqual(captures.read(capture((1, 1_000_000, b""))).ending, "4")
@@ -333,7 +341,7 @@ class Texts(unittest.TestCase):
 
 
 class Limits(unittest.TestCase):
-    """What ends a run that does not end."""
+    """How a run that does not end is ended."""
 
     def setUp(self) -> None:
         for name, value in {"MOST_SECONDS": 1, "MOST_WAIT": 3}.items():

@@ -1,9 +1,9 @@
 #!/usr/bin/env python3
-"""Runs the built program dpv where something goes on outside of it: streams are closed, files go away, signals come.
+"""Runs the built program dpv while its surroundings change: streams are closed, files disappear, signals arrive.
 
 Usage: tests/outside.py [PROGRAM]   (by default the one that ./dpv builds and runs; some seconds)
-The input is a pipe that is fed in two halves, so that what happens between them comes in the middle of a run. What is on disk then is
-always a front of the capture that a whole run writes. Prints a line for each case, and exits with 1 where one went another way.
+The input is a pipe that is fed in two halves, so that what happens between them happens in the middle of a run. The file on disk is always
+a prefix of the capture that a whole run writes. Prints a line for each case, and exits with 1 if one failed.
 """
 import itertools
 import os
@@ -48,7 +48,7 @@ class Tried:
         return [self.program, "one", str(STRIP / "strip.dpv"), str(STRIP / "strip.cert"), str(self.pipe), str(self.output)]
 
     def between_halves(self, act: Callable[[subprocess.Popen[bytes]], None]) -> tuple[int, str, str]:
-        """Feeds a half, lets something happen once the program waits for more, then feeds the rest. How the program ended."""
+        """Feeds a half, lets something happen when the program waits for more, then feeds the rest. Returns how the program ended."""
         run = subprocess.Popen(self.words(), stdout=subprocess.PIPE, stderr=subprocess.PIPE)
         with open(self.pipe, "wb", buffering=0) as feed:
             feed.write(source()[:HALF])
@@ -63,7 +63,7 @@ class Tried:
         return run.returncode, printed.decode(), told.decode()
 
     def is_front(self) -> bool:
-        """Whether what is on disk is a front of the capture, and reads as records up to a cut; by tcpdump too, where there is one."""
+        """Whether the file on disk is a prefix of the capture, and is read as records up to a cut; also by tcpdump, if installed."""
         data = self.output.read_bytes()
         read = captures.read(data)
         is_read = read.ending == "whole" or read.ending.startswith("cut ")
@@ -89,7 +89,7 @@ def by_signal(number: signal.Signals) -> Callable[[Tried], bool]:
 
 
 def stopped(tried: Tried) -> bool:
-    """A run that is stopped for a while, and goes on."""
+    """A run that is stopped for a while, and continued."""
 
     def act(run: subprocess.Popen[bytes]) -> None:
         run.send_signal(signal.SIGSTOP)
@@ -100,13 +100,13 @@ def stopped(tried: Tried) -> bool:
 
 
 def removed(tried: Tried) -> bool:
-    """The output is removed in the middle: the run ends as ever, and makes no other file."""
+    """The output is removed in the middle: the run ends as usual, and makes no other file."""
     ended = tried.between_halves(lambda _: tried.output.unlink())
     return is_whole(ended, tried) and not tried.output.exists()
 
 
 def emptied(tried: Tried) -> bool:
-    """The output is cut to nothing in the middle by another program: the run ends as ever."""
+    """Another program truncates the output in the middle: the run ends as usual."""
     return tried.between_halves(lambda _: os.truncate(tried.output, 0)) == (0, REPORT.format(COUNT), "")
 
 
@@ -130,7 +130,7 @@ def one_by_one(tried: Tried) -> bool:
 
 
 def ends(tried: Tried, suffix: str) -> tuple[int, str, str]:
-    """A run on the whole capture by the shell, with something behind its words."""
+    """A run on the whole capture by the shell, with something after its words."""
     tried.pipe.unlink()
     tried.pipe.write_bytes(source())
     run = subprocess.run(["sh", "-c", f'"$@" {suffix}', "sh", *tried.words()], capture_output=True, text=True, timeout=60)
@@ -147,7 +147,7 @@ def without(closed: tuple[str, ...]) -> Callable[[Tried], bool]:
 
 
 def nothing_to_read(tried: Tried) -> bool:
-    """Standard input is closed, and is to be read: it is empty."""
+    """Standard input is closed, but read: it is empty."""
     words = [tried.program, "one", *tried.words()[2:4], "/dev/stdin", str(tried.output)]
     run = subprocess.run(["sh", "-c", '"$@" <&-', "sh", *words], capture_output=True, text=True, timeout=60)
     told = (run.returncode, run.stdout, run.stderr.partition("\n")[0])
@@ -166,7 +166,7 @@ def closed_pipe(tried: Tried) -> bool:
 
 
 def left_pipe(tried: Tried) -> bool:
-    """The output is a pipe whose reader goes away in the middle: it got a front of the capture, and the fault is told behind the report."""
+    """The output is a pipe whose reader ends in the middle: it got a prefix of the capture, and the fault is printed after the report."""
     tried.pipe.unlink()
     tried.pipe.write_bytes(source())
     os.mkfifo(tried.output)

@@ -1,28 +1,33 @@
 #!/usr/bin/env python3
-"""Tries wrong bodies that the prover must refuse: crates/NAME/planted/*.edit, each written as an edit of must-fail/ is.
+"""Tries wrong bodies that the prover must refuse: crates/NAME/planted/*.edit and planted/always/*.edit, each written as an edit of
+must-fail/ is. Those of planted/always are the ones that matter most: the gate tries them each time, as `rt ci` tries those of must-fail/,
+which are in crates that are proved in a minute, since that check proves the whole crate once more.
 
 Usage: tests/planted.py [--jobs N] [--alone] [--must-fail] [--since COMMIT] [--part N OF] [--most N] [CRATE ..]
+       tests/planted.py [--jobs N] [--alone] FILE.edit ..
        tests/planted.py [--jobs N] --gate
        tests/planted.py --count
 
 Where nothing says which, all are tried.
   CRATE        those of this crate
+  FILE.edit    this one
   --since C    those of the crates whose code, definitions or proofs differ from commit C, and those that are new since
   --part N OF  the N-th part of all (0 <= N < OF): the parts 0 .. OF - 1 have each once, and which has one never changes
   --most N     of what CRATE and --since ask for beyond the part no more than N, beginning with the part behind it; the others
                are left for another time, and counted
   --must-fail  those of must-fail/ as well, which `rt ci` tries each time
-  --gate       what the gate tries at this commit: --since the commit 8 changes back, --part N 8, where N is the number of
-               changes so far by 8, and --most 40; where there is no such history every crate counts as changed, and the day is N
+  --gate       what the gate tries at this commit: all of planted/always; and of the others --since the commit 8 changes back,
+               --part N 8, where N is the number of changes so far by 8, and --most 40; where there is no such history every crate
+               counts as changed, and the day is N
   --count      tries none: writes how many each crate has into the table of docs/notes/wrong_bodies.md
   --alone      each in a check of its own
   --jobs N     N checks side by side (by default as many as there are processors and memory)
 
-Edits of different functions share a check, which proves those functions and what they call: the prover judges a function by the
-contracts of what it calls. An edit is refused where the check says of a function that it changes that this one has no proof for
-a cause of its own; where only something that it calls has none, it is tried again, at last beside few and then alone. The checks
-that edits share take what is proved from the ones before them in the run; one alone is from nothing. An edit that cannot be tried
-(its old text stands there twice, or not at all, or outside of a function) counts as not refused.
+Edits of different functions share a check, which proves those functions and what they call: the prover uses the contracts of the callees.
+An edit is refused if the check reports that a function it changes has no proof for its own cause; if only a callee has none, it is tried
+again, at last beside few and then alone. The checks that edits share reuse what the ones before them in the run proved; one alone starts
+from nothing. An edit that cannot be tried (a text of it has several lines; its old text occurs twice, or not at all, or outside of a
+function) counts as not refused.
 
 It reads the libraries below a crate as `rt ci` left them in crates/*/out/rlib; `rt all check` makes them too.
 Prints a line for each check and each edit, a table by crate, and last 'planted: N refused, M not'; exits with 1 where M is not 0."""
@@ -41,11 +46,14 @@ import tempfile
 import threading
 import time
 import zlib
+from collections.abc import Iterable
 
 TOP = pathlib.Path(__file__).resolve().parent.parent
 # Where the gate's turn comes round, and how many more edits than those of its turn it tries at most.
 PARTS, MOST = 8, 40
-# How many edits share a check when they are tried first, and where something else hid what was said of one, again.
+# The folders of wrong bodies: those that `rt ci` tries, those that the gate tries each time, and those that have a turn.
+MUST_FAIL, ALWAYS, PLANTED = FOLDERS = ("must-fail", "planted/always", "planted")
+# How many edits share a check at first, and again if something else hid the result of one.
 SHARING = (32, 4, 1)
 # A check's memory, in bytes.
 ROOM = 3 << 30
@@ -55,13 +63,13 @@ IMPL = re.compile(r"(?:unsafe )?impl\b(?:<.*?>)? *(?:([\w:]+)(?:<.*>)? for )?&?(
 IMPL_AT = re.compile(r"(?:unsafe )?impl (\w+)<(\w+)>(?! for)")
 TRAIT = re.compile(r"(?:pub )?(?:unsafe )?trait (\w+)")
 CALL = re.compile(r"(?:\.|\b[A-Z]\w*::|\b)[a-z_]\w*(?=\()")
-# What a check says of a function that has no proof for a cause of its own, and not only for one of what it calls.
+# What a check says of a function that has no proof for its own cause, and not only for that of a callee.
 UNPROVED = re.compile(r"^fn (\S+): (?:not proved|no proof)(?!(?:; it stands on [^;\n]*)?(?:; |: )it calls).*$", re.M)
 PRINTING = threading.Lock()
 
 
 def say(*lines: str) -> None:
-    """Prints lines that stay together."""
+    """Prints lines without others between them."""
     with PRINTING:
         print(*lines, sep="\n", flush=True)
 
@@ -90,7 +98,7 @@ class Crate:
         return self.folder / "out/rlib" / f"{self.name}.rlib"
 
     def below(self) -> list["Crate"]:
-        """The crates that it stands on, lowest first."""
+        """The crates that it depends on, lowest first."""
         found: dict[str, Crate] = {}
         for dep in (CRATES[it] for it in self.uses if it in CRATES):
             found |= {it.name: it for it in [*dep.below(), dep]}
@@ -172,28 +180,52 @@ class Unfit(Exception):
     """Why an edit cannot be tried."""
 
 
+def pairs_of(text: str) -> list[tuple[str, str, str]]:
+    """The changes that an edit makes, each as its file, its old text and its new text. Unfit where it is not written as it has to be."""
+    pairs: list[tuple[str, str, str]] = []
+    path = old = ""
+    for number, line in enumerate(text.removesuffix("\n").split("\n"), 1):
+        if line.startswith("file: ") and not old:
+            path = line[6:].strip()
+        elif line.startswith("old: ") and path and not old:
+            old = line[5:]
+        elif line.startswith("new:") and old:
+            pairs.append((path, old, line[4:].removeprefix(" ")))
+            old = ""
+        else:
+            raise Unfit(f"line {number}: expected `{'new: TEXT' if old else 'old: TEXT' if path else 'file: PATH'}`, and each text is one line")
+    if old or not pairs:
+        raise Unfit(f"it ends without `{'new: TEXT' if old else 'old: TEXT' if path else 'file: PATH'}`")
+    return pairs
+
+
 class Edit:
-    """A wrong body: what stands where, and what takes its place."""
+    """A wrong body: the old text, its place, and the new text."""
 
     def __init__(self, crate: Crate, file: pathlib.Path) -> None:
         self.crate, self.file, self.name = crate, file, f"{crate.name}/{file.name}"
-        self.pairs: list[tuple[str, str, str]] = []
-        # Whether a check that it shared told nothing of it.
+        # Whether the gate tries it each time.
+        self.is_always = file.parent == crate.folder / ALWAYS
+        # Whether a check that it shared gave no result for it.
         self.was_hidden = False
-        path = old = ""
-        for line in file.read_text().split("\n"):
-            if line.startswith("file: "):
-                path = line[6:].strip()
-            elif line.startswith("old: "):
-                old = line[5:]
-            elif line.startswith("new:"):
-                self.pairs.append((path, old, line[4:].removeprefix(" ")))
+
+    @functools.cached_property
+    def pairs(self) -> list[tuple[str, str, str]]:
+        """Its changes; Unfit where it is not written as an edit has to be."""
+        return pairs_of(self.file.read_text())
+
+    def text_of(self, path: str) -> str:
+        """A file of its crate as it is; Unfit where there is none."""
+        try:
+            return (self.crate.folder / path).read_text()
+        except OSError as why:
+            raise Unfit(f"{path}: {why.strerror}") from why
 
     def applied(self, texts: dict[str, str]) -> dict[str, str]:
         """These texts, and those of the crate's own that it changes, with the edit made."""
         texts = dict(texts)
         for path, old, new in self.pairs:
-            text = texts.get(path) or (self.crate.folder / path).read_text()
+            text = texts.get(path) or self.text_of(path)
             if text.count(old) != 1:
                 raise Unfit(f"its old text stands in {path} {text.count(old)} times, and not once")
             texts[path] = text.replace(old, new)
@@ -204,7 +236,7 @@ class Edit:
         """The ends of the names of the functions that it changes."""
         found, texts = set(), {}
         for path, old, new in self.pairs:
-            text = texts.get(path) or (self.crate.folder / path).read_text()
+            text = texts.get(path) or self.text_of(path)
             at = function_at(text, text.index(old))
             if not at:
                 raise Unfit("it changes what is in no function, so no check of functions judges it")
@@ -214,7 +246,7 @@ class Edit:
         return found
 
     def is_hidden_by(self, other: "Edit") -> bool:
-        """Whether a check told nothing of it, and a function that it changes may call one that the other changes."""
+        """Whether a check gave no result for it, and a function that it changes may call one that the other changes."""
         if not self.was_hidden:
             return False
         ends = [{end if end[0].isupper() else end.rpartition("::")[2] for end in it.functions} for it in (self, other)]
@@ -225,9 +257,14 @@ class Edit:
         return zlib.crc32(self.name.encode()) % parts
 
 
+def edits_in(crate: Crate, folder: str) -> list[Edit]:
+    """The wrong bodies of a crate in one of the folders that it has for them."""
+    return [Edit(crate, it) for it in sorted((crate.folder / folder).glob("*.edit"))]
+
+
 @dataclasses.dataclass
 class Tally:
-    """What became of a crate's edits, and what their checks took."""
+    """The results of a crate's edits, and the cost of their checks."""
 
     refused: int = 0
     passed: list[str] = dataclasses.field(default_factory=list)
@@ -237,7 +274,7 @@ class Tally:
 
 
 def run(words: list[str], folder: str) -> tuple[int, str, float]:
-    """Runs a command: its status, what it said, and the seconds of processor time that it took."""
+    """Runs a command: its status, its output, and the seconds of processor time that it took."""
     how = {"stdin": subprocess.DEVNULL, "stdout": subprocess.PIPE, "stderr": subprocess.STDOUT}
     with subprocess.Popen(words, cwd=folder, text=True, errors="replace", **how) as started:
         said = started.stdout.read()
@@ -286,7 +323,7 @@ def together(edits: list[Edit], most: int) -> list[Edit]:
 
 
 def fit(edits: list[Edit], tally: Tally) -> list[Edit]:
-    """Those that can be tried; tells of the others."""
+    """Those that can be tried; prints the others."""
     found = []
     for it in edits:
         try:
@@ -299,7 +336,7 @@ def fit(edits: list[Edit], tally: Tally) -> list[Edit]:
 
 
 def try_beside(crate: Crate, edits: list[Edit], most: int, tally: Tally, kept: str | None) -> list[Edit]:
-    """Tries these edits, so many to a check. Those of which that tells nothing."""
+    """Tries these edits, this number to a check. Returns those without a result."""
     again, waiting = [], edits
     while waiting:
         now = together(waiting, most)
@@ -334,7 +371,7 @@ def try_crate(crate: Crate, edits: list[Edit], is_alone: bool) -> Tally:
 
 
 def git(*words: str) -> str | None:
-    """What git says, or None where it cannot."""
+    """The output of git, or None if it fails."""
     ran = subprocess.run(["git", "-C", str(TOP), *words], capture_output=True, text=True)
     return ran.stdout.strip() if ran.returncode == 0 else None
 
@@ -358,8 +395,13 @@ def at_this_commit() -> tuple[int, str | None]:
     return int(count) % PARTS, git("rev-parse", "-q", "--verify", f"HEAD~{PARTS}")
 
 
+def all_edits(folders: Iterable[str]) -> list[Edit]:
+    """The wrong bodies of all crates in these of their folders."""
+    return [it for crate in CRATES.values() for name in folders for it in edits_in(crate, name)]
+
+
 def asked() -> argparse.Namespace:
-    """What the command line asks for."""
+    """The arguments of the command line."""
     words = argparse.ArgumentParser(usage=__doc__, add_help=False)
     words.add_argument("--jobs", type=int, default=0)
     words.add_argument("--alone", action="store_true")
@@ -371,17 +413,22 @@ def asked() -> argparse.Namespace:
     words.add_argument("--count", action="store_true")
     words.add_argument("crates", nargs="*")
     by = words.parse_args()
+    by.files = [pathlib.Path(it).resolve() for it in by.crates if it.endswith(".edit")]
+    by.crates = [it for it in by.crates if not it.endswith(".edit")]
     unknown = [it for it in by.crates if it not in CRATES]
     if unknown:
         words.error(f"crates.txt lists no crate {unknown[0]}")
+    astray = [it for it in by.files if it not in {edit.file for edit in all_edits(FOLDERS)}]
+    if astray:
+        words.error(f"{astray[0]} is no file of a crate's {', '.join(FOLDERS)}")
     return by
 
 
 def chosen(by: argparse.Namespace) -> tuple[list[Edit], int]:
     """The edits to try, and how many are left for another time."""
-    folders = ["planted", "must-fail"] if by.must_fail else ["planted"]
-    files = [(it, file) for it in CRATES.values() for name in folders for file in sorted((it.folder / name).glob("*.edit"))]
-    edits = [Edit(*it) for it in files]
+    if by.files:
+        return [it for it in all_edits(FOLDERS) if it.file in by.files], 0
+    edits = all_edits([PLANTED, ALWAYS] + [MUST_FAIL] * by.must_fail)
     part, crates, news, most = by.part, set(by.crates), set(), by.most
     if by.gate:
         turn, since = at_this_commit()
@@ -394,22 +441,22 @@ def chosen(by: argparse.Namespace) -> tuple[list[Edit], int]:
         crates = set(CRATES)
     turn, parts = part or (0, 1)
     distance = lambda it: (it.turn(parts) - turn) % parts
-    first = [it for it in edits if part and distance(it) == 0]
+    first = [it for it in edits if part and distance(it) == 0 or by.gate and it.is_always]
     others = sorted((it for it in edits if it not in first and (it.crate.name in crates or it.name in news)), key=distance)
     return first + others[:most], len(others) - len(others[:most])
 
 
 def counted(text: str) -> str:
-    """The page of wrong bodies, with how many each crate has today in its table's second and third column."""
-    rows, sums = [], [0, 0]
+    """The page of wrong bodies, with each crate's counts of today in its table's second to fourth column."""
+    rows, sums = [], [0, 0, 0]
     for row in text.split("\n"):
         cells = row.split("|")
-        name = cells[1].strip(" `") if len(cells) == 6 else ""
+        name = cells[1].strip(" `") if len(cells) == 7 else ""
         if name in CRATES:
-            counts = [len(list((CRATES[name].folder / folder).glob("*.edit"))) for folder in ("must-fail", "planted")]
+            counts = [len(edits_in(CRATES[name], folder)) for folder in FOLDERS]
             sums = [so_far + more for so_far, more in zip(sums, counts)]
-            row = "|".join([*cells[:2], *(f" {it} " for it in counts), *cells[4:]])
-        rows.append("|".join([*cells[:2], *(f" {it} " for it in sums), *cells[4:]]) if name == "all" else row)
+            row = "|".join([*cells[:2], *(f" {it} " for it in counts), *cells[5:]])
+        rows.append("|".join([*cells[:2], *(f" {it} " for it in sums), *cells[5:]]) if name == "all" else row)
     return "\n".join(rows)
 
 

@@ -1,14 +1,12 @@
 #!/usr/bin/env python3
-"""Runs the built program dpv where memory or a device fails.
+"""Runs the built program dpv while memory or a device fails.
 
 Usage: tests/program.py [PROGRAM]   (the built program; by default the one that ./dpv builds and runs)
-Refused memory: dpv runs again and again, the first allocation is refused, then the second, and so on to the last. Each run
-has to end with `fault: memory` and status 4, or with all that a run does to which nothing is refused. One that ended early
-may have printed only the first of the lines, and has left each of its outputs empty or whole. A run of a pipeline makes as many
-allocations for 1,000 records as for one.
-Memory that is given back: a run with a region of 64 mebibytes keeps less than one of them at its end.
-A full disk: what cannot be written ends with status 3, and a port has sent only the records that its file took whole.
-Prints a line for each, and exits with 1 where one went another way.
+Refused memory: dpv runs again and again, with the first allocation refused, then the second, and so on to the last. Each run has to end
+with `fault: memory` and status 4, or do all that a run without refusals does. One that ended early may have printed only the first of the
+lines, and has left each of its outputs empty or whole. A run of a pipeline makes as many allocations for 1,000 records as for one. Memory
+that is returned: a run with a region of 64 mebibytes keeps less than one of them at its end. A full disk: a failed write gives status 3,
+and a port's `sent` counts only the records that are whole in its file. Prints a line for each, and exits with 1 if one failed.
 """
 import os
 import pathlib
@@ -33,7 +31,7 @@ def one(program: str, output: str) -> list[str]:
 
 
 def copy_multicast(folder: pathlib.Path, records: int, region: int | None = None) -> list[str]:
-    """Copies the example of two ports, port 0 with so many records, and gives the words that run it but for the program."""
+    """Copies the example of two ports, port 0 with this number of records, and returns the words that run it, without the program."""
     shutil.copytree(MULTICAST, folder, dirs_exist_ok=True)
     header, record = 24, struct.pack("<IIII", 1, 2, 60, 60) + bytes(60)
     capture = (MULTICAST / "in0.pcap").read_bytes()[:header] + records * record
@@ -45,7 +43,7 @@ def copy_multicast(folder: pathlib.Path, records: int, region: int | None = None
 
 
 class Ended:
-    """What a run did: its status, what it printed, told and wrote, how many allocations it made, and how many bytes it kept."""
+    """What a run did: its status, its outputs and files, how many allocations it made, and how many bytes it kept."""
 
     def __init__(self, command: list[str], shim: pathlib.Path, refused: int) -> None:
         folder = shim.parent
@@ -63,7 +61,7 @@ class Ended:
         return (self.status, self.printed, self.told, self.written) == (0, whole.printed, b"", whole.written)
 
     def is_refused(self, whole: "Ended") -> bool:
-        """Whether it told of the refused memory, and printed and wrote nothing else than that run."""
+        """Whether it reported the refused memory, and printed and wrote nothing else than that run."""
         return (
             (self.status, self.told) == (4, b"fault: memory\n")
             and whole.printed.startswith(self.printed)
@@ -96,7 +94,7 @@ def takes_the_same(program: str, shim: pathlib.Path) -> bool:
 
 
 def gives_back(program: str, shim: pathlib.Path) -> bool:
-    """Whether runs over a large region have given it back at their ends, also where the run is at fault."""
+    """Whether runs over a large region have returned it at their ends, also after a fault."""
     region = 64 * MEBIBYTE
     script, late = shim.parent / "large.txt", shim.parent / "late.txt"
     script.write_text(f"region {region}\nmalloc 4096 0\nlist\n")
@@ -117,7 +115,7 @@ def gives_back(program: str, shim: pathlib.Path) -> bool:
 
 
 def shim_in(folder: pathlib.Path) -> pathlib.Path | None:
-    """The library that refuses an allocation; or nothing where there is no C compiler."""
+    """The library that refuses an allocation; or nothing if there is no C compiler."""
     shim = put_library("refused", folder)
     if shim is None:
         print("refused memory: NOT TRIED, for want of a C compiler")
@@ -125,7 +123,7 @@ def shim_in(folder: pathlib.Path) -> pathlib.Path | None:
 
 
 def is_full(name: str, command: list[str], told: bytes, printed: str | None = None) -> bool:
-    """Whether a run ends with status 3 and tells this, where what it prints goes to a file or is dropped."""
+    """Whether a run ends with status 3 and this on standard error, with its output to a file or dropped."""
     with open(printed or os.devnull, "wb") as out:
         run = subprocess.run(command, stdout=out, stderr=subprocess.PIPE, timeout=60)
     passed = (run.returncode, fixed(run.stderr.decode())) == (3, told.decode())

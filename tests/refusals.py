@@ -1,12 +1,11 @@
 #!/usr/bin/env python3
-"""Has the built program dpv explain one refused program for each rule.
+"""Lets the built program dpv explain one refused program for each rule.
 
 Usage: tests/refusals.py [PROGRAM]   (the built program; by default the one that ./dpv builds and runs)
-examples/refused has a program for each rule that breaks it, jN.dpv, and what dpv has to say of it, jN.txt: of the pipeline jN.toml
-where there is one, else of the program by itself, with the certificate jN.cert where there is one. Its cure, cured/jN.dpv, has to be
-accepted, and where there is none the program itself is, with the certificate that is inferred. docs/refusals.md has to have the
-programs, the explanations and the cures as they are here.
-Prints a line for each rule that went another way, and a count; exits with 1 where there is one.
+examples/refused has for each rule a program that breaks it, jN.dpv, and dpv's explanation, jN.txt: of the pipeline jN.toml if there is one,
+else of the program by itself, with the certificate jN.cert if there is one. Its cure, cured/jN.dpv, has to be accepted; without a cure the
+program itself has to be, with the inferred certificate. docs/users/refusals.md has to contain these programs, explanations and cures. Prints a
+line for each rule that failed, and a count; exits with 1 if one failed.
 """
 import pathlib
 import subprocess
@@ -36,7 +35,7 @@ def is_explained(program: str, rule: int) -> bool:
     """Whether the program of a rule is refused, with this explanation."""
     status, text = said(program, words_for(rule, FOLDER, True), FOLDER)
     wanted = (FOLDER / f"j{rule}.txt").read_text()
-    # A certificate with too few rows is no certificate of the program, and is told as a fault.
+    # A certificate with too few rows is not one of the program, and is reported as a fault.
     passed = (status, text) == (3 if rule == 1 else 1, wanted)
     if not passed:
         print(f"J{rule}: status {status}, said {text!r}")
@@ -53,18 +52,18 @@ def is_cured(program: str, rule: int) -> bool:
 
 
 def is_in_docs(rule: int, docs: str) -> bool:
-    """Whether the program, its explanation and its cure stand in the page."""
+    """Whether the program, its explanation and its cure are in the page."""
     files = [FOLDER / f"j{rule}.dpv", FOLDER / f"j{rule}.txt", FOLDER / "cured" / f"j{rule}.dpv"]
     missing = [file.name for file in files if file.exists() and file.read_text() not in docs]
     for name in missing:
-        print(f"docs/refusals.md: {name} is not there as it is in examples/refused")
+        print(f"docs/users/refusals.md: {name} is not there as it is in examples/refused")
     return not missing
 
 
 def main() -> int:
     """All rules."""
     program = asked()
-    docs = (TOP / "docs" / "refusals.md").read_text()
+    docs = (TOP / "docs" / "users" / "refusals.md").read_text()
     passed = [is_explained(program, rule) and is_cured(program, rule) and is_in_docs(rule, docs) for rule in RULES]
     print(f"refusals: {sum(passed)} rules are as they should be, {len(passed) - sum(passed)} are not")
     return 0 if all(passed) else 1

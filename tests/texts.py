@@ -1,10 +1,10 @@
 #!/usr/bin/env python3
-"""Compares what needs no proof, before the proofs: the layout of code, definitions and proofs; that each wrong body can be made; and
-how many there are.
+"""Checks what needs no proof, before the proofs: the layout of code, definitions and proofs; that each wrong body can be made; and how many
+there are.
 
 Usage: tests/texts.py   (about half a minute)
-Prints a line for each file that `rt fmt` would lay out otherwise, for each line of more than 160 columns, and for each edit whose old text does not
-stand once; exits with 1 where there is one."""
+Prints a line for each file that `rt fmt` would change, for each line of more than 160 columns, and for each edit whose old text does not
+occur exactly once; exits with 1 if there is one."""
 import concurrent.futures
 import pathlib
 import shutil
@@ -12,7 +12,7 @@ import subprocess
 import sys
 import tempfile
 
-from planted import CRATES, TOP, Edit, Tally, counted, fit, lanes
+from planted import CRATES, FOLDERS, TOP, Tally, counted, edits_in, fit, lanes
 
 # What `rt fmt` lays out in a crate.
 PARTS = ("src", "specs", "proofs")
@@ -20,7 +20,7 @@ WIDTH = 160
 
 
 def laid_otherwise(crate: str, room: pathlib.Path) -> list[str]:
-    """The files of a crate that are in another layout than that of `rt fmt`, which works in a copy."""
+    """The files of a crate that `rt fmt` would change; it runs in a copy."""
     here, there = TOP / "crates" / crate, room / "crates" / crate
     for part in (it for it in PARTS if (here / it).is_dir()):
         shutil.copytree(here / part, there / part)
@@ -47,7 +47,7 @@ def main() -> int:
         print(f"{line}: more than {WIDTH} columns")
     tally = Tally()
     for crate in CRATES.values():
-        fit([Edit(crate, it) for name in ("must-fail", "planted") for it in sorted((crate.folder / name).glob("*.edit"))], tally)
+        fit([it for name in FOLDERS for it in edits_in(crate, name)], tally)
     page = (TOP / "docs/notes/wrong_bodies.md").read_text()
     is_counted = page == counted(page)
     if not is_counted:

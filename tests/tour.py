@@ -1,10 +1,10 @@
 #!/usr/bin/env python3
-"""Has the built program dpv run what docs/tour.md shows.
+"""Runs the commands of docs/users/tour.md with the built program dpv.
 
 Usage: tests/tour.py [--write] [PROGRAM]   (the built program; by default the one that ./dpv builds and runs)
-In the page's blocks of kind `console` a line behind `$ ` is a command, which goes on in the lines behind `> `, and what follows is what
-it has to print, on both streams. All are run in turn by one shell in a copy of examples, with `dpv` for the program. Prints each command
-that printed something else, and exits with 1 where there is one; with --write it puts the page right.
+In the page's blocks of kind `console` a line after `$ ` is a command, which continues in the lines after `> `; the lines that follow are
+its expected output, on both streams. One shell runs all of them in a copy of examples, with `dpv` for the program. Prints each command that
+printed something else, and exits with 1 if there is one; with --write it updates the page.
 """
 import os
 import re
@@ -14,7 +14,7 @@ import sys
 
 from command import TOP, new_folder, program_of
 
-PAGE = TOP / "docs" / "tour.md"
+PAGE = TOP / "docs" / "users" / "tour.md"
 BLOCK = re.compile(r"(?<=^```console\n).*?(?=^```$)", re.M | re.S)
 COMMAND = re.compile(r"^\$ .*\n(?:> .*\n|>\n)*", re.M)
 
@@ -29,7 +29,9 @@ def outputs(program: str, commands: list[str]) -> list[str]:
     with new_folder() as folder:
         shutil.copytree(TOP / "examples", folder / "examples")
         (folder / "bin").mkdir()
-        (folder / "bin" / "dpv").symlink_to(program)
+        dpv = folder / "bin" / "dpv"
+        dpv.write_text(f'#!/bin/sh\n[ "${{1-}}" = build ] && exec "{TOP}/dpv" "$@"\nexec "{program}" "$@"\n')
+        dpv.chmod(0o755)
         path = f"{folder / 'bin'}:{os.environ['PATH']}"
         script = "".join(script_of(command) + "printf '\\1'\n" for command in commands)
         run = subprocess.run(["bash"], input=script, cwd=folder, env=os.environ | {"PATH": path, "LC_ALL": "C"}, stdout=subprocess.PIPE, stderr=subprocess.STDOUT, text=True, timeout=120)
@@ -50,7 +52,7 @@ def main() -> int:
         return 0
     bad = [(c, is_so) for c, is_so, want in zip(commands, found, wanted, strict=True) if is_so != want]
     for command, printed in bad:
-        print(f"docs/tour.md: {command}prints now:\n{printed}")
+        print(f"docs/users/tour.md: {command}prints now:\n{printed}")
     print(f"tour: {len(commands) - len(bad)} commands print what is shown, {len(bad)} do not")
     return 1 if bad else 0
 

@@ -1,4 +1,4 @@
-"""Makes what tests/fuzz.py runs `dpv` on. All is made from a random generator, so the same seed makes the same case.
+"""Makes the cases of tests/fuzz.py. Everything comes from a random generator, so the same seed makes the same case.
 
 writer.py    programs that are accepted, and the rows that they are accepted with
 programs.py  programs by the grammar alone, changes to programs, and texts of them
@@ -28,7 +28,7 @@ from .programs import changed_text
 
 @dataclass
 class Case:
-    """Files, and the words behind `dpv` that run in their folder."""
+    """Files, and the words after `dpv` that run in their folder."""
 
     kind: str
     words: list[str]
@@ -50,7 +50,7 @@ def make_one(rng: Random) -> Family:
         rows = rules.infer(ONE, code, rules.entry_row(ONE, 0)) if isinstance(code, list) else None
         parts.files["c0"] = rules.spelled(rows or [None])
     words = ["one", names["node"], names["cert"], "i0", "o0"]
-    return lambda rng: Case("one", words, {**parts.files, "i0": capture(rng, ONE, 24, rng.random() < 0.7)}, ["folder"])
+    return lambda rng: Case("one", words + counted(rng), {**parts.files, "i0": capture(rng, ONE, 24, rng.random() < 0.7)}, ["folder"])
 
 
 def make_check(rng: Random) -> Family:
@@ -85,9 +85,14 @@ def make_run(rng: Random) -> Family:
             calls = sorted(rng.sample(range(1, 40), rng.choice((1, 2, 5, 20))))
             text = ",".join(map(str, calls))
             words += ["--refuse", text if rng.random() < 0.95 else changed_list(rng, text)]
-        return Case("run", words, files, ["folder"])
+        return Case("run", words + counted(rng), files, ["folder"])
 
     return case
+
+
+def counted(rng: Random) -> list[str]:
+    """The word by which a third of the runs print their counts."""
+    return ["--counts"] if rng.random() < 0.33 else []
 
 
 def changed_files(rng: Random, files: dict[str, bytes]) -> dict[str, bytes]:

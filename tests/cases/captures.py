@@ -1,4 +1,4 @@
-"""Captures of both orders and units, with records at the edges of what an environment takes, and captures at fault."""
+"""Captures of both orders and units, with records at the limits of an environment, and faulty captures."""
 import struct
 from random import Random
 
@@ -9,7 +9,7 @@ from .noise import changed_bytes
 
 
 def lengths_for(env: Env) -> list[int]:
-    """Lengths of records that stand at some edge."""
+    """Lengths of records at some limit."""
     edges = {0, 1, 13, 14, 60, 100}
     for port in env.ports:
         size = env.pools[port.pool].room - 128

@@ -24,7 +24,7 @@ def fact_of_ring(rng: Random) -> tuple[int, ...]:
 
 
 def routes_of(rng: Random, number: int) -> list[str]:
-    """Routes with prefixes that lie in one another."""
+    """Routes with nested prefixes."""
     depths = (1, 8, 16, 24, 25, 31, 32, rng.randrange(1, 33))
     address = lambda: ".".join(str(rng.choice((0, 0, 1, 10, 128, 255))) for _ in range(4))
     return [f"{address()}/{rng.choice(depths)} {rng.choice((0, 1, 2, 255, rules.HIGHEST_HOP))}" for _ in range(number)]
@@ -63,7 +63,7 @@ class Parts:
 
 
 def node_files(rng: Random, parts: Parts, place: int, sound: bool) -> dict[str, str]:
-    """Makes the program of a node and its certificate, if one is named, and answers the keys that name them."""
+    """Makes the program of a node and its certificate, if one is named, and returns the keys that name them."""
     wrong = rng.choice((0, 0, 0, 1, 1, 2, 2, 2, 3)) if not sound and rng.random() < 0.9 / len(parts.env.ports) else -1
     code, rows = program(rng, parts.env, place)
     if wrong == 0:

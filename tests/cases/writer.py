@@ -1,4 +1,4 @@
-"""Programs that are accepted, written instruction by instruction with what is known at each."""
+"""Accepted programs, written instruction by instruction with the row at each."""
 from random import Random
 
 from model import rules
@@ -33,7 +33,7 @@ class Writer:
         return self.rng.choice(empty[: self.rng.choice((2, 3, 8))]) if empty else None
 
     def emit(self, word: str, *args: int) -> None:
-        """An instruction that may stand here; a label is chosen for it where it needs one."""
+        """An instruction that is permitted here; a label is chosen for it if it needs one."""
         instr = Instr(word, (*args, 0) if word in rules.JUMPS else args)
         if rules.local_fault(self.env, self.row, len(self.code), instr, len(self.code) + 2):
             return
@@ -44,7 +44,7 @@ class Writer:
         self.row = rules.after(self.env, self.row, instr)
 
     def label(self, known: rules.Row) -> int:
-        """A label that this row may lead to: one behind, one that waits, or a new one."""
+        """A label that this row may lead to: an earlier one, one that waits, or a new one."""
         behind = [label for label, row in self.heads.items() if rules.entails(known, row)]
         if behind and self.rng.random() < 0.5:
             return self.rng.choice(behind)
@@ -60,7 +60,7 @@ class Writer:
         self.placed[label] = len(self.code)
 
     def length(self, most: int) -> int:
-        """A number of bytes that is mostly at most so many, and often just that."""
+        """A number of bytes that is mostly at most this one, and often equal to it."""
         fitting = [n for n in LENGTHS if n <= most]
         return self.rng.choice((most, max(most - 1, 0), self.rng.choice(fitting), self.rng.choice(fitting[:12])))
 
@@ -103,7 +103,7 @@ class Writer:
         self.emit(self.rng.choice(("ifhead", "iftail", "iflen", "iflen", "iflast")), p, self.rng.choice(LENGTHS[:-1]))
 
     def move_bytes(self, p: int) -> None:
-        """A load or a store, often behind a test of the length."""
+        """A load or a store, often after a test of the length."""
         if self.row.facts[p].first < 8 and self.rng.random() < 0.8:
             self.emit("iflen", p, self.rng.choice((1, 8, 14, 34, 60)))
         r, s, width, first = self.rng.randrange(8), self.rng.randrange(8), self.rng.choice(WIDTHS), self.row.facts[p].first
@@ -195,7 +195,7 @@ class Writer:
             self.next_part()
 
     def move_weaken(self, _p: int | None) -> None:
-        """Less is said than is known."""
+        """A row that says less than is known."""
         facts = [
             fact and fact._replace(first=fact.first // self.rng.choice((1, 2)), segs=min(64, fact.segs + self.rng.randrange(2)))
             for fact in self.row.facts

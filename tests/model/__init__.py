@@ -1,4 +1,4 @@
-"""What `dpv` has to answer, written from the documents in docs/ alone, and from no code of the program.
+"""The expected results of `dpv`, written only from the documents in docs/, not from its code.
 
 machine.py   node runs, turns and runs of packets that are plain lists, and how many buffers each pool has left
 captures.py  captures, as they are read and written
@@ -6,5 +6,5 @@ rules.py     rows, what is known after each instruction, the rules of the checke
 programs.py  program texts
 pipelines.py pipeline files
 heap.py      heap scripts
-answers.py   what a command prints, tells, writes and ends with
+answers.py   what a command prints and writes, and its status
 """

@@ -3,12 +3,11 @@ import os.path
 import pathlib
 from typing import NamedTuple
 
-from . import captures, heap, pipelines, rules
+from . import captures, counts, heap, pipelines, rules
 from .machine import BIGGEST, Env, Input, Pool, Port, World, report, run
 
 LONGEST = pipelines.LONGEST
 LONGEST_NAME = 255
-BUFFER = 65_536
 ONE = Env([Pool(64, 0, 2176)], [], [], [Port(0, 1, 32)])
 
 
@@ -54,6 +53,16 @@ class Disk:
         """Whether two names are of one plain file."""
         try:
             return os.path.isfile(self.path(name)) and os.path.samefile(self.path(name), self.path(other))
+        except (OSError, ValueError):
+            return False
+
+    def are_same_new(self, name: str, other: str) -> bool:
+        """Whether two names are of one file that is not there, and would be made in one folder."""
+        if os.path.exists(self.path(name)) or os.path.exists(self.path(other)):
+            return False
+        (folder, last), (other_folder, its) = os.path.split(self.path(name)), os.path.split(self.path(other))
+        try:
+            return last == its and os.path.samefile(folder or ".", other_folder or ".")
         except (OSError, ValueError):
             return False
 
@@ -106,36 +115,45 @@ def infer(disk: Disk, file: str, which: str, said: str) -> Answer:
     return Answer(0, said if spelled else "an accepted certificate, spelled as it has to be\n", "")
 
 
-def made(ports: list[pipelines.Node], disk: Disk) -> tuple[str | None, dict[str, bytes]]:
+def clash(ports: list[pipelines.Node], reads: list[str], disk: Disk) -> str | None:
+    """The first output that is a file which the run reads, or the output of an earlier port."""
+    for k, node in enumerate(ports):
+        earlier = [it.writes for it in ports[:k]]
+        if any(disk.are_same(node.writes, name) for name in [*reads, *earlier]) or any(disk.are_same_new(node.writes, name) for name in earlier):
+            return node.writes
+    return None
+
+
+def made(ports: list[pipelines.Node], reads: list[str], disk: Disk) -> tuple[str | None, dict[str, bytes]]:
     """The first capture that cannot be opened or made, and those that were made. Inputs are opened in port order, then no output may be
-    a file that is an input, then outputs are made."""
-    reads, written = [node.reads for node in ports], {}
-    bad = next((name for name in reads if not disk.may_open(name)), None)
-    if bad is None:
-        bad = next((node.writes for node in ports if any(disk.are_same(node.writes, name) for name in reads)), None)
+    a file that the run reads or that another port writes, then outputs are made. An output that was there stays as it was."""
+    written: dict[str, bytes] = {}
+    bad = next((node.reads for node in ports if not disk.may_open(node.reads)), None) or clash(ports, reads, disk)
     for node in ports if bad is None else ():
         if not disk.may_make(node.writes):
             return node.writes, written
-        written[node.writes] = b""
+        if not os.path.exists(disk.path(node.writes)):
+            written[node.writes] = b""
     return bad, written
 
 
-def laid(names: list[str], data: list[bytes]) -> dict[str, bytes] | None:
-    """What stands in files. Where one is named twice, the last port's capture lies over the others'; longer ones are written by turns,
-    and nothing is said of them."""
-    written: dict[str, bytes] = {}
-    for name, capture in zip(names, data):
-        written[name] = capture + written.get(name, b"")[len(capture) :]
-    return written if len(written) == len(names) or max(map(len, data)) <= BUFFER else None
+def forward(pipeline: pipelines.Pipeline, disk: Disk, pattern: frozenset[int], file: str | None, is_counted: bool) -> Answer:
+    """The run of a pipeline, with its counts where they are asked for."""
+    world = World(pipeline.env, pipeline.programs, pattern)
+    answer = forwarded(world, pipeline, disk, file)
+    if not is_counted or not answer.printed:
+        return answer
+    shown = counts.text(world, pipeline.nodes, [disk.text(node.node) or b"" for node in pipeline.nodes])
+    return answer._replace(printed=answer.printed + shown)
 
 
-def forward(pipeline: pipelines.Pipeline, disk: Disk, pattern: frozenset[int]) -> Answer:
+def forwarded(world: World, pipeline: pipelines.Pipeline, disk: Disk, file: str | None) -> Answer:
     """The run of a pipeline: once captures are opened and made, the region is taken, and then headers are read."""
     ports = pipeline.nodes[: len(pipeline.env.ports)]
-    bad, written = made(ports, disk)
+    texts = [name for node in pipeline.nodes for name in (node.node, node.cert) if name is not None]
+    bad, written = made(ports, [*texts, *(node.reads for node in ports), *([] if file is None else [file])], disk)
     if bad is not None:
         return Answer(3, "", f"fault: file {bad}\n", written)
-    world = World(pipeline.env, pipeline.programs, pattern)
     if pipeline.region < pipeline.env.need():
         return Answer(3, report(world, ["open"] * len(ports)), "fault: region\n", written)
     sources = []
@@ -148,19 +166,19 @@ def forward(pipeline: pipelines.Pipeline, disk: Disk, pattern: frozenset[int]) -
         sources.append(source)
     nano = any(source.units == 1_000_000_000 for source in sources)
     done = run(world, [Input(source.records, source.ending) for source in sources])
-    sent = laid([node.writes for node in ports], [captures.written(nano, records) for records in done.sent])
+    sent = {node.writes: captures.written(nano, records) for node, records in zip(ports, done.sent)}
     told = "" if done.fault is None else done.fault + "\n"
     return Answer(3 if told else 0, done.report, told, sent, sum(map(len, done.sent)))
 
 
-def one(disk: Disk, node: str, cert: str, reads: str, writes: str) -> Answer:
-    """`dpv one NODE CERT IN OUT`: a pipeline of one port."""
+def one(disk: Disk, node: str, cert: str, reads: str, writes: str, is_counted: bool) -> Answer:
+    """`dpv one NODE CERT IN OUT [--counts]`: a pipeline of one port."""
     port = pipelines.Node("port 0", node, cert, reads, writes)
     loaded = pipelines.node_of(port, ONE, 0, disk.text, "")
     if isinstance(loaded, pipelines.Fault):
         return Answer(*loaded)
     program, rows = loaded
-    return forward(pipelines.Pipeline(262_144, ONE, [port], [program], [rows]), disk, frozenset())
+    return forward(pipelines.Pipeline(262_144, ONE, [port], [program], [rows]), disk, frozenset(), None, is_counted)
 
 
 def pattern_of(text: str) -> frozenset[int] | None:
@@ -173,24 +191,25 @@ def pattern_of(text: str) -> frozenset[int] | None:
     return frozenset(numbers) if ascending and numbers[-1] <= BIGGEST else None
 
 
-def run_file(disk: Disk, file: str, refuse: str | None, said: str) -> Answer | None:
-    """`dpv run FILE [--refuse LIST]`; nothing where the words are wrong, which is told in words of their own."""
+def run_file(disk: Disk, file: str, refuse: str | None, is_counted: bool, said: str) -> Answer | None:
+    """`dpv run FILE [--refuse LIST] [--counts]`; nothing where the words are wrong, which is told in words of their own."""
     pattern = frozenset() if refuse is None else pattern_of(refuse)
     if pattern is None:
         return None
     pipeline = loaded(disk, file, False, said)
-    return pipeline if isinstance(pipeline, Answer) else forward(pipeline, disk, pattern)
+    return pipeline if isinstance(pipeline, Answer) else forward(pipeline, disk, pattern, file, is_counted)
 
 
 def answer(words: list[str], disk: Disk, said: str) -> Answer | None:
     """How `dpv` ends with these words in this folder, given what it printed where that is open."""
-    command, *operands = words
+    command, *operands = (word for word in words if word != "--counts")
+    is_counted = "--counts" in words
     if command == "one":
-        return one(disk, *operands)
+        return one(disk, *operands, is_counted)
     if command == "check":
         return check(disk, operands[0], said)
     if command == "infer":
         return infer(disk, *operands, said)
     if command == "mem":
         return mem(disk, operands[0], said)
-    return run_file(disk, operands[0], operands[2] if len(operands) > 1 else None, said)
+    return run_file(disk, operands[0], operands[2] if len(operands) > 1 else None, is_counted, said)

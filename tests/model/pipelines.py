@@ -1,4 +1,4 @@
-"""Pipeline files, as docs/formats.md has them."""
+"""Pipeline files, as docs/reference/formats.md defines them."""
 import re
 from collections.abc import Callable
 from functools import lru_cache
@@ -29,7 +29,7 @@ ROUTE = re.compile(r"([0-9]{1,3})\.([0-9]{1,3})\.([0-9]{1,3})\.([0-9]{1,3})/([0-
 
 
 class Node(NamedTuple):
-    """What a file says of a port or ring."""
+    """A port or ring of a file."""
 
     name: str
     node: str
@@ -49,7 +49,7 @@ class Pipeline(NamedTuple):
 
 
 class Fault(NamedTuple):
-    """Why a pipeline is not loaded: the status, what is printed, what is told."""
+    """Why a pipeline is not loaded: the status, and both outputs."""
 
     status: int
     printed: str
@@ -151,14 +151,14 @@ Loaded = tuple[list[Instr], rules.Rows]
 
 
 class Judged:
-    """What was worked out of nodes in the environment that was asked for last: files are read each time, but judged once."""
+    """The results for nodes in the last environment: files are read each time, but checked once."""
 
     env: Env | None = None
     nodes: dict[tuple[Any, ...], Loaded | Fault] = {}
 
 
 def node_of(node: Node, env: Env, place: int, files: Files, said: str) -> Loaded | Fault:
-    """The program and the certificate of a node, judged. `said` is what was printed."""
+    """The program and the certificate of a node, checked. `said` is what was printed."""
     asked = place, files(node.node), node.cert is not None, files(node.cert or ""), said
     if Judged.env is not env or len(Judged.nodes) > 1000:
         Judged.env, Judged.nodes = env, {}
@@ -181,7 +181,7 @@ def judged(name: str, env: Env, place: int, text: bytes | None, has_cert: bool, 
 
 
 def named_for(name: str, program: list[Instr], env: Env, place: int, cert: bytes) -> rules.Rows | Fault:
-    """The certificate that is named for a node, judged."""
+    """The certificate that the file names for a node, checked."""
     rows = rules.decode(cert, len(program))
     if isinstance(rows, tuple):
         return fault(f"7 BadCert {name} line {rows[0]} cause {rows[1]}")

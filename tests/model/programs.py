@@ -1,4 +1,4 @@
-"""Program texts, as docs/language.md has them."""
+"""Program texts, as docs/reference/language.md defines them."""
 import re
 from typing import NamedTuple
 
@@ -49,14 +49,14 @@ MOST = 1024
 
 
 class Fault(NamedTuple):
-    """Why a text is no program."""
+    """Why a text is not a program."""
 
     line: int
     cause: int
 
 
 class Line(NamedTuple):
-    """What stands in a line: the labels, and the word and operands of an instruction, if there is one."""
+    """The contents of a line: the labels, and the word and operands of an instruction, if there is one."""
 
     labels: list[str]
     word: str | None
@@ -103,7 +103,7 @@ class Reader:
         self.labels: dict[str, int] = {}
 
     def read_line(self, at: int, data: bytes) -> int | None:
-        """Takes a line, or answers the least cause of its faults."""
+        """Takes a line, or returns the least cause of its faults."""
         if data.translate(None, ALLOWED):
             return 1
         labels, word, operands = cut(data.decode().split("#")[0])

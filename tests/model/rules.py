@@ -1,4 +1,4 @@
-"""Rows of certificates, what is known after each instruction, and the rules that the checker asks (docs/certificate.md)."""
+"""Rows of certificates, the facts after each instruction, and the checker's rules (docs/reference/certificate.md)."""
 import struct
 from collections.abc import Iterator
 from typing import NamedTuple
@@ -37,7 +37,7 @@ EMPTY = (None,) * 8
 
 
 def entry_row(env: Env, place: int) -> Row:
-    """What is known at the entry of a port, or behind all ports of a ring."""
+    """The row at the entry of a port, or, after those of all ports, of a ring."""
     ports = len(env.ports)
     if place < ports:
         return Row((Fact(2, HEADROOM, 0, 0, 0, env.ports[place].segs), *EMPTY[1:]), (place,) + (0,) * 7)
@@ -86,7 +86,7 @@ def entails(row: Row | None, other: Row | None) -> bool:
 
 
 def common(row: Row, other: Row) -> Row | None:
-    """What two rows have in common; nothing where a register is held in one alone."""
+    """What two rows have in common; nothing if a register has a packet in only one of them."""
     if row == other or not are_held_alike(row, other):
         return row if row == other else None
     facts: list[Fact | None] = []
@@ -186,7 +186,7 @@ def after_resize(row: Row, word: str, p: int, n: int) -> Row:
 
 
 def after_test(row: Row, word: str, p: int, n: int) -> Row:
-    """A packet has at least so much of something."""
+    """A packet has at least this much of something."""
     part = {"ifhead": "head", "iftail": "tail", "iflen": "first", "iflast": "last"}[word]
     fact = row.facts[p]
     return with_fact(row, p, fact._replace(**{part: max(getattr(fact, part), n)}))
@@ -247,7 +247,7 @@ JUMPS = {"alloc", "clone", "ifhead", "iftail", "iflen", "iflast", "jmp", "jeq", 
 
 
 def leads(env: Env, row: Row, label: int, instr: Instr) -> Iterator[tuple[int, Row]]:
-    """Where control goes, and what is known there."""
+    """The successors of an instruction, with their rows."""
     if instr.word not in ("jmp", "exit"):
         yield label + 1, after(env, row, instr)
     if instr.word in JUMPS:
@@ -263,7 +263,7 @@ USES = {
 
 
 def has_enough(row: Row, instr: Instr) -> bool:
-    """J6: whether there are as many bytes, or as much room, as is taken."""
+    """J6: whether the bytes or the room that the instruction needs are there."""
     word, args = instr
     part = {"prepend": "head", "adj": "first", "append": "tail", "trim": "last"}.get(word)
     if part:
@@ -280,7 +280,7 @@ def has_enough(row: Row, instr: Instr) -> bool:
 
 
 def may_write(row: Row, instr: Instr) -> bool:
-    """J7: whether what is written is held alone."""
+    """J7: whether no other packet shares the written buffer."""
     word, args = instr
     if word not in ("prepend", "store", "storex", "append"):
         return True
@@ -289,7 +289,7 @@ def may_write(row: Row, instr: Instr) -> bool:
 
 
 def may_leave(env: Env, row: Row, instr: Instr) -> bool:
-    """J9: whether the port is there, or the packet has what the ring declares."""
+    """J9: whether the port exists, or the packet satisfies what the ring declares."""
     word, args = instr
     if word == "tx":
         return row.bounds[args[1]] < len(env.ports)
@@ -335,7 +335,7 @@ def check(env: Env, program: list[Instr], rows: Rows, entry: Row) -> tuple[int, 
 
 
 def is_forward(program: list[Instr]) -> bool:
-    """Whether each label that is named is behind its instruction."""
+    """Whether each named label comes after its instruction."""
     return all(instr.word not in JUMPS or instr.args[-1] > label for label, instr in enumerate(program))
 
 
@@ -394,7 +394,7 @@ def spelled_row(row: Row | None) -> bytes:
 
 
 def decode(data: bytes, size: int) -> Rows | tuple[int, int]:
-    """The rows of a certificate text of so many rows; or the line and cause of its first fault."""
+    """The rows of a certificate text with this number of rows; or the line and cause of its first fault."""
     if data[:11] not in (b"dpv-cert 1\n", b"dpv-cert 2\n"):
         return 1, 1
     rest, rows = data[11:], []

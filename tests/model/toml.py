@@ -1,7 +1,8 @@
-"""TOML 1.1, read by `tomllib`, which knows 1.0: what is new in 1.1 is written as 1.0 has it first.
+"""TOML 1.1, read by `tomllib`, which knows 1.0: what is new in 1.1 is first rewritten for 1.0.
 
-New are newlines, comments and a comma behind the last value in inline tables, the escapes for ESC and of two digits, and times without
-seconds.
+New are newlines, comments and a comma after the last value in inline tables, the escapes for ESC and of two digits, and times without
+seconds. A carriage return and a newline are one newline; a carriage return is refused anywhere else, also before these two,
+which `tomllib` alone would take once the first pair is replaced.
 """
 import re
 import tomllib
@@ -28,7 +29,10 @@ def escape(found: re.Match[str]) -> str:
 
 def older(text: str) -> str:
     """A text of TOML 1.1 as one of 1.0, which is refused where the first is."""
-    parts, out, open_ = PARTS.findall(text.replace("\r\n", "\n")), [], []
+    text = text.replace("\r\n", "\n")
+    if "\r" in text:
+        raise ValueError("a carriage return without a newline")
+    parts, out, open_ = PARTS.findall(text), [], []
     meant = [k for k, part in enumerate(parts) if not is_blank(part)]
     after = dict(zip([-1, *meant], [*(parts[k] for k in meant), ""]))
     last = -1
