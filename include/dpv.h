@@ -1,7 +1,7 @@
 /* dpv.h: an engine of dpv inside a program in C or C++. C99; link libdpv.a.
 
    dpv_open loads a pipeline file and opens its engine. Each dpv_pass takes one frame that a port received and returns all frames
-   that the pipeline sends for it. dpv_close ends the engine. The library opens no socket and allocates no memory after dpv_open.
+   that the pipeline sends for it. dpv_close ends the engine. The library opens no socket, and after dpv_open only dpv_batch_open allocates memory.
 
    What can be tested is tested: a refused call returns the reason, by one of the names below, and changes nothing.
    What cannot be tested is up to the caller:
@@ -118,7 +118,7 @@ uint32_t dpv_batch_size(dpv_t *engine, struct dpv_batch_size *size);
 uint32_t dpv_port(dpv_t *engine, uint32_t port, struct dpv_port_stats *stats);
 uint32_t dpv_pool(dpv_t *engine, uint32_t pool, struct dpv_pool_stats *stats);
 uint32_t dpv_ring(dpv_t *engine, uint32_t ring, struct dpv_ring_stats *stats);
-/* Ends the engine: frees the packets in rings, so each pool has all its buffers, each once, and returns the region. Later calls return
+/* Ends the engine: frees the packets in rings, so each pool has all its buffers, each once, and frees the region's memory. Later calls return
    DPV_CLOSED. DPV_OK, DPV_NOT_OPEN or DPV_CLOSED. */
 uint32_t dpv_close(dpv_t *engine, struct dpv_totals *totals);
 
@@ -167,7 +167,7 @@ static inline void dpv_free(dpv_t *engine)
     free(engine);
 }
 
-/* Makes a batch that is large enough for an engine. DPV_OK, DPV_NOT_OPEN, DPV_CLOSED, or 1 if there is no memory. */
+/* Makes a batch that is large enough for an engine. DPV_OK, DPV_NOT_OPEN, DPV_CLOSED, or 1 (here not DPV_NO_BUFFER) if there is no memory. */
 static inline uint32_t dpv_batch_open(dpv_t *engine, struct dpv_batch *batch)
 {
     uint32_t answer;
