@@ -320,7 +320,6 @@ impl Write for Limited {
 
 /// Runs a pipeline of one port from a capture to a buffered file that takes a number of bytes.
 fn buffered(alloc: Global, input: &[u8], left: usize) -> Result<Ended, AllocError> {
-    let mut ended = Ended::new(alloc);
     let files = programs();
     let mut files = Listed {
         files: files.as_slice(),
@@ -332,11 +331,12 @@ fn buffered(alloc: Global, input: &[u8], left: usize) -> Result<Ended, AllocErro
     let mut outs = [OfBufWriter::new(writer)];
     let (mut out, mut err) = (Printer::new(Vec::new(alloc)), Printer::new(Vec::new(alloc)));
     let text = LONG.as_bytes();
+    let mut status = 255;
     if let Ok(pipeline) = load_line(alloc, text, &mut files, How::Given, &mut out, &mut err) {
         let (ins, outs) = (ins.as_mut_slice(), outs.as_mut_slice());
-        ended.status = run_all(alloc, pipeline, NONE, ins, outs, &mut ended);
+        status = run_all(alloc, pipeline, NONE, ins, outs, &mut out, &mut err);
     }
-    Ok(ended)
+    Ok(Ended::of(status, out, err))
 }
 
 #[test]

@@ -37,6 +37,15 @@ impl Ended {
         }
     }
 
+    /// How a command ended that printed to these.
+    pub fn of(status: u8, out: Printer<Vec<u8>>, err: Printer<Vec<u8>>) -> Ended {
+        Ended {
+            status,
+            printed: out.into_inner(),
+            told: err.into_inner(),
+        }
+    }
+
     /// Whether it ended so. After the line of a fault there may be a reason.
     pub fn is(&self, status: u8, printed: &str, told: &str) -> bool {
         let (line, behind) = split_at(self.told.as_slice(), told.len());
@@ -222,7 +231,8 @@ pub fn run_all<I: Inlet, O: Outlet>(
     list: &str,
     ins: &mut [I],
     outs: &mut [O],
-    ended: &mut Ended,
+    out: &mut Printer<Vec<u8>>,
+    err: &mut Printer<Vec<u8>>,
 ) -> u8 {
     let Ok(Some(pattern)) = numbers_in(alloc, list) else {
         return 255;
@@ -234,11 +244,9 @@ pub fn run_all<I: Inlet, O: Outlet>(
         names: &[],
         counts: false,
     };
-    let mut out = Printer::new(&mut ended.printed);
-    let mut err = Printer::new(&mut ended.told);
     let watch = &mut Silent;
     let end = run_line::<Nothing, Silent, _, _, _, _>(
-        alloc, pipeline, ins, outs, pattern, watch, reporting, &mut out, &mut err,
+        alloc, pipeline, ins, outs, pattern, watch, reporting, out, err,
     );
     end.status
 }
@@ -251,7 +259,6 @@ pub fn run_on(
     list: &str,
     devices: Devices<'_>,
 ) -> Result<Ran, AllocError> {
-    let mut ended = Ended::new(alloc);
     let mut readers = Vec::new(alloc);
     for (bytes, given) in devices.inputs {
         readers.push(Source::new(FailingFeed::new(OfRead::new(*bytes), *given)))?;
@@ -262,17 +269,18 @@ pub fn run_on(
         writers.push(Target::new(FailingSink::new(sink, devices.most.max(1), *taken)))?;
     }
     let mut files = Listed { files };
-    let mut out = Printer::new(&mut ended.printed);
-    let mut err = Printer::new(&mut ended.told);
+    let mut out = Printer::new(Vec::new(alloc));
+    let mut err = Printer::new(Vec::new(alloc));
     let text = text.as_bytes();
-    ended.status = match load_line(alloc, text, &mut files, How::Given, &mut out, &mut err) {
+    let status = match load_line(alloc, text, &mut files, How::Given, &mut out, &mut err) {
         Ok(pipeline) => run_all(
             alloc,
             pipeline,
             list,
             readers.as_mut_slice(),
             writers.as_mut_slice(),
-            &mut ended,
+            &mut out,
+            &mut err,
         ),
         Err(status) => status,
     };
@@ -280,7 +288,10 @@ pub fn run_on(
     for writer in writers {
         written.push(writer.into_inner().into_inner().into_inner())?;
     }
-    Ok(Ran { ended, written })
+    Ok(Ran {
+        ended: Ended::of(status, out, err),
+        written,
+    })
 }
 
 /// What is printed of a program by itself, with a certificate of these rows, if there are any.
