@@ -1,0 +1,8 @@
+-- The instructions so far.
+use Rattle.std.proofs.Common.{◌≡◌, map, take}
+use Rattle.serde_json.specs.View.{view}
+use Rattle.dp_json.specs.Instructions.{instructions_data}
+use Rattle.dp_json.proofs.steps.instructions.Given as goal
+
+abbrev pub invariant-loop-line : goal.invariant-loop-line
+invariant-loop-line l = map view l.values.items ≡ instructions_data l.counts l.node (take l.line-index l.lines)

@@ -1,0 +1,10 @@
+-- `trim_end`: trimming the rest gives the same.
+use Rattle.std.proofs.Common.{◌≡◌, length}
+use Rattle.dp_lang.specs.Lines as spec
+use Rattle.dp_json.proofs.texts.trim_end.Given as goal
+
+abbrev pub invariant-loop-rest : goal.invariant-loop-rest
+invariant-loop-rest l = spec.trim_end l.rest ≡ spec.trim_end l.bytes
+
+abbrev pub decreases-loop-rest : goal.decreases-loop-rest
+decreases-loop-rest l = length l.rest
