@@ -1,6 +1,7 @@
 //! Lists a program: each instruction, and what is known before it.
 
 use crate::rows::row_after;
+use crate::source::Written;
 use dp_model::Row;
 use std::alloc::{AllocError, Global};
 
@@ -32,7 +33,7 @@ pub fn instructions(alloc: Global, printed: &str) -> Result<Vec<&str>, AllocErro
 }
 
 /// The number of decimal digits of a number.
-fn digits(number: usize) -> usize {
+pub fn digits(number: usize) -> usize {
     match number {
         0..=9 => 1,
         10..=99 => 2,
@@ -49,26 +50,65 @@ fn push_blanks(out: &mut String, length: usize, width: usize) -> Result<(), Allo
     Ok(())
 }
 
-/// The widths of a listing's columns.
+/// The widths of a listing's columns: numbers, labels and instructions.
 #[derive(Clone, Copy)]
 struct Widths {
-    label: usize,
-    instruction: usize,
+    number: usize,
+    labels: usize,
+    text: usize,
+}
+
+/// The width of an instruction's labels: a colon after each, and a blank between two.
+fn labels_width(labels: &[&str]) -> usize {
+    let mut width = 0usize;
+    for label in labels {
+        width = width.saturating_add(label.len()).saturating_add(2);
+    }
+    width.saturating_sub(1)
+}
+
+/// The widths of the columns for these instructions.
+fn widths_of(source: &[Written<'_>]) -> Widths {
+    let mut widths = Widths {
+        number: digits(source.len().saturating_sub(1)),
+        labels: 0,
+        text: 0,
+    };
+    for written in source {
+        widths.labels = widths.labels.max(labels_width(written.labels.as_slice()));
+        widths.text = widths.text.max(written.text.len());
+    }
+    widths
+}
+
+/// Adds the labels of an instruction, and blanks up to the width of their column and two more, if there is such a column.
+fn push_labels(out: &mut String, labels: &[&str], width: usize) -> Result<(), AllocError> {
+    let mut mark = "";
+    for label in labels {
+        write!(out, "{mark}{label}:")?;
+        mark = " ";
+    }
+    if width > 0 {
+        push_blanks(out, labels_width(labels), width.saturating_add(2))?;
+    }
+    Ok(())
 }
 
 /// Adds the line of an instruction. A refused one begins with `>`.
 fn push_line(
     out: &mut String,
     widths: Widths,
-    label: usize,
-    instruction: &str,
+    number: usize,
+    written: &Written<'_>,
     known: &str,
     is_refused: bool,
 ) -> Result<(), AllocError> {
     out.push_str(if is_refused { "> " } else { "  " })?;
-    push_blanks(out, digits(label), widths.label)?;
-    write!(out, "{label}  {instruction}")?;
-    push_blanks(out, instruction.len(), widths.instruction)?;
+    push_blanks(out, digits(number), widths.number)?;
+    write!(out, "{number}  ")?;
+    push_labels(out, written.labels.as_slice(), widths.labels)?;
+    out.push_str(written.text)?;
+    push_blanks(out, written.text.len(), widths.text)?;
     write!(out, "  {known}\n")
 }
 
@@ -81,7 +121,8 @@ fn rows_at(rows: &[Row], label: usize) -> (Option<&Row>, Option<&Row>) {
     (rows.get(label), before)
 }
 
-/// Returns the verdict on a program and a line for each instruction: its label, its text, and what is known before it.
+/// Returns the verdict on a program and a line for each instruction: its number, its labels and its text as the source has them, and what is known
+/// before it.
 ///
 /// # Errors
 ///
@@ -89,31 +130,25 @@ fn rows_at(rows: &[Row], label: usize) -> (Option<&Row>, Option<&Row>) {
 pub fn listing(
     alloc: Global,
     heading: Heading<'_>,
-    instructions: &[&str],
+    source: &[Written<'_>],
     rows: &[Row],
 ) -> Result<String, AllocError> {
-    let widths = Widths {
-        label: digits(instructions.len().saturating_sub(1)),
-        instruction: instructions
-            .iter()
-            .map(|line| line.len())
-            .max()
-            .unwrap_or(0),
-    };
+    let widths = widths_of(source);
     let mut out = format!(in alloc; "{}\n", heading.verdict)?;
-    for (label, instruction) in instructions.iter().enumerate() {
-        let (row, before) = rows_at(rows, label);
+    for (number, written) in source.iter().enumerate() {
+        let (row, before) = rows_at(rows, number);
         let Some(row) = row else {
             return Ok(out);
         };
         let known = row_after(alloc, row, before)?;
+        let is_refused = heading.is_refused_at(number);
         push_line(
             &mut out,
             widths,
-            label,
-            instruction,
+            number,
+            written,
             known.as_str(),
-            heading.is_refused_at(label),
+            is_refused,
         )?;
     }
     Ok(out)

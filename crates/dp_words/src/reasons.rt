@@ -1,6 +1,7 @@
 //! Says in words why a program is refused: the rule, what is known, what is wanted, and what helps.
 
 use crate::rows::{FactText, SegmentsText};
+use crate::source::{Written, label_at};
 use dp_check::{Gap, Measure, Reason};
 use dp_model::{Fact, NumberRegister, PacketRegister, Rule};
 use std::fmt;
@@ -179,11 +180,16 @@ fn write_known_row<W: fmt::Write>(f: &mut fmt::Formatter<W>, gap: Gap) -> fmt::R
 
 /// What is wanted, as text.
 #[derive(Drop)]
-pub struct WantedText(pub Reason);
+pub struct WantedText<'s, 't> {
+    /// Why the program is refused.
+    pub reason: Reason,
+    /// The words of its source, which have the labels.
+    pub source: &'s [Written<'t>],
+}
 
-impl fmt::Display for WantedText {
+impl fmt::Display for WantedText<'_, '_> {
     fn fmt<W: fmt::Write>(&self, f: &mut fmt::Formatter<W>) -> fmt::Result {
-        match missing_in(self.0) {
+        match missing_in(self.reason) {
             Some(missing) => {
                 write!(
                     f,
@@ -191,13 +197,17 @@ impl fmt::Display for WantedText {
                     missing.one, missing.number
                 )
             }
-            None => write_wanted(f, self.0),
+            None => write_wanted(f, self.reason, self.source),
         }
     }
 }
 
 /// Writes what is wanted, for reasons other than a missing object.
-fn write_wanted<W: fmt::Write>(f: &mut fmt::Formatter<W>, reason: Reason) -> fmt::Result {
+fn write_wanted<W: fmt::Write>(
+    f: &mut fmt::Formatter<W>,
+    reason: Reason,
+    source: &[Written<'_>],
+) -> fmt::Result {
     match reason {
         Reason::RowCount { wanted, .. } => write!(f, "{wanted} rows"),
         Reason::NoEntry => write!(f, "a port or ring of the environment"),
@@ -228,7 +238,10 @@ fn write_wanted<W: fmt::Write>(f: &mut fmt::Formatter<W>, reason: Reason) -> fmt
             register.number()
         ),
         Reason::LessThanRing { packet, wanted, .. } => write_fact(f, packet, wanted),
-        Reason::Successor { to, gap } => write_wanted_at(f, to, gap),
+        Reason::Successor { to, gap } => {
+            let label = label_at(source, usize::from(to));
+            write_wanted_at(f, to, label, gap)
+        }
         Reason::NoPool { .. }
         | Reason::NoTable { .. }
         | Reason::NoRing { .. }
@@ -260,9 +273,17 @@ fn share_wanted(share: u8) -> &'static str {
     }
 }
 
-/// Writes what the row at a label asks for.
-fn write_wanted_at<W: fmt::Write>(f: &mut fmt::Formatter<W>, label: u16, gap: Gap) -> fmt::Result {
-    write!(f, "at {label}: ")?;
+/// Writes what the row of an instruction asks for, after its number and its label, if it has one.
+fn write_wanted_at<W: fmt::Write>(
+    f: &mut fmt::Formatter<W>,
+    to: u16,
+    label: Option<&str>,
+    gap: Gap,
+) -> fmt::Result {
+    match label {
+        Some(label) => write!(f, "at {to}, {label}: ")?,
+        None => write!(f, "at {to}: ")?,
+    }
     write_wanted_row(f, gap)
 }
 

@@ -1,0 +1,3 @@
+pub mod Flow
+pub mod Marks
+pub mod Uses
