@@ -45,9 +45,20 @@ _dpv() {
         mapfile -t COMPREPLY < <(compgen -W "$commands --help --version$more" -- "$word")
         return
     fi
+    # (bash takes PORT=NAME for three words)
+    case "$command ${COMP_WORDS[COMP_CWORD - 1]}" in
+        "run =")
+            mapfile -t COMPREPLY < <(_dpv_files pcap "$word")
+            return
+            ;;
+        "run --in" | "run --out" | "run --no-in" | "run --no-out")
+            mapfile -t COMPREPLY < <(compgen -W "0 1 2 3 4 5 6 7" -- "$word")
+            return
+            ;;
+    esac
     for ((place = begin + 1; place < COMP_CWORD; place++)); do
         case "${COMP_WORDS[place]}" in
-            --refuse | --records | --port | --only | --instr) place=$((place + 1)) ;;
+            --in | --out | --no-in | --no-out | --refuse | --records | --port | --only | --instr | =) place=$((place + 1)) ;;
             -*) ;;
             *)
                 [ "$count" -gt 0 ] || first="${COMP_WORDS[place]}"
@@ -57,9 +68,12 @@ _dpv() {
     done
     case "$command $word" in
         trace\ -*) mapfile -t COMPREPLY < <(compgen -W "--records --port --only --instr --refuse --help" -- "$word") ;;
-        run\ -*) mapfile -t COMPREPLY < <(compgen -W "--refuse --counts --progress --help" -- "$word") ;;
-        one\ -*) mapfile -t COMPREPLY < <(compgen -W "--counts --progress --help" -- "$word") ;;
-        show\ -* | show-one\ -*) mapfile -t COMPREPLY < <(compgen -W "--dot --help" -- "$word") ;;
+        run\ -*) mapfile -t COMPREPLY < <(compgen -W "--in --out --no-in --no-out --refuse --counts --json --progress --unbuffered --help" -- "$word") ;;
+        one\ -*) mapfile -t COMPREPLY < <(compgen -W "--counts --json --progress --unbuffered --help" -- "$word") ;;
+        check\ -*) mapfile -t COMPREPLY < <(compgen -W "--sizes --json --help" -- "$word") ;;
+        explain\ -* | explain-one\ -*) mapfile -t COMPREPLY < <(compgen -W "--json --help" -- "$word") ;;
+        show\ -*) mapfile -t COMPREPLY < <(compgen -W "--dot --counts --help" -- "$word") ;;
+        show-one\ -*) mapfile -t COMPREPLY < <(compgen -W "--dot --help" -- "$word") ;;
         help\ *) mapfile -t COMPREPLY < <(compgen -W "$commands" -- "$word") ;;
         *\ -*) mapfile -t COMPREPLY < <(compgen -W "--help" -- "$word") ;;
         *) mapfile -t COMPREPLY < <(_dpv_operands "$command" "$count" "$first" "$word") ;;

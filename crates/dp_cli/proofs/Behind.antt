@@ -1,6 +1,6 @@
 -- Lines one after another, the last of which may be unknown.
-use Rattle.std.proofs.Common.{ℕ, List, ◌++◌, Option, Some, None}
-use Rattle.std.specs.Prelude.{IfSome, option_map}
+use Rattle.std.proofs.Common.{ℕ, List, ◌++◌, Option, Some, None, Result, Ok, Err}
+use Rattle.std.specs.Prelude.{IfSome, OnOk, option_map}
 use Rattle.std.specs.Io.KnownBytes.{Appends}
 use Rattle.std.proofs.KnownBytes.{Appends-trans}
 
@@ -10,9 +10,21 @@ pub told_behind : (a b c : Option (List ℕ)) (front : List ℕ) (behind : Optio
 told_behind a b c front None p q = tt
 told_behind a b c front (Some line) p q = Appends-trans a b c front line p q
 
--- two texts, then another
-pub told_behind_both : (a b c d : Option (List ℕ)) (front middle : List ℕ) (behind : Option (List ℕ)) → Appends a b front → Appends b c middle →
-    IfSome behind (Appends c d)
-    → IfSome (option_map (λ line. front ++ (middle ++ line)) behind) (Appends a d)
-told_behind_both a b c d front middle None p q r = tt
-told_behind_both a b c d front middle (Some line) p q r = Appends-trans a b d front (middle ++ line) p (Appends-trans b c d middle line q r)
+-- a text, and then another, if that was written
+pub ok_behind : {A E : Type 0} (r : Result A E) (a b c : Option (List ℕ)) (front behind : List ℕ) → Appends a b front → OnOk r (Appends b c behind)
+    → OnOk r (Appends a c (front ++ behind))
+ok_behind (Ok x) a b c front behind p q = Appends-trans a b c front behind p q
+ok_behind (Err e) a b c front behind p q = tt
+
+-- a text, and then one that may be unknown, if that was written
+pub ok_maybe_behind : {A E : Type 0} (r : Result A E) (a b c : Option (List ℕ)) (front : List ℕ) (behind : Option (List ℕ)) → Appends a b front
+    → OnOk r (IfSome behind (Appends b c)) → OnOk r (IfSome (option_map (λ line. front ++ line) behind) (Appends a c))
+ok_maybe_behind (Ok x) a b c front behind p q = told_behind a b c front behind p q
+ok_maybe_behind (Err e) a b c front behind p q = tt
+
+-- a text, one that may be unknown, and another, if that was written
+pub ok_between : {A E : Type 0} (r : Result A E) (a b c d : Option (List ℕ)) (front : List ℕ) (middle : Option (List ℕ)) (after : List ℕ) → Appends a b front
+    → IfSome middle (Appends b c) → OnOk r (Appends c d after) → OnOk r (IfSome (option_map (λ line. front ++ (line ++ after)) middle) (Appends a d))
+ok_between (Ok x) a b c d front None after p q h = tt
+ok_between (Ok x) a b c d front (Some line) after p q h = Appends-trans a b d front (line ++ after) p (Appends-trans b c d line after q h)
+ok_between (Err e) a b c d front middle after p q h = tt

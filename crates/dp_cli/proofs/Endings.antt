@@ -1,36 +1,164 @@
--- The statuses with which a verdict ends.
-use Rattle.std.proofs.Common.{◌≡◌, ◌⊎◌, ℕ, Option, Result, Ok, Err, inl, inr}
-use Rattle.std.specs.Prelude.{IfErr}
+-- How commands end that print verdicts.
+use Rattle.std.proofs.Common.{◌≡◌, ◌⊎◌, ◌≤◌, ◌++◌, ℕ, List, [], Option, Some, None, Result, Ok, Err, inl, inr, refl, sym, subst, arith, append-nil, ◌∙◌, length}
+use Rattle.std.specs.Prelude.{IfErr, MatchOption}
+use Rattle.std.specs.Io.KnownBytes.{Appends}
+use Rattle.std.proofs.KnownBytes.{Appends-trans}
+use Rattle.dp_model.specs.declared.env.Entry.{Entry}
+use Rattle.dp_model.specs.declared.instr.Instr.{Instr}
 use Rattle.dp_model.specs.Environments.{Environment}
+use Rattle.dp_model.specs.Rules.{Question}
+use Rattle.dp_cert.specs.Spelling.{Certificate}
+use Rattle.dp_check.specs.Faults.{question}
 use Rattle.dp_pipe.specs.declared.error.PipeError.{PipeError}
-use Rattle.dp_pipe.specs.declared.error.PipeError.TheVariants.{Memory, NotInferred, Refused}
+use Rattle.dp_pipe.specs.declared.error.PipeError.TheVariants.{Memory}
+use Rattle.dp_pipe.specs.declared.config.Config.{Config}
+use Rattle.dp_pipe.specs.Config.{IsConfigOf}
 use Rattle.dp_pipe.specs.Files.{FileMap}
 use Rattle.dp_pipe.specs.Nodes.{Node}
-use Rattle.dp_cli.specs.Judging.{IsNodeTold}
-use Rattle.dp_cli.specs.Told.{IsTold, status_of}
+use Rattle.dp_cli.specs.declared.fault.Fault.{Fault}
+use Rattle.dp_cli.specs.declared.fault.Fault.TheVariants as fault
+use Rattle.dp_cli.specs.declared.verdicts.Wanted.{Wanted}
+use Rattle.dp_cli.specs.declared.verdicts.Wanted.TheVariants as wanted
+use Rattle.dp_cli.specs.declared.verdicts.counted.Counted.{Counted}
+use Rattle.dp_cli.specs.declared.verdicts.show.Form.{Form}
+use Rattle.dp_cli.specs.Judging.{IsSaid, IsFaultSaid, IsVerdictTold, IsFormTold, IsWantedTold, IsNodeTold, misfit_in}
+use Rattle.dp_cli.specs.Judging.{IsJudged, AreAllTold, IsToldAt, IsTextFaultTold, IsPipelineTold}
+use Rattle.dp_cli.specs.Pipelines.{fault_of, IsUnloadedReported}
+use Rattle.dp_cli.specs.Printing.{Paper, Prints, PrintsFault, Says, Reports, IsEnded}
+use Rattle.dp_cli.specs.Told.{refusal_line, status_of_fault}
 
 -- what holds of an error, if there is one
 pub if_err : {A E : Type 0} (r : Result A E) (P Q : E → Type 0) → ((e : E) → P e → Q e) → IfErr r P → IfErr r Q
 if_err (Ok a) P Q f h = tt
 if_err (Err e) P Q f h = f e h
 
--- a status of 1, or one where nothing could be written
-told_one : (s : ℕ) → IsTold 1 s → IsTold 0 s ⊎ (s ≡ 1)
-told_one s (inl e) = inr e
-told_one s (inr other) = inl (inr other)
+-- a verdict's status
+abbrev pub IsZeroOne : ℕ → Type 0
+IsZeroOne s = (s ≡ 0) ⊎ (s ≡ 1)
 
--- a fault ends with 1, 3 or 4
-told_error : (e : PipeError) (s : ℕ) → IsTold (status_of e) s → IsTold 0 s ⊎ (s ≡ 1)
-told_error Memory s (inl e) = inl (inr (inr e))
-told_error (NotInferred _ _ _) s told = told_one s told
-told_error (Refused _ _ _) s told = told_one s told
-told_error _ s (inl e) = inl (inr (inl e))
-told_error _ s (inr other) = inl (inr other)
+not_above : (s n : ℕ) → IsZeroOne s → s ≡ n → 3 ≤ n → ⊥
+not_above s n (inl e) same high = omega arith
+not_above s n (inr e) same high = omega arith
 
--- a node's report ends with 0 or 1, or 3 or 4
-pub node_ends : (known : Option FileMap) (env : Environment) (node : Node) (s : ℕ) → IsNodeTold known env node s → IsTold 0 s ⊎ (s ≡ 1)
-node_ends known env node s (inl told) = elim told.verdict [
-  | inl v ↦ inl v.1
-  | inr v ↦ told_one s v.2
-]
-node_ends known env node s (inr told) = told_error told.error s told.told
+-- a command that ends with 0 or 1 ended with its own status, and said what it is to say
+ended_said : (said : Type 0) (n : ℕ) (out err err' : Paper) (s : ℕ) → IsZeroOne s → IsEnded n said out err err' s → (s ≡ n) × said
+ended_said said n out err err' s few (inl own) = own
+ended_said said n out err err' s few (inr (inl (e, h))) = absurd (not_above s 3 few e (omega arith))
+ended_said said n out err err' s few (inr (inr (e, h, m))) = absurd (not_above s 4 few e (omega arith))
+
+-- a fault ends with 3 or 4
+fault_above : (f : Fault) → 3 ≤ status_of_fault f
+fault_above fault.Memory = omega arith
+fault_above _ = omega arith
+
+-- what was reported with 0 or 1 was printed
+unloaded_says : (error : PipeError) (out out' err err' : Paper) (s : ℕ) → IsZeroOne s → IsUnloadedReported error out out' err err' s → Says out out' err err'
+unloaded_says error out out' err err' s few told = go (fault_of error) told
+  where
+    go : (f : Option Fault) → MatchOption f (IsEnded 1 (Prints out out' (refusal_line error) × (err' ≡ err)) out' err err' s)
+        (λ fault. IsEnded (status_of_fault fault) (PrintsFault fault err err' × (out' ≡ out)) out' err err' s) → Says out out' err err'
+    go None h = let (e, said) = ended_said (Prints out out' (refusal_line error) × (err' ≡ err)) 1 out' err err' s few h in
+        record { text = refusal_line error; printed = said.0; silent = said.1 }
+    go (Some f) h = let (e, said) = ended_said (PrintsFault f err err' × (out' ≡ out)) (status_of_fault f) out' err err' s few h in
+        absurd (not_above s (status_of_fault f) few e (fault_above f))
+
+memory_not : (out out' err err' : Paper) (s : ℕ) → IsZeroOne s → IsUnloadedReported Memory out out' err err' s → ⊥
+memory_not out out' err err' s few told =
+    let (e, said) = ended_said (PrintsFault fault.Memory err err' × (out' ≡ out)) 4 out' err err' s few told in
+    not_above s 4 few e (omega arith)
+
+said_says : (n : ℕ) (out out' err err' : Paper) (s : ℕ) → IsZeroOne s → IsSaid n out out' err err' s → Says out out' err err'
+said_says n out out' err err' s few (inl ended) = (ended_said (Says out out' err err') n out' err err' s few ended).1
+said_says n out out' err err' s few (inr memory) = absurd (memory_not out out' err err' s few memory)
+
+verdict_says : (q : Question) (out out' err err' : Paper) (s : ℕ) → IsZeroOne s → IsVerdictTold q out out' err err' s → Says out out' err err'
+verdict_says q out out' err err' s few (inl (accepted, said)) = said_says 0 out out' err err' s few said
+verdict_says q out out' err err' s few (inr (diagnosis, is, said)) = said_says 1 out out' err err' s few said
+
+fault_not : (out out' err err' : Paper) (s : ℕ) → IsZeroOne s → IsFaultSaid out out' err err' s → ⊥
+fault_not out out' err err' s few (inl ended) =
+    not_above s 3 few (ended_said (Reports out out' err err') 3 out' err err' s few ended).0 (omega arith)
+fault_not out out' err err' s few (inr memory) = memory_not out out' err err' s few memory
+
+form_says : (shown : Form) (q : Question) (out out' err err' : Paper) (s : ℕ) → IsZeroOne s → IsFormTold shown q out out' err err' s → Says out out' err err'
+form_says shown q out out' err err' s few told = go (misfit_in shown (length q.program)) told
+  where
+    go : (m : Option Counted) → MatchOption m (IsVerdictTold q out out' err err' s) (λ counted. IsFaultSaid out out' err err' s) → Says out out' err err'
+    go None h = verdict_says q out out' err err' s few h
+    go (Some counted) h = absurd (fault_not out out' err err' s few h)
+
+wanted_says : (asked : Wanted) (q : Question) (out out' err err' : Paper) (s : ℕ) → IsZeroOne s → IsWantedTold asked q out out' err err' s
+    → Says out out' err err'
+wanted_says wanted.Reason q out out' err err' s few told = verdict_says q out out' err err' s few told
+wanted_says (wanted.Program shown) q out out' err err' s few told = form_says shown q out out' err err' s few told
+
+-- a node that was reported with 0 or 1 was printed, and nothing was on standard error
+pub node_says : (known : Option FileMap) (env : Environment) (node : Node) (asked : Wanted) (out out' err err' : Paper) (s : ℕ) → IsZeroOne s
+    → IsNodeTold known env node asked out out' err err' s → Says out out' err err'
+node_says known env node asked out out' err err' s few (inl told) = wanted_says asked _ out out' err err' s few told.told
+node_says known env node asked out out' err err' s few (inr told) = unloaded_says told.error out out' err err' s few told.told
+
+-- nothing was printed
+appends_nothing : (bytes : Option (List ℕ)) → Appends bytes bytes []
+appends_nothing None = tt
+appends_nothing (Some xs) = sym (append-nil xs)
+
+pub says_nothing : (out err : Paper) → Says out out err err
+says_nothing out err = record { text = []; printed = record { grown = appends_nothing out.bytes; sound = refl }; silent = refl }
+
+-- one text after another
+pub says_more : (out mid out' err err' err'' : Paper) → Says out mid err err' → Says mid out' err' err'' → Says out out' err err''
+says_more out mid out' err err' err'' first next = record {
+  text = first.text ++ next.text;
+  printed = record {
+    grown = Appends-trans out.bytes mid.bytes out'.bytes first.text next.text first.printed.grown next.printed.grown;
+    sound = next.printed.sound ∙ first.printed.sound;
+  };
+  silent = next.silent ∙ first.silent;
+}
+
+-- a program was shown whose counts fit, or it was reported that they do not
+pub form_fits : (shown : Form) (q : Question) (count : ℕ) (out out' err err' : Paper) (s : ℕ) → None ≡ misfit_in shown count → count ≡ length q.program
+    → IsVerdictTold q out out' err err' s → IsFormTold shown q out out' err err' s
+form_fits shown q count out out' err err' s none same told =
+    subst (λ (m : Option Counted). MatchOption m (IsVerdictTold q out out' err err' s) (λ counted. IsFaultSaid out out' err err' s))
+    (subst (λ (n : ℕ). None ≡ misfit_in shown n) same none) told
+
+pub form_misfits : (shown : Form) (q : Question) (count : ℕ) (counted : Counted) (out out' err err' : Paper) (s : ℕ) → Some counted ≡ misfit_in shown count
+    → count ≡ length q.program → IsFaultSaid out out' err err' s → IsFormTold shown q out out' err err' s
+form_misfits shown q count counted out out' err err' s some same told =
+    subst (λ (m : Option Counted). MatchOption m (IsVerdictTold q out out' err err' s) (λ counted. IsFaultSaid out out' err err' s))
+    (subst (λ (n : ℕ). Some counted ≡ misfit_in shown n) same some) told
+
+-- what is wanted of a node that was judged was printed
+pub node_explained : (known : Option FileMap) (env : Environment) (node : Node) (text : List ℕ) (program : List Instr) (cert : Certificate) (asked : Wanted)
+    (out out' err err' : Paper) (s : ℕ) → asked ≡ wanted.Reason → IsJudged known env node text program cert
+    → IsVerdictTold (question program cert env node.entry) out out' err err' s → IsNodeTold known env node asked out out' err err' s
+node_explained known env node text program cert wanted.Reason out out' err err' s is judged told =
+    inl (record { text = text; program = program; cert = cert; judged = judged; told = told })
+node_explained known env node text program cert (wanted.Program shown) out out' err err' s is judged told = cc
+
+pub node_shown : (known : Option FileMap) (env : Environment) (node : Node) (text : List ℕ) (program : List Instr) (cert : Certificate) (asked : Wanted)
+    (shown : Form) (out out' err err' : Paper) (s : ℕ) → asked ≡ wanted.Program shown → IsJudged known env node text program cert
+    → IsFormTold shown (question program cert env node.entry) out out' err err' s → IsNodeTold known env node asked out out' err err' s
+node_shown known env node text program cert asked shown out out' err err' s is judged told =
+    subst (λ (w : Wanted). IsNodeTold known env node w out out' err err' s) (sym is)
+    (inl (record { text = text; program = program; cert = cert; judged = judged; told = told }))
+
+-- the nodes of a pipeline were reported, or one of them
+pub all_told : (known : Option FileMap) (text : List ℕ) (which : Option Entry) (config : Config) (asked : Wanted) (out out' err err' : Paper) (s : ℕ)
+    → which ≡ None → IsConfigOf text config → AreAllTold known config asked out out' err err' s → IsPipelineTold known text which asked out out' err err' s
+all_told known text None config asked out out' err err' s is of told = inr (record { config = config; is = of; told = told })
+all_told known text (Some entry) config asked out out' err err' s is of told = cc
+
+pub one_told : (known : Option FileMap) (text : List ℕ) (which : Option Entry) (entry : Entry) (config : Config) (asked : Wanted)
+    (out out' err err' : Paper) (s : ℕ) → which ≡ Some entry → IsConfigOf text config → IsToldAt known config entry asked out out' err err' s
+    → IsPipelineTold known text which asked out out' err err' s
+one_told known text which entry config asked out out' err err' s is of told =
+    subst (λ (w : Option Entry). IsPipelineTold known text w asked out out' err err' s) (sym is)
+    (inr (record { config = config; is = of; told = told }))
+
+pub none_told : (known : Option FileMap) (text : List ℕ) (which : Option Entry) (asked : Wanted) (out out' err err' : Paper) (s : ℕ)
+    → IsTextFaultTold text out out' err err' s → IsPipelineTold known text which asked out out' err err' s
+none_told known text None asked out out' err err' s told = inl told
+none_told known text (Some entry) asked out out' err err' s told = inl told

@@ -6,8 +6,8 @@ use Rattle.std.proofs.lemmas.List.{map-append, length-map}
 use Rattle.dp_cli.specs.declared.run.findings.CaptureNames.{CaptureNames}
 use Rattle.dp_cli.specs.declared.run.same_file.ReadFile.{ReadFile}
 use Rattle.dp_cli.specs.declared.run.same_file.Written.{Written}
-use Rattle.dp_cli.specs.Names.{output_name}
-use Rattle.dp_cli.specs.Guarding.{IsApart, AllApart, AreApart, written_name}
+use Rattle.dp_cli.specs.Names.{output_capture}
+use Rattle.dp_cli.specs.Guarding.{IsApart, AllApart, AreApart, written_capture}
 
 all_more : (reads : List ReadFile) (earlier outputs : List Written) (more : Written) → AllApart reads earlier outputs → IsApart reads (earlier ++ outputs) more
     → AllApart reads earlier (outputs ++ more ∷ [])
@@ -21,21 +21,21 @@ all_more reads earlier (o ∷ outputs) more all one = (
       (subst (λ (l : List Written). IsApart reads l more) (sym (append_assoc earlier (o ∷ []) outputs)) one),
 )
 
-taken_names : (names : List CaptureNames) (i : ℕ) (d : CaptureNames) → i < length names
-    → map output_name (take (suc i) names) ≡ map output_name (take i names) ++ output_name (slice_index_or names i d) ∷ []
-taken_names [] i d within = absurd (omega (arith, within))
-taken_names (n ∷ names) zero d within = refl
-taken_names (n ∷ names) (suc i) d within = ap (λ l. output_name n ∷ l) (taken_names names i d (omega (arith, within)))
+taken_captures : (names : List CaptureNames) (i : ℕ) (d : CaptureNames) → i < length names
+    → map output_capture (take (suc i) names) ≡ map output_capture (take i names) ++ output_capture (slice_index_or names i d) ∷ []
+taken_captures [] i d within = absurd (omega (arith, within))
+taken_captures (n ∷ names) zero d within = refl
+taken_captures (n ∷ names) (suc i) d within = ap (λ l. output_capture n ∷ l) (taken_captures names i d (omega (arith, within)))
 
 -- one output more
 pub apart_more : (reads : List ReadFile) (names : List CaptureNames) (outputs : List Written) (i : ℕ) (d : CaptureNames) (more : Written) → i < length names
-    → more.name.now ≡ output_name (slice_index_or names i d) → AreApart reads (take i names) outputs → IsApart reads outputs more
+    → written_capture more ≡ output_capture (slice_index_or names i d) → AreApart reads (take i names) outputs → IsApart reads outputs more
     → AreApart reads (take (i + 1) names) (outputs ++ more ∷ [])
 apart_more reads names outputs i d more within is so_far one = record {
-  names_are = rw (add-one i, taken_names names i d within, map-append) (cc (so_far.names_are, is));
+  captures_are = rw (add-one i, taken_captures names i d within, map-append) (cc (so_far.captures_are, is));
   apart = all_more reads [] outputs more so_far.apart one;
 }
 
 -- there are as many outputs as names
 pub apart_many : (reads : List ReadFile) (names : List CaptureNames) (outputs : List Written) → AreApart reads names outputs → length outputs ≡ length names
-apart_many reads names outputs apart = sym (length-map outputs written_name) ∙ ap length apart.names_are ∙ length-map names output_name
+apart_many reads names outputs apart = sym (length-map outputs written_capture) ∙ ap length apart.captures_are ∙ length-map names output_capture

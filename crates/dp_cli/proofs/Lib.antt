@@ -1,14 +1,20 @@
 pub mod Behind
 pub mod Counts
+pub mod Printed
 pub mod Endings
+pub mod Fitting
+pub mod Listed
 mod Lines
 mod Numbers
+pub mod Replacing
 pub mod Blocks
 pub mod Commands
 pub mod Playing
 pub mod Closing
+pub mod Telling
 pub mod Took
 pub mod Devices
 pub mod Found
 pub mod Names
+pub mod Opened
 pub mod Guarding

@@ -13,8 +13,9 @@ use Rattle.dp_pipe.specs.declared.forwarding.RunCause.TheVariants.{In, Out}
 use Rattle.dp_cli.specs.declared.run.findings.CaptureNames.{CaptureNames}
 use Rattle.dp_cli.specs.declared.run.watched.Seen.{Seen}
 use Rattle.dp_cli.specs.declared.fault_reasons.Reason.{Reason}
-use Rattle.dp_cli.specs.declared.fault_reasons.Reason.TheVariants.{System, TooLong, IsRead, IsOutput, Capture, IsPcapng, Pipeline}
+use Rattle.dp_cli.specs.declared.fault_reasons.Reason.TheVariants.{System, TooLong, IsRead, IsOutput, Capture, IsPcapng, Link, Pipeline}
 use Rattle.dp_cli.specs.declared.fault_reasons.Finding.{Finding}
+use Rattle.dp_cli.specs.LinkTypes.{link_text, cure_text}
 
 -- the words of a reason; those of the system and of the libraries are open
 abbrev pub reason_text : Reason → Option (List ℕ)
@@ -22,17 +23,32 @@ reason_text TooLong = Some (codes "it is longer than 1048576 bytes")
 reason_text IsRead = Some (codes "the run reads this file, so it is not overwritten")
 reason_text IsOutput = Some (codes "another port writes this file, too")
 reason_text IsPcapng = Some (codes "it is a pcapng file, of which editcap -F pcap IN OUT makes a capture")
+reason_text (Link link) = Some (link_text link)
 reason_text _ = None
+
+-- what helps, if there is a line for it
+abbrev pub cure_of : Reason → Option (List ℕ)
+cure_of (Link link) = Some (cure_text link)
+cure_of _ = None
 
 -- the line of a file's name, if it is reported
 abbrev pub file_line : Option (List ℕ) → List ℕ
 file_line None = []
 file_line (Some name) = codes "  file: " ++ (name ++ 10 ∷ [])
 
--- the lines of a finding: the file's name, and the reason
+-- the line of a reason
+abbrev pub reason_line : Reason → Option (List ℕ)
+reason_line reason = option_map (λ words. codes "  because: " ++ words) (with_newline (reason_text reason))
+
+-- the line with what helps, if there is one
+abbrev pub help_line : Option (List ℕ) → List ℕ
+help_line None = []
+help_line (Some words) = codes "  help: " ++ (words ++ 10 ∷ [])
+
+-- the lines of a finding: the file's name, the reason, and what helps
 abbrev pub finding_lines : Finding → Option (List ℕ)
-finding_lines finding = option_map (λ words. file_line (option_map (λ name. name.now) finding.file)
-    ++ (codes "  because: " ++ words)) (with_newline (reason_text finding.reason))
+finding_lines finding = option_map (λ line. file_line (option_map (λ name. name.now) finding.file)
+    ++ (line ++ help_line (cure_of finding.reason))) (reason_line finding.reason)
 
 -- what is reported of a pipeline's fault: its words; nothing for a file, for which the files have a reason
 abbrev pub reason_of : PipeError → Option Reason
@@ -44,6 +60,7 @@ abbrev pub reason_of_input : PcapError → Option Seen → Reason
 reason_of_input cause None = Capture cause
 reason_of_input pcap.Read (Some seen) = option_map_or (λ error. System error) seen.failure (Capture pcap.Read)
 reason_of_input pcap.BadMagic (Some seen) = if seen.is_pcapng then IsPcapng else Capture pcap.BadMagic
+reason_of_input pcap.BadLink (Some seen) = option_map_or (λ link. Link link) seen.link (Capture pcap.BadLink)
 reason_of_input cause (Some seen) = Capture cause
 
 -- why an output is at fault: the system's error

@@ -8,7 +8,8 @@ use Rattle.dp_cli.specs.declared.run.same_file.ReadFile.{ReadFile}
 use Rattle.dp_cli.specs.declared.run.same_file.Target.{Target}
 use Rattle.dp_cli.specs.declared.run.same_file.Target.TheVariants.{There, New, Other}
 use Rattle.dp_cli.specs.declared.run.same_file.Written.{Written}
-use Rattle.dp_cli.specs.Names.{input_name, output_name}
+use Rattle.dp_cli.specs.declared.run.replaced.Place.{Place}
+use Rattle.dp_cli.specs.Names.{input_name, output_capture}
 
 -- whether two files or folders are the same: of the same device, and with the same number there
 abbrev pub is_same_file : FileId → FileId → Bool
@@ -48,11 +49,11 @@ abbrev pub AllApart : List ReadFile → List Written → List Written → Type 0
 AllApart reads earlier [] = ⊤
 AllApart reads earlier (output ∷ outputs) = IsApart reads earlier output × AllApart reads (earlier ++ output ∷ []) outputs
 
--- the name of an output
-abbrev pub written_name : Written → List ℕ
-written_name output = output.name.now
+-- where an output is, and its name
+abbrev pub written_capture : Written → Place × List ℕ
+written_capture output = (output.place, output.name.now)
 
--- the outputs of a run, by the names of its captures
+-- the outputs of a run, by its captures
 pub record AreApart (reads : List ReadFile) (names : List CaptureNames) (outputs : List Written) : Type 0 where
-  pub names_are : map written_name outputs ≡ map output_name names
+  pub captures_are : map written_capture outputs ≡ map output_capture names
   pub apart : AllApart reads [] outputs

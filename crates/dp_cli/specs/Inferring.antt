@@ -1,6 +1,5 @@
--- What `dpv infer-one` prints and reports of a program by itself.
-use Rattle.std.specs.Prelude.{◌≡◌, ℕ, ◌⊎◌, List, Option, None}
-use Rattle.std.specs.Io.KnownBytes.{Appends}
+-- What `dpv infer` and `dpv infer-one` print and report.
+use Rattle.std.specs.Prelude.{◌≡◌, ℕ, ◌⊎◌, List, Option, None, MatchOption}
 use Rattle.dp_model.specs.declared.env.Entry.{Entry}
 use Rattle.dp_model.specs.declared.instr.Instr.{Instr}
 use Rattle.dp_model.specs.Environments.{Environment}
@@ -9,7 +8,12 @@ use Rattle.dp_infer.specs.Inference.{Certifies, SaysMost}
 use Rattle.dp_pipe.specs.declared.error.PipeError.{PipeError}
 use Rattle.dp_pipe.specs.Files.{FileMap}
 use Rattle.dp_pipe.specs.Nodes.{Node, IsProgramOf, Fails}
-use Rattle.dp_cli.specs.Told.{IsTold, refusal_line, status_of}
+use Rattle.dp_check.specs.Faults.{IsWith}
+use Rattle.dp_pipe.specs.Pipelines.{Plan}
+use Rattle.dp_cli.specs.declared.fault.Fault.TheVariants as fault
+use Rattle.dp_cli.specs.Pipelines.{node_at, IsUnloadedReported}
+use Rattle.dp_cli.specs.Printing.{Paper, Prints, PrintsFault, IsEnded}
+use Rattle.dp_cli.specs.Told.{no_node_line}
 
 -- a node with this program file and no certificate
 abbrev pub by_itself : Entry → List ℕ → Node
@@ -24,30 +28,30 @@ pub record IsInferred (known : Option FileMap) (env : Environment) (node : Node)
   pub most : SaysMost program env node.entry cert.rows
   pub version : cert.version ≡ version_for cert.rows
 
--- the text of such a certificate was printed
-pub record IsCertPrinted (known : Option FileMap) (env : Environment) (node : Node) (before after : Option (List ℕ)) : Type 0 where
-  pub cert : Certificate
-  pub inferred : IsInferred known env node cert
-  pub printed : Appends before after (spelling cert)
+-- the text of a certificate was printed; or memory ran out for it, which was reported
+abbrev pub IsCertEnded : Certificate → Paper → Paper → Paper → Paper → ℕ → Type 0
+IsCertEnded cert out out' err err' status = IsEnded 0 (Prints out out' (spelling cert) × (err' ≡ err)) out' err err' status
+    ⊎ IsEnded 4 (PrintsFault fault.Memory err err' × (out' ≡ out)) out' err err' status
 
--- there is such a certificate
-pub record HasInferred (known : Option FileMap) (env : Environment) (node : Node) (status : ℕ) : Type 0 where
+-- the certificate of a node of a pipeline was printed; or it was reported that there is no such node
+abbrev pub IsNodeInferred : Plan → Entry → Paper → Paper → Paper → Paper → ℕ → Type 0
+IsNodeInferred p which out out' err err' status = MatchOption (node_at p which)
+    (IsEnded 2 (Prints err err' (no_node_line which) × (out' ≡ out)) out' err err' status)
+    (λ node. (cert : Certificate) → IsWith node cert → IsCertEnded cert out out' err err' status)
+
+-- there is such a certificate, and its text was printed
+pub record HasInferred (known : Option FileMap) (env : Environment) (node : Node) (out out' err err' : Paper) (status : ℕ) : Type 0 where
   pub cert : Certificate
   pub inferred : IsInferred known env node cert
-  pub told : IsTold 0 status
+  pub ended : IsCertEnded cert out out' err err' status
 
 -- why there is none was reported
-pub record IsNoneTold (known : Option FileMap) (env : Environment) (node : Node) (status : ℕ) : Type 0 where
+pub record IsNoneTold (known : Option FileMap) (env : Environment) (node : Node) (out out' err err' : Paper) (status : ℕ) : Type 0 where
   pub error : PipeError
   pub fails : Fails known env node error
-  pub told : IsTold (status_of error) status
+  pub reported : IsUnloadedReported error out out' err err' status
 
--- the line that there is none was printed
-pub record IsNonePrinted (known : Option FileMap) (env : Environment) (node : Node) (before after : Option (List ℕ)) : Type 0 where
-  pub error : PipeError
-  pub fails : Fails known env node error
-  pub printed : Appends before after (refusal_line error)
-
--- the status of the one or the other
-abbrev pub IsInferredTold : Option FileMap → Environment → Node → ℕ → Type 0
-IsInferredTold known env node status = HasInferred known env node status ⊎ IsNoneTold known env node status
+-- the one or the other
+abbrev pub IsInferredTold : Option FileMap → Environment → Node → Paper → Paper → Paper → Paper → ℕ → Type 0
+IsInferredTold known env node out out' err err' status =
+    HasInferred known env node out out' err err' status ⊎ IsNoneTold known env node out out' err err' status

@@ -1,5 +1,6 @@
--- The certificate by which a node's program is judged, and what is printed of it.
-use Rattle.std.specs.Prelude.{◌≡◌, ℕ, ◌-◌, ◌<◌, nat_lt, if◌then◌else◌, IfSome, MatchOption, ◌⊎◌, List, [], ◌∷◌, ◌++◌, length, Option, Some, None, option_map}
+-- The certificate by which a node's program is judged, and what is printed of its verdict.
+use Rattle.std.specs.Prelude.{◌≡◌, ◌≢◌, ℕ, ◌-◌, ◌<◌, nat_lt, if◌then◌else◌, IfSome, MatchOption, ◌⊎◌, List, [], ◌∷◌, ◌++◌}
+use Rattle.std.specs.Prelude.{◌==◌, length, Option, Some, None, option_map}
 use Rattle.std.specs.Prelude.{codes}
 use Rattle.dp_model.specs.declared.env.Entry.{Entry}
 use Rattle.dp_model.specs.declared.env.Entry.TheVariants.{Port, Ring}
@@ -22,7 +23,14 @@ use Rattle.dp_pipe.specs.declared.nodes.How.TheVariants.{Given}
 use Rattle.dp_pipe.specs.Surveys.{files_at}
 use Rattle.dp_pipe.specs.Nodes.{Node, node_of, IsCertOf, IsMissing, IsBadCert, IsProgramOf, HasNoProgram}
 use Rattle.dp_cli.specs.declared.verdicts.judged.Asked.{Asked}
-use Rattle.dp_cli.specs.Told.{IsTold, status_of}
+use Rattle.dp_cli.specs.declared.verdicts.Wanted.{Wanted}
+use Rattle.dp_cli.specs.declared.verdicts.Wanted.TheVariants as wanted
+use Rattle.dp_cli.specs.declared.verdicts.counted.Counted.{Counted}
+use Rattle.dp_cli.specs.declared.verdicts.show.Form.{Form}
+use Rattle.dp_cli.specs.declared.verdicts.show.Form.TheVariants as form
+use Rattle.dp_cli.specs.Pipelines.{IsUnloadedReported}
+use Rattle.dp_cli.specs.Printing.{Paper, Prints, Says, Reports, IsEnded}
+use Rattle.dp_cli.specs.Told.{no_node_line}
 
 -- the node that is asked about, with the names of its files
 abbrev pub asked_node : Asked → Node
@@ -60,27 +68,52 @@ IsUnjudged known node e =
 abbrev pub accepted_text : Entry → List ℕ
 accepted_text entry = (node_text entry ++ codes " accepted") ++ 10 ∷ []
 
--- the status of a verdict: 0 for an accepted program, 1 with a diagnosis of a refused one
-abbrev pub IsVerdict : Question → ℕ → Type 0
-IsVerdict q status = (IsAccepted q × IsTold 0 status) ⊎ ((diagnosis : Diagnosis) × IsDiagnosis q diagnosis × IsTold 1 status)
+-- a text was printed, with this status; or memory ran out for it, which was reported
+abbrev pub IsSaid : ℕ → Paper → Paper → Paper → Paper → ℕ → Type 0
+IsSaid status out out' err err' ended = IsEnded status (Says out out' err err') out' err err' ended ⊎ IsUnloadedReported Memory out out' err err' ended
 
--- the verdict on a node was printed
-pub record IsExplained (known : Option FileMap) (env : Environment) (node : Node) (status : ℕ) : Type 0 where
+-- a fault was reported; or memory ran out for its words, which was reported
+abbrev pub IsFaultSaid : Paper → Paper → Paper → Paper → ℕ → Type 0
+IsFaultSaid out out' err err' ended = IsEnded 3 (Reports out out' err err') out' err err' ended ⊎ IsUnloadedReported Memory out out' err err' ended
+
+-- the verdict was printed: with 0 for an accepted program, with 1 for a refused one, of which there is a diagnosis
+abbrev pub IsVerdictTold : Question → Paper → Paper → Paper → Paper → ℕ → Type 0
+IsVerdictTold q out out' err err' status =
+    (IsAccepted q × IsSaid 0 out out' err err' status) ⊎ ((diagnosis : Diagnosis) × IsDiagnosis q diagnosis × IsSaid 1 out out' err err' status)
+
+-- the counts in a form, if they are of a program with another number of instructions than this
+abbrev pub misfit_in : Form → ℕ → Option Counted
+misfit_in (form.Counted counted) count = if length counted.steps.now == count then None else Some counted
+misfit_in _ count = None
+
+-- a program was shown in this form; or it was reported that its counts do not fit
+abbrev pub IsFormTold : Form → Question → Paper → Paper → Paper → Paper → ℕ → Type 0
+IsFormTold shown q out out' err err' status = MatchOption (misfit_in shown (length q.program))
+    (IsVerdictTold q out out' err err' status) (λ counted. IsFaultSaid out out' err err' status)
+
+-- what is wanted of a program was printed or reported
+abbrev pub IsWantedTold : Wanted → Question → Paper → Paper → Paper → Paper → ℕ → Type 0
+IsWantedTold wanted.Reason q out out' err err' status = IsVerdictTold q out out' err err' status
+IsWantedTold (wanted.Program shown) q out out' err err' status = IsFormTold shown q out out' err err' status
+
+-- a node was judged, and what is wanted of it was printed or reported
+pub record IsExplained (known : Option FileMap) (env : Environment) (node : Node) (asked : Wanted) (out out' err err' : Paper) (status : ℕ) : Type 0 where
   pub text : List ℕ
   pub program : List Instr
   pub cert : Certificate
   pub judged : IsJudged known env node text program cert
-  pub verdict : IsVerdict (question program cert env node.entry) status
+  pub told : IsWantedTold asked (question program cert env node.entry) out out' err err' status
 
 -- why a node is not judged was reported
-pub record IsUnjudgedTold (known : Option FileMap) (node : Node) (status : ℕ) : Type 0 where
+pub record IsUnjudgedTold (known : Option FileMap) (node : Node) (out out' err err' : Paper) (status : ℕ) : Type 0 where
   pub error : PipeError
   pub unjudged : IsUnjudged known node error
-  pub told : IsTold (status_of error) status
+  pub told : IsUnloadedReported error out out' err err' status
 
 -- what was printed or reported of a node
-abbrev pub IsNodeTold : Option FileMap → Environment → Node → ℕ → Type 0
-IsNodeTold known env node status = IsExplained known env node status ⊎ IsUnjudgedTold known node status
+abbrev pub IsNodeTold : Option FileMap → Environment → Node → Wanted → Paper → Paper → Paper → Paper → ℕ → Type 0
+IsNodeTold known env node asked out out' err err' status =
+    IsExplained known env node asked out out' err err' status ⊎ IsUnjudgedTold known node out out' err err' status
 
 -- the node of a pipeline with this entry, if there is one
 abbrev pub node_in : Config → Entry → Option Node
@@ -90,39 +123,70 @@ node_in config entry = option_map (node_of Given entry) (files_at config entry)
 abbrev pub entry_at : ℕ → Entry
 entry_at index = if nat_lt index 8 then Port index else Ring (index - 8)
 
--- the node with this index, if there is one, has a verdict with this status
-abbrev pub EndedAt : Option FileMap → Config → ℕ → ℕ → Type 0
-EndedAt known config status index = IfSome (node_in config (entry_at index)) (λ node. IsNodeTold known config.env node status)
+-- the node with this index was reported, if there is one; else nothing was
+abbrev pub IsToldNth : Option FileMap → Config → ℕ → Wanted → Paper → Paper → Paper → Paper → ℕ → Type 0
+IsToldNth known config index asked out out' err err' status = MatchOption (node_in config (entry_at index))
+    ((status ≡ 0) × (out' ≡ out) × (err' ≡ err)) (λ node. IsNodeTold known config.env node asked out out' err err' status)
 
--- all nodes were reported: 0 where all of them are accepted, and 1 where one is refused
-pub record AreAllTold (known : Option FileMap) (config : Config) (status : ℕ) : Type 0 where
-  pub accepted : status ≡ 0 → (index : ℕ) → index < 16 → EndedAt known config 0 index
-  pub refused : status ≡ 1 → (index : ℕ) × EndedAt known config 1 index
-  pub ends : IsTold 0 status ⊎ (status ≡ 1)
+-- among others this node was reported, with this status, while nothing was on standard error
+pub record WasTold (known : Option FileMap) (env : Environment) (node : Node) (asked : Wanted) (err : Paper) (status : ℕ) : Type 0 where
+  pub before : Paper
+  pub after : Paper
+  pub told : IsNodeTold known env node asked before after err err status
 
--- the node with this entry was reported: that there is none, or the verdict on it
-abbrev pub IsToldAt : Option FileMap → Config → Entry → ℕ → Type 0
-IsToldAt known config entry status = MatchOption (node_in config entry) (IsTold 2 status) (λ node. IsNodeTold known config.env node status)
+-- the node with this index, if there is one, was accepted
+abbrev pub AcceptedAt : Option FileMap → Config → Wanted → Paper → ℕ → Type 0
+AcceptedAt known config asked err index = IfSome (node_in config (entry_at index)) (λ node. WasTold known config.env node asked err 0)
+
+-- the node with this index was refused
+pub record RefusedAt (known : Option FileMap) (config : Config) (asked : Wanted) (err : Paper) : Type 0 where
+  pub index : ℕ
+  pub node : Node
+  pub is : node_in config (entry_at index) ≡ Some node
+  pub told : WasTold known config.env node asked err 1
+
+-- the nodes before this one were reported, and this one ended it
+pub record EndedAt (known : Option FileMap) (config : Config) (asked : Wanted) (out out' err err' : Paper) (status : ℕ) : Type 0 where
+  pub index : ℕ
+  pub node : Node
+  pub is : node_in config (entry_at index) ≡ Some node
+  pub between : Paper
+  pub before : Says out between err err
+  pub told : IsNodeTold known config.env node asked between out' err err' status
+
+-- All nodes were reported: 0 where all of them are accepted, and 1 where one is refused. Or a fault ended it at a node.
+pub record AreAllTold (known : Option FileMap) (config : Config) (asked : Wanted) (out out' err err' : Paper) (status : ℕ) : Type 0 where
+  pub accepted : status ≡ 0 → (index : ℕ) → index < 16 → AcceptedAt known config asked err index
+  pub refused : status ≡ 1 → RefusedAt known config asked err
+  pub ends : (((status ≡ 0) ⊎ (status ≡ 1)) × Says out out' err err') ⊎ (EndedAt known config asked out out' err err' status × (status ≢ 0) × (status ≢ 1))
+
+-- the node with this entry was reported: that there is none, or what is wanted of it
+abbrev pub IsToldAt : Option FileMap → Config → Entry → Wanted → Paper → Paper → Paper → Paper → ℕ → Type 0
+IsToldAt known config entry asked out out' err err' status = MatchOption (node_in config entry)
+    (IsEnded 2 (Prints err err' (no_node_line entry) × (out' ≡ out)) out' err err' status)
+    (λ node. IsNodeTold known config.env node asked out out' err err' status)
 
 -- the fault of a text was reported
-pub record IsTextFaultTold (text : List ℕ) (status : ℕ) : Type 0 where
+pub record IsTextFaultTold (text : List ℕ) (out out' err err' : Paper) (status : ℕ) : Type 0 where
   pub error : PipeError
   pub fault : IsFaultOf text error
-  pub told : IsTold (status_of error) status
+  pub told : IsUnloadedReported error out out' err err' status
 
 -- one node of a text's pipeline was reported
-pub record IsOfNode (known : Option FileMap) (text : List ℕ) (entry : Entry) (status : ℕ) : Type 0 where
+pub record IsOfNode (known : Option FileMap) (text : List ℕ) (entry : Entry) (asked : Wanted) (out out' err err' : Paper) (status : ℕ) : Type 0 where
   pub config : Config
   pub is : IsConfigOf text config
-  pub told : IsToldAt known config entry status
+  pub told : IsToldAt known config entry asked out out' err err' status
 
 -- all nodes of a text's pipeline were reported
-pub record IsOfAll (known : Option FileMap) (text : List ℕ) (status : ℕ) : Type 0 where
+pub record IsOfAll (known : Option FileMap) (text : List ℕ) (asked : Wanted) (out out' err err' : Paper) (status : ℕ) : Type 0 where
   pub config : Config
   pub is : IsConfigOf text config
-  pub told : AreAllTold known config status
+  pub told : AreAllTold known config asked out out' err err' status
 
 -- one node of a text's pipeline was reported, or all where none is named
-abbrev pub IsPipelineTold : Option FileMap → List ℕ → Option Entry → ℕ → Type 0
-IsPipelineTold known text None status = IsTextFaultTold text status ⊎ IsOfAll known text status
-IsPipelineTold known text (Some entry) status = IsTextFaultTold text status ⊎ IsOfNode known text entry status
+abbrev pub IsPipelineTold : Option FileMap → List ℕ → Option Entry → Wanted → Paper → Paper → Paper → Paper → ℕ → Type 0
+IsPipelineTold known text None asked out out' err err' status =
+    IsTextFaultTold text out out' err err' status ⊎ IsOfAll known text asked out out' err err' status
+IsPipelineTold known text (Some entry) asked out out' err err' status =
+    IsTextFaultTold text out out' err err' status ⊎ IsOfNode known text entry asked out out' err err' status

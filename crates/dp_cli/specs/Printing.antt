@@ -39,3 +39,15 @@ abbrev pub IsEnded : ℕ → Type 0 → Paper → Paper → Paper → ℕ → Ty
 IsEnded status said out err err' ended =
     ((ended ≡ status) × said) ⊎ ((ended ≡ 3) × ((out.failed ≡ true) ⊎ (err'.failed ≡ true)))
     ⊎ ((ended ≡ 4) × (out.failed ≡ true) × TellsMemory err.bytes err'.bytes)
+
+-- a text was printed, and nothing was reported
+pub record Says (out out' err err' : Paper) : Type 0 where
+  pub text : List ℕ
+  pub printed : Prints out out' text
+  pub silent : err' ≡ err
+
+-- a fault was reported in words of its own, and nothing was printed
+pub record Reports (out out' err err' : Paper) : Type 0 where
+  pub text : List ℕ
+  pub reported : Prints err err' text
+  pub silent : out' ≡ out

@@ -1,8 +1,48 @@
 //! A command of the command line, with its words.
 
+ghost use Rattle.std.specs.Prelude.{◌≡◌};
+ghost use Rattle.dp_cli.specs.Replacing.{is_on_error};
+
 use crate::run::progress::ToStderr;
 use clap::ArgMatches;
 use std::alloc::Global;
+use std::io::{self, Print, Result, Stderr, Stdin, Stdout, Write};
+
+/// The standard streams of the host.
+#[derive(Clone, Copy)]
+pub struct Streams {
+    /// Standard input.
+    pub input: Stdin,
+    /// Standard output.
+    pub output: Stdout,
+    /// Standard error.
+    pub error: Stderr,
+}
+
+/// Where a command prints: standard output, or standard error if a capture goes to standard output.
+#[derive(Drop)]
+pub enum Paper<'a, R> {
+    /// Standard output.
+    Output(io::Printer<'a, R>),
+    /// Standard error.
+    Error(ToStderr),
+}
+
+impl<R: Print> Write for Paper<'_, R> {
+    fn write(&mut self, buf: &[u8]) -> Result<usize> {
+        match self {
+            Paper::Output(out) => out.write(buf),
+            Paper::Error(err) => err.write(buf),
+        }
+    }
+
+    fn flush(&mut self) -> Result<()> {
+        match self {
+            Paper::Output(out) => out.flush(),
+            Paper::Error(err) => err.flush(),
+        }
+    }
+}
 
 /// A command, its words, and the host on which it runs.
 #[derive(Drop)]
@@ -15,11 +55,47 @@ pub struct Call<'a, 'w, R> {
     pub words: &'a ArgMatches<'w>,
     /// Where progress is reported.
     pub to: ToStderr,
+    /// Standard input and standard output, for captures.
+    pub streams: Streams,
+    /// Whether a capture goes to standard output, so that everything is printed on standard error.
+    pub gives_stdout: bool,
 }
 
 impl<'w, R> Call<'_, 'w, R> {
     /// A required operand.
     pub fn word(&self, name: &str) -> &'w str {
         self.words.get_str(name).unwrap_or("")
+    }
+
+    /// Whether a JSON document is printed instead of text.
+    pub fn is_json(&self) -> bool {
+        self.words.get_flag("json")
+    }
+
+    /// The same command, whose capture goes to standard output if so.
+    pub fn giving_stdout(&self, gives_stdout: bool) -> Call<'_, 'w, R>
+        ensures { result.gives_stdout ≡ gives_stdout }
+    {
+        Call {
+            rt: self.rt,
+            alloc: self.alloc,
+            words: self.words,
+            to: self.to,
+            streams: self.streams,
+            gives_stdout,
+        }
+    }
+}
+
+impl<R: Print> Call<'_, '_, R> {
+    /// Where the command prints.
+    pub fn paper(&self) -> Paper<'_, R>
+        ensures { is_on_error result ≡ self.now.gives_stdout }
+    {
+        if self.gives_stdout {
+            Paper::Error(self.to)
+        } else {
+            Paper::Output(io::writer(self.rt))
+        }
     }
 }

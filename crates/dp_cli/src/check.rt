@@ -4,6 +4,7 @@ ghost use Rattle.dp_cli.specs.Pipelines as spec;
 ghost use Rattle.dp_cli.specs.Printing.{paper};
 
 pub mod files;
+pub mod sizes;
 
 use crate::fault::{DONE, status_unwritten};
 use crate::printer::Printer;

@@ -1,21 +1,26 @@
 //! `dpv run --counts`: prints the programs of a run as in their sources, with how often each instruction ran.
 
-ghost use Rattle.std.specs.Prelude.{◌≡◌, ◌≤◌, OnOk, length, map};
+ghost use Rattle.std.specs.Prelude.{◌≡◌, OnOk, false, length, map, true};
 ghost use Rattle.std.specs.Io.KnownBytes.{Appends};
 ghost use Rattle.dp_engine.specs.Engines.{IsAscending};
-ghost use Rattle.dp_cli.specs.Counting.{counts_text};
-ghost use Rattle.dp_cli.specs.Printing.{paper};
+ghost use Rattle.dp_pipe.specs.Devices.{seen};
+ghost use Rattle.dp_cli.specs.Counting.{AreCounts, AreCountsEnded, IsReportedWithCounts, counts_text};
+ghost use Rattle.dp_cli.specs.CountedRuns.{IsCountedRun};
+ghost use Rattle.dp_cli.specs.Documents.{IsRunDocumented};
+ghost use Rattle.dp_cli.specs.Printing.{Notes, paper};
 ghost use Rattle.dp_cli.specs.Run.{IsRunTold};
 
 pub mod programs;
 
 use crate::call::Call;
 use crate::counting::programs::{ProgramText, sources_of};
+use crate::documents::runs::document_settled;
 use crate::fault::{MEMORY, status_unwritten};
 use crate::printer::Printer;
+use crate::run::closing::Settled;
 use crate::run::inlet::Inlet;
 use crate::run::outlet::Outlet;
-use crate::run::{Ended, Reporting, run_line};
+use crate::run::{Ended, Reporting, run_line, run_to_end};
 use dp_counts::{
     Counts, Levels, NodeSource, print_pools, print_programs, print_rings, print_tables,
 };
@@ -77,6 +82,30 @@ pub fn counting_in<'a, R>(
     }
 }
 
+/// Runs a pipeline from captures to captures, and counts its steps if requested.
+fn run_watching<K: Known, I: Inlet, O: Outlet>(
+    alloc: Global,
+    pipeline: Pipeline,
+    ins: &mut [I],
+    outs: &mut [O],
+    pattern: Vec<u64>,
+    counting: &mut Option<Counting<'_>>,
+) -> Settled
+    requires readers { length ins.old ≡ length pipeline.env.ports }
+    requires writers { length outs.old ≡ length pipeline.env.ports }
+    requires pattern { IsAscending 0 pattern.items }
+    ensures { IsCountedRun counting.old counting.new pipeline pattern.items (map (seen I.remaining I.calls) ins.old)
+        (map (seen I.remaining I.calls) ins.new) (map (seen O.contents O.calls) outs.old) (map O.taken outs.new) result }
+{
+    match counting {
+        None => run_to_end::<K, Silent, I, O>(alloc, pipeline, ins, outs, pattern, &mut Silent),
+        Some(counting) => {
+            let counts = &mut counting.counts;
+            run_to_end::<K, Counts, I, O>(alloc, pipeline, ins, outs, pattern, counts)
+        }
+    }
+}
+
 /// Runs a pipeline as [`run_line`] does, and counts its steps if requested.
 pub fn run_counted<K: Known, I: Inlet, O: Outlet, P: Write, E: Write>(
     alloc: Global,
@@ -92,8 +121,9 @@ pub fn run_counted<K: Known, I: Inlet, O: Outlet, P: Write, E: Write>(
     requires readers { length ins.old ≡ length pipeline.env.ports }
     requires writers { length outs.old ≡ length pipeline.env.ports }
     requires pattern { IsAscending 0 pattern.items }
-    requires few { length outs.old ≤ 8 }
-    ensures { IsRunTold reporting.entry.names.now (map I.saw ins.new) reporting.entry.counts (paper P.contents out.old) (paper P.contents out.new)
+    ensures run { IsCountedRun counting.old counting.new pipeline pattern.items (map (seen I.remaining I.calls) ins.old)
+        (map (seen I.remaining I.calls) ins.new) (map (seen O.contents O.calls) outs.old) (map O.taken outs.new) result.settled }
+    ensures told { IsRunTold reporting.entry.names.now (map I.saw ins.new) reporting.entry.counts (paper P.contents out.old) (paper P.contents out.new)
         (paper E.contents err.old) (paper E.contents err.new) result.settled result.status }
 {
     match counting {
@@ -122,25 +152,105 @@ pub fn run_counted<K: Known, I: Inlet, O: Outlet, P: Write, E: Write>(
     }
 }
 
-/// Prints the counts, if requested, after a run that ended with this status, except for one that found no memory. Returns the status: that of the
-/// run, or that of a write that failed.
-pub fn report_counts<O: Write, E: Write>(
+/// Runs a pipeline as [`run_counted`] does, and prints its document in place of its report and its counts.
+pub fn run_documented<K: Known, I: Inlet, O: Outlet, P: Write, E: Write>(
+    alloc: Global,
+    pipeline: Pipeline,
+    ins: &mut [I],
+    outs: &mut [O],
+    pattern: Vec<u64>,
+    counting: &mut Option<Counting<'_>>,
+    env: &Env,
+    reporting: Reporting<'_>,
+    out: &mut Printer<P>,
+    err: &mut Printer<E>,
+) -> Ended
+    requires readers { length ins.old ≡ length pipeline.env.ports }
+    requires writers { length outs.old ≡ length pipeline.env.ports }
+    requires pattern { IsAscending 0 pattern.items }
+    ensures run { IsCountedRun counting.old counting.new pipeline pattern.items (map (seen I.remaining I.calls) ins.old)
+        (map (seen I.remaining I.calls) ins.new) (map (seen O.contents O.calls) outs.old) (map O.taken outs.new) result.settled }
+    ensures told { IsRunDocumented reporting.entry.names.now (map I.saw ins.new) reporting.entry.counts counting.new env.now
+        (paper P.contents out.old) (paper P.contents out.new) (paper E.contents err.old) (paper E.contents err.new) result.settled result.status }
+{
+    let settled = run_watching::<K, I, O>(alloc, pipeline, ins, outs, pattern, counting);
+    let status = document_settled(alloc, &settled, ins, counting, env, reporting, out, err);
+    Ended { status, settled }
+}
+
+/// Prints the counts, if requested, after a run that ended with this status, except for one that found no memory.
+fn print_requested<O: Write>(
+    counting: &Option<Counting<'_>>,
+    env: &Env,
+    status: u8,
+    out: &mut Printer<O>,
+) -> io::Result<()>
+    ensures printed { OnOk result (AreCounts counting.now env.now status (paper O.contents out.old) (paper O.contents out.new)) }
+    ensures noted { Notes out.old out.new result }
+{
+    match counting {
+        Some(counting) if status != MEMORY => {
+            let levels = counting.counts.levels();
+            let sources = counting.sources.as_slice();
+            let written = print_counts(&counting.counts, &levels, env, sources, &mut out.to);
+            out.note(written)
+        }
+        _ => Ok(()),
+    }
+}
+
+/// Prints the counts, if requested, after a run that ended with this status. Returns the status: that of the run, or that of a text that could not be
+/// written.
+fn report_counts<O: Write, E: Write>(
     counting: &Option<Counting<'_>>,
     env: &Env,
     status: u8,
     out: &mut Printer<O>,
     err: &mut Printer<E>,
-) -> u8 {
-    let Some(counting) = counting else {
-        return status;
-    };
-    if status == MEMORY {
-        return status;
-    }
-    let levels = counting.counts.levels();
-    let sources = counting.sources.as_slice();
-    match print_counts(&counting.counts, &levels, env, sources, &mut out.to) {
+) -> u8
+    ensures { AreCountsEnded counting.now env.now status (paper O.contents out.old) (paper O.contents out.new) (paper E.contents err.old)
+        (paper E.contents err.new) result }
+{
+    match print_requested(counting, env, status, out) {
         Ok(()) => status,
         Err(error) => status_unwritten(error, err),
     }
+}
+
+/// Runs a pipeline, counts its steps if requested, and reports the run with its counts: as one document, or as text. The status is that of the run, or
+/// that of a write that failed.
+pub fn run_and_report<K: Known, I: Inlet, O: Outlet, P: Write, E: Write>(
+    alloc: Global,
+    pipeline: Pipeline,
+    ins: &mut [I],
+    outs: &mut [O],
+    pattern: Vec<u64>,
+    counting: &mut Option<Counting<'_>>,
+    env: &Env,
+    is_json: bool,
+    reporting: Reporting<'_>,
+    out: &mut Printer<P>,
+    err: &mut Printer<E>,
+) -> Ended
+    requires readers { length ins.old ≡ length pipeline.env.ports }
+    requires writers { length outs.old ≡ length pipeline.env.ports }
+    requires pattern { IsAscending 0 pattern.items }
+    ensures run { IsCountedRun counting.old counting.new pipeline pattern.items (map (seen I.remaining I.calls) ins.old)
+        (map (seen I.remaining I.calls) ins.new) (map (seen O.contents O.calls) outs.old) (map O.taken outs.new) result.settled }
+    ensures text { is_json ≡ false → IsReportedWithCounts reporting.entry.names.now (map I.saw ins.new) reporting.entry.counts counting.new env.now
+        (paper P.contents out.old) (paper P.contents out.new) (paper E.contents err.old) (paper E.contents err.new) result.settled result.status }
+    ensures document { is_json ≡ true → IsRunDocumented reporting.entry.names.now (map I.saw ins.new) reporting.entry.counts counting.new env.now
+        (paper P.contents out.old) (paper P.contents out.new) (paper E.contents err.old) (paper E.contents err.new) result.settled result.status }
+{
+    if is_json {
+        return run_documented::<K, I, O, P, E>(
+            alloc, pipeline, ins, outs, pattern, counting, env, reporting, out, err,
+        );
+    }
+    let ended = run_counted::<K, I, O, P, E>(
+        alloc, pipeline, ins, outs, pattern, counting, reporting, out, err,
+    );
+    let status = report_counts(counting, env, ended.status, out, err);
+    let Ended { status: _, settled } = ended;
+    Ended { status, settled }
 }

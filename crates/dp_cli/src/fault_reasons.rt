@@ -1,9 +1,11 @@
 //! Why a file, a capture or a pipeline is at fault, in words.
 
-ghost use Rattle.std.specs.Prelude.{◌≡◌, IfSome, OnOk, option_map};
+ghost use Rattle.std.specs.Prelude.{◌≡◌, IfSome, OnOk, Some, option_map};
 ghost use Rattle.std.specs.Io.KnownBytes.{Appends};
-ghost use Rattle.dp_cli.specs.FaultReasons.{file_line, finding_lines, reason_of};
+ghost use Rattle.dp_cli.specs.FaultReasons.{cure_of, file_line, finding_lines, help_line, reason_line, reason_of};
+ghost use Rattle.dp_cli.specs.LinkTypes.{cure_text};
 
+use crate::run::link_type::LinkType;
 use dp_lang::Cause;
 use dp_pcap::PcapError;
 use dp_pipe::{PipeError, RouteError};
@@ -25,6 +27,8 @@ pub enum Reason {
     Capture(PcapError),
     /// The input has another format, which can be converted to a capture.
     IsPcapng,
+    /// The link type of the input, which is not read.
+    Link(LinkType),
     /// What is wrong with the pipeline.
     Pipeline(PipeError),
 }
@@ -45,6 +49,7 @@ impl fmt::Display for Reason {
                 f,
                 "it is a pcapng file, of which editcap -F pcap IN OUT makes a capture"
             ),
+            Reason::Link(link) => write!(f, "{link}"),
             Reason::Pipeline(error) => PipeWords(*error).fmt(f),
         }
     }
@@ -130,13 +135,37 @@ fn write_file<W: Write>(to: &mut W, file: Option<&str>) -> io::Result<()>
     }
 }
 
+/// Writes the line with what helps for a link type.
+fn write_link_cure<W: Write>(to: &mut W, link: LinkType) -> io::Result<()>
+    ensures { OnOk result (Appends (W.contents to.old) (W.contents to.new) (help_line (Some (cure_text link)))) }
+{
+    let cure = link.cure();
+    writeln!(to, "  help: {cure}")
+}
+
+/// Writes the line with what helps, if there is one.
+fn write_cure<W: Write>(to: &mut W, reason: Reason) -> io::Result<()>
+    ensures { OnOk result (Appends (W.contents to.old) (W.contents to.new) (help_line (cure_of reason))) }
+{
+    match reason {
+        Reason::Link(link) => write_link_cure(to, link),
+        _ => Ok(()),
+    }
+}
+
+/// Writes the line with a reason.
+fn write_reason<W: Write>(to: &mut W, reason: Reason) -> io::Result<()>
+    ensures { OnOk result (IfSome (reason_line reason) (Appends (W.contents to.old) (W.contents to.new))) }
+{
+    write!(to, "  because: ")?;
+    writeln!(to, "{reason}")
+}
+
 /// Writes the lines that follow the line of a fault.
-#[tactic(auto, using(crate::proofs::Behind::told_behind_both))]
 pub fn write_finding<W: Write>(to: &mut W, finding: Finding<'_>) -> io::Result<()>
     ensures { OnOk result (IfSome (finding_lines finding.entry) (Appends (W.contents to.old) (W.contents to.new))) }
 {
     write_file(to, finding.file)?;
-    let reason = finding.reason;
-    write!(to, "  because: ")?;
-    writeln!(to, "{reason}")
+    write_reason(to, finding.reason)?;
+    write_cure(to, finding.reason)
 }

@@ -1,20 +1,20 @@
 //! `dpv infer`: the certificate of a program of a pipeline.
 
-ghost use Rattle.std.specs.Prelude.{◌≡◌, IfSome, IfNone, MatchOption, option_map};
-ghost use Rattle.std.specs.Io.KnownBytes.{Appends};
-ghost use Rattle.dp_cert.specs.Spelling.{Certificate, spelling};
-ghost use Rattle.dp_check.specs.Faults.{IsWith};
+ghost use Rattle.std.specs.Prelude.{◌≡◌, option_map};
+ghost use Rattle.dp_cli.specs.Inferring.{IsNodeInferred};
 ghost use Rattle.dp_cli.specs.Pipelines as spec;
-ghost use Rattle.dp_cli.specs.Told.{IsTold, TellsMemory, no_node_line};
+ghost use Rattle.dp_cli.specs.Printing.{paper, IsEnded, Prints};
+ghost use Rattle.dp_cli.specs.Told.{no_node_line};
 
 pub mod certifying;
 pub mod files;
 
-use crate::fault::{DONE, MEMORY, USAGE, tell_no_node};
+use crate::fault::{FAULT, USAGE};
+use crate::printer::Printer;
 use certifying::print_cert;
 use dp_check::Checked;
 use dp_model::Entry;
-use dp_pipe::Pipeline;
+use dp_pipe::{NodeName, Pipeline};
 use std::alloc::Global;
 use std::io::Write;
 
@@ -32,24 +32,32 @@ fn node_at(pipeline: &Pipeline, which: Entry) -> Option<&Checked>
     }
 }
 
-/// Prints the certificate of a node, and returns the status: 2, with a report, where the pipeline has no such node.
+/// Reports that a pipeline has no such node, and returns the status.
+fn report_no_node<O: Write, E: Write>(node: Entry, out: &mut Printer<O>, err: &mut Printer<E>) -> u8
+    ensures { IsEnded USAGE (Prints (paper E.contents err.old) (paper E.contents err.new) (no_node_line node)
+        × (paper O.contents out.new ≡ paper O.contents out.old)) (paper O.contents out.new) (paper E.contents err.old) (paper E.contents err.new) result }
+{
+    let name = NodeName(node);
+    match err.line(format_args!("error: the pipeline has no {name}")) {
+        Ok(()) => USAGE,
+        Err(_) => FAULT,
+    }
+}
+
+/// Prints the certificate of a node, and returns the status: 2, with a report, if the pipeline has no such node; 4 for lack of memory; and 3 or 4 if a
+/// text could not be written.
 pub fn infer_line<O: Write, E: Write>(
     alloc: Global,
     pipeline: &Pipeline,
     which: Entry,
-    out: &mut O,
-    err: &mut E,
+    out: &mut Printer<O>,
+    err: &mut Printer<E>,
 ) -> u8
-    ensures status { MatchOption (spec.node_at pipeline.now which) (IsTold USAGE result) (λ _. IsTold DONE result) }
-    ensures printed { result ≡ DONE → IfSome (spec.node_at pipeline.now which) (λ node. (cert : Certificate) → IsWith node cert →
-        Appends (O.contents out.old) (O.contents out.new) (spelling cert)) }
-    ensures silent { result ≡ DONE → err.new ≡ err.old }
-    ensures nothing { IfNone (spec.node_at pipeline.now which) (out.new ≡ out.old) }
-    ensures missing { result ≡ USAGE → Appends (E.contents err.old) (E.contents err.new) (no_node_line which) }
-    ensures memory { result ≡ MEMORY → TellsMemory (E.contents err.old) (E.contents err.new) }
+    ensures { IsNodeInferred pipeline.now which (paper O.contents out.old) (paper O.contents out.new) (paper E.contents err.old)
+        (paper E.contents err.new) result }
 {
     match node_at(pipeline, which) {
         Some(node) => print_cert(alloc, node.cert(), out, err),
-        None => tell_no_node(which, err),
+        None => report_no_node(which, out, err),
     }
 }

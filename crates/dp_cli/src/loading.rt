@@ -9,7 +9,9 @@ ghost use Rattle.dp_cli.specs.Told.{refusal_line, status_of_fault};
 use crate::call::Call;
 use crate::counting::programs::{ProgramText, programs_of};
 use crate::details::write_details;
-use crate::fault::{FAULT, Fault, REFUSED, print_fault, status_unwritten, tell_fault};
+use crate::documents::end_with;
+use crate::documents::loads::load_or_document;
+use crate::fault::{FAULT, Fault, REFUSED, print_fault, status_unwritten};
 use crate::files;
 use crate::host_files::HostFiles;
 use crate::printer::Printer;
@@ -17,7 +19,7 @@ use crate::run::same_file::{ReadFile, note_read};
 use crate::single_port::Naming;
 use dp_pipe::{Files, How, PipeError, Pipeline, load};
 use std::alloc::{AllocError, Global};
-use std::io::{self, Write};
+use std::io::Write;
 use std::rt;
 
 /// Why a pipeline was not loaded, and the status once that is reported.
@@ -39,7 +41,7 @@ fn fault_of(error: PipeError) -> Option<Fault<'static>>
 }
 
 /// Prints a fault, and answers the status.
-fn report_fault<O: Write, E: Write>(
+pub fn report_fault<O: Write, E: Write>(
     fault: Fault<'_>,
     out: &mut Printer<O>,
     err: &mut Printer<E>,
@@ -68,8 +70,8 @@ fn report_refusal<O: Write, E: Write>(
     }
 }
 
-/// Prints why a pipeline is not loaded, and answers the status.
-fn report_unloaded<O: Write, E: Write>(
+/// Prints why a pipeline is not loaded, or a node not judged, and answers the status.
+pub fn report_unloaded<O: Write, E: Write>(
     error: PipeError,
     out: &mut Printer<O>,
     err: &mut Printer<E>,
@@ -139,14 +141,30 @@ pub fn load_line<F: Files, O: Write, E: Write>(
 }
 
 /// The bytes of the file that a command is about; or the status, after reporting why it cannot be read.
-pub fn bytes_of<R: rt::Files, E: Write>(
+pub fn bytes_of<R: rt::Files + Print, E: Write>(
     call: &Call<'_, '_, R>,
     err: &mut E,
 ) -> Result<Vec<u8>, u8> {
     let file = call.word("FILE");
     match files::read(call.rt, call.alloc, file) {
         Ok(bytes) => Ok(bytes),
-        Err(fault) => Err(tell_fault(err, fault.of_file(file))),
+        Err(fault) => Err(end_with(call, fault.of_file(file), err)),
+    }
+}
+
+/// Loads the pipeline of a text and the files that it names. Reports the first fault as text, or as a document under `--json`.
+fn load_as<R: rt::Files + Print, F: Files, E: Write>(
+    call: &Call<'_, '_, R>,
+    text: &[u8],
+    files: &mut F,
+    how: How,
+    err: &mut Printer<E>,
+) -> Result<Pipeline, Unloaded> {
+    let mut out = Printer::new(call.paper());
+    if call.is_json() {
+        load_or_document(call.alloc, text, files, how, &mut out, err)
+    } else {
+        load_or_report(call.alloc, text, files, how, &mut out, err)
     }
 }
 
@@ -170,9 +188,8 @@ fn load_keeping<R: rt::Files + Print, E: Write>(
 ) -> Result<Loaded, u8> {
     let mut files = HostFiles::new(call.rt, call.alloc, naming);
     files.keep(is_kept);
-    let mut out = Printer::new(io::writer(call.rt));
     let mut told = Printer::new(err);
-    let loaded = load_or_report(call.alloc, text, &mut files, how, &mut out, &mut told);
+    let loaded = load_as(call, text, &mut files, how, &mut told);
     let err = told.into_inner();
     match loaded {
         Ok(pipeline) => match programs_of(call.alloc, &pipeline, text, files.kept(), naming) {
@@ -181,11 +198,11 @@ fn load_keeping<R: rt::Files + Print, E: Write>(
                 programs,
                 reads: files.into_reads(),
             }),
-            Err(AllocError) => Err(tell_fault(err, Fault::Memory)),
+            Err(AllocError) => Err(end_with(call, Fault::Memory, err)),
         },
         Err(Unloaded { status, error }) => {
             let status = files.tell_unfetched(status, err);
-            if status == FAULT {
+            if status == FAULT || status == REFUSED {
                 // If these lines cannot be written, the status is not changed.
                 let _written = write_details(call, naming, &files.into_reads(), text, error, err);
             }
@@ -225,7 +242,7 @@ pub fn load_with_reads<R: rt::Files + Print, E: Write>(
     let mut loaded = load_text(call, text.as_slice(), Naming::AsTheyStand, how, err)?;
     match note_read(call.rt, call.alloc, &mut loaded.reads, call.word("FILE")) {
         Ok(()) => Ok(loaded),
-        Err(fault) => Err(tell_fault(err, fault)),
+        Err(fault) => Err(end_with(call, fault, err)),
     }
 }
 

@@ -55,6 +55,19 @@ impl<W: Write> Printer<W> {
         self.note(written)
     }
 
+    /// Prints a text as it is.
+    ///
+    /// # Errors
+    ///
+    /// The writer's.
+    pub fn text(&mut self, text: &str) -> Result<()>
+        ensures printed { OnOk result (Appends (W.contents self.old.to) (W.contents self.new.to) text.now) }
+        ensures noted { Notes self.old self.new result }
+    {
+        let written = self.to.write_all(text.as_bytes());
+        self.note(written)
+    }
+
     /// Remembers a result of the writer.
     pub(crate) fn note(&mut self, written: Result<()>) -> Result<()>
         ensures same { result ≡ written }

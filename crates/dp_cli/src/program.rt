@@ -5,7 +5,7 @@ ghost use Rattle.std.specs.Io.KnownBytes.{Appends};
 ghost use Rattle.std.specs.declared.io.ErrorKind.TheVariants.{OutOfMemory};
 ghost use Rattle.dp_cli.specs.Told.{IsTold, unread_text};
 
-use crate::call::Call;
+use crate::call::{Call, Streams};
 use crate::check::files::check_file;
 use crate::compile::files::compile_file;
 use crate::fault::{DONE, FAULT, Fault, Status, USAGE, tell_fault, tell_usage};
@@ -15,14 +15,13 @@ use crate::mem::files::run_script;
 use crate::run::files::{run_file, run_one_port};
 use crate::run::progress::ToStderr;
 use crate::trace::files::trace_file;
-use crate::verdicts::Wanted;
-use crate::verdicts::files::{shown_in, tell_file, tell_one};
+use crate::verdicts::files::{explain_file, explain_one, show_file, shown_in, tell_one};
 use clap::ArgMatches;
 use clap::error::ErrorKind;
 use dp_engine::{Known, Nothing};
 use dp_usage::command;
 use std::alloc::{AllocError, Global};
-use std::io::{self, Stderr, Write};
+use std::io::{self, Write};
 use std::rt::{Env, Files};
 
 /// Reports an error of the command line, or prints the requested help, and returns the status.
@@ -48,9 +47,9 @@ fn judge_programs<R: Files + Print, E: Write>(
         "compile" => compile_file(call, err),
         "infer" => infer_file(call, err),
         "infer-one" => infer_program(call, err),
-        "explain" => tell_file(call, Wanted::Reason, err),
-        "explain-one" => tell_one(call, Wanted::Reason, err),
-        "show" => tell_file(call, shown_in(call.words), err),
+        "explain" => explain_file(call, err),
+        "explain-one" => explain_one(call, err),
+        "show" => show_file(call, err),
         "show-one" => tell_one(call, shown_in(call.words), err),
         _ => Err(USAGE),
     }
@@ -77,7 +76,7 @@ fn run_matches<'a, K: Known, R: Files + Print, E: Write>(
     rt: &'a R,
     alloc: Global,
     matches: &'a ArgMatches<'_>,
-    to: ToStderr,
+    streams: Streams,
     reports_interpreted: bool,
     err: &mut E,
 ) -> u8 {
@@ -88,7 +87,9 @@ fn run_matches<'a, K: Known, R: Files + Print, E: Write>(
         rt,
         alloc,
         words,
-        to,
+        to: ToStderr(streams.error),
+        streams,
+        gives_stdout: false,
     };
     match run_command::<K, R, E>(&call, name, reports_interpreted, err) {
         Ok(status) | Err(status) => status,
@@ -118,7 +119,7 @@ fn unread_words<E: Write>(kind: io::ErrorKind, err: &mut E) -> Result<u8, AllocE
 /// `AllocError` if there is no memory for the words or for the commands that they are compared with.
 fn run_words<K: Known, R: Env + AllocGlobal + Files + Print + Eprint, E: Write>(
     rt: &R,
-    to: ToStderr,
+    streams: Streams,
     reports_interpreted: bool,
     err: &mut E,
 ) -> Result<u8, AllocError> {
@@ -137,7 +138,7 @@ fn run_words<K: Known, R: Env + AllocGlobal + Files + Print + Eprint, E: Write>(
             rt,
             alloc,
             &matches,
-            to,
+            streams,
             reports_interpreted,
             err,
         )),
@@ -148,14 +149,14 @@ fn run_words<K: Known, R: Env + AllocGlobal + Files + Print + Eprint, E: Write>(
 /// Runs the command of the host's command line over the host's files, with these programs compiled, and returns the status.
 fn run_with<K: Known, R: Env + AllocGlobal + Files + Print + Eprint>(
     rt: &R,
-    stderr: Stderr,
+    streams: Streams,
     reports_interpreted: bool,
 ) -> u8 {
-    let mut err = io::writer(&stderr);
+    let mut err = io::writer(&streams.error);
     let Ok(_streams) = fill_streams(rt) else {
         return tell_fault(&mut err, Fault::Memory);
     };
-    match run_words::<K, R, _>(rt, ToStderr(stderr), reports_interpreted, &mut err) {
+    match run_words::<K, R, _>(rt, streams, reports_interpreted, &mut err) {
         Ok(status) => status,
         Err(AllocError) => tell_fault(&mut err, Fault::Memory),
     }
@@ -164,16 +165,16 @@ fn run_with<K: Known, R: Env + AllocGlobal + Files + Print + Eprint>(
 /// Runs the command of the host's command line over the host's files, and returns the status.
 pub fn run_command_line<R: Env + AllocGlobal + Files + Print + Eprint>(
     rt: &R,
-    stderr: Stderr,
+    streams: Streams,
 ) -> u8 {
-    run_with::<Nothing, R>(rt, stderr, false)
+    run_with::<Nothing, R>(rt, streams, false)
 }
 
 /// Runs the command of the host's command line, as [`run_command_line`] does, and returns the status. Programs among `K` run as machine code; for a
 /// run, each program that is not among them is reported.
 pub fn run_compiled<K: Known, R: Env + AllocGlobal + Files + Print + Eprint>(
     rt: &R,
-    stderr: Stderr,
+    streams: Streams,
 ) -> u8 {
-    run_with::<K, R>(rt, stderr, true)
+    run_with::<K, R>(rt, streams, true)
 }

@@ -16,9 +16,12 @@ pub mod files;
 pub mod findings;
 pub mod guarded;
 pub mod inlet;
+pub mod input_file;
+pub mod link_type;
 pub mod outlet;
 pub mod output_file;
 pub mod progress;
+pub mod replaced;
 pub mod report;
 pub mod same_file;
 pub mod truncated;
@@ -97,7 +100,7 @@ fn print_answer<O: Write>(answer: &Result<Report, RunFault>, out: &mut Printer<O
 }
 
 /// The cause for which a run stopped, if it did.
-fn stop_of(answer: &Result<Report, RunFault>) -> Result<(), RunCause>
+pub(crate) fn stop_of(answer: &Result<Report, RunFault>) -> Result<(), RunCause>
     ensures { result ≡ answer_of answer.now }
 {
     match answer {
@@ -152,8 +155,16 @@ fn report_run<O: Write, E: Write>(
     }
 }
 
+/// The number of ports of a pipeline, at most eight.
+fn count_ports(pipeline: &Pipeline) -> usize
+    ensures count { result ≡ length pipeline.now.env.ports }
+    ensures few { result ≤ 8 }
+{
+    pipeline.env().ports().len()
+}
+
 /// Runs a pipeline from captures to captures under a watcher, and then writes out the bytes that its outputs hold back.
-fn run_to_end<K: Known, V: Watch, I: Inlet, O: Outlet>(
+pub(crate) fn run_to_end<K: Known, V: Watch, I: Inlet, O: Outlet>(
     alloc: Global,
     pipeline: Pipeline,
     ins: &mut [I],
@@ -164,10 +175,11 @@ fn run_to_end<K: Known, V: Watch, I: Inlet, O: Outlet>(
     requires readers { length ins.old ≡ length pipeline.env.ports }
     requires writers { length outs.old ≡ length pipeline.env.ports }
     requires pattern { IsAscending 0 pattern.items }
-    requires few { length outs.old ≤ 8 }
     ensures { spec.IsRun V.sees watch.old watch.new pipeline pattern.items (map (seen I.remaining I.calls) ins.old) (map (seen I.remaining I.calls) ins.new)
         (map (seen O.contents O.calls) outs.old) (map O.taken outs.new) result }
 {
+    // So `settle` has at most eight outputs.
+    let _ports = count_ports(&pipeline);
     let answer = run_watched::<K, I, O, V>(alloc, pipeline, ins, outs, pattern, watch);
     settle(outs, answer)
 }
@@ -188,7 +200,11 @@ pub fn found_of<'a, I: Inlet>(
 }
 
 /// Prints the number of records that the run processed for each port, if requested. If that cannot be written, the rest is still printed.
-fn print_totals<E: Write>(is_told: bool, answer: &Result<Report, RunFault>, err: &mut Printer<E>)
+pub(crate) fn print_totals<E: Write>(
+    is_told: bool,
+    answer: &Result<Report, RunFault>,
+    err: &mut Printer<E>,
+)
     ensures { spec.AreTotals is_told answer.now (paper E.contents err.old) (paper E.contents err.new) }
 {
     if is_told {
@@ -216,7 +232,7 @@ pub struct Ended {
 }
 
 /// Reports a run with this result: prints the records of each port, if requested, the report, and why the run stopped, if it did. Returns the status.
-fn report_settled<I: Inlet, P: Write, E: Write>(
+pub(crate) fn report_settled<I: Inlet, P: Write, E: Write>(
     settled: &Settled,
     ins: &[I],
     reporting: Reporting<'_>,
@@ -251,7 +267,6 @@ pub fn run_line<K: Known, V: Watch, I: Inlet, O: Outlet, P: Write, E: Write>(
     requires readers { length ins.old ≡ length pipeline.env.ports }
     requires writers { length outs.old ≡ length pipeline.env.ports }
     requires pattern { IsAscending 0 pattern.items }
-    requires few { length outs.old ≤ 8 }
     ensures run { spec.IsRun V.sees watch.old watch.new pipeline pattern.items (map (seen I.remaining I.calls) ins.old)
         (map (seen I.remaining I.calls) ins.new) (map (seen O.contents O.calls) outs.old) (map O.taken outs.new) result.settled }
     ensures told { spec.IsRunTold reporting.entry.names.now (map I.saw ins.new) reporting.entry.counts (paper P.contents out.old) (paper P.contents out.new)

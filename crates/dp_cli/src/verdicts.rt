@@ -1,53 +1,59 @@
 //! `dpv explain` and `dpv show`: the verdicts on the programs of a pipeline.
 
-ghost use Rattle.std.specs.Prelude.{◌≡◌, ◌⊎◌};
-ghost use Rattle.std.specs.Io.KnownBytes.{Appends};
-ghost use Rattle.dp_cli.specs.Judging.{asked_node, accepted_text, entry_at, IsNodeTold, EndedAt, AreAllTold, IsToldAt, IsPipelineTold};
-ghost use Rattle.dp_cli.specs.Told.{IsTold, TellsMemory};
+ghost use Rattle.std.specs.Prelude.{◌≡◌};
+ghost use Rattle.dp_cli.specs.Judging.{asked_node, accepted_text, entry_at, IsNodeTold, IsToldNth, AreAllTold, IsToldAt, IsPipelineTold};
+ghost use Rattle.dp_cli.specs.Printing.{IsEnded, Prints, paper};
+ghost use Rattle.dp_cli.specs.Told.{no_node_line};
 
+pub mod counted;
+pub mod draw;
 pub mod explain;
 pub mod files;
 pub mod judged;
+pub mod saying;
 pub mod show;
 pub mod verdict;
 
-use crate::fault::{DONE, MEMORY, REFUSED, tell_no_node, tell_unloaded};
+use crate::fault::{DONE, FAULT, REFUSED, USAGE};
+use crate::loading::report_unloaded;
+use crate::printer::Printer;
 use crate::verdicts::explain::explain;
 use crate::verdicts::judged::{Asked, asked_of, judge};
 use crate::verdicts::show::{Form, show};
 use dp_model::{Entry, Env};
-use dp_pipe::{Files, Survey, survey_of};
+use dp_pipe::{Files, NodeName, Survey, survey_of};
 use std::alloc::Global;
 use std::io::Write;
 
 /// What is printed of a program besides the verdict.
-#[derive(Clone, Copy, Debug, PartialEq, Eq)]
-pub enum Wanted {
+#[derive(Clone, Copy, Debug)]
+pub enum Wanted<'a> {
     /// Why it is refused, if it is.
     Reason,
     /// The whole program, with the facts known before each instruction.
-    Program(Form),
+    Program(Form<'a>),
 }
 
 /// Prints the verdict on a node's program with what is wanted, and returns the status: 1 where the program is refused.
+#[tactic(auto, using(crate::proofs::Endings::node_explained, crate::proofs::Endings::node_shown))]
 pub fn tell_node<F: Files, O: Write, E: Write>(
     alloc: Global,
     files: &mut F,
     env: &Env,
     asked: Asked<'_>,
-    wanted: Wanted,
-    out: &mut O,
-    err: &mut E,
+    wanted: Wanted<'_>,
+    out: &mut Printer<O>,
+    err: &mut Printer<E>,
 ) -> u8
-    ensures status { IsNodeTold (F.known files.old) env.now (asked_node asked.entry) result }
-    ensures printed { wanted ≡ Wanted.Reason → result ≡ DONE → Appends (O.contents out.old) (O.contents out.new) (accepted_text asked.entry.node) }
-    ensures silent { (result ≡ DONE) ⊎ (result ≡ REFUSED) → err.new ≡ err.old }
-    ensures memory { result ≡ MEMORY → TellsMemory (E.contents err.old) (E.contents err.new) }
+    ensures status { IsNodeTold (F.known files.old) env.now (asked_node asked.entry) wanted.entry (paper O.contents out.old) (paper O.contents out.new)
+        (paper E.contents err.old) (paper E.contents err.new) result }
+    ensures printed { wanted.entry ≡ Wanted.Reason → result ≡ DONE
+        → Prints (paper O.contents out.old) (paper O.contents out.new) (accepted_text asked.entry.node) }
     ensures stays { F.known files.new ≡ F.known files.old }
 {
     let judged = match judge(alloc, files, env, asked) {
         Ok(judged) => judged,
-        Err(error) => return tell_unloaded(error, out, err),
+        Err(error) => return report_unloaded(error, out, err),
     };
     match wanted {
         Wanted::Reason => explain(alloc, env, asked, &judged, out, err),
@@ -56,7 +62,7 @@ pub fn tell_node<F: Files, O: Write, E: Write>(
 }
 
 /// The nodes that a pipeline can have, by index: eight ports, then eight rings.
-fn entry_at(index: u8) -> Entry
+pub(crate) fn entry_at(index: u8) -> Entry
     ensures { result ≡ entry_at index }
 {
     if index < 8 {
@@ -67,20 +73,17 @@ fn entry_at(index: u8) -> Entry
 }
 
 /// Prints the verdict on the node with this index, and returns the status: 0 also where the pipeline has no such node.
-#[tactic(auto, using(crate::proofs::Endings::node_ends))]
 fn tell_nth<F: Files, O: Write, E: Write>(
     alloc: Global,
     files: &mut F,
     survey: &Survey,
     index: u8,
-    wanted: Wanted,
-    out: &mut O,
-    err: &mut E,
+    wanted: Wanted<'_>,
+    out: &mut Printer<O>,
+    err: &mut Printer<E>,
 ) -> u8
-    ensures verdict { EndedAt (F.known files.old) survey.now.config result index }
-    ensures ends { IsTold DONE result ⊎ (result ≡ REFUSED) }
-    ensures silent { (result ≡ DONE) ⊎ (result ≡ REFUSED) → err.new ≡ err.old }
-    ensures memory { result ≡ MEMORY → TellsMemory (E.contents err.old) (E.contents err.new) }
+    ensures verdict { IsToldNth (F.known files.old) survey.now.config index wanted.entry (paper O.contents out.old) (paper O.contents out.new)
+        (paper E.contents err.old) (paper E.contents err.new) result }
     ensures stays { F.known files.new ≡ F.known files.old }
 {
     match asked_of(survey, entry_at(index)) {
@@ -90,17 +93,17 @@ fn tell_nth<F: Files, O: Write, E: Write>(
 }
 
 /// Prints the verdict on each node of a pipeline; returns 1 where one is refused, unless a fault ends it before.
-fn tell_all<F: Files, O: Write, E: Write>(
+#[tactic(auto, using(crate::proofs::Telling::reached_none, crate::proofs::Telling::reached_more, crate::proofs::Telling::reached_stop))]
+pub fn tell_all<F: Files, O: Write, E: Write>(
     alloc: Global,
     files: &mut F,
     survey: &Survey,
-    wanted: Wanted,
-    out: &mut O,
-    err: &mut E,
+    wanted: Wanted<'_>,
+    out: &mut Printer<O>,
+    err: &mut Printer<E>,
 ) -> u8
-    ensures verdicts { AreAllTold (F.known files.old) survey.now.config result }
-    ensures silent { (result ≡ DONE) ⊎ (result ≡ REFUSED) → err.new ≡ err.old }
-    ensures memory { result ≡ MEMORY → TellsMemory (E.contents err.old) (E.contents err.new) }
+    ensures verdicts { AreAllTold (F.known files.old) survey.now.config wanted.entry (paper O.contents out.old) (paper O.contents out.new)
+        (paper E.contents err.old) (paper E.contents err.new) result }
     ensures stays { F.known files.new ≡ F.known files.old }
 {
     let mut worst = DONE;
@@ -115,46 +118,57 @@ fn tell_all<F: Files, O: Write, E: Write>(
     worst
 }
 
+/// Reports that a pipeline has no such node, and returns the status.
+fn report_no_node<O: Write, E: Write>(node: Entry, out: &mut Printer<O>, err: &mut Printer<E>) -> u8
+    ensures { IsEnded USAGE (Prints (paper E.contents err.old) (paper E.contents err.new) (no_node_line node)
+        × (paper O.contents out.new ≡ paper O.contents out.old)) (paper O.contents out.new) (paper E.contents err.old) (paper E.contents err.new) result }
+{
+    let name = NodeName(node);
+    match err.line(format_args!("error: the pipeline has no {name}")) {
+        Ok(()) => USAGE,
+        Err(_) => FAULT,
+    }
+}
+
 /// Prints the verdict on the node of a pipeline with this entry.
 fn tell_at<F: Files, O: Write, E: Write>(
     alloc: Global,
     files: &mut F,
     survey: &Survey,
     node: Entry,
-    wanted: Wanted,
-    out: &mut O,
-    err: &mut E,
+    wanted: Wanted<'_>,
+    out: &mut Printer<O>,
+    err: &mut Printer<E>,
 ) -> u8
-    ensures verdict { IsToldAt (F.known files.old) survey.now.config node result }
-    ensures silent { (result ≡ DONE) ⊎ (result ≡ REFUSED) → err.new ≡ err.old }
-    ensures memory { result ≡ MEMORY → TellsMemory (E.contents err.old) (E.contents err.new) }
+    ensures verdict { IsToldAt (F.known files.old) survey.now.config node wanted.entry (paper O.contents out.old) (paper O.contents out.new)
+        (paper E.contents err.old) (paper E.contents err.new) result }
     ensures stays { F.known files.new ≡ F.known files.old }
 {
     match asked_of(survey, node) {
         Some(asked) => tell_node(alloc, files, survey.env(), asked, wanted, out, err),
-        None => tell_no_node(node, err),
+        None => report_no_node(node, out, err),
     }
 }
 
 /// Prints the verdict on the nodes of a pipeline, or on the one that is named, with what is wanted, and returns the status: 1 where one is refused, 2
 /// where the pipeline has no such node.
+#[tactic(auto, using(crate::proofs::Endings::all_told, crate::proofs::Endings::one_told, crate::proofs::Endings::none_told))]
 pub fn tell_pipeline<F: Files, O: Write, E: Write>(
     alloc: Global,
     text: &[u8],
     files: &mut F,
     which: Option<Entry>,
-    wanted: Wanted,
-    out: &mut O,
-    err: &mut E,
+    wanted: Wanted<'_>,
+    out: &mut Printer<O>,
+    err: &mut Printer<E>,
 ) -> u8
-    ensures verdicts { IsPipelineTold (F.known files.old) text.now which result }
-    ensures silent { (result ≡ DONE) ⊎ (result ≡ REFUSED) → err.new ≡ err.old }
-    ensures memory { result ≡ MEMORY → TellsMemory (E.contents err.old) (E.contents err.new) }
+    ensures verdicts { IsPipelineTold (F.known files.old) text.now which wanted.entry (paper O.contents out.old) (paper O.contents out.new)
+        (paper E.contents err.old) (paper E.contents err.new) result }
     ensures stays { F.known files.new ≡ F.known files.old }
 {
     let survey = match survey_of(alloc, text) {
         Ok(survey) => survey,
-        Err(error) => return tell_unloaded(error, out, err),
+        Err(error) => return report_unloaded(error, out, err),
     };
     match which {
         None => tell_all(alloc, files, &survey, wanted, out, err),

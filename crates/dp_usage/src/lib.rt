@@ -8,8 +8,8 @@ use std::alloc::{AllocError, Global};
 const ONE: [(&str, &str); 4] = [
     ("NODE", "the node program"),
     ("CERT", "its certificate"),
-    ("IN", "the capture to read"),
-    ("OUT", "the capture to write"),
+    ("IN", "the capture to read, or - for standard input"),
+    ("OUT", "the capture to write, or - for standard output"),
 ];
 
 /// A required operand.
@@ -45,14 +45,29 @@ fn counts<'a>(alloc: Global) -> Arg<'a> {
     flag(alloc, "counts", help)
 }
 
-/// `dpv one NODE CERT IN OUT [--counts] [--progress]`.
+/// The option `--json`.
+fn json<'a>(alloc: Global) -> Arg<'a> {
+    let help = "prints one JSON document instead of text";
+    flag(alloc, "json", help)
+}
+
+/// The option `-U`.
+fn unbuffered<'a>(alloc: Global) -> Arg<'a> {
+    let help = "writes each record out as soon as it is sent, as for a pipe";
+    flag(alloc, "unbuffered", help).short('U')
+}
+
+/// `dpv one NODE CERT IN OUT [--counts] [--json] [--progress] [-U]`.
 fn one<'a>(alloc: Global) -> Result<Command<'a>, AllocError> {
     let about = "Runs one node program on one port, from a capture to a capture";
     let mut one = Command::new(alloc, "one").about(about);
     for (name, help) in ONE {
         one = one.arg(needed(alloc, name, help))?;
     }
-    one.arg(counts(alloc))?.arg(progress(alloc))
+    one.arg(counts(alloc))?
+        .arg(json(alloc))?
+        .arg(progress(alloc))?
+        .arg(unbuffered(alloc))
 }
 
 /// A command on a pipeline file.
@@ -94,17 +109,22 @@ fn cert<'a>(alloc: Global) -> Arg<'a> {
     Arg::new(alloc, "CERT").help("its certificate; else one is inferred")
 }
 
-/// `dpv explain FILE [WHICH]`.
+/// `dpv explain FILE [WHICH] [--json]`.
 fn explain<'a>(alloc: Global) -> Result<Command<'a>, AllocError> {
-    let about = "Says of the programs of a pipeline why they are refused and what would help";
+    let about =
+        "Says of the programs of a pipeline why they are refused and what would help; check --sizes says of its region what needs it";
     let help = "the node: port or ring, and one digit, as port0; else all";
-    on_pipeline(alloc, "explain", about)?.arg(Arg::new(alloc, "WHICH").help(help))
+    on_pipeline(alloc, "explain", about)?
+        .arg(Arg::new(alloc, "WHICH").help(help))?
+        .arg(json(alloc))
 }
 
-/// `dpv explain-one NODE [CERT]`.
+/// `dpv explain-one NODE [CERT] [--json]`.
 fn explain_one<'a>(alloc: Global) -> Result<Command<'a>, AllocError> {
     let about = "Says of one program, on the port of one, why it is refused and what would help";
-    on_program(alloc, "explain-one", about)?.arg(cert(alloc))
+    on_program(alloc, "explain-one", about)?
+        .arg(cert(alloc))?
+        .arg(json(alloc))
 }
 
 /// The option `--dot`.
@@ -116,12 +136,22 @@ fn dot<'a>(alloc: Global) -> Arg<'a> {
     )
 }
 
-/// `dpv show FILE WHICH [--dot]`.
+/// The option `--counts` of `show`.
+fn counts_file<'a>(alloc: Global) -> Arg<'a> {
+    let help =
+        "with --dot, what run FILE --counts --json printed: how often control went which way";
+    valued(alloc, "counts", "COUNTS", help)
+}
+
+/// `dpv show FILE [WHICH] [--dot] [--counts COUNTS]`.
 fn show<'a>(alloc: Global) -> Result<Command<'a>, AllocError> {
     let about = "Prints a program of a pipeline with what is known before each instruction";
+    let help =
+        "the node: port or ring, and one digit, as port0; with --dot the pipeline without it";
     on_pipeline(alloc, "show", about)?
-        .arg(needed_which(alloc))?
-        .arg(dot(alloc))
+        .arg(Arg::new(alloc, "WHICH").help(help))?
+        .arg(dot(alloc))?
+        .arg(counts_file(alloc))
 }
 
 /// `dpv show-one NODE [CERT] [--dot]`.
@@ -139,13 +169,35 @@ fn refuse<'a>(alloc: Global) -> Arg<'a> {
     valued(alloc, "refuse", "LIST", help)
 }
 
-/// `dpv run FILE [--refuse LIST] [--counts] [--progress]`.
+/// An option whose value is a port, and which may be given for several ports.
+fn for_port<'a>(alloc: Global, name: &'a str, value: &'a str, help: &'a str) -> Arg<'a> {
+    valued(alloc, name, value, help).action(ArgAction::Append)
+}
+
+/// Adds the options that replace the captures of ports.
+fn with_captures<'a>(alloc: Global, run: Command<'a>) -> Result<Command<'a>, AllocError> {
+    let input = "the capture that a port reads in place of its in; - is standard input";
+    let output = "the capture that a port writes in place of its out; - is standard output";
+    let (no_in, no_out) = (
+        "a port that gets no records",
+        "a port whose records are dropped",
+    );
+    run.arg(for_port(alloc, "in", "PORT=NAME", input))?
+        .arg(for_port(alloc, "out", "PORT=NAME", output))?
+        .arg(for_port(alloc, "no-in", "PORT", no_in))?
+        .arg(for_port(alloc, "no-out", "PORT", no_out))
+}
+
+/// `dpv run FILE [--in PORT=NAME] [--out PORT=NAME] [--no-in PORT] [--no-out PORT] [--refuse LIST] [--counts] [--json] [--progress] [-U]`.
 fn run<'a>(alloc: Global) -> Result<Command<'a>, AllocError> {
     let about = "Runs a pipeline, from its captures to its captures";
-    on_pipeline(alloc, "run", about)?
+    let run = on_pipeline(alloc, "run", about)?;
+    with_captures(alloc, run)?
         .arg(refuse(alloc))?
         .arg(counts(alloc))?
-        .arg(progress(alloc))
+        .arg(json(alloc))?
+        .arg(progress(alloc))?
+        .arg(unbuffered(alloc))
 }
 
 /// Adds the options by which records of a trace are picked.
@@ -178,11 +230,18 @@ fn mem<'a>(alloc: Global) -> Result<Command<'a>, AllocError> {
         .arg(file)
 }
 
+/// `dpv check FILE [--sizes] [--json]`.
+fn check<'a>(alloc: Global) -> Result<Command<'a>, AllocError> {
+    let help = "prints after the verdicts what each pool, ring and port takes of the region";
+    on_pipeline(alloc, "check", "Checks the programs of a pipeline")?
+        .arg(flag(alloc, "sizes", help))?
+        .arg(json(alloc))
+}
+
 /// Adds the commands that judge one program, or all of a pipeline.
 fn with_judging<'a>(alloc: Global, dpv: Command<'a>) -> Result<Command<'a>, AllocError> {
-    let check = on_pipeline(alloc, "check", "Checks the programs of a pipeline")?;
     dpv.subcommand(one(alloc)?)?
-        .subcommand(check)?
+        .subcommand(check(alloc)?)?
         .subcommand(infer(alloc)?)?
         .subcommand(infer_one(alloc)?)
 }

@@ -2,16 +2,32 @@
 
 use crate::call::Call;
 use crate::check::check_line;
-use crate::fault::Status;
+use crate::check::sizes::say_sizes;
+use crate::documents::checks::check_document;
+use crate::fault::{DONE, Status, tell_usage};
 use crate::loading::load_file;
 use crate::printer::Printer;
 use dp_pipe::How;
 use std::io::{self, Write};
 use std::rt::Files;
 
-/// Checks the programs of a pipeline file.
+/// Checks the programs of a pipeline file; then prints what takes the bytes of its region, if requested.
 pub fn check_file<R: Files + Print, E: Write>(call: &Call<'_, '_, R>, err: &mut E) -> Status {
+    if call.is_json() && call.words.get_flag("sizes") {
+        return Err(tell_usage(
+            err,
+            "error: --sizes is printed as text alone: leave out --json, or --sizes",
+        ));
+    }
     let pipeline = load_file(call, How::Given, err)?;
-    let mut out = Printer::new(io::writer(call.rt));
-    Ok(check_line(&pipeline, &mut out, &mut Printer::new(err)))
+    let (mut out, mut told) = (Printer::new(io::writer(call.rt)), Printer::new(err));
+    let (out, told) = (&mut out, &mut told);
+    if call.is_json() {
+        return Ok(check_document(call.alloc, &pipeline, out, told));
+    }
+    let status = check_line(&pipeline, out, told);
+    if status == DONE && call.words.get_flag("sizes") {
+        return Ok(say_sizes(call.alloc, &pipeline, out, told));
+    }
+    Ok(status)
 }

@@ -1,22 +1,21 @@
 //! `dpv infer-one`: the certificate of a program by itself.
 
-ghost use Rattle.std.specs.Prelude.{◌≡◌, ◌⊎◌, IfOk, IfErr};
-ghost use Rattle.std.specs.Io.KnownBytes.{Appends};
+ghost use Rattle.std.specs.Prelude.{◌≡◌, IfOk, IfErr, OnOk};
 ghost use Rattle.dp_cert.specs.Spelling.{spelling};
 ghost use Rattle.dp_pipe.specs.Nodes.{Fails};
-ghost use Rattle.dp_cli.specs.Inferring.{by_itself, IsInferred, IsCertPrinted, IsInferredTold, IsNonePrinted};
-ghost use Rattle.dp_cli.specs.Told.{IsTold, TellsMemory};
+ghost use Rattle.dp_cli.specs.Inferring.{by_itself, IsCertEnded, IsInferred, IsInferredTold};
+ghost use Rattle.dp_cli.specs.Printing.{Notes, paper, Prints};
 
-use crate::fault::{
-    DONE, Fault, MEMORY, REFUSED, status_of_write, tell_fault, tell_if_memory, tell_unloaded,
-};
+use crate::fault::{DONE, Fault, status_unwritten};
+use crate::loading::{report_fault, report_unloaded};
+use crate::printer::Printer;
 use crate::verdicts::judged::program_of;
 use dp_cert::{Cert, encode};
 use dp_infer::{InferError, infer};
 use dp_model::{Entry, Env};
 use dp_pipe::{Files, PipeError};
 use std::alloc::Global;
-use std::io::Write;
+use std::io::{self, Write};
 
 /// Infers a certificate for the program in a file.
 fn inferred<F: Files>(
@@ -40,39 +39,49 @@ fn inferred<F: Files>(
     }
 }
 
-/// Prints the text of a certificate, and returns the status.
-pub fn print_cert<O: Write, E: Write>(alloc: Global, cert: &Cert, out: &mut O, err: &mut E) -> u8
-    ensures status { IsTold DONE result }
-    ensures printed { result ≡ DONE → Appends (O.contents out.old) (O.contents out.new) (spelling cert.now) }
-    ensures silent { result ≡ DONE → err.new ≡ err.old }
-    ensures memory { result ≡ MEMORY → TellsMemory (E.contents err.old) (E.contents err.new) }
+/// Prints the text of a certificate.
+fn print_text<O: Write>(text: &[u8], out: &mut Printer<O>) -> io::Result<()>
+    ensures printed { OnOk result (Prints (paper O.contents out.old) (paper O.contents out.new) text.now) }
+    ensures noted { Notes out.old out.new result }
 {
-    let Ok(text) = encode(alloc, cert) else {
-        return tell_fault(err, Fault::Memory);
-    };
-    let status = status_of_write(out.write_all(text.as_slice()), DONE);
-    tell_if_memory(err, status)
+    let written = out.to.write_all(text);
+    out.note(written)
 }
 
-/// Prints the certificate of the program in a file, and returns the status: 1, with a report, where none is inferred.
+/// Prints the text of a certificate, and returns the status: 4 for lack of memory, and 3 or 4 if the text could not be written.
+pub fn print_cert<O: Write, E: Write>(
+    alloc: Global,
+    cert: &Cert,
+    out: &mut Printer<O>,
+    err: &mut Printer<E>,
+) -> u8
+    ensures { IsCertEnded cert.now (paper O.contents out.old) (paper O.contents out.new) (paper E.contents err.old) (paper E.contents err.new) result }
+{
+    let Ok(text) = encode(alloc, cert) else {
+        return report_fault(Fault::Memory, out, err);
+    };
+    match print_text(text.as_slice(), out) {
+        Ok(()) => DONE,
+        Err(error) => status_unwritten(error, err),
+    }
+}
+
+/// Prints the certificate of the program in a file, and returns the status: 1, with a report, if none is inferred.
 pub fn infer_node<F: Files, O: Write, E: Write>(
     alloc: Global,
     files: &mut F,
     env: &Env,
     node: Entry,
     program: &str,
-    out: &mut O,
-    err: &mut E,
+    out: &mut Printer<O>,
+    err: &mut Printer<E>,
 ) -> u8
-    ensures status { IsInferredTold (F.known files.old) env.now (by_itself node program.now) result }
-    ensures printed { result ≡ DONE → IsCertPrinted (F.known files.old) env.now (by_itself node program.now) (O.contents out.old) (O.contents out.new) }
-    ensures refused { result ≡ REFUSED → IsNonePrinted (F.known files.old) env.now (by_itself node program.now) (O.contents out.old) (O.contents out.new) }
-    ensures silent { (result ≡ DONE) ⊎ (result ≡ REFUSED) → err.new ≡ err.old }
+    ensures told { IsInferredTold (F.known files.old) env.now (by_itself node program.now) (paper O.contents out.old) (paper O.contents out.new)
+        (paper E.contents err.old) (paper E.contents err.new) result }
     ensures stays { F.known files.new ≡ F.known files.old }
-    ensures memory { result ≡ MEMORY → TellsMemory (E.contents err.old) (E.contents err.new) }
 {
     match inferred(alloc, files, env, node, program) {
         Ok(cert) => print_cert(alloc, &cert, out, err),
-        Err(error) => tell_unloaded(error, out, err),
+        Err(error) => report_unloaded(error, out, err),
     }
 }

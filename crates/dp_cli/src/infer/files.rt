@@ -7,6 +7,7 @@ use crate::infer::certifying::infer_node;
 use crate::infer::infer_line;
 use crate::loading::load_file;
 use crate::operands::node_named;
+use crate::printer::Printer;
 use crate::single_port::{Naming, one_env};
 use dp_model::Entry;
 use dp_pipe::How;
@@ -28,15 +29,21 @@ pub fn node_in<E: Write>(which: &str, err: &mut E) -> Result<Entry, u8> {
 pub fn infer_file<R: Files + Print, E: Write>(call: &Call<'_, '_, R>, err: &mut E) -> Status {
     let node = node_in(call.word("WHICH"), err)?;
     let pipeline = load_file(call, How::Inferred, err)?;
-    let out = &mut io::writer(call.rt);
-    Ok(infer_line(call.alloc, &pipeline, node, out, err))
+    let mut out = Printer::new(io::writer(call.rt));
+    let mut err = Printer::new(err);
+    Ok(infer_line(call.alloc, &pipeline, node, &mut out, &mut err))
 }
 
 /// Prints the certificate of a program by itself.
 pub fn infer_program<R: Files + Print, E: Write>(call: &Call<'_, '_, R>, err: &mut E) -> Status {
     let mut files = HostFiles::new(call.rt, call.alloc, Naming::AsTheyStand);
     let (env, node) = (one_env(), call.word("NODE"));
-    let out = &mut io::writer(call.rt);
-    let status = infer_node(call.alloc, &mut files, &env, Entry::Port(0), node, out, err);
+    let mut out = Printer::new(io::writer(call.rt));
+    let mut told = Printer::new(err);
+    let port = Entry::Port(0);
+    let status = infer_node(
+        call.alloc, &mut files, &env, port, node, &mut out, &mut told,
+    );
+    let err = told.into_inner();
     Ok(files.tell_unfetched(status, err))
 }

@@ -79,7 +79,7 @@ fn write_rings<E: Write>(rings: &[u64], err: &mut E) -> io::Result<()> {
         if *left > 0 {
             writeln!(
                 err,
-                "ring {k}: {left} packets were left at the end: a turn runs 32 packets from rings at most"
+                "ring {k}: {left} packets were left at the end: a turn runs 32 packets from rings at most; let programs put fewer into rings for each record"
             )?;
         }
     }
@@ -110,7 +110,7 @@ impl Drops {
             let cut = self.cut;
             writeln!(
                 err,
-                "{cut} node runs were cut: each took more than 256 backward jumps, and its packets were freed"
+                "{cut} node runs were cut: each took more than 256 backward jumps, and its packets were freed; --counts shows which loop"
             )?;
         }
         Ok(())

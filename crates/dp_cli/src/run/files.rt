@@ -1,28 +1,33 @@
 //! `dpv run` and `dpv one` over the host's files: opens the captures, and reports the run.
 
-ghost use Rattle.std.specs.Prelude.{◌≡◌, ◌≤◌, ◌++◌, IfOk, OnOk, Some, codes, length, map, option_map};
+ghost use Rattle.std.specs.Prelude.{◌≡◌, ◌++◌, IfOk, None, OnOk, Some, codes, length, map, option_map};
 ghost use Rattle.clap.specs.Matches.{first_value, found_of};
 ghost use Rattle.dp_cli.specs.Guarding.{ReadsInputs, read_name};
-ghost use Rattle.dp_cli.specs.Names.{AreInputs, AreOutputs, input_name, output_name};
+ghost use Rattle.dp_cli.specs.Names.{AreInputs, AreOutputs, input_name, output_capture};
+ghost use Rattle.dp_cli.specs.OpenedRuns.{IsOpenedRun};
 ghost use Rattle.dp_cli.specs.Operands.{calls_refused};
+ghost use Rattle.dp_cli.specs.Replacing.{missing};
 ghost use Rattle.dp_engine.specs.Engines.{IsAscending};
 
 use crate::call::Call;
 use crate::compile::write_interpreted;
-use crate::counting::{Counting, counting_in, report_counts, run_counted};
-use crate::fault::{Fault, Status, tell_fault, tell_usage};
+use crate::counting::{Counting, counting_in, run_and_report};
+use crate::documents::end_with;
+use crate::fault::{Fault, Status, tell_fault, tell_no_node, tell_usage};
 use crate::loading::{Loaded, load_text, load_with_reads};
 use crate::operands::numbers_in;
 use crate::printer::Printer;
 use crate::run::Reporting;
-use crate::run::captures::{InputOf, OutputOf, create_outputs, open_inputs};
+use crate::run::captures::{BUFFER, InputOf, OutputOf, UNBUFFERED, create_outputs, open_inputs};
 use crate::run::drops::Drops;
 use crate::run::findings::{CaptureNames, names_of};
 use crate::run::progress::Telling;
-use crate::run::same_file::{ReadFile, keep_apart, note_read};
+use crate::run::replaced::{Replacements, replacements_in};
+use crate::run::same_file::{ReadFile, keep_apart, note_input};
 use crate::run::truncated::write_truncated;
 use crate::single_port::{Naming, ONE_PORT, OneFiles};
 use dp_engine::{Known, Nothing, Report, need};
+use dp_model::Entry;
 use dp_pipe::{How, Pipeline, RunFault};
 use dp_region::{CACHE_LINE, LEAST_REGION};
 use std::alloc::Global;
@@ -69,13 +74,18 @@ fn open_captures<'a, R: Files>(
 ) -> Result<Captures<R::File>, Fault<'a>>
     requires { ReadsInputs reads.now names.now }
     ensures inputs { IfOk result (λ captures. AreInputs captures.0.items names.now) }
-    ensures outputs { IfOk result (λ captures. AreOutputs captures.1.items (map output_name names.now)) }
+    ensures outputs { IfOk result (λ captures. AreOutputs captures.1.items (map output_capture names.now)) }
     ensures many { IfOk result (λ captures. (length captures.0.items ≡ length names.now) × (length captures.1.items ≡ length names.now)) }
 {
     let (rt, alloc) = (call.rt, call.alloc);
-    let inputs = open_inputs(rt, alloc, names, telling)?;
+    let buffer = if call.words.get_flag("unbuffered") {
+        UNBUFFERED
+    } else {
+        BUFFER
+    };
+    let inputs = open_inputs(rt, alloc, call.streams.input, names, telling)?;
     let files = keep_apart(rt, alloc, reads, names)?;
-    let outputs = create_outputs(rt, alloc, files.as_slice())?;
+    let outputs = create_outputs(rt, alloc, call.streams.output, buffer, files.as_slice())?;
     Ok((inputs, outputs))
 }
 
@@ -93,7 +103,7 @@ fn write_region<E: Write>(needed: u64, err: &mut E) -> io::Result<()> {
     let least = needed.max(u64::from(LEAST_REGION));
     writeln!(
         err,
-        "  help: the pools, rings and ports need {needed} bytes: region = {}",
+        "  help: the pools, rings and ports need {needed} bytes, of which dpv check FILE --sizes shows the parts: region = {}",
         least.div_ceil(line).saturating_mul(line)
     )
 }
@@ -107,38 +117,38 @@ fn note_inputs<R: Files>(
     ensures { OnOk result (map read_name reads.new.items ≡ map read_name reads.old.items ++ map input_name names.now) }
 {
     for port in names {
-        note_read(call.rt, call.alloc, reads, port.input.as_str())?;
+        note_input(call.rt, call.alloc, reads, port)?;
     }
     Ok(())
 }
 
-/// Runs a pipeline over its open captures, under a watcher that counts its steps if requested. Then prints the counts, and a cure if records were
-/// dropped or the region is too small.
+/// Runs a pipeline over its open captures, and counts its steps if requested. Then prints a cure if records were dropped or the region is too small. The
+/// status is that of the run, or that of a text that could not be written.
 fn run_opened<K: Known, R: Files + Print, E: Write>(
     call: &Call<'_, '_, R>,
     pipeline: Pipeline,
     captures: Captures<R::File>,
     pattern: Vec<u64>,
     counting: &mut Option<Counting<'_>>,
+    is_json: bool,
     reporting: Reporting<'_>,
     err: &mut E,
 ) -> u8
     requires inputs { length captures.0.items ≡ length pipeline.env.ports }
     requires outputs { length captures.1.items ≡ length pipeline.env.ports }
-    requires few { length captures.1.items ≤ 8 }
     requires pattern { IsAscending 0 pattern.items }
+    ensures { IsOpenedRun pipeline pattern.items reporting.entry.names.now reporting.entry.counts is_json counting.old counting.new result }
 {
     let env = pipeline.env().copy();
     let (region, needed) = (u64::from(pipeline.region()), need(&env));
     let (mut inputs, mut outputs) = captures;
     let (ins, outs) = (inputs.as_mut_slice(), outputs.as_mut_slice());
-    let mut out = Printer::new(io::writer(call.rt));
+    let mut out = Printer::new(call.paper());
     let mut told = Printer::new(err);
     let (out, told, alloc) = (&mut out, &mut told, call.alloc);
-    let ended = run_counted::<K, _, _, _, _>(
-        alloc, pipeline, ins, outs, pattern, counting, reporting, out, told,
+    let ended = run_and_report::<K, _, _, _, _>(
+        alloc, pipeline, ins, outs, pattern, counting, &env, is_json, reporting, out, told,
     );
-    let status = report_counts(counting, &env, ended.status, out, told);
     // If these lines cannot be written, the status is not changed.
     let err = &mut told.to;
     let _written = if region < needed {
@@ -147,7 +157,7 @@ fn run_opened<K: Known, R: Files + Print, E: Write>(
         drops_of(&ended.settled.answer).write(&env, err)
     };
     let _written = write_truncated(inputs.as_slice(), err);
-    status
+    ended.status
 }
 
 /// Runs a pipeline: opens the captures that it reads and those that it writes, and runs it over these.
@@ -155,6 +165,7 @@ fn run_pipeline<K: Known, R: Files + Print, E: Write>(
     call: &Call<'_, '_, R>,
     loaded: Loaded,
     naming: Naming<'_>,
+    given: &Replacements<'_>,
     pattern: Vec<u64>,
     err: &mut E,
 ) -> u8
@@ -166,23 +177,23 @@ fn run_pipeline<K: Known, R: Files + Print, E: Write>(
         reads,
     } = loaded;
     let mut reads = reads;
-    let Ok(names) = names_of(call.alloc, &pipeline, naming) else {
-        return tell_fault(err, Fault::Memory);
+    let Ok(names) = names_of(call.alloc, &pipeline, naming, given) else {
+        return end_with(call, Fault::Memory, err);
     };
     let names = names.as_slice();
     if let Err(fault) = note_inputs(call, &mut reads, names) {
-        return tell_fault(err, fault);
+        return end_with(call, fault, err);
     }
     let telling = Telling {
         is_on: call.words.get_flag("progress"),
         to: call.to,
     };
     let Ok(mut counting) = counting_in(call, &pipeline, programs.as_slice()) else {
-        return tell_fault(err, Fault::Memory);
+        return end_with(call, Fault::Memory, err);
     };
     let captures = match open_captures(call, reads.as_slice(), names, telling) {
         Ok(captures) => captures,
-        Err(fault) => return tell_fault(err, fault),
+        Err(fault) => return end_with(call, fault, err),
     };
     let reporting = Reporting {
         names,
@@ -194,9 +205,20 @@ fn run_pipeline<K: Known, R: Files + Print, E: Write>(
         captures,
         pattern,
         &mut counting,
+        call.is_json(),
         reporting,
         err,
     )
+}
+
+/// Refuses captures of ports that a pipeline with this number of ports does not have. Reports the first of them, and returns the status.
+fn refuse_missing<E: Write>(given: &Replacements<'_>, ports: usize, err: &mut E) -> Result<(), u8>
+    ensures { OnOk result (missing ports given.now.inputs.items given.now.outputs.items ≡ None) }
+{
+    match given.missing(ports) {
+        Some(port) => Err(tell_no_node(Entry::Port(port), err)),
+        None => Ok(()),
+    }
 }
 
 /// Runs the pipeline of a file. If requested, each of its programs that is not among `K` is reported first.
@@ -206,24 +228,32 @@ pub fn run_file<K: Known, R: Files + Print, E: Write>(
     err: &mut E,
 ) -> Status {
     let pattern = refused_in(call, err)?;
+    let given = replacements_in(call, err)?;
+    let call = &call.giving_stdout(given.take_stdout());
     let loaded = load_with_reads(call, How::Given, err)?;
+    refuse_missing(&given, loaded.pipeline.ports(), err)?;
     if reports_interpreted {
         // If that cannot be written, the pipeline still runs.
         let _written = write_interpreted::<K, E>(&loaded.pipeline, err);
     }
     let naming = Naming::AsTheyStand;
-    Ok(run_pipeline::<K, R, E>(call, loaded, naming, pattern, err))
+    Ok(run_pipeline::<K, R, E>(call, loaded, naming, &given, pattern, err))
 }
 
 /// Runs one node program on one port, from a file to a file.
 pub fn run_one_port<R: Files + Print, E: Write>(call: &Call<'_, '_, R>, err: &mut E) -> Status {
+    let (input, output) = (call.word("IN"), call.word("OUT"));
     let naming = Naming::One(OneFiles {
         node: call.word("NODE"),
         cert: call.word("CERT"),
-        input: call.word("IN"),
-        output: call.word("OUT"),
+        input,
+        output,
     });
+    let Ok(given) = Replacements::of_one(call.alloc, input, output) else {
+        return Err(tell_fault(err, Fault::Memory));
+    };
+    let call = &call.giving_stdout(given.take_stdout());
     let loaded = load_text(call, ONE_PORT.as_bytes(), naming, How::Given, err)?;
     let pattern = Vec::new(call.alloc);
-    Ok(run_pipeline::<Nothing, R, E>(call, loaded, naming, pattern, err))
+    Ok(run_pipeline::<Nothing, R, E>(call, loaded, naming, &given, pattern, err))
 }

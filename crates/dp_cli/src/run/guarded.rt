@@ -44,6 +44,7 @@ impl<W: Write> Guarded<W> {
 
     /// Guards the writer of a file.
     pub fn of_file(inner: W, name: &str) -> Guarded<W>
+        ensures inner { result.inner ≡ inner }
         ensures nothing { result.took.pieces ≡ [] }
         ensures name { result.of.pieces ≡ name.now ∷ [] }
     {

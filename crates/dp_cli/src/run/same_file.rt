@@ -3,11 +3,13 @@
 ghost use Rattle.std.specs.Prelude.{◌≡◌, ◌++◌, ◌∷◌, [], find, map, string_bytes, option_map, None, IfNone, IfOk, IfSome, IsOk, OnOk};
 ghost use Rattle.dp_cli.specs.Guarding as spec;
 ghost use Rattle.dp_cli.specs.Guarding.{read_name};
+ghost use Rattle.dp_cli.specs.Names.{input_name, output_capture};
 ghost use Rattle.dp_cli.specs.Told.{IsClash};
 
 use crate::fault::Fault;
 use crate::fault_reasons::Reason;
 use crate::run::findings::CaptureNames;
+use crate::run::replaced::Place;
 use std::alloc::Global;
 use std::fs;
 use std::io::ErrorKind;
@@ -139,6 +141,29 @@ fn target_of<'a, R: Files>(rt: &R, name: &'a str) -> Result<Target<'a>, Fault<'s
     }
 }
 
+/// The plain file that standard output is written to, if it is one.
+fn stdout_target<'a, R: Files>(rt: &R) -> Result<Target<'a>, Fault<'static>> {
+    match plain_file(rt, "/dev/stdout")? {
+        Some(id) => Ok(Target::There(id)),
+        None => Ok(Target::Other),
+    }
+}
+
+/// What an output means that is in this place and has this name.
+fn target_at<'a, R: Files>(
+    rt: &R,
+    place: Place,
+    name: &'a str,
+) -> Result<Target<'a>, Fault<'static>>
+    ensures { IfOk result (λ target. place ≡ Place.Nowhere → target ≡ Target.Other) }
+{
+    match place {
+        Place::File => target_of(rt, name),
+        Place::Stream => stdout_target(rt),
+        Place::Nowhere => Ok(Target::Other),
+    }
+}
+
 /// The first of these files that the name of an output means.
 fn first_read<'a>(target: Target<'_>, reads: &'a [ReadFile]) -> Option<&'a ReadFile>
     ensures { option_map (λ read. read.now) result ≡ find (spec.is_read target.entry) reads.now }
@@ -167,9 +192,10 @@ fn refuse_read<'a>(
     }
 }
 
-/// An output, and the file that its name means.
+/// An output: where it is, its name, and the file that this means.
 #[derive(Clone, Copy, Debug)]
 pub struct Written<'a> {
+    pub place: Place,
     pub name: &'a str,
     pub target: Target<'a>,
 }
@@ -207,17 +233,22 @@ fn refuse_twice<'a>(
 /// The output of this name, where it is no file which the run reads, and none of the earlier outputs.
 fn kept_apart<'a, R: Files>(
     rt: &R,
-    name: &'a str,
+    port: &'a CaptureNames,
     reads: &'a [ReadFile],
     earlier: &[Written<'a>],
 ) -> Result<Written<'a>, Fault<'a>>
-    ensures name { IfOk result (λ written. written.name.now ≡ name.now) }
+    ensures capture { IfOk result (λ written. spec.written_capture written ≡ output_capture port.now) }
     ensures apart { IfOk result (spec.IsApart reads.now earlier.now) }
 {
-    let target = target_of(rt, name)?;
+    let (place, name) = (port.output_place, port.output.as_str());
+    let target = target_at(rt, place, name)?;
     refuse_read(name, target, reads)?;
     refuse_twice(name, target, earlier)?;
-    Ok(Written { name, target })
+    Ok(Written {
+        place,
+        name,
+        target,
+    })
 }
 
 /// The outputs of a run, by the names of its captures. Refuses the first that is a file which the run reads, or the output of an earlier port.
@@ -233,7 +264,7 @@ pub fn keep_apart<'a, R: Files>(
 {
     let mut outputs = Vec::new(alloc);
     for port in names {
-        let written = kept_apart(rt, port.output.as_str(), reads, outputs.as_slice())?;
+        let written = kept_apart(rt, port, reads, outputs.as_slice())?;
         if outputs.push(written).is_err() {
             return Err(Fault::Memory);
         }
@@ -251,6 +282,18 @@ pub fn note_read<R: Files>(
     ensures { OnOk result (map read_name reads.new.items ≡ map read_name reads.old.items ++ name.now ∷ []) }
 {
     let id = plain_file(rt, name)?;
+    add_read(alloc, reads, name, id)
+}
+
+/// Adds a file, by its name and its identity, to a list of those that the run reads.
+fn add_read(
+    alloc: Global,
+    reads: &mut Vec<ReadFile>,
+    name: &str,
+    id: Option<FileId>,
+) -> Result<(), Fault<'static>>
+    ensures { OnOk result (map read_name reads.new.items ≡ map read_name reads.old.items ++ name.now ∷ []) }
+{
     let Ok(name) = String::from_str(alloc, name) else {
         return Err(Fault::Memory);
     };
@@ -258,4 +301,29 @@ pub fn note_read<R: Files>(
         Ok(()) => Ok(()),
         Err(_) => Err(Fault::Memory),
     }
+}
+
+/// The plain file that an input in this place and with this name means, if there is one.
+fn input_id<R: Files>(rt: &R, place: Place, name: &str) -> Result<Option<FileId>, Fault<'static>>
+    ensures { IfOk result (λ id. place ≡ Place.Nowhere → id ≡ None) }
+{
+    match place {
+        Place::File => plain_file(rt, name),
+        Place::Stream => plain_file(rt, "/dev/stdin"),
+        Place::Nowhere => Ok(None),
+    }
+}
+
+/// Adds the input of a port to the files that the run reads.
+pub fn note_input<R: Files>(
+    rt: &R,
+    alloc: Global,
+    reads: &mut Vec<ReadFile>,
+    port: &CaptureNames,
+) -> Result<(), Fault<'static>>
+    ensures { OnOk result (map read_name reads.new.items ≡ map read_name reads.old.items ++ input_name port.now ∷ []) }
+{
+    let name = port.input.as_str();
+    let id = input_id(rt, port.input_place, name)?;
+    add_read(alloc, reads, name, id)
 }

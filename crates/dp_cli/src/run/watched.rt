@@ -1,10 +1,12 @@
-//! Readers that keep the error of their failure, and report progress.
+//! Readers that keep the error of their failure and the link type of their capture, and report progress.
 
 ghost use Rattle.std.specs.Prelude.{◌≡◌, ◌==◌, ◌∷◌, [], None, false};
 ghost use Rattle.std.specs.List.{starts_with};
+ghost use Rattle.dp_cli.specs.LinkTypes.{IsLinkOf};
 
+use crate::run::link_type::LinkType;
 use crate::run::progress::Progress;
-use dp_pcap::Offers;
+use dp_pcap::{Offers, link_type};
 use std::io::{Error, ErrorKind, Read, Result, Write};
 
 /// How a pcapng file begins.
@@ -17,6 +19,16 @@ fn begins_as_pcapng(bytes: &[u8]) -> bool
     bytes.starts_with(&PCAPNG)
 }
 
+/// The link type in the header with which bytes begin.
+fn link_of(front: &[u8]) -> Option<LinkType>
+    ensures { IsLinkOf front.now result }
+{
+    match link_type(front) {
+        Some(field) => Some(LinkType(field)),
+        None => None,
+    }
+}
+
 /// What was seen of a file that is read as a capture, besides its bytes.
 #[derive(Clone, Copy, Debug)]
 pub struct Seen {
@@ -24,10 +36,12 @@ pub struct Seen {
     pub failure: Option<Error>,
     /// Whether it begins as a pcapng file does.
     pub is_pcapng: bool,
+    /// The link type in its header, if the first read has the whole header of a capture.
+    pub link: Option<LinkType>,
 }
 
-/// A reader that keeps the error of a failed read, and whether its first bytes are those of a pcapng file. It counts the records that it passes on,
-/// and reports progress.
+/// A reader that keeps the error of a failed read, and what its first bytes show: whether they are those of a pcapng file, and the link type. It
+/// counts the records that it passes on, and reports progress.
 #[derive(Drop)]
 pub struct Watched<R, P> {
     inner: R,
@@ -46,6 +60,7 @@ impl<R: Read, P: Write> Watched<R, P> {
         ensures begun { result.is_begun ≡ false }
         ensures failure { result.seen.failure ≡ None }
         ensures pcapng { result.seen.is_pcapng ≡ false }
+        ensures link { result.seen.link ≡ None }
     {
         Watched {
             inner,
@@ -53,6 +68,7 @@ impl<R: Read, P: Write> Watched<R, P> {
             seen: Seen {
                 failure: None,
                 is_pcapng: false,
+                link: None,
             },
             progress,
             of: Offers::new(),
@@ -61,7 +77,8 @@ impl<R: Read, P: Write> Watched<R, P> {
 
     /// Watches the reader of a file from its start.
     pub fn of_file(inner: R, progress: Progress<P>, name: &str) -> Watched<R, P>
-        ensures { result.of.pieces ≡ name.now ∷ [] }
+        ensures inner { result.inner ≡ inner }
+        ensures name { result.of.pieces ≡ name.now ∷ [] }
     {
         let mut watched = Watched::new(inner, progress);
         watched.of = Offers::new().and(name.as_bytes());
@@ -87,6 +104,7 @@ impl<R: Read, P: Write> Read for Watched<R, P> {
     ghost use Rattle.dp_pcap.specs.declared.time.Unit.{Unit as TimeUnit};
     ghost use Rattle.dp_pcap.specs.Capture.{IsHeader};
     ghost use Rattle.dp_pcap.specs.Counting.{IsBehind, records_in};
+    ghost use Rattle.dp_cli.specs.LinkTypes.{IsLinkOf};
     ghost use Rattle.dp_cli.specs.Progress.{steps_text};
 
     ghost remaining = { λ r. R.remaining r.inner };
@@ -98,7 +116,9 @@ impl<R: Read, P: Write> Read for Watched<R, P> {
         ensures failed { IfErr result (λ e. error_kind e ≢ ErrorKind.Interrupted → self.new.seen.failure ≡ Some e) }
         ensures pcapng { IfOk result (λ n. self.old.is_begun ≡ false →
             self.new.seen.is_pcapng ≡ starts_with (λ a b. a == b) (take n buf.new) (10 ∷ 13 ∷ 13 ∷ 10 ∷ [])) }
+        ensures link { IfOk result (λ n. self.old.is_begun ≡ false → IsLinkOf (take n buf.new) self.new.seen.link) }
         ensures kept { OnOk result (self.new.seen.failure ≡ self.old.seen.failure) }
+        ensures stays { OnOk result (self.old.is_begun ≡ true → self.new.seen ≡ self.old.seen) }
         ensures begun { OnOk result (self.new.is_begun ≡ true) }
         ensures off { self.old.progress.is_on ≡ false → self.new.progress.to ≡ self.old.progress.to }
         ensures steps { IfOk result (λ n. self.new.progress.is_on ≡ true →
@@ -113,6 +133,7 @@ impl<R: Read, P: Write> Read for Watched<R, P> {
                 if !self.is_begun {
                     self.is_begun = true;
                     self.seen.is_pcapng = begins_as_pcapng(&buf[..taken]);
+                    self.seen.link = link_of(&buf[..taken]);
                     self.progress.begin(&buf[..taken]);
                 }
                 self.progress.pass(&buf[..taken]);

@@ -13,6 +13,7 @@ use crate::run::captures::open_inputs;
 use crate::run::files::refused_in;
 use crate::run::findings::names_of;
 use crate::run::progress::Telling;
+use crate::run::replaced::Replacements;
 use crate::single_port::Naming;
 use crate::trace::became::{Only, Picked, labels_of, only_in};
 use crate::trace::{Shown, trace_line};
@@ -124,11 +125,11 @@ fn trace_pipeline<R: Files + Print, E: Write>(
         is_on: false,
         to: call.to,
     };
-    let Ok(names) = names_of(alloc, &pipeline, naming) else {
+    let Ok(names) = names_of(alloc, &pipeline, naming, &Replacements::none(alloc)) else {
         return tell_fault(err, Fault::Memory);
     };
     let names = names.as_slice();
-    let mut inputs = match open_inputs(rt, alloc, names, telling) {
+    let mut inputs = match open_inputs(rt, alloc, call.streams.input, names, telling) {
         Ok(inputs) => inputs,
         Err(fault) => return tell_fault(err, fault),
     };

@@ -1,11 +1,15 @@
 //! `dpv explain`, `dpv show` and those on one program, over the host's files.
 
 use crate::call::Call;
-use crate::fault::Status;
+use crate::documents::verdicts::{document_node, document_pipeline};
+use crate::fault::{Status, tell_usage};
 use crate::host_files::HostFiles;
 use crate::infer::files::node_in;
 use crate::loading::bytes_of;
+use crate::printer::Printer;
 use crate::single_port::{Naming, one_env};
+use crate::verdicts::counted::{Counted, steps_in};
+use crate::verdicts::draw::draw_pipeline;
 use crate::verdicts::judged::Asked;
 use crate::verdicts::show::Form;
 use crate::verdicts::{Wanted, tell_node, tell_pipeline};
@@ -22,39 +26,137 @@ fn which_in<E: Write>(words: &ArgMatches<'_>, err: &mut E) -> Result<Option<Entr
     }
 }
 
-/// Prints the verdict on the programs of a pipeline file, or on the one that is named.
-pub fn tell_file<R: Files + Print, E: Write>(
+/// Prints the verdict on the programs of a pipeline file, or on this node's.
+fn tell_which<R: Files + Print, E: Write>(
     call: &Call<'_, '_, R>,
-    wanted: Wanted,
+    which: Option<Entry>,
+    wanted: Wanted<'_>,
     err: &mut E,
 ) -> Status {
-    let which = which_in(call.words, err)?;
     let text = bytes_of(call, err)?;
     let mut files = HostFiles::new(call.rt, call.alloc, Naming::AsTheyStand);
-    let (text, out) = (text.as_slice(), &mut io::writer(call.rt));
-    let status = tell_pipeline(call.alloc, text, &mut files, which, wanted, out, err);
-    Ok(files.tell_unfetched(status, err))
+    let mut out = Printer::new(io::writer(call.rt));
+    let mut told = Printer::new(err);
+    let (text, told) = (text.as_slice(), &mut told);
+    let status = tell_pipeline(call.alloc, text, &mut files, which, wanted, &mut out, told);
+    Ok(files.tell_unfetched(status, &mut told.to))
+}
+
+/// Prints the document of the verdicts on the programs of a pipeline file, or of the one on this node's.
+fn document_which<R: Files + Print, E: Write>(
+    call: &Call<'_, '_, R>,
+    which: Option<Entry>,
+    err: &mut E,
+) -> Status {
+    let text = bytes_of(call, err)?;
+    let mut files = HostFiles::new(call.rt, call.alloc, Naming::AsTheyStand);
+    let mut out = Printer::new(io::writer(call.rt));
+    let mut told = Printer::new(err);
+    let (text, told) = (text.as_slice(), &mut told);
+    let status = document_pipeline(call.alloc, text, &mut files, which, &mut out, told);
+    Ok(files.tell_unfetched(status, &mut told.to))
+}
+
+/// Explains the programs of a pipeline file, or the one that is named.
+pub fn explain_file<R: Files + Print, E: Write>(call: &Call<'_, '_, R>, err: &mut E) -> Status {
+    let which = which_in(call.words, err)?;
+    if call.is_json() {
+        return document_which(call, which, err);
+    }
+    tell_which(call, which, Wanted::Reason, err)
+}
+
+/// Draws the pipeline of a file.
+fn draw_file<R: Files + Print, E: Write>(call: &Call<'_, '_, R>, err: &mut E) -> Status {
+    let text = bytes_of(call, err)?;
+    let mut files = HostFiles::new(call.rt, call.alloc, Naming::AsTheyStand);
+    let mut out = Printer::new(io::writer(call.rt));
+    let mut told = Printer::new(err);
+    let (text, told) = (text.as_slice(), &mut told);
+    let status = draw_pipeline(call.alloc, text, &mut files, &mut out, told);
+    Ok(files.tell_unfetched(status, &mut told.to))
+}
+
+/// Shows a node's program of a pipeline file, with the counts of a file.
+fn show_counted<R: Files + Print, E: Write>(
+    call: &Call<'_, '_, R>,
+    node: Entry,
+    file: &str,
+    err: &mut E,
+) -> Status {
+    if !call.words.get_flag("dot") {
+        return Err(tell_usage(
+            err,
+            "error: --counts is for a picture: add --dot, or leave it out",
+        ));
+    }
+    let steps = steps_in(call, file, node, err)?;
+    let counted = Counted {
+        file,
+        steps: steps.as_slice(),
+    };
+    let wanted = Wanted::Program(Form::Counted(counted));
+    tell_which(call, Some(node), wanted, err)
+}
+
+/// Shows a node's program of a pipeline file; or with `--dot` and no node, the whole pipeline.
+pub fn show_file<R: Files + Print, E: Write>(call: &Call<'_, '_, R>, err: &mut E) -> Status {
+    let counts = call.words.get_str("counts");
+    match (which_in(call.words, err)?, counts) {
+        (Some(node), Some(file)) => show_counted(call, node, file, err),
+        (Some(node), None) => tell_which(call, Some(node), shown_in(call.words), err),
+        (None, Some(_)) => Err(tell_usage(
+            err,
+            "error: --counts is for the picture of one program: WHICH is missing, such as port0",
+        )),
+        (None, None) if call.words.get_flag("dot") => draw_file(call, err),
+        (None, None) => Err(tell_usage(
+            err,
+            "error: WHICH is missing, the node to be shown, such as port0; or --dot, for a picture of the whole pipeline",
+        )),
+    }
+}
+
+/// The program that a command asks about, as that of the one port of `dpv one`.
+fn asked_one<'w, R>(call: &Call<'_, 'w, R>) -> Asked<'w> {
+    Asked {
+        node: Entry::Port(0),
+        program: call.word("NODE"),
+        cert: call.words.get_str("CERT"),
+    }
 }
 
 /// Prints the verdict on a program by itself, for the one port of `dpv one`.
 pub fn tell_one<R: Files + Print, E: Write>(
     call: &Call<'_, '_, R>,
-    wanted: Wanted,
+    wanted: Wanted<'_>,
     err: &mut E,
 ) -> Status {
-    let asked = Asked {
-        node: Entry::Port(0),
-        program: call.word("NODE"),
-        cert: call.words.get_str("CERT"),
-    };
+    let asked = asked_one(call);
     let mut files = HostFiles::new(call.rt, call.alloc, Naming::AsTheyStand);
-    let (env, out) = (one_env(), &mut io::writer(call.rt));
-    let status = tell_node(call.alloc, &mut files, &env, asked, wanted, out, err);
-    Ok(files.tell_unfetched(status, err))
+    let mut out = Printer::new(io::writer(call.rt));
+    let mut told = Printer::new(err);
+    let (env, told) = (one_env(), &mut told);
+    let status = tell_node(call.alloc, &mut files, &env, asked, wanted, &mut out, told);
+    Ok(files.tell_unfetched(status, &mut told.to))
+}
+
+/// Explains the verdict on a program by itself: as text, or as a document.
+pub fn explain_one<R: Files + Print, E: Write>(call: &Call<'_, '_, R>, err: &mut E) -> Status {
+    if !call.is_json() {
+        return tell_one(call, Wanted::Reason, err);
+    }
+    let mut files = HostFiles::new(call.rt, call.alloc, Naming::AsTheyStand);
+    let mut out = Printer::new(io::writer(call.rt));
+    let mut told = Printer::new(err);
+    let (env, told) = (one_env(), &mut told);
+    let asked = asked_one(call);
+    let status = document_node(call.alloc, &mut files, &env, asked, &mut out, told);
+    Ok(files.tell_unfetched(status, &mut told.to))
 }
 
 /// The form in which a program is to be shown.
-pub fn shown_in(words: &ArgMatches<'_>) -> Wanted {
+pub fn shown_in(words: &ArgMatches<'_>) -> Wanted<'static> {
     if words.get_flag("dot") {
         Wanted::Program(Form::Graph)
     } else {

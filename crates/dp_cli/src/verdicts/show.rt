@@ -1,69 +1,107 @@
 //! Shows a program with the facts known before each instruction, and the verdict on it.
 
-ghost use Rattle.std.specs.Prelude.{◌≡◌, ◌⊎◌};
+ghost use Rattle.std.specs.Prelude.{◌≡◌};
 ghost use Rattle.dp_check.specs.Faults.{question};
-ghost use Rattle.dp_cli.specs.Judging.{IsVerdict};
-ghost use Rattle.dp_cli.specs.Told.{IsTold, TellsMemory};
+ghost use Rattle.dp_cli.specs.Judging.{IsFaultSaid, IsFormTold, IsSaid, IsVerdictTold, misfit_in};
+ghost use Rattle.dp_cli.specs.Printing.{paper};
 
-use crate::fault::{DONE, Fault, MEMORY, REFUSED, status_of_write, tell_fault, tell_if_memory};
+use crate::fault::{DONE, REFUSED};
+use crate::printer::Printer;
+use crate::verdicts::counted::{Counted, misfit_text};
 use crate::verdicts::judged::{Asked, Judged};
+use crate::verdicts::saying::{report_memory, report_text, say};
 use crate::verdicts::verdict::{RefusedAt, Verdict};
 use dp_check::diagnose;
-use dp_lang::print;
-use dp_model::Env;
-use dp_words::{Heading, graph, instructions, listing};
+use dp_model::{Env, Instr, Row};
+use dp_words::{
+    Drawing, Heading, NodeDrawing, StepCount, Written, graph, listing, node_graph, written_in,
+};
 use std::alloc::{AllocError, Global};
 use std::io::Write;
 
 /// How a program is shown.
-#[derive(Clone, Copy, Debug, PartialEq, Eq)]
-pub enum Form {
+#[derive(Clone, Copy, Debug)]
+pub enum Form<'a> {
     /// As a listing.
     Listing,
     /// As the text from which `dot` draws a graph.
     Graph,
+    /// As such a graph, with how often control went which way.
+    Counted(Counted<'a>),
+    /// As a part of the graph of its pipeline.
+    Part,
+}
+
+/// The counts in a form, if it has any.
+fn counts_in<'a>(form: Form<'a>) -> &'a [StepCount] {
+    match form {
+        Form::Counted(counted) => counted.steps,
+        Form::Listing | Form::Graph | Form::Part => &[],
+    }
+}
+
+/// The text of a graph.
+fn graph_of(
+    alloc: Global,
+    heading: Heading<'_>,
+    instrs: &[Instr],
+    source: &[Written<'_>],
+    rows: &[Row],
+    counts: &[StepCount],
+) -> Result<String, AllocError> {
+    let drawing = Drawing {
+        heading,
+        instrs,
+        source,
+        rows,
+        counts,
+    };
+    graph(alloc, drawing)
+}
+
+/// The text of a node in the graph of its pipeline.
+fn part_of(
+    alloc: Global,
+    env: &Env,
+    asked: Asked<'_>,
+    heading: Heading<'_>,
+    instrs: &[Instr],
+    rows: &[Row],
+) -> Result<String, AllocError> {
+    let node = NodeDrawing {
+        entry: asked.node,
+        file: asked.program,
+        heading,
+        instrs,
+        rows,
+    };
+    node_graph(alloc, env, node)
 }
 
 /// A program as text, in this form.
 fn text_of(
     alloc: Global,
-    form: Form,
+    env: &Env,
+    form: Form<'_>,
+    asked: Asked<'_>,
     verdict: Verdict,
     judged: &Judged,
 ) -> Result<String, AllocError> {
-    let (program, rows) = (&judged.program, judged.cert.rows());
-    let printed = print(alloc, program)?;
-    let texts = instructions(alloc, printed.as_str())?;
+    let (instrs, rows) = (judged.program.instrs(), judged.cert.rows());
+    let written = written_in(alloc, judged.text.as_slice())?;
+    let source = written.as_slice();
     let line = format!(in alloc; "{verdict}")?;
     let heading = Heading {
         verdict: line.as_str(),
         refused_at: verdict.refused_at(),
     };
     match form {
-        Form::Listing => listing(alloc, heading, texts.as_slice(), rows),
-        Form::Graph => graph(alloc, heading, program.instrs(), texts.as_slice(), rows),
+        Form::Listing => listing(alloc, heading, source, rows),
+        Form::Graph | Form::Counted(_) => {
+            graph_of(alloc, heading, instrs, source, rows, counts_in(form))
+        }
+        Form::Part => part_of(alloc, env, asked, heading, instrs, rows),
     }
-}
-
-/// Prints a program in this form, and returns the status.
-fn print_shown<O: Write, E: Write>(
-    alloc: Global,
-    form: Form,
-    verdict: Verdict,
-    judged: &Judged,
-    status: u8,
-    out: &mut O,
-    err: &mut E,
-) -> u8
-    ensures status { IsTold status result }
-    ensures silent { (result ≡ DONE) ⊎ (result ≡ REFUSED) → err.new ≡ err.old }
-    ensures memory { result ≡ MEMORY → TellsMemory (E.contents err.old) (E.contents err.new) }
-{
-    let Ok(text) = text_of(alloc, form, verdict, judged) else {
-        return tell_fault(err, Fault::Memory);
-    };
-    let status = status_of_write(out.write_all(text.as_str().as_bytes()), status);
-    tell_if_memory(err, status)
 }
 
 /// The verdict on a program.
@@ -75,28 +113,95 @@ fn verdict_of(asked: Asked<'_>, refused: Option<RefusedAt>) -> Verdict {
     }
 }
 
+/// Prints a program in this form, and returns the status.
+fn say_shown<O: Write, E: Write>(
+    alloc: Global,
+    env: &Env,
+    form: Form<'_>,
+    asked: Asked<'_>,
+    refused: Option<RefusedAt>,
+    judged: &Judged,
+    status: u8,
+    out: &mut Printer<O>,
+    err: &mut Printer<E>,
+) -> u8
+    ensures { IsSaid status (paper O.contents out.old) (paper O.contents out.new) (paper E.contents err.old) (paper E.contents err.new) result }
+{
+    let verdict = verdict_of(asked, refused);
+    match text_of(alloc, env, form, asked, verdict, judged) {
+        Ok(text) => say(text.as_str(), status, out, err),
+        Err(AllocError) => report_memory(out, err),
+    }
+}
+
+/// The counts in this form, if they are of a program with another number of instructions.
+fn misfit_in<'a>(form: Form<'a>, count: usize) -> Option<Counted<'a>>
+    ensures { result ≡ misfit_in form.entry count }
+{
+    match form {
+        Form::Counted(counted) if counted.steps.len() != count => Some(counted),
+        Form::Listing | Form::Graph | Form::Counted(_) | Form::Part => None,
+    }
+}
+
+/// Reports that counts are of a program with another number of instructions, and returns the status.
+fn report_misfit<O: Write, E: Write>(
+    alloc: Global,
+    counted: Counted<'_>,
+    asked: Asked<'_>,
+    count: usize,
+    out: &mut Printer<O>,
+    err: &mut Printer<E>,
+) -> u8
+    ensures { IsFaultSaid (paper O.contents out.old) (paper O.contents out.new) (paper E.contents err.old) (paper E.contents err.new) result }
+{
+    match misfit_text(alloc, counted, asked.node, count) {
+        Ok(text) => report_text(text.as_str(), out, err),
+        Err(AllocError) => report_memory(out, err),
+    }
+}
+
 /// Prints a program with its rows and the verdict, and returns the status.
+fn show_verdict<O: Write, E: Write>(
+    alloc: Global,
+    env: &Env,
+    asked: Asked<'_>,
+    judged: &Judged,
+    form: Form<'_>,
+    out: &mut Printer<O>,
+    err: &mut Printer<E>,
+) -> u8
+    ensures { IsVerdictTold (question judged.now.program judged.now.cert env.now asked.entry.node) (paper O.contents out.old) (paper O.contents out.new)
+        (paper E.contents err.old) (paper E.contents err.new) result }
+{
+    let Some(diagnosis) = diagnose(&judged.program, &judged.cert, env, asked.node) else {
+        return say_shown(alloc, env, form, asked, None, judged, DONE, out, err);
+    };
+    let refused = Some(RefusedAt {
+        label: diagnosis.label,
+        rule: diagnosis.reason.rule().number(),
+    });
+    say_shown(alloc, env, form, asked, refused, judged, REFUSED, out, err)
+}
+
+/// Prints a program with its rows and the verdict, and returns the status; 3, with a report, where its counts are of a program with another number of
+/// instructions.
+#[tactic(auto, using(crate::proofs::Endings::form_fits, crate::proofs::Endings::form_misfits))]
 pub fn show<O: Write, E: Write>(
     alloc: Global,
     env: &Env,
     asked: Asked<'_>,
     judged: &Judged,
-    form: Form,
-    out: &mut O,
-    err: &mut E,
+    form: Form<'_>,
+    out: &mut Printer<O>,
+    err: &mut Printer<E>,
 ) -> u8
-    ensures status { IsVerdict (question judged.now.program judged.now.cert env.now asked.entry.node) result }
-    ensures silent { (result ≡ DONE) ⊎ (result ≡ REFUSED) → err.new ≡ err.old }
-    ensures memory { result ≡ MEMORY → TellsMemory (E.contents err.old) (E.contents err.new) }
+    ensures { IsFormTold form.entry (question judged.now.program judged.now.cert env.now asked.entry.node) (paper O.contents out.old)
+        (paper O.contents out.new) (paper E.contents err.old) (paper E.contents err.new) result }
 {
-    let Some(diagnosis) = diagnose(&judged.program, &judged.cert, env, asked.node) else {
-        let verdict = verdict_of(asked, None);
-        return print_shown(alloc, form, verdict, judged, DONE, out, err);
-    };
-    let refused = RefusedAt {
-        label: diagnosis.label,
-        rule: diagnosis.reason.rule().number(),
-    };
-    let verdict = verdict_of(asked, Some(refused));
-    print_shown(alloc, form, verdict, judged, REFUSED, out, err)
+    let count = judged.program.instrs().len();
+    match misfit_in(form, count) {
+        Some(counted) => report_misfit(alloc, counted, asked, count, out, err),
+        None => show_verdict(alloc, env, asked, judged, form, out, err),
+    }
 }

@@ -1,13 +1,12 @@
--- The nodes so far were reported, and no fault was.
-use Rattle.std.proofs.Common.{◌≡◌, ◌⊎◌, ◌<◌, ℕ}
-use Rattle.dp_cli.specs.Judging.{EndedAt}
+-- The nodes so far were printed, and no fault was reported.
+use Rattle.std.proofs.Common.{◌≡◌}
+use Rattle.dp_cli.specs.Printing.{paper}
+use Rattle.dp_cli.proofs.Telling.{Reached}
 use Rattle.dp_cli.proofs.verdicts.tell_all.Given as goal
 
 abbrev pub invariant-loop-index : goal.invariant-loop-index
 invariant-loop-index g l = record {
-  accepted : l.worst ≡ 0 → (index : ℕ) → index < l.index → EndedAt (g.F.Files.known l.initial.files) l.survey.config 0 index;
-  refused : l.worst ≡ 1 → (index : ℕ) × EndedAt (g.F.Files.known l.initial.files) l.survey.config 1 index;
-  ends : (l.worst ≡ 0) ⊎ (l.worst ≡ 1);
-  silent : l.err ≡ l.initial.err;
+  reached : Reached (g.F.Files.known l.initial.files) l.survey.config l.wanted (paper g.O.Write.contents l.initial.out)
+      (paper g.E.Write.contents l.initial.err) l.index l.worst (paper g.O.Write.contents l.out) (paper g.E.Write.contents l.err);
   stays : g.F.Files.known l.files ≡ g.F.Files.known l.initial.files;
 }

@@ -1,4 +1,4 @@
--- The inputs so far, by their names.
+-- The inputs so far.
 use Rattle.std.proofs.Common.{◌≡◌, length, take}
 use Rattle.dp_cli.specs.Names.{AreInputs}
 use Rattle.dp_cli.proofs.run.captures.open_inputs.Given as goal

@@ -1,6 +1,8 @@
--- The slice has as many outputs as the list.
-use Rattle.std.proofs.Common.{length, ap, arith}
+-- The run, reported, over captures that are open.
+use Rattle.std.proofs.Common.{◌∙◌}
+use Rattle.dp_cli.proofs.Opened.{opened_run}
 use Rattle.dp_cli.proofs.run.files.run_opened.Goals as goal
 
-pub run_counted-ended-requires-clause-few : goal.run_counted-ended-requires-clause-few
-run_counted-ended-requires-clause-few g c = omega (arith, c.requires.few, ap length c.as_mut_slice-outs.ensures.value)
+pub returns : goal.returns
+returns g c = opened_run _ _ _ _ _ _ _ _ _ _ _ _ _ _ _ _ _ _ _ (c.copy-env.ensures.same ∙ c.env.ensures.same) c.run_and_report-ended.ensures.run
+    c.run_and_report-ended.ensures.text c.run_and_report-ended.ensures.document

@@ -1,10 +1,11 @@
--- The names of one port after the other so far.
-use Rattle.std.proofs.Common.{◌≡◌, length, take}
-use Rattle.dp_cli.specs.Names.{AreNames}
+-- The captures of one port after the other so far.
+use Rattle.std.proofs.Common.{◌≡◌, length, map, take}
+use Rattle.dp_cli.specs.Names.{captures_from, input_capture, output_capture}
 use Rattle.dp_cli.proofs.run.findings.names_of.Given as goal
 
 abbrev pub invariant-loop-port : goal.invariant-loop-port
 invariant-loop-port l = record {
   many : length l.names.items ≡ l.port;
-  names : AreNames l.naming (take l.port l.pipeline.inputs) (take l.port l.pipeline.outputs) l.names.items;
+  inputs : map input_capture l.names.items ≡ captures_from l.naming l.given.inputs.items 0 (take l.port l.pipeline.inputs);
+  outputs : map output_capture l.names.items ≡ captures_from l.naming l.given.outputs.items 0 (take l.port l.pipeline.outputs);
 }
