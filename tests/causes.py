@@ -15,7 +15,7 @@ from collections import Counter
 from collections.abc import Iterator
 from typing import Any, NamedTuple
 
-from command import STRIP, asked, new_folder
+from command import STRIP, asked, fixed, new_folder
 from model import rules
 from model.machine import Env, Pool, Port, Ring
 from model.programs import assemble
@@ -324,7 +324,7 @@ def ends_so(program: str, folder: pathlib.Path, case: Case) -> bool:
     for name, data in files.items():
         (folder / name).write_bytes(data)
     run = subprocess.run([program, "check", "it.toml"], cwd=folder, capture_output=True, text=True, timeout=60)
-    told = run.stderr.partition("\n")[0] + "\n" if run.stderr else ""
+    told = fixed(run.stderr)
     passed = run.returncode == case.status and bool(re.fullmatch(case.printed, run.stdout) and re.fullmatch(case.told, told))
     if not passed:
         print(f"{case.cause}: expected {case.status}, {case.printed!r}, {case.told!r}; came {run.returncode}, {run.stdout!r}, {run.stderr!r}")

@@ -15,7 +15,7 @@ import tempfile
 from collections import Counter
 from collections.abc import Iterable, Iterator
 
-from command import STRIP, program_of
+from command import STRIP, fixed, program_of
 from fuzz import Place
 from model import answers, captures, rules
 from model.programs import assemble
@@ -72,7 +72,7 @@ def run_on(place: Place, cert: bytes, data: bytes) -> Ending:
     place.put("in.pcap", data)
     ended = place.run(WORDS)
     # Other lines may explain the fault after its first line.
-    told = ended.told.partition("\n")[0] + "\n" if ended.told else ""
+    told = fixed(ended.told)
     return ended.status, ended.printed, told, ended.written.get("out.pcap")
 
 

@@ -236,8 +236,9 @@ def looking_cases() -> list[Case]:
     """Those of the commands that look at one program, or at those of a pipeline."""
     cert = (STRIP / "strip.cert").read_text()
     lost = "port 0 not inferred at 0 by J10\n> 0  exit  p0 sole, headroom 128, at most 1 segment; r0-r7 <= 0\n"
-    dropped = "0  tx p0,r0,L2  p0 sole, headroom 128, at most 1 segment; r0-r7 <= 0\n  1  exit         + p0 empty\n"
-    forward = f"port 0 accepted\n  {dropped}  2  free p0      + p0 sole, headroom 128, at most 1 segment\n  3  exit         + p0 empty\n"
+    rows = ("p0 sole, headroom 128, at most 1 segment; r0-r7 <= 0", "+ p0 empty", "+ p0 sole, headroom 128, at most 1 segment", "+ p0 empty")
+    words = ("    tx p0,r0,d", "    exit      ", "d:  free p0   ", "    exit      ")
+    forward = "port 0 accepted\n" + "".join(f"  {k}  {word}  {row}\n" for k, (word, row) in enumerate(zip(words, rows)))
     return [
         Case(["infer-one", "none"], *node_fault("5 File port 0")),
         Case(["infer-one", "long.dpv"], *node_fault("5 File port 0")),

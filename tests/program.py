@@ -22,6 +22,8 @@ from command import MULTICAST, STRIP, asked, fixed, new_folder, put_library
 
 OUTPUTS = ("out.pcap", "port0.pcap", "port1.pcap")
 MEBIBYTE = 1_048_576
+# the document of a command that found no memory
+NO_MEMORY = b'{"fault":{"status":4,"text":"fault: memory"}}\n'
 HEAP = "region 65536\n" + "malloc 100 0\n" * 40 + "zmalloc 64 1024\nlist\nfree 1\nfree 41\nstats\n"
 
 
@@ -64,7 +66,7 @@ class Ended:
         """Whether it reported the refused memory, and printed and wrote nothing else than that run."""
         return (
             (self.status, self.told) == (4, b"fault: memory\n")
-            and whole.printed.startswith(self.printed)
+            and (whole.printed.startswith(self.printed) or self.printed == NO_MEMORY)
             and all(held in (b"", complete) for held, complete in zip(self.written, whole.written))
         )
 

@@ -2,8 +2,8 @@
 """Runs the built program dpv on faults, and tests the lines that it prints after the line of the fault.
 
 Usage: tests/told.py [PROGRAM]   (the built program; by default the one that ./dpv builds and runs)
-Files that are missing, folders, too long, not readable or writable; captures with each cause, and in another format; pipelines with each
-cause; full disks; outputs that are inputs by the same name, by another name, by a link and from standard input; words of `dpv trace` that
+Files that are missing, folders, too long, not readable or writable; captures with each cause, in another format and with other link types;
+certificates of other programs; pipelines with each cause; full disks; outputs that are inputs by the same name, by another name, by a link and from standard input; words of `dpv trace` that
 name no port. The words are the system's on this host (os.strerror), or are given here. Then the lines of `--progress`, for captures of both
 byte orders and for runs that stop, and that there are none without it. Prints a line for each case that failed, and a count; exits with 1
 if a case failed.
@@ -28,11 +28,12 @@ MILLION = 1_000_000
 
 
 class Case(NamedTuple):
-    """The words after `dpv`, the status, and the expected standard error."""
+    """The words after `dpv`, the status, the expected standard error, and whether that has the lines `at` and `help`, which are compared only then."""
 
     words: list[str]
     status: int
     told: str
+    is_whole: bool = False
 
 
 def system(number: int) -> str:
@@ -93,7 +94,6 @@ def files() -> Iterator[Case]:
     yield Case(["one", "none", "none", "none", "none"], 3, node("port 0", "none", missing))
     yield Case(["one", "strip.dpv", "folder", "none", "none"], 3, node("port 0", "folder", folder))
     yield Case(["check", "ring_file.toml"], 3, node("ring 0", "long.dpv", long))
-    yield Case(["check", "second.toml"], 1, "")
     yield strips("none", "out", file("none", missing))
     yield strips("in.pcap", "none/none", file("none/none", missing))
     yield strips("in.pcap", "folder", file("folder", folder))
@@ -115,7 +115,7 @@ def captures() -> Iterator[Case]:
         "magic.pcap": (1, "no magic number of a pcap file"),
         "new.pcapng": (1, PCAPNG),
         "version.pcap": (2, "the version is not 2.4"),
-        "link.pcap": (3, "the link type is not 1"),
+        "link.pcap": (3, "the link type is 101 RAW, and not 1 ETHERNET"),
         "time.pcap": (4, "the fraction of a record's time is a second or more"),
         "large.pcap": (5, "a record has more than 262144 bytes"),
         "short.pcap": (6, "fewer than the 24 bytes of a header"),
@@ -127,6 +127,60 @@ def captures() -> Iterator[Case]:
     yield Case(["run", "no_other_header.toml"], 3, of_input(1, 3, "link.pcap", words["link.pcap"][1]))
     yield Case(["run", "no_bytes.toml"], 3, of_input(1, 8, "folder", system(errno.EISDIR)))
     yield Case(["run", "no_room.toml"], 3, "fault: region\n")
+
+
+# Link types with their names, and what helps; the commands were tried with editcap 4.0.17 and tcprewrite 4.4.3.
+HERE, HEADERS = "capture on an Ethernet interface", "tcprewrite --dlt=enet --enet-smac=MAC --enet-dmac=MAC -i IN -o OUT"
+IN_PLACE_OF_ANY, IS_ETHERNET = "capture on one Ethernet interface in place of any", "if each record really is an Ethernet frame: editcap -F pcap -T ether IN OUT"
+LINKS = {
+    0: ("0 NULL", f"{HERE}: these records have no Ethernet headers"),
+    9: ("9 PPP", f"{HERE}: these records have no Ethernet headers"),
+    101: ("101 RAW", f"{HERE}, or add Ethernet headers: {HEADERS}"),
+    105: ("105 IEEE802_11", f"{HERE}, or on a wireless one that is not in monitor mode"),
+    108: ("108 LOOP", f"{HERE}: these records have no Ethernet headers"),
+    113: ("113 LINUX_SLL", f"{IN_PLACE_OF_ANY}, or replace the headers: {HEADERS}"),
+    127: ("127 IEEE802_11_RADIOTAP", f"{HERE}, or on a wireless one that is not in monitor mode"),
+    146: ("146", f"{IS_ETHERNET}; else {HERE}"),
+    147: ("147 USER", f"{IS_ETHERNET}; else {HERE}"),
+    162: ("162 USER", f"{IS_ETHERNET}; else {HERE}"),
+    228: ("228 IPV4", f"{HERE}: these records have no Ethernet headers"),
+    229: ("229 IPV6", f"{HERE}: these records have no Ethernet headers"),
+    276: ("276 LINUX_SLL2", IN_PLACE_OF_ANY),
+}
+
+
+def links() -> Iterator[Case]:
+    """Captures with other link types, in both byte orders, also of another port and from a pipe; and one that says that frames have checksums."""
+    for link, (name, cure) in LINKS.items():
+        for order in ("little", "big"):
+            file = f"{link}.{order}.pcap"
+            told = of_input(0, 3, file, f"the link type is {name}, and not 1 ETHERNET") + f"  help: {cure}\n"
+            yield strips(file, "out", told)._replace(is_whole=True)
+    checksums = "the link type is 1 ETHERNET with 9216 in the upper 16 bits, and not 1 ETHERNET alone"
+    cure = "  help: remove the checksums at the ends of the frames: editcap -F pcap -T ether -L -C -4 IN OUT\n"
+    yield strips("checksums.pcap", "out", of_input(0, 3, "checksums.pcap", checksums) + cure)._replace(is_whole=True)
+    raw = of_input(1, 3, "101.big.pcap", "the link type is 101 RAW, and not 1 ETHERNET") + f"  help: {LINKS[101][1]}\n"
+    yield Case(["run", "two_links.toml"], 3, raw, is_whole=True)
+    yield Case(["trace", "two_links.toml"], 3, raw, is_whole=True)
+
+
+def unfit() -> Iterator[Case]:
+    """Certificates of other programs with as many rows, for programs that are accepted with another one and for one that is not."""
+    begins = "  because: the certificate {} does not fit the program {}\n"
+    inferred = "  help: the program itself is accepted with an inferred certificate: "
+    one = begins.format("bold.cert", "strip.dpv") + f"{inferred}dpv infer-one strip.dpv > bold.cert\n"
+    yield Case(["one", "strip.dpv", "bold.cert", "in.pcap", "out"], 1, one, is_whole=True)
+    lost = begins.format("strip.cert", "lost6.dpv") + "  help: dpv explain-one lost6.dpv strip.cert explains why\n"
+    yield Case(["one", "lost6.dpv", "strip.cert", "in.pcap", "out"], 1, lost, is_whole=True)
+    refused = begins.format("bold.cert", "strip.dpv") + f"{inferred}leave out the key cert, or dpv infer refused.toml port0 > bold.cert\n"
+    second = begins.format("strip.cert", "strip.dpv") + f"{inferred}leave out the key cert, or dpv infer second.toml port1 > strip.cert\n"
+    ring = begins.format("strip.cert", "lost6.dpv") + "  help: dpv explain ring_unfit.toml ring0 explains why\n"
+    for command in ("check", "run", "trace"):
+        yield Case([command, "refused.toml"], 1, refused, is_whole=True)
+        yield Case([command, "second.toml"], 1, second, is_whole=True)
+        yield Case([command, "ring_unfit.toml"], 1, ring, is_whole=True)
+        yield Case([command, "lost.toml"], 1, "", is_whole=True)
+    yield Case(["one", "lost.dpv", "strip.cert", "in.pcap", "out"], 3, of_pipeline("7 BadCert port 0 line 3 cause 4", "line 3: there are too few or too many lines"))
 
 
 def full_disks() -> Iterator[Case]:
@@ -160,7 +214,6 @@ def pipelines() -> Iterator[Case]:
         yield Case(["run", f"{name}.toml"], 3, of_pipeline(cause, reason))
     yield Case(["explain", "text.toml"], 3, of_pipeline(*told["text"]))
     yield Case(["show", "text.toml", "port0"], 3, of_pipeline(*told["text"]))
-    yield Case(["check", "refused.toml"], 1, "")
 
 
 def same_files() -> Iterator[Case]:
@@ -209,7 +262,7 @@ def progress() -> Iterator[Case]:
     for name in ("little.pcap", "big.pcap"):
         yield Case([*one, name, "/dev/null"], 0, step + in_all(MILLION + 1))
         yield Case(["one", *one[2:], name, "/dev/null"], 0, "")
-    yield Case([*one, "link.pcap", "out"], 3, in_all(0) + of_input(0, 3, "link.pcap", "the link type is not 1"))
+    yield Case([*one, "link.pcap", "out"], 3, in_all(0) + of_input(0, 3, "link.pcap", "the link type is 101 RAW, and not 1 ETHERNET"))
     yield Case([*one, "none", "out"], 3, file("none", system(errno.ENOENT)))
     yield Case(["run", "--progress", "both.toml"], 0, in_all(1, 2))
     yield Case(["run", "late_full.toml", "--progress"], 3, in_all(1, 2) + of_output(1, "/dev/full", system(errno.ENOSPC)))
@@ -223,6 +276,11 @@ def nothing_told() -> Iterator[Case]:
     yield Case(["run", "both.toml"], 0, "")
 
 
+def header_of(order: str, link: int) -> bytes:
+    """The header of a capture with this link type."""
+    return struct.pack("<IHHIIII" if order == "little" else ">IHHIIII", 0xA1B2C3D4, 2, 4, 0, 0, 262144, link)
+
+
 def make_more(folder: pathlib.Path) -> None:
     """The files that the cases name beside those of tests/faults.py."""
     table = '[[table]]\nrules = 1\ngroups = 0\nroutes = ["{}"]\n'
@@ -233,6 +291,8 @@ def make_more(folder: pathlib.Path) -> None:
         "unread_route": pipeline(["none"], table=table.format("10.0.0.0 1")),
         "late_full": run_of(["one.pcap", "two.pcap"], ["out0", "/dev/full"]),
         "crossed": run_of(["one.pcap", "kept.pcap"], ["kept.pcap", "out1"]),
+        "two_links": run_of(["one.pcap", "101.big.pcap"], ["out0", "out1"]),
+        "ring_unfit": pipeline(["strip.dpv strip.cert"], ["lost6.dpv strip.cert"]),
     }
     data = {
         "magic.pcap": b"\0" + ONE[1:],
@@ -245,7 +305,10 @@ def make_more(folder: pathlib.Path) -> None:
         "big.pcap": struct.pack(">IHHIIII", 0xA1B2C3D4, 2, 4, 0, 0, 262144, 1) + (MILLION + 1) * struct.pack(">IIII", 1, 2, 0, 0),
         "kept.pcap": ONE,
         "closed": ONE,
+        "lost6.dpv": 6 * b"exit\n",
+        "checksums.pcap": header_of("little", 0x2400_0001),
     }
+    data.update((f"{link}.{order}.pcap", header_of(order, link)) for link in LINKS for order in ("little", "big"))
     for name, text in texts.items():
         (folder / f"{name}.toml").write_text(text)
     for name, bytes_of in data.items():
@@ -260,8 +323,8 @@ def ends_so(program: str, case: Case, folder: pathlib.Path, user: int | None = N
     with open(folder / "kept.pcap", "rb") as given:
         run = subprocess.run([program, *case.words], cwd=folder, stdin=given, capture_output=True, text=True, timeout=60, user=user)
     kept = (folder / "kept.pcap").read_bytes() == ONE
-    # (the line at fault and the cure are tests/mistakes.py's)
-    told = re.sub(r"(?m)^  (?:at|help): .*\n", "", run.stderr)
+    # (the line at fault of a text and its cure are tests/mistakes.py's)
+    told = run.stderr if case.is_whole else re.sub(r"(?m)^  (?:at|help): .*\n", "", run.stderr)
     passed = (run.returncode, told, kept) == (case.status, case.told, True)
     if not passed:
         print(f"dpv {' '.join(case.words)}: status {run.returncode}, told {run.stderr!r} and not {case.told!r}" + ("" if kept else "; the capture is gone"))
@@ -296,7 +359,7 @@ def main() -> int:
         folder.mkdir()
         make_files(folder)
         make_more(folder)
-        kinds = (files, captures, full_disks, pipelines, same_files, no_text, traces, progress, nothing_told)
+        kinds = (files, captures, links, unfit, full_disks, pipelines, same_files, no_text, traces, progress, nothing_told)
         passed = [ends_so(program, case, folder) for kind in kinds for case in kind()]
         passed.append(goes_on(program, folder))
         passed += as_nobody(program, folder)

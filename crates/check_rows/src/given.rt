@@ -111,6 +111,16 @@ pub fn program(rt: &HostRuntime, text: &str) -> Result<Program, Fail> {
     Ok(assemble(rt.alloc(), text.as_bytes())?)
 }
 
+/// The text of a program of 1,024 instructions, the greatest number: 1,022 such lines, and an end.
+pub fn longest(rt: &HostRuntime, line: &str) -> Result<String, Fail> {
+    let mut text = String::new(rt.alloc());
+    for _ in 0..1022 {
+        text.push_str(line)?;
+    }
+    text.push_str("free p0\nexit\n")?;
+    Ok(text)
+}
+
 /// The certificate inferred for a text, at port 0.
 pub fn inferred(rt: &HostRuntime, text: &str, env: &Env) -> Result<Cert, Fail> {
     Ok(infer(rt.alloc(), &program(rt, text)?, env, Entry::Port(0))?)

@@ -1,8 +1,8 @@
 //! What the inferrer finds.
 
 use crate::given::{
-    ALL_FORMS, FORWARD, LOOP, MULTICAST, STRIP, environment, inferred, missing, program, refusal,
-    strip_text, two_ports,
+    ALL_FORMS, FORWARD, LOOP, MULTICAST, STRIP, environment, inferred, longest, missing, program,
+    refusal, strip_text, two_ports,
 };
 use dp_cert::{decode, encode};
 use dp_check::entails;
@@ -67,11 +67,7 @@ fn no_certificate_serves(rt: HostRuntime) -> Result<(), Fail> {
 #[test]
 fn the_longest_program(rt: HostRuntime) -> Result<(), Fail> {
     let env = environment(1)?;
-    let mut text = String::new(rt.alloc());
-    for _ in 0..1022 {
-        text.push_str("add r1,3\n")?;
-    }
-    text.push_str("free p0\nexit\n")?;
+    let text = longest(&rt, "add r1,3\n")?;
     let cert = inferred(&rt, text.as_str(), &env)?;
     assert_eq!(rt; cert.rows().len(), 1024);
     assert_eq!(rt;

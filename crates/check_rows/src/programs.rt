@@ -1,5 +1,6 @@
 //! Texts of programs: how they read, how they print, and their faults.
 
+use crate::given::longest;
 use dp_lang::{AsmError, assemble, print};
 use dp_model::Instr;
 use std::test::*;
@@ -168,6 +169,16 @@ fn a_program_has_at_most_1024_instructions(rt: HostRuntime) -> Result<(), Fail> 
     let mut one_more = exits(&rt, 1024)?;
     one_more.push_str("a: exit\n")?;
     assert_eq!(rt; fault(&rt, one_more.as_str()), (1025, 9));
+    Ok(())
+}
+
+/// There is memory for the text of a program of 1,024 instructions.
+#[test]
+fn the_longest_program_is_printed(rt: HostRuntime) -> Result<(), Fail> {
+    let text = longest(&rt, "set r1,18446744073709551615\n")?;
+    let program = assemble(rt.alloc(), text.as_bytes())?;
+    assert_eq!(rt; program.instrs().len(), 1024);
+    assert_eq!(rt; print(rt.alloc(), &program)?.as_str(), text.as_str());
     Ok(())
 }
 

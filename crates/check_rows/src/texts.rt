@@ -1,6 +1,6 @@
 //! Texts of certificates.
 
-use crate::given::{fault, strip_text};
+use crate::given::{environment, fault, inferred, longest, strip_text};
 use dp_cert::{decode, encode};
 use std::test::Fail;
 
@@ -13,6 +13,19 @@ fn strip_comes_back(rt: HostRuntime) -> Result<(), Fail> {
     assert_eq!(rt; cert.rows().len(), 6);
     let again = encode(rt.alloc(), &cert)?;
     assert_eq!(rt; again.as_slice(), bytes);
+    Ok(())
+}
+
+/// There is memory for the certificate of a program of 1,024 instructions.
+#[test]
+fn the_longest_certificate_comes_back(rt: HostRuntime) -> Result<(), Fail> {
+    let program = longest(&rt, "add r1,3\n")?;
+    let cert = inferred(&rt, program.as_str(), &environment(1)?)?;
+    let text = encode(rt.alloc(), &cert)?;
+    assert_eq!(rt; text.len(), 314_379);
+    let again = decode(rt.alloc(), text.as_slice(), 1024)?;
+    assert_eq!(rt; again.rows().len(), 1024);
+    assert_eq!(rt; encode(rt.alloc(), &again)?.as_slice(), text.as_slice());
     Ok(())
 }
 

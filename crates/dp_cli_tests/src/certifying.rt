@@ -1,7 +1,7 @@
 //! Printed texts and statuses of `dpv infer-one`.
 
 use crate::testing::{Ended, cert_text, file};
-use dp_cli::{infer_node, one_env};
+use dp_cli::{Printer, infer_node, one_env};
 use dp_model::Entry;
 use dp_pipe::Listed;
 use std::alloc::{AllocError, Global};
@@ -13,11 +13,17 @@ fn certified(alloc: Global, name: &str, program: &str) -> Ended {
     let mut files = Listed {
         files: held.as_slice(),
     };
-    let mut ended = Ended::new(alloc);
     let (env, node) = (one_env(), Entry::Port(0));
-    let (out, err) = (&mut ended.printed, &mut ended.told);
-    ended.status = infer_node(alloc, &mut files, &env, node, "node.dpv", out, err);
-    ended
+    let mut out = Printer::new(Vec::new(alloc));
+    let mut err = Printer::new(Vec::new(alloc));
+    let status = infer_node(
+        alloc, &mut files, &env, node, "node.dpv", &mut out, &mut err,
+    );
+    Ended {
+        status,
+        printed: out.into_inner(),
+        told: err.into_inner(),
+    }
 }
 
 /// The certificate of the program that takes 14 bytes off, as its rows begin.

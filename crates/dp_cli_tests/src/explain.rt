@@ -147,7 +147,7 @@ const NODES: [&str; 4] = [
     "port 0 refused at 0 by J11\npass.dpv:1: tx p0,r0,d\n  \
         J11: what is known afterwards is enough where control goes\n  \
         known:  p0 sole, headroom 128, at most 1 segment\n  \
-        wanted: at 2: p0 sole, headroom 128, first 1, at most 1 segment\n  \
+        wanted: at 2, d: p0 sole, headroom 128, first 1, at most 1 segment\n  \
         help:   let dpv infer write the certificate, or test for more before it\n",
     "port 1 not inferred at 0 by J9\nqueue.dpv:1: enq p0,0,d\n  \
         J9: the port is there, and the packet is as the ring declares\n  \

@@ -1,7 +1,8 @@
 //! The reasons of faults, and what readers and writers keep of a failure.
 
 use dp_cli::{
-    Fault, Finding, Guarded, MEMORY, Progress, Reason, Watched, fault_of, reason_of, tell_fault,
+    Fault, Finding, Guarded, LinkType, MEMORY, Progress, Reason, Watched, fault_of, reason_of,
+    tell_fault,
 };
 use dp_model::{Entry, EnvError};
 use dp_pcap::PcapError;
@@ -137,6 +138,70 @@ fn a_capture_has_its_file_and_what_was_found(rt: HostRuntime) {
     }
 }
 
+/// Link types, and the lines for them: the words, and what helps.
+static LINKS: [(u32, &str, &str); 8] = [
+    (
+        0,
+        "the link type is 0 NULL, and not 1 ETHERNET",
+        "capture on an Ethernet interface: these records have no Ethernet headers",
+    ),
+    (
+        101,
+        "the link type is 101 RAW, and not 1 ETHERNET",
+        "capture on an Ethernet interface, or add Ethernet headers: tcprewrite --dlt=enet --enet-smac=MAC --enet-dmac=MAC -i IN -o OUT",
+    ),
+    (
+        113,
+        "the link type is 113 LINUX_SLL, and not 1 ETHERNET",
+        "capture on one Ethernet interface in place of any, or replace the headers: tcprewrite --dlt=enet --enet-smac=MAC --enet-dmac=MAC -i IN -o OUT",
+    ),
+    (
+        127,
+        "the link type is 127 IEEE802_11_RADIOTAP, and not 1 ETHERNET",
+        "capture on an Ethernet interface, or on a wireless one that is not in monitor mode",
+    ),
+    (
+        276,
+        "the link type is 276 LINUX_SLL2, and not 1 ETHERNET",
+        "capture on one Ethernet interface in place of any",
+    ),
+    (
+        162,
+        "the link type is 162 USER, and not 1 ETHERNET",
+        "if each record really is an Ethernet frame: editcap -F pcap -T ether IN OUT; else capture on an Ethernet interface",
+    ),
+    (
+        163,
+        "the link type is 163, and not 1 ETHERNET",
+        "if each record really is an Ethernet frame: editcap -F pcap -T ether IN OUT; else capture on an Ethernet interface",
+    ),
+    (
+        0x2400_0001,
+        "the link type is 1 ETHERNET with 9216 in the upper 16 bits, and not 1 ETHERNET alone",
+        "remove the checksums at the ends of the frames: editcap -F pcap -T ether -L -C -4 IN OUT",
+    ),
+];
+
+#[test]
+fn a_link_type_has_its_name_and_a_cure(rt: HostRuntime) -> std::result::Result<(), Fail> {
+    let alloc = rt.alloc();
+    for (link, words, cure) in LINKS.iter() {
+        let found = Some(Finding {
+            file: Some("in.pcap"),
+            reason: Reason::Link(LinkType(*link)),
+        });
+        let cause = RunCause::In(3, PcapError::BadLink);
+        let text = format!(in alloc;
+            "fault: input 3 cause 3\n  file: in.pcap\n  because: {words}\n  help: {cure}\n"
+        )?;
+        assert!(&rt;
+            is_told(alloc, fault_of(cause, found), 3, text.as_str()),
+            "{text}"
+        );
+    }
+    Ok(())
+}
+
 /// A device that fails each call after a number of bytes.
 #[derive(Drop)]
 struct Short {
@@ -193,6 +258,30 @@ fn a_pcapng_file_is_known_by_its_first_bytes(rt: HostRuntime) {
         let mut buf = [0; 8];
         assert!(&rt; reader.read(&mut buf).is_ok());
         assert_eq!(&rt; reader.seen().is_pcapng, is_pcapng);
+    }
+}
+
+/// The header of a capture of this link type, lowest byte first or last.
+const COOKED: &[u8; 24] = b"\xd4\xc3\xb2\xa1\x02\0\x04\0\0\0\0\0\0\0\0\0\0\0\x04\0\x71\0\0\0";
+
+const COOKED_BIG: &[u8; 24] = b"\xa1\xb2\xc3\xd4\0\x02\0\x04\0\0\0\0\0\0\0\0\0\x04\0\0\0\0\0\x71";
+
+#[test]
+fn a_capture_has_the_link_type_of_its_first_bytes(rt: HostRuntime) {
+    let other = Some(LinkType(113));
+    let cases: [(&[u8], Option<LinkType>); 4] = [
+        (COOKED, other),
+        (COOKED_BIG, other),
+        (&COOKED[..23], None),
+        (&COOKED[1..], None),
+    ];
+    for (bytes, link) in cases {
+        let mut reader = Watched::new(bytes, Progress::new(sink(), 0, false));
+        let mut buf = [0; 24];
+        assert!(&rt; reader.read(&mut buf).is_ok());
+        assert_eq!(&rt; reader.seen().link, link);
+        assert!(&rt; reader.read(&mut buf).is_ok());
+        assert_eq!(&rt; reader.seen().link, link);
     }
 }
 

@@ -4,9 +4,13 @@
 #[cfg(test)]
 mod certifying;
 #[cfg(test)]
+mod counted;
+#[cfg(test)]
 mod explain;
 #[cfg(test)]
 mod fault_reasons;
+#[cfg(test)]
+mod json;
 #[cfg(test)]
 mod pipelines;
 #[cfg(test)]
@@ -14,8 +18,12 @@ mod run;
 #[cfg(test)]
 mod show;
 #[cfg(test)]
+mod sizes;
+#[cfg(test)]
 mod testing;
 #[cfg(test)]
 mod texts;
 #[cfg(test)]
 mod trace;
+#[cfg(test)]
+mod unfit;

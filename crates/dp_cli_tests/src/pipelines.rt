@@ -91,11 +91,7 @@ fn answered(alloc: Global, text: &str, which: Option<Entry>) -> Ended {
     ended.status = match load_line(alloc, bytes, &mut files, how, &mut out, &mut err) {
         Ok(pipeline) => match which {
             None => check_line(&pipeline, &mut out, &mut err),
-            Some(node) => {
-                let (out, err) = (&mut ended.printed, &mut ended.told);
-                ended.status = infer_line(alloc, &pipeline, node, out, err);
-                return ended;
-            }
+            Some(node) => infer_line(alloc, &pipeline, node, &mut out, &mut err),
         },
         Err(status) => status,
     };
@@ -262,21 +258,23 @@ fn a_writer_that_is_full_ends_with_its_status(rt: HostRuntime) {
     let mut files = Listed {
         files: held.as_slice(),
     };
-    let mut told = Vec::new(alloc);
     let mut err = Printer::new(Vec::new(alloc));
     let (mut small, mut none) = ([0u8; 20], [0u8; 0]);
     let mut out = Printer::new(small.as_mut_slice());
-    let mut full = none.as_mut_slice();
+    let mut full = Printer::new(none.as_mut_slice());
     let text = TWO_PORTS.as_bytes();
     match load_line(alloc, text, &mut files, How::Given, &mut out, &mut err) {
         Ok(pipeline) => {
             assert_eq!(&rt; check_line(&pipeline, &mut out, &mut err), 3);
             assert!(&rt; out.has_failed() && !err.has_failed());
-            let status = infer_line(alloc, &pipeline, Entry::Port(0), &mut full, &mut told);
-            assert_eq!(&rt; status, 3);
+            let node = Entry::Port(0);
+            assert_eq!(&rt; infer_line(alloc, &pipeline, node, &mut full, &mut err), 3);
+            assert!(&rt; full.has_failed() && !err.has_failed());
+            let none = Entry::Port(2);
+            assert_eq!(&rt; infer_line(alloc, &pipeline, none, &mut err, &mut full), 3);
         }
         Err(status) => assert_eq!(&rt; status, 0),
     }
-    assert!(&rt; err.into_inner().is_empty() && told.is_empty());
+    assert!(&rt; err.into_inner().is_empty());
     assert_eq!(&rt; small.as_slice(), b"port 0 accepted\nport".as_slice());
 }

@@ -4,7 +4,10 @@ use crate::pipelines::{FORWARD, LOOP, MULTICAST, RING, TWO_PORTS, changed};
 use crate::testing::{
     Devices, Ended, HEADER, NONE, Ran, Source, WHOLE, file, front, joined, run_all, run_on,
 };
-use dp_cli::{Guarded, Printer, load_line, numbers_in};
+use dp_cli::{
+    Guarded, Place, Printer, Replaced, WordFault, captures_of, load_line, nowhere_in, numbers_in,
+    replaced_in,
+};
 use dp_pcap::{OfBufWriter, OfRead};
 use dp_pipe::{How, Listed, NamedBytes};
 use std::alloc::{AllocError, Global};
@@ -444,6 +447,110 @@ fn lists_are_ascending_numbers(rt: HostRuntime) -> Result<(), Fail> {
     }
     for list in NO_LISTS.iter() {
         assert!(&rt; numbers_in(alloc, list)?.is_none(), "{list}");
+    }
+    Ok(())
+}
+
+/// Words PORT=NAME, with what they give.
+const REPLACED: &[(&str, u8, Place, &str)] = &[
+    ("0=in.pcap", 0, Place::File, "in.pcap"),
+    ("7=a=b", 7, Place::File, "a=b"),
+    ("3==", 3, Place::File, "="),
+    ("1=-", 1, Place::Stream, "-"),
+    ("1=--", 1, Place::File, "--"),
+    ("2= -", 2, Place::File, " -"),
+    ("4=/dev/null", 4, Place::File, "/dev/null"),
+    ("5=\u{e9}", 5, Place::File, "\u{e9}"),
+];
+
+/// Words that have not this form.
+const NOT_REPLACED: &[&str] = &[
+    "",
+    "0",
+    "=",
+    "0=",
+    "=a",
+    "8=a",
+    "9=a",
+    "00=a",
+    "10=a",
+    "x=a",
+    "-1=a",
+    " 0=a",
+    "0 =a",
+    "/=a",
+    ":=a",
+    "0:a",
+    "\u{660}=a",
+];
+
+#[test]
+fn words_replace_captures(rt: HostRuntime) {
+    for (word, port, place, name) in REPLACED.iter() {
+        match replaced_in(word) {
+            Some(one) => {
+                assert_eq!(&rt; (one.word, one.port, one.name), (*word, *port, *name));
+                assert!(&rt; one.place == *place, "{word}");
+            }
+            None => assert_eq!(&rt; *word, ""),
+        }
+    }
+    for word in NOT_REPLACED.iter() {
+        assert!(&rt; replaced_in(word).is_none(), "{word}");
+    }
+}
+
+#[test]
+fn words_give_no_capture(rt: HostRuntime) {
+    for (word, port) in [("0", 0), ("3", 3), ("7", 7)] {
+        match nowhere_in(word) {
+            Some(one) => {
+                assert_eq!(&rt; (one.word, one.port, one.name), (word, port, ""));
+                assert!(&rt; one.place == Place::Nowhere, "{word}");
+            }
+            None => assert_eq!(&rt; word, ""),
+        }
+    }
+    for word in ["", "8", "9", "00", "10", "x", "0=", "0=a", " 0", "/", ":"] {
+        assert!(&rt; nowhere_in(word).is_none(), "{word}");
+    }
+}
+
+/// The ports of captures, as digits; or the word at fault, after `!`, and the earlier word with which it clashes.
+fn ports_of(alloc: Global, named: &[&str], bare: &[&str]) -> Result<String, AllocError> {
+    match captures_of(alloc, named, bare) {
+        Ok(given) => {
+            let mut ports = String::new(alloc);
+            for Replaced { port, .. } in given.as_slice() {
+                ports.push_str(format!(in alloc; "{port}")?.as_str())?;
+            }
+            Ok(ports)
+        }
+        Err(WordFault::Memory) => Err(AllocError),
+        Err(WordFault::Unread(word, _)) => format!(in alloc; "!{word}"),
+        Err(WordFault::Clash(one, other)) => { format!(in alloc; "!{} {}", one.word, other.word) }
+    }
+}
+
+/// Words PORT=NAME, words PORT, and the ports that get a capture, or the first word at fault.
+const GIVEN: &[(&[&str], &[&str], &str)] = &[
+    (&[], &[], ""),
+    (&["1=a", "0=a"], &["7", "2"], "1072"),
+    (&["1=-", "0=/dev/stdin"], &["2", "3"], "1023"),
+    (&["1=a", "0=b", "1=a"], &["x"], "!1=a 1=a"),
+    (&["0=b", "0=c", "8=a"], &[], "!0=c 0=b"),
+    (&["0=b", "8=a", "0=c"], &[], "!8=a"),
+    (&["0=b"], &["1", "0"], "!0 0=b"),
+    (&[], &["6", "6"], "!6 6"),
+    (&["3=-", "4=-"], &[], "!4=- 3=-"),
+    (&["2=a", "3=-", "2=-"], &[], "!2=- 2=a"),
+];
+
+#[test]
+fn no_port_gets_two_captures(rt: HostRuntime) -> Result<(), Fail> {
+    let alloc = rt.alloc();
+    for (named, bare, wanted) in GIVEN.iter() {
+        assert_eq!(&rt; ports_of(alloc, named, bare)?.as_str(), *wanted);
     }
     Ok(())
 }

@@ -1,8 +1,8 @@
 //! Runs over readers and writers in memory, for tests.
 
 use dp_cli::{
-    Asked, Incomplete, Inlet, Outlet, Printer, Reporting, Seen, Wanted, load_line, numbers_in,
-    one_env, run_line, tell_node, tell_pipeline,
+    Asked, Incomplete, Inlet, Outlet, Printer, Reporting, Seen, Wanted, draw_pipeline, load_line,
+    numbers_in, one_env, run_line, tell_node, tell_pipeline,
 };
 use dp_engine::{Nothing, Silent};
 use dp_model::Entry;
@@ -299,7 +299,7 @@ pub fn told_alone(
     alloc: Global,
     program: &str,
     rows: &[&str],
-    wanted: Wanted,
+    wanted: Wanted<'_>,
 ) -> Result<Ended, AllocError> {
     let cert = cert_text(alloc, rows)?;
     let held = [
@@ -318,10 +318,11 @@ pub fn told_alone(
             Some("node.cert")
         },
     };
-    let mut ended = Ended::new(alloc);
-    let (env, out, err) = (one_env(), &mut ended.printed, &mut ended.told);
-    ended.status = tell_node(alloc, &mut files, &env, asked, wanted, out, err);
-    Ok(ended)
+    let mut out = Printer::new(Vec::new(alloc));
+    let mut err = Printer::new(Vec::new(alloc));
+    let env = one_env();
+    let status = tell_node(alloc, &mut files, &env, asked, wanted, &mut out, &mut err);
+    Ok(Ended::of(status, out, err))
 }
 
 /// What is printed of the nodes of a pipeline over these files, or of the one that is named.
@@ -330,11 +331,21 @@ pub fn told_of(
     text: &str,
     files: &[NamedBytes<'_>],
     which: Option<Entry>,
-    wanted: Wanted,
+    wanted: Wanted<'_>,
 ) -> Ended {
     let mut files = Listed { files };
-    let mut ended = Ended::new(alloc);
-    let (text, out, err) = (text.as_bytes(), &mut ended.printed, &mut ended.told);
-    ended.status = tell_pipeline(alloc, text, &mut files, which, wanted, out, err);
-    ended
+    let mut out = Printer::new(Vec::new(alloc));
+    let mut err = Printer::new(Vec::new(alloc));
+    let text = text.as_bytes();
+    let status = tell_pipeline(alloc, text, &mut files, which, wanted, &mut out, &mut err);
+    Ended::of(status, out, err)
+}
+
+/// What is printed of the picture of a pipeline over these files.
+pub fn drawn_of(alloc: Global, text: &str, files: &[NamedBytes<'_>]) -> Ended {
+    let mut files = Listed { files };
+    let mut out = Printer::new(Vec::new(alloc));
+    let mut err = Printer::new(Vec::new(alloc));
+    let status = draw_pipeline(alloc, text.as_bytes(), &mut files, &mut out, &mut err);
+    Ended::of(status, out, err)
 }

@@ -218,14 +218,12 @@ fn certified(alloc: Global, node: &str) -> Vec<u8> {
         files: held.as_slice(),
     };
     let text = ONE_PORT.as_bytes();
-    let mut cert = Vec::new(alloc);
-    let mut err = Vec::new(alloc);
     let mut out = Printer::new(Vec::new(alloc));
     let mut told = Printer::new(Vec::new(alloc));
     if let Ok(pipeline) = load_line(alloc, text, &mut files, How::Inferred, &mut out, &mut told) {
-        let _status = infer_line(alloc, &pipeline, Entry::Port(0), &mut cert, &mut err);
+        let _status = infer_line(alloc, &pipeline, Entry::Port(0), &mut out, &mut told);
     }
-    cert
+    out.into_inner()
 }
 
 /// Clones a packet, frees the clone, and stores 7 to the packet, which is sole again.

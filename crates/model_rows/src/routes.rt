@@ -259,6 +259,16 @@ fn a_thousand_rules_with_groups_to_spare(rt: HostRuntime) -> Result<(), Fail> {
     Ok(())
 }
 
+/// There is memory for a table of 65,536 rules and 256 groups.
+#[test]
+fn the_largest_table_can_be_had(rt: HostRuntime) -> Result<(), Fail> {
+    let mut table = Lpm::new(rt.alloc(), MAX_RULES, MAX_GROUPS)?;
+    assert_eq!(rt; table.add(ip(255, 255, 255, 254), 32, MAX_HOP), Ok(()));
+    assert_eq!(rt; table.lookup(ip(255, 255, 255, 254)), Some(MAX_HOP));
+    assert_eq!(rt; table.lookup(ip(255, 255, 255, 255)), None);
+    Ok(())
+}
+
 #[test]
 fn rules_are_counted(rt: HostRuntime) -> Result<(), Fail> {
     let mut table = Lpm::new(rt.alloc(), 4, 1)?;

@@ -7,6 +7,8 @@ mod causes;
 #[cfg(test)]
 mod given;
 #[cfg(test)]
+mod limits;
+#[cfg(test)]
 mod nodes;
 #[cfg(test)]
 mod texts;
