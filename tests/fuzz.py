@@ -21,6 +21,7 @@ import json
 import multiprocessing
 import os
 import pathlib
+import re
 import resource
 import shutil
 import signal
@@ -214,6 +215,18 @@ def fault_of(place: Place, case: Case, tally: Tally) -> tuple[Ended, str | None]
     return ended, wrong
 
 
+def without_link_type(ended: Ended) -> Ended:
+    """How a case ended, without the link type that was found and its cure: a first read of fewer than 24 bytes does not have it."""
+    return ended._replace(told=re.sub(r"  because: the link type is .*\n(  help: .*\n)?", "", ended.told))
+
+
+def runs_with_short_calls(place: Place, case: Case, ended: Ended, how: str, more: dict[bytes, bytes]) -> str | None:
+    """What is wrong where a case, run once more with a few bytes a call, does not the same."""
+    again = place.run(case.words, more)
+    same = without_link_type(again)[:4] == without_link_type(ended)[:4]
+    return None if same else f"another answer {how}: {ended[:3]}, then {again[:3]}"
+
+
 def runs_as(place: Place, case: Case, ended: Ended, how: str, more: dict[bytes, bytes] | None = None) -> str | None:
     """What is wrong where a case, run once more, does not the same."""
     again = place.run(case.words, more)
@@ -245,7 +258,7 @@ def runs_once_more(place: Place, case: Case, ended: Ended, how: str, number: int
     place.put_case(case)
     value = str(number).encode()
     if how == "short" and shims is not None:
-        return runs_as(place, case, ended, f"with {number} bytes a call", {b"LD_PRELOAD": bytes(shims / "short.so"), b"MOST": value})
+        return runs_with_short_calls(place, case, ended, f"with {number} bytes a call", {b"LD_PRELOAD": bytes(shims / "short.so"), b"MOST": value})
     if how == "refused" and shims is not None:
         return runs_refused(place, case, ended, {b"LD_PRELOAD": bytes(shims / "refused.so"), b"REFUSE": value})
     return runs_without_cache(place, case, ended)

@@ -3,10 +3,10 @@
 
 Usage: tests/told.py [PROGRAM]   (the built program; by default the one that ./dpv builds and runs)
 Files that are missing, folders, too long, not readable or writable; captures with each cause, in another format and with other link types;
-certificates of other programs; pipelines with each cause; full disks; outputs that are inputs by the same name, by another name, by a link and from standard input; words of `dpv trace` that
-name no port. The words are the system's on this host (os.strerror), or are given here. Then the lines of `--progress`, for captures of both
-byte orders and for runs that stop, and that there are none without it. Prints a line for each case that failed, and a count; exits with 1
-if a case failed.
+certificates of other programs; pipelines with each cause; full disks; outputs that are inputs by the same name, by another name, by a link
+and from standard input; words of `dpv trace` that name no port. The words are the system's on this host (os.strerror), or are given here.
+Then the lines of `--progress`, for captures of both byte orders and for runs that stop, and that there are none without it; and those on
+records that were dropped or cut. Prints a line for each case that failed, and a count; exits with 1 if a case failed.
 """
 import errno
 import os
@@ -268,6 +268,18 @@ def progress() -> Iterator[Case]:
     yield Case(["run", "late_full.toml", "--progress"], 3, in_all(1, 2) + of_output(1, "/dev/full", system(errno.ENOSPC)))
 
 
+def drops() -> Iterator[Case]:
+    """Runs that reach their end and sent less than came, each with its cure."""
+    yield Case(["run", "narrow.toml"], 0, "port 0: 1 records are longer than it takes (64 bytes): raise segs or room\n")
+    yield Case(["run", "both.toml", "--refuse", "1"], 0, "port 0: 1 records found too few free buffers: raise the count of pool 0\n")
+    left = "a turn runs 32 packets from rings at most; let programs put fewer into rings for each record"
+    yield Case(["run", "looped.toml"], 0, f"ring 0: 1 packets were left at the end: {left}\n")
+    cut = "each took more than 256 backward jumps, and its packets were freed; --counts shows which loop"
+    yield Case(["run", "endless.toml"], 0, f"1 node runs were cut: {cut}\n")
+    snap = "port 0: 1 records were cut by the capture's snap length: capture with a larger -s\n"
+    yield Case(["one", "strip.dpv", "strip.cert", "snapped.pcap", "out"], 0, snap)
+
+
 def nothing_told() -> Iterator[Case]:
     """Runs without messages; devices are not emptied."""
     yield Case(["one", "strip.dpv", "strip.cert", "in.pcap", "out"], 0, "")
@@ -292,6 +304,9 @@ def make_more(folder: pathlib.Path) -> None:
         "late_full": run_of(["one.pcap", "two.pcap"], ["out0", "/dev/full"]),
         "crossed": run_of(["one.pcap", "kept.pcap"], ["kept.pcap", "out1"]),
         "two_links": run_of(["one.pcap", "101.big.pcap"], ["out0", "out1"]),
+        "narrow": run_of(["wide.pcap"], ["out0"]).replace("room = 2176", "room = 192"),
+        "looped": pipeline(["loop.dpv"], ["loop.dpv"]).replace('in = "none"', 'in = "one.pcap"').replace('out = "none/none"', 'out = "out0"'),
+        "endless": run_of(["one.pcap"], ["out0"]).replace("forward.dpv", "endless.dpv"),
         "ring_unfit": pipeline(["strip.dpv strip.cert"], ["lost6.dpv strip.cert"]),
     }
     data = {
@@ -306,6 +321,10 @@ def make_more(folder: pathlib.Path) -> None:
         "kept.pcap": ONE,
         "closed": ONE,
         "lost6.dpv": 6 * b"exit\n",
+        "loop.dpv": b"enq p0,0,d\nexit\nd: free p0\nexit\n",
+        "endless.dpv": b"a: jmp a\n",
+        "wide.pcap": capture(bytes(100)),
+        "snapped.pcap": HEADER + struct.pack("<IIII", 1, 2, 4, 60) + b"data",
         "checksums.pcap": header_of("little", 0x2400_0001),
     }
     data.update((f"{link}.{order}.pcap", header_of(order, link)) for link in LINKS for order in ("little", "big"))
@@ -359,7 +378,7 @@ def main() -> int:
         folder.mkdir()
         make_files(folder)
         make_more(folder)
-        kinds = (files, captures, links, unfit, full_disks, pipelines, same_files, no_text, traces, progress, nothing_told)
+        kinds = (files, captures, links, unfit, full_disks, pipelines, same_files, no_text, traces, progress, drops, nothing_told)
         passed = [ends_so(program, case, folder) for kind in kinds for case in kind()]
         passed.append(goes_on(program, folder))
         passed += as_nobody(program, folder)

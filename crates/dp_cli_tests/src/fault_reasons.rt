@@ -269,11 +269,12 @@ const COOKED_BIG: &[u8; 24] = b"\xa1\xb2\xc3\xd4\0\x02\0\x04\0\0\0\0\0\0\0\0\0\x
 #[test]
 fn a_capture_has_the_link_type_of_its_first_bytes(rt: HostRuntime) {
     let other = Some(LinkType(113));
+    let cooked = COOKED.as_slice();
     let cases: [(&[u8], Option<LinkType>); 4] = [
-        (COOKED, other),
-        (COOKED_BIG, other),
-        (&COOKED[..23], None),
-        (&COOKED[1..], None),
+        (cooked, other),
+        (COOKED_BIG.as_slice(), other),
+        (&cooked[..23], None),
+        (&cooked[1..], None),
     ];
     for (bytes, link) in cases {
         let mut reader = Watched::new(bytes, Progress::new(sink(), 0, false));
