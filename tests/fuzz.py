@@ -38,9 +38,9 @@ from cases import MAKERS, Case, Family
 from command import fixed, program_of, put_library
 from model import answers, machine
 
-MOST_SECONDS = 60
-MOST_WAIT = 1800
-MOST_MEMORY = 3 << 30
+MAX_SECONDS = 60
+MAX_WAIT = 1800
+MAX_MEMORY = 3 << 30
 WEIGHTS = {"one": 3, "check": 2, "infer": 2, "mem": 1, "run": 6}
 FAMILY = 8
 Counted = TypeVar("Counted")
@@ -137,8 +137,8 @@ class Place:
         env = {**self.env, **more} if more else self.env
         child = os.posix_spawn(self.program, ["dpv", *words], env, file_actions=actions)
         with contextlib.suppress(ProcessLookupError):
-            resource.prlimit(child, resource.RLIMIT_CPU, (MOST_SECONDS, MOST_SECONDS))
-        signal.setitimer(signal.ITIMER_REAL, MOST_WAIT)
+            resource.prlimit(child, resource.RLIMIT_CPU, (MAX_SECONDS, MAX_SECONDS))
+        signal.setitimer(signal.ITIMER_REAL, MAX_WAIT)
         try:
             _, status, used = os.wait4(child, 0)
         except TooLong:
@@ -345,7 +345,7 @@ def own_place(program: str) -> Iterator[Place]:
 def work(asked: argparse.Namespace, shims: pathlib.Path | None, first: int, until: float) -> Tally:
     """The cases of one job."""
     tally, maker = Tally(), Maker(asked.seed, asked.only, asked.families)
-    resource.setrlimit(resource.RLIMIT_AS, (MOST_MEMORY, MOST_MEMORY))
+    resource.setrlimit(resource.RLIMIT_AS, (MAX_MEMORY, MAX_MEMORY))
     signal.signal(signal.SIGALRM, give_up)
     with own_place(asked.program) as place:
         for number in numbers(asked.jobs, first):

@@ -48,7 +48,7 @@ FOUND = TOP / "tests/pkt_found"
 SHRINK_SECONDS = 30.0
 WILD = 6
 # How the compiler reports a statement that control never reaches, and how many of them are removed from a text.
-UNREACHED, MOST_MENDS = "control never comes here", 60
+UNREACHED, MAX_MENDS = "control never comes here", 60
 
 
 class Finding(NamedTuple):
@@ -107,7 +107,7 @@ def compiled(text: str) -> str | Refused | Finding:
 def mended(text: str) -> tuple[str, list[tuple[str, int]]]:
     """The text without statements that control never reaches, and each text with the line from which on it lost some, from 0."""
     lost: list[tuple[str, int]] = []
-    for _ in range(MOST_MENDS):
+    for _ in range(MAX_MENDS):
         answer = compiled(text)
         if not isinstance(answer, Refused) or not answer.text.startswith(UNREACHED):
             break

@@ -344,7 +344,7 @@ class Limits(unittest.TestCase):
     """How a run that does not end is ended."""
 
     def setUp(self) -> None:
-        for name, value in {"MOST_SECONDS": 1, "MOST_WAIT": 3}.items():
+        for name, value in {"MAX_SECONDS": 1, "MAX_WAIT": 3}.items():
             changed = mock.patch.object(fuzz, name, value)
             changed.start()
             self.addCleanup(changed.stop)

@@ -19,7 +19,7 @@ import types
 
 TOP = pathlib.Path(__file__).resolve().parent.parent
 # The most jobs of one check; the lines from which a crate gets more than one; the memory of a job, in bytes.
-MOST_JOBS, LARGE, ROOM = 4, 2_000, 1_500_000_000
+MAX_JOBS, LARGE, ROOM = 4, 2_000, 1_500_000_000
 
 
 def toolchain() -> types.ModuleType:
@@ -55,7 +55,7 @@ def free_memory() -> int:
 
 def jobs_for(crate, processors: int) -> int:
     """How many jobs a crate's check gets, given the processors that are free for it."""
-    return max(1, min(MOST_JOBS, processors, free_memory() // ROOM)) if lines_of(crate) >= LARGE else 1
+    return max(1, min(MAX_JOBS, processors, free_memory() // ROOM)) if lines_of(crate) >= LARGE else 1
 
 
 def prove(crate, jobs: int) -> tuple[int, str]:

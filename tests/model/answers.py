@@ -7,7 +7,7 @@ from . import captures, counts, heap, pipelines, rules
 from .machine import BIGGEST, Env, Input, Pool, Port, World, report, run
 
 LONGEST = pipelines.LONGEST
-LONGEST_NAME = 255
+MAX_NAME = 255
 ONE = Env([Pool(64, 0, 2176)], [], [], [Port(0, 1, 32)])
 
 
@@ -69,7 +69,7 @@ class Disk:
     def may_make(self, name: str) -> bool:
         """Whether a capture can be made."""
         folder, last = os.path.split(self.path(name))
-        is_name = 1 <= len(last.encode()) <= LONGEST_NAME and "\0" not in name
+        is_name = 1 <= len(last.encode()) <= MAX_NAME and "\0" not in name
         return name != "" and is_name and os.path.isdir(folder) and not os.path.isdir(self.path(name))
 
 

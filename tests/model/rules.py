@@ -5,8 +5,8 @@ from typing import NamedTuple
 
 from .machine import BIGGEST, HEADROOM, Env, Instr, Number
 
-MOST_LENGTH = 65_535
-MOST_SEGMENTS = 64
+MAX_LENGTH = 65_535
+MAX_SEGMENTS = 64
 HIGHEST_HOP = 16_777_215
 SHARES = (0, 1, 2, *range(8, 16))
 ROW = struct.Struct(">B" + "BBHHHHB" * 8 + "8Q")
@@ -103,7 +103,7 @@ def common(row: Row, other: Row) -> Row | None:
 
 def plus(length: int, n: int) -> int:
     """A sum of lengths."""
-    return min(length + n, MOST_LENGTH)
+    return min(length + n, MAX_LENGTH)
 
 
 def minus(length: int, n: int) -> int:
@@ -312,7 +312,7 @@ def local_fault(env: Env, row: Row, label: int, instr: Instr, size: int) -> int:
         return 6
     if not may_write(row, instr):
         return 7
-    if word == "chain" and row.facts[args[0]].segs + row.facts[args[1]].segs > MOST_SEGMENTS:
+    if word == "chain" and row.facts[args[0]].segs + row.facts[args[1]].segs > MAX_SEGMENTS:
         return 8
     if not may_leave(env, row, instr):
         return 9
@@ -421,7 +421,7 @@ def decode_row(data: bytes, has_groups: bool) -> Row | None | str:
         held, *known = parts[at : at + 7]
         if not held and not any(known):
             facts.append(None)
-        elif held != 1 or known[0] not in (SHARES if has_groups else SHARES[:3]) or not 1 <= known[5] <= MOST_SEGMENTS:
+        elif held != 1 or known[0] not in (SHARES if has_groups else SHARES[:3]) or not 1 <= known[5] <= MAX_SEGMENTS:
             return "out of range"
         else:
             facts.append(Fact(*known))

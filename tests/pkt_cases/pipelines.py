@@ -6,10 +6,10 @@ from model.captures import Record, written
 from model.machine import Env, Pool, Port, Ring
 
 from .frames import frames
-from .programs import MOST_SEGMENTS, Setting, program
+from .programs import MAX_SEGMENTS, Setting, program
 
 # What rings declare, and what their programs are given.
-FACTS = {"any": (0, 0, 0, 0, 0, MOST_SEGMENTS), "alone": (2, 64, 0, 0, 0, 1), "ipv4": (2, 64, 0, 34, 0, 1)}
+FACTS = {"any": (0, 0, 0, 0, 0, MAX_SEGMENTS), "alone": (2, 64, 0, 0, 0, 1), "ipv4": (2, 64, 0, 34, 0, 1)}
 GIVEN = {
     "any": ("given shared", "given headroom 0"),
     "alone": ("given headroom 64",),
@@ -100,6 +100,6 @@ def case(rng: Random, prelude: str, wild: bool) -> Case:
     texts = [program(rng, setting, prelude, wild) for _ in env.ports]
     for name in takes:
         is_any = name == "any"
-        texts.append(program(rng, replace(setting, given=GIVEN[name], is_shared=is_any, segments=MOST_SEGMENTS if is_any else 1), prelude, wild))
+        texts.append(program(rng, replace(setting, given=GIVEN[name], is_shared=is_any, segments=MAX_SEGMENTS if is_any else 1), prelude, wild))
     inputs = [tuple(frames(rng, rng.choice((10, 20, 40)))) for _ in env.ports]
     return Case(env, tuple(texts), tuple(inputs), refused_calls(rng), routes)

@@ -10,7 +10,7 @@ from pkt_model.syntax import Bits, Header
 from .numbers import Numbers
 
 INDENT = "    "
-MOST_SEGMENTS = 64
+MAX_SEGMENTS = 64
 # How deep blocks lie in one another.
 DEPTH = 3
 
@@ -330,7 +330,7 @@ class Writer:
         if choice < 0.2:
             return [f"free {name}"]
         segments = 2 * state.segments if kind == "clone" else state.segments + 1
-        if choice < 0.55 and (not state.loops and segments <= MOST_SEGMENTS or self.wild):
+        if choice < 0.55 and (not state.loops and segments <= MAX_SEGMENTS or self.wild):
             state.is_lost = state.is_lost or kind == "clone"
             state.is_chained, state.segments = True, segments
             return [f"chain {name} before this"]

@@ -2,8 +2,8 @@
 use Rattle.std.specs.Prelude.{ℕ, max, List, [], ◌∷◌}
 use Rattle.dp_model.specs.declared.row.Holding.{Holding}
 use Rattle.dp_model.specs.declared.row.Lead.{Lead}
-use Rattle.dp_check.specs.declared.after.Leads.{Leads}
-use Rattle.dp_check.specs.declared.after.Leads.TheVariants.{Ends, One, Two}
+use Rattle.dp_check.specs.declared.transfer.Leads.{Leads}
+use Rattle.dp_check.specs.declared.transfer.Leads.TheVariants.{Ends, One, Two}
 use Rattle.dp_check.specs.declared.reason.Measure.{Measure}
 use Rattle.dp_check.specs.declared.reason.Measure.TheVariants as measure
 

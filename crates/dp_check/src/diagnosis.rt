@@ -5,13 +5,13 @@ ghost use Rattle.std.specs.List.{list_all};
 ghost use Rattle.dp_model.specs.declared.rule.Rule.TheVariants.{J2};
 ghost use Rattle.dp_model.specs.Rows.{is_well_formed_row};
 ghost use Rattle.dp_model.specs.Rules.{begins_well, IsAccepted};
-ghost use Rattle.dp_lang.specs.declared.program.TheConstants.{MOST_INSTRS};
+ghost use Rattle.dp_lang.specs.declared.program.TheConstants.{MAX_INSTRS};
 ghost use Rattle.dp_cert.specs.declared.cert.Version.{Version};
 ghost use Rattle.dp_check.specs.Faults.{question, later_fault};
 ghost use Rattle.dp_check.specs.Diagnoses.{rule_of, Explains, IsDiagnosis, SaysOfWhole};
 
+use crate::difference::gap;
 use crate::entailing::entails;
-use crate::gap::gap;
 use crate::reason::Reason;
 use crate::rules::reason_at;
 use dp_cert::Cert;
@@ -54,7 +54,7 @@ pub(crate) fn first_reason(
     entry: Entry,
 ) -> Option<Diagnosis>
     requires some { 0 < length program.now }
-    requires at_most { length program.now ≤ MOST_INSTRS }
+    requires at_most { length program.now ≤ MAX_INSTRS }
     requires well_formed { IsTrue (list_all is_well_formed_row rows.now) }
     ensures accepted { (version : Version) → IfNone result (IsAccepted (question program.now (record { version = version; rows = rows.now }) env.now entry)) }
     ensures refused { (version : Version) → IfSome result (IsDiagnosis (question program.now (record { version = version; rows = rows.now }) env.now entry)) }

@@ -6,7 +6,7 @@ ghost use Rattle.dp_model.specs.Rows.{is_well_formed_row, group_at, with_shares,
 ghost use Rattle.dp_model.specs.Rows.{twin, twin_share, joins, after_clone};
 
 use crate::entailing::same_registers;
-use crate::holding::{emptied, held_at, joined, with_held, with_share};
+use crate::packet_facts::{emptied, held_at, joined, with_held, with_share};
 use dp_model::{Fact, Holding, PacketRegister, Row};
 
 /// Whether the group is one of the first row, named by its least register, and has the same registers in the second.

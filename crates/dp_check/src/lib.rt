@@ -7,24 +7,24 @@
 //! dp_model, `specs/Rules.antt` and `specs/Rows.antt`.
 #![tactic(auto)]
 
-mod after;
 mod bounds;
 mod checked;
 mod diagnosis;
+mod difference;
 mod entailing;
-mod gap;
 mod groups;
-mod holding;
 mod laws;
+mod packet_facts;
 mod reason;
+mod requirements;
 mod rules;
-mod shortfall;
+mod transfer;
 
-pub use after::{Leads, leads_of};
 pub use checked::{Checked, Refused, check, fault_of};
 pub use diagnosis::{Diagnosis, diagnose};
 pub use entailing::{entails, fact_entails};
 pub use groups::{reshared, shares_group};
-pub use holding::owns_head;
 pub use laws::raised_certificates_get_the_same_answer;
+pub use packet_facts::owns_head;
 pub use reason::{Gap, Measure, Reason};
+pub use transfer::{Leads, leads_of};

@@ -3,8 +3,8 @@ use Rattle.std.proofs.Common.{◌≡◌, List, Option, Result, subst, sym}
 use Rattle.std.specs.Prelude.{⊤}
 use Rattle.std.specs.declared.io.Error.{Error}
 use Rattle.dp_pipe.specs.declared.forwarding.RunCause.{RunCause}
-use Rattle.dp_cli.specs.declared.fault_reasons.Finding.{Finding}
-use Rattle.dp_cli.specs.declared.run.findings.CaptureNames.{CaptureNames}
+use Rattle.dp_cli.specs.declared.error_text.Finding.{Finding}
+use Rattle.dp_cli.specs.declared.run.capture_errors.CaptureNames.{CaptureNames}
 use Rattle.dp_cli.specs.declared.run.watched.Seen.{Seen}
 use Rattle.dp_cli.specs.Run.{IsFound}
 

@@ -5,7 +5,7 @@ use Rattle.dp_pipe.specs.Devices.{Device}
 use Rattle.dp_pipe.specs.Pipelines.{Plan}
 use Rattle.dp_cli.specs.declared.counting.Counting.{Counting}
 use Rattle.dp_cli.specs.declared.run.closing.Settled.{Settled}
-use Rattle.dp_cli.specs.declared.run.findings.CaptureNames.{CaptureNames}
+use Rattle.dp_cli.specs.declared.run.capture_errors.CaptureNames.{CaptureNames}
 use Rattle.dp_cli.specs.declared.run.watched.Seen.{Seen}
 use Rattle.dp_cli.specs.Counting.{IsReportedWithCounts}
 use Rattle.dp_cli.specs.CountedRuns.{IsCountedRun}

@@ -8,7 +8,7 @@ use Rattle.dp_counts.specs.Listings.{programs_text}
 use Rattle.dp_counts.specs.Totals.{table_lines, ring_lines, pool_lines}
 use Rattle.dp_cli.specs.declared.counting.Counting.{Counting}
 use Rattle.dp_cli.specs.declared.run.closing.Settled.{Settled}
-use Rattle.dp_cli.specs.declared.run.findings.CaptureNames.{CaptureNames}
+use Rattle.dp_cli.specs.declared.run.capture_errors.CaptureNames.{CaptureNames}
 use Rattle.dp_cli.specs.declared.run.watched.Seen.{Seen}
 use Rattle.dp_cli.specs.Printing.{Paper, Prints, IsEnded}
 use Rattle.dp_cli.specs.Run.{IsRunTold}

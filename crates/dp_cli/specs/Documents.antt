@@ -15,9 +15,9 @@ use Rattle.serde_json.specs.View.{view}
 use Rattle.serde_json.specs.declared.value.Value.{Value}
 use Rattle.dp_cli.specs.declared.counting.Counting.{Counting}
 use Rattle.dp_cli.specs.declared.fault.Fault.{Fault}
-use Rattle.dp_cli.specs.declared.fault_reasons.Finding.{Finding}
+use Rattle.dp_cli.specs.declared.error_text.Finding.{Finding}
 use Rattle.dp_cli.specs.declared.run.closing.Settled.{Settled}
-use Rattle.dp_cli.specs.declared.run.findings.CaptureNames.{CaptureNames}
+use Rattle.dp_cli.specs.declared.run.capture_errors.CaptureNames.{CaptureNames}
 use Rattle.dp_cli.specs.declared.run.watched.Seen.{Seen}
 use Rattle.dp_cli.specs.Printing.{IsEnded, Paper, Prints}
 use Rattle.dp_cli.specs.Run.{AreTotals, IsFound, IsStopReported, status_of_answer, status_of_cause, stop_text}

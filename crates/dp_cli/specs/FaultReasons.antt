@@ -10,11 +10,11 @@ use Rattle.dp_pipe.specs.declared.error.PipeError.{PipeError}
 use Rattle.dp_pipe.specs.declared.error.PipeError.TheVariants as pipe
 use Rattle.dp_pipe.specs.declared.forwarding.RunCause.{RunCause}
 use Rattle.dp_pipe.specs.declared.forwarding.RunCause.TheVariants.{In, Out}
-use Rattle.dp_cli.specs.declared.run.findings.CaptureNames.{CaptureNames}
+use Rattle.dp_cli.specs.declared.run.capture_errors.CaptureNames.{CaptureNames}
 use Rattle.dp_cli.specs.declared.run.watched.Seen.{Seen}
-use Rattle.dp_cli.specs.declared.fault_reasons.Reason.{Reason}
-use Rattle.dp_cli.specs.declared.fault_reasons.Reason.TheVariants.{System, TooLong, IsRead, IsOutput, Capture, IsPcapng, Link, Pipeline}
-use Rattle.dp_cli.specs.declared.fault_reasons.Finding.{Finding}
+use Rattle.dp_cli.specs.declared.error_text.Reason.{Reason}
+use Rattle.dp_cli.specs.declared.error_text.Reason.TheVariants.{System, TooLong, IsRead, IsOutput, Capture, IsPcapng, Link, Pipeline}
+use Rattle.dp_cli.specs.declared.error_text.Finding.{Finding}
 use Rattle.dp_cli.specs.LinkTypes.{link_text, cure_text}
 
 -- the words of a reason; those of the system and of the libraries are open

@@ -2,7 +2,7 @@
 use Rattle.std.specs.Prelude.{◌≡◌, ℕ, List, [], ◌∷◌, ◌++◌, Option, None, Bool, false, ◌==◌, ◌&&◌, find, map, string_bytes, ⊤}
 use Rattle.std.specs.Option.{option_map_or}
 use Rattle.std.specs.Str.{bytes_eq}
-use Rattle.dp_cli.specs.declared.run.findings.CaptureNames.{CaptureNames}
+use Rattle.dp_cli.specs.declared.run.capture_errors.CaptureNames.{CaptureNames}
 use Rattle.dp_cli.specs.declared.run.same_file.FileId.{FileId}
 use Rattle.dp_cli.specs.declared.run.same_file.ReadFile.{ReadFile}
 use Rattle.dp_cli.specs.declared.run.same_file.Target.{Target}

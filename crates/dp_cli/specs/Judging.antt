@@ -22,7 +22,7 @@ use Rattle.dp_pipe.specs.Files.{FileMap, IsFile}
 use Rattle.dp_pipe.specs.declared.nodes.How.TheVariants.{Given}
 use Rattle.dp_pipe.specs.Surveys.{files_at}
 use Rattle.dp_pipe.specs.Nodes.{Node, node_of, IsCertOf, IsMissing, IsBadCert, IsProgramOf, HasNoProgram}
-use Rattle.dp_cli.specs.declared.verdicts.judged.Asked.{Asked}
+use Rattle.dp_cli.specs.declared.verdicts.node_source.Asked.{Asked}
 use Rattle.dp_cli.specs.declared.verdicts.Wanted.{Wanted}
 use Rattle.dp_cli.specs.declared.verdicts.Wanted.TheVariants as wanted
 use Rattle.dp_cli.specs.declared.verdicts.counted.Counted.{Counted}

@@ -5,7 +5,7 @@ use Rattle.std.specs.Io.Buffered.{reader_inner, writer_inner}
 use Rattle.dp_pcap.specs.declared.of_buf_reader.OfBufReader.{OfBufReader}
 use Rattle.dp_pcap.specs.declared.of_buf_writer.OfBufWriter.{OfBufWriter}
 use Rattle.dp_pcap.specs.OfStd.{buffered_reader, buffered_writer}
-use Rattle.dp_cli.specs.declared.run.findings.CaptureNames.{CaptureNames}
+use Rattle.dp_cli.specs.declared.run.capture_errors.CaptureNames.{CaptureNames}
 use Rattle.dp_cli.specs.declared.run.guarded.Guarded.{Guarded}
 use Rattle.dp_cli.specs.declared.run.input_file.Source.{Source}
 use Rattle.dp_cli.specs.declared.run.input_file.Source.TheVariants as source

@@ -20,10 +20,10 @@ use Rattle.dp_pipe.specs.Running.{answer_of, report_of}
 use Rattle.dp_pipe.specs.Watched.{WatchesRun}
 use Rattle.dp_cli.specs.declared.fault.Fault.{Fault}
 use Rattle.dp_cli.specs.declared.fault.Fault.TheVariants as fault
-use Rattle.dp_cli.specs.declared.fault_reasons.Finding.{Finding}
-use Rattle.dp_cli.specs.declared.fault_reasons.Reason.TheVariants.{Capture}
+use Rattle.dp_cli.specs.declared.error_text.Finding.{Finding}
+use Rattle.dp_cli.specs.declared.error_text.Reason.TheVariants.{Capture}
 use Rattle.dp_cli.specs.declared.run.closing.Settled.{Settled}
-use Rattle.dp_cli.specs.declared.run.findings.CaptureNames.{CaptureNames}
+use Rattle.dp_cli.specs.declared.run.capture_errors.CaptureNames.{CaptureNames}
 use Rattle.dp_cli.specs.declared.run.watched.Seen.{Seen}
 use Rattle.dp_cli.specs.Closing.{IsSettled}
 use Rattle.dp_cli.specs.FaultReasons.{file_of, reason_for}

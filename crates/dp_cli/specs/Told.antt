@@ -11,8 +11,8 @@ use Rattle.dp_cli.specs.declared.fault.Fault.{Fault}
 use Rattle.dp_cli.specs.declared.fault.Fault.TheVariants as fault
 use Rattle.dp_cli.specs.declared.files.ReadFault.{ReadFault}
 use Rattle.dp_cli.specs.declared.files.ReadFault.TheVariants as read
-use Rattle.dp_cli.specs.declared.fault_reasons.Finding.{Finding}
-use Rattle.dp_cli.specs.declared.fault_reasons.Reason.{Reason}
+use Rattle.dp_cli.specs.declared.error_text.Finding.{Finding}
+use Rattle.dp_cli.specs.declared.error_text.Reason.{Reason}
 use Rattle.dp_cli.specs.FaultReasons.{reason_of, finding_lines}
 
 -- a status; or that of a text which could not be written: 3, or 4 for lack of memory

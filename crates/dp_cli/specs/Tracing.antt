@@ -4,8 +4,8 @@ use Rattle.dp_engine.specs.Needs.{bytes_needed}
 use Rattle.dp_pipe.specs.declared.forwarding.RunCause.{RunCause}
 use Rattle.dp_pipe.specs.declared.forwarding.RunCause.TheVariants.{Memory, NoRoom}
 use Rattle.dp_pipe.specs.Pipelines.{Plan}
-use Rattle.dp_cli.specs.declared.fault_reasons.Finding.{Finding}
-use Rattle.dp_cli.specs.declared.run.findings.CaptureNames.{CaptureNames}
+use Rattle.dp_cli.specs.declared.error_text.Finding.{Finding}
+use Rattle.dp_cli.specs.declared.run.capture_errors.CaptureNames.{CaptureNames}
 use Rattle.dp_cli.specs.declared.run.watched.Seen.{Seen}
 use Rattle.dp_cli.specs.Printing.{Paper, IsEnded}
 use Rattle.dp_cli.specs.Run.{status_of_answer, IsFound, IsStopReported}

@@ -7,7 +7,7 @@ ghost use Rattle.dp_cli.specs.Told.{IsTold, TellsMemory, finding_of, lines_behin
 ghost use Rattle.dp_cli.specs.Told.{text_of_fault};
 ghost use Rattle.dp_cli.specs.Printing.{Notes, PrintsFault, WritesFault, paper};
 
-use crate::fault_reasons::{Finding, Reason, reason_of, write_finding};
+use crate::error_text::{Finding, Reason, reason_of, write_finding};
 use crate::printer::Printer;
 use dp_model::Entry;
 use dp_pcap::PcapError;

@@ -3,9 +3,9 @@
 ghost use Rattle.std.specs.Prelude.{◌≡◌, ◌≢◌};
 ghost use Rattle.dp_cli.specs.Told.{finding_of, read_finding, read_text, text_of_fault};
 
+use crate::error_text::Reason;
 use crate::fault::Fault;
-use crate::fault_reasons::Reason;
-use dp_pipe::LONGEST_FILE;
+use dp_pipe::MAX_FILE;
 use std::alloc::{AllocError, Global};
 use std::io::{ErrorKind, Read};
 use std::rt::Files;
@@ -37,7 +37,7 @@ impl From<io::Error> for ReadFault {
     ghost use Rattle.std.specs.IoError.{error_kind};
     ghost use Rattle.std.specs.declared.io.ErrorKind.TheVariants.{OutOfMemory};
     ghost use Rattle.dp_cli.specs.declared.files.ReadFault.TheVariants.{File};
-    ghost use Rattle.dp_cli.specs.declared.fault_reasons.Reason.TheVariants.{System};
+    ghost use Rattle.dp_cli.specs.declared.error_text.Reason.TheVariants.{System};
 
     ghost from_gives = { λ error fault. error_kind error ≢ OutOfMemory → fault ≡ File (System error) };
 
@@ -49,12 +49,12 @@ impl From<io::Error> for ReadFault {
     }
 }
 
-/// Reads a file of at most [`LONGEST_FILE`] bytes.
+/// Reads a file of at most [`MAX_FILE`] bytes.
 pub fn read<R: Files>(rt: &R, alloc: Global, name: &str) -> Result<Vec<u8>, ReadFault> {
     let file = fs::open(rt, name)?;
     let mut bytes = Vec::new(alloc);
-    file.take(LONGEST_FILE as u64 + 1).read_to_end(&mut bytes)?;
-    if bytes.len() > LONGEST_FILE {
+    file.take(MAX_FILE as u64 + 1).read_to_end(&mut bytes)?;
+    if bytes.len() > MAX_FILE {
         return Err(ReadFault::File(Reason::TooLong));
     }
     Ok(bytes)

@@ -19,7 +19,7 @@ pub mod script;
 use crate::fault::{DONE, Fault, MEMORY, Unwritten, tell, try_tell_fault};
 use crate::mem::script::{Command, command_of};
 use dp_heap::{Element, Heap, HeapError, State};
-use dp_region::{Block, CACHE_LINE, LARGEST_REGION, LEAST_REGION, Region};
+use dp_region::{Block, CACHE_LINE, MAX_REGION, MIN_REGION, Region};
 use std::alloc::Global;
 use std::fmt;
 use std::io::Write;
@@ -243,7 +243,7 @@ impl Session {
 fn is_region_size(size: u32) -> bool
     ensures { IsTrue result ↔ IsRegionSize size }
 {
-    size >= LEAST_REGION && size <= LARGEST_REGION && size % CACHE_LINE == 0
+    size >= MIN_REGION && size <= MAX_REGION && size % CACHE_LINE == 0
 }
 
 /// The first line of a text, and what follows its newline, if it has one.

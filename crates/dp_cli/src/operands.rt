@@ -12,7 +12,7 @@ ghost use Rattle.dp_cli.specs.Replacing.{row_of};
 
 use crate::run::replaced::{Place, Replaced};
 use dp_model::Entry;
-use dp_pipe::MOST_TURNS;
+use dp_pipe::MAX_TURNS;
 use std::alloc::{AllocError, Global};
 
 /// The node that a word names: `port` or `ring`, and one digit.
@@ -45,13 +45,13 @@ fn number_in(word: &str) -> Option<u64>
     }
 }
 
-/// A word as a number of records: from 1 to [`MOST_TURNS`].
+/// A word as a number of records: from 1 to [`MAX_TURNS`].
 pub fn records_in(word: &str) -> Option<u32>
     ensures number { result ≡ spec.records_in word.now }
-    ensures range { IfSome result (λ records. (1 ≤ records) × (records ≤ MOST_TURNS)) }
+    ensures range { IfSome result (λ records. (1 ≤ records) × (records ≤ MAX_TURNS)) }
 {
     match number_in(word) {
-        Some(number @ 1..=MOST_TURNS) => Some(number as u32),
+        Some(number @ 1..=MAX_TURNS) => Some(number as u32),
         _ => None,
     }
 }

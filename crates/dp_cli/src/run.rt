@@ -9,11 +9,11 @@ ghost use Rattle.dp_cli.specs.Run as spec;
 ghost use Rattle.dp_cli.specs.Run.{status_of_answer, status_of_cause, stop_text};
 ghost use Rattle.dp_cli.specs.Told.{finding_of, status_of_fault, text_of_fault};
 
+pub mod capture_errors;
 pub mod captures;
 pub mod closing;
 pub mod drops;
 pub mod files;
-pub mod findings;
 pub mod guarded;
 pub mod inlet;
 pub mod input_file;
@@ -27,11 +27,11 @@ pub mod same_file;
 pub mod truncated;
 pub mod watched;
 
+use crate::error_text::{Finding, Reason};
 use crate::fault::{DONE, FAULT, Fault, MEMORY, print_fault, status_unwritten};
-use crate::fault_reasons::{Finding, Reason};
 use crate::printer::Printer;
+use crate::run::capture_errors::{CaptureNames, finding_of};
 use crate::run::closing::{Settled, settle};
-use crate::run::findings::{CaptureNames, finding_of};
 use crate::run::inlet::Inlet;
 use crate::run::outlet::Outlet;
 use crate::run::progress::tell_totals;

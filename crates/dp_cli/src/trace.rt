@@ -11,10 +11,10 @@ pub mod snapshot;
 pub mod tracer;
 pub mod written;
 
+use crate::error_text::Finding;
 use crate::fault::{FAULT, status_unwritten};
-use crate::fault_reasons::Finding;
 use crate::printer::Printer;
-use crate::run::findings::CaptureNames;
+use crate::run::capture_errors::CaptureNames;
 use crate::run::inlet::Inlet;
 use crate::run::{found_of, print_stop, status_of};
 use crate::trace::became::Picked;
@@ -23,7 +23,7 @@ use dp_counts::NodeSource;
 use dp_engine::Known;
 use dp_lang::print;
 use dp_pcap::Feed;
-use dp_pipe::{MOST_TURNS, Pipeline, RunCause, Traced, trace};
+use dp_pipe::{MAX_TURNS, Pipeline, RunCause, Traced, trace};
 use dp_words::instructions;
 use std::alloc::{AllocError, Global};
 use std::io::{self, Write};
@@ -104,7 +104,7 @@ fn print_trace<K: Known, R: Feed, O: Write>(
 ) -> Result<TracedRun, AllocError>
     requires readers { length ins.old ≡ length pipeline.env.ports }
     requires pattern { IsAscending 0 pattern.items }
-    requires limit { which.records ≤ MOST_TURNS }
+    requires limit { which.records ≤ MAX_TURNS }
     ensures traced { IfOk result (λ run. IsTraced pipeline (map R.remaining ins.old) (map R.remaining ins.new) run.answer) }
     ensures untouched { IsErr result → ins.new ≡ ins.old }
 {
@@ -135,7 +135,7 @@ fn traced<K: Known, R: Feed, O: Write>(
 ) -> TracedRun
     requires readers { length ins.old ≡ length pipeline.env.ports }
     requires pattern { IsAscending 0 pattern.items }
-    requires limit { which.records ≤ MOST_TURNS }
+    requires limit { which.records ≤ MAX_TURNS }
     ensures { IsTraced pipeline (map R.remaining ins.old) (map R.remaining ins.new) result.answer }
 {
     match print_trace::<K, R, O>(alloc, pipeline, ins, pattern, which, shown, out) {
@@ -181,7 +181,7 @@ pub fn trace_line<K: Known, I: Inlet, O: Write, E: Write>(
 ) -> u8
     requires readers { length ins.old ≡ length pipeline.env.ports }
     requires pattern { IsAscending 0 pattern.items }
-    requires limit { which.records ≤ MOST_TURNS }
+    requires limit { which.records ≤ MAX_TURNS }
     ensures { IsTraceTold pipeline (map I.remaining ins.old) (map I.remaining ins.new) names.now (map I.saw ins.new) (paper O.contents out.old)
         (paper O.contents out.new) (paper E.contents err.old) (paper E.contents err.new) result }
 {

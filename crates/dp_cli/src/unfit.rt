@@ -4,7 +4,7 @@ ghost use Rattle.std.specs.Prelude.{◌≢◌, ◌≡◌, IfOk, OnOk};
 ghost use Rattle.std.specs.Io.KnownBytes.{Appends};
 ghost use Rattle.dp_cli.specs.Unfit as spec;
 
-use crate::verdicts::judged::{Asked, Judged, judge};
+use crate::verdicts::node_source::{Asked, Judged, judge};
 use dp_check::diagnose;
 use dp_infer::{InferError, infer};
 use dp_lang::Program;

@@ -1,12 +1,12 @@
 //! The watcher that counts.
 ghost use Rattle.std.specs.Prelude.{◌≡◌, ◌+◌, ◌*◌, ◌<◌, ◌≤◌, ◌↔◌, length, slice_index, IfOk, IsTrue};
-ghost use Rattle.dp_lang.specs.declared.program.TheConstants.{MOST_INSTRS};
+ghost use Rattle.dp_lang.specs.declared.program.TheConstants.{MAX_INSTRS};
 ghost use Rattle.dp_engine.specs.Watching.{IsOneOfEight};
 ghost use Rattle.dp_counts.specs.Counting.{place_of, one_more, step_counts, AreZero, HasNone};
 
 use crate::levels::Levels;
 use dp_engine::{View, Watch, Way};
-use dp_lang::MOST_INSTRS;
+use dp_lang::MAX_INSTRS;
 use dp_model::Entry;
 use std::alloc::{AllocError, Global};
 use std::marker::Model;
@@ -15,7 +15,7 @@ use std::marker::Model;
 const MAX_OF_A_KIND: usize = 8;
 
 /// A number for each label that a program of a node may have, for all nodes.
-const ALL_LABELS: usize = 2 * MAX_OF_A_KIND * MOST_INSTRS;
+const ALL_LABELS: usize = 2 * MAX_OF_A_KIND * MAX_INSTRS;
 
 /// Counts node runs: for each instruction of each node how often it ran, how often its jump was taken, and how often a node run was
 /// cut there. The numbers have 64 bits and wrap at 2^64, which no run of captures reaches.
@@ -45,11 +45,11 @@ impl Model for Counts {
 fn place_of(node: Entry) -> usize
     requires { IsOneOfEight node }
     ensures value { result ≡ place_of node }
-    ensures bound { result + MOST_INSTRS ≤ 16 * MOST_INSTRS }
+    ensures bound { result + MAX_INSTRS ≤ 16 * MAX_INSTRS }
 {
     match node {
-        Entry::Port(port) => MOST_INSTRS * usize::from(port),
-        Entry::Ring(ring) => MOST_INSTRS * (MAX_OF_A_KIND + usize::from(ring)),
+        Entry::Port(port) => MAX_INSTRS * usize::from(port),
+        Entry::Ring(ring) => MAX_INSTRS * (MAX_OF_A_KIND + usize::from(ring)),
     }
 }
 
@@ -113,7 +113,7 @@ impl Counts {
     pub fn step(&self, node: Entry, label: usize) -> StepCounts
         ensures { result ≡ step_counts self.now node label }
     {
-        if label >= MOST_INSTRS || !is_one_of_eight(node) {
+        if label >= MAX_INSTRS || !is_one_of_eight(node) {
             return StepCounts {
                 ran: 0,
                 taken: 0,
@@ -136,7 +136,7 @@ impl Counts {
     /// How often the instruction at a label of a node ran.
     pub fn ran(&self, node: Entry, label: u16) -> u64
         requires node { IsOneOfEight node }
-        requires label { label < MOST_INSTRS }
+        requires label { label < MAX_INSTRS }
         ensures { result ≡ slice_index self.now.ran (place_of node + label) }
     {
         self.ran[place_of(node) + usize::from(label)]
@@ -145,7 +145,7 @@ impl Counts {
     /// How often the jump of the instruction at a label of a node was taken.
     pub fn taken(&self, node: Entry, label: u16) -> u64
         requires node { IsOneOfEight node }
-        requires label { label < MOST_INSTRS }
+        requires label { label < MAX_INSTRS }
         ensures { result ≡ slice_index self.now.taken (place_of node + label) }
     {
         self.taken[place_of(node) + usize::from(label)]
@@ -154,7 +154,7 @@ impl Counts {
     /// How often a node run of a node was cut at a label.
     pub fn cut(&self, node: Entry, label: u16) -> u64
         requires node { IsOneOfEight node }
-        requires label { label < MOST_INSTRS }
+        requires label { label < MAX_INSTRS }
         ensures { result ≡ slice_index self.now.cut (place_of node + label) }
     {
         self.cut[place_of(node) + usize::from(label)]

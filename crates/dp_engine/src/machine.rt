@@ -23,7 +23,7 @@ ghost use Rattle.dp_engine.specs.Drains.{record_of, AtPacket, Written, WrotePart
 
 mod batches;
 mod calls;
-mod looks;
+mod inspect;
 mod register;
 
 use crate::lists::Lists;

@@ -1,6 +1,6 @@
 //! Runs the parts of a turn: a record arrives at a port, and then packets in rings are served.
 ghost use Rattle.std.specs.Prelude.{◌≡◌, ℕ, ◌+◌, ◌*◌, ◌^◌, ◌<◌, ◌≤◌, Bool, List, length, IfSome};
-ghost use Rattle.dp_pcap.specs.declared.format.TheConstants.{LARGEST_RECORD};
+ghost use Rattle.dp_pcap.specs.declared.format.TheConstants.{MAX_RECORD};
 ghost use Rattle.dp_model.specs.Limits.{least_port_room, most_ring_runs};
 ghost use Rattle.dp_model.specs.Environments.{room_at};
 ghost use Rattle.dp_model.specs.Packets.{needed as segments_needed};
@@ -22,7 +22,7 @@ use dp_model::{DEFAULT_HEADROOM, Entry, PoolSpec};
 // How many segments the bytes need in a pool: data rooms without their headroom, and one where there are no bytes.
 fn needed(pools: &[PoolSpec], pool: u32, len: usize) -> usize
     requires room { least_port_room ≤ room_at pools.now pool }
-    requires len { len ≤ LARGEST_RECORD }
+    requires len { len ≤ MAX_RECORD }
     ensures { result ≡ segments_needed pools.now pool len }
 {
     let full = pools[pool as usize].room as usize - usize::from(DEFAULT_HEADROOM);
@@ -34,7 +34,7 @@ fn needed(pools: &[PoolSpec], pool: u32, len: usize) -> usize
 }
 
 // The most node runs of a turn on packets in rings.
-const MOST_RING_RUNS: u8 = 32;
+const MAX_RING_RUNS: u8 = 32;
 
 const NO_RUN: NodeRun = NodeRun { steps: 0, cuts: 0 };
 
@@ -47,7 +47,7 @@ pub(crate) fn arrive<K: Known, W: Watch>(
     watch: &mut W,
 ) -> (Outcome, NodeRun)
     requires exists { port < length plan.now.setting.env.ports }
-    requires size { length bytes.now ≤ LARGEST_RECORD }
+    requires size { length bytes.now ≤ MAX_RECORD }
     requires rests { Rests plan.now m.old }
     requires few { m.old.state.world.calls + most_steps + 1 < 2 ^ 64 }
     requires few_cuts { m.old.state.world.cuts + 1 < 2 ^ 64 }
@@ -133,7 +133,7 @@ pub(crate) fn serve<K: Known, W: Watch>(plan: &Plan<K>, m: &mut Machine, watch: 
         steps: 0,
         cuts: 0,
     };
-    for i in 0..MOST_RING_RUNS {
+    for i in 0..MAX_RING_RUNS {
         let Some(NodeRun { steps, cuts }) = serve_one(plan, m, watch) else {
             return served;
         };

@@ -20,7 +20,7 @@ pub enum Way {
 /// In a contract a watcher has what it makes of each event that it is shown.
 pub trait Watch {
     ghost use Rattle.std.specs.Prelude.{◌<◌};
-    ghost use Rattle.dp_lang.specs.declared.program.TheConstants.{MOST_INSTRS};
+    ghost use Rattle.dp_lang.specs.declared.program.TheConstants.{MAX_INSTRS};
     ghost use Rattle.dp_engine.specs.Watching.{Event, Began, Ran, IsOneOfEight};
 
     // Relates the watcher before an event to the watcher after it.
@@ -34,7 +34,7 @@ pub trait Watch {
     /// The instruction at this label ran and led that way. The view is of the machine after it; where the node run is cut, before its packets are
     /// freed.
     fn see(&mut self, label: u16, way: Way, view: View<'_>)
-        requires { label < MOST_INSTRS }
+        requires { label < MAX_INSTRS }
         ensures { sees self.old (Ran label way view.entry.state) self.new };
 }
 

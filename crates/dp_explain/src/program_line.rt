@@ -3,7 +3,7 @@
 use crate::nearest::Nearest;
 use crate::part_lines::line_of_number;
 use crate::pipeline_file::write_place;
-use dp_lang::{Cause, Fault, Form, Kind, MOST_INSTRS, all_forms, argument_of};
+use dp_lang::{Cause, Fault, Form, Kind, MAX_INSTRS, all_forms, argument_of};
 use std::fmt;
 use std::io::{self, Write};
 
@@ -304,7 +304,7 @@ impl fmt::Display for LineHelp<'_> {
             Cause::BadRegister | Cause::BadNumber | Cause::BadLabel => self.write_operand(f),
             Cause::LabelTwice => self.write_twice(f),
             Cause::LabelUnknown => self.write_unknown(f),
-            Cause::Size => write!(f, "a program has 1 to {MOST_INSTRS} instructions"),
+            Cause::Size => write!(f, "a program has 1 to {MAX_INSTRS} instructions"),
         }
     }
 }
@@ -328,7 +328,7 @@ pub fn write_program_fault<W: Write>(
             to,
             name,
             None,
-            format_args!("a program has 1 to {MOST_INSTRS} instructions"),
+            format_args!("a program has 1 to {MAX_INSTRS} instructions"),
         );
     };
     let help = LineHelp {

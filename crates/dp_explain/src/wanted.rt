@@ -2,7 +2,7 @@
 
 use dp_lpm::{MAX_GROUPS, MAX_RULES};
 use dp_pipe::Part;
-use dp_region::{CACHE_LINE, LARGEST_REGION, LEAST_REGION};
+use dp_region::{CACHE_LINE, MAX_REGION, MIN_REGION};
 use std::fmt;
 use toml::Value;
 
@@ -29,7 +29,7 @@ impl fmt::Display for Wanted {
             Wanted::Number { least, most } => write!(f, "a whole number from {least} to {most}"),
             Wanted::Region => write!(
                 f,
-                "a multiple of {CACHE_LINE} from {LEAST_REGION} to {LARGEST_REGION}"
+                "a multiple of {CACHE_LINE} from {MIN_REGION} to {MAX_REGION}"
             ),
             Wanted::PowerOfTwo => write!(f, "a power of two from 2 to 65536"),
             Wanted::Text => write!(f, "a text in quotes"),
@@ -49,8 +49,8 @@ impl Wanted {
             },
             Wanted::Region => match value.as_integer() {
                 Some(n) => {
-                    i64::from(LEAST_REGION) <= n
-                        && n <= i64::from(LARGEST_REGION)
+                    i64::from(MIN_REGION) <= n
+                        && n <= i64::from(MAX_REGION)
                         && n % i64::from(CACHE_LINE) == 0
                 }
                 None => false,

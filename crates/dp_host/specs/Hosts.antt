@@ -1,6 +1,6 @@
 -- What the calls of a host do, and what they return.
 use Rattle.std.specs.Prelude.{◌≡◌, ℕ, ◌<◌, ◌≤◌, ◌⊎◌, List, [], ◌∷◌, ◌++◌, length, take, Option, Some, None, slice_get}
-use Rattle.dp_pcap.specs.declared.format.TheConstants.{LARGEST_RECORD}
+use Rattle.dp_pcap.specs.declared.format.TheConstants.{MAX_RECORD}
 use Rattle.dp_model.specs.declared.env.PoolSpec.{PoolSpec}
 use Rattle.dp_model.specs.Packets.{available}
 use Rattle.dp_model.specs.Machine.{live}
@@ -66,7 +66,7 @@ Opens text packed None missing cause = (missing ≡ refusal.NotOpen) × (0 < cau
 -- why an engine refuses a pass with that many bytes, into a batch with room for that many records and bytes
 abbrev pub RefusesPass : EngineState → ℕ → ℕ → ℕ → ℕ → Refusal → Type 0
 RefusesPass e port size records bytes refusal.NoPort = length e.setting.env.ports ≤ port
-RefusesPass e port size records bytes refusal.TooLong = LARGEST_RECORD < size
+RefusesPass e port size records bytes refusal.TooLong = MAX_RECORD < size
 RefusesPass e port size records bytes refusal.NoTurns = most_turns ≤ e.turns
 RefusesPass e port size records bytes refusal.BatchTooSmall =
     (records < (largest_batch e.setting.env).records) ⊎ (bytes < (largest_batch e.setting.env).bytes)

@@ -9,7 +9,7 @@ ghost use Rattle.dp_host.specs.Hosts.{RefusesPass};
 
 use crate::refusal::Refusal;
 use dp_engine::{BatchSize, Engine, Pass, Report, SentRecord};
-use dp_pcap::LARGEST_RECORD;
+use dp_pcap::MAX_RECORD;
 use std::marker::Model;
 
 /// The most turns of an engine: 2^40.
@@ -78,7 +78,7 @@ impl Running {
         if port >= self.ports {
             return Err(Refusal::NoPort);
         }
-        if frame.len() > LARGEST_RECORD {
+        if frame.len() > MAX_RECORD {
             return Err(Refusal::TooLong);
         }
         if self.engine.turns() >= MAX_TURNS {

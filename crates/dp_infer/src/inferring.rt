@@ -4,7 +4,7 @@ ghost use Rattle.std.specs.Prelude.{◌≡◌, ◌⊎◌, ◌<◌, ◌≤◌, le
 ghost use Rattle.std.specs.List.{list_all};
 ghost use Rattle.dp_model.specs.Rows.{is_well_formed_row};
 ghost use Rattle.dp_model.specs.Rules.{number_of};
-ghost use Rattle.dp_lang.specs.declared.program.TheConstants.{MOST_INSTRS};
+ghost use Rattle.dp_lang.specs.declared.program.TheConstants.{MAX_INSTRS};
 ghost use Rattle.dp_cert.specs.Spelling.{version_for, certificate_of};
 ghost use Rattle.dp_check.specs.Faults.{question, IsChecked};
 ghost use Rattle.dp_infer.specs.Joins as spec;
@@ -12,7 +12,7 @@ ghost use Rattle.dp_infer.specs.Settling.{settled, IsNotEnough, AreLast, IsOfLas
 ghost use Rattle.dp_infer.specs.Inference.{Certifies, HasNone, SaysMost, AreRefused, AreTried, IsWithout};
 
 use crate::join::{joined, pass_on};
-use crate::settling::settle;
+use crate::widening::settle;
 use dp_cert::Cert;
 use dp_check::{Checked, Refused, check, fault_of, leads_of};
 use dp_lang::Program;
@@ -69,7 +69,7 @@ fn begun(alloc: Global, entry: Option<Row>, n: usize) -> Result<Vec<Row>, AllocE
 #[tactic(auto, using(crate::proofs::Passing::not_passed, crate::proofs::Passing::stays_well_formed))]
 fn pass_from(rows: &mut [Row], env: &Env, label: u16, instr: &Instr)
     requires in_range { label < length rows.old }
-    requires at_most { length rows.old ≤ MOST_INSTRS }
+    requires at_most { length rows.old ≤ MAX_INSTRS }
     requires well_formed { IsTrue (list_all is_well_formed_row rows.old) }
     ensures found { rows.new ≡ spec.passed_from env.now label instr.now rows.old }
     ensures well_formed { IsTrue (list_all is_well_formed_row rows.new) }
@@ -84,7 +84,7 @@ fn pass_from(rows: &mut [Row], env: &Env, label: u16, instr: &Instr)
 /// Passes rows on, label by label in order.
 fn spread(program: &[Instr], env: &Env, rows: &mut [Row])
     requires same_length { length rows.old ≡ length program.now }
-    requires at_most { length program.now ≤ MOST_INSTRS }
+    requires at_most { length program.now ≤ MAX_INSTRS }
     requires well_formed { IsTrue (list_all is_well_formed_row rows.old) }
     ensures found { rows.new ≡ spec.spread env.now program.now 0 rows.old }
     ensures well_formed { IsTrue (list_all is_well_formed_row rows.new) }
@@ -103,7 +103,7 @@ fn found_rows(
     entry: Entry,
 ) -> Result<Vec<Row>, AllocError>
     requires some { 1 ≤ length program.now }
-    requires at_most { length program.now ≤ MOST_INSTRS }
+    requires at_most { length program.now ≤ MAX_INSTRS }
     ensures well_formed { IfOk result (λ v. IsTrue (list_all is_well_formed_row v.items)) }
     ensures found { IfOk result (λ v. v.items ≡ spec.found_rows program.now env.now entry) }
 {

@@ -6,7 +6,7 @@ ghost use Rattle.dp_check.specs.Leads.{listed};
 ghost use Rattle.dp_infer.specs.Joins as spec;
 
 use dp_check::{Leads, owns_head, reshared, shares_group};
-use dp_model::{Fact, Holding, Lead, MOST_SEGMENTS, Row};
+use dp_model::{Fact, Holding, Lead, MAX_SEGMENTS, Row};
 
 /// Whether a fact of a row may have the share.
 fn is_share(share: u8) -> bool
@@ -38,7 +38,7 @@ fn joined_holding(h: Holding, with: Holding) -> Holding
         tail: h.tail.min(with.tail),
         first: h.first.min(with.first),
         last: h.last.min(with.last),
-        segs: h.segs.max(with.segs).max(1).min(MOST_SEGMENTS),
+        segs: h.segs.max(with.segs).max(1).min(MAX_SEGMENTS),
     }
 }
 

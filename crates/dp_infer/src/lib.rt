@@ -6,7 +6,7 @@
 mod inferring;
 mod join;
 mod laws;
-mod settling;
+mod widening;
 
 pub use inferring::{InferError, attempt, infer, infer_checked};
 pub use laws::{

@@ -18,5 +18,5 @@ mod verdicts;
 
 pub use counts::counts_of;
 pub use document::{FaultText, fault_document, line_of, run_document, verdicts_document};
-pub use numbers::{LARGEST_NUMBER, number};
+pub use numbers::{MAX_NUMBER, number};
 pub use verdicts::{Explanation, Refusal, accepted, explained, refused};

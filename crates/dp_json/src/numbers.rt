@@ -8,7 +8,7 @@ use serde_json::Value;
 use std::alloc::{AllocError, Global};
 
 /// The largest number that is printed as one, 2^53: a float of 64 bits holds each number up to it.
-pub const LARGEST_NUMBER: u64 = 9_007_199_254_740_992;
+pub const MAX_NUMBER: u64 = 9_007_199_254_740_992;
 
 /// A number: as a number up to 2^53, and beyond that as a string of its digits.
 ///
@@ -19,7 +19,7 @@ pub const LARGEST_NUMBER: u64 = 9_007_199_254_740_992;
 pub fn number(alloc: Global, n: u64) -> Result<Value, AllocError>
     ensures { IfOk result (λ v. view v ≡ number_data n) }
 {
-    if n <= LARGEST_NUMBER {
+    if n <= MAX_NUMBER {
         return Ok(Value::from(n));
     }
     let digits = format!(in alloc; "{n}")?;

@@ -12,7 +12,7 @@ use Rattle.dp_lang.specs.declared.argument.Named.TheVariants.{Packet, Register, 
 use Rattle.dp_lang.specs.declared.form.Form.{Form}
 use Rattle.dp_lang.specs.declared.form.Kind.{Kind}
 use Rattle.dp_lang.specs.declared.form.Kind.TheVariants as kinds
-use Rattle.dp_lang.specs.declared.form.TheConstants.{LARGEST_COUNT}
+use Rattle.dp_lang.specs.declared.form.TheConstants.{MAX_COUNT}
 use Rattle.dp_lang.specs.Forms.{Statement, kinds_of, either}
 
 -- a number below a limit, or 0
@@ -35,7 +35,7 @@ abbrev pub byte_in : Named → ℕ
 byte_in a = less 256 (number_in a)
 
 abbrev pub count_in : Named → ℕ
-count_in a = less (suc LARGEST_COUNT) (number_in a)
+count_in a = less (suc MAX_COUNT) (number_in a)
 
 abbrev pub width_of : ℕ → Width
 width_of n = if n == 1 then One else (if n == 2 then Two else (if n == 4 then Four else Eight))

@@ -13,7 +13,7 @@ use Rattle.dp_lang.specs.declared.cause.AsmError.TheVariants as errors
 use Rattle.dp_lang.specs.Arguments.{Argument, packet, register, constant, label}
 use Rattle.dp_lang.specs.declared.form.Kind.{Kind}
 use Rattle.dp_lang.specs.declared.form.Form.{Form}
-use Rattle.dp_lang.specs.declared.program.TheConstants.{MOST_INSTRS}
+use Rattle.dp_lang.specs.declared.program.TheConstants.{MAX_INSTRS}
 use Rattle.dp_lang.specs.Causes.{least}
 use Rattle.dp_lang.specs.Lines.{trim, is_blank, is_text, is_newline, pieces, labels_in, instruction_in, word_in, operands_in}
 use Rattle.dp_lang.specs.Forms.{kinds_of, form_of, Statement, spelled}
@@ -87,7 +87,7 @@ pub record Source : Type 0 where
 -- at most as many instructions as a program may have
 abbrev pub with_statement : ℕ → Source → Option (Statement (List ℕ)) → Labels → Result Source Cause
 with_statement line source None labels = Ok (record { labels = labels; statements = source.statements })
-with_statement line source (Some s) labels = if nat_lt (length source.statements) MOST_INSTRS
+with_statement line source (Some s) labels = if nat_lt (length source.statements) MAX_INSTRS
     then Ok (record { labels = labels; statements = source.statements ++ (line, s) ∷ [] }) else Err Size
 
 -- what one more line adds, or its least cause

@@ -4,7 +4,7 @@ ghost use Rattle.std.specs.Prelude.{◌≡◌, slice_index_or};
 ghost use Rattle.dp_lang.specs.Fields as spec;
 
 use crate::argument::Named;
-use crate::form::LARGEST_COUNT;
+use crate::form::MAX_COUNT;
 use dp_model::{NumberRegister, Operand, PacketRegister, Width};
 
 /// The `k`-th operand, or `Constant(0)` where there are fewer.
@@ -60,7 +60,7 @@ pub fn count_in(given: Named) -> u16
     ensures { result ≡ spec.count_in given.entry }
 {
     let n = number_in(given);
-    if n <= LARGEST_COUNT { n as u16 } else { 0 }
+    if n <= MAX_COUNT { n as u16 } else { 0 }
 }
 
 /// The width in an operand; eight bytes where it is none.

@@ -31,12 +31,12 @@ pub enum Kind {
 }
 
 /// The largest count of bytes, and the largest offset.
-pub const LARGEST_COUNT: u64 = 65_535;
+pub const MAX_COUNT: u64 = 65_535;
 
 /// A count of bytes, or an offset in a packet.
 pub(crate) const COUNT: Kind = Kind::Number {
     least: 0,
-    most: LARGEST_COUNT,
+    most: MAX_COUNT,
 };
 
 /// Any number of 64 bits.

@@ -28,4 +28,4 @@ pub use laws::{has_its_ranges, printed_texts_read_back};
 pub use line_numbers::source_lines;
 pub use operand::argument_of;
 pub use printer::print;
-pub use program::{MOST_INSTRS, Program};
+pub use program::{MAX_INSTRS, Program};

@@ -7,9 +7,9 @@ use dp_model::Instr;
 use std::marker::Model;
 
 /// The most instructions of a program.
-pub const MOST_INSTRS: usize = 1_024;
+pub const MAX_INSTRS: usize = 1_024;
 
-/// A node program: 1 to [`MOST_INSTRS`] instructions with operands in their ranges, and labels that are numbers of its instructions.
+/// A node program: 1 to [`MAX_INSTRS`] instructions with operands in their ranges, and labels that are numbers of its instructions.
 #[derive(Drop)]
 pub struct Program {
     instrs: Vec<Instr>,
@@ -41,7 +41,7 @@ impl Program {
     pub fn instrs(&self) -> &[Instr]
         ensures same { result.now ≡ self.now }
         ensures some { 1 ≤ length result.now }
-        ensures few { length result.now ≤ MOST_INSTRS }
+        ensures few { length result.now ≤ MAX_INSTRS }
         ensures program { IsProgram result.now }
     {
         &self.instrs

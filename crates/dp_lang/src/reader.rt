@@ -18,7 +18,7 @@ use crate::form::{Form, Kind};
 use crate::labels::Labels;
 use crate::lines;
 use crate::operand::{argument_of, is_name};
-use crate::program::MOST_INSTRS;
+use crate::program::MAX_INSTRS;
 use crate::source::Source;
 use crate::statement::Statement;
 use std::alloc::Global;
@@ -184,7 +184,7 @@ pub fn add_line<'a>(
     }
     let pieces = lines::pieces(alloc, text)?;
     if let Some(statement) = read_pieces(alloc, source, line, &pieces)? {
-        if source.statements.len() == MOST_INSTRS {
+        if source.statements.len() == MAX_INSTRS {
             return Err(LineError::Cause(Cause::Size));
         }
         source.statements.push(statement)?;

@@ -1,7 +1,7 @@
 //! `Source`: what the lines of a text have.
 
 ghost use Rattle.std.specs.Prelude.{◌≤◌, vec_len};
-ghost use Rattle.dp_lang.specs.declared.program.TheConstants.{MOST_INSTRS};
+ghost use Rattle.dp_lang.specs.declared.program.TheConstants.{MAX_INSTRS};
 
 use crate::labels::Labels;
 use crate::statement::Statement;
@@ -11,5 +11,5 @@ use crate::statement::Statement;
 pub struct Source<'a> {
     pub labels: Labels<'a>,
     pub statements: Vec<Statement<'a>>,
-    ghost few: { vec_len statements ≤ MOST_INSTRS },
+    ghost few: { vec_len statements ≤ MAX_INSTRS },
 }

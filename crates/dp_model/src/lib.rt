@@ -23,8 +23,8 @@ pub use laws::{
     turns_stay_ready,
 };
 pub use limits::{
-    DEFAULT_HEADROOM, LARGEST_HOP, LARGEST_RING, LARGEST_ROOM, LEAST_PORT_ROOM, MOST_BUFFERS,
-    MOST_CACHED, MOST_SEGMENTS,
+    DEFAULT_HEADROOM, MAX_BUFFERS, MAX_CACHED, MAX_HOP, MAX_RING, MAX_ROOM, MAX_SEGMENTS,
+    MIN_PORT_ROOM,
 };
 pub use packet::Packet;
 pub use registers::{NumberRegister, Operand, PacketRegister, Width};

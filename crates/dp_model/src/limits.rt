@@ -1,25 +1,25 @@
 //! The limits and sizes that the definitions cite, as constants.
 
 /// The most buffers of a pool, and of all pools together: their indexes have 16 bits.
-pub const MOST_BUFFERS: u32 = 65_535;
+pub const MAX_BUFFERS: u32 = 65_535;
 
 /// The most indexes in a pool's cache.
-pub const MOST_CACHED: u32 = 512;
+pub const MAX_CACHED: u32 = 512;
 
 /// The largest data room of a buffer, in bytes.
-pub const LARGEST_ROOM: u32 = 4_096;
+pub const MAX_ROOM: u32 = 4_096;
 
 /// The largest ring or transmit list.
-pub const LARGEST_RING: u32 = 65_536;
+pub const MAX_RING: u32 = 65_536;
 
 /// The most segments of a packet.
-pub const MOST_SEGMENTS: u8 = 64;
+pub const MAX_SEGMENTS: u8 = 64;
 
 /// The headroom of a new or received packet, in bytes.
 pub const DEFAULT_HEADROOM: u16 = 128;
 
 /// The smallest data room that a port receives into: the headroom, and a byte.
-pub const LEAST_PORT_ROOM: u32 = 129;
+pub const MIN_PORT_ROOM: u32 = 129;
 
 /// The largest hop of a route.
-pub const LARGEST_HOP: u32 = 16_777_215;
+pub const MAX_HOP: u32 = 16_777_215;

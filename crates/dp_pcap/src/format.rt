@@ -7,10 +7,10 @@ pub const HEADER_SIZE: usize = 24;
 pub const HEAD_SIZE: usize = 16;
 
 /// The most bytes of a record.
-pub const LARGEST_RECORD: usize = 262_144;
+pub const MAX_RECORD: usize = 262_144;
 
 /// The most records of a capture.
-pub const MOST_RECORDS: u32 = 16_777_216;
+pub const MAX_RECORDS: u32 = 16_777_216;
 
 /// The magic number of a capture in microseconds.
 pub(crate) const MICRO_MAGIC: u32 = 0xa1b2_c3d4;
@@ -29,7 +29,7 @@ pub(crate) const MAJOR: u16 = 2;
 pub(crate) const MINOR: u16 = 4;
 
 /// The offset of the snap length in a header.
-pub(crate) const LARGEST_AT: usize = 16;
+pub(crate) const SNAP_LENGTH_AT: usize = 16;
 
 /// The offset of the link type in a header.
 pub(crate) const LINK_AT: usize = 20;

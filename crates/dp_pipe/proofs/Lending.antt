@@ -7,7 +7,7 @@ use Rattle.dp_pcap.specs.declared.error.PcapError.{PcapError}
 use Rattle.dp_pcap.specs.declared.source.Next.{Next}
 use Rattle.dp_pcap.specs.declared.source.Next.TheVariants.{Record}
 use Rattle.dp_pcap.specs.Standing.{Standing}
-use Rattle.dp_pcap.specs.declared.format.TheConstants.{LARGEST_RECORD}
+use Rattle.dp_pcap.specs.declared.format.TheConstants.{MAX_RECORD}
 use Rattle.dp_pcap.specs.Source.{WhereKnown, Continues, IsHeld, IsInRange, body_in}
 use Rattle.dp_engine.specs.Engines.{EngineState}
 use Rattle.dp_pipe.specs.Forwarding.{TakesTurn, ReadsTurn}
@@ -23,7 +23,7 @@ lent port e e' s s' a b held bytes time len is more those took =
 
 -- a record that was read has room in any buffer for the largest one
 pub has_room : (s : Standing) (answer : Result Next PcapError) (time : Time) (len room : ℕ) → answer ≡ Ok (Record time len) → IsInRange s answer
-    → LARGEST_RECORD ≤ room → len ≤ room
+    → MAX_RECORD ≤ room → len ≤ room
 has_room s answer time len room is within large =
     let (nano, short, few) = subst (IsInRange s) is within in omega (arith, short, large)
 

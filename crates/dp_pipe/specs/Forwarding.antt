@@ -3,7 +3,7 @@ use Rattle.std.specs.Prelude.{◌≡◌, ◌≢◌, ℕ, zero, suc, ◌+◌, ◌
 use Rattle.std.specs.Prelude.{flat_map, take, Option, Some, slice_get, Result, Ok, Err, ⊤}
 use Rattle.std.specs.List.{list_any, AllByRecursion}
 use Rattle.std.specs.Option.{option_map_or}
-use Rattle.dp_pcap.specs.declared.format.TheConstants.{HEAD_SIZE, LARGEST_RECORD, MOST_RECORDS}
+use Rattle.dp_pcap.specs.declared.format.TheConstants.{HEAD_SIZE, MAX_RECORD, MAX_RECORDS}
 use Rattle.dp_pcap.specs.declared.time.Time.{Time}
 use Rattle.dp_pcap.specs.declared.time.Unit.{Unit as TimeUnit}
 use Rattle.dp_pcap.specs.declared.time.Unit.TheVariants.{Micro, Nano}
@@ -49,7 +49,7 @@ Gives (Cut byte) unit records bytes rest = IsCapture bytes unit records (capture
 abbrev pub last_pulls : InputState → ℕ
 last_pulls Open = 0
 last_pulls Whole = 1
-last_pulls (Cut byte) = HEAD_SIZE + LARGEST_RECORD
+last_pulls (Cut byte) = HEAD_SIZE + MAX_RECORD
 
 -- this input was read, with at most one call for each byte of its header and its records, and those that find its end
 pub record IsRead (i : Input) (old new : Device) : Type 0 where
@@ -69,7 +69,7 @@ Refuses unit records error bytes rest = IsCapture bytes unit records (capture.En
 -- this input was read up to a fault, with at most one call for each byte of its header, its records, and one record more
 pub record IsReadTo (i : Input) (error : PcapError) (old new : Device) : Type 0 where
   pub refuses : WhereKnown old.bytes new.bytes (Refuses i.unit i.records error)
-  pub calls : new.calls ≤ old.calls + length (text i.unit i.records) + (HEAD_SIZE + LARGEST_RECORD)
+  pub calls : new.calls ≤ old.calls + length (text i.unit i.records) + (HEAD_SIZE + MAX_RECORD)
 
 -- nanoseconds if any input has them, else microseconds
 abbrev pub is_nano : TimeUnit → Bool
@@ -248,7 +248,7 @@ pub record Stands (p : Progress) (i : Input) : Type 0 where
   pub unit : p.source.unit ≡ i.unit
   pub state : p.state ≡ i.state
   pub goes_on : IsGoingOn i.state p.source (length i.records)
-  pub few : length i.records ≤ MOST_RECORDS
+  pub few : length i.records ≤ MAX_RECORDS
 
 -- this input was read by a source, with at most this many calls
 pub record IsReadBy (i : Input) (source : Standing) (old new : Device) : Type 0 where

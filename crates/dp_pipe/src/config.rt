@@ -20,7 +20,7 @@ use toml::Table;
 /// The configuration in a pipeline file.
 #[derive(Drop)]
 pub(crate) struct Config {
-    /// The size of the region in bytes: a multiple of `dp_region::CACHE_LINE`, from `LEAST_REGION` to `LARGEST_REGION`.
+    /// The size of the region in bytes: a multiple of `dp_region::CACHE_LINE`, from `MIN_REGION` to `MAX_REGION`.
     pub region: u32,
     /// The environment of its programs.
     pub env: Env,

@@ -67,7 +67,7 @@ pub enum PipeError {
         /// Why.
         cause: RouteError,
     },
-    /// A node's program or certificate file cannot be fetched, or is longer than [`LONGEST_FILE`](crate::LONGEST_FILE).
+    /// A node's program or certificate file cannot be fetched, or is longer than [`MAX_FILE`](crate::MAX_FILE).
     File(Entry),
     /// A node's program text has a fault.
     Asm(Entry, dp_lang::Fault),

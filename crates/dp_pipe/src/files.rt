@@ -7,7 +7,7 @@ use crate::error::FetchFault;
 use std::alloc::Global;
 
 /// The most bytes of a program, of a certificate and of a pipeline file.
-pub const LONGEST_FILE: usize = 1_048_576;
+pub const MAX_FILE: usize = 1_048_576;
 
 /// Files that are fetched by name, as those of a folder.
 ///
@@ -16,7 +16,7 @@ pub trait Files {
     // The bytes of each file by its name, where they are known.
     ghost known: { Self → Option (List ℕ → Option (List ℕ)) };
 
-    /// Returns the bytes of a file. One that is longer than [`LONGEST_FILE`] may be cut after one byte more, unless the files are known.
+    /// Returns the bytes of a file. One that is longer than [`MAX_FILE`] may be cut after one byte more, unless the files are known.
     ///
     /// # Errors
     ///

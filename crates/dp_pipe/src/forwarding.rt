@@ -13,15 +13,15 @@ ghost use Rattle.dp_pcap.specs.declared.time.Unit.{Unit as TimeUnit};
 
 use dp_engine::{Engine, InputState, Known, Watch};
 use dp_pcap::{
-    Feed, HEAD_SIZE, LARGEST_RECORD, MOST_RECORDS, Next, PcapError, Sink, Source, Time, Unit,
+    Feed, HEAD_SIZE, MAX_RECORD, MAX_RECORDS, Next, PcapError, Sink, Source, Time, Unit,
     next_record, pass_record, put_header, read_header, record_at_hand,
 };
 
 /// The most turns of a run: as many as eight captures can have records.
-pub const MOST_TURNS: u64 = 8 * MOST_RECORDS as u64;
+pub const MAX_TURNS: u64 = 8 * MAX_RECORDS as u64;
 
 /// The most rounds of a run: one for each record of an input, and one in which all have ended.
-pub(crate) const ROUNDS: u32 = MOST_RECORDS + 1;
+pub(crate) const ROUNDS: u32 = MAX_RECORDS + 1;
 
 /// Why a run stopped.
 #[derive(Clone, Copy, Debug, PartialEq, Eq)]
@@ -70,9 +70,9 @@ fn next_turn<K: Known, R: Feed, V: Watch>(
     watch: &mut V,
 ) -> Result<Next, PcapError>
     requires exists { port < length engine.old.setting.env.ports }
-    requires buf { LARGEST_RECORD ≤ length buf.old }
+    requires buf { MAX_RECORD ≤ length buf.old }
     // Eight inputs with at most that many records are no more turns than an engine takes.
-    requires limit { engine.old.turns + MOST_RECORDS ≤ MOST_TURNS + source.old.given }
+    requires limit { engine.old.turns + MAX_RECORDS ≤ MAX_TURNS + source.old.given }
     requires open { source.old.is_open ≡ true }
     ensures turn { ReadsTurn port engine.old engine.new source.old source.new (R.remaining r.old) (R.remaining r.new) result }
     ensures in_range { IsInRange source.old result }
@@ -148,9 +148,9 @@ fn ask<K: Known, R: Feed, W: Sink, V: Watch>(
     requires many { length outs.old ≡ length engine.old.setting.env.ports }
     requires few { length outs.old ≤ 8 }
     requires counted { length engine.old.tallies ≡ 8 }
-    requires buf { LARGEST_RECORD ≤ length buf.old }
+    requires buf { MAX_RECORD ≤ length buf.old }
     requires open { input.old.state ≡ InputState.Open → input.old.source.is_open ≡ true }
-    requires limit { input.old.state ≡ InputState.Open → engine.old.turns + MOST_RECORDS ≤ MOST_TURNS + input.old.source.given }
+    requires limit { input.old.state ≡ InputState.Open → engine.old.turns + MAX_RECORDS ≤ MAX_TURNS + input.old.source.given }
     ensures step { input.old.state ≡ InputState.Open → Advances port unit engine.old engine.new input.old input.new
         (seen R.remaining R.calls r.old) (seen R.remaining R.calls r.new)
         (map (seen W.contents W.calls) outs.old) (map (seen W.contents W.calls) outs.new) result }
@@ -198,7 +198,7 @@ fn round<K: Known, R: Feed, W: Sink, V: Watch>(
     requires outs { length outs.old ≡ length engine.old.setting.env.ports }
     requires few { length outs.old ≤ 8 }
     requires counted { length engine.old.tallies ≡ 8 }
-    requires buf { LARGEST_RECORD ≤ length buf.old }
+    requires buf { MAX_RECORD ≤ length buf.old }
     requires along { (e0 : EngineState) × (had : List Device) × (held : List Device) × (read : List Input) × (k : ℕ)
         × Along unit e0 engine.old (transfer had (map (seen R.remaining R.calls) ins.old) held (map (seen W.contents W.calls) outs.old)) inputs.old read k 0 }
     ensures goes { (e0 : EngineState) (had held : List Device) (read : List Input) (k : ℕ) →
@@ -255,7 +255,7 @@ pub(crate) fn rounds<K: Known, R: Feed, W: Sink, V: Watch>(
     requires outs { length outs.old ≡ length engine.old.setting.env.ports }
     requires few { length outs.old ≤ 8 }
     requires counted { length engine.old.tallies ≡ 8 }
-    requires buf { LARGEST_RECORD ≤ length buf.old }
+    requires buf { MAX_RECORD ≤ length buf.old }
     requires along { (e0 : EngineState) × (had : List Device) × (held : List Device) × (read : List Input)
         × Along unit e0 engine.old (transfer had (map (seen R.remaining R.calls) ins.old) held (map (seen W.contents W.calls) outs.old)) inputs.old read 0 0 }
     ensures goes { (e0 : EngineState) (had held : List Device) (read : List Input) →

@@ -31,8 +31,8 @@ mod tracing;
 
 pub use causes::NodeName;
 pub use error::{FetchFault, Part, PipeError, RouteError};
-pub use files::{Files, LONGEST_FILE};
-pub use forwarding::{MOST_TURNS, RunCause};
+pub use files::{Files, MAX_FILE};
+pub use forwarding::{MAX_TURNS, RunCause};
 pub use listed::{Listed, NamedBytes};
 pub use loading::load;
 pub use nodes::{How, bytes_of, cert_of};

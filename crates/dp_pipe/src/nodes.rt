@@ -13,7 +13,7 @@ ghost use Rattle.dp_infer.specs.Inference.{SaysMost};
 
 use crate::error::{FetchFault, PipeError};
 use crate::file_names::{NodeNames, PortNames};
-use crate::files::{Files, LONGEST_FILE};
+use crate::files::{Files, MAX_FILE};
 use dp_cert::{Cert, CertError, decode};
 use dp_check::{Checked, check};
 use dp_infer::{InferError, infer_checked};
@@ -47,7 +47,7 @@ pub fn bytes_of<F: Files>(
 {
     match files.fetch(alloc, name) {
         Ok(bytes) => {
-            if bytes.len() <= LONGEST_FILE {
+            if bytes.len() <= MAX_FILE {
                 Ok(bytes)
             } else {
                 Err(PipeError::File(node))

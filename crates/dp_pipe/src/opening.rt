@@ -9,7 +9,7 @@ ghost use Rattle.dp_pipe.specs.Running.{IsFirst, IsUnopened};
 use crate::forwarding::{Progress, RunCause};
 use crate::pipeline::Pipeline;
 use dp_engine::{Engine, Known, need};
-use dp_pcap::LARGEST_RECORD;
+use dp_pcap::MAX_RECORD;
 use dp_region::Region;
 use std::alloc::Global;
 
@@ -69,7 +69,7 @@ pub(crate) fn opened<K: Known>(
     ensures few { IfOk result (λ r. length r.0.setting.env.ports ≤ 8) }
     ensures none { IfOk result (λ r. (r.1.items ≡ []) × (vec_len r.1 ≡ 0)) }
     ensures room { IfOk result (λ r. 8 ≤ vec_capacity r.1) }
-    ensures buf { IfOk result (λ r. LARGEST_RECORD ≤ length r.2.items) }
+    ensures buf { IfOk result (λ r. MAX_RECORD ≤ length r.2.items) }
     ensures err { IfErr result (IsUnopened pipeline) }
 {
     // Before any memory is asked for.
@@ -77,7 +77,7 @@ pub(crate) fn opened<K: Known>(
     let Ok(inputs) = Vec::with_capacity(alloc, 8) else {
         return Err(RunCause::Memory);
     };
-    let Ok(buf) = vec![in alloc; 0u8; LARGEST_RECORD] else {
+    let Ok(buf) = vec![in alloc; 0u8; MAX_RECORD] else {
         return Err(RunCause::Memory);
     };
     let engine = engine_of::<K>(alloc, pipeline, pattern)?;

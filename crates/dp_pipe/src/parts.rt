@@ -10,10 +10,10 @@ ghost use Rattle.dp_pipe.specs.Views as view;
 use crate::keys::{
     elements_of, has_only, is_tables, is_texts, number_at, text_at, text_if_any, value_at,
 };
-use crate::setup::{LARGEST_COUNT, LARGEST_SMALL, NodeFiles, PortPart, RingPart, TablePart};
+use crate::setup::{MAX_COUNT, MAX_SMALL, NodeFiles, PortPart, RingPart, TablePart};
 use dp_lpm::{MAX_GROUPS, MAX_RULES};
 use dp_model::{Fact, PoolSpec, PortSpec, RingSpec};
-use dp_region::{CACHE_LINE, LARGEST_REGION, LEAST_REGION};
+use dp_region::{CACHE_LINE, MAX_REGION, MIN_REGION};
 use toml::{Table, Value};
 
 /// A `[[pool]]`.
@@ -80,12 +80,12 @@ fn fact_in(table: &Table) -> Option<Fact>
     ensures { result ≡ spec.fact_in (table_view table.now) }
 {
     Some(Fact::Held {
-        share: number_at(table, "share", LARGEST_SMALL)? as u8,
-        head: number_at(table, "head", LARGEST_COUNT)? as u16,
-        tail: number_at(table, "tail", LARGEST_COUNT)? as u16,
-        first: number_at(table, "first", LARGEST_COUNT)? as u16,
-        last: number_at(table, "last", LARGEST_COUNT)? as u16,
-        segs: number_at(table, "segs", LARGEST_SMALL)? as u8,
+        share: number_at(table, "share", MAX_SMALL)? as u8,
+        head: number_at(table, "head", MAX_COUNT)? as u16,
+        tail: number_at(table, "tail", MAX_COUNT)? as u16,
+        first: number_at(table, "first", MAX_COUNT)? as u16,
+        last: number_at(table, "last", MAX_COUNT)? as u16,
+        segs: number_at(table, "segs", MAX_SMALL)? as u8,
     })
 }
 
@@ -119,7 +119,7 @@ fn port_spec_in(table: &Table) -> Option<PortSpec>
 {
     Some(PortSpec {
         pool: number_at(table, "pool", u32::MAX)?,
-        segs: number_at(table, "segs", LARGEST_SMALL)?,
+        segs: number_at(table, "segs", MAX_SMALL)?,
         queue: number_at(table, "queue", u32::MAX)?,
     })
 }
@@ -168,8 +168,8 @@ pub fn region_in(top: &Table) -> Option<u32>
     if !is_top(top) {
         return None;
     }
-    let region = number_at(top, "region", LARGEST_REGION)?;
-    if region >= LEAST_REGION && region % CACHE_LINE == 0 {
+    let region = number_at(top, "region", MAX_REGION)?;
+    if region >= MIN_REGION && region % CACHE_LINE == 0 {
         Some(region)
     } else {
         None

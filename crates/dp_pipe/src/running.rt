@@ -26,7 +26,7 @@ use dp_engine::{
     Engine, InputState, Known, Nothing, PoolReport, PortReport, Report, Silent, Watch,
 };
 use dp_model::{Env, PoolSpec, PortSpec, RingSpec, runs_keep_safe};
-use dp_pcap::{Feed, LARGEST_RECORD, Sink, Time, Unit, put_header, read_header};
+use dp_pcap::{Feed, MAX_RECORD, Sink, Time, Unit, put_header, read_header};
 use std::alloc::Global;
 
 /// A run that stopped early.
@@ -144,7 +144,7 @@ fn forward<K: Known, R: Feed, W: Sink, V: Watch>(
     requires few { length engine.old.setting.env.ports ≤ 8 }
     requires none { (inputs.old.items ≡ []) × (vec_len inputs.old ≡ 0) }
     requires room { 8 ≤ vec_capacity inputs.old }
-    requires buf { LARGEST_RECORD ≤ length buf.old }
+    requires buf { MAX_RECORD ≤ length buf.old }
     ensures forward { spec.GoesForward engine.old engine.new (transfer (map (seen R.remaining R.calls) ins.old) (map (seen R.remaining R.calls) ins.new)
         (map (seen W.contents W.calls) outs.old) (map (seen W.contents W.calls) outs.new)) inputs.new.items result }
     ensures many { length inputs.new.items ≤ length engine.old.setting.env.ports }
@@ -200,7 +200,7 @@ fn run_through<K: Known, R: Feed, W: Sink, V: Watch>(
     requires few { length engine.setting.env.ports ≤ 8 }
     requires none { (inputs.old.items ≡ []) × (vec_len inputs.old ≡ 0) }
     requires room { 8 ≤ vec_capacity inputs.old }
-    requires buf { LARGEST_RECORD ≤ length buf.old }
+    requires buf { MAX_RECORD ≤ length buf.old }
     ensures through { (last : EngineState) × spec.GoesForward engine last
         (transfer (map (seen R.remaining R.calls) ins.old) (map (seen R.remaining R.calls) ins.new)
         (map (seen W.contents W.calls) outs.old) (map (seen W.contents W.calls) outs.new)) inputs.new.items (spec.answer_of result)

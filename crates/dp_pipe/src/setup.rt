@@ -7,10 +7,10 @@ use dp_model::{PoolSpec, PortSpec, RingSpec};
 use toml::Value;
 
 /// The largest number of bytes in a fact.
-pub(crate) const LARGEST_COUNT: u32 = 65_535;
+pub(crate) const MAX_COUNT: u32 = 65_535;
 
 /// The largest share, and the most segments.
-pub(crate) const LARGEST_SMALL: u32 = 255;
+pub(crate) const MAX_SMALL: u32 = 255;
 
 /// The file names of a node.
 #[derive(Clone, Copy)]

@@ -6,12 +6,12 @@ ghost use Rattle.dp_engine.specs.Needs.{bytes_needed};
 ghost use Rattle.dp_engine.specs.Engines.{IsAscending};
 ghost use Rattle.dp_pipe.specs.Tracing.{IsTraced, HasTraced, TracesFirst, TracesOne, IsOfInput};
 
-use crate::forwarding::{MOST_TURNS, Progress, ROUNDS, RunCause, is_open};
+use crate::forwarding::{MAX_TURNS, Progress, ROUNDS, RunCause, is_open};
 use crate::opening::opened;
 use crate::pipeline::Pipeline;
 use crate::running::read_headers;
 use dp_engine::{Engine, InputState, Known, Turn, View, Watch};
-use dp_pcap::{Feed, LARGEST_RECORD, Next, PcapError, Time, next_record};
+use dp_pcap::{Feed, MAX_RECORD, Next, PcapError, Time, next_record};
 use std::alloc::Global;
 
 /// Watches a traced run: each record, each node run and each instruction.
@@ -35,7 +35,7 @@ pub trait Tracer: Watch {
 /// Which records are traced.
 #[derive(Clone, Copy, Debug, PartialEq, Eq)]
 pub struct Traced {
-    /// The most records: up to [`MOST_TURNS`].
+    /// The most records: up to [`MAX_TURNS`].
     pub records: u32,
     /// Only those of one port, or those of all ports in the order of a run.
     pub port: Option<u8>,
@@ -63,8 +63,8 @@ fn trace_next<K: Known, R: Feed, T: Tracer>(
     tracer: &mut T,
 ) -> Result<Option<Time>, PcapError>
     requires exists { port < length engine.old.setting.env.ports }
-    requires buf { LARGEST_RECORD ≤ length buf.old }
-    requires limit { engine.old.turns < MOST_TURNS }
+    requires buf { MAX_RECORD ≤ length buf.old }
+    requires limit { engine.old.turns < MAX_TURNS }
     ensures traced { MatchResult result (λ time. TracesOne T.Watch.sees T.told tracer.old tracer.new port time engine.old engine.new)
         (λ _. (tracer.new ≡ tracer.old) × (engine.new ≡ engine.old)) }
     ensures buf { length buf.new ≡ length buf.old }
@@ -98,8 +98,8 @@ fn trace_port<K: Known, R: Feed, T: Tracer>(
     tracer: &mut T,
 ) -> Result<(), PcapError>
     requires exists { port < length engine.old.setting.env.ports }
-    requires buf { LARGEST_RECORD ≤ length buf.old }
-    requires limit { engine.old.turns + which.old.records ≤ MOST_TURNS }
+    requires buf { MAX_RECORD ≤ length buf.old }
+    requires limit { engine.old.turns + which.old.records ≤ MAX_TURNS }
     ensures traced { (count : ℕ) × HasTraced T.Watch.sees T.told tracer.old tracer.new which.old.port count engine.old engine.new
         × (which.new.records + count ≡ which.old.records) }
     ensures port { which.new.port ≡ which.old.port }
@@ -134,8 +134,8 @@ fn trace_round<K: Known, R: Feed, T: Tracer>(
     requires inputs { length inputs.old ≡ length engine.old.setting.env.ports }
     requires ins { length ins.old ≡ length engine.old.setting.env.ports }
     requires few { length ins.old ≤ 8 }
-    requires buf { LARGEST_RECORD ≤ length buf.old }
-    requires limit { engine.old.turns + which.old.records ≤ MOST_TURNS }
+    requires buf { MAX_RECORD ≤ length buf.old }
+    requires limit { engine.old.turns + which.old.records ≤ MAX_TURNS }
     ensures traced { (count : ℕ) × HasTraced T.Watch.sees T.told tracer.old tracer.new which.old.port count engine.old engine.new
         × (which.new.records + count ≡ which.old.records) }
     ensures port { which.new.port ≡ which.old.port }
@@ -181,8 +181,8 @@ fn trace_rounds<K: Known, R: Feed, T: Tracer>(
     requires inputs { length inputs.old ≡ length engine.old.setting.env.ports }
     requires ins { length ins.old ≡ length engine.old.setting.env.ports }
     requires few { length ins.old ≤ 8 }
-    requires buf { LARGEST_RECORD ≤ length buf.old }
-    requires limit { engine.old.turns + which.records ≤ MOST_TURNS }
+    requires buf { MAX_RECORD ≤ length buf.old }
+    requires limit { engine.old.turns + which.records ≤ MAX_TURNS }
     ensures traced { (count : ℕ) × HasTraced T.Watch.sees T.told tracer.old tracer.new which.port count engine.old engine.new × (count ≤ which.records) }
     ensures cause { IfErr result IsOfInput }
 {
@@ -210,8 +210,8 @@ fn trace_records<K: Known, R: Feed, T: Tracer>(
     requires few { length ins.old ≤ 8 }
     requires none { (inputs.old.items ≡ []) × (vec_len inputs.old ≡ 0) }
     requires room { 8 ≤ vec_capacity inputs.old }
-    requires buf { LARGEST_RECORD ≤ length buf.old }
-    requires limit { which.records ≤ MOST_TURNS }
+    requires buf { MAX_RECORD ≤ length buf.old }
+    requires limit { which.records ≤ MAX_TURNS }
     ensures traced { (count : ℕ) × HasTraced T.Watch.sees T.told tracer.old tracer.new which.port count engine.old engine.new × (count ≤ which.records) }
     ensures cause { IfErr result IsOfInput }
 {
@@ -238,7 +238,7 @@ pub fn trace<K: Known, R: Feed, T: Tracer>(
 ) -> Result<(), RunCause>
     requires readers { length ins.old ≡ length pipeline.env.ports }
     requires pattern { IsAscending 0 pattern.items }
-    requires limit { which.records ≤ MOST_TURNS }
+    requires limit { which.records ≤ MAX_TURNS }
     // Whether there is room is known before memory is asked for.
     ensures no_room { result ≡ Err RunCause.NoRoom ↔ pipeline.region < bytes_needed pipeline.env }
     // It is shown the first turns of a run, and nothing else.

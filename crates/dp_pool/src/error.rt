@@ -8,13 +8,13 @@ use thiserror::Error;
 /// Why `make` refuses a pool: the first of these that applies.
 #[derive(Clone, Copy, Debug, PartialEq, Eq, Drop, Error)]
 pub enum PoolError {
-    /// The number of objects is 0 or above `MOST_OBJECTS`.
+    /// The number of objects is 0 or above `MAX_OBJECTS`.
     #[error("bad number of objects")]
     BadCount,
-    /// The size of an object is 0 or above `LARGEST_OBJECT`.
+    /// The size of an object is 0 or above `MAX_OBJECT`.
     #[error("bad object size")]
     BadSize,
-    /// The cache is for more than `LARGEST_CACHE` indexes, or for more than two thirds of the objects.
+    /// The cache is for more than `MAX_CACHE` indexes, or for more than two thirds of the objects.
     #[error("bad cache size")]
     BadCache,
     /// The zone of the objects, or that of the queue, is refused.

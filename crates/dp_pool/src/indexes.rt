@@ -12,17 +12,17 @@ use arrayvec::ArrayVec;
 use dp_ring::Ring;
 use std::marker::Model;
 
-/// The most indexes in a cache at once. A cache for 512 (`LARGEST_CACHE`) is cut back to 512 when it reaches one and a half times that, as DPDK
+/// The most indexes in a cache at once. A cache for 512 (`MAX_CACHE`) is cut back to 512 when it reaches one and a half times that, as DPDK
 /// flushes one.
-const MOST_IN_CACHE: usize = 768;
+const MAX_IN_CACHE: usize = 768;
 
 // What the cache's slots hold before indexes are read into them.
-const BLANKS: [u32; MOST_IN_CACHE] = [0; MOST_IN_CACHE];
+const BLANKS: [u32; MAX_IN_CACHE] = [0; MAX_IN_CACHE];
 
 /// The indexes from 0 up to a number, each in or out. Those that are in are in the queue or in the cache.
 pub(crate) struct Indexes {
     queue: Ring,
-    cached: ArrayVec<u32, MOST_IN_CACHE>,
+    cached: ArrayVec<u32, MAX_IN_CACHE>,
     // The number of indexes that the cache is for.
     cache: u32,
     // The number of indexes, in and out.
@@ -55,7 +55,7 @@ impl Model for Indexes {
 
 // Moves the first indexes of the queue to the end of the cache, in one read.
 #[inline(never)]
-fn move_in(queue: &mut Ring, cached: &mut ArrayVec<u32, MOST_IN_CACHE>, number: u32)
+fn move_in(queue: &mut Ring, cached: &mut ArrayVec<u32, MAX_IN_CACHE>, number: u32)
     requires there { number ≤ length queue.old.entries }
     requires room { length cached.old.items + number ≤ most_in_cache }
     ensures cached { cached.new.items ≡ cached.old.items ++ take number queue.old.entries }
@@ -68,7 +68,7 @@ fn move_in(queue: &mut Ring, cached: &mut ArrayVec<u32, MOST_IN_CACHE>, number: 
 
 // Moves all but the first `keep` indexes of the cache to the end of the queue.
 #[inline(never)]
-fn move_out(queue: &mut Ring, cached: &mut ArrayVec<u32, MOST_IN_CACHE>, keep: usize)
+fn move_out(queue: &mut Ring, cached: &mut ArrayVec<u32, MAX_IN_CACHE>, keep: usize)
     requires some { keep ≤ length cached.old.items }
     requires room { length cached.old.items ≤ keep + room_in queue.old }
     ensures cached { cached.new.items ≡ take keep cached.old.items }
@@ -80,7 +80,7 @@ fn move_out(queue: &mut Ring, cached: &mut ArrayVec<u32, MOST_IN_CACHE>, keep: u
 
 // Appends indexes to the cache.
 #[inline(always)]
-fn extend(cached: &mut ArrayVec<u32, MOST_IN_CACHE>, indexes: &[u32])
+fn extend(cached: &mut ArrayVec<u32, MAX_IN_CACHE>, indexes: &[u32])
     requires { length cached.old.items + length indexes.now ≤ most_in_cache }
     ensures { cached.new.items ≡ cached.old.items ++ indexes.now }
 {

@@ -19,5 +19,5 @@ mod making;
 mod pool;
 
 pub use error::PoolError;
-pub use making::{LARGEST_CACHE, LARGEST_OBJECT, MOST_OBJECTS};
+pub use making::{MAX_CACHE, MAX_OBJECT, MAX_OBJECTS};
 pub use pool::Pool;

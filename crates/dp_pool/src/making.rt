@@ -16,13 +16,13 @@ use dp_region::CACHE_LINE;
 use dp_zone::{Zone, ZoneError, Zones};
 
 /// The most objects of a pool: all whose indexes fit into 2 bytes of an mbuf's header, less one.
-pub const MOST_OBJECTS: u32 = 65_535;
+pub const MAX_OBJECTS: u32 = 65_535;
 
 /// The size of the largest object, in bytes: the header of an mbuf and 4,096 of data.
-pub const LARGEST_OBJECT: u32 = 4224;
+pub const MAX_OBJECT: u32 = 4224;
 
 /// The most indexes that a cache may be for: DPDK's `RTE_MEMPOOL_CACHE_MAX_SIZE`.
-pub const LARGEST_CACHE: u32 = 512;
+pub const MAX_CACHE: u32 = 512;
 
 // The pool's name with a suffix, if that is short enough for a zone's name.
 fn with_suffix(name: &str, suffix: &str) -> Option<ArrayString<32>>
@@ -46,13 +46,13 @@ pub(crate) fn refused_numbers(count: u32, size: u32, cache: u32) -> Option<PoolE
         ⊎ (e ≡ PoolError.BadCache × IsPoolCount count × IsObjectSize size × ¬ IsCacheSize count cache))) }
     ensures none { IfNone result (IsPoolCount count × IsObjectSize size × IsCacheSize count cache) }
 {
-    if count == 0 || count > MOST_OBJECTS {
+    if count == 0 || count > MAX_OBJECTS {
         return Some(PoolError::BadCount);
     }
-    if size == 0 || size > LARGEST_OBJECT {
+    if size == 0 || size > MAX_OBJECT {
         return Some(PoolError::BadSize);
     }
-    if cache > LARGEST_CACHE || 3 * cache > 2 * count {
+    if cache > MAX_CACHE || 3 * cache > 2 * count {
         return Some(PoolError::BadCache);
     }
     None

@@ -16,10 +16,10 @@ use thiserror::Error;
 pub const CACHE_LINE: u32 = 64;
 
 /// The size of the smallest region, in bytes.
-pub const LEAST_REGION: u32 = 4096;
+pub const MIN_REGION: u32 = 4096;
 
 /// The size of the largest region, in bytes.
-pub const LARGEST_REGION: u32 = 1_073_741_824;
+pub const MAX_REGION: u32 = 1_073_741_824;
 
 /// The allocator refused the memory for a region.
 #[derive(Clone, Copy, Debug, PartialEq, Eq, Error)]
@@ -50,7 +50,7 @@ impl Model for Region {
 }
 
 impl Region {
-    /// Allocates a region of `size` bytes, all 0. The size must be a multiple of `CACHE_LINE`, from `LEAST_REGION` to `LARGEST_REGION`. Answers
+    /// Allocates a region of `size` bytes, all 0. The size must be a multiple of `CACHE_LINE`, from `MIN_REGION` to `MAX_REGION`. Answers
     /// `Memory` where the allocator refuses.
     pub fn new(alloc: Global, size: u32) -> Result<Region, Memory>
         requires { IsRegionSize size }

@@ -6,7 +6,7 @@ mod graphs;
 mod listings;
 mod marks;
 mod pipelines;
-mod reasons;
+mod refusal_text;
 mod rows;
 mod source;
 
@@ -14,5 +14,5 @@ pub use flow::{Arrow, StepCount, jump_of, next_of};
 pub use graphs::{Drawing, graph};
 pub use listings::{Heading, instructions, listing};
 pub use pipelines::{NodeDrawing, node_graph, pipeline_graph};
-pub use reasons::{HintText, KnownText, RuleText, WantedText};
+pub use refusal_text::{HintText, KnownText, RuleText, WantedText};
 pub use source::{Written, written_in};

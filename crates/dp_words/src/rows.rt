@@ -2,7 +2,7 @@
 
 ghost use Rattle.std.specs.Prelude.{◌<◌};
 
-use crate::reasons::measure_word;
+use crate::refusal_text::measure_word;
 use dp_check::Measure;
 use dp_model::{Fact, Row};
 use std::alloc::{AllocError, Global};

@@ -7,10 +7,10 @@ use thiserror::Error;
 /// Why `reserve` refuses a zone: the first of these that applies.
 #[derive(Clone, Copy, Debug, PartialEq, Eq, Drop, Error)]
 pub enum ZoneError {
-    /// The name has no characters or more than `LONGEST_NAME`, or one of them is not from 33 to 126.
+    /// The name has no characters or more than `MAX_NAME`, or one of them is not from 33 to 126.
     #[error("bad zone name")]
     BadName,
-    /// The length is 0 or above `dp_region::LARGEST_REGION`.
+    /// The length is 0 or above `dp_region::MAX_REGION`.
     #[error("bad zone length")]
     BadLength,
     /// The alignment is neither 0 nor a power of two.
@@ -19,7 +19,7 @@ pub enum ZoneError {
     /// The table has a zone of that name.
     #[error("the zone exists")]
     Exists,
-    /// The table has `MOST_ZONES` zones.
+    /// The table has `MAX_ZONES` zones.
     #[error("too many zones")]
     Full,
     /// No free element of the heap has room.

@@ -15,6 +15,6 @@ mod zone;
 mod zones;
 
 pub use error::ZoneError;
-pub use name::{LONGEST_NAME, ZoneName};
+pub use name::{MAX_NAME, ZoneName};
 pub use zone::Zone;
-pub use zones::{MOST_ZONES, ZoneInfo, Zones};
+pub use zones::{MAX_ZONES, ZoneInfo, Zones};

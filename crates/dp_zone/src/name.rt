@@ -8,12 +8,12 @@ use arrayvec::ArrayString;
 use std::marker::Model;
 
 /// The most characters of a zone's name, one fewer than DPDK's `RTE_MEMZONE_NAMESIZE`, which counts the final zero.
-pub const LONGEST_NAME: usize = 31;
+pub const MAX_NAME: usize = 31;
 
-/// The name of a zone: 1 to `LONGEST_NAME` visible ASCII characters, without blanks.
+/// The name of a zone: 1 to `MAX_NAME` visible ASCII characters, without blanks.
 #[derive(Drop)]
 pub struct ZoneName {
-    text: ArrayString<LONGEST_NAME>,
+    text: ArrayString<MAX_NAME>,
 }
 
 impl Model for ZoneName {
@@ -38,7 +38,7 @@ fn are_visible(bytes: &[u8]) -> bool
 pub(crate) fn is_name(text: &str) -> bool
     ensures { result ≡ is_name text.now }
 {
-    !text.is_empty() && text.len() <= LONGEST_NAME && are_visible(text.as_bytes())
+    !text.is_empty() && text.len() <= MAX_NAME && are_visible(text.as_bytes())
 }
 
 impl ZoneName {
@@ -63,7 +63,7 @@ impl ZoneName {
     }
 
     // A copy of the text.
-    pub(crate) fn text(&self) -> ArrayString<LONGEST_NAME>
+    pub(crate) fn text(&self) -> ArrayString<MAX_NAME>
         ensures { result.bytes ≡ self.now }
     {
         self.text

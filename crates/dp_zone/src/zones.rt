@@ -10,15 +10,15 @@ ghost use Rattle.dp_zone.specs.Entries.{table_of};
 ghost use Rattle.dp_zone.specs.Zones.{Reserved, info_of, reserved_of, is_named, has_name, zone_named, without_name, IsZoneRefused, IsReservable, IsZoneTable};
 
 use crate::error::ZoneError;
-use crate::name::{LONGEST_NAME, ZoneName, is_name};
+use crate::name::{MAX_NAME, ZoneName, is_name};
 use crate::zone::Zone;
 use arrayvec::{ArrayString, ArrayVec};
 use dp_heap::{Heap, HeapError};
-use dp_region::LARGEST_REGION;
+use dp_region::MAX_REGION;
 use std::marker::Model;
 
 /// The most zones of a table. DPDK has 2,560, `RTE_MAX_MEMZONE`.
-pub const MOST_ZONES: usize = 64;
+pub const MAX_ZONES: usize = 64;
 
 /// Where a zone is: its offset, in bytes from the region's start, and its length in bytes.
 #[derive(Clone, Copy, Debug, PartialEq, Eq)]
@@ -30,7 +30,7 @@ pub struct ZoneInfo {
 // What the table knows of one zone.
 #[derive(Clone, Copy, Default, Drop)]
 struct Entry {
-    name: ArrayString<LONGEST_NAME>,
+    name: ArrayString<MAX_NAME>,
     offset: u32,
     len: u32,
 }
@@ -65,10 +65,10 @@ fn entry_named(entries: &[Entry], name: &str) -> Option<Entry>
     entries.iter().copied().find(|e| e.is(name))
 }
 
-/// A table of at most `MOST_ZONES` zones with distinct names.
+/// A table of at most `MAX_ZONES` zones with distinct names.
 #[derive(Drop)]
 pub struct Zones {
-    entries: ArrayVec<Entry, MOST_ZONES>,
+    entries: ArrayVec<Entry, MAX_ZONES>,
 }
 
 impl Model for Zones {
@@ -93,7 +93,7 @@ impl Zones {
         }
     }
 
-    /// The number of zones, at most `MOST_ZONES`.
+    /// The number of zones, at most `MAX_ZONES`.
     pub fn count(&self) -> usize
         ensures value { result ≡ length self.now }
         ensures table { IsZoneTable self.now }
@@ -131,7 +131,7 @@ impl Zones {
         if !is_name(name) {
             return Some(ZoneError::BadName);
         }
-        if len == 0 || len > LARGEST_REGION {
+        if len == 0 || len > MAX_REGION {
             return Some(ZoneError::BadLength);
         }
         if align != 0 && !align.is_power_of_two() {
@@ -140,7 +140,7 @@ impl Zones {
         if self.has(name) {
             return Some(ZoneError::Exists);
         }
-        if self.entries.len() == MOST_ZONES {
+        if self.entries.len() == MAX_ZONES {
             return Some(ZoneError::Full);
         }
         None

@@ -12,8 +12,8 @@ ghost use Rattle.dp_pipe.specs.Running.{answer_of};
 
 use crate::counting::Counting;
 use crate::documents::{print_document, print_memory};
+use crate::error_text::Finding;
 use crate::fault::{FAULT, status_unwritten};
-use crate::fault_reasons::Finding;
 use crate::printer::Printer;
 use crate::run::closing::Settled;
 use crate::run::inlet::Inlet;

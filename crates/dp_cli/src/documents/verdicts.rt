@@ -13,7 +13,7 @@ use crate::fault::{DONE, Fault, REFUSED, tell_no_node};
 use crate::printer::Printer;
 use crate::verdicts::entry_at;
 use crate::verdicts::explain::{explanation_text, line_at, line_of};
-use crate::verdicts::judged::{Asked, Judged, asked_of, judge};
+use crate::verdicts::node_source::{Asked, Judged, asked_of, judge};
 use dp_check::{Diagnosis, diagnose};
 use dp_json::{Explanation, FaultText, Refusal, accepted, explained, verdicts_document};
 use dp_model::{Entry, Env};

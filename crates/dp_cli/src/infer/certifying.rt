@@ -9,7 +9,7 @@ ghost use Rattle.dp_cli.specs.Printing.{Notes, paper, Prints};
 use crate::fault::{DONE, Fault, status_unwritten};
 use crate::loading::{report_fault, report_unloaded};
 use crate::printer::Printer;
-use crate::verdicts::judged::program_of;
+use crate::verdicts::node_source::program_of;
 use dp_cert::{Cert, encode};
 use dp_infer::{InferError, infer};
 use dp_model::{Entry, Env};

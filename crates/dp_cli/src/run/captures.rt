@@ -6,7 +6,7 @@ ghost use Rattle.dp_cli.specs.Names.{AreInputs, AreOutputs, input_capture, one_n
 
 use crate::fault::Fault;
 use crate::files::ReadFault;
-use crate::run::findings::CaptureNames;
+use crate::run::capture_errors::CaptureNames;
 use crate::run::guarded::Guarded;
 use crate::run::input_file::{Source, open_source};
 use crate::run::output_file::{Destination, open_destination};

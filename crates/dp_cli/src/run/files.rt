@@ -18,9 +18,9 @@ use crate::loading::{Loaded, load_text, load_with_reads};
 use crate::operands::numbers_in;
 use crate::printer::Printer;
 use crate::run::Reporting;
+use crate::run::capture_errors::{CaptureNames, names_of};
 use crate::run::captures::{BUFFER, InputOf, OutputOf, UNBUFFERED, create_outputs, open_inputs};
 use crate::run::drops::Drops;
-use crate::run::findings::{CaptureNames, names_of};
 use crate::run::progress::Telling;
 use crate::run::replaced::{Replacements, replacements_in};
 use crate::run::same_file::{ReadFile, keep_apart, note_input};
@@ -29,7 +29,7 @@ use crate::single_port::{Naming, ONE_PORT, OneFiles};
 use dp_engine::{Known, Nothing, Report, need};
 use dp_model::Entry;
 use dp_pipe::{How, Pipeline, RunFault};
-use dp_region::{CACHE_LINE, LEAST_REGION};
+use dp_region::{CACHE_LINE, MIN_REGION};
 use std::alloc::Global;
 use std::io::{self, Write};
 use std::rt::Files;
@@ -100,7 +100,7 @@ fn drops_of(answer: &Result<Report, RunFault>) -> Drops {
 /// Writes the size of a region that is large enough.
 fn write_region<E: Write>(needed: u64, err: &mut E) -> io::Result<()> {
     let line = u64::from(CACHE_LINE);
-    let least = needed.max(u64::from(LEAST_REGION));
+    let least = needed.max(u64::from(MIN_REGION));
     writeln!(
         err,
         "  help: the pools, rings and ports need {needed} bytes, of which dpv check FILE --sizes shows the parts: region = {}",

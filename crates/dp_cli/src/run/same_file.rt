@@ -6,9 +6,9 @@ ghost use Rattle.dp_cli.specs.Guarding.{read_name};
 ghost use Rattle.dp_cli.specs.Names.{input_name, output_capture};
 ghost use Rattle.dp_cli.specs.Told.{IsClash};
 
+use crate::error_text::Reason;
 use crate::fault::Fault;
-use crate::fault_reasons::Reason;
-use crate::run::findings::CaptureNames;
+use crate::run::capture_errors::CaptureNames;
 use crate::run::replaced::Place;
 use std::alloc::Global;
 use std::fs;

@@ -9,9 +9,9 @@ use crate::fault::{Fault, Status, tell_fault, tell_no_node, tell_usage};
 use crate::loading::{Loaded, load_with_programs};
 use crate::operands::{port_in, records_in};
 use crate::printer::Printer;
+use crate::run::capture_errors::names_of;
 use crate::run::captures::open_inputs;
 use crate::run::files::refused_in;
-use crate::run::findings::names_of;
 use crate::run::progress::Telling;
 use crate::run::replaced::Replacements;
 use crate::single_port::Naming;
@@ -21,7 +21,7 @@ use clap::ArgMatches;
 use dp_counts::NodeSource;
 use dp_engine::Nothing;
 use dp_model::Entry;
-use dp_pipe::{How, MOST_TURNS, Pipeline, Traced};
+use dp_pipe::{How, MAX_TURNS, Pipeline, Traced};
 use std::alloc::Global;
 use std::io::{self, Write};
 use std::rt::Files;
@@ -48,13 +48,13 @@ fn usual_count(words: &ArgMatches<'_>) -> &'static str {
 
 /// Which records are traced; or the status, after reporting the fault.
 fn traced_in<E: Write>(words: &ArgMatches<'_>, err: &mut E) -> Result<Traced, u8>
-    ensures { IfOk result (λ which. which.records ≤ MOST_TURNS) }
+    ensures { IfOk result (λ which. which.records ≤ MAX_TURNS) }
 {
     let count = words.get_str("records").unwrap_or(usual_count(words));
     let Some(records) = records_in(count) else {
         return Err(tell_usage(
             err,
-            format_args!("error: '{count}' is no number of records: from 1 to {MOST_TURNS}"),
+            format_args!("error: '{count}' is no number of records: from 1 to {MAX_TURNS}"),
         ));
     };
     let port = match words.get_str("port") {
@@ -112,7 +112,7 @@ fn trace_pipeline<R: Files + Print, E: Write>(
     err: &mut E,
 ) -> u8
     requires pattern { IsAscending 0 pattern.items }
-    requires limit { which.records ≤ MOST_TURNS }
+    requires limit { which.records ≤ MAX_TURNS }
 {
     match which.port {
         Some(port) if usize::from(port) >= pipeline.ports() => {

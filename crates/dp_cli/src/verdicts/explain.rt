@@ -7,7 +7,7 @@ ghost use Rattle.dp_cli.specs.Printing.{IsEnded, Prints, Says, paper};
 
 use crate::fault::{DONE, REFUSED, status_unwritten};
 use crate::printer::Printer;
-use crate::verdicts::judged::{Asked, Judged};
+use crate::verdicts::node_source::{Asked, Judged};
 use crate::verdicts::saying::{report_memory, say};
 use dp_check::{Diagnosis, Reason, diagnose};
 use dp_lang::{AsmError, source_lines};

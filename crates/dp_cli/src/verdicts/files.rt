@@ -10,7 +10,7 @@ use crate::printer::Printer;
 use crate::single_port::{Naming, one_env};
 use crate::verdicts::counted::{Counted, steps_in};
 use crate::verdicts::draw::draw_pipeline;
-use crate::verdicts::judged::Asked;
+use crate::verdicts::node_source::Asked;
 use crate::verdicts::show::Form;
 use crate::verdicts::{Wanted, tell_node, tell_pipeline};
 use clap::ArgMatches;

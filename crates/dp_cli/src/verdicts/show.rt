@@ -8,7 +8,7 @@ ghost use Rattle.dp_cli.specs.Printing.{paper};
 use crate::fault::{DONE, REFUSED};
 use crate::printer::Printer;
 use crate::verdicts::counted::{Counted, misfit_text};
-use crate::verdicts::judged::{Asked, Judged};
+use crate::verdicts::node_source::{Asked, Judged};
 use crate::verdicts::saying::{report_memory, report_text, say};
 use crate::verdicts::verdict::{RefusedAt, Verdict};
 use dp_check::diagnose;

@@ -1,7 +1,7 @@
 //! Passes: a turn, and the drains of all ports.
 ghost use Rattle.std.specs.Prelude.{◌≡◌, ◌<◌, ◌≤◌, List, length, slice_get, Some, IfSome, IfNone};
 ghost use Rattle.dp_model.specs.Packets.{Packet};
-ghost use Rattle.dp_pcap.specs.declared.format.TheConstants.{LARGEST_RECORD};
+ghost use Rattle.dp_pcap.specs.declared.format.TheConstants.{MAX_RECORD};
 ghost use Rattle.dp_engine.specs.Batches.{Holds, Passes, all_buffers, all_drained, frames_in, largest_batch, widest};
 ghost use Rattle.dp_engine.specs.Engines.{drained, most_turns};
 ghost use Rattle.dp_engine.specs.Shapes.{AreWaiting};
@@ -110,7 +110,7 @@ impl<K: Known> Engine<K> {
     ) -> Pass
         requires exists { port < length self.old.setting.env.ports }
         requires limit { self.old.turns < most_turns }
-        requires size { length frame.now ≤ LARGEST_RECORD }
+        requires size { length frame.now ≤ MAX_RECORD }
         requires records { (largest_batch self.old.setting.env).records ≤ length records.old }
         requires bytes { (largest_batch self.old.setting.env).bytes ≤ length bytes.old }
         ensures passes { Passes self.old self.new port frame.now result.turn time records.new bytes.new result.sent }

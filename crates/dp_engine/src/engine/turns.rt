@@ -1,6 +1,6 @@
 //! One turn of an engine: a record is received, its port's program runs, then up to 32 programs on packets of rings.
 ghost use Rattle.std.specs.Prelude.{◌≡◌, ◌<◌, ◌≤◌, length};
-ghost use Rattle.dp_pcap.specs.declared.format.TheConstants.{LARGEST_RECORD};
+ghost use Rattle.dp_pcap.specs.declared.format.TheConstants.{MAX_RECORD};
 ghost use Rattle.dp_model.specs.Runs.{runs_of};
 ghost use Rattle.dp_engine.specs.Engines.{most_turns, tallies_at, counted_at, records_of, TakesTurn};
 ghost use Rattle.dp_engine.specs.Outcomes.{outcome_of};
@@ -34,7 +34,7 @@ impl<K: Known> Engine<K> {
     pub fn turn(&mut self, port: u8, bytes: &[u8]) -> Turn
         requires exists { port < length self.old.setting.env.ports }
         requires limit { self.old.turns < most_turns }
-        requires size { length bytes.now ≤ LARGEST_RECORD }
+        requires size { length bytes.now ≤ MAX_RECORD }
         ensures { TakesTurn self.old self.new port bytes.now result }
     {
         self.watched_turn(port, bytes, &mut Silent)
@@ -46,7 +46,7 @@ impl<K: Known> Engine<K> {
     pub fn watched_turn<W: Watch>(&mut self, port: u8, bytes: &[u8], watch: &mut W) -> Turn
         requires exists { port < length self.old.setting.env.ports }
         requires limit { self.old.turns < most_turns }
-        requires size { length bytes.now ≤ LARGEST_RECORD }
+        requires size { length bytes.now ≤ MAX_RECORD }
         ensures taken { TakesTurn self.old self.new port bytes.now result }
         ensures watched { WatchesTurn W.sees watch.old watch.new self.old.setting self.old.nodes port bytes.now self.old.world (outcome_of result.outcome)
             result.runs self.new.world }

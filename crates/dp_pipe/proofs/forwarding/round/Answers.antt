@@ -3,7 +3,7 @@ use Rattle.std.proofs.Common.{rules, ◌≡◌, ◌≤◌, ℕ, List, Result, Ok
 use Rattle.std.specs.Prelude.{slice_index_or, slice_set, ⊤}
 use Rattle.std.proofs.lemmas.Option.{slice_get-get_or}
 use Rattle.std.proofs.lemmas.List.{length-set}
-use Rattle.dp_pcap.specs.declared.format.TheConstants.{LARGEST_RECORD}
+use Rattle.dp_pcap.specs.declared.format.TheConstants.{MAX_RECORD}
 use Rattle.dp_engine.specs.Engines.{EngineState}
 use Rattle.dp_pipe.specs.declared.forwarding.RunCause.{RunCause}
 use Rattle.dp_pipe.specs.Devices.{Device, seen, transfer, AllFared, AllSound, failed_reader, failed_writer}
@@ -78,7 +78,7 @@ ask-requires g c =
     let here = found g (goal.at.ask-requires g c).After-index-ins-k in
     let inv = c.loop-port.invariant in
     let few : length c.loop-port.outs ≤ 8 = omega (arith, inv.outs, c.requires.few) in
-    let buf : LARGEST_RECORD ≤ length c.loop-port.buf = rw inv.buf c.requires.buf in
+    let buf : MAX_RECORD ≤ length c.loop-port.buf = rw inv.buf c.requires.buf in
     (omega arith, (there_now here, (many_now here, (few, (counted_now here, (buf, (open_now here, limit_now here)))))))
 
 pub loop-port-preserved : goal.loop-port-preserved

@@ -1,7 +1,7 @@
 -- `rounds`: one more round, the end of all inputs, and a stop. The run and each call of `round` are derived once.
 use Rattle.std.proofs.Common.{rules, ◌≡◌, ◌≤◌, List, Result, Ok, Err, length, map, refl, sym, ap, ◌∙◌, arith}
 use Rattle.std.specs.Prelude.{⊤}
-use Rattle.dp_pcap.specs.declared.format.TheConstants.{LARGEST_RECORD}
+use Rattle.dp_pcap.specs.declared.format.TheConstants.{MAX_RECORD}
 use Rattle.dp_engine.specs.Engines.{EngineState}
 use Rattle.dp_pipe.specs.declared.forwarding.RunCause.{RunCause}
 use Rattle.dp_pipe.specs.Devices.{Device, seen, transfer, AllFared, AllSound, failed_reader, failed_writer}
@@ -67,7 +67,7 @@ round-requires g c =
     let (now, going) = along g (goal.at.round-requires g c).In-loop-k in
     let counted = going.run.each ∙ sym c.requires.along.4.run.each ∙ c.requires.counted in
     let few : length c.loop-k.outs ≤ 8 = omega (arith, inv.outs, c.requires.few) in
-    let buf : LARGEST_RECORD ≤ length c.loop-k.buf = rw inv.buf c.requires.buf in (
+    let buf : MAX_RECORD ≤ length c.loop-k.buf = rw inv.buf c.requires.buf in (
       omega arith,
       (
         inv.inputs ∙ c.requires.inputs ∙ same,

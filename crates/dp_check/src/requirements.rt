@@ -1,0 +1,362 @@
+//! Tests what an instruction needs, rule by rule, and says what is missing.
+
+ghost use Rattle.std.specs.Prelude.{◌≡◌, ℕ, ◌+◌, ◌<◌, ◌≤◌, true, false, not, find, length, IfSome, IfNone, MatchOption, slice_get};
+ghost use Rattle.std.specs.List.{list_all};
+ghost use Rattle.dp_model.specs.declared.rule.Rule.TheVariants.{J3, J5, J6, J7, J8, J9, J10};
+ghost use Rattle.dp_model.specs.Rows.{entails_share, is_empty};
+ghost use Rattle.dp_model.specs.Rules.{Question, indices_exist, is_held, uses, targets_fit, bytes_fit, share_fits, segments_fit, may_leave, may_end};
+ghost use Rattle.dp_check.specs.Diagnoses.{Is, Says, first_held, measured, measured_at, rule_of, segs_in, share_in};
+
+use crate::entailing::{fact_entails, share_entails};
+use crate::reason::Measure::{self, First, Headroom, Last, Tailroom};
+use crate::reason::Reason;
+use dp_model::{Env, Fact, Instr, MAX_SEGMENTS, PacketRegister, Row};
+
+/// The pool, table or ring that the instruction names and the environment does not have.
+pub(crate) fn missing_index(env: &Env, instr: Instr) -> Option<Reason>
+    ensures none { IfNone result (indices_exist env.now instr ≡ true) }
+    ensures some { IfSome result (λ reason. (indices_exist env.now instr ≡ false) × (rule_of reason ≡ J3)) }
+    ensures says { (q : Question) → q.env ≡ env.now → (label : ℕ) (row : Row) → IfSome result (Says q label instr row) }
+{
+    match instr {
+        Instr::Alloc { pool, .. } | Instr::Clone { pool, .. } => {
+            let known = env.pools().len();
+            if usize::from(pool) < known {
+                None
+            } else {
+                Some(Reason::NoPool { pool, known })
+            }
+        }
+        Instr::Lookup { table, .. } => {
+            let known = env.tables();
+            if table < known {
+                None
+            } else {
+                Some(Reason::NoTable { table, known })
+            }
+        }
+        Instr::Enq { ring, .. } => {
+            let known = env.rings().len();
+            if usize::from(ring) < known {
+                None
+            } else {
+                Some(Reason::NoRing { ring, known })
+            }
+        }
+        _ => None,
+    }
+}
+
+/// The packet register, if it is empty.
+fn not_held(row: &Row, packet: PacketRegister) -> Option<PacketRegister>
+    ensures { MatchOption result (is_held row.now packet ≡ true) (λ p. (p ≡ packet) × (is_held row.now packet ≡ false)) }
+{
+    match row.fact(packet) {
+        Fact::Held { .. } => None,
+        Fact::Empty => Some(packet),
+    }
+}
+
+/// The first packet register that is used and empty, if there is one.
+pub(crate) fn empty_use(row: &Row, instr: Instr) -> Option<PacketRegister>
+    ensures first { result ≡ find (λ p. not (is_held row.now p)) (uses instr) }
+    ensures none { IfNone result (list_all (is_held row.now) (uses instr) ≡ true) }
+    ensures some { IfSome result (λ p. (list_all (is_held row.now) (uses instr) ≡ false) × (is_held row.now p ≡ false)) }
+{
+    match instr {
+        Instr::Free { packet }
+        | Instr::Prepend { packet, .. }
+        | Instr::Adj { packet, .. }
+        | Instr::Append { packet, .. }
+        | Instr::Trim { packet, .. }
+        | Instr::IfHead { packet, .. }
+        | Instr::IfTail { packet, .. }
+        | Instr::IfLen { packet, .. }
+        | Instr::IfLast { packet, .. }
+        | Instr::Load { packet, .. }
+        | Instr::Store { packet, .. }
+        | Instr::LoadX { packet, .. }
+        | Instr::StoreX { packet, .. }
+        | Instr::Tx { packet, .. }
+        | Instr::Enq { packet, .. } => not_held(row, packet),
+        Instr::Clone { from, .. } => not_held(row, from),
+        Instr::Chain { front, back } => match not_held(row, front) {
+            Some(packet) => Some(packet),
+            None => not_held(row, back),
+        },
+        _ => None,
+    }
+}
+
+/// The target that is not empty, or the register that is chained to itself, if there is one.
+pub(crate) fn unfit_target(row: &Row, instr: Instr) -> Option<Reason>
+    ensures none { IfNone result (targets_fit row.now instr ≡ true) }
+    ensures some { IfSome result (λ reason. (targets_fit row.now instr ≡ false) × (rule_of reason ≡ J5)) }
+    ensures says { (q : Question) (label : ℕ) → IfSome result (Says q label instr row.now) }
+{
+    match instr {
+        Instr::Alloc { into, .. } | Instr::Clone { into, .. } => {
+            let known = row.fact(into);
+            if known.is_empty() {
+                None
+            } else {
+                Some(Reason::NotEmpty {
+                    packet: into,
+                    known,
+                })
+            }
+        }
+        Instr::Chain { front, back } => {
+            if front.number() == back.number() {
+                Some(Reason::OneRegister { packet: front })
+            } else {
+                None
+            }
+        }
+        _ => None,
+    }
+}
+
+/// What a fact says of a measure, in bytes.
+fn measured(part: Measure, fact: Fact) -> u16
+    ensures { result ≡ measured part fact }
+{
+    match fact {
+        Fact::Empty => 0,
+        Fact::Held {
+            head,
+            tail,
+            first,
+            last,
+            ..
+        } => match part {
+            Headroom => head,
+            Tailroom => tail,
+            First => first,
+            Last => last,
+        },
+    }
+}
+
+/// The reason, if a measure of a packet is too small.
+fn too_little(
+    row: &Row,
+    packet: PacketRegister,
+    part: Measure,
+    start: u64,
+    count: u32,
+) -> Option<Reason>
+    ensures { MatchOption result (start + count ≤ measured_at row.now packet part)
+        (λ reason. (measured_at row.now packet part < start + count) × (reason ≡ Reason.TooLittle packet part (measured_at row.now packet part) start count)) }
+{
+    let known = measured(part, row.fact(packet));
+    if start <= u64::from(known) && start + u64::from(count) <= u64::from(known) {
+        return None;
+    }
+    Some(Reason::TooLittle {
+        packet,
+        part,
+        known,
+        start,
+        count,
+    })
+}
+
+/// The reason, if bytes or room that the instruction takes are not there.
+pub(crate) fn unfit_bytes(row: &Row, instr: Instr) -> Option<Reason>
+    requires held { list_all (is_held row.now) (uses instr) ≡ true }
+    ensures none { IfNone result (bytes_fit row.now instr ≡ true) }
+    ensures some { IfSome result (λ reason. (bytes_fit row.now instr ≡ false) × (rule_of reason ≡ J6)) }
+    ensures says { (q : Question) (label : ℕ) → IfSome result (Says q label instr row.now) }
+{
+    match instr {
+        Instr::Prepend { packet, count } => too_little(row, packet, Headroom, 0, u32::from(count)),
+        Instr::Adj { packet, count } => too_little(row, packet, First, 0, u32::from(count)),
+        Instr::Append { packet, count } => too_little(row, packet, Tailroom, 0, u32::from(count)),
+        Instr::Trim { packet, count } => too_little(row, packet, Last, 0, u32::from(count)),
+        Instr::Load {
+            packet,
+            offset,
+            width,
+            ..
+        }
+        | Instr::Store {
+            packet,
+            offset,
+            width,
+            ..
+        } => {
+            let count = u32::from(offset) + u32::from(width.bytes());
+            too_little(row, packet, First, 0, count)
+        }
+        Instr::LoadX {
+            packet,
+            index,
+            offset,
+            width,
+            ..
+        }
+        | Instr::StoreX {
+            packet,
+            index,
+            offset,
+            width,
+            ..
+        } => {
+            let count = u32::from(offset) + u32::from(width.bytes());
+            too_little(row, packet, First, row.bound_of(index), count)
+        }
+        _ => None,
+    }
+}
+
+/// The most segments that a fact lets the packet have.
+fn segs_in(fact: Fact) -> u8
+    ensures { result ≡ segs_in fact }
+{
+    match fact {
+        Fact::Held { segs, .. } => segs,
+        Fact::Empty => 0,
+    }
+}
+
+/// The share in a fact.
+fn share_in(fact: Fact) -> u8
+    ensures { result ≡ share_in fact }
+{
+    match fact {
+        Fact::Held { share, .. } => share,
+        Fact::Empty => 0,
+    }
+}
+
+/// The reason, if a packet that is written has a smaller share than wanted.
+fn not_alone(packet: PacketRegister, known: Fact, wanted: u8) -> Option<Reason>
+    ensures { MatchOption result (entails_share (share_in known) wanted ≡ true)
+        (λ reason. (entails_share (share_in known) wanted ≡ false) × (reason ≡ Reason.NotAlone packet known wanted)) }
+{
+    if share_entails(share_in(known), wanted) {
+        return None;
+    }
+    Some(Reason::NotAlone {
+        packet,
+        known,
+        wanted,
+    })
+}
+
+/// The reason, if a packet that is written may be shared.
+pub(crate) fn unfit_share(row: &Row, instr: Instr) -> Option<Reason>
+    requires held { list_all (is_held row.now) (uses instr) ≡ true }
+    ensures none { IfNone result (share_fits row.now instr ≡ true) }
+    ensures some { IfSome result (λ reason. (share_fits row.now instr ≡ false) × (rule_of reason ≡ J7)) }
+    ensures says { (q : Question) (label : ℕ) → IfSome result (Says q label instr row.now) }
+{
+    match instr {
+        Instr::Prepend { packet, .. }
+        | Instr::Store { packet, .. }
+        | Instr::StoreX { packet, .. } => not_alone(packet, row.fact(packet), 1),
+        Instr::Append { packet, .. } => {
+            let known = row.fact(packet);
+            let wanted = if segs_in(known) == 1 { 1 } else { 2 };
+            not_alone(packet, known, wanted)
+        }
+        _ => None,
+    }
+}
+
+/// The reason, if two packets can be too long together.
+pub(crate) fn unfit_segments(row: &Row, instr: Instr) -> Option<Reason>
+    requires held { list_all (is_held row.now) (uses instr) ≡ true }
+    ensures none { IfNone result (segments_fit row.now instr ≡ true) }
+    ensures some { IfSome result (λ reason. (segments_fit row.now instr ≡ false) × (rule_of reason ≡ J8)) }
+    ensures says { (q : Question) (label : ℕ) → IfSome result (Says q label instr row.now) }
+{
+    match instr {
+        Instr::Chain { front, back } => {
+            let known = segs_in(row.fact(front));
+            let more = segs_in(row.fact(back));
+            if u16::from(known) + u16::from(more) <= u16::from(MAX_SEGMENTS) {
+                return None;
+            }
+            Some(Reason::TooLong {
+                front,
+                back,
+                known,
+                more,
+            })
+        }
+        _ => None,
+    }
+}
+
+/// The reason, if the port does not exist or the ring declares more than is known.
+pub(crate) fn unfit_exit(env: &Env, row: &Row, instr: Instr) -> Option<Reason>
+    requires places { indices_exist env.now instr ≡ true }
+    ensures none { IfNone result (may_leave env.now row.now instr ≡ true) }
+    ensures some { IfSome result (λ reason. (may_leave env.now row.now instr ≡ false) × (rule_of reason ≡ J9)) }
+    ensures says { (q : Question) → q.env ≡ env.now → (label : ℕ) → IfSome result (Says q label instr row.now) }
+{
+    match instr {
+        Instr::Tx { port, .. } => {
+            let known = row.bound_of(port);
+            let ports = env.ports().len();
+            if known < ports as u64 {
+                return None;
+            }
+            Some(Reason::NoPort {
+                register: port,
+                known,
+                ports,
+            })
+        }
+        Instr::Enq { packet, ring, .. } => {
+            let known = row.fact(packet);
+            let wanted = env.rings()[usize::from(ring)].fact;
+            if fact_entails(known, wanted) {
+                return None;
+            }
+            Some(Reason::LessThanRing {
+                packet,
+                ring,
+                known,
+                wanted,
+            })
+        }
+        _ => None,
+    }
+}
+
+/// The first register that holds a packet.
+#[tactic(auto, using(crate::proofs::GapLemmas::all_drop, crate::proofs::GapLemmas::found_drop))]
+fn first_held(facts: &[Fact; 8]) -> Option<PacketRegister>
+    ensures first { result ≡ first_held facts.now }
+    ensures none { IfNone result (list_all is_empty facts.now ≡ true) }
+    ensures some { IfSome result (λ p. list_all is_empty facts.now ≡ false) }
+    ensures held { IfSome result (λ p. Is (slice_get facts.now p) (λ fact. is_empty fact ≡ false)) }
+{
+    for i in 0..8 {
+        if !facts[i].is_empty() {
+            return Some(PacketRegister::new(i as u8));
+        }
+    }
+    None
+}
+
+/// The reason, if a packet is held at the exit.
+pub(crate) fn unfit_end(row: &Row, instr: Instr) -> Option<Reason>
+    ensures none { IfNone result (may_end row.now instr ≡ true) }
+    ensures some { IfSome result (λ reason. (may_end row.now instr ≡ false) × (rule_of reason ≡ J10)) }
+    ensures says { (q : Question) (label : ℕ) → IfSome result (Says q label instr row.now) }
+{
+    match instr {
+        Instr::Exit => {
+            let packet = first_held(&row.facts)?;
+            Some(Reason::LeftOver {
+                packet,
+                known: row.fact(packet),
+            })
+        }
+        _ => None,
+    }
+}

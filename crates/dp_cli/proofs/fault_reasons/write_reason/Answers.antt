@@ -1,6 +1,0 @@
--- The words come after the front of the line.
-use Rattle.dp_cli.proofs.Behind.{ok_maybe_behind}
-use Rattle.dp_cli.proofs.fault_reasons.write_reason.Goals as goal
-
-pub returns : goal.returns
-returns g c = ok_maybe_behind _ _ _ _ _ _ c.in_ok-write.ensures.bytes c.writeln.ensures.bytes

@@ -1,0 +1,2 @@
+-- The lemmas of dp_pcap_tests.
+pub mod Copying

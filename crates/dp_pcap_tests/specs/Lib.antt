@@ -1,0 +1,2 @@
+-- The definitions that contracts of dp_pcap_tests name.
+pub mod Copied

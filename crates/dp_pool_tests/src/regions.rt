@@ -1,0 +1,130 @@
+//! What loads and stores return, on bytes and numbers worked out by hand.
+ghost use Rattle.std.specs.Prelude.{◌≡◌, ◌≤◌, [], length};
+ghost use Rattle.dp_region.specs.Region.{IsRegionSize, least_region};
+
+use dp_region::{Block, MAX_REGION, Memory, Region};
+use std::alloc::Global;
+use std::process::Abort;
+use std::test::Fail;
+
+fn write_low(low: &mut Block)
+    requires { length low.old.bytes ≡ 3 }
+    ensures { (low.new.home ≡ low.old.home) × (low.new.offset ≡ low.old.offset) × (length low.new.bytes ≡ 3) }
+{
+    low.bytes_mut()[0] = 9;
+    low.part_mut(1, 2)[1] = 5;
+}
+
+fn write_high(high: &mut Block)
+    requires { length high.old.bytes ≡ 64 }
+    ensures { (high.new.home ≡ high.old.home) × (high.new.offset ≡ high.old.offset) × (length high.new.bytes ≡ 64) }
+{
+    high.store_u16(62, 0x0807);
+    high.copy_within(62, 2, 0);
+    high.store_u32(4, 0x0605_0403);
+}
+
+// Lends two blocks at once, writes them, and takes them back; returns what they began with.
+fn visit(region: &mut Region) -> (u8, u8, u32, u32, u32)
+    requires { (region.old.lent ≡ []) × (least_region ≤ length region.old.bytes) }
+    ensures { (region.new.lent ≡ []) × (least_region ≤ length region.new.bytes) }
+{
+    let mut low = region.lend(61, 3);
+    let mut high = region.lend(64, 64);
+    let first = (
+        low.bytes()[0],
+        low.bytes()[2],
+        high.load_u32(0),
+        high.offset(),
+        high.len(),
+    );
+    write_low(&mut low);
+    write_high(&mut high);
+    region.reclaim(high);
+    region.reclaim(low);
+    first
+}
+
+fn numbers(region: &Region) -> (u32, u64, u32)
+    requires { (region.now.lent ≡ []) × (least_region ≤ length region.now.bytes) }
+{
+    (
+        region.load_u32(60),
+        region.load_u64(64),
+        region.load_u32(126),
+    )
+}
+
+// The upper half of a number of 8 bytes.
+fn overlaid(region: &mut Region) -> u32
+    requires { (region.old.lent ≡ []) × (least_region ≤ length region.old.bytes) }
+    ensures { region.new.lent ≡ [] }
+{
+    region.store_u64(1, 0x0102_0304_0506_0708);
+    region.load_u32(5)
+}
+
+#[test]
+fn bytes_stay_as_the_holder_left_them(rt: HostRuntime) -> Result<(), Fail> {
+    let mut region = Region::new(rt.alloc(), 4096).expect(&rt, "memory");
+    region.store_u32(60, 0x0403_0201);
+    let first = visit(&mut region);
+    let last = numbers(&region);
+    let low = overlaid(&mut region);
+    let size = region.size();
+    region.close();
+    assert_eq!(rt; first, (2, 4, 0, 64, 64));
+    assert_eq!(rt; last, (0x0503_0901, 0x0605_0403_0000_0807, 0x0807));
+    assert_eq!(rt; low, 0x0102_0304);
+    assert_eq!(rt; size, 4096);
+    let text = format!(in rt.alloc(); "{Memory}")?;
+    assert_eq!(rt; text.as_str(), "out of memory");
+    Ok(())
+}
+
+// With the first allocation refused, `new` returns `Memory`.
+#[test]
+fn want_of_memory_is_told(rt: HostRuntime) {
+    match Region::new(rt.alloc(), 4096) {
+        Ok(region) => region.close(),
+        Err(error) => assert_eq!(rt; error, Memory),
+    }
+}
+
+// Writes a number at the end of a new region, and one in a part of it that is lent and taken back; returns both as they are read. The region is
+// closed.
+fn used(rt: &impl Abort, alloc: Global, size: u32, number: u32) -> (u32, u32)
+    requires { IsRegionSize size }
+{
+    let mut region = Region::new(alloc, size).expect(rt, "memory");
+    region.store_u32(size - 4, number);
+    let mut block = region.lend(64, 128);
+    block.store_u32(60, number);
+    let inside = block.load_u32(60);
+    region.reclaim(block);
+    let outside = region.load_u32(size - 4);
+    region.close();
+    (inside, outside)
+}
+
+// The largest region can be had where there is memory.
+#[test]
+fn the_largest_region_can_be_had(rt: HostRuntime) {
+    let number = 0x0102_0304;
+    assert_eq!(rt; used(&rt, rt.alloc(), MAX_REGION, number), (number, number));
+}
+
+// All memory is freed, so any number of regions can follow one another.
+#[test]
+fn ten_thousand_regions_follow_one_another(rt: HostRuntime) {
+    for k in 0..2500u32 {
+        for size in [4096u32, 8192, 12_288, 16_384] {
+            let number = k * 1000 + size % 1000;
+            assert_eq!(rt;
+                used(&rt, rt.alloc(), size, number),
+                (number, number),
+                "{k} {size}"
+            );
+        }
+    }
+}
