@@ -11,7 +11,10 @@ library returns and all its counts are compared with tests/model. Prints a line 
 finding.
 """
 import argparse
+import concurrent.futures
 import contextlib
+import math
+import os
 import pathlib
 import shutil
 import struct
@@ -22,7 +25,7 @@ import threading
 import time
 import tomllib
 from random import Random
-from typing import Any, BinaryIO
+from typing import Any, BinaryIO, NamedTuple
 
 from cases.pipelines import pipeline_files
 from command import HERE, TOP
@@ -220,39 +223,63 @@ def hand_in(stream: BinaryIO, data: bytes) -> None:
         stream.flush()
 
 
-def at_random(asked: Any, library: pathlib.Path, folder: pathlib.Path) -> int:
-    """How many findings there are among cases at random."""
-    program, findings, done = folder / "drive", 0, 0
-    compile_one("host_drive.c", library, program, "-fsanitize=undefined", "-fno-sanitize-recover=all")
-    begun, frames = time.monotonic(), 0
+class Played(NamedTuple):
+    """How many cases and frames a driver played, and the finding that ended it."""
+
+    cases: int
+    frames: int
+    finding: str | None
+
+
+def played_through(drive: "subprocess.Popen[bytes]", case: Case) -> str | None:
+    """Where the library differs from the model in a case that is handed to the driver."""
+    assert drive.stdin and drive.stdout
+    # (the driver writes while it still reads)
+    writer = threading.Thread(target=hand_in, args=(drive.stdin, case.spelled()))
+    writer.start()
+    try:
+        wrong = differs(case, drive.stdout)
+    except (EOFError, BrokenPipeError):
+        return "the library ended the program"
+    except machine.Stuck as stuck:
+        wrong = f"an accepted program is stuck: {stuck}"
+    writer.join()
+    return wrong
+
+
+def play(program: pathlib.Path, seed: str, numbers: range, until: float) -> Played:
+    """Plays these cases through a driver, until the first finding or that time."""
+    done, frames = 0, 0
     with subprocess.Popen([str(program)], stdin=subprocess.PIPE, stdout=subprocess.PIPE) as drive:
-        assert drive.stdin and drive.stdout
-        while done < asked.cases and (not asked.seconds or time.monotonic() - begun < asked.seconds):
-            case = Case(Random(f"{asked.seed} {done}"))
-            # (the driver writes while it still reads)
-            writer = threading.Thread(target=hand_in, args=(drive.stdin, case.spelled()))
-            writer.start()
-            try:
-                wrong = differs(case, drive.stdout)
-            except (EOFError, BrokenPipeError):
-                print(f"host: case {done} of seed {asked.seed}: the library ended the program")
-                return findings + 1
-            except machine.Stuck as stuck:
-                wrong = f"an accepted program is stuck: {stuck}"
-            writer.join()
-            done += 1
-            frames += len(case.frames)
+        assert drive.stdin
+        for number in numbers:
+            if time.monotonic() > until:
+                break
+            case = Case(Random(f"{seed} {number}"))
+            wrong = played_through(drive, case)
+            done, frames = done + 1, frames + len(case.frames)
             if wrong:
-                findings += 1
-                print(f"host: case {done - 1} of seed {asked.seed}: {wrong}")
                 drive.kill()
-                return findings
+                return Played(done, frames, f"case {number} of seed {seed}: {wrong}")
         drive.stdin.close()
-        if drive.wait() != 0:
-            findings += 1
-            print(f"host: the driver ended with {drive.returncode}")
-    print(f"host: seed {asked.seed}, {done} pipelines, {frames} frames, {findings} findings")
-    return findings
+        ended = drive.wait()
+    return Played(done, frames, f"the driver ended with {ended}" if ended else None)
+
+
+def at_random(asked: Any, library: pathlib.Path, folder: pathlib.Path) -> int:
+    """How many drivers had a finding among cases at random: one driver for each processor, which play them in turn."""
+    program, jobs = folder / "drive", len(os.sched_getaffinity(0))
+    compile_one("host_drive.c", library, program, "-fsanitize=undefined", "-fno-sanitize-recover=all")
+    until = time.monotonic() + asked.seconds if asked.seconds else math.inf
+    with concurrent.futures.ProcessPoolExecutor(jobs) as pool:
+        waiting = [pool.submit(play, program, asked.seed, range(lane, asked.cases, jobs), until) for lane in range(jobs)]
+        all_played = [it.result() for it in waiting]
+    findings = [it.finding for it in all_played if it.finding]
+    for finding in findings:
+        print(f"host: {finding}")
+    cases, frames = sum(it.cases for it in all_played), sum(it.frames for it in all_played)
+    print(f"host: seed {asked.seed}, {cases} pipelines, {frames} frames, {len(findings)} findings")
+    return len(findings)
 
 
 def main() -> int:

@@ -22,12 +22,12 @@ use Rattle.dp_model.specs.Laws.{RowHoldsAt, Ready, Begins, AreChecked}
 
 -- a packet has 1 to 64 segments
 abbrev pub IsPacket : Packet → Type 0
-IsPacket k = (1 ≤ length k) × (length k ≤ most_segments)
+IsPacket packet = (1 ≤ length packet) × (length packet ≤ most_segments)
 
 -- a register holds a packet or nothing
 abbrev pub IsPacketOrNone : Option Packet → Type 0
 IsPacketOrNone None = Unit {0}
-IsPacketOrNone (Some k) = IsPacket k
+IsPacketOrNone (Some packet) = IsPacket packet
 
 -- registers, rings and transmit lists hold packets
 pub record ArePackets (s : State) : Type 0 where
@@ -38,38 +38,40 @@ pub record ArePackets (s : State) : Type 0 where
 -- ---- node runs
 
 -- what holds between node runs: the next one can begin, each mbuf has one owner, and packets have 1 to 64 segments
-pub record IsAtRest (c : Setting) (w : World) : Type 0 where
-  pub ready : Ready c w
-  pub owned : AreOwned c.env.pools (live (between w))
+pub record IsAtRest (setting : Setting) (w : World) : Type 0 where
+  pub ready : Ready setting w
+  pub owned : AreOwned setting.env.pools (live (between w))
   pub packets : ArePackets (between w)
 
 -- a node run begins as its entry says, in a well-formed world
-pub record BeginsWell (c : Setting) (q : Question) (k : Packet) (number : ℕ) (w : World) : Type 0 where
-  pub begins : Begins c q k number w
-  pub owned : AreOwned c.env.pools (live (first_state k number w))
-  pub packets : ArePackets (first_state k number w)
+pub record BeginsWell (setting : Setting) (question : Question) (packet : Packet) (number : ℕ) (w : World) : Type 0 where
+  pub begins : Begins setting question packet number w
+  pub owned : AreOwned setting.env.pools (live (first_state packet number w))
+  pub packets : ArePackets (first_state packet number w)
 
 -- before each instruction: its label's row holds, each packet in a ring satisfies what the ring declares, the world is well formed, and there is a
 -- step
-pub record IsSafeAt (c : Setting) (q : Question) (label : ℕ) (s : State) : Type 0 where
-  pub row : RowHoldsAt c q.rows label s
-  pub rings : AllZip (RingHolds c.env.pools (live s)) c.env.rings s.world.rings
-  pub well_formed : IsWellFormed c.env.pools s.world.buffers (live s)
+pub record IsSafeAt (setting : Setting) (question : Question) (label : ℕ) (s : State) : Type 0 where
+  pub row : RowHoldsAt setting question.rows label s
+  pub rings : AllZip (RingHolds setting.env.pools (live s)) setting.env.rings s.world.rings
+  pub well_formed : IsWellFormed setting.env.pools s.world.buffers (live s)
   pub packets : ArePackets s
-  pub has_step : (m : Move) × Step c q.program label s m
+  pub has_step : (m : Move) × Step setting question.program label s m
 
 -- what holds of a node run that begins with this packet, number and world
-pub record IsSafeRun (c : Setting) (q : Question) (k : Packet) (number : ℕ) (w : World) : Type 0 where
+pub record IsSafeRun (setting : Setting) (question : Question) (packet : Packet) (number : ℕ) (w : World) : Type 0 where
   -- it begins in the row of its entry
-  pub begins : (row : Row) × (entry_row q.env q.entry ≡ Some row) × RowHolds c.env row (first_state k number w)
+  pub begins : (row : Row) × (entry_row question.env question.entry ≡ Some row) × RowHolds setting.env row (first_state packet number w)
   -- at each label that it reaches it is safe, so it is never stuck
-  pub stays : (n label : ℕ) (answers : List Bool) (s : State) → Goes c q.program n 0 (first_state k number w) answers (At label) s → IsSafeAt c q label s
+  pub stays : (n label : ℕ) (answers : List Bool) (s : State) → Goes setting question.program n 0 (first_state packet number w) answers (At label) s →
+      IsSafeAt setting question label s
   -- it takes at most `most_steps`
-  pub short : (n : ℕ) (answers : List Bool) (next : Next) (s : State) → Goes c q.program n 0 (first_state k number w) answers next s → n ≤ most_steps q.program
+  pub short : (n : ℕ) (answers : List Bool) (next : Next) (s : State) → Goes setting question.program n 0 (first_state packet number w) answers next s →
+      n ≤ most_steps question.program
   -- it can end
-  pub ends : (answers : List Bool) × (w' : World) × NodeRun c q.program k number w answers w'
+  pub ends : (answers : List Bool) × (w' : World) × NodeRun setting question.program packet number w answers w'
   -- and then the next one can begin
-  pub rests : (answers : List Bool) (w' : World) → NodeRun c q.program k number w answers w' → IsAtRest c w'
+  pub rests : (answers : List Bool) (w' : World) → NodeRun setting question.program packet number w answers w' → IsAtRest setting w'
 
 -- ---- the node runs of a turn
 
@@ -82,53 +84,53 @@ pub record Beginning : Type 0 where
   pub world : World
 
 -- a node run of this turn begins so: the record is small enough, its call is not refused, and the packet has its bytes
-pub record IsOfRecord (c : Setting) (nodes : Nodes) (port : ℕ) (bytes : List ℕ) (w : World) (b : Beginning) : Type 0 where
+pub record IsOfRecord (setting : Setting) (nodes : Nodes) (port : ℕ) (bytes : List ℕ) (w : World) (b : Beginning) : Type 0 where
   pub spec : PortSpec
-  pub spec_is : slice_get c.env.ports port ≡ Some spec
+  pub spec_is : slice_get setting.env.ports port ≡ Some spec
   pub program : List Instr
   pub program_is : slice_get nodes.ports port ≡ Some program
-  pub fits : needed c.env.pools spec.pool (length bytes) ≤ spec.segs
-  pub given : is_denied c (between w) spec.pool (needed c.env.pools spec.pool (length bytes)) ≡ false
+  pub fits : needed setting.env.pools spec.pool (length bytes) ≤ spec.segs
+  pub given : is_denied setting (between w) spec.pool (needed setting.env.pools spec.pool (length bytes)) ≡ false
   pub numbers : List Number
   pub buffers : Buffers
-  pub fresh : AreFresh c.env.pools (live (between w)) spec.pool (needed c.env.pools spec.pool (length bytes)) numbers
-  pub filled : Filled numbers (received (room_at c.env.pools spec.pool) numbers (length bytes)) bytes w.buffers buffers
+  pub fresh : AreFresh setting.env.pools (live (between w)) spec.pool (needed setting.env.pools spec.pool (length bytes)) numbers
+  pub filled : Filled numbers (received (room_at setting.env.pools spec.pool) numbers (length bytes)) bytes w.buffers buffers
   pub is : b ≡ record {
     entry = Port port;
     program = program;
-    packet = received (room_at c.env.pools spec.pool) numbers (length bytes);
+    packet = received (room_at setting.env.pools spec.pool) numbers (length bytes);
     number = port;
     world = record w { buffers = buffers; calls = w.calls + 1 };
   }
 
 -- n whole node runs on packets that wait in rings, one after the other
 abbrev pub HasServed : Setting → List (List Instr) → ℕ → World → World → Type 0
-HasServed c programs zero w w' = w' ≡ w
-HasServed c programs (suc n) w w' =
+HasServed setting programs zero w w' = w' ≡ w
+HasServed setting programs (suc n) w w' =
     (next : Waiting Packet) × (program : List Instr) × (answers : List Bool) × (mid : World)
     × (first_waiting w.rings ≡ Some next) × (slice_get programs next.ring ≡ Some program)
-    × NodeRun c program next.packet next.ring (record w { rings = next.rings }) answers mid × HasServed c programs n mid w'
+    × NodeRun setting program next.packet next.ring (record w { rings = next.rings }) answers mid × HasServed setting programs n mid w'
 
 -- rings are served until none has a packet, or n times
-pub record IsServed (c : Setting) (programs : List (List Instr)) (n : ℕ) (w : World) (runs : ℕ) (w' : World) : Type 0 where
-  pub served : HasServed c programs runs w w'
+pub record IsServed (setting : Setting) (programs : List (List Instr)) (n : ℕ) (w : World) (runs : ℕ) (w' : World) : Type 0 where
+  pub served : HasServed setting programs runs w w'
   pub few : runs ≤ n
   pub why : (runs ≡ n) ⊎ (first_waiting w'.rings ≡ None)
 
 -- a node run of this turn begins so: on the front packet of the first ring that has one, after fewer than 32 others
-pub record IsOfRing (c : Setting) (nodes : Nodes) (port : ℕ) (bytes : List ℕ) (w : World) (b : Beginning) : Type 0 where
+pub record IsOfRing (setting : Setting) (nodes : Nodes) (port : ℕ) (bytes : List ℕ) (w : World) (b : Beginning) : Type 0 where
   pub spec : PortSpec
-  pub spec_is : slice_get c.env.ports port ≡ Some spec
+  pub spec_is : slice_get setting.env.ports port ≡ Some spec
   pub own : List Instr
   pub own_is : slice_get nodes.ports port ≡ Some own
   pub outcome : Outcome
   pub answers : List Bool
   pub mid : World
-  pub arrives : Arrives c own port spec bytes w outcome answers mid
+  pub arrives : Arrives setting own port spec bytes w outcome answers mid
   pub served : ℕ
   pub few : served < most_ring_runs
   pub last : World
-  pub has_served : HasServed c nodes.rings served mid last
+  pub has_served : HasServed setting nodes.rings served mid last
   pub next : Waiting Packet
   pub waits : first_waiting last.rings ≡ Some next
   pub program : List Instr
@@ -137,61 +139,62 @@ pub record IsOfRing (c : Setting) (nodes : Nodes) (port : ℕ) (bytes : List ℕ
 
 -- a node run of this turn begins so
 abbrev pub IsOfTurn : Setting → Nodes → ℕ → List ℕ → World → Beginning → Type 0
-IsOfTurn c nodes port bytes w b = IsOfRecord c nodes port bytes w b ⊎ IsOfRing c nodes port bytes w b
+IsOfTurn setting nodes port bytes w b = IsOfRecord setting nodes port bytes w b ⊎ IsOfRing setting nodes port bytes w b
 
 -- a certificate is accepted with the program and the entry, and the node run is safe
-pub record IsSafeBeginning (c : Setting) (b : Beginning) : Type 0 where
+pub record IsSafeBeginning (setting : Setting) (b : Beginning) : Type 0 where
   pub question : Question
   pub accepted : IsCertified question
-  pub env_is : question.env ≡ c.env
+  pub env_is : question.env ≡ setting.env
   pub program_is : question.program ≡ b.program
   pub entry_is : question.entry ≡ b.entry
-  pub safe : IsSafeRun c question b.packet b.number b.world
+  pub safe : IsSafeRun setting question b.packet b.number b.world
 
 -- ---- turns
 
 -- the outcome of a record: the pattern and the free buffers decide
 abbrev pub outcome_for : Setting → PortSpec → List ℕ → World → Outcome
-outcome_for c spec bytes w =
-    if nat_lt spec.segs (needed c.env.pools spec.pool (length bytes)) then Oversize else
-    if is_denied c (between w) spec.pool (needed c.env.pools spec.pool (length bytes)) then NoBuffer else Got
+outcome_for setting spec bytes w =
+    if nat_lt spec.segs (needed setting.env.pools spec.pool (length bytes)) then Oversize else
+    if is_denied setting (between w) spec.pool (needed setting.env.pools spec.pool (length bytes)) then NoBuffer else Got
 
-pub record IsSafeTurn (c : Setting) (nodes : Nodes) (port : ℕ) (spec : PortSpec) (bytes : List ℕ) (w : World) : Type 0 where
+pub record IsSafeTurn (setting : Setting) (nodes : Nodes) (port : ℕ) (spec : PortSpec) (bytes : List ℕ) (w : World) : Type 0 where
   -- no node run of the turn is ever stuck
-  pub never_stuck : (b : Beginning) → IsOfTurn c nodes port bytes w b → NeverStuck c b.program b.packet b.number b.world
+  pub never_stuck : (b : Beginning) → IsOfTurn setting nodes port bytes w b → NeverStuck setting b.program b.packet b.number b.world
   -- all of them are safe
-  pub runs : (b : Beginning) → IsOfTurn c nodes port bytes w b → IsSafeBeginning c b
+  pub runs : (b : Beginning) → IsOfTurn setting nodes port bytes w b → IsSafeBeginning setting b
   -- there is such a turn
-  pub exists : (outcome : Outcome) × (runs : ℕ) × (answers : List Bool) × (w' : World) × Turn c nodes port bytes w outcome runs answers w'
+  pub exists : (outcome : Outcome) × (runs : ℕ) × (answers : List Bool) × (w' : World) × Turn setting nodes port bytes w outcome runs answers w'
   -- each has the outcome that the pattern and the free buffers decide, and after it the next turn can begin
-  pub outcome : (outcome : Outcome) (runs : ℕ) (answers : List Bool) (w' : World) → Turn c nodes port bytes w outcome runs answers w' →
-      outcome ≡ outcome_for c spec bytes w
-  pub rests : (outcome : Outcome) (runs : ℕ) (answers : List Bool) (w' : World) → Turn c nodes port bytes w outcome runs answers w' → IsAtRest c w'
+  pub outcome : (outcome : Outcome) (runs : ℕ) (answers : List Bool) (w' : World) → Turn setting nodes port bytes w outcome runs answers w' →
+      outcome ≡ outcome_for setting spec bytes w
+  pub rests : (outcome : Outcome) (runs : ℕ) (answers : List Bool) (w' : World) → Turn setting nodes port bytes w outcome runs answers w' → IsAtRest setting w'
 
 -- ---- whole runs
 
 -- a pipeline: an environment within the limits, and an accepted node for each port and each ring
-pub record IsPipeline (c : Setting) (nodes : Nodes) : Type 0 where
-  pub limits : fault_of c.env ≡ None
-  pub checked : AreChecked c nodes
-  pub ports : length nodes.ports ≡ length c.env.ports
-  pub rings : length nodes.rings ≡ length c.env.rings
+pub record IsPipeline (setting : Setting) (nodes : Nodes) : Type 0 where
+  pub limits : fault_of setting.env ≡ None
+  pub checked : AreChecked setting nodes
+  pub ports : length nodes.ports ≡ length setting.env.ports
+  pub rings : length nodes.rings ≡ length setting.env.rings
 
 -- each of its instructions leads to one of them, or ends the node run
 abbrev pub LeadsWithin : Setting → Beginning → Type 0
-LeadsWithin c b =
+LeadsWithin setting b =
     (n label : ℕ) (answers : List Bool) (s : State) (i : Instr) (m : Move) →
-    Goes c b.program n 0 (first_state b.packet b.number b.world) answers (At label) s → slice_get b.program label ≡ Some i → Acts c label (with_step s) i m →
-    IsLabel b.program m.next
+    Goes setting b.program n 0 (first_state b.packet b.number b.world) answers (At label) s → slice_get b.program label ≡ Some i →
+    Acts setting label (with_step s) i m → IsLabel b.program m.next
 
 -- what holds of the node runs of every pipeline from a world at rest on, whatever records come
-pub record KeepsSafe (c : Setting) (nodes : Nodes) : Type 0 where
+pub record KeepsSafe (setting : Setting) (nodes : Nodes) : Type 0 where
   -- those of a turn are safe
-  pub turn_runs : (port : ℕ) (bytes : List ℕ) (w : World) (b : Beginning) → IsAtRest c w → IsOfTurn c nodes port bytes w b → IsSafeBeginning c b
+  pub turn_runs : (port : ℕ) (bytes : List ℕ) (w : World) (b : Beginning) → IsAtRest setting w → IsOfTurn setting nodes port bytes w b →
+      IsSafeBeginning setting b
   -- so is the next one on a packet of a ring
-  pub waiting : (next : Waiting Packet) (program : List Instr) (w : World) → IsAtRest c w → first_waiting w.rings ≡ Some next → slice_get nodes.rings next.ring
-      ≡ Some program →
-      IsSafeBeginning c (record {
+  pub waiting : (next : Waiting Packet) (program : List Instr) (w : World) → IsAtRest setting w → first_waiting w.rings ≡ Some next →
+      slice_get nodes.rings next.ring ≡ Some program →
+      IsSafeBeginning setting (record {
         entry = Ring next.ring;
         program = program;
         packet = next.packet;
@@ -199,45 +202,45 @@ pub record KeepsSafe (c : Setting) (nodes : Nodes) : Type 0 where
         world = record w { rings = next.rings };
       })
   -- a safe one goes from instruction to instruction
-  pub leads : (b : Beginning) → IsSafeBeginning c b → LeadsWithin c b
+  pub leads : (b : Beginning) → IsSafeBeginning setting b → LeadsWithin setting b
   -- after every record the world is at rest again
   pub arrives : (program : List Instr) (port : ℕ) (spec : PortSpec) (bytes : List ℕ) (w w' : World) (outcome : Outcome) (answers : List Bool) →
       slice_get nodes.ports port ≡ Some program →
-      slice_get c.env.ports port ≡ Some spec → IsAtRest c w → Arrives c program port spec bytes w outcome answers w' → IsAtRest c w'
+      slice_get setting.env.ports port ≡ Some spec → IsAtRest setting w → Arrives setting program port spec bytes w outcome answers w' → IsAtRest setting w'
 
 -- no program has more instructions than that
 abbrev pub AreShort : ℕ → List (List Instr) → Type 0
 AreShort most programs = (i : ℕ) (program : List Instr) → slice_get programs i ≡ Some program → length program ≤ most
 
 -- a record can come: its port exists, and it consists of bytes
-pub record CanArrive {T : Type 0} (c : Setting) (a : Arrival T) : Type 0 where
-  pub port : a.port < length c.env.ports
+pub record CanArrive {T : Type 0} (setting : Setting) (a : Arrival T) : Type 0 where
+  pub port : a.port < length setting.env.ports
   pub bytes : AllByRecursion (λ x. x < 256) a.bytes
 
 -- a node run of this run begins so: in the turn of a record, after those before it
-pub record IsOfRun {T : Type 0} (c : Setting) (nodes : Nodes) (arrivals : List (Arrival T)) (w : World) (b : Beginning) : Type 0 where
+pub record IsOfRun {T : Type 0} (setting : Setting) (nodes : Nodes) (arrivals : List (Arrival T)) (w : World) (b : Beginning) : Type 0 where
   pub before : List (Arrival T)
   pub arrival : Arrival T
   pub after : List (Arrival T)
   pub arrivals_are : arrivals ≡ before ++ (arrival ∷ after)
   pub shown : Shown T
   pub last : World
-  pub run : Run c nodes before w shown last
-  pub of_turn : IsOfTurn c nodes arrival.port arrival.bytes last b
+  pub run : Run setting nodes before w shown last
+  pub of_turn : IsOfTurn setting nodes arrival.port arrival.bytes last b
 
-pub record AreSafe {T : Type 0} (c : Setting) (nodes : Nodes) (arrivals : List (Arrival T)) (w : World) : Type 0 where
+pub record AreSafe {T : Type 0} (setting : Setting) (nodes : Nodes) (arrivals : List (Arrival T)) (w : World) : Type 0 where
   -- no node run is ever stuck
-  pub never_stuck : (b : Beginning) → IsOfRun c nodes arrivals w b → NeverStuck c b.program b.packet b.number b.world
+  pub never_stuck : (b : Beginning) → IsOfRun setting nodes arrivals w b → NeverStuck setting b.program b.packet b.number b.world
   -- all of them are safe
-  pub runs : (b : Beginning) → IsOfRun c nodes arrivals w b → IsSafeBeginning c b
+  pub runs : (b : Beginning) → IsOfRun setting nodes arrivals w b → IsSafeBeginning setting b
   -- there is such a run
-  pub exists : (shown : Shown T) × (w' : World) × Run c nodes arrivals w shown w'
+  pub exists : (shown : Shown T) × (w' : World) × Run setting nodes arrivals w shown w'
   -- and after it the next record can come
-  pub rests : (shown : Shown T) (w' : World) → Run c nodes arrivals w shown w' → IsAtRest c w'
+  pub rests : (shown : Shown T) (w' : World) → Run setting nodes arrivals w shown w' → IsAtRest setting w'
 
 -- what holds of whole runs of every pipeline, whatever records come
-pub record KeepsRunsSafe {T : Type 0} (c : Setting) (nodes : Nodes) (arrivals : List (Arrival T)) (w : World) : Type 0 where
+pub record KeepsRunsSafe {T : Type 0} (setting : Setting) (nodes : Nodes) (arrivals : List (Arrival T)) (w : World) : Type 0 where
   -- their node runs are safe
-  pub runs : (b : Beginning) → IsOfRun c nodes arrivals w b → IsSafeBeginning c b
+  pub runs : (b : Beginning) → IsOfRun setting nodes arrivals w b → IsSafeBeginning setting b
   -- and after such a run the next record can come
-  pub rests : (shown : Shown T) (w' : World) → Run c nodes arrivals w shown w' → IsAtRest c w'
+  pub rests : (shown : Shown T) (w' : World) → Run setting nodes arrivals w shown w' → IsAtRest setting w'

@@ -116,16 +116,16 @@ abbrev pub capture_of : List (Time × List ℕ) → List PacketRecord
 capture_of records = map captured records
 
 -- a run on these arrivals, with these captures, leads from one engine to a later one, and was counted
-pub record HasRun (e e' : EngineState) (arrivals : List (Arrival Time)) (captures : List (List (Time × List ℕ))) : Type 0 where
+pub record HasRun (before after : EngineState) (arrivals : List (Arrival Time)) (captures : List (List (Time × List ℕ))) : Type 0 where
   pub answers : List Bool
   pub outcomes : List Outcome
-  pub run : Run e.setting e.nodes arrivals e.world (record { answers = answers; outcomes = outcomes; captures = captures }) e'.world
-  pub turns : e'.turns ≡ e.turns + length arrivals
-  pub each : length e'.tallies ≡ length e.tallies
+  pub run : Run before.setting before.nodes arrivals before.world (record { answers = answers; outcomes = outcomes; captures = captures }) after.world
+  pub turns : after.turns ≡ before.turns + length arrivals
+  pub each : length after.tallies ≡ length before.tallies
   pub tallies : (port : ℕ) (sent : List (Time × List ℕ)) → slice_get captures port ≡ Some sent
-      → tallies_at e'.tallies port ≡ record (tally_of port arrivals outcomes (tallies_at e.tallies port))
-      { sent = (tallies_at e.tallies port).sent + length sent }
-  pub stays : e' ≡ record e { world = e'.world; turns = e'.turns; tallies = e'.tallies }
+      → tallies_at after.tallies port ≡ record (tally_of port arrivals outcomes (tallies_at before.tallies port))
+      { sent = (tallies_at before.tallies port).sent + length sent }
+  pub stays : after ≡ record before { world = after.world; turns = after.turns; tallies = after.tallies }
 
 -- the capture of a port in a run, as it is written
 abbrev pub capture_at : List (List (Time × List ℕ)) → ℕ → List PacketRecord
@@ -145,12 +145,12 @@ AreWritten unit held holds records = (port : ℕ) → At held holds port (λ old
 
 -- The run was on the records of these inputs, one for each port: each turn and each drain, and everything was written, in nanoseconds if any input
 -- has them.
-pub record Went (unit : TimeUnit) (e e' : EngineState) (held holds : List Device) (inputs : List Input) : Type 0 where
-  pub inputs_many : length inputs ≡ length e.setting.env.ports
+pub record Went (unit : TimeUnit) (before after : EngineState) (held holds : List Device) (inputs : List Input) : Type 0 where
+  pub inputs_many : length inputs ≡ length before.setting.env.ports
   pub unit_is : unit ≡ unit_for (units_of inputs)
   pub captures : List (List (Time × List ℕ))
-  pub many : length captures ≡ length e.setting.env.ports
-  pub run : HasRun e e' (arrivals_of inputs) captures
+  pub many : length captures ≡ length before.setting.env.ports
+  pub run : HasRun before after (arrivals_of inputs) captures
   pub wrote : AreWritten unit held holds (capture_at captures)
 
 -- the input of this port has a fault after its records, and the others were read in their turn
@@ -170,24 +170,24 @@ AreOver inputs = AllByRecursion (λ (i : Input). i.state ≢ Open) inputs
 -- ---- turns and drains of a run
 
 -- a turn with these bytes at a port
-pub record TakesTurn (port : ℕ) (e e' : EngineState) (bytes : List ℕ) : Type 0 where
+pub record TakesTurn (port : ℕ) (before after : EngineState) (bytes : List ℕ) : Type 0 where
   pub outcome : Outcome
   pub runs : ℕ
   pub answers : List Bool
-  pub turn : Turn e.setting e.nodes port bytes e.world outcome runs answers e'.world
-  pub is : e' ≡ record e { world = e'.world; turns = e.turns + 1; tallies = counted_at port outcome e.tallies }
+  pub turn : Turn before.setting before.nodes port bytes before.world outcome runs answers after.world
+  pub is : after ≡ record before { world = after.world; turns = before.turns + 1; tallies = counted_at port outcome before.tallies }
   -- each port has its transmit list
-  pub lists : length e'.world.outboxes ≡ length e'.setting.env.ports
+  pub lists : length after.world.outboxes ≡ length after.setting.env.ports
 
 -- after a record there was a turn with its bytes, and after anything else none
 abbrev pub TurnsOn : ℕ → EngineState → EngineState → List ℕ → Result Next PcapError → Type 0
-TurnsOn port e e' bytes (Ok (Record time len)) = (len ≤ length bytes) × TakesTurn port e e' (take len bytes)
-TurnsOn port e e' bytes answer = e' ≡ e
+TurnsOn port before after bytes (Ok (Record time len)) = (len ≤ length bytes) × TakesTurn port before after (take len bytes)
+TurnsOn port before after bytes answer = after ≡ before
 
 -- what comes next in a capture was read, and if it is a record a turn was taken
 abbrev pub ReadsTurn : ℕ → EngineState → EngineState → Standing → Standing → Option (List ℕ) → Option (List ℕ) → Result Next PcapError → Type 0
-ReadsTurn port e e' source source' a b answer =
-    (bytes : List ℕ) × WhereKnown a b (λ left rest. Continues source source' left rest bytes answer) × TurnsOn port e e' bytes answer
+ReadsTurn port before after source source' a b answer =
+    (bytes : List ℕ) × WhereKnown a b (λ left rest. Continues source source' left rest bytes answer) × TurnsOn port before after bytes answer
 
 -- what the drains at a time write at each port
 abbrev pub drained_at : Time → World → ℕ → List PacketRecord
@@ -200,19 +200,19 @@ emptied (suc n) [] = []
 emptied (suc n) (packets ∷ lists) = [] ∷ emptied n lists
 
 -- the drains of the first n ports: what each wrote, and what was counted of it
-pub record DrainedFirst (n : ℕ) (unit : TimeUnit) (time : Time) (e e' : EngineState) (held holds : List Device) : Type 0 where
-  pub wrote : (q : ℕ) → At held holds q (λ old new. IsGiven old new (if nat_lt q n then records_text unit (drained_at time e.world q) else []))
-  pub is : e' ≡ record e { world = record e.world { outboxes = emptied n e.world.outboxes }; tallies = e'.tallies }
-  pub each : length e'.tallies ≡ length e.tallies
-  pub tallies : (q : ℕ) → q < length e.setting.env.ports
-      → tallies_at e'.tallies q ≡ record (tallies_at e.tallies q) {
-        sent = (tallies_at e.tallies q).sent
-            + (if nat_lt q n then length (drained_at time e.world q) else 0);
+pub record DrainedFirst (n : ℕ) (unit : TimeUnit) (time : Time) (before after : EngineState) (held holds : List Device) : Type 0 where
+  pub wrote : (q : ℕ) → At held holds q (λ old new. IsGiven old new (if nat_lt q n then records_text unit (drained_at time before.world q) else []))
+  pub is : after ≡ record before { world = record before.world { outboxes = emptied n before.world.outboxes }; tallies = after.tallies }
+  pub each : length after.tallies ≡ length before.tallies
+  pub tallies : (q : ℕ) → q < length before.setting.env.ports
+      → tallies_at after.tallies q ≡ record (tallies_at before.tallies q) {
+        sent = (tallies_at before.tallies q).sent
+            + (if nat_lt q n then length (drained_at time before.world q) else 0);
       }
 
 -- the drains of all ports
 abbrev pub DrainedAll : TimeUnit → Time → EngineState → EngineState → List Device → List Device → Type 0
-DrainedAll unit time e e' held holds = DrainedFirst (length e.setting.env.ports) unit time e e' held holds
+DrainedAll unit time before after held holds = DrainedFirst (length before.setting.env.ports) unit time before after held holds
 
 -- n records were written whole, and a part of the next, with at most one call for each byte
 pub record DrainedPart (unit : TimeUnit) (records : List PacketRecord) (sent : ℕ) (old new : Device) : Type 0 where
@@ -220,15 +220,15 @@ pub record DrainedPart (unit : TimeUnit) (records : List PacketRecord) (sent : �
   pub calls : new.calls ≤ old.calls + length (records_text unit (take (sent + 1) records))
 
 -- the writer of a port failed in the drains: those before it wrote everything, it a part, and those after it nothing
-pub record DrainsStopped (unit : TimeUnit) (time : Time) (e e' : EngineState) (held holds : List Device) (port : ℕ) : Type 0 where
-  pub there : port < length e.setting.env.ports
+pub record DrainsStopped (unit : TimeUnit) (time : Time) (before after : EngineState) (held holds : List Device) (port : ℕ) : Type 0 where
+  pub there : port < length before.setting.env.ports
   pub engine : EngineState
   pub mids : List Device
-  pub first : DrainedFirst port unit time e engine held mids
+  pub first : DrainedFirst port unit time before engine held mids
   pub others : (q : ℕ) → q ≢ port → slice_get holds q ≡ slice_get mids q
   pub whole : ℕ
-  pub own : At held holds port (DrainedPart unit (drained_at time e.world port) whole)
-  pub is : e' ≡ drained port whole engine
+  pub own : At held holds port (DrainedPart unit (drained_at time before.world port) whole)
+  pub is : after ≡ drained port whole engine
 
 -- ---- inputs during a run
 
@@ -266,17 +266,17 @@ records_many [] = 0
 records_many (i ∷ inputs) = length i.records + records_many inputs
 
 -- a run from an engine before its first turn to another one, in a round in which a port comes next
-pub record Along (unit : TimeUnit) (e e' : EngineState) (t : Transfer) (progress : List Progress) (inputs : List Input) (round port : ℕ) : Type 0 where
-  pub first : e.turns ≡ 0
-  pub held_many : length t.held ≡ length e.setting.env.ports
-  pub inputs_many : length inputs ≡ length e.setting.env.ports
+pub record Along (unit : TimeUnit) (before after : EngineState) (t : Transfer) (progress : List Progress) (inputs : List Input) (round port : ℕ) : Type 0 where
+  pub first : before.turns ≡ 0
+  pub held_many : length t.held ≡ length before.setting.env.ports
+  pub inputs_many : length inputs ≡ length before.setting.env.ports
   pub unit_is : unit ≡ unit_for (units_of inputs)
   pub stand : AllStand t.had t.left progress inputs
   pub order : AskedUntil round port inputs
   pub total : length (arrivals_of inputs) ≡ records_many inputs
   pub captures : List (List (Time × List ℕ))
-  pub many : length captures ≡ length e.setting.env.ports
-  pub run : HasRun e e' (arrivals_of inputs) captures
+  pub many : length captures ≡ length before.setting.env.ports
+  pub run : HasRun before after (arrivals_of inputs) captures
   pub wrote : AreWritten unit t.held t.holds (capture_at captures)
 
 -- ---- one step of a run
@@ -284,24 +284,24 @@ pub record Along (unit : TimeUnit) (e e' : EngineState) (t : Transfer) (progress
 -- what follows the result of an input: after a record all ports are drained
 abbrev pub Follows : ℕ → TimeUnit → EngineState → EngineState → InputState → List Device → List Device → Result Next PcapError →
     Result ⊤ RunCause → Type 0
-Follows port unit e e' state held holds (Ok (Record time len)) (Ok done) = (state ≡ Open) × DrainedAll unit time e e' held holds
-Follows port unit e e' state held holds (Ok (Record time len)) (Err cause) =
-    (state ≡ Open) × (q : ℕ) × (cause ≡ Out q) × DrainsStopped unit time e e' held holds q
-Follows port unit e e' state held holds (Ok End) answer = (state ≡ Whole) × (answer ≡ Ok tt) × (e' ≡ e) × (holds ≡ held)
-Follows port unit e e' state held holds (Ok (next.Cut byte)) answer = (state ≡ Cut byte) × (answer ≡ Ok tt) × (e' ≡ e) × (holds ≡ held)
-Follows port unit e e' state held holds (Err error) answer = (state ≡ Open) × (answer ≡ Err (In port error)) × (e' ≡ e) × (holds ≡ held)
+Follows port unit before after state held holds (Ok (Record time len)) (Ok done) = (state ≡ Open) × DrainedAll unit time before after held holds
+Follows port unit before after state held holds (Ok (Record time len)) (Err cause) =
+    (state ≡ Open) × (q : ℕ) × (cause ≡ Out q) × DrainsStopped unit time before after held holds q
+Follows port unit before after state held holds (Ok End) answer = (state ≡ Whole) × (answer ≡ Ok tt) × (after ≡ before) × (holds ≡ held)
+Follows port unit before after state held holds (Ok (next.Cut byte)) answer = (state ≡ Cut byte) × (answer ≡ Ok tt) × (after ≡ before) × (holds ≡ held)
+Follows port unit before after state held holds (Err error) answer = (state ≡ Open) × (answer ≡ Err (In port error)) × (after ≡ before) × (holds ≡ held)
 
 -- an open input is read
-pub record Advances (port : ℕ) (unit : TimeUnit) (e e' : EngineState) (p p' : Progress) (old new : Device) (held holds : List Device)
+pub record Advances (port : ℕ) (unit : TimeUnit) (before after : EngineState) (p p' : Progress) (old new : Device) (held holds : List Device)
     (answer : Result ⊤ RunCause) : Type 0 where
   pub next : Result Next PcapError
   -- after the turn
   pub engine : EngineState
-  pub read : ReadsTurn port e engine p.source p'.source old.bytes new.bytes next
+  pub read : ReadsTurn port before engine p.source p'.source old.bytes new.bytes next
   pub pulls : new.calls ≤ old.calls + most_pulls next
   pub in_range : IsInRange p.source next
   pub moves : Moves p.source p'.source next
-  pub follows : Follows port unit engine e' p'.state held holds next answer
+  pub follows : Follows port unit engine after p'.state held holds next answer
 
 -- A writer failed in the drains after a turn. There was a run on all records but the last, all of which was written; then a turn with the last; and
 -- then the drains after it, in port order, which stopped at that of a port. Until then the inputs were asked in turn.
@@ -327,24 +327,24 @@ pub record FailedAt (unit : TimeUnit) (e e' : EngineState) (t : Transfer) (input
 
 -- a run stops in a round
 abbrev pub Stops : TimeUnit → EngineState → EngineState → Transfer → List Progress → RunCause → Type 0
-Stops unit e e' t progress (In port error) =
+Stops unit before after t progress (In port error) =
     (inputs : List Input) × (map (λ (i : Input). i.state) inputs ≡ map (λ (p : Progress). p.state) progress)
-    × Went unit e e' t.held t.holds inputs × HasFault t.had t.left inputs port error
-Stops unit e e' t progress (Out port) =
-    (inputs : List Input) × (map (λ (i : Input). i.state) inputs ≡ map (λ (p : Progress). p.state) progress) × FailedAt unit e e' t inputs port
-Stops unit e e' t progress cause = ⊥
+    × Went unit before after t.held t.holds inputs × HasFault t.had t.left inputs port error
+Stops unit before after t progress (Out port) =
+    (inputs : List Input) × (map (λ (i : Input). i.state) inputs ≡ map (λ (p : Progress). p.state) progress) × FailedAt unit before after t inputs port
+Stops unit before after t progress cause = ⊥
 
 -- a round, from a run in which its first port comes next
 abbrev pub IsRound : TimeUnit → EngineState → EngineState → EngineState → Transfer → List Progress → ℕ → Result ⊤ RunCause → Type 0
-IsRound unit e0 e e' t progress round (Ok done) = (inputs : List Input) × Along unit e0 e' t progress inputs (round + 1) 0
-IsRound unit e0 e e' t progress round (Err cause) = Stops unit e0 e' t progress cause
+IsRound unit e0 before after t progress round (Ok done) = (inputs : List Input) × Along unit e0 after t progress inputs (round + 1) 0
+IsRound unit e0 before after t progress round (Err cause) = Stops unit e0 after t progress cause
 
 -- all rounds: at the end every input has ended
 abbrev pub AreRounds : TimeUnit → EngineState → EngineState → Transfer → List Progress → Result ⊤ RunCause → Type 0
-AreRounds unit e e' t progress (Ok done) =
+AreRounds unit before after t progress (Ok done) =
     (inputs : List Input) × (map (λ (i : Input). i.state) inputs ≡ map (λ (p : Progress). p.state) progress)
-    × Went unit e e' t.held t.holds inputs × AreRead t.had t.left inputs × AreOver inputs
-AreRounds unit e e' t progress (Err cause) = Stops unit e e' t progress cause
+    × Went unit before after t.held t.holds inputs × AreRead t.had t.left inputs × AreOver inputs
+AreRounds unit before after t progress (Err cause) = Stops unit before after t progress cause
 
 -- every input has ended
 abbrev pub NoneIsOpen : List Progress → Type 0

@@ -119,24 +119,24 @@ IsWriteCause unit held holds cause = ⊥
 
 -- A header was at fault, or not written whole, and no record was read.
 abbrev pub HeadersFail : EngineState → EngineState → Transfer → List Progress → Result ⊤ RunCause → Type 0
-HeadersFail e e' t progress (Err (In port error)) =
-    HasHeaderFault t.had t.left port error × (t.holds ≡ t.held) × AllByRecursion IsBegun progress × (e' ≡ e)
-HeadersFail e e' t progress (Err (Out port)) =
-    (length progress ≡ length e.setting.env.ports) × AreRead t.had t.left (all_begun progress)
-    × HeadersStopped (unit_for (units_of (all_begun progress))) t.held t.holds port × AllByRecursion IsBegun progress × (e' ≡ e)
-HeadersFail e e' t progress answer = ⊥
+HeadersFail before after t progress (Err (In port error)) =
+    HasHeaderFault t.had t.left port error × (t.holds ≡ t.held) × AllByRecursion IsBegun progress × (after ≡ before)
+HeadersFail before after t progress (Err (Out port)) =
+    (length progress ≡ length before.setting.env.ports) × AreRead t.had t.left (all_begun progress)
+    × HeadersStopped (unit_for (units_of (all_begun progress))) t.held t.holds port × AllByRecursion IsBegun progress × (after ≡ before)
+HeadersFail before after t progress answer = ⊥
 
 -- All headers were written, in the one unit of the records, and then all rounds were taken.
-pub record RoundsMade (e e' : EngineState) (t : Transfer) (progress : List Progress) (answer : Result ⊤ RunCause) : Type 0 where
+pub record RoundsMade (before after : EngineState) (t : Transfer) (progress : List Progress) (answer : Result ⊤ RunCause) : Type 0 where
   pub unit : TimeUnit
   pub mids : List Device
   pub mids_many : length mids ≡ length t.held
   pub headers : HeadersWritten unit t.held mids
-  pub rounds : AreRounds unit e e' (record t { held = mids }) progress answer
+  pub rounds : AreRounds unit before after (record t { held = mids }) progress answer
 
 -- headers in, headers out, and all rounds: what is known after a result
 abbrev pub GoesForward : EngineState → EngineState → Transfer → List Progress → Result ⊤ RunCause → Type 0
-GoesForward e e' t progress answer = HeadersFail e e' t progress answer ⊎ RoundsMade e e' t progress answer
+GoesForward before after t progress answer = HeadersFail before after t progress answer ⊎ RoundsMade before after t progress answer
 
 -- the counts of an engine whose inputs were read so far
 pub record IsReportOf (e : EngineState) (progress : List Progress) (r : Report) : Type 0 where

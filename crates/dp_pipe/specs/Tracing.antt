@@ -42,15 +42,15 @@ IsTraced None port = ⊤
 IsTraced (Some only) port = port ≡ only
 
 -- from one engine to a later one a tracer was shown n records, of that port if only one is traced, and nothing else
-pub record HasTraced {V : Type 0} (sees : V → Event → V → Type 0) (told : V → Note → V → Type 0) (v v' : V) (only : Option ℕ) (count : ℕ) (e e' : EngineState)
-    : Type 0 where
+pub record HasTraced {V : Type 0} (sees : V → Event → V → Type 0) (told : V → Note → V → Type 0) (v v' : V) (only : Option ℕ) (count : ℕ)
+    (before after : EngineState) : Type 0 where
   pub arrivals : List (Arrival Time)
-  pub traces : Traces sees told v v' e.setting e.nodes arrivals e.world e'.world
+  pub traces : Traces sees told v v' before.setting before.nodes arrivals before.world after.world
   pub only_is : AllByRecursion (λ (a : Arrival Time). IsTraced only a.port) arrivals
   pub many : length arrivals ≡ count
-  pub setting : e'.setting ≡ e.setting
-  pub nodes : e'.nodes ≡ e.nodes
-  pub turns : e'.turns ≡ e.turns + count
+  pub setting : after.setting ≡ before.setting
+  pub nodes : after.nodes ≡ before.nodes
+  pub turns : after.turns ≡ before.turns + count
 
 -- A traced run of a pipeline takes the turns of a run from its start: those of at most n records, each of which came to the port that is traced.
 pub record TracesFirst {V : Type 0} (sees : V → Event → V → Type 0) (told : V → Note → V → Type 0) (v v' : V) (p : Plan) (pattern : List ℕ) (only : Option ℕ)
@@ -65,18 +65,18 @@ pub record TracesFirst {V : Type 0} (sees : V → Event → V → Type 0) (told 
 -- ---- Internal: the result of a traced run
 
 -- the turn of a record that was read was shown
-pub record TracesRead {V : Type 0} (sees : V → Event → V → Type 0) (told : V → Note → V → Type 0) (v v' : V) (port : ℕ) (time : Time) (e e' : EngineState)
-    : Type 0 where
+pub record TracesRead {V : Type 0} (sees : V → Event → V → Type 0) (told : V → Note → V → Type 0) (v v' : V) (port : ℕ) (time : Time)
+    (before after : EngineState) : Type 0 where
   pub bytes : List ℕ
-  pub traces : TracesTurn sees told v v' e.setting e.nodes (record { port = port; time = time; bytes = bytes }) e.world e'.world
-  pub setting : e'.setting ≡ e.setting
-  pub nodes : e'.nodes ≡ e.nodes
-  pub turns : e'.turns ≡ e.turns + 1
+  pub traces : TracesTurn sees told v v' before.setting before.nodes (record { port = port; time = time; bytes = bytes }) before.world after.world
+  pub setting : after.setting ≡ before.setting
+  pub nodes : after.nodes ≡ before.nodes
+  pub turns : after.turns ≡ before.turns + 1
 
 -- if there was one, and else nothing
 abbrev pub TracesOne : {V : Type 0} → (V → Event → V → Type 0) → (V → Note → V → Type 0) → V → V → ℕ → Option Time → EngineState → EngineState → Type 0
-TracesOne sees told v v' port None e e' = (v' ≡ v) × (e' ≡ e)
-TracesOne sees told v v' port (Some time) e e' = TracesRead sees told v v' port time e e'
+TracesOne sees told v v' port None before after = (v' ≡ v) × (after ≡ before)
+TracesOne sees told v v' port (Some time) before after = TracesRead sees told v v' port time before after
 
 -- a fault of an input
 abbrev pub IsOfInput : RunCause → Type 0

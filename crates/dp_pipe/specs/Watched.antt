@@ -19,19 +19,19 @@ untold v note v' = v' ≡ v
 
 -- from one engine to a later one a watcher was shown the turns of some records, one after the other, and nothing else
 abbrev pub HasShown : {V : Type 0} → (V → Event → V → Type 0) → V → V → EngineState → EngineState → Type 0
-HasShown sees v v' e e' = (count : ℕ) × HasTraced sees untold v v' None count e e'
+HasShown sees v v' before after = (count : ℕ) × HasTraced sees untold v v' None count before after
 
 -- two engines after the same number of turns, which may differ in what is in transmit lists and in what was counted as sent
-pub record DiffersInLists (e e' : EngineState) : Type 0 where
-  pub world : e'.world ≡ record e.world { outboxes = e'.world.outboxes }
-  pub setting : e'.setting ≡ e.setting
-  pub nodes : e'.nodes ≡ e.nodes
-  pub turns : e'.turns ≡ e.turns
+pub record DiffersInLists (before after : EngineState) : Type 0 where
+  pub world : after.world ≡ record before.world { outboxes = after.world.outboxes }
+  pub setting : after.setting ≡ before.setting
+  pub nodes : after.nodes ≡ before.nodes
+  pub turns : after.turns ≡ before.turns
 
 -- A watcher was shown the turns of a run that ended so. Where a writer failed, packets may still be in transmit lists.
 abbrev pub ShowsTurns : {V : Type 0} → (V → Event → V → Type 0) → V → V → EngineState → EngineState → Result ⊤ RunCause → Type 0
-ShowsTurns sees v v' e e' (Ok done) = HasShown sees v v' e e'
-ShowsTurns sees v v' e e' (Err cause) = (whole : EngineState) × HasShown sees v v' e whole × DiffersInLists whole e'
+ShowsTurns sees v v' before after (Ok done) = HasShown sees v v' before after
+ShowsTurns sees v v' before after (Err cause) = (whole : EngineState) × HasShown sees v v' before whole × DiffersInLists whole after
 
 -- A watcher was shown the turns of a run, one after the other, and nothing else: those from its start on, up to the engine whose counts are reported.
 pub record WatchesRun {V : Type 0} (sees : V → Event → V → Type 0) (v v' : V) (p : Plan) (pattern : List ℕ) (answer : Result Report RunFault) : Type 0 where
@@ -46,6 +46,6 @@ pub record WatchesRun {V : Type 0} (sees : V → Event → V → Type 0) (v v' :
 
 -- where a record was read, its turn was shown, after which each port has its transmit list; else nothing
 abbrev pub ShowsNext : {V : Type 0} → (V → Event → V → Type 0) → V → V → ℕ → EngineState → EngineState → Result Next PcapError → Type 0
-ShowsNext sees v v' port e e' (Ok (Record time len)) =
-    TracesRead sees untold v v' port time e e' × (length e'.world.outboxes ≡ length e'.setting.env.ports)
-ShowsNext sees v v' port e e' answer = (v' ≡ v) × (e' ≡ e)
+ShowsNext sees v v' port before after (Ok (Record time len)) =
+    TracesRead sees untold v v' port time before after × (length after.world.outboxes ≡ length after.setting.env.ports)
+ShowsNext sees v v' port before after answer = (v' ≡ v) × (after ≡ before)
