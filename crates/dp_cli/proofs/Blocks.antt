@@ -14,6 +14,7 @@ use Rattle.dp_heap.specs.Refusals.{IsAlign}
 use Rattle.dp_cli.specs.Heaps.{block_line, element_at, freed_line, lies_in}
 use Rattle.dp_cli.specs.declared.mem.Held.{Held}
 use Rattle.dp_cli.specs.Scripts.{IsFilled, IsFreed, IsPrinted, IsTaken, Stage, IsRefusalTold, is_held, next_number, stage}
+use Rattle.dp_cli.proofs.Playing.{place_is, no_place_is}
 
 -- ---- the element around a block
 
@@ -102,14 +103,6 @@ parts_cons p y ys (suc k) x false own more e lt here =
 parts : (p : Held → Bool) (xs : List Held) (k : ℕ) (x : Held) → position_or_len p xs ≡ k → k < length xs → x ≡ get_or xs k x → Parts p xs k x
 parts p [] k x e lt here = absurd (omega arith)
 parts p (y ∷ ys) k x e lt here = parts_cons p y ys k x (p y) refl (λ j own less at. parts p ys j x own less at) e lt here
-
-place_is : (n l k : ℕ) (b : Bool) → nat_lt n l ≡ b → cond b (Some n) None ≡ Some k → (n ≡ k) × (k < l)
-place_is n l k true e is = let same : n ≡ k = same_Some n k is in (same, omega (arith, ltb-true n l e))
-place_is n l k false e is = cc
-
-no_place_is : (n l : ℕ) (b : Bool) → nat_lt n l ≡ b → cond b (Some n) None ≡ None → l ≤ n
-no_place_is n l true e is = cc
-no_place_is n l false e is = ltb-false n l e
 
 none_cons : (p : Held → Bool) (y : Held) (ys : List Held) (b : Bool) → p y ≡ b → (length ys ≤ position_or_len p ys → list_any p ys ≡ false)
     → length (y ∷ ys) ≤ position_or_len p (y ∷ ys) → list_any p (y ∷ ys) ≡ false

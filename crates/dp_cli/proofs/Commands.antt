@@ -17,20 +17,9 @@ use Rattle.std.proofs.lemmas.Str.Ascii.{IsAscii-cons, IsAscii-nil}
 use Rattle.std.proofs.lemmas.Str.Parse.{numerals_by_value, tells_all_ascii_digits, parse_digits}
 use Rattle.dp_cli.specs.declared.mem.script.Command.{Command}
 use Rattle.dp_cli.specs.Commands.{command_in, command_of_words, number_in, with_number, with_numbers}
+use Rattle.dp_cli.proofs.Numbers.{if_some, if_none, digits_alone}
 
 -- ---- one number
-
-if_some : (b : Bool) (n : ℕ) → b ≡ true → Some n ≡ (if b then Some n else None)
-if_some true n e = refl
-if_some false n e = cc
-
-if_none : (b : Bool) (n : ℕ) → (b ≡ true → ⊥) → None ≡ (if b then Some n else None)
-if_none true n h = absurd (h refl)
-if_none false n h = refl
-
-digits_alone : (word : List ℕ) → list_all is_ascii_digit word ≡ true → all_ascii_digits word ≡ true
-digits_alone [] e = refl
-digits_alone (c ∷ cs) e = let parts = and_parts (is_ascii_digit c) (list_all is_ascii_digit cs) e in and_from _ _ parts.0 (digits_alone cs parts.1)
 
 read_as : {E : Type 0} (word : List ℕ) (r : Result ℕ E) → list_all is_ascii_digit word ≡ true
     → OkIff r ((0 < length word) × (digits_value 10 word < 2 ^ 32)) (digits_value 10 word) → result_ok r ≡ number_in word

@@ -16,15 +16,15 @@ use Rattle.dp_cli.specs.Operands.{number_in, ascending_in}
 
 -- ---- one number
 
-if_some : (b : Bool) (n : ℕ) → b ≡ true → Some n ≡ (if b then Some n else None)
+pub if_some : (b : Bool) (n : ℕ) → b ≡ true → Some n ≡ (if b then Some n else None)
 if_some true n e = refl
 if_some false n e = cc
 
-if_none : (b : Bool) (n : ℕ) → (b ≡ true → ⊥) → None ≡ (if b then Some n else None)
+pub if_none : (b : Bool) (n : ℕ) → (b ≡ true → ⊥) → None ≡ (if b then Some n else None)
 if_none true n h = absurd (h refl)
 if_none false n h = refl
 
-digits_alone : (word : List ℕ) → list_all is_ascii_digit word ≡ true → all_ascii_digits word ≡ true
+pub digits_alone : (word : List ℕ) → list_all is_ascii_digit word ≡ true → all_ascii_digits word ≡ true
 digits_alone [] e = refl
 digits_alone (c ∷ cs) e = let parts = and_parts (is_ascii_digit c) (list_all is_ascii_digit cs) e in and_from _ _ parts.0 (digits_alone cs parts.1)
 
@@ -91,7 +91,7 @@ number_low words i w last n front all lt e low so_far =
     let own : left last i words ≡ None = step words i w last (Some n) lt e ∙ (rw (le-ltb last n low) refl) in
     ap (continued front) (sym own) ∙ so_far
 
-drop_all : {A : Type 0} (xs : List A) (i : ℕ) → length xs ≤ i → drop i xs ≡ []
+pub drop_all : {A : Type 0} (xs : List A) (i : ℕ) → length xs ≤ i → drop i xs ≡ []
 drop_all [] zero le = refl
 drop_all [] (suc i) le = refl
 drop_all (x ∷ xs) zero le = absurd (omega arith)

@@ -48,11 +48,11 @@ two_lines : (xs : List ℕ) (k : ℕ) → position_or_len newline xs ≡ k → k
 two_lines [] k e lt = absurd (omega arith)
 two_lines (x ∷ xs) k e lt = two_lines_cons x xs k (newline x) refl (two_lines xs) e lt
 
-place_is : (n l k : ℕ) (b : Bool) → nat_lt n l ≡ b → cond b (Some n) None ≡ Some k → (n ≡ k) × (k < l)
+pub place_is : (n l k : ℕ) (b : Bool) → nat_lt n l ≡ b → cond b (Some n) None ≡ Some k → (n ≡ k) × (k < l)
 place_is n l k true e is = let same : n ≡ k = same_Some n k is in (same, omega (arith, ltb-true n l e))
 place_is n l k false e is = cc
 
-no_place_is : (n l : ℕ) (b : Bool) → nat_lt n l ≡ b → cond b (Some n) None ≡ None → l ≤ n
+pub no_place_is : (n l : ℕ) (b : Bool) → nat_lt n l ≡ b → cond b (Some n) None ≡ None → l ≤ n
 no_place_is n l true e is = cc
 no_place_is n l false e is = ltb-false n l e
 

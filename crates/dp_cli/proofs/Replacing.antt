@@ -16,6 +16,7 @@ use Rattle.dp_cli.specs.declared.run.replaced.WordFault.TheVariants as fault
 use Rattle.dp_cli.specs.declared.run.replaced.Form.TheVariants.{Named, Bare}
 use Rattle.clap.specs.declared.parser.matches.Found.{Found}
 use Rattle.dp_cli.specs.Replacing.{Row, added, clashes, given_by, given_in, option_of, row_of, rows_from, rows_of, unless_found, words_of}
+use Rattle.dp_cli.proofs.Numbers.{drop_all}
 
 chosen : (b : Bool) (x : Replaced) (r : Option Row) (r' : Option Replaced) → r ≡ option_map row_of r'
     → (if b then Some (row_of x) else r) ≡ option_map row_of (if b then Some x else r')
@@ -67,12 +68,6 @@ pub row_missing : (form : Form) (given : List Replaced) (words : List (Bor (List
 row_missing form given words i w all lt is so_far =
     sym so_far ∙ step form (map row_of given) words i w lt
     ∙ ap (option_and_then (λ (row : Row). rows_from form (map row_of given ++ row ∷ []) (map (λ word. word.now) (drop (i + 1) words)))) (sym is)
-
-drop_all : {A : Type 0} (xs : List A) (i : ℕ) → length xs ≤ i → drop i xs ≡ []
-drop_all [] zero le = refl
-drop_all [] (suc i) le = refl
-drop_all (x ∷ xs) zero le = absurd (omega arith)
-drop_all (x ∷ xs) (suc i) le = drop_all xs i (omega arith)
 
 -- no word is left
 pub rows_end : (form : Form) (rows : List Row) (words : List (Bor (List ℕ))) (i : ℕ) (all : Option (List Row)) → length words ≤ i

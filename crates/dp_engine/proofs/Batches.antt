@@ -24,7 +24,7 @@ use Rattle.dp_model.specs.Laws.Within.{parts}
 use Rattle.dp_engine.specs.declared.batch.SentRecord.{SentRecord}
 use Rattle.dp_engine.specs.declared.batch.BatchSize.{BatchSize}
 use Rattle.dp_engine.specs.Batches.{Frame, frame_of, frames_from, frames_in, bytes_of_all, records_for, Holds, all_buffers, widest}
-use Rattle.dp_engine.proofs.Few.{live_few}
+use Rattle.dp_model.specs.Laws.Few.{live_few}
 use Rattle.dp_engine.proofs.Writing.{take_more}
 
 -- ---- what was written

@@ -40,5 +40,4 @@ pub mod Emptied
 pub mod Reporting
 pub mod Served
 pub mod Turning
-pub mod Few
 pub mod Batches

@@ -13,6 +13,7 @@ use Rattle.dp_engine.specs.Spaces.{SpaceView, AreFilled, IsNewRing, filled, Ring
 use Rattle.dp_engine.specs.Layouts.{PartsIn, zones_in}
 use Rattle.dp_engine.specs.Engines.{StandIn}
 use Rattle.dp_engine.proofs.Filled.{none_filled}
+use Rattle.dp_engine.proofs.Rings.{frames_length}
 
 -- ---- rings that were laid out
 
@@ -45,10 +46,6 @@ counts_in home (n ∷ counts) (Some r ∷ slots) are =
     ∙ ap (λ cs. n ∷ cs) (counts_in home counts slots are.1)
 
 -- ---- where they lie
-
-same_length : (rings : List RingView) → length (map without_entries rings) ≡ length rings
-same_length [] = refl
-same_length (r ∷ rings) = let more = same_length rings in omega arith
 
 rings_filled : (slots : List (Option RingView)) → RingsFirst slots → filled slots ≡ length (map without_entries (rings_in slots))
 rings_filled [] first = refl

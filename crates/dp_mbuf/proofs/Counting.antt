@@ -9,7 +9,7 @@ use Rattle.dp_model.specs.Packets.{Segment, Packet, refs}
 use Rattle.dp_model.specs.Machine.{segments_held}
 use Rattle.dp_mbuf.specs.Mbufs.{mbufs, indirects}
 use Rattle.dp_mbuf.proofs.PoolLemmas.{one_if}
-use Rattle.dp_mbuf.proofs.ObjectLemmas.{same_self}
+use Rattle.dp_model.specs.Laws.Stored.{same_number_refl}
 
 module _ (f : Segment → Bool) where
   pub count-append : (xs ys : List Segment) → count_by f (xs ++ ys) ≡ count_by f xs + count_by f ys
@@ -115,7 +115,7 @@ pub refs-append : (xs ys : List Segment) (m : Number) → refs (xs ++ ys) m ≡ 
 refs-append xs ys m = count-append (λ s. same_number s.buffer m) xs ys
 
 pub one_at : (n : Number) → one_if (same_number n n) ≡ 1
-one_at n = let one : ℕ = 1 in ap (λ b. cond b one 0) (same_self n)
+one_at n = let one : ℕ = 1 in ap (λ b. cond b one 0) (same_number_refl n)
 
 pub mbufs_first : (s : Segment) (ys : List Segment) → mbufs (s ∷ ys) s.mbuf ≡ suc (mbufs ys s.mbuf)
 mbufs_first s ys = omega (arith, one_at s.mbuf, mbufs-cons s ys s.mbuf)
@@ -123,7 +123,7 @@ mbufs_first s ys = omega (arith, one_at s.mbuf, mbufs-cons s ys s.mbuf)
 pub refs_first : (s : Segment) (ys : List Segment) → refs (s ∷ ys) s.buffer ≡ suc (refs ys s.buffer)
 refs_first s ys = omega (arith, one_at s.buffer, refs-cons s ys s.buffer)
 
-and_le : (a b : Bool) → one_if (a && b) ≤ one_if a
+pub and_le : (a b : Bool) → one_if (a && b) ≤ one_if a
 and_le true true = omega arith
 and_le true false = omega arith
 and_le false b = omega arith

@@ -7,9 +7,9 @@ use Rattle.std.proofs.lemmas.Bool.{cases_lt}
 use Rattle.std.proofs.lemmas.List.{length-take-le, append_assoc, drop_at, take_at}
 use Rattle.dp_model.specs.Buffers.{Number, same_number, Buffers, bytes_of, written, overwritten}
 use Rattle.dp_model.specs.Packets.{Packet, refs, direct, received, segment_bytes, packet_bytes}
-use Rattle.dp_model.specs.Laws.Stored.{bytes_other, bytes_same}
+use Rattle.dp_model.specs.Laws.Stored.{bytes_other, bytes_same, same_number_refl}
 use Rattle.dp_mbuf.proofs.PoolLemmas.{one_if}
-use Rattle.dp_mbuf.proofs.ObjectLemmas.{same_or, same_self}
+use Rattle.dp_mbuf.proofs.ObjectLemmas.{same_or}
 use Rattle.dp_mbuf.proofs.Counting.{refs-cons}
 
 -- the segments of these numbers, as long as the bytes last
@@ -100,7 +100,7 @@ bytes_stay buffers n at new [] z = refl
 bytes_stay buffers n at new (s ∷ k) z =
     let d : same_number n s.buffer ≡ false = ⊎_elim
     (λ e. absurd (let t = ap (λ m. one_if (same_number m n)) e in
-    let o : one_if (same_number n n) ≡ 1 = let one : ℕ = 1 in ap (λ b. cond b one 0) (same_self n) in
+    let o : one_if (same_number n n) ≡ 1 = let one : ℕ = 1 in ap (λ b. cond b one 0) (same_number_refl n) in
     omega (arith, t, o, z, refs-cons s k n)))
     (λ f. f)
     (same_or n s.buffer) in

@@ -12,9 +12,10 @@ use Rattle.dp_pool.specs.Pools.{PoolView}
 use Rattle.dp_mbuf.specs.Objects.{header_at, is_out, specs_of, HasObject, ArePools}
 use Rattle.dp_mbuf.specs.Steps.{Alike}
 use Rattle.dp_mbuf.specs.Mbufs.{handle, numbered, is_positive, walk, is_head, packet_at, slots_from, slots_of, mbufs, Stands, StandsAt, Shows, Counted}
-use Rattle.dp_mbuf.proofs.ObjectLemmas.{number_eq, count_is, object_pool, length_specs}
+use Rattle.dp_mbuf.proofs.ObjectLemmas.{count_is, object_pool, length_specs}
 use Rattle.dp_mbuf.proofs.Counting.{count_of, slot_among, SameCounts}
 use Rattle.dp_mbuf.proofs.Links.{linked_kept, first_in, walk_is}
+use Rattle.dp_model.specs.Laws.Stored.{number_path}
 
 -- ---- handles
 
@@ -22,7 +23,7 @@ pub handle_back : (h : ℕ) → handle (numbered h) ≡ h
 handle_back h = omega arith
 
 pub number_back : (n : Number) → n.index < 65536 → numbered (handle n) ≡ n
-number_back n b = number_eq (numbered (handle n)) n (omega (arith, b)) (omega (arith, b))
+number_back n b = number_path (numbered (handle n)) n (omega (arith, b)) (omega (arith, b))
 
 pub numbered_apart : (i j : ℕ) → i ≢ j → numbered i ≡ numbered j → ⊥
 numbered_apart i j ne e = ne (sym (handle_back i) ∙ (ap handle e ∙ handle_back j))

@@ -10,7 +10,8 @@ use Rattle.dp_mbuf.specs.Headers.{header_of, header_bytes, word, mbuf_number, th
 use Rattle.dp_pool.specs.Pools.{PoolView, object_in, with_written}
 use Rattle.dp_mbuf.specs.Objects.{pool_in, header_at, header_with, HasObject, ArePools, HeaderSet}
 use Rattle.dp_mbuf.proofs.PoolLemmas.{Small, length_overwritten}
-use Rattle.dp_mbuf.proofs.ObjectLemmas.{number_eq, header_eq, header_back, word_back, mbuf_back, object_pool, object_long, front_set}
+use Rattle.dp_mbuf.proofs.ObjectLemmas.{header_eq, header_back, word_back, mbuf_back, object_pool, object_long, front_set}
+use Rattle.dp_model.specs.Laws.Stored.{number_path}
 
 -- ---- bytes written over others
 
@@ -50,10 +51,10 @@ module _ (old : List ℕ) (at : ℕ) (new : List ℕ) (fits : at + length new �
   word_behind a b = omega (arith, byte_behind a b, byte_behind (a + 1) (omega arith))
 
   mbuf_before : (a : ℕ) → a + 4 ≤ at → mbuf_number (overwritten old at new) a ≡ mbuf_number old a
-  mbuf_before a b = number_eq _ _ (word_before a (omega arith)) (word_before (a + 2) (omega arith))
+  mbuf_before a b = number_path _ _ (word_before a (omega arith)) (word_before (a + 2) (omega arith))
 
   mbuf_behind : (a : ℕ) → at + length new ≤ a → mbuf_number (overwritten old at new) a ≡ mbuf_number old a
-  mbuf_behind a b = number_eq _ _ (word_behind a b) (word_behind (a + 2) (omega arith))
+  mbuf_behind a b = number_path _ _ (word_behind a b) (word_behind (a + 2) (omega arith))
 
 -- ---- two numbers, one after the other
 
@@ -176,7 +177,7 @@ module _ (o : List ℕ) (long : 128 ≤ length o) where
         word_before o 10 new fits 2 (omega arith),
         word_before o 10 new fits 4 (omega arith),
       )) (word_before o 10 new fits 6 (omega arith)) (word_before o 10 new fits 8 (omega arith))
-      (number_eq _ _ (word_in o 10 new fits 10 0 refl (omega arith)) (word_in o 10 new fits 12 2 refl (omega arith))
+      (number_path _ _ (word_in o 10 new fits 10 0 refl (omega arith)) (word_in o 10 new fits 12 2 refl (omega arith))
       ∙ mbuf_back n) (mbuf_behind o 10 new fits 14 (omega arith)) (mbuf_behind o 10 new fits 18 (omega arith))
 
   last_written : (n : Number) → header_of (overwritten o 14 (then_word n.pool (then_word n.index []))) ≡ record (header_of o) { last = n }
@@ -189,7 +190,7 @@ module _ (o : List ℕ) (long : 128 ≤ length o) where
         word_before o 14 new fits 2 (omega arith),
         word_before o 14 new fits 4 (omega arith),
       )) (word_before o 14 new fits 6 (omega arith)) (word_before o 14 new fits 8 (omega arith))
-      (mbuf_before o 14 new fits 10 (omega arith)) (number_eq _ _ (word_in o 14 new fits 14 0 refl (omega arith))
+      (mbuf_before o 14 new fits 10 (omega arith)) (number_path _ _ (word_in o 14 new fits 14 0 refl (omega arith))
       (word_in o 14 new fits 16 2 refl (omega arith)) ∙ mbuf_back n) (mbuf_behind o 14 new fits 18 (omega arith))
 
 -- ---- the header afterwards

@@ -11,11 +11,12 @@ use Rattle.dp_mbuf.specs.Objects.{header_at, is_out, specs_of, buffers_of, zones
 use Rattle.dp_mbuf.specs.Steps.{Alike, Fewer, MbufBack, BufferLess, CanRelease, Released, Cloned, FilledBy}
 use Rattle.dp_mbuf.specs.Mbufs.{is_positive, is_head, mbufs, indirects, Linked, Whole}
 use Rattle.dp_mbuf.proofs.PoolLemmas.{one_if}
-use Rattle.dp_mbuf.proofs.ObjectLemmas.{same_or, same_self}
-use Rattle.dp_mbuf.proofs.Counting.{mbufs-cons, refs-cons, indirects-cons, mbufs-append, mbufs_first, refs_first, indirects_le, all_rest}
+use Rattle.dp_mbuf.proofs.ObjectLemmas.{same_or}
+use Rattle.dp_mbuf.proofs.Counting.{mbufs-cons, refs-cons, indirects-cons, mbufs-append, mbufs_first, refs_first, indirects_le, all_rest, and_le as by_le}
 use Rattle.dp_mbuf.proofs.Links.{alike, linked_kept, first_mbuf}
 use Rattle.dp_mbuf.proofs.Frames.{object_of, number_of, same_length, positive, head_stays, frame}
 use Rattle.dp_mbuf.proofs.Edits.{all_at}
+use Rattle.dp_model.specs.Laws.Stored.{same_number_refl}
 
 -- ---- counts of one more segment
 
@@ -107,7 +108,7 @@ module _ (ps : List PoolView) (slots : List (Option Packet)) (s : Segment) (more
       let i : indirects (s ∷ ss) s.mbuf ≡ suc (indirects ss s.mbuf) =
       (let t : one_if (same_number s.mbuf s.mbuf && not (same_number s.buffer s.mbuf)) ≡ 1 =
       let one : ℕ = 1 in
-      ap (λ b. cond (b && not (same_number s.buffer s.mbuf)) one 0) (same_self s.mbuf)
+      ap (λ b. cond (b && not (same_number s.buffer s.mbuf)) one 0) (same_number_refl s.mbuf)
       ∙ ap (λ b. cond (not b) one 0) (turned d) in
       omega (arith, t, indirects-cons s ss s.mbuf)) in
       let z = w.counted.direct s.mbuf (omega (arith, i)) in
@@ -115,7 +116,7 @@ module _ (ps : List PoolView) (slots : List (Option Packet)) (s : Segment) (more
     where
       turned : same_number s.mbuf s.buffer ≡ false → same_number s.buffer s.mbuf ≡ false
       turned f = ⊎_elim
-          (λ e. let t : same_number s.mbuf s.buffer ≡ true = ap (same_number s.mbuf) e ∙ same_self s.mbuf in absurd (cc))
+          (λ e. let t : same_number s.mbuf s.buffer ≡ true = ap (same_number s.mbuf) e ∙ same_number_refl s.mbuf in absurd (cc))
           (λ g. g)
           (same_or s.buffer s.mbuf)
 
@@ -194,7 +195,7 @@ released ps ps1 ps' slots s more w a b =
   where
     apart : (n : Number) → s.mbuf ≡ n → same_number s.buffer n ≡ false → same_number s.mbuf s.buffer ≡ false
     apart n e d = ⊎_elim
-        (λ t. let x : same_number s.buffer n ≡ true = ap (λ m. same_number m n) (sym t ∙ e) ∙ same_self n in absurd (cc))
+        (λ t. let x : same_number s.buffer n ≡ true = ap (λ m. same_number m n) (sym t ∙ e) ∙ same_number_refl n in absurd (cc))
         (λ f. f)
         (same_or s.mbuf s.buffer)
 
@@ -252,14 +253,9 @@ nothing_at ps hand slots n w number was =
 -- a comparison with its sides swapped
 pub turned : (a b : Number) → same_number a b ≡ false → same_number b a ≡ false
 turned a b f = ⊎_elim
-    (λ e. let t : same_number a b ≡ true = ap (same_number a) e ∙ same_self a in absurd (cc))
+    (λ e. let t : same_number a b ≡ true = ap (same_number a) e ∙ same_number_refl a in absurd (cc))
     (λ g. g)
     (same_or b a)
-
-by_le : (a b : Bool) → one_if (a && b) ≤ one_if a
-by_le true true = omega arith
-by_le true false = omega arith
-by_le false b = omega arith
 
 and_le : (a b m : Number) → one_if (same_number a m && not (same_number b m)) ≤ one_if (same_number a m)
 and_le a b m = by_le (same_number a m) (not (same_number b m))
@@ -287,13 +283,13 @@ module _ (ps ps' : List PoolView) (hand : Packet) (slots : List (Option Packet))
       let t : one_if (same_number n n && not (same_number s.buffer n)) ≡ 0 =
       let one : ℕ = 1 in
       ap (λ j. cond (same_number n n && not (same_number j n)) one 0) (sym own)
-      ∙ (ap (λ b. cond (b && not b) one 0) (same_self n)) in
+      ∙ (ap (λ b. cond (b && not b) one 0) (same_number_refl n)) in
       omega (arith, q, z, t, no, indirects-cons s had n, indirects_le had n)))
       (λ o. omega (arith, no, zero_at s.buffer n (turned n s.buffer o.0), refs-cons s had n))
       kind))
       (λ d. ⊎_elim
       (λ b. ⊎_elim
-      (λ own. absurd (let x : same_number n m ≡ true = ap (λ j. same_number j m) (own ∙ b) ∙ same_self m in cc))
+      (λ own. absurd (let x : same_number n m ≡ true = ap (λ j. same_number j m) (own ∙ b) ∙ same_number_refl m in cc))
       (λ o. absurd (let z = ap (refs had) b in
       let r = c.direct m (omega (arith, q, and_le n s.buffer m, zero_at n m d, indirects-cons s had m)) in
       omega (arith, r, z, o.1)))
@@ -313,7 +309,7 @@ module _ (ps ps' : List PoolView) (hand : Packet) (slots : List (Option Packet))
       let mb : mbufs (s ∷ had) m ≡ mbufs had m = omega (arith, zero_at n m d, mbufs-cons s had m) in
       ⊎_elim
       (λ b. ⊎_elim
-      (λ own. absurd (let x : same_number n m ≡ true = ap (λ j. same_number j m) (own ∙ b) ∙ same_self m in cc))
+      (λ own. absurd (let x : same_number n m ≡ true = ap (λ j. same_number j m) (own ∙ b) ∙ same_number_refl m in cc))
       (λ o. let z = ap (refs had) b in
       old
       ∙ (positive (mbufs had m + refs had m) (omega (arith, z, o.1))

@@ -18,6 +18,7 @@ use Rattle.dp_pool.specs.Pools.{PoolView, object_in, with_written, got, put_back
 use Rattle.dp_mbuf.specs.Objects.{present, no_pool, pool_in, header_at, header_with, is_out, count_in, spec_of, specs_of, rooms_of, buffers_of, zones_of}
 use Rattle.dp_mbuf.specs.Objects.{HasObject, HasRooms, PoolsFirst, ArePools, HeaderSet, RoomWritten, Taken, Given}
 use Rattle.dp_mbuf.proofs.PoolLemmas.{one_if, with_out, count_set, some_below, Small, pool_out, pool_written, map_set, length_map}
+use Rattle.dp_model.specs.Laws.Stored.{number_path, same_number_refl}
 
 -- ---- numbers
 
@@ -29,17 +30,8 @@ and_right : (a b : Bool) → (a && b) ≡ true → b ≡ true
 and_right true b e = e
 and_right false b e = cc
 
-pub number_eq : (a b : Number) → a.pool ≡ b.pool → a.index ≡ b.index → a ≡ b
-number_eq a b e d =
-    let f : ℕ → Number = λ x. record { pool = x; index = a.index } in
-    let g : ℕ → Number = λ y. record { pool = b.pool; index = y } in
-    ap f e ∙ ap g d
-
 pub same_is : (n m : Number) → same_number n m ≡ true → n ≡ m
-same_is n m e = number_eq n m (eqb-true n.pool m.pool (and_left _ _ e)) (eqb-true n.index m.index (and_right _ _ e))
-
-pub same_self : (n : Number) → same_number n n ≡ true
-same_self n = and_from _ _ (eq-eqb n.pool n.pool refl) (eq-eqb n.index n.index refl)
+same_is n m e = number_path n m (eqb-true n.pool m.pool (and_left _ _ e)) (eqb-true n.index m.index (and_right _ _ e))
 
 -- two numbers are the same or not
 pub same_or : (n m : Number) → (n ≡ m) ⊎ (same_number n m ≡ false)
@@ -68,7 +60,7 @@ pub word_back : (x : ℕ) → x % 256 + (x / 256) * 256 ≡ x
 word_back x = omega arith
 
 pub mbuf_back : (n : Number) → record { pool = n.pool % 256 + (n.pool / 256) * 256; index = n.index % 256 + (n.index / 256) * 256 } ≡ n
-mbuf_back n = number_eq _ n (word_back n.pool) (word_back n.index)
+mbuf_back n = number_path _ n (word_back n.pool) (word_back n.index)
 
 pub header_back : (h : Header) (rest : List ℕ) → header_of (header_bytes h ++ rest) ≡ h
 unfolding header_of
@@ -80,7 +72,7 @@ word_same : (xs ys : List ℕ) (a : ℕ) → ((k : ℕ) → k < 128 → get_or x
 word_same xs ys a e h = omega (arith, e a (omega arith), e (a + 1) h)
 
 mbuf_same : (xs ys : List ℕ) (a : ℕ) → ((k : ℕ) → k < 128 → get_or xs k 0 ≡ get_or ys k 0) → a + 3 < 128 → mbuf_number xs a ≡ mbuf_number ys a
-mbuf_same xs ys a e h = number_eq _ _ (word_same xs ys a e (omega arith)) (word_same xs ys (a + 2) e (omega arith))
+mbuf_same xs ys a e h = number_path _ _ (word_same xs ys a e (omega arith)) (word_same xs ys (a + 2) e (omega arith))
 
 -- a header depends on an object's first bytes only
 pub header_same : (xs ys : List ℕ) → ((k : ℕ) → k < 128 → get_or xs k 0 ≡ get_or ys k 0) → header_of xs ≡ header_of ys

@@ -14,10 +14,11 @@ use Rattle.dp_pool.specs.Pools.{PoolView}
 use Rattle.dp_mbuf.specs.Objects.{spec_of, specs_of, objects_in_all}
 use Rattle.dp_mbuf.specs.Mbufs.{mbufs, indirects, slots_of, shown, Sound, mbufs_in_all}
 use Rattle.dp_mbuf.proofs.PoolLemmas.{one_if}
-use Rattle.dp_mbuf.proofs.ObjectLemmas.{same_or, same_self}
+use Rattle.dp_mbuf.proofs.ObjectLemmas.{same_or}
 use Rattle.dp_mbuf.proofs.Counting.{mbufs-cons, mbufs_first, refs-cons, refs_le, indirects-cons}
 use Rattle.dp_mbuf.proofs.Live.{opened}
 use Rattle.dp_mbuf.proofs.Receiving.{buffer_long, are_bytes}
+use Rattle.dp_model.specs.Laws.Stored.{same_number_refl}
 
 apart_from : (n : Number) (ss : List Segment) → mbufs ss n ≡ 0 → AllByRecursion (λ m. same_number n m ≡ false) (map (λ s. s.mbuf) ss)
 apart_from n [] z = tt
@@ -58,11 +59,11 @@ directs ss direct =
     (λ own. own)
     (λ d. absurd (let some = it t.mbuf in
     let is : one_if (same_number t.mbuf t.mbuf && not (same_number t.buffer t.mbuf)) ≡ 1 =
-    one_true (same_number t.mbuf t.mbuf && not (same_number t.buffer t.mbuf)) (ap (λ b. b && not (same_number t.buffer t.mbuf)) (same_self t.mbuf)
+    one_true (same_number t.mbuf t.mbuf && not (same_number t.buffer t.mbuf)) (ap (λ b. b && not (same_number t.buffer t.mbuf)) (same_number_refl t.mbuf)
     ∙ ap not d) in
     let none = direct t.mbuf (omega (arith, some, is)) in
     let has = rs t.mbuf in
-    let at : one_if (same_number s.buffer t.mbuf) ≡ 1 = one_true (same_number s.buffer t.mbuf) (ap (λ m. same_number m t.mbuf) e ∙ same_self t.mbuf) in
+    let at : one_if (same_number s.buffer t.mbuf) ≡ 1 = one_true (same_number s.buffer t.mbuf) (ap (λ m. same_number m t.mbuf) e ∙ same_number_refl t.mbuf) in
     omega (arith, none, has, at)))
     (same_or t.buffer t.mbuf))
     (λ n. omega arith) (λ n. omega arith))

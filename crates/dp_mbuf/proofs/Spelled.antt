@@ -2,10 +2,7 @@
 use Rattle.std.proofs.Common.{◌≡◌, ℕ, zero, suc, length, refl, ap, arith}
 use Rattle.dp_model.specs.Arithmetic.{big_endian}
 use Rattle.dp_mbuf.proofs.PoolLemmas.{Small}
-
-pub length_spelled : (w n : ℕ) → length (big_endian w n) ≡ w
-length_spelled zero n = refl
-length_spelled (suc w) n = ap suc (length_spelled w n)
+use Rattle.dp_model.specs.Laws.StepsWithin.{length_big_endian}
 
 pub small_spelled : (w n : ℕ) → Small (big_endian w n)
 small_spelled zero n k = omega arith

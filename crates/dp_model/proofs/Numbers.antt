@@ -9,6 +9,7 @@ use Rattle.dp_model.specs.Buffers.{Buffers, bytes_of, overwritten, written}
 use Rattle.dp_model.specs.Packets.{Segment, Packet, segment_bytes, stored, loaded}
 use Rattle.dp_model.specs.Laws.Stored.{bytes_same, range_overwritten}
 use Rattle.dp_model.proofs.Filling.{range_written}
+use Rattle.dp_model.specs.Laws.StepsWithin.{length_big_endian}
 
 -- ---- the least 2^k - 1 that is at least n
 
@@ -21,15 +22,11 @@ ones_least (suc limit) (suc n) (suc j) le =
 
 -- ---- bytes of numbers
 
-pub length_spelling : (w n : ℕ) → length (big_endian w n) ≡ w
-length_spelling zero n = refl
-length_spelling (suc w) n = ap suc (length_spelling w n)
-
 -- the bytes of a number spell its low part
 pub spelled_low : (w n : ℕ) → spelled (big_endian w n) ≡ n % 256 ^ w
 spelled_low zero n = omega arith
 spelled_low (suc w) n =
-    ap (λ l. (n / 256 ^ w) % 256 * 256 ^ l + spelled (big_endian w n)) (length_spelling w n)
+    ap (λ l. (n / 256 ^ w) % 256 * 256 ^ l + spelled (big_endian w n)) (length_big_endian w n)
     ∙ (ap (λ s. (n / 256 ^ w) % 256 * 256 ^ w + s) (spelled_low w n)
     ∙ (sym (mod-mul n {m = 256} {c = 256 ^ w} (omega arith) (one-le-pow w 256 (omega arith))) ∙ ap (λ p. n % p) (sym (pow-succ' 256 w))))
 
@@ -39,7 +36,7 @@ pub stored_loaded : (start w n : ℕ) (s : Segment) (rest : Packet) (buffers : B
     s.offset + s.len ≤ length (bytes_of buffers s.buffer) → loaded start w (s ∷ rest) (stored start w n (s ∷ rest) buffers) ≡ n % 256 ^ w
 stored_loaded start w n s rest buffers some fits inside =
     let new = big_endian w n in
-    let long = length_spelling w n in
+    let long = length_big_endian w n in
     let old = bytes_of buffers s.buffer in
     let bytes : segment_bytes (written buffers s.buffer (s.offset + start) new) s ≡ overwritten (slice_range old s.offset (s.offset + s.len)) start new =
     ap (λ xs. slice_range xs s.offset (s.offset + s.len)) (bytes_same buffers s.buffer (overwritten old (s.offset + start) new)

@@ -8,6 +8,7 @@ use Rattle.dp_model.specs.declared.env.Entry.{Entry}
 use Rattle.dp_pipe.specs.Setup.{NodeFiles}
 use Rattle.dp_pipe.specs.declared.nodes.How.{How}
 use Rattle.dp_pipe.specs.Nodes.{Node, numbered, node_of}
+use Rattle.dp_pipe.proofs.PacketRuns.{zip_length}
 
 -- ---- what is there, and what is set
 
@@ -87,12 +88,6 @@ numbered_entry how kind k (g ∷ files) (suc i) node e =
     numbered_entry how kind (k + 1) files i node e ∙ ap kind next
 
 -- ---- lists that fit, index by index
-
-pub zipped_length : {A B : Type 0} (R : A → B → Type 0) (xs : List A) (ys : List B) → AllZip R xs ys → length ys ≡ length xs
-zipped_length R [] [] all = refl
-zipped_length R [] (y ∷ ys) all = absurd all
-zipped_length R (x ∷ xs) [] all = absurd all
-zipped_length R (x ∷ xs) (y ∷ ys) all = ap suc (zipped_length R xs ys all.1)
 
 pub zipped_at : {A B : Type 0} (R : A → B → Type 0) (xs : List A) (ys : List B) (k : ℕ) (y : B) → AllZip R xs ys → slice_get ys k ≡ Some y →
     (x : A) × (slice_get xs k ≡ Some x) × R x y

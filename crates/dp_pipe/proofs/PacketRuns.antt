@@ -62,7 +62,7 @@ packet_run p pattern arrivals first last answers outcomes captures ready start r
       (record { answers = answers; outcomes = outcomes; captures = captures }) ready.limits start run;
 }
 
-zip_length : {X Y : Type 0} (P : X → Y → Type 0) (xs : List X) (ys : List Y) → AllZip P xs ys → length ys ≡ length xs
+pub zip_length : {X Y : Type 0} (P : X → Y → Type 0) (xs : List X) (ys : List Y) → AllZip P xs ys → length ys ≡ length xs
 zip_length P [] [] all = refl
 zip_length P [] (y ∷ ys) all = absurd all
 zip_length P (x ∷ xs) [] all = absurd all

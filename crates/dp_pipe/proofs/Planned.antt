@@ -10,14 +10,14 @@ use Rattle.dp_model.specs.Rules.{Question}
 use Rattle.std.proofs.lemmas.Bool.{cases_lt}
 use Rattle.dp_check.specs.Faults.{IsChecked}
 use Rattle.dp_engine.specs.Laws.{plan_of}
-use Rattle.dp_pipe.proofs.PacketRuns.{IsReady, AreLaws}
+use Rattle.dp_pipe.proofs.PacketRuns.{IsReady, AreLaws, zip_length}
 use Rattle.dp_pipe.specs.declared.nodes.How.{How}
 use Rattle.dp_pipe.specs.Setup.{NodeFiles}
 use Rattle.dp_pipe.specs.Files.{FileMap}
 use Rattle.dp_pipe.specs.Nodes.{Node, numbered, nodes_of, IsLoaded, AreLoaded}
 use Rattle.dp_pipe.specs.Pipelines.{Plan, IsPlan, IsFor, HasNodes}
 use Rattle.dp_engine.specs.Schemes.{AreNodes}
-use Rattle.dp_pipe.proofs.Indices.{length-numbered, numbered_entry, front_of, behind, zipped_length, zipped_at}
+use Rattle.dp_pipe.proofs.Indices.{length-numbered, numbered_entry, front_of, behind, zipped_at}
 
 for_entry : (known : Option FileMap) (env : Environment) (entry : Entry) (node : Node) (q : Question) → node.entry ≡ entry → IsLoaded known env node q →
     IsFor env entry q
@@ -49,7 +49,7 @@ pub has_nodes : (known : Option FileMap) (env : Environment) (how : How) (ports 
 has_nodes known env how ports rings nodes all p r = record {
   count = omega (
     arith,
-    zipped_length (IsLoaded known env) (nodes_of how ports rings) nodes all,
+    zip_length (IsLoaded known env) (nodes_of how ports rings) nodes all,
     length-append (numbered how Port 0 ports) (numbered how Ring 0 rings),
     length-numbered how Port 0 ports,
     length-numbered how Ring 0 rings,

@@ -1,4 +1,4 @@
--- There are at most as many live segments as buffers in all pools.
+-- Internal: there are at most as many live segments as buffers in all pools.
 use Rattle.std.proofs.Common.{◌≡◌, ℕ, zero, suc, ◌+◌, ◌<◌, ◌≤◌, List, [], ◌∷◌, length, Option, Some, None, refl, ap, arith, ⊎_elim}
 use Rattle.std.specs.Prelude.{sum_by, slice_get, option_map, unwrap_or}
 use Rattle.std.specs.List.{AllByRecursion}
