@@ -1,2 +1,5 @@
 pub mod Lists
 pub mod Tallies
+pub mod Flows
+pub mod Runs
+pub mod Turns

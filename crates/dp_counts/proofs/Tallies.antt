@@ -1,32 +1,34 @@
 -- Counts grow by the steps that they count.
-use Rattle.std.proofs.Common.{◌≡◌, ℕ, zero, suc, ◌+◌, ◌%◌, ◌^◌, ◌<◌, Bool, true, false, cond}
-use Rattle.std.proofs.Common.{◌&&◌, List, [], ◌∷◌, length, refl, sym, ◌∙◌, ap, subst, arith, add-zero}
-use Rattle.std.specs.Prelude.{◌==◌, replicate, slice_index, slice_set}
+use Rattle.std.proofs.Common.{◌≡◌, ℕ, zero, suc, ◌+◌, ◌*◌, ◌%◌, ◌/◌, ◌^◌, ◌<◌, Bool, true, false, cond}
+use Rattle.std.proofs.Common.{◌&&◌, List, [], ◌∷◌, length, refl, sym, ◌∙◌, ap, subst, arith, add-zero, add-one}
+use Rattle.std.specs.Prelude.{◌==◌, ◌≤◌, replicate, slice_index, slice_set, Option, Some, None, ⊤}
 use Rattle.std.proofs.lemmas.Bool.{eqb-true, eqb-false}
-use Rattle.std.proofs.Math.Nat.{mod-eq_of_lt, mod-add-mod, mod-lt}
+use Rattle.std.proofs.Math.Nat.{mod-eq_of_lt, mod-add-mod, mod-lt, mod-add-div, add-mul-mod_self_left}
 use Rattle.dp_model.specs.Arithmetic.{wrapped}
 use Rattle.dp_model.specs.Machine.{State}
 use Rattle.dp_model.specs.declared.env.Entry.{Entry}
+use Rattle.dp_model.specs.declared.env.Entry.TheVariants.{Port, Ring}
 use Rattle.dp_engine.specs.declared.watch.Way.{Way}
 use Rattle.dp_engine.specs.declared.watch.Way.TheVariants.{On, To, Out, Cut}
-use Rattle.dp_engine.specs.Watching.{Event, Began, Ran, SeesAll}
-use Rattle.dp_counts.specs.Counting.{Tally, place_of, one_more, counted, any_way, is_jump, is_cut, steps_at, GrewBy, AreNumbers, AreZero, CountsSteps}
+use Rattle.dp_engine.specs.Watching.{Event, Began, Ran, IsOneOfEight, SeesAll}
+use Rattle.dp_counts.specs.Counting.{Tally, place_of, one_more, counted, with_way, counts_see, is_jump, is_cut, any_way, steps_at, AreNumbers, AreZero}
+use Rattle.dp_counts.specs.Counting.{HasRoom, IsTally}
 
 -- ---- one number of a list
 
-index_same : (numbers : List ℕ) (k n : ℕ) → k < length numbers → slice_index (slice_set numbers k n) k ≡ n
+pub index_same : (numbers : List ℕ) (k n : ℕ) → k < length numbers → slice_index (slice_set numbers k n) k ≡ n
 index_same [] k n less = absurd (omega (arith, less))
 index_same (x ∷ numbers) zero n less = refl
 index_same (x ∷ numbers) (suc k) n less = index_same numbers k n (omega (arith, less))
 
-index_other : (numbers : List ℕ) (j k n : ℕ) → (j ≡ k → ⊥) → slice_index (slice_set numbers j n) k ≡ slice_index numbers k
+pub index_other : (numbers : List ℕ) (j k n : ℕ) → (j ≡ k → ⊥) → slice_index (slice_set numbers j n) k ≡ slice_index numbers k
 index_other [] j k n other = refl
 index_other (x ∷ numbers) zero zero n other = absurd (other refl)
 index_other (x ∷ numbers) zero (suc k) n other = refl
 index_other (x ∷ numbers) (suc j) zero n other = refl
 index_other (x ∷ numbers) (suc j) (suc k) n other = index_other numbers j k n (λ e. other (ap suc e))
 
-length_same : (numbers : List ℕ) (k n : ℕ) → length (slice_set numbers k n) ≡ length numbers
+pub length_same : (numbers : List ℕ) (k n : ℕ) → length (slice_set numbers k n) ≡ length numbers
 length_same [] k n = refl
 length_same (x ∷ numbers) zero n = refl
 length_same (x ∷ numbers) (suc k) n = ap suc (length_same numbers k n)
@@ -59,51 +61,46 @@ grown_numbers d j numbers are k less =
     subst (λ n. n < 2 ^ 64) (sym (grown_at (j == k) d j k numbers refl less' (are k less')))
     (mod-lt (slice_index numbers k + cond ((j == k) && d) 1 0) (omega arith))
 
--- ---- after some events
+-- ---- taken jumps and cuts
 
+-- a step stays in its node
+pub stays : (label : ℕ) (way : Way) (s : State) (t : Tally) → (counted (Ran label way s) t).place ≡ t.place
+stays label On s t = refl
+stays label (To to) s t = refl
+stays label Out s t = refl
+stays label Cut s t = refl
+
+-- a list that grows by the steps of one kind
 grew : (numbers_of : Tally → List ℕ) (test : Way → Bool)
     → ((label : ℕ) (way : Way) (s : State) (t : Tally) → numbers_of (counted (Ran label way s) t) ≡ grown (test way) (t.place + label) (numbers_of t))
     → ((node : Entry) (s : State) (t : Tally) → numbers_of (counted (Began node s) t) ≡ numbers_of t)
-    → (t t' : Tally) (events : List Event) → SeesAll (λ (v : Tally) (e : Event) (v' : Tally). v' ≡ counted e v) t events t' → AreNumbers (numbers_of t)
-    → GrewBy test t.place events (numbers_of t) (numbers_of t')
+    → (t t' : Tally) (events : List Event) → SeesAll counts_see t events t' → AreNumbers (numbers_of t) → (k : ℕ) → k < length (numbers_of t)
+    → slice_index (numbers_of t') k ≡ wrapped (slice_index (numbers_of t) k + steps_at test k t.place events)
 grew numbers_of test step begin t t' [] is are k less =
     ap (λ (x : Tally). slice_index (numbers_of x) k) is ∙ small (slice_index (numbers_of t) k) (are k less)
-grew numbers_of test step begin t t' (Began node s ∷ events) (mid, is, rest) are k less =
+grew numbers_of test step begin t t' (Began node s ∷ events) (mid, (within, is), rest) are k less =
     let same : numbers_of mid ≡ numbers_of t = ap numbers_of is ∙ begin node s t in
-    let all = grew numbers_of test step begin mid t' events rest (subst AreNumbers (sym same) are) in
-    let there = subst (λ (x : Tally). GrewBy test x.place events (numbers_of mid) (numbers_of t')) is all in
-    (subst (λ l. GrewBy test (place_of node) events l (numbers_of t')) same there) k less
-grew numbers_of test step begin t t' (Ran label way s ∷ events) (mid, is, rest) are k less =
+    let place : mid.place ≡ place_of node = ap (λ (x : Tally). x.place) is in
+    let all = grew numbers_of test step begin mid t' events rest (subst AreNumbers (sym same) are) k (subst (λ l. k < length l) (sym same) less) in
+    all ∙ ap (λ l. wrapped (slice_index l k + steps_at test k mid.place events)) same
+    ∙ ap (λ p. wrapped (slice_index (numbers_of t) k + steps_at test k p events)) place
+grew numbers_of test step begin t t' (Ran label way s ∷ events) (mid, (within, is), rest) are k less =
     let old = numbers_of t in
-    let place : mid.place ≡ t.place = ap (λ (x : Tally). x.place) is ∙ placed way (t.place + label) t in
-    let same : numbers_of mid ≡ grown (test way) (t.place + label) (numbers_of t) = ap numbers_of is ∙ step label way s t in
-    let all = grew numbers_of test step begin mid t' events rest
-    (subst AreNumbers (sym same) (grown_numbers (test way) (t.place + label) (numbers_of t) are)) in
-    let here = subst (λ l. GrewBy test mid.place events l (numbers_of t')) same all in
-    let there = subst (λ p. GrewBy test p events (grown (test way) (t.place + label) (numbers_of t)) (numbers_of t')) place here in
-    let less' : k < length (grown (test way) (t.place + label) (numbers_of t)) =
-    omega (arith, less, grown_length (test way) (t.place + label) (numbers_of t)) in
-    let one = cond ((t.place + label == k) && test way) 1 0 in
+    let j = t.place + label in
+    let place : mid.place ≡ t.place = ap (λ (x : Tally). x.place) is ∙ stays label way s t in
+    let same : numbers_of mid ≡ grown (test way) j old = ap numbers_of is ∙ step label way s t in
+    let less' : k < length (grown (test way) j old) = omega (arith, less, grown_length (test way) j old) in
+    let all = grew numbers_of test step begin mid t' events rest (subst AreNumbers (sym same) (grown_numbers (test way) j old are)) k
+    (subst (λ l. k < length l) (sym same) less') in
+    let one = cond ((j == k) && test way) 1 0 in
     let more = steps_at test k t.place events in
-    there k less'
-    ∙ ap (λ n. wrapped (n + more)) (grown_at (t.place + label == k) (test way) (t.place + label) k old refl less (are k less))
+    all ∙ ap (λ l. wrapped (slice_index l k + steps_at test k mid.place events)) same
+    ∙ ap (λ p. wrapped (slice_index (grown (test way) j old) k + steps_at test k p events)) place
+    ∙ ap (λ n. wrapped (n + more)) (grown_at (j == k) (test way) j k old refl less (are k less))
     ∙ (mod-add-mod (slice_index old k + one) (2 ^ 64) more ∙ ap (λ n. n % 2 ^ 64) (assoc (slice_index old k) one more))
   where
     assoc : (a b c : ℕ) → a + b + c ≡ a + (b + c)
     assoc a b c = omega arith
-
-    placed : (way : Way) (k : ℕ) (t : Tally) → (counted (Ran label way s) t).place ≡ t.place
-    placed On k t = refl
-    placed (To to) k t = refl
-    placed Out k t = refl
-    placed Cut k t = refl
-
--- each list counts its steps
-ran_step : (label : ℕ) (way : Way) (s : State) (t : Tally) → (counted (Ran label way s) t).ran ≡ grown (any_way way) (t.place + label) t.ran
-ran_step label On s t = refl
-ran_step label (To to) s t = refl
-ran_step label Out s t = refl
-ran_step label Cut s t = refl
 
 taken_step : (label : ℕ) (way : Way) (s : State) (t : Tally) → (counted (Ran label way s) t).taken ≡ grown (is_jump way) (t.place + label) t.taken
 taken_step label On s t = refl
@@ -117,12 +114,92 @@ cut_step label (To to) s t = refl
 cut_step label Out s t = refl
 cut_step label Cut s t = refl
 
-pub counts_steps : CountsSteps
-counts_steps t t' events seen ran taken cut = (
-  grew (λ (x : Tally). x.ran) any_way ran_step (λ node s t. refl) t t' events seen ran,
-  grew (λ (x : Tally). x.taken) is_jump taken_step (λ node s t. refl) t t' events seen taken,
-  grew (λ (x : Tally). x.cut) is_cut cut_step (λ node s t. refl) t t' events seen cut,
-)
+pub taken_grew : (t t' : Tally) (events : List Event) → SeesAll counts_see t events t' → AreNumbers t.taken → (k : ℕ) → k < length t.taken
+    → slice_index t'.taken k ≡ wrapped (slice_index t.taken k + steps_at is_jump k t.place events)
+taken_grew = grew (λ (x : Tally). x.taken) is_jump taken_step (λ node s t. refl)
+
+pub cut_grew : (t t' : Tally) (events : List Event) → SeesAll counts_see t events t' → AreNumbers t.cut → (k : ℕ) → k < length t.cut
+    → slice_index t'.cut k ≡ wrapped (slice_index t.cut k + steps_at is_cut k t.place events)
+cut_grew = grew (λ (x : Tally). x.cut) is_cut cut_step (λ node s t. refl)
+
+-- ---- counts stay counts
+
+more_numbers : (k : ℕ) (numbers : List ℕ) → AreNumbers numbers → AreNumbers (one_more k numbers)
+more_numbers k numbers are = grown_numbers true k numbers are
+
+more_length : (k n : ℕ) (numbers : List ℕ) → length numbers ≡ n → length (one_more k numbers) ≡ n
+more_length k n numbers is = length_same numbers k (wrapped (slice_index numbers k + 1)) ∙ is
+
+pub place_within : (node : Entry) → IsOneOfEight node → place_of node + 1024 ≤ 16384
+place_within (Port port) few = omega (arith, few)
+place_within (Ring ring) few = omega (arith, few)
+
+tally_begins : (node : Entry) (s : State) (t : Tally) → IsOneOfEight node → IsTally t → IsTally (counted (Began node s) t)
+tally_begins node s t few is = record {
+  room = record {
+    came_all = more_length (place_of node) 16384 t.came is.room.came_all;
+    taken_all = is.room.taken_all;
+    ended_all = is.room.ended_all;
+    cut_all = is.room.cut_all;
+    within = place_within node few;
+  };
+  came = more_numbers (place_of node) t.came is.came;
+  taken = is.taken;
+  ended = is.ended;
+  cut = is.cut;
+}
+
+tally_steps : (label : ℕ) (way : Way) (t : Tally) → IsTally t → IsTally (with_way way label t)
+tally_steps label On t is = is
+tally_steps label (To to) t is = record {
+  room = record {
+    came_all = more_length (t.place + to % 1024) 16384 t.came is.room.came_all;
+    taken_all = more_length (t.place + label) 16384 t.taken is.room.taken_all;
+    ended_all = is.room.ended_all;
+    cut_all = is.room.cut_all;
+    within = is.room.within;
+  };
+  came = more_numbers (t.place + to % 1024) t.came is.came;
+  taken = more_numbers (t.place + label) t.taken is.taken;
+  ended = is.ended;
+  cut = is.cut;
+}
+tally_steps label Out t is = record {
+  room = record {
+    came_all = is.room.came_all;
+    taken_all = is.room.taken_all;
+    ended_all = more_length (t.place + label) 16384 t.ended is.room.ended_all;
+    cut_all = is.room.cut_all;
+    within = is.room.within;
+  };
+  came = is.came;
+  taken = is.taken;
+  ended = more_numbers (t.place + label) t.ended is.ended;
+  cut = is.cut;
+}
+tally_steps label Cut t is = record {
+  room = record {
+    came_all = is.room.came_all;
+    taken_all = is.room.taken_all;
+    ended_all = is.room.ended_all;
+    cut_all = more_length (t.place + label) 16384 t.cut is.room.cut_all;
+    within = is.room.within;
+  };
+  came = is.came;
+  taken = is.taken;
+  ended = is.ended;
+  cut = more_numbers (t.place + label) t.cut is.cut;
+}
+
+-- an event leaves counts
+pub tally_counted : (e : Event) (t mid : Tally) → counts_see t e mid → IsTally t → IsTally mid
+tally_counted (Began node s) t mid (few, is) all = subst IsTally (sym is) (tally_begins node s t few all)
+tally_counted (Ran label way s) t mid (few, is) all = subst IsTally (sym is) (tally_steps label way t all)
+
+-- and so do all
+pub tally_seen : (t t' : Tally) (events : List Event) → SeesAll counts_see t events t' → IsTally t → IsTally t'
+tally_seen t t' [] is all = subst IsTally (sym is) all
+tally_seen t t' (e ∷ events) (mid, seen, rest) all = tally_seen mid t' events rest (tally_counted e t mid seen all)
 
 -- ---- zeros
 

@@ -1,24 +1,27 @@
 -- Counts of node runs, as functions of the events.
-use Rattle.std.specs.Prelude.{◌≡◌, ℕ, ◌+◌, ◌*◌, ◌^◌, ◌<◌, ◌≤◌, ◌==◌, ◌&&◌, Bool, true, false, List, [], ◌∷◌, length, slice_index, slice_set}
-use Rattle.std.specs.Prelude.{nat_lt, if◌then◌else◌}
+use Rattle.std.specs.Prelude.{◌≡◌, ℕ, zero, suc, ◌+◌, ◌-◌, ◌*◌, ◌%◌, ◌^◌, ◌<◌, ◌≤◌, ◌==◌, ◌&&◌, Bool, true, false, List, [], ◌∷◌}
+use Rattle.std.specs.Prelude.{length, slice_index, slice_set, nat_lt, if◌then◌else◌, Option, Some, None, ⊤}
 use Rattle.dp_model.specs.declared.env.Entry.{Entry}
 use Rattle.dp_model.specs.declared.env.Entry.TheVariants.{Port, Ring}
 use Rattle.dp_model.specs.Arithmetic.{wrapped}
+use Rattle.dp_model.specs.Machine.{Setting, World}
+use Rattle.dp_model.specs.Runs.{Outcome, Nodes}
 use Rattle.dp_counts.specs.declared.counts.StepCounts.{StepCounts}
 use Rattle.dp_engine.specs.declared.watch.Way.{Way}
 use Rattle.dp_engine.specs.declared.watch.Way.TheVariants.{On, To, Out, Cut}
-use Rattle.dp_engine.specs.Watching.{Event, Began, Ran, SeesAll}
+use Rattle.dp_engine.specs.Watching.{Event, Began, Ran, IsOneOfEight, SeesAll, ShowsTurn, WatchesTurn}
 
 -- where the counts of a node begin, one for each of 1,024 labels: those of eight ports come first, then those of eight rings
 abbrev pub place_of : Entry → ℕ
 place_of (Port port) = 1024 * port
 place_of (Ring ring) = 1024 * (8 + ring)
 
--- for each label of each node how often its instruction ran, how often its jump was taken, and how often a node run was cut there; and where the
--- counts of the running node begin
+-- for each label of each node how often control came there, at the beginning of a node run or by a jump; how often its jump was taken; how often a
+-- node run ended there, and how often one was cut there; and where the counts of the running node begin
 pub record Tally : Type 0 where
-  pub ran : List ℕ
+  pub came : List ℕ
   pub taken : List ℕ
+  pub ended : List ℕ
   pub cut : List ℕ
   pub place : ℕ
 
@@ -28,15 +31,17 @@ AreZero numbers = (k : ℕ) → slice_index numbers k ≡ 0
 
 -- all counts are 0
 pub record HasNone (t : Tally) : Type 0 where
-  pub ran : AreZero t.ran
+  pub came : AreZero t.came
   pub taken : AreZero t.taken
+  pub ended : AreZero t.ended
   pub cut : AreZero t.cut
   pub place : t.place ≡ 0
 
 -- there is a count for each label, also of the running node
-pub record HasRoom (ran taken cut : List ℕ) (place : ℕ) : Type 0 where
-  pub ran_all : length ran ≡ 16384
+pub record HasRoom (came taken ended cut : List ℕ) (place : ℕ) : Type 0 where
+  pub came_all : length came ≡ 16384
   pub taken_all : length taken ≡ 16384
+  pub ended_all : length ended ≡ 16384
   pub cut_all : length cut ≡ 16384
   pub within : place + 1024 ≤ 16384
 
@@ -45,31 +50,68 @@ abbrev pub is_one_of_eight : Entry → Bool
 is_one_of_eight (Port port) = nat_lt port 8
 is_one_of_eight (Ring ring) = nat_lt ring 8
 
+-- ---- how often an instruction ran
+
+-- a difference of numbers of 64 bits, modulo 2^64
+abbrev pub less : ℕ → ℕ → ℕ
+less m n = (m + (2 ^ 64 - n)) % 2 ^ 64
+
+-- where the instruction with the index k ran so often, how often control went on from it to the next one
+abbrev pub on_from : Tally → ℕ → ℕ → ℕ
+on_from t k ran = less (less (less ran (slice_index t.taken k)) (slice_index t.ended k)) (slice_index t.cut k)
+
+-- How often the instruction at a label ran, of the node whose counts begin at `place`, modulo 2^64: as often as control came there, and went on to it from
+-- the one before.
+abbrev pub ran_at : Tally → ℕ → ℕ → ℕ
+ran_at t place zero = slice_index t.came place
+ran_at t place (suc label) = wrapped (on_from t (place + label) (ran_at t place label) + slice_index t.came (place + label + 1))
+
 -- the counts at a label of a node: zeros if there is no such node or label
 abbrev pub step_counts : Tally → Entry → ℕ → StepCounts
 step_counts t node label =
     if nat_lt label 1024 && is_one_of_eight node then
     record {
-      ran = slice_index t.ran (place_of node + label);
+      ran = ran_at t (place_of node) label;
       taken = slice_index t.taken (place_of node + label);
       cut = slice_index t.cut (place_of node + label);
     }
     else record { ran = 0; taken = 0; cut = 0 }
+
+-- a node and all counts
+pub record NodeTally : Type 0 where
+  pub tally : Tally
+  pub node : Entry
+
+-- a node whose counts begin at this place was read up to a label, whose instruction ran so often
+pub record IsReading (t : Tally) (node : Entry) (place label ran : ℕ) : Type 0 where
+  pub own : IsOneOfEight node → place ≡ place_of node
+  pub within : place + 1024 ≤ 16384
+  pub ran_is : ran ≡ ran_at t place label
 
 -- ---- the effect of an event
 
 abbrev pub one_more : ℕ → List ℕ → List ℕ
 one_more k numbers = slice_set numbers k (wrapped (slice_index numbers k + 1))
 
+-- a step that only goes on changes nothing
 abbrev pub with_way : Way → ℕ → Tally → Tally
-with_way On k t = t
-with_way (To to) k t = record t { taken = one_more k t.taken }
-with_way Out k t = t
-with_way Cut k t = record t { cut = one_more k t.cut }
+with_way On label t = t
+with_way (To to) label t = record t { came = one_more (t.place + to % 1024) t.came; taken = one_more (t.place + label) t.taken }
+with_way Out label t = record t { ended = one_more (t.place + label) t.ended }
+with_way Cut label t = record t { cut = one_more (t.place + label) t.cut }
 
 abbrev pub counted : Event → Tally → Tally
-counted (Began node s) t = record t { place = place_of node }
-counted (Ran label way s) t = with_way way (t.place + label) (record t { ran = one_more (t.place + label) t.ran })
+counted (Began node s) t = record t { came = one_more (place_of node) t.came; place = place_of node }
+counted (Ran label way s) t = with_way way label t
+
+-- its node's number is below 8; its label is below 1,024
+abbrev pub IsWithin : Event → Type 0
+IsWithin (Began node s) = IsOneOfEight node
+IsWithin (Ran label way s) = label < 1024
+
+-- each event changes the counts as it is counted
+abbrev pub counts_see : Tally → Event → Tally → Type 0
+counts_see t e t' = IsWithin e × (t' ≡ counted e t)
 
 -- ---- the steps that are counted
 
@@ -95,18 +137,72 @@ steps_at test k place [] = 0
 steps_at test k place (Began node s ∷ events) = steps_at test k (place_of node) events
 steps_at test k place (Ran label way s ∷ events) = (if (place + label == k) && test way then 1 else 0) + steps_at test k place events
 
--- a list of counts, after these events: each is its old value plus one for each of its steps
-abbrev pub GrewBy : (Way → Bool) → ℕ → List Event → List ℕ → List ℕ → Type 0
-GrewBy test place events old new =
-    (k : ℕ) → k < length old → slice_index new k ≡ wrapped (slice_index old k + steps_at test k place events)
+-- the counts at a label of a node, before and after these events: each grew by one for each of its steps
+pub record Grew (node : Entry) (label place : ℕ) (events : List Event) (before after : StepCounts) : Type 0 where
+  pub ran : after.ran ≡ wrapped (before.ran + steps_at any_way (place_of node + label) place events)
+  pub taken : after.taken ≡ wrapped (before.taken + steps_at is_jump (place_of node + label) place events)
+  pub cut : after.cut ≡ wrapped (before.cut + steps_at is_cut (place_of node + label) place events)
+
+-- ---- node runs
+
+-- where control is after a step of the instruction at a label, if the node run is not over
+abbrev pub after_step : ℕ → Way → Option ℕ
+after_step label On = Some (label + 1)
+after_step label (To to) = Some to
+after_step label Out = None
+after_step label Cut = None
+
+-- These events are node runs, one after the other, each of them whole: it begins, its first step is at label 0, each further one where the step before
+-- led, and its last one ends or cuts it. Control is at this label of a node run before them, or in none.
+abbrev pub FollowFrom : Option ℕ → List Event → Type 0
+FollowFrom None [] = ⊤
+FollowFrom None (Began node s ∷ events) = FollowFrom (Some 0) events
+FollowFrom None (Ran at way s ∷ events) = ⊥
+FollowFrom (Some label) [] = ⊥
+FollowFrom (Some label) (Began node s ∷ events) = ⊥
+FollowFrom (Some label) (Ran at way s ∷ events) = (at ≡ label) × FollowFrom (after_step label way) events
+
+abbrev pub AreRuns : List Event → Type 0
+AreRuns events = FollowFrom None events
+
+-- ---- laws
 
 -- numbers of 64 bits
 abbrev pub AreNumbers : List ℕ → Type 0
 AreNumbers numbers = (k : ℕ) → k < length numbers → slice_index numbers k < 2 ^ 64
 
--- each number counts its steps
+-- counts of 64 bits, one for each label
+pub record IsTally (t : Tally) : Type 0 where
+  pub room : HasRoom t.came t.taken t.ended t.cut t.place
+  pub came : AreNumbers t.came
+  pub taken : AreNumbers t.taken
+  pub ended : AreNumbers t.ended
+  pub cut : AreNumbers t.cut
+
+-- all counts of all nodes grew by the steps that they count
+abbrev pub AllGrew : List Event → Tally → Tally → Type 0
+AllGrew events t t' =
+    (node : Entry) (label : ℕ) → IsOneOfEight node → label < 1024 → Grew node label t.place events (step_counts t node label) (step_counts t' node label)
+
+-- whole node runs are counted: each number grows by its steps
 abbrev pub CountsSteps : Type 0
 CountsSteps =
-    (t t' : Tally) (events : List Event) → SeesAll (λ (v : Tally) (e : Event) (v' : Tally). v' ≡ counted e v) t events t' →
-    AreNumbers t.ran → AreNumbers t.taken → AreNumbers t.cut →
-    GrewBy any_way t.place events t.ran t'.ran × GrewBy is_jump t.place events t.taken t'.taken × GrewBy is_cut t.place events t.cut t'.cut
+    (t t' : Tally) (events : List Event) → IsTally t → AreRuns events → SeesAll counts_see t events t' → IsTally t' × AllGrew events t t'
+
+-- counts that begin are 0 at each label
+abbrev pub BeginsAtZero : Type 0
+BeginsAtZero =
+    (t : Tally) → HasNone t → (node : Entry) (label : ℕ) → step_counts t node label ≡ record { ran = 0; taken = 0; cut = 0 }
+
+-- what a watcher is shown of a turn is whole node runs
+abbrev pub TurnsAreRuns : Type 0
+TurnsAreRuns =
+    (c : Setting) (nodes : Nodes) (port : ℕ) (bytes : List ℕ) (w : World) (outcome : Outcome) (runs : ℕ) (answers : List Bool) (w' : World)
+    (events : List Event) → ShowsTurn c nodes port bytes w outcome runs answers w' events → AreRuns events
+
+-- a turn that is shown is counted: each number grows by its steps in the turn
+abbrev pub CountsTurns : Type 0
+CountsTurns =
+    (t t' : Tally) (c : Setting) (nodes : Nodes) (port : ℕ) (bytes : List ℕ) (w : World) (outcome : Outcome) (runs : ℕ) (w' : World) → IsTally t
+    → WatchesTurn counts_see t t' c nodes port bytes w outcome runs w'
+    → (answers : List Bool) × (events : List Event) × ShowsTurn c nodes port bytes w outcome runs answers w' events × IsTally t' × AllGrew events t t'

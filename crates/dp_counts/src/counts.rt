@@ -2,9 +2,10 @@
 ghost use Rattle.std.specs.Prelude.{◌≡◌, ◌+◌, ◌*◌, ◌<◌, ◌≤◌, ◌↔◌, length, slice_index, IfOk, IsTrue};
 ghost use Rattle.dp_lang.specs.declared.program.TheConstants.{MAX_INSTRS};
 ghost use Rattle.dp_engine.specs.Watching.{IsOneOfEight};
-ghost use Rattle.dp_counts.specs.Counting.{place_of, one_more, step_counts, AreZero, HasNone};
+ghost use Rattle.dp_counts.specs.Counting.{place_of, one_more, on_from, ran_at, step_counts, AreZero, HasNone};
 
-use crate::levels::Levels;
+use crate::levels::{Gauge, Levels};
+use crate::node_counts::NodeCounts;
 use dp_engine::{View, Watch, Way};
 use dp_lang::MAX_INSTRS;
 use dp_model::Entry;
@@ -20,15 +21,22 @@ const ALL_LABELS: usize = 2 * MAX_OF_A_KIND * MAX_INSTRS;
 /// Counts node runs: for each instruction of each node how often it ran, how often its jump was taken, and how often a node run was
 /// cut there. The numbers have 64 bits and wrap at 2^64, which no run of captures reaches.
 ///
-/// An event updates one number or two. Only [`Counts::new`] allocates.
+/// A step that only goes on to the next instruction costs nothing: how often an instruction ran is a sum over the labels up to its own, which is
+/// made when it is read. A jump that is taken updates two numbers; the beginning of a node run, its end and a cut one each. Only [`Counts::new`]
+/// allocates.
 #[derive(Drop)]
 pub struct Counts {
-    ran: Vec<u64>,
+    // How often control came to each label, at the beginning of a node run or by a jump.
+    came: Vec<u64>,
+    // How often its jump was taken.
     taken: Vec<u64>,
+    // How often a node run ended there.
+    ended: Vec<u64>,
+    // How often one was cut there.
     cut: Vec<u64>,
     // Where the counts of the running node begin.
     place: usize,
-    levels: Levels,
+    gauge: Gauge,
 }
 
 impl Model for Counts {
@@ -36,13 +44,14 @@ impl Model for Counts {
 
     ghost Value = { Tally };
 
-    ghost view = { λ c. record { ran = c.ran.items; taken = c.taken.items; cut = c.cut.items; place = c.place } };
+    ghost view = { λ c. record { came = c.came.items; taken = c.taken.items; ended = c.ended.items; cut = c.cut.items; place = c.place } };
 
-    ghost invariant = { λ c. HasRoom c.ran.items c.taken.items c.cut.items c.place };
+    ghost invariant = { λ c. HasRoom c.came.items c.taken.items c.ended.items c.cut.items c.place };
 }
 
 // Where the counts of a node begin: those of the ports come first, then those of the rings.
-fn place_of(node: Entry) -> usize
+#[inline(always)]
+pub(crate) fn place_of(node: Entry) -> usize
     requires { IsOneOfEight node }
     ensures value { result ≡ place_of node }
     ensures bound { result + MAX_INSTRS ≤ 16 * MAX_INSTRS }
@@ -83,7 +92,7 @@ pub struct StepCounts {
 }
 
 // Whether its number is below eight, the most ports and rings.
-fn is_one_of_eight(node: Entry) -> bool
+pub(crate) fn is_one_of_eight(node: Entry) -> bool
     ensures { IsTrue result ↔ IsOneOfEight node }
 {
     match node {
@@ -96,50 +105,49 @@ impl Counts {
     ///
     /// # Errors
     ///
-    /// If the memory for the counts is refused, 384 kB.
+    /// If the memory for the counts is refused, 512 kB.
     pub fn new(alloc: Global) -> Result<Counts, AllocError>
         ensures { IfOk result HasNone }
     {
         Ok(Counts {
-            ran: zeros(alloc, ALL_LABELS)?,
+            came: zeros(alloc, ALL_LABELS)?,
             taken: zeros(alloc, ALL_LABELS)?,
+            ended: zeros(alloc, ALL_LABELS)?,
             cut: zeros(alloc, ALL_LABELS)?,
             place: 0,
-            levels: Levels::NONE,
+            gauge: Gauge::NEW,
         })
     }
 
-    /// The counts at a label of a node: zeros if there is no such node or label.
+    /// The counts of a node, to be read label by label.
+    pub fn node(&self, node: Entry) -> NodeCounts<'_>
+        ensures { result ≡ record { tally = self.now; node = node } }
+    {
+        NodeCounts::of(self, node)
+    }
+
+    /// The counts at a label of a node: zeros if there is no such node or label. It takes a sum over the labels up to this one; [`Counts::node`] is
+    /// faster for many labels of a node.
     pub fn step(&self, node: Entry, label: usize) -> StepCounts
         ensures { result ≡ step_counts self.now node label }
     {
-        if label >= MAX_INSTRS || !is_one_of_eight(node) {
-            return StepCounts {
-                ran: 0,
-                taken: 0,
-                cut: 0,
-            };
-        }
-        let k = place_of(node) + label;
-        StepCounts {
-            ran: self.ran[k],
-            taken: self.taken[k],
-            cut: self.cut[k],
-        }
+        let mut reader = self.node(node);
+        reader.step(label)
     }
 
     /// How full the rings were, and how few buffers were free. This is tested, not proved.
     pub fn levels(&self) -> Levels {
-        self.levels
+        self.gauge.levels()
     }
 
     /// How often the instruction at a label of a node ran.
     pub fn ran(&self, node: Entry, label: u16) -> u64
         requires node { IsOneOfEight node }
         requires label { label < MAX_INSTRS }
-        ensures { result ≡ slice_index self.now.ran (place_of node + label) }
+        ensures { result ≡ ran_at self.now (place_of node) label }
     {
-        self.ran[place_of(node) + usize::from(label)]
+        let place = place_of(node);
+        self.ran_from(place, 0, usize::from(label), self.came(place))
     }
 
     /// How often the jump of the instruction at a label of a node was taken.
@@ -159,32 +167,84 @@ impl Counts {
     {
         self.cut[place_of(node) + usize::from(label)]
     }
+
+    // How often control came to the label with this index.
+    pub(crate) fn came(&self, k: usize) -> u64
+        requires { k < 16 * MAX_INSTRS }
+        ensures { result ≡ slice_index self.now.came k }
+    {
+        self.came[k]
+    }
+
+    // The counts at the label with this index, where its instruction ran so often.
+    pub(crate) fn step_at(&self, k: usize, ran: u64) -> StepCounts
+        requires { k < 16 * MAX_INSTRS }
+        ensures { result ≡ record { ran = ran; taken = slice_index self.now.taken k; cut = slice_index self.now.cut k } }
+    {
+        StepCounts {
+            ran,
+            taken: self.taken[k],
+            cut: self.cut[k],
+        }
+    }
+
+    // Where the instruction with this index ran so often, how often control went on from it to the next one.
+    fn on_from(&self, k: usize, ran: u64) -> u64
+        requires { k < 16 * MAX_INSTRS }
+        ensures { result ≡ on_from self.now k ran }
+    {
+        ran.wrapping_sub(self.taken[k])
+            .wrapping_sub(self.ended[k])
+            .wrapping_sub(self.cut[k])
+    }
+
+    // How often the instruction at the label `to` ran, of the node whose counts begin at this place, where that at the label `from` ran so often.
+    pub(crate) fn ran_from(&self, place: usize, from: usize, to: usize, ran: u64) -> u64
+        requires place { place + MAX_INSTRS ≤ 16 * MAX_INSTRS }
+        requires order { from ≤ to }
+        requires label { to < MAX_INSTRS }
+        requires ran { ran ≡ ran_at self.now place from }
+        ensures { result ≡ ran_at self.now place to }
+    {
+        let mut now = ran;
+        for label in from..to {
+            let k = place + label;
+            now = self.on_from(k, now).wrapping_add(self.came[k + 1]);
+        }
+        now
+    }
 }
 
 impl Watch for Counts {
-    ghost use Rattle.std.specs.Prelude.{◌≡◌};
-    ghost use Rattle.dp_counts.specs.Counting.{counted};
+    ghost use Rattle.dp_counts.specs.Counting.{counts_see};
 
-    ghost sees = { λ t e t'. t' ≡ counted e t };
+    ghost sees = { counts_see };
 
     #[inline(always)]
     fn begin(&mut self, node: Entry, view: View<'_>) {
-        self.place = place_of(node);
-        self.levels.note_begin(&view);
+        let place = place_of(node);
+        self.place = place;
+        count(&mut self.came, place);
+        self.gauge.note_begin(node, &view);
     }
 
     #[inline(always)]
     fn see(&mut self, label: u16, way: Way, view: View<'_>) {
         let k = self.place + usize::from(label);
-        count(&mut self.ran, k);
         match way {
-            Way::To(_) => count(&mut self.taken, k),
+            Way::On => {}
+            Way::To(to) => {
+                count(&mut self.came, self.place + usize::from(to) % MAX_INSTRS);
+                count(&mut self.taken, k);
+            }
+            Way::Out => {
+                count(&mut self.ended, k);
+                self.gauge.note_end(&view);
+            }
             Way::Cut => {
                 count(&mut self.cut, k);
-                self.levels.note_end(&view);
+                self.gauge.note_end(&view);
             }
-            Way::Out => self.levels.note_end(&view),
-            Way::On => {}
         }
     }
 }

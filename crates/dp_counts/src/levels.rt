@@ -1,6 +1,7 @@
 //! How full rings and how empty pools were.
 
 use dp_engine::View;
+use dp_model::Entry;
 
 /// How full rings were at the ends of node runs, and how many buffers were free at their beginnings and ends.
 #[derive(Clone, Copy, Debug, PartialEq, Eq)]
@@ -18,10 +19,18 @@ impl Levels {
         free: [u32::MAX; 8],
     };
 
-    /// Looks how many buffers are free at the beginning of a node run.
+    // Looks how many buffers of the first pool are free.
+    #[inline(always)]
+    fn note_first_pool(&mut self, view: &View<'_>) {
+        if let Some(free) = view.free(0) {
+            self.free[0] = free.min(self.free[0]);
+        }
+    }
+
+    // Looks how many buffers of the other pools are free.
     #[inline(never)]
-    pub(crate) fn note_begin(&mut self, view: &View<'_>) {
-        for k in 0..8u8 {
+    fn note_other_pools(&mut self, view: &View<'_>) {
+        for k in 1..8u8 {
             let Some(free) = view.free(u32::from(k)) else {
                 return;
             };
@@ -30,17 +39,76 @@ impl Levels {
         }
     }
 
-    /// Looks how full rings are at the end of a node run, and how many buffers are free. Within a node run a ring gives up nothing, so it is
-    /// fullest at the end.
+    // Looks how full the rings are.
     #[inline(never)]
-    pub(crate) fn note_end(&mut self, view: &View<'_>) {
-        self.note_begin(view);
+    fn note_rings(&mut self, view: &View<'_>) {
         for k in 0..8u8 {
             let Some(waiting) = view.waiting(k) else {
                 return;
             };
             let most = &mut self.waited[usize::from(k)];
             *most = waiting.max(*most);
+        }
+    }
+}
+
+/// What no number of allocation calls is.
+const NEVER: u64 = u64::MAX;
+
+/// Notes levels, and looks only where they can have changed: a pool has fewer free buffers only after an allocation call, and within a node run a
+/// ring gives up nothing, so it is fullest at the end.
+#[derive(Clone, Copy)]
+pub(crate) struct Gauge {
+    levels: Levels,
+    // How many allocation calls there were when the pools were last looked at.
+    calls: u64,
+}
+
+impl Gauge {
+    /// Nothing was seen yet.
+    pub(crate) const NEW: Gauge = Gauge {
+        levels: Levels::NONE,
+        calls: NEVER,
+    };
+
+    /// The levels so far.
+    pub(crate) fn levels(&self) -> Levels {
+        self.levels
+    }
+
+    // Looks how many buffers are free.
+    #[inline(always)]
+    fn note_pools(&mut self, view: &View<'_>) {
+        self.calls = view.calls();
+        self.levels.note_first_pool(view);
+        if view.free(1).is_some() {
+            self.levels.note_other_pools(view);
+        }
+    }
+
+    // Looks how many buffers are free, if there was an allocation call since it last looked.
+    #[inline(always)]
+    fn note_pools_after_calls(&mut self, view: &View<'_>) {
+        if view.calls() != self.calls {
+            self.note_pools(view);
+        }
+    }
+
+    /// Looks at the beginning of a node run of this node: there is a call for the record of a port.
+    #[inline(always)]
+    pub(crate) fn note_begin(&mut self, node: Entry, view: &View<'_>) {
+        match node {
+            Entry::Port(_) => self.note_pools(view),
+            Entry::Ring(_) => self.note_pools_after_calls(view),
+        }
+    }
+
+    /// Looks at the end of a node run.
+    #[inline(always)]
+    pub(crate) fn note_end(&mut self, view: &View<'_>) {
+        self.note_pools_after_calls(view);
+        if view.waiting(0).is_some() {
+            self.levels.note_rings(view);
         }
     }
 }

@@ -1,22 +1,26 @@
 //! Counts node runs: for each instruction of each node, how often it ran, how often its jump was taken, and how often a node run was cut there.
 //!
-//! A caller makes `Counts` and gives them to `run_watched` of dp_pipe, or to an engine's `watched_turn`, as the watcher. An event
-//! updates one number or two and takes no memory. After the run, `print_programs` prints the programs in the words of their source with
-//! their counts, and `print_tables` and `print_rings` the sums for each table and ring.
+//! A caller makes `Counts` and gives them to `run_watched` of dp_pipe, or to an engine's `watched_turn`, as the watcher. A step that only goes
+//! on costs nothing: control comes to a label from the one before, unless an event says otherwise, so the beginnings of node runs, the jumps
+//! that are taken, the ends and the cuts are counted, and how often an instruction ran is their sum up to its label. An event takes no memory.
+//! After the run, `print_programs` prints the programs in the words of their source with their counts, and `print_tables` and `print_rings`
+//! the sums for each table and ring.
 #![tactic(auto)]
 
 mod counts;
 mod laws;
 mod levels;
 mod listing;
+mod node_counts;
 mod source;
 mod sums;
 mod totals;
 
 pub use counts::{Counts, StepCounts};
-pub use laws::counts_are_of_steps;
+pub use laws::{counts_are_of_steps, counts_are_of_turns, counts_begin_at_zero, turns_are_runs};
 pub use levels::Levels;
 pub use listing::print_programs;
+pub use node_counts::NodeCounts;
 pub use source::{NodeSource, Role, SourceLine, Step, lines_of};
 pub use sums::{Total, total_of};
 pub use totals::{print_pools, print_rings, print_tables};

@@ -5,6 +5,7 @@ ghost use Rattle.dp_counts.specs.Sources.{view_line};
 ghost use Rattle.dp_counts.specs.Listings as spec;
 
 use crate::counts::{Counts, StepCounts};
+use crate::node_counts::NodeCounts;
 use crate::source::{NodeSource, Role, SourceLine};
 use dp_model::Entry;
 use std::io::{self, Write};
@@ -86,15 +87,16 @@ fn print_other<O: Write>(text: &[u8], out: &mut O) -> io::Result<()>
 
 // Prints a line of a program.
 fn print_line<O: Write>(
-    counts: &Counts,
-    node: Entry,
+    counts: &mut NodeCounts<'_>,
     line: SourceLine<'_>,
     out: &mut O,
 ) -> io::Result<()>
-    ensures { OnOk result (Appends (O.contents out.old) (O.contents out.new) (spec.line_text counts.now node (view_line line.entry))) }
+    ensures printed { OnOk result (Appends (O.contents out.old) (O.contents out.new)
+        (spec.line_text counts.old.tally counts.old.node (view_line line.entry))) }
+    ensures same { counts.new ≡ counts.old }
 {
     match line.step {
-        Some(step) => print_step(step.role, counts.step(node, step.label), line.text, out),
+        Some(step) => print_step(step.role, counts.step(step.label), line.text, out),
         None => print_other(line.text, out),
     }
 }
@@ -108,8 +110,9 @@ fn print_lines<O: Write>(
 ) -> io::Result<()>
     ensures { OnOk result (Appends (O.contents out.old) (O.contents out.new) (spec.lines_text counts.now node lines.now)) }
 {
+    let mut reader = counts.node(node);
     for line in lines {
-        print_line(counts, node, *line, out)?;
+        print_line(&mut reader, *line, out)?;
     }
     Ok(())
 }

@@ -4,8 +4,8 @@ ghost use Rattle.dp_counts.specs.Sources.{view_line};
 ghost use Rattle.dp_counts.specs.Sums as spec;
 
 use crate::counts::{Counts, StepCounts};
+use crate::node_counts::NodeCounts;
 use crate::source::{NodeSource, Role, SourceLine};
-use dp_model::Entry;
 
 /// A sum over instructions of several programs.
 #[derive(Clone, Copy, Debug, PartialEq, Eq)]
@@ -48,11 +48,12 @@ fn share(total: Total, role: Role, counts: StepCounts) -> u64
 }
 
 // What a line adds.
-fn share_of_line(counts: &Counts, total: Total, node: Entry, line: SourceLine<'_>) -> u64
-    ensures { result ≡ spec.share_of_line counts.now total node (view_line line.entry) }
+fn share_of_line(counts: &mut NodeCounts<'_>, total: Total, line: SourceLine<'_>) -> u64
+    ensures value { result ≡ spec.share_of_line counts.old.tally total counts.old.node (view_line line.entry) }
+    ensures same { counts.new ≡ counts.old }
 {
     match line.step {
-        Some(step) => share(total, step.role, counts.step(node, step.label)),
+        Some(step) => share(total, step.role, counts.step(step.label)),
         None => 0,
     }
 }
@@ -61,9 +62,10 @@ fn share_of_line(counts: &Counts, total: Total, node: Entry, line: SourceLine<'_
 fn share_of_node(counts: &Counts, total: Total, source: &NodeSource<'_>) -> u64
     ensures { result ≡ spec.share_of_node counts.now total source.now }
 {
+    let mut reader = counts.node(source.node);
     let mut sum = 0u64;
     for line in source.lines.as_slice() {
-        sum = sum.wrapping_add(share_of_line(counts, total, source.node, *line));
+        sum = sum.wrapping_add(share_of_line(&mut reader, total, *line));
     }
     sum
 }

@@ -7,4 +7,6 @@ use Rattle.dp_counts.specs.Sums.{share_of_line}
 use Rattle.dp_counts.proofs.sums.share_of_node.Given as goal
 
 abbrev pub invariant-loop-line : goal.invariant-loop-line
-invariant-loop-line l = l.sum ≡ wrapped (sum_by (λ x. share_of_line l.counts l.total l.source.node (view_line x)) (take l.line-index l.source.lines.items))
+invariant-loop-line l =
+    (l.reader ≡ record { tally = l.counts; node = l.source.node })
+    × (l.sum ≡ wrapped (sum_by (λ x. share_of_line l.counts l.total l.source.node (view_line x)) (take l.line-index l.source.lines.items)))
