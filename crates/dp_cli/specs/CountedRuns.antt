@@ -2,16 +2,12 @@
 use Rattle.std.specs.Prelude.{◌≡◌, ℕ, List, Option, None, Some, ⊤}
 use Rattle.dp_engine.specs.Watching.{Event}
 use Rattle.dp_engine.specs.declared.watch.Silent.{Silent}
-use Rattle.dp_counts.specs.Counting.{Tally, counted}
+use Rattle.dp_counts.specs.Counting.{counts_see}
 use Rattle.dp_pipe.specs.Devices.{Device}
 use Rattle.dp_pipe.specs.Pipelines.{Plan}
 use Rattle.dp_cli.specs.declared.counting.Counting.{Counting}
 use Rattle.dp_cli.specs.declared.run.closing.Settled.{Settled}
 use Rattle.dp_cli.specs.Run.{IsRun}
-
--- each event changes the counts as it is counted
-abbrev pub counts_see : Tally → Event → Tally → Type 0
-counts_see t e t' = t' ≡ counted e t
 
 -- a run that nothing watches
 abbrev pub IsUnwatched : Plan → List ℕ → List Device → List Device → List Device → List (Option (List ℕ)) → Settled → Type 0

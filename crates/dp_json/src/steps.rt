@@ -8,7 +8,7 @@ ghost use Rattle.dp_json.specs.Instructions as spec;
 
 use crate::numbers::number;
 use crate::texts::{code_of, comment, text};
-use dp_counts::{Counts, Role, SourceLine, Step, StepCounts};
+use dp_counts::{Counts, NodeCounts, Role, SourceLine, Step, StepCounts};
 use dp_model::Entry;
 use serde_json::{Value, json};
 use std::alloc::{AllocError, Global};
@@ -65,17 +65,18 @@ fn instruction(
 /// Adds the instruction of a line, if it has one.
 fn push_line(
     alloc: Global,
-    counts: &Counts,
-    node: Entry,
+    counts: &mut NodeCounts<'_>,
     line: SourceLine<'_>,
     values: &mut Vec<Value>,
 ) -> Result<(), AllocError>
-    ensures { OnOk result (map view values.new.items ≡ map view values.old.items ++ spec.instruction_in counts.now node (view_line line.entry)) }
+    ensures added { OnOk result (map view values.new.items
+        ≡ map view values.old.items ++ spec.instruction_in counts.old.tally counts.old.node (view_line line.entry)) }
+    ensures same { counts.new ≡ counts.old }
 {
     let Some(step) = line.step else {
         return Ok(());
     };
-    let value = instruction(alloc, step, counts.step(node, step.label), line.text)?;
+    let value = instruction(alloc, step, counts.step(step.label), line.text)?;
     values.push(value)?;
     Ok(())
 }
@@ -89,9 +90,10 @@ pub fn instructions(
 ) -> Result<Value, AllocError>
     ensures { IfOk result (λ v. view v ≡ array (items_of (spec.instructions_data counts.now node lines.now))) }
 {
+    let mut reader = counts.node(node);
     let mut values = Vec::new(alloc);
     for line in lines {
-        push_line(alloc, counts, node, *line, &mut values)?;
+        push_line(alloc, &mut reader, *line, &mut values)?;
     }
     Ok(Value::Array(values))
 }
