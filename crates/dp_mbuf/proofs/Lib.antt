@@ -23,4 +23,5 @@ pub mod Filling
 pub mod Receiving
 pub mod Owned
 pub mod Hooking
+pub mod Both
 pub mod Parting

@@ -55,7 +55,7 @@ grown_direct ps ps1 ps' hand slots n x o l w t done segs one fits =
 
 -- ---- a packet of one segment
 
-small_header : (h : Header) → h.segs < 65536 → h.refs < 4294967296 → h.offset < 65536 → h.len < 65536 → (h.next.pool < 65536) × (h.next.index < 65536) →
+pub small_header : (h : Header) → h.segs < 65536 → h.refs < 4294967296 → h.offset < 65536 → h.len < 65536 → (h.next.pool < 65536) × (h.next.index < 65536) →
     (h.last.pool < 65536) × (h.last.index < 65536) → (h.buffer.pool < 65536) × (h.buffer.index < 65536) → Small (header_bytes h)
 small_header h a b c d e f g =
     let l0 : List ℕ = then_word h.buffer.index [] in

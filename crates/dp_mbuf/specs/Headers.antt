@@ -39,3 +39,7 @@ header_bytes h =
     then_word h.segs (then_word (h.refs % WORDS) (then_word (h.refs / WORDS)
     (then_word h.offset (then_word h.len (then_word h.next.pool (then_word h.next.index
     (then_word h.last.pool (then_word h.last.index (then_word h.buffer.pool (then_word h.buffer.index []))))))))))
+
+-- an object with a header's bytes over its first ones, and then other bytes from an offset on
+abbrev pub with_both : List ℕ → List ℕ → ℕ → List ℕ → List ℕ
+with_both object header at bytes = overwritten (overwritten object 0 header) at bytes

@@ -130,6 +130,12 @@ pub record RoomWritten (pools : List PoolView) (n : Number) (at : ℕ) (bytes : 
   pub ins : (k : ℕ) → count_in pools' k ≡ count_in pools k
   pub headers : (m : Number) → header_at pools' m ≡ header_at pools m
 
+-- the header of n becomes h, and bytes are written into its data room from an offset on
+pub record BothWritten (pools : List PoolView) (n : Number) (h : Header) (at : ℕ) (bytes : List ℕ) (pools' : List PoolView) : Type 0 where
+  pub middle : List PoolView
+  pub header : HeaderSet pools n h middle
+  pub bytes_in : RoomWritten middle n at bytes pools'
+
 -- no packet begins at any object any more
 pub record Unhooked (pools pools' : List PoolView) : Type 0 where
   pub are : ArePools pools'

@@ -2,7 +2,7 @@
 
 ghost use Rattle.std.specs.Prelude.{◌≡◌, ◌<◌, ◌≤◌, ◌+◌, ◌/◌, ◌%◌, [], length};
 ghost use Rattle.dp_model.specs.Buffers.{same_number, overwritten};
-ghost use Rattle.dp_mbuf.specs.Headers.{header_of, word, then_word, with_hook, header_bytes};
+ghost use Rattle.dp_mbuf.specs.Headers.{header_of, word, then_word, with_both, with_hook, header_bytes};
 
 use crate::limits::{BUFFER, FIELDS_SIZE, HEADER_SIZE, LAST, LEN, NEXT, OFFSET, REFS, SEGS, WORDS};
 use byteorder::{ByteOrder, LittleEndian};
@@ -145,6 +145,26 @@ pub(crate) fn write_hook(object: &mut [u8], segs: u16, last: MbufNumber)
 {
     write_word(object, SEGS, segs);
     write_words(object, LAST, last.pool(), last.index());
+}
+
+// Writes bytes over those from `at` on.
+#[inline(always)]
+fn write_bytes(object: &mut [u8], at: usize, bytes: &[u8])
+    requires { at + length bytes.now ≤ length object.old }
+    ensures { object.new ≡ overwritten object.old at bytes.now }
+{
+    object[at..at + bytes.len()].copy_from_slice(bytes);
+}
+
+/// Writes the bytes of a header into an object, and then bytes from `at` on.
+#[inline(always)]
+pub(crate) fn write_both(object: &mut [u8], header: &[u8], at: usize, bytes: &[u8])
+    requires header { length header.now ≤ length object.old }
+    requires fits { at + length bytes.now ≤ length object.old }
+    ensures { object.new ≡ with_both object.old header.now at bytes.now }
+{
+    write_bytes(object, 0, header);
+    write_bytes(object, at, bytes);
 }
 
 /// The four bytes of a count of references, little-endian.

@@ -485,12 +485,12 @@ impl Mbufs {
         ensures packets { ReceivesInto self.old.store pool bytes.now self.new.store result }
         ensures zones { self.new.zones ≡ self.old.zones }
     {
-        let full = self.objects.room(pool as u16) - HEADROOM;
-        if self.objects.available(pool as u16) == 0 {
-            return None;
-        }
-        let first = fill_segment(&mut self.objects, pool as u16, full, bytes);
-        hook(&mut self.objects, first, 1, first);
+        let first = self.objects.take(pool as u16)?;
+        let header = Header {
+            segs: 1,
+            ..fresh_header(first, HEADROOM, bytes.len() as u16)
+        };
+        self.objects.fill(first, header, u32::from(HEADROOM), bytes);
         Some(packet_of(first))
     }
 

@@ -7,15 +7,15 @@ ghost use Rattle.dp_model.specs.Arithmetic.{bytes_in, big_endian};
 ghost use Rattle.dp_model.specs.Buffers.{bytes_of};
 ghost use Rattle.dp_model.specs.Environments.{room_at};
 ghost use Rattle.dp_pool.specs.Pools.{object_in, with_object, with_written, put_back};
-ghost use Rattle.dp_mbuf.specs.Headers.{then_word, with_hook};
+ghost use Rattle.dp_mbuf.specs.Headers.{then_word, with_both, with_hook};
 ghost use Rattle.dp_mbuf.specs.Objects.{present, pool_in, header_at, header_with, is_out, count_in, specs_of, buffers_of, HasObject, HasRooms, HeadersFirst};
 ghost use Rattle.dp_mbuf.specs.Objects.{PoolsFirst, objects_in_all, HeaderSet, RoomWritten, Taken, Given, SlotHas, SlotFits, SlotIsOut};
-ghost use Rattle.dp_mbuf.specs.Objects.{SlotBecomes, SlotGives, slot_count, slot_whole, AreAllIn, Unhooked, UnhookedTo, SlotUnhooked};
+ghost use Rattle.dp_mbuf.specs.Objects.{SlotBecomes, SlotGives, slot_count, slot_whole, AreAllIn, BothWritten, Unhooked, UnhookedTo, SlotUnhooked};
 
 use crate::big_endian::write_number;
 use crate::header::{
-    Header, MbufNumber, bytes_of_header, bytes_of_refs, bytes_of_word, read_header, write_hook,
-    write_words,
+    Header, MbufNumber, bytes_of_header, bytes_of_refs, bytes_of_word, read_header, write_both,
+    write_hook, write_words,
 };
 use crate::limits::{HEADER_SIZE, MAX_MBUFS, MAX_POOLS, NEXT, OFFSET, REFS, SEGS, WORDS};
 use dp_model::Width;
@@ -85,6 +85,19 @@ fn write_hook_in(slot: &mut Option<Pool>, index: u16, segs: u16, last: MbufNumbe
 {
     if let Some(pool) = slot {
         write_hook(pool.object_mut(u32::from(index)), segs, last);
+    }
+}
+
+// Writes a header and bytes after it into an object of a slot's pool, which is looked up once.
+#[inline(always)]
+fn write_both_in(slot: &mut Option<Pool>, index: u16, header: &[u8], at: usize, bytes: &[u8])
+    requires fits { SlotFits slot.old index (at + length bytes.now) }
+    requires header { length header.now ≤ HEADER_SIZE }
+    ensures becomes { SlotBecomes (λ p. with_object p index (with_both (object_in p index) header.now at bytes.now)) slot.old slot.new }
+    ensures small { ((k : ℕ) → slice_index header.now k < 256) × ((k : ℕ) → slice_index bytes.now k < 256) }
+{
+    if let Some(pool) = slot {
+        write_both(pool.object_mut(u32::from(index)), header, at, bytes);
     }
 }
 
@@ -369,6 +382,19 @@ impl Objects {
             HEADER_SIZE + at,
             bytes,
         );
+    }
+
+    /// Writes a header, and bytes into the data room from an offset on.
+    #[inline(always)]
+    pub fn fill(&mut self, n: MbufNumber, h: Header, at: u32, bytes: &[u8])
+        requires object { HasObject self.old n }
+        requires fits { at + length bytes.now ≤ room_at (specs_of self.old) n.pool }
+        ensures both { BothWritten self.old n h at bytes.now self.new }
+        ensures small { (k : ℕ) → slice_index bytes.now k < 256 }
+    {
+        let slot = &mut self.pools[usize::from(n.pool())];
+        let from = HEADER_SIZE as usize + at as usize;
+        write_both_in(slot, n.index(), &bytes_of_header(h), from, bytes);
     }
 
     /// Writes the low bytes of a number into a data room at an offset, big-endian.

@@ -10,11 +10,12 @@ returns-clause-filled c =
     let chunk : take c.min-count.result c.args.bytes.now ≡ take c.args.full c.args.bytes.now =
     ap (λ n. take n c.args.bytes.now) ((rw c.from.ensures at c.min-count.ensures) ∙ same_min (length c.args.bytes.now) c.args.full)
     ∙ take_min c.args.full c.args.bytes.now in
-    subst (λ b. FilledBy c.args.objects.now c.take_one-n.result b c.write.new.self) chunk
+    let both = rw (c.from-2.ensures, c.fresh_header-header.ensures) at c.fill.ensures.both in
+    subst (λ b. FilledBy c.args.objects.now c.take_one-n.result b c.fill.new.self) chunk
     (record {
       first = c.take_one-n.new.objects;
-      second = c.set_header.new.self;
+      second = both.middle;
       taken = c.take_one-n.ensures.taken;
-      header = rw c.fresh_header-header.ensures at c.set_header.ensures;
-      bytes_in = rw c.from-2.ensures at c.write.ensures;
+      header = both.header;
+      bytes_in = both.bytes_in;
     })

@@ -1,5 +1,5 @@
 -- A pool is there where its slot is filled.
-use Rattle.std.proofs.Common.{◌≡◌, ◌<◌, ◌≤◌, refl, Bool, true, false, ap, subst, arith, length}
+use Rattle.std.proofs.Common.{◌≡◌, ◌<◌, refl, true, false, ap, subst, arith, length}
 use Rattle.std.specs.Prelude.{IsTrue}
 use Rattle.dp_mbuf.proofs.ObjectLemmas.{filled_iff, present_below}
 use Rattle.dp_mbuf.proofs.objects.Objects.has_pool.Goals as goal

@@ -1,0 +1,144 @@
+-- A header and bytes after it, both written into one object, and a packet of one segment made so.
+use Rattle.std.proofs.Common.{◌≡◌, ℕ, ◌+◌, ◌-◌, ◌/◌, ◌<◌, ◌≤◌, List, length, take, drop, max, Option, Some, None, refl, sym, ◌∙◌, ap, subst}
+use Rattle.std.proofs.Common.{arith, get_or, set}
+use Rattle.std.proofs.lemmas.List.{get_or-set_same, set-set, take_all}
+use Rattle.dp_model.specs.Environments.{room_at}
+use Rattle.dp_model.specs.Buffers.{Number, written}
+use Rattle.dp_model.specs.Packets.{needed}
+use Rattle.dp_model.specs.Stores.{Store, ReceivesInto}
+use Rattle.dp_pool.specs.Pools.{PoolView, object_in, with_object, with_written}
+use Rattle.dp_mbuf.specs.declared.header.Header.{Header}
+use Rattle.dp_mbuf.specs.Headers.{with_both, header_bytes}
+use Rattle.dp_mbuf.specs.Objects.{present, pool_in, header_at, specs_of, count_in, HasObject, ArePoolSlots, HeaderSet, RoomWritten, Taken}
+use Rattle.dp_mbuf.specs.Objects.{BothWritten, SlotBecomes}
+use Rattle.dp_mbuf.specs.Steps.{FilledBy, direct_header}
+use Rattle.dp_mbuf.specs.Mbufs.{handle, shown, Sound}
+use Rattle.dp_mbuf.proofs.PoolLemmas.{Small}
+use Rattle.dp_mbuf.proofs.ObjectLemmas.{object_pool, object_long, slot_is, room_written, room_is}
+use Rattle.dp_mbuf.proofs.ObjectCalls.{are, listed, front_done, room_done}
+use Rattle.dp_mbuf.proofs.HeaderFields.{header_done, header_set}
+use Rattle.dp_mbuf.proofs.Hooking.{written_again}
+use Rattle.dp_mbuf.proofs.Frames.{number_small}
+use Rattle.dp_mbuf.proofs.InHand.{object_after}
+use Rattle.dp_mbuf.proofs.Taking.{fresh_header, small_header, taken_object}
+use Rattle.dp_mbuf.proofs.Receiving.{Ready, ready, need_is, one_needed, receiving_start, receive_done}
+
+module _ (pools : List (Option PoolView)) (ps : List PoolView) (e : present pools ≡ ps) (inv : ArePoolSlots pools) where
+  -- at the object itself
+  both_here : (n : Number) (h : Header) (header : List ℕ) (at : ℕ) (bytes : List ℕ) (d o : Option PoolView) → header ≡ header_bytes h → Small header
+      → Small bytes → HasObject ps n → 128 + at + length bytes ≤ (pool_in ps n.pool).size
+      → SlotBecomes (λ p. with_object p n.index (with_both (object_in p n.index) header (128 + at) bytes)) (get_or pools n.pool d) o
+      → ArePoolSlots (set pools n.pool o) × BothWritten ps n h at bytes (present (set pools n.pool o))
+  both_here n h header at bytes d o eh small_h small_b object fit b =
+      let there : n.pool < length ps = object_pool ps n object in
+      let below = (listed pools ps e inv n.pool there).0 in
+      let is = slot_is pools ps n.pool d e there in
+      let p : PoolView = pool_in ps n.pool in
+      let q : PoolView = with_written p n.index 0 header in
+      let middle : List (Option PoolView) = set pools n.pool (Some q) in
+      let many = ap length eh in
+      let f = front_done pools ps e inv n n.pool n.index 0 header d (Some q) refl refl small_h object (omega (arith, many))
+      (subst (λ v. SlotBecomes (λ p. with_written p n.index 0 header) v (Some q)) (sym is) refl) in
+      let first : HeaderSet ps n h (present middle) =
+      header_done ps (present middle) n (object_long ps n (are pools ps e inv) object) header h eh f.1 in
+      let object' : HasObject (present middle) n = object_after ps (present middle) n first.specs object in
+      let left : o ≡ Some (with_object p n.index (with_both (object_in p n.index) header (128 + at) bytes)) =
+      subst (λ v. SlotBecomes (λ p. with_object p n.index (with_both (object_in p n.index) header (128 + at) bytes)) v o) is b in
+      let again : o ≡ Some (with_written q n.index (128 + at) bytes) = left ∙ ap Some (written_again p n.index 0 (128 + at) header bytes object) in
+      let same = ap (λ s. room_at s n.pool) first.specs in
+      let fit' : 128 + at + length bytes ≤ (pool_in (present middle) n.pool).size =
+      let long = (first.are.rooms n.pool (object_pool (present middle) n object')).header in
+      omega (arith, fit, long, same, room_is ps n.pool, room_is (present middle) n.pool) in
+      let g = room_done middle (present middle) refl f.0 n n.pool n.index at bytes d o refl refl small_b object' fit'
+      (subst (λ v. SlotBecomes (λ p. with_written p n.index (128 + at) bytes) v o) (sym (get_or-set_same pools n.pool (Some q) d below)) again) in
+      subst (λ l. ArePoolSlots l × BothWritten ps n h at bytes (present l)) (set-set pools n.pool (Some q) o)
+      (g.0, record { middle = present middle; header = first; bytes_in = g.1 })
+
+  pub both_done : (n : Number) (h : Header) (k i from : ℕ) (header : List ℕ) (at : ℕ) (bytes : List ℕ) (d o : Option PoolView) → k ≡ n.pool → i ≡ n.index
+      → from ≡ 128 + at → header ≡ header_bytes h → Small header → Small bytes → HasObject ps n → 128 + at + length bytes ≤ (pool_in ps n.pool).size
+      → SlotBecomes (λ p. with_object p i (with_both (object_in p i) header from bytes)) (get_or pools k d) o
+      → ArePoolSlots (set pools k o) × BothWritten ps n h at bytes (present (set pools k o))
+  both_done n h k i from header at bytes d o ek ei ef eh small_h small_b object fit b =
+      subst (λ j. ArePoolSlots (set pools j o) × BothWritten ps n h at bytes (present (set pools j o))) (sym ek)
+      (both_here n h header at bytes d o eh small_h small_b object fit
+      (subst (λ x. SlotBecomes (λ p. with_object p n.index (with_both (object_in p n.index) header x bytes)) (get_or pools n.pool d) o) ef
+      (subst (λ j. SlotBecomes (λ p. with_object p j (with_both (object_in p j) header from bytes)) (get_or pools n.pool d) o) ei
+      (subst (λ j. SlotBecomes (λ p. with_object p i (with_both (object_in p i) header from bytes)) (get_or pools j d) o) ek b))))
+
+-- ---- a packet of one segment at once
+
+-- the same as a segment filled, and then made a packet's first and last
+pub record Alone (ps : List PoolView) (n : Number) (bytes : List ℕ) (ps' : List PoolView) : Type 0 where
+  pub before : List PoolView
+  pub filled : FilledBy ps n bytes before
+  pub hooked : HeaderSet before n (record (header_at before n) { segs = 1; last = n }) ps'
+
+alone_is : (ps ps1 ps' : List PoolView) (n : Number) (bytes : List ℕ) → Taken ps n ps1 → Small bytes → 128 + length bytes ≤ room_at (specs_of ps1) n.pool →
+    BothWritten ps1 n (fresh_header n 1 128 (length bytes)) 128 bytes ps' → Alone ps n bytes ps'
+alone_is ps ps1 ps' n bytes t small fits b =
+    let object = taken_object ps ps1 n t in
+    let low = number_small ps1 n t.are object in
+    let rooms = t.are.rooms n.pool (object_pool ps1 n object) in
+    let size : room_at (specs_of ps1) n.pool ≤ 4096 = omega (arith, rooms.room, room_is ps1 n.pool) in
+    let pool : n.pool < 65536 = let f = t.are.few in omega (arith, f, low.1) in
+    let x : Header = direct_header n 128 (length bytes) in
+    let sm : Small (header_bytes x) = small_header x (omega arith) (omega arith) (omega arith) (omega (arith, fits, size)) (pool, low.0) (pool, low.0) (
+      pool,
+      low.0,
+    ) in
+    let mid : List PoolView = set ps1 n.pool (with_written (pool_in ps1 n.pool) n.index 0 (header_bytes x)) in
+    let first : HeaderSet ps1 n x mid = header_set ps1 n x t.are object sm in
+    let object' : HasObject mid n = object_after ps1 mid n first.specs object in
+    let same = ap (λ s. room_at s n.pool) first.specs in
+    let long = (first.are.rooms n.pool (object_pool mid n object')).header in
+    let end : List PoolView = set mid n.pool (with_written (pool_in mid n.pool) n.index (128 + 128) bytes) in
+    let second : RoomWritten mid n 128 bytes end = room_written mid n 128 bytes first.are object' small (omega (arith, fits, same, long, room_is mid n.pool)) in
+    let f : Header → Header = λ h. record h { segs = 1; last = n } in
+    record {
+      before = end;
+      filled = record { first = ps1; second = mid; taken = t; header = first; bytes_in = second };
+      hooked = record {
+        are = b.bytes_in.are;
+        specs = b.bytes_in.specs ∙ (b.header.specs ∙ (sym first.specs ∙ sym second.specs));
+        zones = b.bytes_in.zones ∙ (b.header.zones ∙ (sym first.zones ∙ sym second.zones));
+        buffers = b.bytes_in.buffers ∙ (ap (λ y. written y n 128 bytes) (b.header.buffers ∙ sym first.buffers) ∙ sym second.buffers);
+        outs = λ m. b.bytes_in.outs m ∙ (b.header.outs m ∙ (sym (first.outs m) ∙ sym (second.outs m)));
+        ins = λ k. b.bytes_in.ins k ∙ (b.header.ins k ∙ (sym (first.ins k) ∙ sym (second.ins k)));
+        here = b.bytes_in.headers n ∙ (b.header.here ∙ sym (ap f (second.headers n ∙ first.here)));
+        others = λ m d. b.bytes_in.headers m ∙ (b.header.others m d ∙ (sym (first.others m d) ∙ sym (second.headers m)));
+      };
+    }
+
+module _ (ps : List PoolView) (v : Store) (pool : ℕ) (bytes : List ℕ) (e : shown ps ≡ v) (sound : Sound ps) (some : 129 ≤ room_at v.pools pool)
+    (fits : 128 + length bytes ≤ room_at v.pools pool) where
+  abbrev full : ℕ
+  full = room_at v.pools pool - 128
+
+  known : Ready ps v pool full
+  known = ready ps v pool full (room_at (specs_of ps) pool) e sound some refl (ap (λ s. room_at s.pools pool - 128) (sym e))
+
+  one : 1 ≡ max 1 ((length bytes + (full - 1)) / full)
+  one = let s = known.some in one_needed full (length bytes) s (omega (arith, fits))
+
+  need : 1 ≡ needed v.pools pool (length bytes)
+  need = need_is v pool full (length bytes) 1 known.is one
+
+  pub few_bytes : length bytes ≤ 4096
+  few_bytes = let f = known.few in omega (arith, f, fits)
+
+  pub received_none : (ps' : List PoolView) → count_in ps pool ≡ 0 → ps' ≡ ps → ReceivesInto v pool bytes (shown ps') None
+  received_none ps' none same = let a = known.in_pool in (omega (arith, a, none, need), ap shown same ∙ e)
+
+  pub received_some : (ps1 ps' : List PoolView) (n : Number) (r : ℕ) → n.pool ≡ pool → Taken ps n ps1 → Small bytes →
+      BothWritten ps1 n (fresh_header n 1 128 (length bytes)) 128 bytes ps' → r ≡ handle n → Sound ps' × ReceivesInto v pool bytes (shown ps') (Some r)
+  received_some ps1 ps' n r ep t small b er =
+      let k = known in
+      let room : room_at (specs_of ps1) n.pool ≡ room_at v.pools pool =
+      ap (λ s. room_at s n.pool) (t.specs ∙ k.specs) ∙ ap (room_at v.pools) ep in
+      let a = alone_is ps ps1 ps' n bytes t small (omega (arith, fits, room)) b in
+      let filled : FilledBy ps n (take full bytes) a.before =
+      subst (λ x. FilledBy ps n x a.before) (sym (take_all full bytes (omega (arith, fits)))) a.filled in
+      let c = receiving_start v pool full bytes k.room k.some ps a.before n (drop full bytes) k.whole k.there ep k.specs k.buffers k.in_pool filled refl in
+      let ins = subst (λ j. count_in ps1 j + 1 ≡ count_in ps j) ep t.ins in
+      let there = k.in_pool in
+      receive_done v pool full bytes ps a.before n n (drop full bytes) 1 1 c k one (omega (arith, need)) refl ps' r (omega (arith, ins, there)) er a.hooked
