@@ -24,4 +24,5 @@ pub mod Receiving
 pub mod Owned
 pub mod Hooking
 pub mod Both
+pub mod Ending
 pub mod Parting

@@ -168,6 +168,12 @@ pub record Given (pools : List PoolView) (n : Number) (pools' : List PoolView) :
   pub here : is_out pools' n ≡ false
   pub others : (m : Number) → same_number n m ≡ false → is_out pools' m ≡ is_out pools m
 
+-- n's number of segments is cleared, and n is put back
+pub record Ended (pools : List PoolView) (n : Number) (pools' : List PoolView) : Type 0 where
+  pub middle : List PoolView
+  pub unhooked : HeaderSet pools n (record (header_at pools n) { segs = 0 }) middle
+  pub given : Given middle n pools'
+
 -- ---- one slot for a pool
 
 -- the slot has a pool of mbufs

@@ -1,13 +1,13 @@
 //! The calls on packets.
 
 ghost use Rattle.std.specs.Prelude.{◌≡◌, ◌≢◌, ℕ, ◌+◌, ◌*◌, ◌<◌, ◌≤◌, [], None, length, drop, slice_get, slice_range, IsTrue, ◌↔◌, IfSome, IfNone};
-ghost use Rattle.std.specs.Prelude.{List, Some, max, ◌-◌, ◌/◌};
+ghost use Rattle.std.specs.Prelude.{List, Some, true, max, ◌-◌, ◌/◌};
 ghost use Rattle.std.specs.Prelude.{◌^◌};
 ghost use Rattle.dp_model.specs.Packets.{Segment, needed, refs, IsSole, segment_bytes, packet_bytes, headroom, tailroom, first_len, last_len, at_front};
 ghost use Rattle.dp_model.specs.Packets.{at_end, more_before, less_before, more_behind, less_behind, zeroed_before, zeroed_behind, available, loaded, stored};
 ghost use Rattle.dp_model.specs.Packets.{IsHeadSole, IsTailSole};
 ghost use Rattle.dp_model.specs.Arithmetic.{bytes_in};
-ghost use Rattle.dp_model.specs.Buffers.{Number, bytes_of};
+ghost use Rattle.dp_model.specs.Buffers.{Number, same_number, bytes_of};
 ghost use Rattle.dp_model.specs.Environments.{room_at};
 ghost use Rattle.dp_model.specs.Stores.{segments_of, Has, HasSome, IsLive, Of, Becomes, unwritten, with_slot, Allocates, Chains, Clones, ReceivesInto};
 ghost use Rattle.dp_model.specs.Stores.{IsWellFormedStore, Store};
@@ -113,6 +113,14 @@ fn release_all(objects: &mut Objects, first: MbufNumber, count: u16)
     for i in 0..count {
         mbuf = release(objects, mbuf);
     }
+}
+
+// Whether a header shows a packet of one segment, whose mbuf `n` is its own buffer and has no other reference.
+#[inline(always)]
+fn is_alone(header: Header, n: MbufNumber) -> bool
+    ensures { result ≡ true → (header.segs ≡ 1) × (header.refs ≡ 1) × (same_number header.buffer n ≡ true) }
+{
+    header.refs == 1 && header.segs == 1 && header.buffer.is(n)
 }
 
 // The bytes of a header's segment.
@@ -252,10 +260,9 @@ impl Mbufs {
         self.objects.set_bounds(last, tail.offset, tail.len - n);
     }
 
-    /// Frees a packet: drops one reference of each segment's buffer. An object goes back to its pool when no live segment has it as its mbuf or as
-    /// its buffer.
+    // Frees a packet that shares a buffer or has more segments.
     #[inline(always)]
-    pub fn free(&mut self, packet: Packet)
+    fn free_shared(&mut self, packet: Packet)
         requires { IsLive self.old.store packet }
         ensures packets { self.new.store ≡ with_slot packet None self.old.store }
         ensures zones { self.new.zones ≡ self.old.zones }
@@ -267,6 +274,22 @@ impl Mbufs {
             release_only(&mut self.objects, first, head.buffer, head.refs);
         } else {
             release_all(&mut self.objects, first, segs);
+        }
+    }
+
+    /// Frees a packet: drops one reference of each segment's buffer. An object goes back to its pool when no live segment has it as its mbuf or as
+    /// its buffer.
+    #[inline(always)]
+    pub fn free(&mut self, packet: Packet)
+        requires { IsLive self.old.store packet }
+        ensures packets { self.new.store ≡ with_slot packet None self.old.store }
+        ensures zones { self.new.zones ≡ self.old.zones }
+    {
+        let first = first_number(&packet);
+        if is_alone(self.objects.header(first), first) {
+            self.objects.end(first);
+        } else {
+            self.free_shared(packet);
         }
     }
 

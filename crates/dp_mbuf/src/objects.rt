@@ -10,7 +10,7 @@ ghost use Rattle.dp_pool.specs.Pools.{object_in, with_object, with_written, put_
 ghost use Rattle.dp_mbuf.specs.Headers.{then_word, with_both, with_hook};
 ghost use Rattle.dp_mbuf.specs.Objects.{present, pool_in, header_at, header_with, is_out, count_in, specs_of, buffers_of, HasObject, HasRooms, HeadersFirst};
 ghost use Rattle.dp_mbuf.specs.Objects.{PoolsFirst, objects_in_all, HeaderSet, RoomWritten, Taken, Given, SlotHas, SlotFits, SlotIsOut};
-ghost use Rattle.dp_mbuf.specs.Objects.{SlotBecomes, SlotGives, slot_count, slot_whole, AreAllIn, BothWritten, Unhooked, UnhookedTo, SlotUnhooked};
+ghost use Rattle.dp_mbuf.specs.Objects.{SlotBecomes, SlotGives, slot_count, slot_whole, AreAllIn, BothWritten, Ended, Unhooked, UnhookedTo, SlotUnhooked};
 
 use crate::big_endian::write_number;
 use crate::header::{
@@ -130,6 +130,19 @@ fn put_in(slot: &mut Option<Pool>, index: u16)
     ensures { SlotBecomes (λ p. put_back p index) slot.old slot.new }
 {
     if let Some(pool) = slot {
+        pool.put(u32::from(index));
+    }
+}
+
+// Marks an object of a slot's pool, no packet begins there, and puts it back.
+#[inline(always)]
+fn end_in(slot: &mut Option<Pool>, index: u16)
+    requires fits { SlotFits slot.old index HEADER_SIZE }
+    requires out { SlotIsOut slot.old index }
+    ensures { SlotBecomes (λ p. put_back (with_written p index SEGS (then_word 0 [])) index) slot.old slot.new }
+{
+    if let Some(pool) = slot {
+        pool.write(u32::from(index), SEGS as u32, &bytes_of_word(0));
         pool.put(u32::from(index));
     }
 }
@@ -438,6 +451,16 @@ impl Objects {
         ensures { Given self.old n self.new }
     {
         put_in(&mut self.pools[usize::from(n.pool())], n.index());
+    }
+
+    /// Clears an object's number of segments, and puts the object back.
+    #[inline(always)]
+    pub fn end(&mut self, n: MbufNumber)
+        requires object { HasObject self.old n }
+        requires out { is_out self.old n ≡ true }
+        ensures { Ended self.old n self.new }
+    {
+        end_in(&mut self.pools[usize::from(n.pool())], n.index());
     }
 
     /// Hands the pools back.

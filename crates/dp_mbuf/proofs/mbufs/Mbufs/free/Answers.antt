@@ -1,51 +1,25 @@
--- A packet of one segment is freed at once, any other mbuf by mbuf.
-use Rattle.std.proofs.Common.{◌≡◌, ◌∙◌, ap, sym}
-use Rattle.dp_mbuf.specs.Objects.{header_at}
-use Rattle.dp_mbuf.specs.Mbufs.{Freeing}
-use Rattle.dp_mbuf.proofs.InHand.{released_zones}
-use Rattle.dp_mbuf.proofs.Live.{same_store, same_zones, live_object}
-use Rattle.dp_mbuf.proofs.Freeing.{freeing_start, freeing_only, freed_only}
+-- A packet that is one object goes back at once.
+use Rattle.dp_mbuf.proofs.Live.{same_store, live_object}
+use Rattle.dp_mbuf.proofs.Ending.{live_out, ended}
 use Rattle.dp_mbuf.proofs.mbufs.Mbufs.free.Goals as goal
-use Rattle.dp_mbuf.proofs.mbufs.Mbufs.free.Goals.{After-unhook-head}
 
--- all its mbufs are in hand
-started : (c : After-unhook-head) →
-    Freeing c.unhook-head.new.objects c.first_number-first.result 0 c.unhook-head.result.segs c.args.self.now.store c.args.packet
-started c =
-    let set = rw c.first_number-first.ensures at c.unhook-head.ensures.now in
-    let was = rw c.first_number-first.ensures at c.unhook-head.ensures.was in
-    rw (c.first_number-first.ensures, was) (freeing_start _ _ _ _ (same_store c.self.view_is) c.self.invariant c.requires set)
+pub header-requires : goal.header-requires
+header-requires c = rw c.first_number-first.ensures (live_object _ _ c.args.packet (same_store c.self.view_is) c.self.invariant c.requires)
 
--- the first header's buffer stays
-buffer : (c : After-unhook-head) → (header_at c.unhook-head.new.objects c.first_number-first.result).buffer ≡ c.unhook-head.result.buffer
-buffer c = ap (λ h. h.buffer) c.unhook-head.ensures.now.here ∙ sym (ap (λ h. h.buffer) c.unhook-head.ensures.was)
+pub end-requires-clause-object : goal.end-requires-clause-object
+end-requires-clause-object c = rw c.first_number-first.ensures (live_object _ _ c.args.packet (same_store c.self.view_is) c.self.invariant c.requires)
 
-pub unhook-head-requires : goal.unhook-head-requires
-unhook-head-requires c = rw c.first_number-first.ensures (live_object _ _ c.args.packet (same_store c.self.view_is) c.self.invariant c.requires)
-
-pub release_only-requires-clause-can : goal.release_only-requires-clause-can
-release_only-requires-clause-can c =
-    let here = (goal.at.release_only-requires-clause-can c).After-unhook-head in
-    freeing_only _ _ _ _ _ _ (started here) c.if-segs-eq1.true (buffer here)
-
-pub release_all-requires : goal.release_all-requires
-release_all-requires c = (_, _, started (goal.at.release_all-requires c).After-unhook-head)
+pub end-requires-clause-out : goal.end-requires-clause-out
+end-requires-clause-out c = rw c.first_number-first.ensures (live_out _ _ c.args.packet (same_store c.self.view_is) c.self.invariant c.requires)
 
 pub invariant_of-self : goal.invariant_of-self
 invariant_of-self c =
-    let here = (goal.at.invariant_of-self c).After-unhook-head in
-    (freed_only _ _ _ _ _ _ (started here) c.if-segs-eq1.true (buffer here) _ c.release_only.ensures).0
+    let end = rw c.first_number-first.ensures at c.end.ensures in
+    let is = rw (c.header.ensures, c.first_number-first.ensures) at (c.is_alone.ensures c.if-is_alone.true) in
+    (ended _ _ _ c.args.packet (same_store c.self.view_is) c.self.invariant c.requires end is.0 is.1 is.2).0
 
-pub invariant_of-self-else-segs-eq1 : goal.invariant_of-self-else-segs-eq1
-invariant_of-self-else-segs-eq1 c = (c.release_all.ensures.packets _ _ (started (goal.at.invariant_of-self-else-segs-eq1 c).After-unhook-head)).0
-
-pub returns-then-segs-eq1-clause-packets : goal.returns-then-segs-eq1-clause-packets
-returns-then-segs-eq1-clause-packets c =
-    let here = (goal.at.returns-then-segs-eq1-clause-packets c).After-unhook-head in
-    (freed_only _ _ _ _ _ _ (started here) c.if-segs-eq1.true (buffer here) _ c.release_only.ensures).1
-
-pub returns-then-segs-eq1-clause-zones : goal.returns-then-segs-eq1-clause-zones
-returns-then-segs-eq1-clause-zones c = released_zones _ _ _ _ c.release_only.ensures ∙ (c.unhook-head.ensures.now.zones ∙ same_zones c.self.view_is)
-
-pub returns-else-segs-eq1-clause-packets : goal.returns-else-segs-eq1-clause-packets
-returns-else-segs-eq1-clause-packets c = (c.release_all.ensures.packets _ _ (started (goal.at.returns-else-segs-eq1-clause-packets c).After-unhook-head)).1
+pub returns-then-is_alone-clause-packets : goal.returns-then-is_alone-clause-packets
+returns-then-is_alone-clause-packets c =
+    let end = rw c.first_number-first.ensures at c.end.ensures in
+    let is = rw (c.header.ensures, c.first_number-first.ensures) at (c.is_alone.ensures c.if-is_alone.true) in
+    (ended _ _ _ c.args.packet (same_store c.self.view_is) c.self.invariant c.requires end is.0 is.1 is.2).1
