@@ -260,7 +260,7 @@ impl Mbufs {
         self.objects.set_bounds(last, tail.offset, tail.len - n);
     }
 
-    // Frees a packet that shares a buffer or has more segments.
+    // Frees a packet, which may share buffers or have more segments.
     #[inline(always)]
     fn free_shared(&mut self, packet: Packet)
         requires { IsLive self.old.store packet }

@@ -134,7 +134,7 @@ fn put_in(slot: &mut Option<Pool>, index: u16)
     }
 }
 
-// Marks an object of a slot's pool, no packet begins there, and puts it back.
+// Clears the number of segments in an object of a slot's pool, and puts the object back.
 #[inline(always)]
 fn end_in(slot: &mut Option<Pool>, index: u16)
     requires fits { SlotFits slot.old index HEADER_SIZE }
@@ -380,21 +380,6 @@ impl Objects {
     {
         let slot = &mut self.pools[usize::from(n.pool())];
         write_hook_in(slot, n.index(), segs, last);
-    }
-
-    /// Writes bytes into a data room from an offset on.
-    #[inline(always)]
-    pub fn write(&mut self, n: MbufNumber, at: u32, bytes: &[u8])
-        requires object { HasObject self.old n }
-        requires fits { at + length bytes.now ≤ room_at (specs_of self.old) n.pool }
-        ensures { RoomWritten self.old n at bytes.now self.new }
-    {
-        write_in(
-            &mut self.pools[usize::from(n.pool())],
-            n.index(),
-            HEADER_SIZE + at,
-            bytes,
-        );
     }
 
     /// Writes a header, and bytes into the data room from an offset on.
