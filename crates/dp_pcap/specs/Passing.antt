@@ -1,10 +1,11 @@
 -- Internal: after bytes came in, went out or passed.
-use Rattle.std.specs.Prelude.{◌≡◌, ℕ, ◌+◌, ◌<◌, ◌≤◌, ◌^◌, List, ◌++◌, length, take, Option, Bool, false, Result}
+use Rattle.std.specs.Prelude.{◌≡◌, ℕ, ◌+◌, ◌<◌, ◌≤◌, ◌↔◌, ◌^◌, List, ◌++◌, length, take, Option, Bool, false, Result}
 use Rattle.std.specs.Prelude.{OnOk, OnErr, IfOk, IsOk, IsErr, IsTrue, MatchResult}
 use Rattle.std.specs.Io.KnownBytes.{Appends, Consumes, IsAtEnd}
 use Rattle.dp_pcap.specs.declared.device.Failed.{Failed}
+use Rattle.dp_pcap.specs.declared.format.TheConstants.{HEAD_SIZE}
 use Rattle.dp_pcap.specs.Counting.{Counted, IsBehind}
-use Rattle.dp_pcap.specs.Offering.{OffersWhole, OffersPart}
+use Rattle.dp_pcap.specs.Offering.{OffersWhole, OffersPart, OffersTwo, OffersPartOfTwo}
 use Rattle.dp_pcap.specs.Text.{AppendsPart}
 
 -- A reader, from `old` to `new`, was read until a piece was whole or the input ended: that many bytes came into a buffer that had `before` and has
@@ -37,6 +38,18 @@ pub record PutsWhole {W : Type 0} (contents : W → Option (List ℕ)) (offers :
   pub failures : MatchResult answer (λ _. failed_calls new ≡ failed_calls old) (λ _. failed_calls new ≡ failed_calls old + 1)
   pub offered : OnOk answer (OffersWhole (offers old) (offers new) piece)
   pub offered_part : OnErr answer (OffersPart (offers old) (offers new) piece)
+
+-- The same of a record's head and then its body.
+pub record PutsTwo {W : Type 0} (contents : W → Option (List ℕ)) (offers : W → List (List ℕ)) (is_broken : W → Bool) (calls failed_calls : W →
+    ℕ) (old new : W) (head body : List ℕ) (answer : Result Unit Failed) : Type 0 where
+  pub ok : OnOk answer (Appends (contents old) (contents new) (head ++ body))
+  pub err : OnErr answer (AppendsPart (contents old) (contents new) (head ++ body))
+  pub failed : IsErr answer ↔ IsTrue (is_broken new)
+  pub stays : IsTrue (is_broken old) → IsTrue (is_broken new)
+  pub counted : calls new ≤ calls old + (HEAD_SIZE + length body)
+  pub failures : MatchResult answer (λ _. failed_calls new ≡ failed_calls old) (λ _. failed_calls new ≡ failed_calls old + 1)
+  pub offered : OnOk answer (OffersTwo (offers old) (offers new) head body)
+  pub offered_part : OnErr answer (OffersPartOfTwo (offers old) (offers new) head body)
 
 -- A count moves past this many of the bytes.
 pub record StepsBy (old new : Counted) (bytes : List ℕ) (count : ℕ) : Type 0 where

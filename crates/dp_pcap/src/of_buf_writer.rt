@@ -1,7 +1,7 @@
 //! A sink over a buffered writer of std.
-ghost use Rattle.std.specs.Prelude.{◌≡◌, [], ◌∷◌, ◌++◌, ◌+◌, ◌<◌, ◌≤◌, ◌↔◌, length, take, IfOk, IsErr, IsTrue, MatchResult, OnOk};
+ghost use Rattle.std.specs.Prelude.{◌≡◌, [], ◌∷◌, ◌++◌, ◌+◌, ◌<◌, ◌≤◌, ◌↔◌, length, take, IfOk, IsErr, IsTrue, MatchResult, OnOk, false};
 ghost use Rattle.std.specs.Io.KnownBytes.{Keeps, WriteAppends};
-ghost use Rattle.std.specs.Io.Buffered.{writer_buffer, writer_contents};
+ghost use Rattle.std.specs.Io.Buffered.{writer_buffer, writer_capacity, writer_contents};
 ghost use Rattle.dp_pcap.specs.OfStd.{writer_inside, sink_health, sink_offers};
 
 use crate::{Failed, OfWrite, Offers, Sink};
@@ -91,14 +91,32 @@ impl<W: Write + Drop> Sink for OfBufWriter<W> {
         ensures untouched { IsTrue (buffered_sink_health self.old).is_broken → buffered_writer self.new ≡ buffered_writer self.old }
     {
         self.offers = self.offers.and(bytes);
-        // The buffer holds no more than its capacity, so nothing wraps. It is tested first, so that what fits cannot fail.
-        let held = self.sink.inner.buffer().len();
-        let spare = self.sink.inner.capacity().wrapping_sub(held);
+        // The room is tested first, so that what fits cannot fail.
+        let spare = self.sink.inner.capacity() - self.sink.inner.buffer().len();
         if bytes.len() < spare {
             self.sink.push(bytes)
         } else {
             push_past(&mut self.sink, bytes, spare)
         }
+    }
+
+    /// True exactly if it is sound and its buffer has room left after both pieces.
+    #[inline(always)]
+    fn has_room(&self, head: usize, body: usize) -> bool
+        ensures sound { IsTrue result → (buffered_sink_health self.now).is_broken ≡ false }
+        ensures room { IsTrue result → length (writer_buffer (buffered_writer self.now)) + head + body < writer_capacity (buffered_writer self.now) }
+        ensures exact { (buffered_sink_health self.now).is_broken ≡ false →
+            length (writer_buffer (buffered_writer self.now)) + head + body < writer_capacity (buffered_writer self.now) → IsTrue result }
+    {
+        // The pushes make these tests again, in the same terms, so that the compiler sees that no piece lacks room. `after < capacity` always holds; it
+        // keeps `after` a number of its own, as the second push has it.
+        let held = self.sink.inner.buffer().len();
+        let capacity = self.sink.inner.capacity();
+        if self.sink.health.is_broken() || head >= capacity - held {
+            return false;
+        }
+        let after = held + head;
+        after < capacity && body < capacity - after
     }
 }
 

@@ -1,7 +1,7 @@
 //! Writing captures.
 use super::{MICRO_HEADER, NANO_HEADER, ROOM, copied, hundred_bytes};
 use dp_pcap::{
-    FailingSink, OfBufReader, OfBufWriter, OfRead, OfWrite, PcapError, Time, Unit, put_bytes,
+    FailingSink, OfBufReader, OfBufWriter, OfRead, OfWrite, PcapError, Sink, Time, Unit, put_bytes,
     put_head, put_header, put_record,
 };
 use std::fs;
@@ -136,5 +136,28 @@ fn copies_files(rt: HostRuntime) -> Result<(), Fail> {
     assert_eq!(rt; written.as_slice(), bytes.as_slice());
     fs::remove_file(&rt, "pcap_copy_in")?;
     fs::remove_file(&rt, "pcap_copy_out")?;
+    Ok(())
+}
+
+// A record of 76 bytes for a buffer that has room left after it, that it fills, and that is a byte too short: how much the buffer holds afterwards.
+#[test]
+fn a_record_goes_into_a_buffer_at_once_or_in_parts(rt: HostRuntime) -> Result<(), Fail> {
+    let bytes = hundred_bytes(rt.alloc())?;
+    let record = bytes.get(24..).expect(&rt, "a record");
+    let body = bytes.get(40..).expect(&rt, "its bytes");
+    assert!(rt; body.len() == 60);
+    let time = Time { sec: 1, nano: 2000 };
+    for (room, fits, held) in [(77usize, true, 76usize), (76, false, 76), (75, false, 1)] {
+        let inner = BufWriter::with_capacity(rt.alloc(), room, Vec::new(rt.alloc()))?;
+        let mut w = OfBufWriter::new(inner);
+        assert_eq!(rt; w.has_room(16, 60), fits, "{room}");
+        put_record(&mut w, Unit::Micro, time, body)?;
+        assert_eq!(rt; w.get_ref().buffer().len(), held, "{room}");
+        assert!(rt; !w.has_room(16, 60), "{room}");
+        w.flush()?;
+        assert_eq!(rt; w.get_ref().get_ref().as_slice(), record, "{room}");
+        assert_eq!(rt; w.has_room(16, 60), fits, "{room}");
+    }
+    assert!(rt; !OfWrite::new(Vec::new(rt.alloc())).has_room(0, 0));
     Ok(())
 }
