@@ -1,12 +1,16 @@
 -- Freeing all packets of a list, and taking the first that waits.
-use Rattle.std.proofs.Common.{◌≡◌, ℕ, zero, suc, ◌-◌, ◌<◌, ◌≤◌, List, [], ◌∷◌, length, map, replicate, Option, Some, None, refl, sym, ◌∙◌, ap, subst, arith}
+use Rattle.std.proofs.Common.{◌≡◌, ℕ, zero, suc, ◌-◌, ◌<◌, ◌≤◌, List, [], ◌∷◌, length, drop, map, replicate, Option, Some, None, refl, sym, ◌∙◌, ap}
+use Rattle.std.proofs.Common.{subst, arith}
 use Rattle.std.specs.Prelude.{slice_get, slice_set, MatchOption}
+use Rattle.std.proofs.lemmas.Option.{same_Some}
+use Rattle.dp_model.specs.Buffers.{Buffers}
 use Rattle.dp_model.specs.Packets.{Packet}
 use Rattle.dp_model.specs.Machine.{with_outbox, with_ring}
 use Rattle.dp_model.specs.Runs.{Waiting, first_state, first_waiting}
 use Rattle.dp_model.specs.Stores.{Store}
 use Rattle.dp_model.specs.Laws.Lists.{get_set_same}
 use Rattle.dp_ring.specs.Rings.{RingView}
+use Rattle.dp_engine.specs.Drains.{AtPacket}
 use Rattle.dp_engine.specs.Queues.{ring_at}
 use Rattle.dp_engine.specs.Handles.{packet_at, entries_of, Lists, Frames, StandOnce, Core, Ran, core_of, ran, moved}
 use Rattle.dp_engine.proofs.Handles.{set_itself, map_set}
@@ -117,6 +121,67 @@ none_left (k ∷ packets) left e le = absurd (omega (arith, e, le))
 
 pub sent_end : (start core : Core) (port left : ℕ) → SentLeft start core port left → left ≤ 0 → core ≡ moved (with_outbox port [] start.state) start
 sent_end start core port left l le = l.is ∙ ap (λ packets. moved (with_outbox port packets start.state) start) (none_left l.packets left l.count le)
+
+-- ---- a transmit list from its start on
+
+-- a machine as it was, without the first ones of a transmit list
+abbrev pub LeftAt : Core → Core → ℕ → ℕ → Type 0
+LeftAt start core port n = (all : List Packet) → slice_get start.state.world.outboxes port ≡ Some all
+    → core ≡ moved (with_outbox port (drop n all) start.state) start
+
+pub left_all : (core : Core) (port : ℕ) → LeftAt core core port 0
+left_all core port all box =
+    ap (λ (l : List (List Packet)). moved (record core.state { world = record core.state.world { outboxes = l } }) core)
+    (sym (set_itself core.state.world.outboxes port all box))
+
+drop_at : (packets : List Packet) (n : ℕ) (k : Packet) → slice_get packets n ≡ Some k → drop n packets ≡ k ∷ drop (suc n) packets
+drop_at [] n k here = cc
+drop_at (x ∷ packets) zero k here = ap (λ y. y ∷ packets) (same_Some x k here)
+drop_at (x ∷ packets) (suc n) k here = drop_at packets n k here
+
+drop_past : (packets : List Packet) (n : ℕ) → length packets ≤ n → drop n packets ≡ []
+drop_past [] zero le = refl
+drop_past [] (suc n) le = refl
+drop_past (x ∷ packets) zero le = absurd (omega (arith, le))
+drop_past (x ∷ packets) (suc n) le = drop_past packets n (omega (arith, le))
+
+-- the list begins with the next one
+pub left_front : (start core : Core) (port n : ℕ) (all : List Packet) (k : Packet) → LeftAt start core port n → slice_get start.state.world.outboxes port
+    ≡ Some all → slice_get all n ≡ Some k → slice_get core.state.world.outboxes port ≡ Some (k ∷ drop (suc n) all)
+left_front start core port n all k left box here =
+    ap (λ (c : Core). slice_get c.state.world.outboxes port) (left all box)
+    ∙ get_set_same start.state.world.outboxes port (drop n all) all box ∙ ap Some (drop_at all n k here)
+
+-- what holds of the front holds of the next one, with the bytes that it had at the start
+pub at_front : (P : Buffers → Packet → Type 0) (start core : Core) (port n : ℕ) (all : List Packet) (k : Packet) → LeftAt start core port n
+    → slice_get start.state.world.outboxes port ≡ Some all → slice_get all n ≡ Some k → AtPacket core port 0 (P core.state.world.buffers)
+    → P start.state.world.buffers k
+at_front P start core port n all k left box here at =
+    subst (λ b. P b k) (ap (λ (c : Core). c.state.world.buffers) (left all box))
+    (at (k ∷ drop (suc n) all) k (left_front start core port n all k left box here) refl)
+
+-- a list that is changed twice
+pub changed_again : (start core core' : Core) (port : ℕ) (packets rest : List Packet) → core ≡ moved (with_outbox port packets start.state) start
+    → core' ≡ moved (with_outbox port rest core.state) core → core' ≡ moved (with_outbox port rest start.state) start
+changed_again start core core' port packets rest is is' =
+    is' ∙ ap (λ (c : Core). moved (with_outbox port rest c.state) c) is
+    ∙ ap (λ (x : List (List Packet)). moved (record start.state { world = record start.state.world { outboxes = x } }) start)
+    (set_again start.state.world.outboxes port packets rest)
+
+-- the front is gone
+pub left_more : (start core core' : Core) (port n : ℕ) (all : List Packet) (k : Packet) → LeftAt start core port n → slice_get start.state.world.outboxes port
+    ≡ Some all → slice_get all n ≡ Some k
+    → ((packets : List Packet) (k : Packet) → slice_get core.state.world.outboxes port ≡ Some (k ∷ packets) →
+    core' ≡ moved (with_outbox port packets core.state) core) → core' ≡ moved (with_outbox port (drop (suc n) all) start.state) start
+left_more start core core' port n all k left box here drops =
+    changed_again start core core' port (drop n all) (drop (suc n) all) (left all box)
+    (drops (drop (suc n) all) k (left_front start core port n all k left box here))
+
+-- all are gone
+pub left_none : (start core : Core) (port n : ℕ) (all : List Packet) → LeftAt start core port n → slice_get start.state.world.outboxes port ≡ Some all
+    → length all ≤ n → core ≡ moved (with_outbox port [] start.state) start
+left_none start core port n all left box le =
+    left all box ∙ ap (λ packets. moved (with_outbox port packets start.state) start) (drop_past all n le)
 
 -- this many of the packets that a ring had at the start are left
 pub record RingLeft (start core : Core) (ring left : ℕ) : Type 0 where

@@ -392,64 +392,82 @@ impl Machine {
         }
     }
 
-    // Writes the record of a packet in a transmit list.
-    fn put<W: Sink>(
-        &self,
+    // Takes the first packet of a transmit list out, which must have one, writes its record and frees it, also where the writer fails.
+    #[inline(always)]
+    fn put_first<W: Sink>(
+        &mut self,
         port: u8,
-        at: u32,
         time: Time,
         unit: Unit,
         w: &mut W,
     ) -> Result<(), PcapError>
-        requires there { port < length self.now.frames.outboxes }
-        requires waits { (packets : List Packet) × (slice_get self.now.state.world.outboxes port ≡ Some packets) × (at < length packets) }
+        requires there { port < length self.old.frames.outboxes }
+        requires some { (packets : List Packet) × (k : Packet) × (slice_get self.old.state.world.outboxes port ≡ Some (k ∷ packets)) }
         requires nano { time.nano < NANOS_A_SECOND }
-        ensures ok { OnOk result (AtPacket self.now port at (λ k. Appends (W.contents w.old) (W.contents w.new)
-            (record_of unit time self.now.state.world.buffers k))) }
-        ensures err { OnErr result (AtPacket self.now port at (λ k. AppendsPart (W.contents w.old) (W.contents w.new)
-            (record_of unit time self.now.state.world.buffers k))) }
+        ensures ok { OnOk result (AtPacket self.old port 0 (λ k. Appends (W.contents w.old) (W.contents w.new)
+            (record_of unit time self.old.state.world.buffers k))) }
+        ensures err { OnErr result (AtPacket self.old port 0 (λ k. AppendsPart (W.contents w.old) (W.contents w.new)
+            (record_of unit time self.old.state.world.buffers k))) }
         ensures failed { IsErr result ↔ IsTrue (W.is_broken w.new) }
         ensures stays { IsTrue (W.is_broken w.old) → IsTrue (W.is_broken w.new) }
         ensures write { IfErr result (λ e. e ≡ PcapError.Write) }
-        ensures counted { AtPacket self.now port at (λ k. W.calls w.new ≤ W.calls w.old + length (record_of unit time self.now.state.world.buffers k)) }
+        ensures counted { AtPacket self.old port 0 (λ k. W.calls w.new ≤ W.calls w.old + length (record_of unit time self.old.state.world.buffers k)) }
         ensures failures { W.failures w.new ≡ W.failures w.old + failed_pushes result }
+        ensures rest { (packets : List Packet) (k : Packet) → slice_get self.old.state.world.outboxes port ≡ Some (k ∷ packets) →
+            self.new ≡ moved (with_outbox port packets self.old.state) self.old }
     {
-        match self.outboxes.peek(port, at) {
-            Some(packet) => put_packet(&self.mbufs, Handle::of(packet), time, unit, w),
+        match self.outboxes.pop(port) {
+            Some(packet) => {
+                let handle = Handle::of(packet);
+                let outcome = put_packet(&self.mbufs, handle, time, unit, w);
+                self.mbufs.free(handle);
+                outcome
+            }
             None => unreachable!(),
         }
     }
 
-    // Writes the records of a transmit list. Returns how many were written whole, and whether all were.
-    pub(crate) fn put_all<W: Sink>(
-        &self,
+    // Frees what a transmit list has left after a failure. It is not inlined, so that a drain has the code that frees a packet only once.
+    #[cold]
+    #[inline(never)]
+    fn drop_rest(&mut self, port: u8)
+        requires { port < length self.old.frames.outboxes }
+        ensures { self.new ≡ moved (with_outbox port [] self.old.state) self.old }
+    {
+        self.clear_sent(port);
+    }
+
+    // Writes the records of a transmit list, first to last, and frees its packets, also those after a failure. Returns how many were written whole,
+    // and whether all were.
+    pub(crate) fn drain_list<W: Sink>(
+        &mut self,
         port: u8,
         time: Time,
         unit: Unit,
         w: &mut W,
     ) -> Result<u32, u32>
-        requires there { port < length self.now.frames.outboxes }
+        requires there { port < length self.old.frames.outboxes }
         requires nano { time.nano < NANOS_A_SECOND }
-        ensures ok { IfOk result (λ sent. Written unit time port self.now.state.world (λ records. (sent ≡ length records)
+        ensures ok { IfOk result (λ sent. Written unit time port self.old.state.world (λ records. (sent ≡ length records)
             × Appends (W.contents w.old) (W.contents w.new) (flat_map (record_text unit) records))) }
-        ensures err { IfErr result (λ sent. Written unit time port self.now.state.world
+        ensures err { IfErr result (λ sent. Written unit time port self.old.state.world
             (λ records. WrotePart (W.contents w.old) (W.contents w.new) unit records sent)) }
         ensures broken { IsErr result → IsTrue (W.is_broken w.new) }
         ensures sound { IsOk result → W.is_broken w.old ≡ false → W.is_broken w.new ≡ false }
-        ensures most { (packets : List Packet) → slice_get self.now.state.world.outboxes port ≡ Some packets → whole_of result ≤ length packets }
-        ensures counted { Written unit time port self.now.state.world (λ records.
+        ensures most { (packets : List Packet) → slice_get self.old.state.world.outboxes port ≡ Some packets → whole_of result ≤ length packets }
+        ensures counted { Written unit time port self.old.state.world (λ records.
             IsCalledFor (W.calls w.old) (W.calls w.new) unit (take (whole_of result + 1) records)) }
         ensures failures { MatchResult result (λ _. W.failures w.new ≡ W.failures w.old) (λ _. W.failures w.new ≡ W.failures w.old + 1) }
+        ensures empty { self.new ≡ moved (with_outbox port [] self.old.state) self.old }
     {
         let count = self.queued(port);
-        let mut sent = 0u32;
-        for at in 0..count {
-            if self.put(port, at, time, unit, w).is_err() {
+        for sent in 0..count {
+            if self.put_first(port, time, unit, w).is_err() {
+                self.drop_rest(port);
                 return Err(sent);
             }
-            sent += 1;
         }
-        Ok(sent)
+        Ok(count)
     }
 
     // Takes the machine apart, where no packet is left.

@@ -36,9 +36,7 @@ impl<K: Known> Engine<K> {
             IsCalledFor (W.calls w.old) (W.calls w.new) unit (take (sent_of result + 1) records)) }
         ensures failures { MatchResult result (λ _. W.failures w.new ≡ W.failures w.old) (λ _. W.failures w.new ≡ W.failures w.old + 1) }
     {
-        let outcome = self.machine.put_all(port, time, unit, w);
-        self.machine.clear_sent(port);
-        match outcome {
+        match self.machine.drain_list(port, time, unit, w) {
             Ok(sent) => {
                 self.tallies[usize::from(port)].sent += u64::from(sent);
                 Ok(sent)

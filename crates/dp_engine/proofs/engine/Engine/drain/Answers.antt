@@ -5,10 +5,10 @@ use Rattle.dp_model.specs.Packets.{Packet}
 use Rattle.dp_engine.specs.Engines.{EngineState}
 use Rattle.dp_engine.proofs.Emptied.{port_within, box_at, sent_kept, sent_fits}
 use Rattle.dp_engine.proofs.engine.Engine.drain.Goals as goal
-use Rattle.dp_engine.proofs.engine.Engine.drain.Goals.{After-put_all-outcome}
+use Rattle.dp_engine.proofs.engine.Engine.drain.Goals.{After-drain_list}
 
 -- the port is one of eight, and has a list
-its_list : (g : _) (c : After-put_all-outcome g)
+its_list : (g : _) (c : After-drain_list g)
     → (c.args.port < 8) × ((packets : List Packet) × (slice_get c.self.inside.machine.state.world.outboxes c.args.port ≡ Some packets))
 its_list g c =
     let e = c.self.inside in
@@ -21,7 +21,7 @@ its_list g c =
 pub overflow_add-self : goal.overflow_add-self
 overflow_add-self g c =
     let e = c.self.inside in
-    let (lt, (packets, box)) = its_list g (goal.at.overflow_add-self g c).After-put_all-outcome in
+    let (lt, (packets, box)) = its_list g (goal.at.overflow_add-self g c).After-drain_list in
     let few = sent_fits e.plan e.machine e.space e.turns e.tallies e.left c.self.invariant c.args.port c.in-Ok.sent packets lt box
     (c.in-Ok.ensures.most packets box) in
     rw c.from-in-Ok.ensures (omega (arith, c.from.ensures, few))
@@ -29,7 +29,7 @@ overflow_add-self g c =
 pub overflow_add-self-in-Err : goal.overflow_add-self-in-Err
 overflow_add-self-in-Err g c =
     let e = c.self.inside in
-    let (lt, (packets, box)) = its_list g (goal.at.overflow_add-self-in-Err g c).After-put_all-outcome in
+    let (lt, (packets, box)) = its_list g (goal.at.overflow_add-self-in-Err g c).After-drain_list in
     let few = sent_fits e.plan e.machine e.space e.turns e.tallies e.left c.self.invariant c.args.port c.in-Err.sent packets lt box
     (c.in-Err.ensures.most packets box) in
     rw c.from-in-Err-2.ensures (omega (arith, c.from-in-Err.ensures, few))
@@ -37,13 +37,13 @@ overflow_add-self-in-Err g c =
 pub invariant_of-self : goal.invariant_of-self
 invariant_of-self g c =
     let e = c.self.inside in
-    let (lt, (packets, box)) = its_list g (goal.at.invariant_of-self g c).After-put_all-outcome in
-    rw (c.clear_sent.ensures, c.from.ensures, c.from-in-Ok.ensures) (sent_kept e.plan e.machine e.space e.turns e.tallies e.left c.self.invariant
+    let (lt, (packets, box)) = its_list g (goal.at.invariant_of-self g c).After-drain_list in
+    rw (c.drain_list.ensures.empty, c.from.ensures, c.from-in-Ok.ensures) (sent_kept e.plan e.machine e.space e.turns e.tallies e.left c.self.invariant
     c.args.port c.in-Ok.sent packets lt box (c.in-Ok.ensures.most packets box))
 
 pub invariant_of-self-in-Err : goal.invariant_of-self-in-Err
 invariant_of-self-in-Err g c =
     let e = c.self.inside in
-    let (lt, (packets, box)) = its_list g (goal.at.invariant_of-self-in-Err g c).After-put_all-outcome in
-    rw (c.clear_sent.ensures, c.from-in-Err.ensures, c.from-in-Err-2.ensures) (sent_kept e.plan e.machine e.space e.turns e.tallies e.left
+    let (lt, (packets, box)) = its_list g (goal.at.invariant_of-self-in-Err g c).After-drain_list in
+    rw (c.drain_list.ensures.empty, c.from-in-Err.ensures, c.from-in-Err-2.ensures) (sent_kept e.plan e.machine e.space e.turns e.tallies e.left
     c.self.invariant c.args.port c.in-Err.sent packets lt box (c.in-Err.ensures.most packets box))

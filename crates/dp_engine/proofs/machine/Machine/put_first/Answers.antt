@@ -1,0 +1,98 @@
+-- The first packet of a transmit list: its handle is derived once, and each goal is one step from there.
+use Rattle.std.proofs.Common.{◌≡◌, ◌+◌, ◌≤◌, ◌∷◌, List, length, Some, refl, ◌∙◌, subst, ap}
+use Rattle.std.specs.Prelude.{drop, slice_get, slice_set}
+use Rattle.std.specs.Io.KnownBytes.{Appends}
+use Rattle.std.proofs.lemmas.Option.{same_Some}
+use Rattle.std.proofs.lemmas.Result.{on_ok_weaker, on_err_weaker}
+use Rattle.dp_model.specs.Packets.{Packet}
+use Rattle.dp_pcap.specs.Text.{AppendsPart}
+use Rattle.dp_engine.specs.Drains.{record_of}
+use Rattle.dp_engine.specs.Handles.{Core, Lists, lists_of, ran}
+use Rattle.dp_engine.specs.Queues.{ring_at}
+use Rattle.dp_engine.proofs.Draining.{stand_less, sent_less, sent_drops}
+use Rattle.dp_engine.proofs.Pushing.{popped, first_in, has_first, outbox_there, outbox_packets}
+use Rattle.dp_engine.proofs.Writing.{waits_at}
+use Rattle.dp_engine.proofs.machine.Machine.put_first.Goals as goal
+use Rattle.dp_engine.proofs.machine.Machine.put_first.Goals.{In-Some}
+
+-- the handle that is taken names the first packet
+named : (g : _) (c : In-Some g) (packets : List Packet) (k : Packet) → slice_get c.args.self.now.state.world.outboxes c.args.port ≡ Some packets
+    → slice_get packets 0 ≡ Some k → slice_get c.self.inside.mbufs.store.slots c.in-Some.packet ≡ Some (Some k)
+named g c packets k box here =
+    let m = c.self.inside in
+    let (h, at, has) = waits_at m.mbufs.store m.mbufs.zones m.registers m.numbers m.rings m.outboxes m.calls
+    (ran m.steps.count m.cuts m.jumps) c.args.self.now c.args.port 0 packets k c.self.view_is c.self.invariant c.requires.there box here in
+    ap (slice_get m.mbufs.store.slots) (same_Some _ _ (c.in-Some.ensures.first ∙ at)) ∙ has
+
+-- there is one
+its_packet : (g : _) (c : In-Some g) → (k : Packet) × (slice_get c.self.inside.mbufs.store.slots c.in-Some.packet ≡ Some (Some k))
+its_packet g c = let (packets, k, list) = c.requires.some in (k, named g c (k ∷ packets) k list refl)
+
+-- the list begins with the handle
+front : (g : _) (c : In-Some g) → slice_get (lists_of c.self.inside.rings c.self.inside.outboxes).outboxes c.args.port
+    ≡ Some (c.in-Some.packet ∷ drop 1 (ring_at c.self.inside.outboxes c.args.port).entries)
+front g c =
+    first_in c.self.inside.outboxes c.args.port c.in-Some.packet (outbox_there _ _ _ _ _ _ _ _ _ c.self.view_is c.args.port c.requires.there)
+    c.in-Some.ensures.first
+
+pub put_packet-outcome-requires-clause-live : goal.put_packet-outcome-requires-clause-live
+put_packet-outcome-requires-clause-live g c =
+    let (k, has) = its_packet g (goal.at.put_packet-outcome-requires-clause-live g c).In-Some in
+    rw (c.of-handle.ensures) (k, has, tt)
+
+pub free-requires : goal.free-requires
+free-requires g c = let (k, has) = its_packet g (goal.at.free-requires g c).In-Some in rw (c.of-handle.ensures) (k, has, tt)
+
+pub invariant_of-self : goal.invariant_of-self
+invariant_of-self g c =
+    let here = (goal.at.invariant_of-self g c).In-Some in
+    let lists = lists_of c.self.inside.rings c.self.inside.outboxes in
+    let (k, has) = its_packet g here in
+    let rest = popped c.self.inside.outboxes c.pop.new.self c.args.port c.pop.ensures.rest in
+    let less : Lists = record lists {
+      outboxes = slice_set lists.outboxes c.args.port (drop 1 (ring_at c.self.inside.outboxes c.args.port).entries);
+    } in
+    rw (c.free.ensures.packets, c.of-handle.ensures, rest.lists)
+    (stand_less _ c.self.inside.registers lists less c.in-Some.packet k (λ x. sent_less lists c.args.port c.in-Some.packet x _ (front g here)) has
+    c.self.invariant)
+
+pub unreachable-requires : goal.unreachable-requires
+unreachable-requires g c =
+    let (packets, k, list) = c.requires.some in
+    has_first c.self.inside.mbufs.store.slots c.self.inside.outboxes c.args.port k packets
+    (outbox_there _ _ _ _ _ _ _ _ _ c.self.view_is c.args.port c.requires.there)
+    (outbox_packets _ _ _ _ _ _ _ _ _ c.self.view_is c.args.port _ list) c.in-None.ensures.first
+
+pub returns-clause-ok : goal.returns-clause-ok
+returns-clause-ok g c =
+    on_ok_weaker c.put_packet-outcome.result (λ all packets k box here.
+    let has = named g (goal.at.returns-clause-ok g c).In-Some packets k box here in
+    subst (λ b. Appends (g.W.Sink.contents c.args.w.now) (g.W.Sink.contents c.put_packet-outcome.new.w) (record_of c.args.unit c.args.time b k))
+    (ap (λ (m : Core). m.state.world.buffers) c.self.view_is)
+    (all k (ap (slice_get c.self.inside.mbufs.store.slots) c.of-handle.ensures ∙ has)))
+    c.put_packet-outcome.ensures.ok
+
+pub returns-clause-err : goal.returns-clause-err
+returns-clause-err g c =
+    on_err_weaker c.put_packet-outcome.result (λ all packets k box here.
+    let has = named g (goal.at.returns-clause-err g c).In-Some packets k box here in
+    subst (λ b. AppendsPart (g.W.Sink.contents c.args.w.now) (g.W.Sink.contents c.put_packet-outcome.new.w) (record_of c.args.unit c.args.time b k))
+    (ap (λ (m : Core). m.state.world.buffers) c.self.view_is)
+    (all k (ap (slice_get c.self.inside.mbufs.store.slots) c.of-handle.ensures ∙ has)))
+    c.put_packet-outcome.ensures.err
+
+pub returns-clause-counted : goal.returns-clause-counted
+returns-clause-counted g c packets k box here =
+    let has = named g (goal.at.returns-clause-counted g c).In-Some packets k box here in
+    subst (λ b. g.W.Sink.calls c.put_packet-outcome.new.w ≤ g.W.Sink.calls c.args.w.now + length (record_of c.args.unit c.args.time b k))
+    (ap (λ (m : Core). m.state.world.buffers) c.self.view_is)
+    (c.put_packet-outcome.ensures.counted k (ap (slice_get c.self.inside.mbufs.store.slots) c.of-handle.ensures ∙ has))
+
+pub returns-clause-rest : goal.returns-clause-rest
+returns-clause-rest g c packets k list =
+    let here = (goal.at.returns-clause-rest g c).In-Some in
+    let (k', has) = its_packet g here in
+    let rest = popped c.self.inside.outboxes c.pop.new.self c.args.port c.pop.ensures.rest in
+    rw (c.free.ensures.packets, c.free.ensures.zones, c.of-handle.ensures, rest.frames, rest.lists)
+    (sent_drops _ _ _ _ (lists_of c.self.inside.rings c.self.inside.outboxes) _ _ _ c.args.port c.in-Some.packet _ packets k k' c.self.view_is
+    (front g here) has c.self.invariant list)
