@@ -3,7 +3,7 @@ use Rattle.std.proofs.Common.{◌≡◌, ◌≢◌, ℕ, suc, ◌+◌, ◌<◌, 
 use Rattle.std.proofs.Common.{[], ◌∷◌, ◌++◌, length-append}
 use Rattle.std.specs.Prelude.{◌==◌, nat_lt, if◌then◌else◌}
 use Rattle.std.specs.List.{position, position_or_len}
-use Rattle.std.proofs.lemmas.List.{length-set, get_or-set_other, get_or-set_same, set-get_or}
+use Rattle.std.proofs.lemmas.List.{length-set, get_or-set_other, get_or-set_same}
 use Rattle.std.proofs.lemmas.List.Sums.{passes_at_first, fails_before_first, position_or_len_is, prefix_len-le-length}
 use Rattle.std.proofs.lemmas.Bool.{ltb-true, ltb-false, eqb-true}
 use Rattle.dp_ring.specs.Rings.{RingView, room_in, with_more}
@@ -137,33 +137,23 @@ none_found rings le = go (ltb (first_slot rings) (length rings)) refl
 -- ---- an entry more, or one less
 
 -- a ring that took an entry waits, so it is the first where it comes before the first; where it took none nothing changes
-pub record IsPut (rings : List RingView) (k entry : ℕ) (taken : Bool) : Type 0 where
-  pub earlier : taken ≡ true → k < first_slot rings → k ≡ first_slot
-      (set rings k (if nat_lt 0 (room_in (ring_at rings k)) then with_more (ring_at rings k) (entry ∷ []) else ring_at rings k))
-  pub later : taken ≡ true → first_slot rings ≤ k → first_slot rings
-      ≡ first_slot (set rings k (if nat_lt 0 (room_in (ring_at rings k)) then with_more (ring_at rings k) (entry ∷ []) else ring_at rings k))
-  pub full : taken ≡ false → first_slot rings ≡ first_slot (set rings k
-      (if nat_lt 0 (room_in (ring_at rings k)) then with_more (ring_at rings k) (entry ∷ []) else ring_at rings k))
+pub record IsPut (rings rings' : List RingView) (k : ℕ) (taken : Bool) : Type 0 where
+  pub earlier : taken ≡ true → k < first_slot rings → k ≡ first_slot rings'
+  pub later : taken ≡ true → first_slot rings ≤ k → first_slot rings ≡ first_slot rings'
+  pub full : taken ≡ false → first_slot rings ≡ first_slot rings'
 
 more_waits : (r : RingView) (entry : ℕ) → is_waiting (with_more r (entry ∷ [])) ≡ true
 more_waits r entry = waits_is (with_more r (entry ∷ [])) (λ e. (let long : length (r.entries ++ entry ∷ []) ≡ length r.entries + 1 =
     length-append r.entries (entry ∷ []) in omega (arith, long, e)))
 
-pub put_is : (rings : List RingView) (k entry : ℕ) (taken : Bool) → k < length rings → taken ≡ nat_lt 0 (room_in (ring_at rings k)) → IsPut rings k entry taken
-put_is rings k entry taken there is = record {
-  earlier = λ t lt. (
-      let room : nat_lt 0 (room_in (ring_at rings k)) ≡ true = sym is ∙ t in
-      sym (comes_first rings k _ lt there (ap (λ b. is_waiting (if b then with_more (ring_at rings k) (entry ∷ []) else ring_at rings k)) room
-      ∙ more_waits (ring_at rings k) entry))
-      );
-  later = λ t le. (
-      let room : nat_lt 0 (room_in (ring_at rings k)) ≡ true = sym is ∙ t in
-      sym (no_earlier rings k _ le there (ap (λ b. is_waiting (if b then with_more (ring_at rings k) (entry ∷ []) else ring_at rings k)) room
-      ∙ more_waits (ring_at rings k) entry))
-      );
-  full = λ t. (
-      let room : nat_lt 0 (room_in (ring_at rings k)) ≡ false = sym is ∙ t in
-      sym (ap (λ b. first_slot (set rings k (if b then with_more (ring_at rings k) (entry ∷ []) else ring_at rings k))) room
-      ∙ ap first_slot (set-get_or rings k no_ring))
-      );
-}
+pub put_is : (rings rings' : List RingView) (k entry : ℕ) (taken : Bool) → k < length rings → taken ≡ nat_lt 0 (room_in (ring_at rings k))
+    → rings' ≡ (if nat_lt 0 (room_in (ring_at rings k)) then set rings k (with_more (ring_at rings k) (entry ∷ [])) else rings) → IsPut rings rings' k taken
+put_is rings rings' k entry taken there is became =
+    let r : RingView = with_more (ring_at rings k) (entry ∷ []) in
+    let where_it : (b : Bool) → taken ≡ b → rings' ≡ (if b then set rings k r else rings) = λ b t.
+    became ∙ ap (λ (b : Bool). if b then set rings k r else rings) (sym is ∙ t) in
+    record {
+      earlier = λ t lt. sym (ap first_slot (where_it true t) ∙ comes_first rings k r lt there (more_waits (ring_at rings k) entry));
+      later = λ t le. sym (ap first_slot (where_it true t) ∙ no_earlier rings k r le there (more_waits (ring_at rings k) entry));
+      full = λ t. sym (ap first_slot (where_it false t));
+    }

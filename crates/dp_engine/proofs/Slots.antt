@@ -10,7 +10,6 @@ use Rattle.std.proofs.lemmas.Option.{none-some}
 use Rattle.std.proofs.lemmas.Iterator.Adapters.{position_from-zero}
 use Rattle.dp_ring.specs.Rings.{RingView, without_first}
 use Rattle.dp_engine.specs.Queues.{rings_in, RingsFirst, no_ring, ring_at, is_waiting, ring_of}
-use Rattle.dp_engine.proofs.Firsts.{first_slot}
 
 pub rings_below : (slots : List (Option RingView)) → length (rings_in slots) ≤ length slots
 rings_below [] = omega arith
@@ -124,13 +123,12 @@ module _ (slots : List (Option RingView)) (rings : List RingView) (same : rings_
             ∙ (set_in slots k (f (ring_at rings k)) inside ∙ ap (λ rs. set rs k (f (ring_at rings k))) same),
       )
 
-  -- the first that waits after one of them has changed
-  pub renewed : (j k : ℕ) (d o : Option RingView) (f : RingView → RingView) (count first : ℕ) → j ≡ k → k < length rings
-      → o ≡ Some (f (ring_of (get_or slots j d))) → count ≡ length (rings_in slots) → first ≡ first_slot (set rings k (f (ring_at rings k)))
+  -- and their number
+  pub renewed : (j k : ℕ) (d o : Option RingView) (f : RingView → RingView) (count : ℕ) → j ≡ k → k < length rings
+      → o ≡ Some (f (ring_of (get_or slots j d))) → count ≡ length (rings_in slots)
       → ((length (set slots j o) ≡ 8) × RingsFirst (set slots j o)) × (count ≡ length (rings_in (set slots j o)))
-      × (first ≡ first_slot (rings_in (set slots j o)))
-  renewed j k d o f count first at there is count_is first_is =
+  renewed j k d o f count at there is count_is =
       let now = changed j k d o f at there is in
       let many : length (rings_in (set slots j o)) ≡ length rings = ap length now.1 ∙ length-set rings k (f (ring_at rings k)) in
       let before : length (rings_in slots) ≡ length rings = ap length same in
-      (now.0, omega (arith, many, before, count_is), first_is ∙ ap first_slot (sym now.1))
+      (now.0, omega (arith, many, before, count_is))

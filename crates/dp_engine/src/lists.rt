@@ -1,14 +1,14 @@
-//! Transmit lists by their ports' numbers.
+//! Rings by their numbers, without the search for one that has an entry.
 
-ghost use Rattle.std.specs.Prelude.{◌≡◌, ◌<◌, ◌≤◌, ◌∷◌, [], length, nat_lt, if◌then◌else◌, slice_get, slice_set};
+ghost use Rattle.std.specs.Prelude.{◌≡◌, ◌<◌, ◌≤◌, ◌∷◌, [], length, nat_lt, if◌then◌else◌, slice_get, slice_set, is_none, IsSome};
+ghost use Rattle.std.specs.List.{position};
 ghost use Rattle.dp_ring.specs.Rings.{room_in, with_more, without_first};
-ghost use Rattle.dp_engine.specs.Queues.{rings_in, RingsFirst, ring_at};
+ghost use Rattle.dp_engine.specs.Queues.{rings_in, RingsFirst, ring_at, ring_of};
 
-use crate::queues::{first_empty, pop_in, push_in, ring_in};
 use dp_ring::Ring;
 use std::marker::Model;
 
-/// At most eight rings of packet handles, by number from 0. It does not keep track of which one waits first, as `Queues` does.
+/// At most eight rings of packet handles, by number from 0. Transmit lists are kept in one, and rings in `Queues`, which is made of one.
 pub struct Lists {
     rings: [Option<Ring>; 8],
     // The number of rings.
@@ -25,6 +25,48 @@ impl Model for Lists {
     ghost view = { λ l. rings_in l.rings };
 
     ghost invariant = { λ l. ((length l.rings ≡ 8) × RingsFirst l.rings) × (l.count ≡ length (rings_in l.rings)) };
+}
+
+// The first slot without a ring.
+fn first_empty(slots: &[Option<Ring>]) -> Option<usize>
+    ensures { result ≡ position is_none slots.now }
+{
+    slots.iter().position(|slot| slot.is_none())
+}
+
+// The ring of this number.
+fn ring_in(rings: &[Option<Ring>; 8], k: u8) -> &Ring
+    requires { k < length (rings_in rings.now) }
+    ensures { result.now ≡ ring_at (rings_in rings.now) k }
+{
+    match &rings[usize::from(k)] {
+        Some(ring) => ring,
+        None => unreachable!(),
+    }
+}
+
+// Appends an entry to a slot's ring.
+fn push_in(slot: &mut Option<Ring>, entry: u32) -> bool
+    requires { IsSome slot.old }
+    ensures taken { result ≡ nat_lt 0 (room_in (ring_of slot.old)) }
+    ensures ring { slot.new ≡ Some (if nat_lt 0 (room_in (ring_of slot.old)) then with_more (ring_of slot.old) (entry ∷ []) else ring_of slot.old) }
+{
+    match slot {
+        Some(ring) => ring.enqueue(entry),
+        None => unreachable!(),
+    }
+}
+
+// Takes the first entry of a slot's ring out.
+fn pop_in(slot: &mut Option<Ring>) -> Option<u32>
+    requires { IsSome slot.old }
+    ensures first { result ≡ slice_get (ring_of slot.old).entries 0 }
+    ensures rest { slot.new ≡ Some (without_first (ring_of slot.old) 1) }
+{
+    match slot {
+        Some(ring) => ring.dequeue(),
+        None => unreachable!(),
+    }
 }
 
 impl Lists {

@@ -1,90 +1,46 @@
 //! Rings by their numbers.
 
-ghost use Rattle.std.specs.Prelude.{◌≡◌, ◌<◌, ◌≤◌, ◌∷◌, [], length, nat_lt, if◌then◌else◌, slice_get, slice_set, true, is_none, IsSome, IfSome, IfNone};
+ghost use Rattle.std.specs.Prelude.{◌≡◌, ◌<◌, ◌≤◌, ◌∷◌, [], length, nat_lt, if◌then◌else◌, slice_get, slice_set, true, IfSome, IfNone};
 ghost use Rattle.std.specs.List.{position, position_or_len};
 ghost use Rattle.dp_ring.specs.Rings.{room_in, with_more, without_first};
-ghost use Rattle.dp_engine.specs.Queues.{rings_in, RingsFirst, ring_at, ring_of, is_waiting};
+ghost use Rattle.dp_engine.specs.Queues.{rings_in, RingsFirst, ring_at, is_waiting};
 
+use crate::lists::Lists;
 use dp_ring::Ring;
 use std::marker::Model;
 
-/// At most eight rings of packet handles, by number from 0. It keeps track of the first one that has an entry.
+/// `Lists` that keep track of the first one that has an entry.
 pub struct Queues {
-    rings: [Option<Ring>; 8],
-    // The number of rings.
-    count: u8,
+    rings: Lists,
     // The least number of a ring that has an entry; the number of rings where none has.
     first: u8,
 }
 
 impl Model for Queues {
-    ghost use Rattle.std.specs.Prelude.{◌≡◌, List, length};
+    ghost use Rattle.std.specs.Prelude.{◌≡◌, List};
     ghost use Rattle.std.specs.List.{position_or_len};
     ghost use Rattle.dp_ring.specs.Rings.{RingView};
-    ghost use Rattle.dp_engine.specs.Queues.{rings_in, RingsFirst, is_waiting};
+    ghost use Rattle.dp_engine.specs.Queues.{is_waiting};
 
     ghost Value = { List RingView };
 
-    ghost view = { λ q. rings_in q.rings };
+    ghost view = { λ q. q.rings };
 
-    ghost invariant = { λ q. ((length q.rings ≡ 8) × RingsFirst q.rings) × (q.count ≡ length (rings_in q.rings))
-        × (q.first ≡ position_or_len is_waiting (rings_in q.rings)) };
-}
-
-// The first slot without a ring.
-pub(crate) fn first_empty(slots: &[Option<Ring>]) -> Option<usize>
-    ensures { result ≡ position is_none slots.now }
-{
-    slots.iter().position(|slot| slot.is_none())
-}
-
-// The ring of this number.
-pub(crate) fn ring_in(rings: &[Option<Ring>; 8], k: u8) -> &Ring
-    requires { k < length (rings_in rings.now) }
-    ensures { result.now ≡ ring_at (rings_in rings.now) k }
-{
-    match &rings[usize::from(k)] {
-        Some(ring) => ring,
-        None => unreachable!(),
-    }
-}
-
-// Appends an entry to a slot's ring.
-pub(crate) fn push_in(slot: &mut Option<Ring>, entry: u32) -> bool
-    requires { IsSome slot.old }
-    ensures taken { result ≡ nat_lt 0 (room_in (ring_of slot.old)) }
-    ensures ring { slot.new ≡ Some (if nat_lt 0 (room_in (ring_of slot.old)) then with_more (ring_of slot.old) (entry ∷ []) else ring_of slot.old) }
-{
-    match slot {
-        Some(ring) => ring.enqueue(entry),
-        None => unreachable!(),
-    }
-}
-
-// Takes the first entry of a slot's ring out.
-pub(crate) fn pop_in(slot: &mut Option<Ring>) -> Option<u32>
-    requires { IsSome slot.old }
-    ensures first { result ≡ slice_get (ring_of slot.old).entries 0 }
-    ensures rest { slot.new ≡ Some (without_first (ring_of slot.old) 1) }
-{
-    match slot {
-        Some(ring) => ring.dequeue(),
-        None => unreachable!(),
-    }
+    ghost invariant = { λ q. q.first ≡ position_or_len is_waiting q.rings };
 }
 
 // The least number of a ring that has an entry; the number of rings where none has. No ring below `from` has one.
-fn first_from(rings: &[Option<Ring>; 8], from: u8, count: u8) -> u8
-    requires count { count ≡ length (rings_in rings.now) }
-    requires from { from ≤ position_or_len is_waiting (rings_in rings.now) }
-    ensures { result ≡ position_or_len is_waiting (rings_in rings.now) }
+fn first_from(rings: &Lists, from: u8) -> u8
+    requires { from ≤ position_or_len is_waiting rings.now }
+    ensures { result ≡ position_or_len is_waiting rings.now }
 {
-    for k in from..count {
-        if ring_in(rings, k).count() != 0 {
+    let end = rings.len() as u8;
+    for k in from..end {
+        if rings.count(k) != 0 {
             return k;
         }
     }
-    count
+    end
 }
 
 impl Queues {
@@ -93,13 +49,9 @@ impl Queues {
         requires { RingsFirst rings }
         ensures { result ≡ rings_in rings }
     {
-        let count = first_empty(&rings).unwrap_or(8) as u8;
-        let first = first_from(&rings, 0, count);
-        Queues {
-            rings,
-            count,
-            first,
-        }
+        let rings = Lists::over(rings);
+        let first = first_from(&rings, 0);
+        Queues { rings, first }
     }
 
     /// The number of rings.
@@ -107,7 +59,7 @@ impl Queues {
         ensures value { result ≡ length self.now }
         ensures bound { result ≤ 8 }
     {
-        usize::from(self.count)
+        self.rings.len()
     }
 
     /// The number of entries of a ring.
@@ -116,15 +68,7 @@ impl Queues {
         ensures value { result ≡ length (ring_at self.now k).entries }
         ensures bound { result < (ring_at self.now k).count }
     {
-        ring_in(&self.rings, k).count()
-    }
-
-    /// The `i`-th entry of a ring from the front, if there is one.
-    pub fn peek(&self, k: u8, i: u32) -> Option<u32>
-        requires { k < length self.now }
-        ensures { result ≡ slice_get (ring_at self.now k).entries i }
-    {
-        ring_in(&self.rings, k).peek(i)
+        self.rings.count(k)
     }
 
     /// Appends an entry to a ring. Answers false where that is full.
@@ -134,7 +78,7 @@ impl Queues {
         ensures rings { self.new ≡ (if nat_lt 0 (room_in (ring_at self.old k)) then slice_set self.old k (with_more (ring_at self.old k) (entry ∷ []))
             else self.old) }
     {
-        let is_taken = push_in(&mut self.rings[usize::from(k)], entry);
+        let is_taken = self.rings.push(k, entry);
         if is_taken && k < self.first {
             self.first = k;
         }
@@ -148,9 +92,9 @@ impl Queues {
         ensures rest { self.new ≡ slice_set self.old k (without_first (ring_at self.old k) 1) }
         ensures kept { IfNone result (self.new ≡ self.old) }
     {
-        let entry = pop_in(&mut self.rings[usize::from(k)]);
+        let entry = self.rings.pop(k);
         if k <= self.first {
-            self.first = first_from(&self.rings, k, self.count);
+            self.first = first_from(&self.rings, k);
         }
         entry
     }
@@ -161,7 +105,7 @@ impl Queues {
         ensures bound { IfSome result (λ k. k < length self.now) }
         ensures waits { IfSome result (λ k. is_waiting (ring_at self.now k) ≡ true) }
     {
-        if self.first < self.count {
+        if usize::from(self.first) < self.rings.len() {
             Some(self.first)
         } else {
             None
@@ -173,11 +117,7 @@ impl Queues {
         ensures same { rings_in result ≡ self }
         ensures first { RingsFirst result }
     {
-        let Queues {
-            rings,
-            count: _,
-            first: _,
-        } = self;
-        rings
+        let Queues { rings, first: _ } = self;
+        rings.into_rings()
     }
 }

@@ -1,7 +1,6 @@
 use Rattle.std.proofs.Common.{◌≤◌}
-use Rattle.dp_engine.specs.Queues.{rings_in}
 use Rattle.dp_engine.proofs.Firsts.{first_slot}
 use Rattle.dp_engine.proofs.queues.first_from.Given as goal
 
 abbrev pub invariant-loop-k : goal.invariant-loop-k
-invariant-loop-k l = l.k ≤ first_slot (rings_in l.rings)
+invariant-loop-k l = l.k ≤ first_slot l.rings

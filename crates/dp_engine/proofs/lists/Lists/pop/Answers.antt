@@ -1,5 +1,5 @@
 -- The first entry of a list taken.
-use Rattle.std.proofs.Common.{◌∙◌, refl, ap}
+use Rattle.std.proofs.Common.{◌∙◌, ap}
 use Rattle.std.specs.Prelude.{slice_get}
 use Rattle.dp_ring.specs.Rings.{without_first}
 use Rattle.dp_engine.proofs.Slots.{listed as ring_listed, has_ring, ring_is, changed, renewed}
@@ -16,9 +16,8 @@ pop_in-requires c = has_ring _ _ c.self.view_is c.self.invariant.0 _ _ _ c.from.
 
 pub invariant_of-self : goal.invariant_of-self
 invariant_of-self c =
-    let now = renewed _ _ c.self.view_is c.self.invariant.0 _ _ _ _ (λ r. without_first r 1) c.self.inside.count _
-    c.from.ensures c.requires c.pop_in.ensures.rest c.self.invariant.1 refl in
-    (now.0, now.1)
+    renewed _ _ c.self.view_is c.self.invariant.0 _ _ _ _ (λ r. without_first r 1) c.self.inside.count
+    c.from.ensures c.requires c.pop_in.ensures.rest c.self.invariant.1
 
 pub returns-clause-first : goal.returns-clause-first
 returns-clause-first c =

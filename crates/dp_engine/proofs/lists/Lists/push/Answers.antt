@@ -1,5 +1,5 @@
 -- An entry is appended to a list: whether it fits is derived once.
-use Rattle.std.proofs.Common.{◌∙◌, ap, refl, [], ◌∷◌}
+use Rattle.std.proofs.Common.{◌∙◌, ap, [], ◌∷◌}
 use Rattle.std.specs.Prelude.{nat_lt, if◌then◌else◌}
 use Rattle.dp_ring.specs.Rings.{RingView, room_in, with_more}
 use Rattle.dp_engine.specs.Queues.{ring_at}
@@ -17,9 +17,8 @@ push_in-requires c = has_ring _ _ c.self.view_is c.self.invariant.0 _ _ _ c.from
 
 pub invariant_of-self : goal.invariant_of-self
 invariant_of-self c =
-    let now = renewed _ _ c.self.view_is c.self.invariant.0 _ _ _ _ (λ (r : RingView). if nat_lt 0 (room_in r) then with_more r (c.args.entry ∷ []) else r)
-    c.self.inside.count _ c.from.ensures c.requires c.push_in.ensures.ring c.self.invariant.1 refl in
-    (now.0, now.1)
+    renewed _ _ c.self.view_is c.self.invariant.0 _ _ _ _ (λ (r : RingView). if nat_lt 0 (room_in r) then with_more r (c.args.entry ∷ []) else r)
+    c.self.inside.count c.from.ensures c.requires c.push_in.ensures.ring c.self.invariant.1
 
 pub returns-clause-taken : goal.returns-clause-taken
 returns-clause-taken c =
