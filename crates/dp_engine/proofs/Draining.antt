@@ -1,14 +1,16 @@
--- Freeing the first packet of a list.
-use Rattle.std.proofs.Common.{◌≡◌, ◌≢◌, ℕ, ◌+◌, Bool, true, false, List, ◌∷◌, map, Option, Some, None, refl, sym, ◌∙◌, ap, subst, arith}
+-- The first packet of a transmit list or a ring leaves it, and is freed.
+use Rattle.std.proofs.Common.{◌≡◌, ◌≢◌, ℕ, ◌+◌, Bool, true, false, List, ◌∷◌, map, Option, Some, None, refl, sym, ◌∙◌, ap, arith}
 use Rattle.std.specs.Prelude.{slice_get, slice_set, ◌==◌}
 use Rattle.std.proofs.lemmas.Bool.{eq-eqb, eqb-true}
 use Rattle.dp_model.specs.Packets.{Packet}
-use Rattle.dp_model.specs.Machine.{with_outbox, with_ring}
 use Rattle.dp_model.specs.Laws.Lists.{get_set_other, get_set_same}
 use Rattle.dp_model.specs.Stores.{Store, with_slot}
+use Rattle.dp_engine.specs.declared.place.Place.{Place}
+use Rattle.dp_engine.specs.declared.place.Place.TheVariants.{Port, Ring}
 use Rattle.dp_engine.specs.Handles.{packet_at, handles_held, once, occurs, in_slot, waiting, Lists, Frames, StandOnce, Core, core_of, moved, Ran}
-use Rattle.dp_engine.proofs.Handles.{is_one, in_slot_some, not_held, not_in, occurs_less, waits, map_set}
-use Rattle.dp_engine.proofs.Machines.{list_of}
+use Rattle.dp_engine.specs.Places.{packets_at, with_packets, handles_at, with_handles}
+use Rattle.dp_engine.proofs.Handles.{is_one, in_slot_some, not_held, not_in, occurs_less, waits}
+use Rattle.dp_engine.proofs.Machines.{packets_of, core_with}
 
 -- a handle leaves the lists, and its slot is empty
 pub stand_less : (slots : List (Option Packet)) (registers : List (Option ℕ)) (lists lists' : Lists) (h : ℕ) (k : Packet) →
@@ -39,61 +41,42 @@ rest_of slots h xs k packets e = tails _ _ _ _ e
     tails : (x y : Packet) (xs ys : List Packet) → x ∷ xs ≡ y ∷ ys → xs ≡ ys
     tails x y xs ys e = cc
 
--- of a transmit list
-pub sent_less : (lists : Lists) (i h x : ℕ) (xs : List ℕ) → slice_get lists.outboxes i ≡ Some (h ∷ xs) →
-    occurs x (waiting (record lists { outboxes = slice_set lists.outboxes i xs })) + once (h == x) ≡ occurs x (waiting lists)
-sent_less lists i h x xs there =
-    omega (arith, occurs_less lists.outboxes i h x xs there, waits x lists, waits x (record lists { outboxes = slice_set lists.outboxes i xs }))
+-- its handle is one fewer that waits
+pub waits_less : (place : Place) (lists : Lists) (h x : ℕ) (xs : List ℕ) → handles_at place lists ≡ Some (h ∷ xs) →
+    occurs x (waiting (with_handles place xs lists)) + once (h == x) ≡ occurs x (waiting lists)
+waits_less (Port i) lists h x xs there =
+    omega (arith, occurs_less lists.outboxes i h x xs there, waits x lists, waits x (with_handles (Port i) xs lists))
+waits_less (Ring i) lists h x xs there =
+    omega (arith, occurs_less lists.rings i h x xs there, waits x lists, waits x (with_handles (Ring i) xs lists))
 
-pub sent_held : (slots : List (Option Packet)) (registers : List (Option ℕ)) (lists : Lists) (i h : ℕ) (xs : List ℕ) → slice_get lists.outboxes i
-    ≡ Some (h ∷ xs) → StandOnce slots registers lists → (k : Packet) × (slice_get slots h ≡ Some (Some k))
-sent_held slots registers lists i h xs there stand =
-    in_slot_some (slice_get slots h) (omega (arith, stand h, sent_less lists i h h xs there, is_one h h refl))
+-- and it named a packet
+pub first_held : (place : Place) (slots : List (Option Packet)) (registers : List (Option ℕ)) (lists : Lists) (h : ℕ) (xs : List ℕ)
+    → handles_at place lists ≡ Some (h ∷ xs) → StandOnce slots registers lists → (k : Packet) × (slice_get slots h ≡ Some (Some k))
+first_held place slots registers lists h xs there stand =
+    in_slot_some (slice_get slots h) (omega (arith, stand h, waits_less place lists h h xs there, is_one h h refl))
 
-pub sent_drops : (s : Store) (frames : Frames) (registers : List (Option ℕ)) (numbers : List ℕ) (lists : Lists) (calls : ℕ) (steps : Ran) (core : Core)
-    (i h : ℕ) (xs : List ℕ) (packets : List Packet) (k k' : Packet) → core_of s frames registers numbers lists calls steps ≡ core → slice_get lists.outboxes i
-    ≡ Some (h ∷ xs) → slice_get s.slots h ≡ Some (Some k') → StandOnce s.slots registers lists → slice_get core.state.world.outboxes i ≡ Some (k ∷ packets)
-    → core_of (with_slot h None s) frames registers numbers (record lists { outboxes = slice_set lists.outboxes i xs }) calls steps
-    ≡ moved (with_outbox i packets core.state) core
-sent_drops s frames registers numbers lists calls steps core i h xs packets k k' is there has stand box =
+-- the slot of a handle that is nowhere does not matter
+unmoved : (s : Store) (frames : Frames) (registers : List (Option ℕ)) (numbers : List ℕ) (lists : Lists) (calls : ℕ) (steps : Ran) (h : ℕ)
+    → occurs h (handles_held registers) ≡ 0 → occurs h (waiting lists) ≡ 0
+    → core_of (with_slot h None s) frames registers numbers lists calls steps ≡ core_of s frames registers numbers lists calls steps
+unmoved s frames registers numbers lists calls steps h held none =
+    let e = not_held s.slots h None registers held in
+    let f = not_in s.slots h None lists.rings (omega (arith, none, waits h lists)) in
+    let g = not_in s.slots h None lists.outboxes (omega (arith, none, waits h lists)) in
+    rw (e, f, g) refl
+
+pub first_drops : (place : Place) (s : Store) (frames : Frames) (registers : List (Option ℕ)) (numbers : List ℕ) (lists : Lists) (calls : ℕ) (steps : Ran)
+    (core : Core) (h : ℕ) (xs : List ℕ) (packets : List Packet) (k k' : Packet) → core_of s frames registers numbers lists calls steps ≡ core
+    → handles_at place lists ≡ Some (h ∷ xs) → slice_get s.slots h ≡ Some (Some k') → StandOnce s.slots registers lists
+    → packets_at place core.state.world ≡ Some (k ∷ packets)
+    → core_of (with_slot h None s) frames registers numbers (with_handles place xs lists) calls steps ≡ moved (with_packets place packets core.state) core
+first_drops place s frames registers numbers lists calls steps core h xs packets k k' is there has stand box =
+    let old = core_of s frames registers numbers lists calls steps in
     let one : in_slot (slice_get s.slots h) ≡ 1 = ap in_slot has in
-    let less = occurs_less lists.outboxes i h h xs there in
-    let e = not_held s.slots h None registers (omega (arith, stand h, less, waits h lists, is_one h h refl, one)) in
-    let f = not_in s.slots h None lists.rings (omega (arith, stand h, less, waits h lists, is_one h h refl, one)) in
-    let g = not_in s.slots h None (slice_set lists.outboxes i xs) (omega (arith, stand h, less, waits h lists, is_one h h refl, one))
-    ∙ map_set (map (packet_at s.slots)) lists.outboxes i xs in
-    let same = rest_of s.slots h xs k packets (list_of s.slots lists.outboxes i (h ∷ xs) (k ∷ packets) there
-    (ap (λ (c : Core). slice_get c.state.world.outboxes i) is ∙ box)) in
-    let P : Core → Type 0 = λ c. core_of (with_slot h None s) frames registers numbers (record lists { outboxes = slice_set lists.outboxes i xs }) calls steps
-    ≡ moved (with_outbox i packets c.state) c in
-    subst P is (rw (e, f, g, same) refl)
-
--- of a ring
-pub left_less : (lists : Lists) (i h x : ℕ) (xs : List ℕ) → slice_get lists.rings i ≡ Some (h ∷ xs) →
-    occurs x (waiting (record lists { rings = slice_set lists.rings i xs })) + once (h == x) ≡ occurs x (waiting lists)
-left_less lists i h x xs there =
-    omega (arith, occurs_less lists.rings i h x xs there, waits x lists, waits x (record lists { rings = slice_set lists.rings i xs }))
-
-pub left_held : (slots : List (Option Packet)) (registers : List (Option ℕ)) (lists : Lists) (i h : ℕ) (xs : List ℕ) →
-    slice_get lists.rings i ≡ Some (h ∷ xs) → StandOnce slots registers lists → (k : Packet) × (slice_get slots h ≡ Some (Some k))
-left_held slots registers lists i h xs there stand =
-    in_slot_some (slice_get slots h) (omega (arith, stand h, left_less lists i h h xs there, is_one h h refl))
-
-pub left_drops : (s : Store) (frames : Frames) (registers : List (Option ℕ)) (numbers : List ℕ) (lists : Lists) (calls : ℕ) (steps : Ran) (core : Core)
-    (i h : ℕ) (xs : List ℕ) (packets : List Packet) (k k' : Packet) → core_of s frames registers numbers lists calls steps ≡ core →
-    slice_get lists.rings i ≡ Some (h ∷ xs) → slice_get s.slots h ≡ Some (Some k') → StandOnce s.slots registers lists → slice_get core.state.world.rings i
-    ≡ Some (k ∷ packets)
-    → core_of (with_slot h None s) frames registers numbers (record lists { rings = slice_set lists.rings i xs }) calls steps
-    ≡ moved (with_ring i packets core.state) core
-left_drops s frames registers numbers lists calls steps core i h xs packets k k' is there has stand box =
-    let one : in_slot (slice_get s.slots h) ≡ 1 = ap in_slot has in
-    let less = occurs_less lists.rings i h h xs there in
-    let e = not_held s.slots h None registers (omega (arith, stand h, less, waits h lists, is_one h h refl, one)) in
-    let f = not_in s.slots h None lists.outboxes (omega (arith, stand h, less, waits h lists, is_one h h refl, one)) in
-    let g = not_in s.slots h None (slice_set lists.rings i xs) (omega (arith, stand h, less, waits h lists, is_one h h refl, one))
-    ∙ map_set (map (packet_at s.slots)) lists.rings i xs in
-    let same = rest_of s.slots h xs k packets (list_of s.slots lists.rings i (h ∷ xs) (k ∷ packets) there
-    (ap (λ (c : Core). slice_get c.state.world.rings i) is ∙ box)) in
-    let P : Core → Type 0 = λ c. core_of (with_slot h None s) frames registers numbers (record lists { rings = slice_set lists.rings i xs }) calls steps
-    ≡ moved (with_ring i packets c.state) c in
-    subst P is (rw (e, f, g, same) refl)
+    let less = waits_less place lists h h xs there in
+    let all = packets_of place s frames registers numbers lists calls steps core (h ∷ xs) (k ∷ packets) is there box in
+    unmoved s frames registers numbers (with_handles place xs lists) calls steps h (omega (arith, stand h, less, is_one h h refl, one))
+    (omega (arith, stand h, less, is_one h h refl, one))
+    ∙ core_with place s frames registers numbers lists calls steps xs
+    ∙ ap (λ (ps : List Packet). moved (with_packets place ps old.state) old) (rest_of s.slots h xs k packets all)
+    ∙ ap (λ (c : Core). moved (with_packets place packets c.state) c) is

@@ -7,6 +7,9 @@ use Rattle.dp_model.specs.Packets.{Packet}
 use Rattle.dp_model.specs.Stores.{Store}
 use Rattle.dp_pool.specs.Pools.{PoolZones}
 use Rattle.dp_ring.specs.Rings.{RingView, room_in, with_more, without_first}
+use Rattle.dp_engine.specs.declared.place.Place.{Place}
+use Rattle.dp_engine.specs.declared.place.Place.TheVariants.{Port, Ring}
+use Rattle.dp_engine.specs.Places.{packets_at, handles_at, IsPlace, place_in}
 use Rattle.dp_engine.specs.Queues.{ring_at}
 use Rattle.dp_engine.specs.Handles.{packet_at, packets_in, without_entries, entries_of, frames_of, lists_of, Core, core_of, Ran}
 use Rattle.dp_engine.proofs.Handles.{map_get, map_set}
@@ -62,13 +65,21 @@ popped rings rings' i e =
       lists = ap (map entries_of) e ∙ map_set entries_of rings i r;
     }
 
--- the ring had the entry first
-pub first_in : (rings : List RingView) (i h : ℕ) → i < length rings → Some h ≡ slice_get (ring_at rings i).entries 0
-    → slice_get (map entries_of rings) i ≡ Some (h ∷ drop 1 (ring_at rings i).entries)
-first_in rings i h there first = entries_at rings i there ∙ ap Some (first_of (ring_at rings i).entries h first)
+-- the handles of a place
+pub handles_in : (place : Place) (rings outboxes : List RingView) → IsPlace place rings outboxes
+    → handles_at place (lists_of rings outboxes) ≡ Some ((place_in place rings outboxes).entries)
+handles_in (Port i) rings outboxes there = entries_at outboxes i there
+handles_in (Ring i) rings outboxes there = entries_at rings i there
+
+-- one of them is the first
+pub first_in : (place : Place) (rings outboxes : List RingView) (h : ℕ) → IsPlace place rings outboxes
+    → Some h ≡ slice_get (place_in place rings outboxes).entries 0
+    → handles_at place (lists_of rings outboxes) ≡ Some (h ∷ drop 1 (place_in place rings outboxes).entries)
+first_in place rings outboxes h there first =
+    handles_in place rings outboxes there ∙ ap Some (first_of (place_in place rings outboxes).entries h first)
 
 -- a ring with packets has an entry
-pub has_first : (slots : List (Option Packet)) (rings : List RingView) (i : ℕ) (k : Packet) (packets : List Packet) → i < length rings
+has_first : (slots : List (Option Packet)) (rings : List RingView) (i : ℕ) (k : Packet) (packets : List Packet) → i < length rings
     → slice_get (packets_in slots (map entries_of rings)) i ≡ Some (k ∷ packets) → None ≡ slice_get (ring_at rings i).entries 0 → ⊥
 has_first slots rings i k packets there box none =
     go (ring_at rings i).entries none (many_in slots rings i (k ∷ packets) there box)
@@ -90,46 +101,33 @@ listed_in slots i n rings lists there is many =
 
 module _ (s : Store) (zones : List PoolZones) (rings outboxes : List RingView) (registers : List (Option ℕ)) (numbers : List ℕ) (calls : ℕ) (steps : Ran)
     (core : Core) (is : core_of s (frames_of zones rings outboxes) registers numbers (lists_of rings outboxes) calls steps ≡ core) where
-  pub outbox_there : (i : ℕ) → i < length core.frames.outboxes → i < length outboxes
-  outbox_there i there = let e = ap (λ (c : Core). length c.frames.outboxes) is in omega (arith, e, there, frames_length outboxes)
+  pub place_there : (place : Place) → IsPlace place core.frames.rings core.frames.outboxes → IsPlace place rings outboxes
+  place_there (Port i) there = let e = ap (λ (c : Core). length c.frames.outboxes) is in omega (arith, e, there, frames_length outboxes)
+  place_there (Ring i) there = let e = ap (λ (c : Core). length c.frames.rings) is in omega (arith, e, there, frames_length rings)
 
-  pub ring_there : (i : ℕ) → i < length core.frames.rings → i < length rings
-  ring_there i there = let e = ap (λ (c : Core). length c.frames.rings) is in omega (arith, e, there, frames_length rings)
+  -- a place with packets has a first handle
+  pub first_there : (place : Place) (k : Packet) (packets : List Packet) → IsPlace place core.frames.rings core.frames.outboxes
+      → packets_at place core.state.world ≡ Some (k ∷ packets) → None ≡ slice_get (place_in place rings outboxes).entries 0 → ⊥
+  first_there (Port i) k packets there box none =
+      has_first s.slots outboxes i k packets (place_there (Port i) there) (ap (λ (c : Core). slice_get c.state.world.outboxes i) is ∙ box) none
+  first_there (Ring i) k packets there box none =
+      has_first s.slots rings i k packets (place_there (Ring i) there) (ap (λ (c : Core). slice_get c.state.world.rings i) is ∙ box) none
 
-  -- the packets of a transmit list
-  pub outbox_packets : (i : ℕ) (packets : List Packet) → slice_get core.state.world.outboxes i ≡ Some packets
-      → slice_get (packets_in s.slots (map entries_of outboxes)) i ≡ Some packets
-  outbox_packets i packets box = ap (λ (c : Core). slice_get c.state.world.outboxes i) is ∙ box
-
-  -- and of a ring
-  pub ring_packets : (i : ℕ) (packets : List Packet) → slice_get core.state.world.rings i ≡ Some packets
-      → slice_get (packets_in s.slots (map entries_of rings)) i ≡ Some packets
-  ring_packets i packets box = ap (λ (c : Core). slice_get c.state.world.rings i) is ∙ box
-
-  pub outbox_room : (i : ℕ) (packets : List Packet) → i < length core.frames.outboxes → slice_get core.state.world.outboxes i ≡ Some packets
-      → nat_lt 0 (room_in (ring_at outboxes i)) ≡ nat_lt (length packets + 1) (ring_at core.frames.outboxes i).count
-  outbox_room i packets there box =
-      room_is s.slots outboxes i packets (outbox_there i there) (outbox_packets i packets box)
+  -- whether it has room for one more
+  pub room_at : (place : Place) (packets : List Packet) → IsPlace place core.frames.rings core.frames.outboxes
+      → packets_at place core.state.world ≡ Some packets
+      → nat_lt 0 (room_in (place_in place rings outboxes)) ≡ nat_lt (length packets + 1) (place_in place core.frames.rings core.frames.outboxes).count
+  room_at (Port i) packets there box =
+      room_is s.slots outboxes i packets (place_there (Port i) there) (ap (λ (c : Core). slice_get c.state.world.outboxes i) is ∙ box)
       ∙ ap (λ (c : Core). nat_lt (length packets + 1) (ring_at c.frames.outboxes i).count) is
-
-  pub ring_room : (i : ℕ) (packets : List Packet) → i < length core.frames.rings → slice_get core.state.world.rings i ≡ Some packets
-      → nat_lt 0 (room_in (ring_at rings i)) ≡ nat_lt (length packets + 1) (ring_at core.frames.rings i).count
-  ring_room i packets there box =
-      room_is s.slots rings i packets (ring_there i there) (ring_packets i packets box)
+  room_at (Ring i) packets there box =
+      room_is s.slots rings i packets (place_there (Ring i) there) (ap (λ (c : Core). slice_get c.state.world.rings i) is ∙ box)
       ∙ ap (λ (c : Core). nat_lt (length packets + 1) (ring_at c.frames.rings i).count) is
 
-  -- the number of packets that wait, and that they fit
-  pub outbox_list : (i n : ℕ) → i < length core.frames.outboxes → n ≡ length (ring_at outboxes i).entries
-      → (packets : List Packet) × (slice_get core.state.world.outboxes i ≡ Some packets) × (n ≡ length packets)
-  outbox_list i n there many =
-      listed_in s.slots i n outboxes core.state.world.outboxes (outbox_there i there) (ap (λ (c : Core). c.state.world.outboxes) is) many
-
-  pub ring_list : (i n : ℕ) → i < length core.frames.rings → n ≡ length (ring_at rings i).entries
-      → (packets : List Packet) × (slice_get core.state.world.rings i ≡ Some packets) × (n ≡ length packets)
-  ring_list i n there many = listed_in s.slots i n rings core.state.world.rings (ring_there i there) (ap (λ (c : Core). c.state.world.rings) is) many
-
-  pub outbox_count : (i : ℕ) → (ring_at core.frames.outboxes i).count ≡ (ring_at outboxes i).count
-  outbox_count i = sym (ap (λ (c : Core). (ring_at c.frames.outboxes i).count) is) ∙ frame_count outboxes i
-
-  pub ring_count : (i : ℕ) → (ring_at core.frames.rings i).count ≡ (ring_at rings i).count
-  ring_count i = sym (ap (λ (c : Core). (ring_at c.frames.rings i).count) is) ∙ frame_count rings i
+  -- the number of packets that wait
+  pub list_at : (place : Place) (n : ℕ) → IsPlace place core.frames.rings core.frames.outboxes → n ≡ length (place_in place rings outboxes).entries
+      → (packets : List Packet) × (packets_at place core.state.world ≡ Some packets) × (n ≡ length packets)
+  list_at (Port i) n there many =
+      listed_in s.slots i n outboxes core.state.world.outboxes (place_there (Port i) there) (ap (λ (c : Core). c.state.world.outboxes) is) many
+  list_at (Ring i) n there many =
+      listed_in s.slots i n rings core.state.world.rings (place_there (Ring i) there) (ap (λ (c : Core). c.state.world.rings) is) many

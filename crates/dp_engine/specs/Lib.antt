@@ -10,6 +10,7 @@ pub mod Midway
 pub mod Names
 pub mod Needs
 pub mod Outcomes
+pub mod Places
 pub mod Queues
 pub mod Reports
 pub mod Schemes

@@ -44,6 +44,7 @@ mod machine;
 mod names;
 mod needs;
 mod node;
+mod place;
 mod plan;
 mod put;
 mod queues;

@@ -12,10 +12,11 @@ ghost use Rattle.dp_engine.specs.Handles.{moved, in_slot, core_of, ran, frames_o
 ghost use Rattle.dp_engine.specs.Steps.{setting_of, with_jumps};
 ghost use Rattle.dp_engine.specs.Turns.{IsReceived, with_one_call};
 ghost use Rattle.dp_model.specs.Machine.{with_cut, without_packets, jump_budget};
+ghost use Rattle.dp_engine.specs.Places.{packets_at, with_packets, IsPlace, place_in, Becomes};
 ghost use Rattle.dp_engine.specs.Queues.{ring_at};
-ghost use Rattle.dp_ring.specs.Rings.{RingView};
+ghost use Rattle.dp_ring.specs.Rings.{RingView, room_in};
 ghost use Rattle.dp_mbuf.specs.Mbufs.{HasNone};
-ghost use Rattle.std.specs.Prelude.{OnOk, OnErr, IfOk, IfErr, IsOk, IsErr, MatchResult, flat_map, take};
+ghost use Rattle.std.specs.Prelude.{OnOk, OnErr, IfOk, IfErr, IsOk, IsErr, MatchResult, flat_map, take, drop};
 ghost use Rattle.std.specs.Io.KnownBytes.{Appends};
 ghost use Rattle.dp_pcap.specs.declared.format.TheConstants.{NANOS_A_SECOND};
 ghost use Rattle.dp_pcap.specs.Text.{AppendsPart, record_text, failed_pushes};
@@ -27,6 +28,7 @@ mod inspect;
 mod register;
 
 use crate::lists::Lists;
+use crate::place::Place;
 use crate::put::put_packet;
 use crate::queues::Queues;
 use calls::{handle_in, is_held_in};
@@ -67,6 +69,34 @@ fn is_listed(calls: &[u64], call: u64) -> bool
     ensures { result ≡ list_any (nat_eq call) calls.now }
 {
     calls.iter().any(|x| call == *x)
+}
+
+// Appends a handle to a transmit list or a ring. Answers false where that is full.
+#[inline(always)]
+fn push_at(rings: &mut Queues, outboxes: &mut Lists, place: Place, handle: u32) -> bool
+    requires { IsPlace place rings.old outboxes.old }
+    ensures taken { result ≡ nat_lt 0 (room_in (place_in place rings.old outboxes.old)) }
+    ensures more { IsTrue result → Becomes place ((place_in place rings.old outboxes.old).entries ++ handle ∷ []) rings.old outboxes.old rings.new
+        outboxes.new }
+    ensures full { result ≡ false → (rings.new ≡ rings.old) × (outboxes.new ≡ outboxes.old) }
+{
+    match place {
+        Place::Port(port) => outboxes.push(port, handle),
+        Place::Ring(ring) => rings.push(ring, handle),
+    }
+}
+
+// Takes the first handle of a transmit list or a ring out, if there is one.
+#[inline(always)]
+fn pop_at(rings: &mut Queues, outboxes: &mut Lists, place: Place) -> Option<u32>
+    requires { IsPlace place rings.old outboxes.old }
+    ensures first { result ≡ slice_get (place_in place rings.old outboxes.old).entries 0 }
+    ensures rest { Becomes place (drop 1 (place_in place rings.old outboxes.old).entries) rings.old outboxes.old rings.new outboxes.new }
+{
+    match place {
+        Place::Port(port) => outboxes.pop(port),
+        Place::Ring(ring) => rings.pop(ring),
+    }
 }
 
 impl Machine {
@@ -172,38 +202,20 @@ impl Machine {
         self.registers[usize::from(p.number())] = Register::empty();
     }
 
-    // Moves a packet to the end of a port's transmit list. Answers false where that is full.
-    pub(crate) fn send(&mut self, p: PacketRegister, port: u8) -> bool
+    // Moves a packet to the end of a transmit list or a ring. Answers false where that is full.
+    #[inline(always)]
+    pub(crate) fn move_to(&mut self, p: PacketRegister, place: Place) -> bool
         requires holds { (k : Packet) × Holds self.old.state p k }
-        requires there { port < length self.old.frames.outboxes }
-        ensures taken { (packets : List Packet) → slice_get self.old.state.world.outboxes port ≡ Some packets →
-            result ≡ nat_lt (length packets + 1) (ring_at self.old.frames.outboxes port).count }
-        ensures sent { IsTrue result → (k : Packet) (packets : List Packet) → Holds self.old.state p k → slice_get self.old.state.world.outboxes port
+        requires there { IsPlace place self.old.frames.rings self.old.frames.outboxes }
+        ensures taken { (packets : List Packet) → packets_at place self.old.state.world ≡ Some packets →
+            result ≡ nat_lt (length packets + 1) (place_in place self.old.frames.rings self.old.frames.outboxes).count }
+        ensures sent { IsTrue result → (k : Packet) (packets : List Packet) → Holds self.old.state p k → packets_at place self.old.state.world
             ≡ Some packets
-            → self.new ≡ moved (with_outbox port (packets ++ k ∷ []) (without_packet p self.old.state)) self.old }
+            → self.new ≡ moved (with_packets place (packets ++ k ∷ []) (without_packet p self.old.state)) self.old }
         ensures full { result ≡ false → self.new ≡ self.old }
     {
         let packet = handle_in(&self.registers, p);
-        if !self.outboxes.push(port, packet.number()) {
-            return false;
-        }
-        self.registers[usize::from(p.number())] = Register::empty();
-        true
-    }
-
-    // Moves a packet to the end of a ring. Answers false where that is full.
-    pub(crate) fn enqueue(&mut self, p: PacketRegister, ring: u8) -> bool
-        requires holds { (k : Packet) × Holds self.old.state p k }
-        requires there { ring < length self.old.frames.rings }
-        ensures taken { (packets : List Packet) → slice_get self.old.state.world.rings ring ≡ Some packets →
-            result ≡ nat_lt (length packets + 1) (ring_at self.old.frames.rings ring).count }
-        ensures queued { IsTrue result → (k : Packet) (packets : List Packet) → Holds self.old.state p k → slice_get self.old.state.world.rings ring
-            ≡ Some packets
-            → self.new ≡ moved (with_ring ring (packets ++ k ∷ []) (without_packet p self.old.state)) self.old }
-        ensures full { result ≡ false → self.new ≡ self.old }
-    {
-        let packet = handle_in(&self.registers, p);
-        if !self.rings.push(ring, packet.number()) {
+        if !push_at(&mut self.rings, &mut self.outboxes, place, packet.number()) {
             return false;
         }
         self.registers[usize::from(p.number())] = Register::empty();
@@ -322,28 +334,15 @@ impl Machine {
         }
     }
 
-    // Frees the first packet of a transmit list, which must have one.
+    // Frees the first packet of a transmit list or a ring, which must have one.
     #[inline(always)]
-    pub(crate) fn drop_sent(&mut self, port: u8)
-        requires there { port < length self.old.frames.outboxes }
-        requires some { (packets : List Packet) × (k : Packet) × (slice_get self.old.state.world.outboxes port ≡ Some (k ∷ packets)) }
-        ensures { (packets : List Packet) (k : Packet) → slice_get self.old.state.world.outboxes port ≡ Some (k ∷ packets) →
-            self.new ≡ moved (with_outbox port packets self.old.state) self.old }
+    fn drop_first(&mut self, place: Place)
+        requires there { IsPlace place self.old.frames.rings self.old.frames.outboxes }
+        requires some { (packets : List Packet) × (k : Packet) × (packets_at place self.old.state.world ≡ Some (k ∷ packets)) }
+        ensures { (packets : List Packet) (k : Packet) → packets_at place self.old.state.world ≡ Some (k ∷ packets) →
+            self.new ≡ moved (with_packets place packets self.old.state) self.old }
     {
-        match self.outboxes.pop(port) {
-            Some(packet) => self.mbufs.free(Handle::of(packet)),
-            None => unreachable!(),
-        }
-    }
-
-    // Frees the first packet of a ring, which must have one.
-    pub(crate) fn drop_left(&mut self, ring: u8)
-        requires there { ring < length self.old.frames.rings }
-        requires some { (packets : List Packet) × (k : Packet) × (slice_get self.old.state.world.rings ring ≡ Some (k ∷ packets)) }
-        ensures { (packets : List Packet) (k : Packet) → slice_get self.old.state.world.rings ring ≡ Some (k ∷ packets) →
-            self.new ≡ moved (with_ring ring packets self.old.state) self.old }
-    {
-        match self.rings.pop(ring) {
+        match pop_at(&mut self.rings, &mut self.outboxes, place) {
             Some(packet) => self.mbufs.free(Handle::of(packet)),
             None => unreachable!(),
         }
@@ -367,28 +366,27 @@ impl Machine {
         self.rings.count(ring)
     }
 
-    // Frees all packets of a transmit list.
+    // The number of packets in a transmit list or a ring.
     #[inline(always)]
-    pub(crate) fn clear_sent(&mut self, port: u8)
-        requires there { port < length self.old.frames.outboxes }
-        ensures { self.new ≡ moved (with_outbox port [] self.old.state) self.old }
+    fn number_at(&self, place: Place) -> u32
+        requires { IsPlace place self.now.frames.rings self.now.frames.outboxes }
+        ensures { (packets : List Packet) × (packets_at place self.now.state.world ≡ Some packets) × (result ≡ length packets) }
     {
-        let mut left = self.queued(port);
-        while left > 0 {
-            self.drop_sent(port);
-            left -= 1;
+        match place {
+            Place::Port(port) => self.queued(port),
+            Place::Ring(ring) => self.waiting(ring),
         }
     }
 
-    // Frees all packets of a ring.
-    pub(crate) fn clear_left(&mut self, ring: u8)
-        requires there { ring < length self.old.frames.rings }
-        ensures { self.new ≡ moved (with_ring ring [] self.old.state) self.old }
+    // Frees all packets of a transmit list or a ring.
+    #[inline(always)]
+    pub(crate) fn clear(&mut self, place: Place)
+        requires { IsPlace place self.old.frames.rings self.old.frames.outboxes }
+        ensures { self.new ≡ moved (with_packets place [] self.old.state) self.old }
     {
-        let mut left = self.waiting(ring);
-        while left > 0 {
-            self.drop_left(ring);
-            left -= 1;
+        let count = self.number_at(place);
+        for _gone in 0..count {
+            self.drop_first(place);
         }
     }
 
@@ -434,7 +432,7 @@ impl Machine {
         requires { port < length self.old.frames.outboxes }
         ensures { self.new ≡ moved (with_outbox port [] self.old.state) self.old }
     {
-        self.clear_sent(port);
+        self.clear(Place::Port(port));
     }
 
     // Writes the records of a transmit list, first to last, and frees its packets, also those after a failure. Returns how many were written whole,

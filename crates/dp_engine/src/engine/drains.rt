@@ -11,6 +11,7 @@ ghost use Rattle.dp_engine.specs.Engines.{drained, left_at, with_left, flushed};
 
 use crate::engine::{Engine, WriteFault};
 use crate::known::Known;
+use crate::place::Place;
 use dp_pcap::{Sink, Time, Unit};
 
 impl<K: Known> Engine<K> {
@@ -54,7 +55,7 @@ impl<K: Known> Engine<K> {
         ensures { self.new ≡ left_at ring self.old }
     {
         self.left[usize::from(ring)] += u64::from(self.machine.waiting(ring));
-        self.machine.clear_left(ring);
+        self.machine.clear(Place::Ring(ring));
     }
 
     // Frees the packets of a transmit list.
@@ -62,7 +63,7 @@ impl<K: Known> Engine<K> {
         requires { port < length self.old.setting.env.ports }
         ensures { self.new ≡ drained port 0 self.old }
     {
-        self.machine.clear_sent(port);
+        self.machine.clear(Place::Port(port));
     }
 
     // Frees the packets of all rings, and counts them ring by ring.

@@ -9,6 +9,7 @@ ghost use Rattle.dp_engine.specs.Shapes.{AreWaiting};
 use crate::batch::{BatchSize, SentRecord};
 use crate::engine::{Engine, Turn};
 use crate::known::Known;
+use crate::place::Place;
 use dp_model::PoolSpec;
 
 /// What a pass did.
@@ -84,7 +85,7 @@ impl<K: Known> Engine<K> {
         ensures { (packets : List Packet) → slice_get self.old.world.outboxes port ≡ Some packets → self.new ≡ drained port (length packets) self.old }
     {
         self.tallies[usize::from(port)].sent += u64::from(self.machine.queued(port));
-        self.machine.clear_sent(port);
+        self.machine.clear(Place::Port(port));
     }
 
     // Frees the packets of all transmit lists, and counts them as sent.

@@ -1,7 +1,8 @@
 use Rattle.std.proofs.Common.{refl, arith}
+use Rattle.dp_engine.specs.declared.place.Place.TheVariants.{Port, Ring}
 use Rattle.dp_engine.specs.Steps.{setting_of}
 use Rattle.dp_engine.proofs.Lookups.{table_there}
-use Rattle.dp_engine.proofs.Steps.{Allocates, Clones, Sends, Queues, allocates_to, clones_to, port_there, ring_there, sends_to, queues_to}
+use Rattle.dp_engine.proofs.Steps.{Allocates, Clones, Moves, allocates_to, clones_to, port_there, ring_there, sends_to, queues_to}
 use Rattle.dp_engine.proofs.run.act.Goals as goal
 
 pub returns-clause-acts : goal.returns-clause-acts
@@ -37,39 +38,40 @@ overflow_cast-number c =
           c.in-Tx-by_instr.full c.number-3.result c.requires.fits c.in-Tx-by_instr.is c.number-3.ensures c.requires.has).1,
     )
 
-pub send-requires-clause-there : goal.send-requires-clause-there
-send-requires-clause-there c =
+pub move_to-requires-clause-there : goal.move_to-requires-clause-there
+move_to-requires-clause-there c =
     (port_there (setting_of c.args.env.now c.args.tables.now c.args.pattern.now) c.args.label c.args.m.now c.args.instr.now c.in-Tx-by_instr.packet
     c.in-Tx-by_instr.port
     c.in-Tx-by_instr.full c.number-3.result c.requires.fits c.in-Tx-by_instr.is c.number-3.ensures c.requires.has).0
 
 pub returns-7-clause-acts : goal.returns-7-clause-acts
 returns-7-clause-acts c =
-    let did : Sends c.args.m.now c.send.new.self c.in-Tx-by_instr.packet c.number-3.result c.send.result = record {
-      taken = c.send.ensures.taken;
-      sent = c.send.ensures.sent;
-      full = c.send.ensures.full;
+    let did : Moves (Port c.number-3.result) c.args.m.now c.move_to.new.self c.in-Tx-by_instr.packet c.move_to.result = record {
+      taken = c.move_to.ensures.taken;
+      sent = c.move_to.ensures.sent;
+      full = c.move_to.ensures.full;
     } in
-    sends_to (setting_of c.args.env.now c.args.tables.now c.args.pattern.now) c.args.label c.args.m.now c.send.new.self c.args.instr.now c.in-Tx-by_instr.packet
-    c.in-Tx-by_instr.port c.in-Tx-by_instr.full c.number-3.result _ c.send.result c.requires.fits c.in-Tx-by_instr.is c.number-3.ensures c.requires.has did
-    c.branch-send.ensures.leads
+    sends_to (setting_of c.args.env.now c.args.tables.now c.args.pattern.now) c.args.label c.args.m.now c.move_to.new.self c.args.instr.now
+    c.in-Tx-by_instr.packet
+    c.in-Tx-by_instr.port c.in-Tx-by_instr.full c.number-3.result _ c.move_to.result c.requires.fits c.in-Tx-by_instr.is c.number-3.ensures c.requires.has did
+    c.branch-move_to.ensures.leads
 
-pub enqueue-requires-clause-there : goal.enqueue-requires-clause-there
-enqueue-requires-clause-there c =
+pub move_to-requires-2-clause-there : goal.move_to-requires-2-clause-there
+move_to-requires-2-clause-there c =
     ring_there (setting_of c.args.env.now c.args.tables.now c.args.pattern.now) c.args.label c.args.m.now c.args.instr.now c.in-Enq-by_instr.packet
     c.in-Enq-by_instr.ring
     c.in-Enq-by_instr.full c.requires.fits c.in-Enq-by_instr.is c.requires.has
 
 pub returns-8-clause-acts : goal.returns-8-clause-acts
 returns-8-clause-acts c =
-    let did : Queues c.args.m.now c.enqueue.new.self c.in-Enq-by_instr.packet c.in-Enq-by_instr.ring c.enqueue.result = record {
-      taken = c.enqueue.ensures.taken;
-      queued = c.enqueue.ensures.queued;
-      full = c.enqueue.ensures.full;
+    let did : Moves (Ring c.in-Enq-by_instr.ring) c.args.m.now c.move_to-2.new.self c.in-Enq-by_instr.packet c.move_to-2.result = record {
+      taken = c.move_to-2.ensures.taken;
+      sent = c.move_to-2.ensures.sent;
+      full = c.move_to-2.ensures.full;
     } in
-    queues_to (setting_of c.args.env.now c.args.tables.now c.args.pattern.now) c.args.label c.args.m.now c.enqueue.new.self c.args.instr.now
+    queues_to (setting_of c.args.env.now c.args.tables.now c.args.pattern.now) c.args.label c.args.m.now c.move_to-2.new.self c.args.instr.now
     c.in-Enq-by_instr.packet
-    c.in-Enq-by_instr.ring c.in-Enq-by_instr.full _ c.enqueue.result c.requires.fits c.in-Enq-by_instr.is c.requires.has did c.branch-enqueue.ensures.leads
+    c.in-Enq-by_instr.ring c.in-Enq-by_instr.full _ c.move_to-2.result c.requires.fits c.in-Enq-by_instr.is c.requires.has did c.branch-move_to-2.ensures.leads
 
 pub hop_in-requires : goal.hop_in-requires
 hop_in-requires c =

@@ -24,5 +24,5 @@ pub invariant_of-self : goal.invariant_of-self
 invariant_of-self g c =
     let e = c.self.inside in
     let (packets, box, count) = c.queued.ensures.list in
-    rw (c.clear_sent.ensures, c.from-2.ensures, c.from.ensures) (sent_kept e.plan e.machine e.space e.turns e.tallies e.left c.self.invariant
+    rw (c.clear.ensures, c.from-2.ensures, c.from.ensures) (sent_kept e.plan e.machine e.space e.turns e.tallies e.left c.self.invariant
     c.args.port c.queued.result packets (small g (goal.at.invariant_of-self g c).After-queued) box (omega (arith, count)))

@@ -16,12 +16,12 @@ invariant_of-self g c =
     let (packets, there, count) = c.waiting.ensures.list in
     let long = ap (λ (x : EngineState). length x.setting.env.rings) c.self.view_is in
     let lt = ring_within e.plan e.machine e.space e.turns e.tallies e.left c.self.invariant c.args.ring (omega (arith, c.requires, long)) in
-    rw (c.clear_left.ensures, c.from.ensures, c.from-2.ensures, count)
+    rw (c.clear.ensures, c.from.ensures, c.from-2.ensures, count)
     (left_kept e.plan e.machine e.space e.turns e.tallies e.left c.self.invariant c.args.ring packets lt there)
 
 pub returns : goal.returns
 returns g c =
     let e = c.self.inside in
     let (packets, there, count) = c.waiting.ensures.list in
-    rw (c.from.ensures, c.from-2.ensures) (leaves e.plan e.machine c.clear_left.new.self e.space e.turns e.tallies e.left c.args.self.now c.args.ring
-    c.waiting.result packets c.self.view_is c.clear_left.ensures there count)
+    rw (c.from.ensures, c.from-2.ensures) (leaves e.plan e.machine c.clear.new.self e.space e.turns e.tallies e.left c.args.self.now c.args.ring
+    c.waiting.result packets c.self.view_is c.clear.ensures there count)

@@ -6,6 +6,7 @@ use Rattle.std.proofs.lemmas.Option.{same_Some}
 use Rattle.dp_model.specs.Packets.{Packet}
 use Rattle.dp_pcap.specs.Text.{AppendsPart}
 use Rattle.dp_engine.specs.Drains.{record_of}
+use Rattle.dp_engine.specs.declared.place.Place.TheVariants.{Port}
 use Rattle.dp_engine.specs.Handles.{Core}
 use Rattle.dp_engine.proofs.Called.{called_piece, called_written, called_more}
 use Rattle.dp_engine.proofs.Clearing.{left_all, left_front, at_front, left_more, left_none, changed_again}
@@ -23,7 +24,7 @@ next g c packets box =
 
 pub loop-sent-init : goal.loop-sent-init
 loop-sent-init g c = record {
-  left = left_all c.args.self.now c.args.port;
+  left = left_all (Port c.args.port) c.args.self.now;
   wrote = search rules;
   sound = search rules;
   failures = search rules;
@@ -39,13 +40,13 @@ pub put_first-requires-clause-some : goal.put_first-requires-clause-some
 put_first-requires-clause-some g c =
     let (packets, box, count) = c.queued-count.ensures.list in
     let (k, here) = at_slot packets c.loop-sent.sent (omega (arith, count)) in
-    (drop (suc c.loop-sent.sent) packets, k, left_front _ _ c.args.port c.loop-sent.sent packets k c.loop-sent.invariant.left box here)
+    (drop (suc c.loop-sent.sent) packets, k, left_front (Port c.args.port) _ _ c.loop-sent.sent packets k c.loop-sent.invariant.left box here)
 
 pub drop_rest-requires : goal.drop_rest-requires
 drop_rest-requires g c =
     let (packets, box, _) = c.queued-count.ensures.list in
     let (k, here) = next g (goal.at.drop_rest-requires g c).After-put_first packets box in
-    let now = left_more c.args.self.now c.loop-sent.self c.put_first.new.self c.args.port c.loop-sent.sent packets k c.loop-sent.invariant.left box here
+    let now = left_more (Port c.args.port) c.args.self.now c.loop-sent.self c.put_first.new.self c.loop-sent.sent packets k c.loop-sent.invariant.left box here
     c.put_first.ensures.rest in
     subst (λ (m : Core). c.args.port < length m.frames.outboxes) (sym now) c.requires.there
 
@@ -74,15 +75,16 @@ pub returns-then-is_err-clause-empty : goal.returns-then-is_err-clause-empty
 returns-then-is_err-clause-empty g c =
     let (packets, box, _) = c.queued-count.ensures.list in
     let (k, here) = next g (goal.at.returns-then-is_err-clause-empty g c).After-put_first packets box in
-    let now = left_more c.args.self.now c.loop-sent.self c.put_first.new.self c.args.port c.loop-sent.sent packets k c.loop-sent.invariant.left box here
+    let now = left_more (Port c.args.port) c.args.self.now c.loop-sent.self c.put_first.new.self c.loop-sent.sent packets k c.loop-sent.invariant.left box here
     c.put_first.ensures.rest in
-    changed_again c.args.self.now c.put_first.new.self c.drop_rest.new.self c.args.port _ [] now c.drop_rest.ensures
+    changed_again (Port c.args.port) c.args.self.now c.put_first.new.self c.drop_rest.new.self _ [] now c.drop_rest.ensures
 
 pub loop-sent-preserved : goal.loop-sent-preserved
 loop-sent-preserved g c = record {
   left = λ packets box.
       let (k, here) = next g (goal.at.loop-sent-preserved g c).After-put_first packets box in
-      rw add-one (left_more c.args.self.now c.loop-sent.self c.put_first.new.self c.args.port c.loop-sent.sent packets k c.loop-sent.invariant.left box here
+      rw add-one (left_more (Port c.args.port) c.args.self.now c.loop-sent.self c.put_first.new.self c.loop-sent.sent packets k
+      c.loop-sent.invariant.left box here
       c.put_first.ensures.rest);
   wrote = λ packets box.
       let (k, here) = next g (goal.at.loop-sent-preserved g c).After-put_first packets box in
@@ -118,4 +120,4 @@ returns-clause-counted g c =
 pub returns-clause-empty : goal.returns-clause-empty
 returns-clause-empty g c =
     let (packets, box, count) = c.queued-count.ensures.list in
-    left_none c.args.self.now c.loop-sent.self c.args.port c.loop-sent.sent packets c.loop-sent.invariant.left box (omega (arith, count))
+    left_none (Port c.args.port) c.args.self.now c.loop-sent.self c.loop-sent.sent packets c.loop-sent.invariant.left box (omega (arith, count))

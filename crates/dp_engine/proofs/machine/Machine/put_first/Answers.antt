@@ -9,8 +9,9 @@ use Rattle.dp_pcap.specs.Text.{AppendsPart}
 use Rattle.dp_engine.specs.Drains.{record_of}
 use Rattle.dp_engine.specs.Handles.{Core, Lists, lists_of, ran}
 use Rattle.dp_engine.specs.Queues.{ring_at}
-use Rattle.dp_engine.proofs.Draining.{stand_less, sent_less, sent_drops}
-use Rattle.dp_engine.proofs.Pushing.{popped, first_in, has_first, outbox_there, outbox_packets}
+use Rattle.dp_engine.specs.declared.place.Place.TheVariants.{Port}
+use Rattle.dp_engine.proofs.Draining.{stand_less, waits_less, first_drops}
+use Rattle.dp_engine.proofs.Pushing.{popped, first_in, first_there, place_there}
 use Rattle.dp_engine.proofs.Writing.{waits_at}
 use Rattle.dp_engine.proofs.machine.Machine.put_first.Goals as goal
 use Rattle.dp_engine.proofs.machine.Machine.put_first.Goals.{In-Some}
@@ -32,7 +33,8 @@ its_packet g c = let (packets, k, list) = c.requires.some in (k, named g c (k �
 front : (g : _) (c : In-Some g) → slice_get (lists_of c.self.inside.rings c.self.inside.outboxes).outboxes c.args.port
     ≡ Some (c.in-Some.packet ∷ drop 1 (ring_at c.self.inside.outboxes c.args.port).entries)
 front g c =
-    first_in c.self.inside.outboxes c.args.port c.in-Some.packet (outbox_there _ _ _ _ _ _ _ _ _ c.self.view_is c.args.port c.requires.there)
+    first_in (Port c.args.port) c.self.inside.rings c.self.inside.outboxes c.in-Some.packet
+    (place_there _ _ _ _ _ _ _ _ _ c.self.view_is (Port c.args.port) c.requires.there)
     c.in-Some.ensures.first
 
 pub put_packet-outcome-requires-clause-live : goal.put_packet-outcome-requires-clause-live
@@ -53,15 +55,13 @@ invariant_of-self g c =
       outboxes = slice_set lists.outboxes c.args.port (drop 1 (ring_at c.self.inside.outboxes c.args.port).entries);
     } in
     rw (c.free.ensures.packets, c.of-handle.ensures, rest.lists)
-    (stand_less _ c.self.inside.registers lists less c.in-Some.packet k (λ x. sent_less lists c.args.port c.in-Some.packet x _ (front g here)) has
+    (stand_less _ c.self.inside.registers lists less c.in-Some.packet k (λ x. waits_less (Port c.args.port) lists c.in-Some.packet x _ (front g here)) has
     c.self.invariant)
 
 pub unreachable-requires : goal.unreachable-requires
 unreachable-requires g c =
     let (packets, k, list) = c.requires.some in
-    has_first c.self.inside.mbufs.store.slots c.self.inside.outboxes c.args.port k packets
-    (outbox_there _ _ _ _ _ _ _ _ _ c.self.view_is c.args.port c.requires.there)
-    (outbox_packets _ _ _ _ _ _ _ _ _ c.self.view_is c.args.port _ list) c.in-None.ensures.first
+    first_there _ _ _ _ _ _ _ _ _ c.self.view_is (Port c.args.port) k packets c.requires.there list c.in-None.ensures.first
 
 pub returns-clause-ok : goal.returns-clause-ok
 returns-clause-ok g c =
@@ -94,5 +94,5 @@ returns-clause-rest g c packets k list =
     let (k', has) = its_packet g here in
     let rest = popped c.self.inside.outboxes c.pop.new.self c.args.port c.pop.ensures.rest in
     rw (c.free.ensures.packets, c.free.ensures.zones, c.of-handle.ensures, rest.frames, rest.lists)
-    (sent_drops _ _ _ _ (lists_of c.self.inside.rings c.self.inside.outboxes) _ _ _ c.args.port c.in-Some.packet _ packets k k' c.self.view_is
+    (first_drops (Port c.args.port) _ _ _ _ (lists_of c.self.inside.rings c.self.inside.outboxes) _ _ _ c.in-Some.packet _ packets k k' c.self.view_is
     (front g here) has c.self.invariant list)

@@ -1,4 +1,5 @@
 use Rattle.std.proofs.Common.{sym, ap}
+use Rattle.dp_engine.specs.declared.place.Place.TheVariants.{Ring}
 use Rattle.dp_engine.specs.Queues.{ring_at}
 use Rattle.dp_engine.specs.Handles.{Core, lists_of, ran}
 use Rattle.dp_engine.proofs.Clearing.{stand_first, starts_none, starts_first}
@@ -19,7 +20,7 @@ invariant_of-self c =
     let idle =
     idle_of _ _ c.self.inside.registers c.self.inside.numbers (lists_of c.self.inside.rings c.self.inside.outboxes) c.self.inside.calls _ c.args.self.now
     c.self.view_is c.self.invariant c.requires.idle in
-    let at = first_in c.self.inside.rings c.in_ok-ring.ring c.in-Some.packet c.in_ok-ring.ensures.bound c.in-Some.ensures.first in
+    let at = first_in (Ring c.in_ok-ring.ring) c.self.inside.rings c.self.inside.outboxes c.in-Some.packet c.in_ok-ring.ensures.bound c.in-Some.ensures.first in
     let rest = popped c.self.inside.rings c.pop.new.self c.in_ok-ring.ring c.pop.ensures.rest in
     rw (c.one_packet-self-inside.ensures, rest.lists)
     (stand_first _ c.self.inside.registers (lists_of c.self.inside.rings c.self.inside.outboxes) c.in_ok-ring.ring c.in-Some.packet _ idle at)
