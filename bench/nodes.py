@@ -2,8 +2,8 @@
 """Counts the machine instructions that the nodes of examples/ take for a record, beside the same nodes in C over DPDK and in eBPF.
 
 Usage: bench/nodes.py [--compiled] [PROGRAM]   (the built program; by default the one that ./dpv builds and runs; needs DPDK's headers and
-libraries). With --compiled each example runs once more, in a program that has its node programs as machine code (docs/users/compile.md); each of
-these is built first, once, in some minutes.
+libraries). With --compiled each example runs once more, in a program that has the node programs of all examples as machine code
+(docs/users/compile.md); it is built first, once, in some minutes.
 Each example's captures are written over and over until there are some thousand records, and run through `dpv run` and through
 bench/nodes/nodes.c, compiled by cc -O3 over DPDK's mbufs, with the same number of buffers and no cache; where clang can make eBPF, three nodes
 run in librte_bpf too, interpreted and compiled by it (bench/nodes/programs.c). A count is the difference of two runs, of which one has twice
@@ -23,6 +23,7 @@ from timing import dpdk, instructions
 
 TOP = pathlib.Path(__file__).resolve().parent.parent
 sys.path.insert(0, str(TOP / "tests"))
+import compiled as compiled_nodes  # noqa: E402
 from command import program_of  # noqa: E402
 
 HERE = TOP / "bench" / "nodes"
@@ -111,7 +112,19 @@ def with_machine_code(program: str, pipeline: pathlib.Path) -> str:
     return subprocess.run(words, cwd=pipeline.parent, check=True, capture_output=True, text=True).stdout.strip()
 
 
-def row(name: str, program: str, nodes: str, folder: pathlib.Path, is_compiled: bool) -> dict[str, Counted]:
+def with_all_machine_code(program: str, folder: pathlib.Path) -> str:
+    """The program that has the node programs of all examples as machine code."""
+    texts = []
+    for name in ["sent", *NODES]:
+        pipeline = example(name, folder / f"of_{name}")
+        setup = tomllib.loads(pipeline.read_text())
+        texts += [(pipeline.parent / it["node"]).read_bytes() for it in [*setup["port"], *setup.get("ring", [])]]
+    (folder / "programs.rt").write_text(compiled_nodes.module(compiled_nodes.programs_of(texts)))
+    words = [str(TOP / "tools/compiled"), str(pathlib.Path(program).resolve()), str(folder / "programs.rt")]
+    return subprocess.run(words, check=True, stdout=subprocess.PIPE, text=True).stdout.strip()
+
+
+def row(name: str, program: str, nodes: str, folder: pathlib.Path, made: str | None) -> dict[str, Counted]:
     """What each way of running a node takes."""
     pipeline = example(name, folder)
     ports = tomllib.loads(pipeline.read_text())["port"]
@@ -120,8 +133,8 @@ def row(name: str, program: str, nodes: str, folder: pathlib.Path, is_compiled: 
     outs = [port["out"] for port in ports]
     files = [*(str(home / it) for it in sources), "--", *(str(home / it) for it in outs)]
     ways = {"dpv": [program, "run", pipeline.name], "C": [nodes, name, "-", *files]}
-    if is_compiled:
-        ways["compiled"] = [with_machine_code(program, pipeline), "run", pipeline.name]
+    if made is not None:
+        ways["compiled"] = [made, "run", pipeline.name]
     plain = in_ebpf(name, folder)
     if plain is not None:
         ways |= {"eBPF": [nodes, name, str(plain), *files], "its JIT": [nodes, name, f"jit:{plain}", *files]}
@@ -135,14 +148,14 @@ def main() -> int:
     ways, same, rows = ["dpv", *(["compiled"] if is_compiled else []), "C", "eBPF", "its JIT"], True, {}
     with tempfile.TemporaryDirectory() as name:
         folder = pathlib.Path(name)
-        nodes = compiled(folder)
-        print(f"{'a record':<12}" + "".join(f"{way:>10}" for way in ways) + f"{'dpv/C':>8}  same captures")
+        nodes, made = compiled(folder), with_all_machine_code(program, folder) if is_compiled else None
+        print(f"{'a record':<12}" + "".join(f"{way:>10}" for way in ways) + f"{ways[-4] + '/C' if made else 'dpv/C':>14}  same captures")
         for node in ["sent", *NODES]:
-            rows[node] = row(node, program, nodes, folder, is_compiled)
+            rows[node] = row(node, program, nodes, folder, made)
             agree = all(it.written == rows[node]["dpv"].written for it in rows[node].values())
             same = same and agree
             shown = "".join(f"{rows[node][way].each:>10.0f}" if way in rows[node] else f"{'-':>10}" for way in ways)
-            print(f"{node:<12}{shown}{rows[node]['dpv'].each / rows[node]['C'].each:>8.2f}  {'yes' if agree else 'NO'}", flush=True)
+            print(f"{node:<12}{shown}{rows[node][ways[-4]].each / rows[node]['C'].each:>14.2f}  {'yes' if agree else 'NO'}", flush=True)
     print(f"\n{'the node':<12}" + "".join(f"{way:>10}" for way in ways))
     for node in NODES:
         base = {way: rows["sent"][way if way in ("dpv", "compiled") else "C"].each for way in ways}
