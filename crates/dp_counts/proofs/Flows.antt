@@ -1,11 +1,11 @@
 -- How often an instruction ran is a sum over the labels up to its own.
 use Rattle.std.proofs.Common.{◌≡◌, ℕ, zero, suc, ◌+◌, ◌*◌, ◌%◌, ◌/◌, ◌^◌, ◌<◌, Bool, true, false, cond}
-use Rattle.std.proofs.Common.{List, [], ◌∷◌, length, refl, sym, ◌∙◌, ap, subst, arith, add-zero, add-one}
-use Rattle.std.specs.Prelude.{◌==◌, ◌≤◌, ◌-◌, slice_index, slice_set}
+use Rattle.std.proofs.Common.{List, length, refl, sym, ◌∙◌, ap, subst, arith, add-zero, add-one}
+use Rattle.std.specs.Prelude.{◌==◌, ◌≤◌, ◌-◌, slice_index}
 use Rattle.std.proofs.lemmas.Bool.{eqb-true, eqb-false}
-use Rattle.std.proofs.Math.Nat.{mod-eq_of_lt, mod-lt, mod-add-div, add-mul-mod_self_left}
+use Rattle.std.proofs.Math.Nat.{mod-lt, mod-add-div, add-mul-mod_self_left}
 use Rattle.dp_model.specs.Arithmetic.{wrapped}
-use Rattle.dp_counts.specs.Counting.{Tally, one_more, less, on_from, ran_at, AreNumbers, AreZero, HasNone, IsTally}
+use Rattle.dp_counts.specs.Counting.{Tally, one_more, less, on_from, ran_at, HasNone, IsTally}
 use Rattle.dp_counts.proofs.Tallies.{index_same, index_other}
 
 -- ---- numbers that are the same modulo 2^64

@@ -1,6 +1,6 @@
 -- Whole node runs are counted: each number grows by its steps.
-use Rattle.std.proofs.Common.{◌≡◌, ℕ, zero, suc, ◌+◌, ◌*◌, ◌%◌, ◌^◌, ◌<◌, Bool, true, false, cond}
-use Rattle.std.proofs.Common.{◌&&◌, List, [], ◌∷◌, length, refl, sym, ◌∙◌, ap, subst, arith, add-zero}
+use Rattle.std.proofs.Common.{◌≡◌, ℕ, suc, ◌+◌, ◌*◌, ◌%◌, ◌<◌, Bool, true, false}
+use Rattle.std.proofs.Common.{◌&&◌, List, [], ◌∷◌, refl, sym, ◌∙◌, ap, subst, arith, add-zero}
 use Rattle.std.specs.Prelude.{◌==◌, ◌≤◌, nat_lt, slice_index, Option, Some, None, ⊤, if◌then◌else◌}
 use Rattle.std.proofs.lemmas.Bool.{and_from, lt-ltb}
 use Rattle.std.proofs.Math.Nat.{mod-eq_of_lt}
@@ -12,7 +12,7 @@ use Rattle.dp_engine.specs.declared.watch.Way.{Way}
 use Rattle.dp_engine.specs.declared.watch.Way.TheVariants.{On, To, Out, Cut}
 use Rattle.dp_engine.specs.Watching.{Event, Began, Ran, IsOneOfEight, SeesAll}
 use Rattle.dp_counts.specs.Counting.{Tally, place_of, counted, with_way, counts_see, any_way, steps_at, after_step, FollowFrom, ran_at, step_counts}
-use Rattle.dp_counts.specs.Counting.{is_one_of_eight, is_jump, is_cut, one_more, IsTally, HasNone, CountsSteps, BeginsAtZero}
+use Rattle.dp_counts.specs.Counting.{is_one_of_eight, is_jump, is_cut, one_more, IsTally, CountsSteps, BeginsAtZero}
 use Rattle.dp_counts.proofs.Tallies.{stays, place_within, tally_counted, tally_seen, taken_grew, cut_grew}
 use Rattle.dp_counts.proofs.Flows.{Same, one_if, same, wrapped_same, sum_from, hits, sum_more, hits_next, ran_sums, ran_small, ran_none}
 

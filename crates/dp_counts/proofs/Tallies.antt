@@ -1,9 +1,9 @@
 -- Counts grow by the steps that they count.
-use Rattle.std.proofs.Common.{◌≡◌, ℕ, zero, suc, ◌+◌, ◌*◌, ◌%◌, ◌/◌, ◌^◌, ◌<◌, Bool, true, false, cond}
-use Rattle.std.proofs.Common.{◌&&◌, List, [], ◌∷◌, length, refl, sym, ◌∙◌, ap, subst, arith, add-zero, add-one}
-use Rattle.std.specs.Prelude.{◌==◌, ◌≤◌, replicate, slice_index, slice_set, Option, Some, None, ⊤}
+use Rattle.std.proofs.Common.{◌≡◌, ℕ, zero, suc, ◌+◌, ◌%◌, ◌^◌, ◌<◌, Bool, true, false, cond}
+use Rattle.std.proofs.Common.{◌&&◌, List, [], ◌∷◌, length, refl, sym, ◌∙◌, ap, subst, arith, add-zero}
+use Rattle.std.specs.Prelude.{◌==◌, ◌≤◌, replicate, slice_index, slice_set}
 use Rattle.std.proofs.lemmas.Bool.{eqb-true, eqb-false}
-use Rattle.std.proofs.Math.Nat.{mod-eq_of_lt, mod-add-mod, mod-lt, mod-add-div, add-mul-mod_self_left}
+use Rattle.std.proofs.Math.Nat.{mod-eq_of_lt, mod-add-mod, mod-lt}
 use Rattle.dp_model.specs.Arithmetic.{wrapped}
 use Rattle.dp_model.specs.Machine.{State}
 use Rattle.dp_model.specs.declared.env.Entry.{Entry}
@@ -11,8 +11,8 @@ use Rattle.dp_model.specs.declared.env.Entry.TheVariants.{Port, Ring}
 use Rattle.dp_engine.specs.declared.watch.Way.{Way}
 use Rattle.dp_engine.specs.declared.watch.Way.TheVariants.{On, To, Out, Cut}
 use Rattle.dp_engine.specs.Watching.{Event, Began, Ran, IsOneOfEight, SeesAll}
-use Rattle.dp_counts.specs.Counting.{Tally, place_of, one_more, counted, with_way, counts_see, is_jump, is_cut, any_way, steps_at, AreNumbers, AreZero}
-use Rattle.dp_counts.specs.Counting.{HasRoom, IsTally}
+use Rattle.dp_counts.specs.Counting.{Tally, place_of, one_more, counted, with_way, counts_see, is_jump, is_cut, steps_at, AreNumbers, AreZero}
+use Rattle.dp_counts.specs.Counting.{IsTally}
 
 -- ---- one number of a list
 

@@ -1,7 +1,7 @@
 -- What a watcher is shown of a turn is whole node runs.
-use Rattle.std.proofs.Common.{◌≡◌, ℕ, zero, suc, ◌+◌, Bool, true, false, List, [], ◌∷◌, ◌++◌, length, Option, Some, None, refl, sym, ◌∙◌, ap, subst}
+use Rattle.std.proofs.Common.{◌≡◌, ℕ, zero, suc, Bool, List, [], ◌∷◌, ◌++◌, Option, Some, None, sym, ◌∙◌, ap, subst}
 use Rattle.std.proofs.Common.{append_assoc, append-nil}
-use Rattle.std.specs.Prelude.{slice_get, MatchOption, if◌then◌else◌, nat_lt}
+use Rattle.std.specs.Prelude.{MatchOption, if◌then◌else◌, nat_lt}
 use Rattle.dp_model.specs.declared.instr.Instr.{Instr}
 use Rattle.dp_model.specs.Packets.{Packet}
 use Rattle.dp_model.specs.Machine.{Setting, World, State, Next, At, Ended, Move, budgeted, is_backward, with_jump, cut_off, jump_budget}
@@ -9,8 +9,8 @@ use Rattle.dp_model.specs.Runs.{Then, first_state, Outcome, Got, NoBuffer, Overs
 use Rattle.dp_model.specs.Safety.{Beginning}
 use Rattle.dp_engine.specs.declared.watch.Way.{Way}
 use Rattle.dp_engine.specs.declared.watch.Way.TheVariants.{On, To, Out, Cut}
-use Rattle.dp_engine.specs.Watching.{Event, Began, Ran, ShowsStep, Passes, ShowsRun, ShowsArrival, ShowsServing, ShowsTurn, of_ring, WatchesTurn}
-use Rattle.dp_counts.specs.Counting.{FollowFrom, AreRuns, after_step, counts_see, TurnsAreRuns, CountsTurns}
+use Rattle.dp_engine.specs.Watching.{Event, Began, Ran, ShowsStep, Passes, ShowsRun, ShowsArrival, ShowsServing, of_ring}
+use Rattle.dp_counts.specs.Counting.{FollowFrom, after_step, TurnsAreRuns, CountsTurns}
 use Rattle.dp_counts.proofs.Runs.{counts_steps}
 
 -- the end of a node run is no jump

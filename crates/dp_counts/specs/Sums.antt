@@ -5,9 +5,8 @@ use Rattle.dp_model.specs.declared.env.Entry.{Entry}
 use Rattle.dp_model.specs.Arithmetic.{wrapped}
 use Rattle.dp_counts.specs.declared.counts.StepCounts.{StepCounts}
 use Rattle.dp_counts.specs.declared.source.Role.{Role}
-use Rattle.dp_counts.specs.declared.source.Role.TheVariants.{Plain, Branch, Lookup, Enqueue, Frees, Ends}
+use Rattle.dp_counts.specs.declared.source.Role.TheVariants.{Lookup, Enqueue}
 use Rattle.dp_counts.specs.declared.source.Step.{Step}
-use Rattle.dp_counts.specs.declared.source.SourceLine.{SourceLine}
 use Rattle.dp_counts.specs.declared.source.NodeSource.{NodeSource}
 use Rattle.dp_counts.specs.declared.sums.Total.{Total}
 use Rattle.dp_counts.specs.declared.sums.Total.TheVariants.{Hits, Misses, Full}

@@ -19,15 +19,17 @@ impl Levels {
         free: [u32::MAX; 8],
     };
 
-    // Looks how many buffers of the first pool are free.
+    // Looks how many buffers of each pool are free; apart for the others, since most pipelines have one pool.
     #[inline(always)]
-    fn note_first_pool(&mut self, view: &View<'_>) {
+    fn note_pools(&mut self, view: &View<'_>) {
         if let Some(free) = view.free(0) {
             self.free[0] = free.min(self.free[0]);
+            if view.free(1).is_some() {
+                self.note_other_pools(view);
+            }
         }
     }
 
-    // Looks how many buffers of the other pools are free.
     #[inline(never)]
     fn note_other_pools(&mut self, view: &View<'_>) {
         for k in 1..8u8 {
@@ -39,10 +41,20 @@ impl Levels {
         }
     }
 
-    // Looks how full the rings are.
-    #[inline(never)]
+    // Looks how full each ring is.
+    #[inline(always)]
     fn note_rings(&mut self, view: &View<'_>) {
-        for k in 0..8u8 {
+        if let Some(waiting) = view.waiting(0) {
+            self.waited[0] = waiting.max(self.waited[0]);
+            if view.waiting(1).is_some() {
+                self.note_other_rings(view);
+            }
+        }
+    }
+
+    #[inline(never)]
+    fn note_other_rings(&mut self, view: &View<'_>) {
+        for k in 1..8u8 {
             let Some(waiting) = view.waiting(k) else {
                 return;
             };
@@ -80,10 +92,7 @@ impl Gauge {
     #[inline(always)]
     fn note_pools(&mut self, view: &View<'_>) {
         self.calls = view.calls();
-        self.levels.note_first_pool(view);
-        if view.free(1).is_some() {
-            self.levels.note_other_pools(view);
-        }
+        self.levels.note_pools(view);
     }
 
     // Looks how many buffers are free, if there was an allocation call since it last looked.
@@ -107,8 +116,6 @@ impl Gauge {
     #[inline(always)]
     pub(crate) fn note_end(&mut self, view: &View<'_>) {
         self.note_pools_after_calls(view);
-        if view.waiting(0).is_some() {
-            self.levels.note_rings(view);
-        }
+        self.levels.note_rings(view);
     }
 }

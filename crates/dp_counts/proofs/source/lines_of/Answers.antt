@@ -1,7 +1,7 @@
 -- The lines of the parts of the text.
-use Rattle.std.proofs.Common.{◌≡◌, ◌∙◌, map, subst, ap, sym}
+use Rattle.std.proofs.Common.{◌≡◌, ◌∙◌, map, subst, ap}
 use Rattle.std.specs.Prelude.{IfOk}
-use Rattle.dp_counts.specs.Sources.{view_line, each_from, line_at, lines_of}
+use Rattle.dp_counts.specs.Sources.{view_line, each_from, line_at}
 use Rattle.dp_counts.proofs.Lists.{lines_are}
 use Rattle.dp_counts.proofs.source.lines_of.Goals as goal
 

@@ -1,5 +1,5 @@
 -- The sum so far.
-use Rattle.std.proofs.Common.{◌≡◌, take, map}
+use Rattle.std.proofs.Common.{◌≡◌, take}
 use Rattle.std.specs.Prelude.{sum_by}
 use Rattle.dp_model.specs.Arithmetic.{wrapped}
 use Rattle.dp_counts.specs.Sources.{view_line}
