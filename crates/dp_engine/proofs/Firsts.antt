@@ -1,8 +1,8 @@
 -- The first ring with an entry, as rings change.
-use Rattle.std.proofs.Common.{◌≡◌, ◌≢◌, ℕ, suc, ◌+◌, ◌<◌, ◌≤◌, cond, Bool, true, false, not, List, length, Some, None, refl, sym, ◌∙◌, ap, arith, set, ltb}
+use Rattle.std.proofs.Common.{◌≡◌, ◌≢◌, ℕ, suc, ◌+◌, ◌<◌, ◌≤◌, Bool, true, false, not, List, length, refl, sym, ◌∙◌, ap, arith, set, ltb}
 use Rattle.std.proofs.Common.{[], ◌∷◌, ◌++◌, length-append}
 use Rattle.std.specs.Prelude.{◌==◌, nat_lt, if◌then◌else◌}
-use Rattle.std.specs.List.{position, position_or_len}
+use Rattle.std.specs.List.{position_or_len}
 use Rattle.std.proofs.lemmas.List.{length-set, get_or-set_other, get_or-set_same}
 use Rattle.std.proofs.lemmas.List.Sums.{passes_at_first, fails_before_first, position_or_len_is, prefix_len-le-length}
 use Rattle.std.proofs.lemmas.Bool.{ltb-true, ltb-false, eqb-true}
@@ -113,26 +113,6 @@ no_earlier rings k r le there waits = cases (ltb (first_slot rings) k) refl
         let same : k ≡ first_slot rings = omega (arith, l, le) in
         sym (here (set rings k r) k (not_before rings k r l there) (omega (arith, length-set rings k r, there))
         (ap is_waiting (get_or-set_same rings k r no_ring there) ∙ waits)) ∙ same
-
--- ---- what is answered
-
-pub found : (rings : List RingView) (n : ℕ) → n ≡ first_slot rings → n < length rings → Some n ≡ position is_waiting rings
-found rings n is there = go (ltb (first_slot rings) (length rings)) refl
-  where
-    go : (b : Bool) → ltb (first_slot rings) (length rings) ≡ b → Some n ≡ cond b (Some (first_slot rings)) None
-    go true e = ap (λ x. Some x) is
-    go false e =
-        let l : length rings ≤ first_slot rings = ltb-false _ _ e in
-        absurd (omega (arith, l, is, there))
-
-pub none_found : (rings : List RingView) → length rings ≤ first_slot rings → position is_waiting rings ≡ None
-none_found rings le = go (ltb (first_slot rings) (length rings)) refl
-  where
-    go : (b : Bool) → ltb (first_slot rings) (length rings) ≡ b → cond b (Some (first_slot rings)) None ≡ None
-    go false e = refl
-    go true e =
-        let l : first_slot rings < length rings = ltb-true _ _ e in
-        absurd (omega (arith, l, le))
 
 -- ---- an entry more, or one less
 

@@ -1,15 +1,13 @@
 -- Slots for rings, and the rings in them.
 use Rattle.std.proofs.Common.{◌≡◌, ℕ, zero, suc, ◌+◌, ◌<◌, ◌≤◌, cond, Bool, true, false, List, [], ◌∷◌, length, Option, Some, None, refl, sym, ◌∙◌, ap, subst}
-use Rattle.std.proofs.Common.{arith, get_or, set, drop, ltb}
-use Rattle.std.specs.Prelude.{is_none, unwrap_or, slice_get, IsSome, IfSome, IfNone}
-use Rattle.std.specs.List.{position, position_from, position_or_len}
+use Rattle.std.proofs.Common.{arith, get_or, set, drop}
+use Rattle.std.specs.Prelude.{is_none, unwrap_or, slice_get, IsSome, IfNone}
+use Rattle.std.specs.List.{position, position_from}
 use Rattle.std.proofs.lemmas.List.{length-set, set-get_or}
-use Rattle.std.proofs.lemmas.Bool.{ltb-true}
-use Rattle.std.proofs.lemmas.List.Sums.{passes_at_first}
 use Rattle.std.proofs.lemmas.Option.{none-some}
 use Rattle.std.proofs.lemmas.Iterator.Adapters.{position_from-zero}
 use Rattle.dp_ring.specs.Rings.{RingView, without_first}
-use Rattle.dp_engine.specs.Queues.{rings_in, RingsFirst, no_ring, ring_at, is_waiting, ring_of}
+use Rattle.dp_engine.specs.Queues.{rings_in, RingsFirst, no_ring, ring_at, ring_of}
 
 pub rings_below : (slots : List (Option RingView)) → length (rings_in slots) ≤ length slots
 rings_below [] = omega arith
@@ -63,20 +61,6 @@ kept rings k None rings' first rest =
     rest
     ∙ (ap (λ es. set rings k (record r { entries = es })) (no_first r.entries (sym first)) ∙ set-get_or rings k no_ring)
 kept rings k (Some e) rings' first rest = tt
-
--- the first that waits exists, and it waits
-pub waits_there : (rings : List RingView) (result : Option ℕ) → result ≡ position is_waiting rings → IfSome result (λ k. k < length rings)
-    × IfSome result (λ k. is_waiting (ring_at rings k) ≡ true)
-waits_there rings result is = subst (λ o. IfSome o (λ k. k < length rings)
-    × IfSome o (λ k. is_waiting (ring_at rings k) ≡ true)) (sym is) (cases (ltb (position_or_len is_waiting rings) (length rings)) refl)
-  where
-    cases : (b : Bool) → ltb (position_or_len is_waiting rings) (length rings) ≡ b →
-        IfSome (cond b (Some (position_or_len is_waiting rings)) None) (λ k. k < length rings)
-        × IfSome (cond b (Some (position_or_len is_waiting rings)) None) (λ k. is_waiting (ring_at rings k) ≡ true)
-    cases false not' = (tt, tt)
-    cases true there =
-        let within : position_or_len is_waiting rings < length rings = ltb-true _ _ there in
-        (within, passes_at_first is_waiting rings no_ring within)
 
 -- ---- a struct's slots
 

@@ -2,7 +2,7 @@
 ghost use Rattle.std.specs.Prelude.{◌≡◌, ℕ, ◌+◌, ◌^◌, ◌<◌, ◌≤◌, length, slice_index, List, [], ◌∷◌, ◌++◌, nat_lt, IsSome, MatchOption, ◌↔◌, false};
 ghost use Rattle.dp_model.specs.Packets.{Packet, first_len, at_front, less_before, needed, available};
 ghost use Rattle.dp_model.specs.Arithmetic.{value};
-ghost use Rattle.dp_model.specs.Machine.{Holds, with_packet, without_packet, with_number, with_step, with_outbox, with_ring, is_denied, live};
+ghost use Rattle.dp_model.specs.Machine.{Holds, with_packet, without_packet, with_number, with_step, with_outbox, is_denied, live};
 ghost use Rattle.std.specs.Prelude.{not, None, Some, nat_eq, IsTrue, IsFalse, slice_get, replicate};
 ghost use Rattle.std.specs.List.{list_any, AllByRecursion};
 ghost use Rattle.dp_model.specs.Limits.{least_port_room, most_segments};
