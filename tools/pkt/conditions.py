@@ -6,7 +6,7 @@ from collections.abc import Iterable, Iterator
 from typing import Self
 
 from .headers import Header, Span, VariableLength
-from .numbers import COMPARISONS
+from .reader import COMPARISONS, substituted
 from .registers import Registers, Value
 from .state import FAR, SOMEBODY_THE_REST, Far
 from .syntax import THIS, And, Binary, Bits, Compare, Field, Found, Length, Name, Node, Not, Number, Or, parts
@@ -15,12 +15,6 @@ from .ways import Join
 HOLDS = {"==": operator.eq, "!=": operator.ne, "<": operator.lt, ">": operator.gt, "<=": operator.le, ">=": operator.ge}
 CONTRARY = {"!=": "==", ">": "<=", ">=": "<"}
 
-
-def with_bits(formula: Node, bits: Bits) -> Node:
-    """A formula whose variable is replaced by bits of the packet."""
-    if isinstance(formula, Binary):
-        return Binary(formula.at, formula.sign, with_bits(formula.left, bits), with_bits(formula.right, bits))
-    return bits if isinstance(formula, Name) else formula
 
 
 class Conditions(Registers):
@@ -267,5 +261,5 @@ class Conditions(Registers):
         p, padding = self.held[THIS], max(length.sizes.values()) - min(length.sizes[it] for it in left)
         self.emit_or_drop("iftail", f"p{p}", padding)
         self.emit("append", f"p{p}", padding)
-        place = self.own(self.evaluate(with_bits(length.formula, Bits(self.at, 8 * base, length.bits))))
+        place = self.own(self.evaluate(substituted(length.formula, Bits(self.at, 8 * base, length.bits))))
         return Far(padding, base, 0, tuple(left), place.r)

@@ -1,17 +1,11 @@
 """Headers: their fields, how long they are, and which may follow which."""
 from __future__ import annotations
 
-import operator
 from collections.abc import Iterable
 from dataclasses import dataclass, field
 from typing import NamedTuple
 
-from .syntax import BIGGEST, And, Binary, Compare, Field, Name, Node, Number, Place, SourceError, parts
-
-OPERATORS = {
-    "+": operator.add, "-": operator.sub, "*": operator.mul, "<<": operator.lshift, ">>": operator.rshift,
-    "&": operator.and_, "|": operator.or_, "^": operator.xor,
-}  # fmt: skip
+from .syntax import And, Compare, Field, Name, Node, Number, Place, parts, require
 
 
 class Span(NamedTuple):
@@ -45,7 +39,7 @@ class Span(NamedTuple):
 
 
 class VariableLength(NamedTuple):
-    """The length of a header with a variable length: by the value of its first bits, and as a formula."""
+    """A length that varies: how many first bits give it, the length by their value, and as a formula."""
 
     bits: int
     sizes: dict[int, int]
@@ -53,8 +47,7 @@ class VariableLength(NamedTuple):
 
 
 class Checksum(NamedTuple):
-    """An Internet checksum of a header: its field, whether it covers what follows the header, the fields of other headers that it covers,
-    and whether 0 means that there is none."""
+    """An Internet checksum: whether it covers what follows the header, which fields of others, and whether 0 means that there is none."""
 
     field: str
     payload: bool
@@ -64,8 +57,7 @@ class Checksum(NamedTuple):
 
 @dataclass
 class Header:
-    """A header. `follows` has, for each header that it may follow, the condition for that; `before` has it and all that may come before
-    it."""
+    """A header. `follows` has the condition for each header that it may follow; `before` has it and all that may come before it."""
 
     name: str
     at: Place
@@ -102,53 +94,38 @@ class Headers(dict[str, Header]):
 
 def asked_of(condition: Node) -> dict[str, int]:
     """The fields that must have a certain value for a condition about one header to hold."""
-    if isinstance(condition, And):
-        return asked_of(condition.left) | asked_of(condition.right)
-    if isinstance(condition, Compare) and condition.sign == "==" and isinstance(condition.left, Field) and isinstance(condition.right, Number):
-        return {condition.left.name: condition.right.value}
+    match condition:
+        case And(_, left, right):
+            return asked_of(left) | asked_of(right)
+        case Compare(_, "==", Field(_, _, name), Number(_, value)):
+            return {name: value}
     return {}
-
-
-def calculate(sign: str, left: int, right: int) -> int:
-    """An operation on two numbers of 64 bits."""
-    return OPERATORS[sign](left, right) & BIGGEST
-
-
-def evaluate(formula: Node, variable: str, value: int) -> int:
-    """The value of a number that has one variable."""
-    if isinstance(formula, Number):
-        return formula.value
-    if isinstance(formula, Name) and formula.name == variable:
-        return value
-    if isinstance(formula, Binary):
-        return calculate(formula.sign, evaluate(formula.left, variable, value), evaluate(formula.right, variable, value))
-    raise SourceError(formula.at, "a length is calculated from its own variable and constants")
 
 
 def check(header: Header, headers: Headers) -> None:
     """Refuses a meaningless declaration."""
+    at, size, checksum = header.at, header.size, header.checksum
     for name, span in header.fields.items():
-        if not 1 <= span.bits <= 64 or len(span.bytes) > 8:
-            raise SourceError(header.at, f"the field {name} does not lie within 8 bytes", "split it into two")
-        if span.end > 8 * header.size:
-            raise SourceError(header.at, f"the field {name} goes past the end of the header")
+        require(1 <= span.bits <= 64 and len(span.bytes) <= 8, at, f"the field {name} does not lie within 8 bytes", "split it into two")
+        require(span.end <= 8 * size, at, f"the field {name} goes past the end of the header")
     for other, condition in header.follows.items():
-        for part in parts(condition):
-            if isinstance(part, Field) and part.header != other or isinstance(part, Name):
-                raise SourceError(part.at, f"the condition after {other} is about fields of {other} and constants")
-    if header.length and min(header.length.sizes.values()) < header.size:
-        raise SourceError(header.at, f"a length of {header.name} is less than the {header.size} bytes of its fields")
-    if header.checksum and (header.fields[header.checksum.field].bits != 16 or header.fields[header.checksum.field].bit % 16):
-        raise SourceError(header.at, f"the checksum {header.checksum.field} is one 16-bit word of the header")
+        for it in parts(condition):
+            is_own = not isinstance(it, Name) and (not isinstance(it, Field) or it.header == other)
+            require(is_own, it.at, f"the condition after {other} is about fields of {other} and constants")
+    shortest = min(header.length.sizes.values()) if header.length else size
+    require(shortest >= size, at, f"a length of {header.name} is less than the {size} bytes of its fields")
+    if checksum:
+        require(header.fields[checksum.field][0] % 16 == 0 and header.fields[checksum.field].bits == 16, at,
+                f"the checksum {checksum.field} is one 16-bit word of the header")
     if header.next:
         check_tag(header, header.fields[header.next], headers)
 
 
 def check_tag(header: Header, own: Span, headers: Headers) -> None:
     """Refuses a tag whose last field cannot replace the last field before it."""
-    if own.end != 8 * header.size or own.bits % 8:
-        raise SourceError(header.at, f"the field {header.next} of a tag is the last one, of whole bytes")
+    is_last = own.end == 8 * header.size and own.bits % 8 == 0
+    require(is_last, header.at, f"the field {header.next} of a tag is the last one, of whole bytes")
     for other, condition in header.follows.items():
         asked = [headers[other].fields[name] for name in asked_of(condition)]
-        if asked != [Span(8 * headers[other].size - own.bits, own.bits)]:
-            raise SourceError(header.at, f"a tag follows {other} where its last field, as wide as {header.next}, has one certain value")
+        is_type = asked == [Span(8 * headers[other].size - own.bits, own.bits)]
+        require(is_type, header.at, f"a tag follows {other} where its last field, as wide as {header.next}, has one certain value")

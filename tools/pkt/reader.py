@@ -1,26 +1,35 @@
-"""Reads a text by the grammar of docs/users/pkt.md: statements and declarations, and the meaning of each name."""
+"""The parser: reads a text by the grammar of docs/users/pkt.md, and resolves each name."""
 from __future__ import annotations
 
+import operator
 from dataclasses import dataclass
 
-from .headers import Checksum, Header, Headers, Span, VariableLength, check, evaluate
-from .numbers import Numbers, combined
+from .headers import Checksum, Header, Headers, Span, VariableLength, check
 from .syntax import (
-    PORT, THIS, Assign, Block, Chain, Clone, Cut, Drop, Field, Free, If, Let, Lookup, Name, Need, New, Node, Number, Path, Place, Pop, Push, Pushed,
-    Queue, Send, SourceError, Truncate, While, goes_on,
+    BIGGEST, PORT, THIS, And, Assign, Binary, Block, Chain, Clone, Compare, Cut, Drop, Field, Found, Free, If, Length, Let, Lookup, Name, Need, New,
+    Node, Not, Number, Numeric, Or, Path, Place, Pop, Push, Pushed, Send, SourceError, Truncate, While, goes_on, parts, require,
 )
-from .words import CURES, RESERVED, out_of_place
+from .words import RESERVED, Words, require_word
 
-ASSIGNMENTS = ("=", "+=", "-=", "*=", "&=", "|=", "^=", "<<=", ">>=")
+OPERATORS = {
+    "+": operator.add, "-": operator.sub, "*": operator.mul, "<<": operator.lshift, ">>": operator.rshift,
+    "&": operator.and_, "|": operator.or_, "^": operator.xor,
+}  # fmt: skip
+COMPARISONS = {"==": "==", "!=": "!=", "<": ">", ">": "<", "<=": ">=", ">=": "<="}  # each operator, and its form with swapped sides
+ASSIGNMENTS = ("=", *(f"{sign}=" for sign in OPERATORS))
+# The binary operators, those that bind least first. `not` binds closer than `and`, and `in` like a comparison.
+LEVELS = (("or",), ("and",), (*COMPARISONS, "in"), ("|",), ("^",), ("&",), ("<<", ">>"), ("+", "-"), ("*",))
+NOT, NUMBERS = 2, 3
+LIMITS = {"table": 3, "ring": 7, "pool": 7, "count": 65_535, "length": 4_096, "number of ports": 8, "number of segments": 64, "headroom": 65_535}
 # The syntax after the first word of a statement: methods of the reader, words, and constants within limits.
 STATEMENTS: dict[str, tuple[type[Node], str]] = {
     "let": (Let, ""), "if": (If, "condition block other_block"), "while": (While, "condition block"), "need": (Need, "condition fallback"),
-    "drop": (Drop, ""), "send": (Send, "packet_to number fallback"), "queue": (Queue, "packet_to ring fallback"),
+    "drop": (Drop, ""), "send": (Send, "packet_to number fallback"), "queue": (Send, "packet_to ring fallback"),
     "clone": (Clone, "packet 'from pool fallback"), "new": (New, "packet 'from pool fallback"), "free": (Free, "packet_held"),
     "chain": (Chain, "packet_held 'before 'this"), "push": (Push, "pushed packet_on"), "pop": (Pop, "path"),
     "cut": (Cut, "packet_first count"), "truncate": (Truncate, "packet_first length"),
 }  # fmt: skip
-# The statements that declare a name.
+# What the statements make that declare a name.
 MAKES: dict[type[Node], str] = {Let: "a variable", Lookup: "a variable", Clone: "a packet", New: "a packet"}
 
 
@@ -40,17 +49,193 @@ class Program:
     statements: Block = ()
 
 
-class Reader(Numbers):
-    """Reads statements and declarations."""
+# Numbers and conditions
+
+
+def as_side(node: Node) -> Node:
+    """A side of a comparison."""
+    require(isinstance(node, Numeric), node.at, "a condition stands where a number is wanted", "`and`, `or` and `not` join conditions; `if` decides by them")
+    return node
+
+
+def as_number(node: Node) -> Node:
+    """A node that must be a number other than the length."""
+    require(not isinstance(node, Length), node.at, "the length is only compared with a constant", "the machine has no length as a number")
+    return as_side(node)
+
+
+def as_condition(node: Node) -> Node:
+    """A number as a condition: that it is not 0."""
+    return compared("!=", node, Number(node.at, 0)) if isinstance(node, Numeric) else node
+
+
+def compared(sign: str, left: Node, right: Node) -> Node:
+    """A comparison; the length is on its left."""
+    if isinstance(right, Length):
+        left, right, sign = right, left, COMPARISONS[sign]
+    if isinstance(left, Length) and not isinstance(right, Number):
+        as_number(left)
+    if isinstance(left, Length) and sign in ("==", "!="):
+        equal = And(left.at, Compare(left.at, ">=", left, right), Compare(left.at, "<=", left, right))
+        return equal if sign == "==" else Not(left.at, equal)
+    return Compare(left.at, sign, as_side(left), as_side(right))
+
+
+def joined(sign: str, left: Node, right: Node) -> Node:
+    """A comparison or two conditions joined by a word."""
+    if sign in COMPARISONS:
+        return compared(sign, left, right)
+    return (And if sign == "and" else Or)(left.at, as_condition(left), as_condition(right))
+
+
+def combined(sign: str, left: Node, right: Node) -> Node:
+    """An operation, evaluated at once if both sides are constant."""
+    left, right = as_number(left), as_number(right)
+    by = right.value if isinstance(right, Number) else None
+    require(sign not in ("<<", ">>") or by is not None and by < 64, right.at, "a shift goes by a constant from 0 to 63")
+    require(sign != "*" or isinstance(left, Number) or by is not None, right.at, "one side of a product is a constant")
+    if isinstance(left, Number) and by is not None:
+        return Number(left.at, OPERATORS[sign](left.value, by) & BIGGEST)
+    return Binary(left.at, sign, left, right)
+
+
+def substituted(formula: Node, value: Node) -> Node:
+    """A formula with a value in place of its variable."""
+    if isinstance(formula, Binary):
+        return combined(formula.sign, substituted(formula.left, value), substituted(formula.right, value))
+    return value if isinstance(formula, Name) else formula
+
+
+def constant_of(node: Node) -> int:
+    """The value of a number that must be constant."""
+    if not isinstance(node, Number):
+        raise SourceError(node.at, f"a constant is wanted here, and {node.at.word!r} is none")
+    return node.value
+
+
+class Reader(Words):
+    """Reads a text. `names` has the meaning of each name, `unknown` the names that are not numbers."""
+
+    def __init__(self, text: str, headers: Headers) -> None:
+        super().__init__(text, headers)
+        self.names: dict[str, str] = {**dict.fromkeys(headers, "a header"), PORT: "a variable"}
+        self.constants: dict[str, int] = {}
+        self.unknown: list[Place] = []
+
+    def condition(self) -> Node:
+        """A condition."""
+        return as_condition(self.operation())
+
+    def number(self) -> Node:
+        """A number."""
+        return as_number(self.operation(NUMBERS))
+
+    def constant(self) -> int:
+        """A constant number."""
+        return constant_of(self.number())
+
+    def limited(self, what: str, least: int = 0, limit: int = 0) -> int:
+        """A constant within limits."""
+        at, value, limit = self.place(), self.constant(), limit or LIMITS[what]
+        require(least <= value <= limit, at, f"the {what} is from {least} to {limit:,}, and this is {value:,}")
+        return value
+
+    def operation(self, level: int = 0) -> Node:
+        """An expression of operators that bind at least as close as those of the level."""
+        if level == len(LEVELS):
+            return self.operand()
+        if level == NOT and self.sees("not"):
+            return Not(self.take(), as_condition(self.operation(level)))
+        node = self.operation(level + 1)
+        while self.sees(*LEVELS[level]):
+            sign = self.take().word
+            if sign == "in":
+                node = self.items(as_side(node))
+            else:
+                node = (joined if level < NUMBERS else combined)(sign, node, self.operation(level + 1))
+        return node
+
+    def items(self, left: Node) -> Node:
+        """The items after `in`: a comparison for each."""
+        is_list = self.may("{")
+        node = self.item(left)
+        while is_list and self.may(","):
+            node = Or(left.at, node, self.item(left))
+        if is_list:
+            self.take("}")
+        return node
+
+    def item(self, left: Node) -> Node:
+        """One item: a number, a range, or a prefix."""
+        right = as_side(self.operation(NUMBERS))
+        if self.may(".."):
+            low, high = Number(right.at, constant_of(right)), Number(right.at, self.constant())
+            return And(left.at, compared(">=", left, low), compared("<=", left, high))
+        if self.may("/"):
+            at, depth = self.place(), self.constant()
+            require(depth <= 32, at, f"a prefix has at most 32 bits, and this is {depth}")
+            return Compare(left.at, "==", *(combined(">>", it, Number(right.at, 32 - depth)) for it in (left, Number(right.at, constant_of(right)))))
+        return compared("==", left, right)
+
+    def operand(self) -> Node:
+        """A number without operators, a path, or an expression in parentheses."""
+        at = self.place()
+        if self.kind in ("number", "ip", "ethernet"):
+            return Number(at, self.literal())
+        if self.may("~"):
+            return combined("^", self.operand(), Number(at, BIGGEST))
+        if self.may("("):
+            node = self.operation()
+            self.take(")")
+            return node
+        if self.may("length"):
+            return Length(at)
+        require_word(self.kind == "name", at, f"a number or a condition is wanted here, and this is {at.word!r}")
+        return self.named(at)
+
+    def named(self, at: Place) -> Node:
+        """What a name stands for: a field, a path, a constant or a variable."""
+        if at.word in self.headers:
+            return self.field() if self.place(1).word == "." else Found(at, self.path())
+        if at.word in self.constants:
+            return Number(self.take(), self.constants[at.word])
+        require(self.place(1).word != ".", at, f"there is no header {at.word}", self.known_headers())
+        require_word(at.word not in RESERVED - {PORT}, at, f"a number or a condition is wanted here, and this is {at.word!r}")
+        if self.names.get(at.word) != "a variable":
+            self.unknown.append(at)
+        return Name(self.take(), at.word)
+
+    def literal(self) -> int:
+        """The value of a literal."""
+        kind, at = self.kind, self.take()
+        if kind == "ip":
+            digits = [int(part) for part in at.word.split(".")]
+            require(max(digits) <= 255, at, "a part of an address is at most 255")
+            return int.from_bytes(bytes(digits), "big")
+        value = int(at.word.replace(":", ""), 16) if kind == "ethernet" or at.word.startswith("0x") else int(at.word)
+        require(value <= BIGGEST, at, "a number has at most 64 bits")
+        return value
+
+    def field(self) -> Field:
+        """A header's field."""
+        header = self.header_name()
+        self.take(".")
+        return Field(header, header.word, self.field_name(header.word))
 
     # Names
 
     def declare(self, at: Place, name: str, what: str) -> None:
         """Gives a new name its meaning."""
-        if is_now := self.names.get(name):
-            cure = f"write {name} = .., or take another name" if is_now == "a variable" else "take another name"
-            raise SourceError(at, f"{name} is {is_now} already", cure)
+        is_now = self.names.get(name)
+        cure = f"write {name} = .., or take another name" if is_now == "a variable" else "take another name"
+        require(not is_now, at, f"{name} is {is_now} already", cure)
         self.names[name] = what
+
+    def refuse_unknown(self) -> None:
+        """Refuses names that are not numbers."""
+        for at in self.unknown:
+            cure = "write 1" if at.word == "true" else f"let {at.word} = .. makes one, to the end of its block"
+            raise SourceError(at, f"{at.word} is no variable here", cure)
 
     def packet(self) -> str:
         """The name of a new packet."""
@@ -59,9 +244,8 @@ class Reader(Numbers):
     def packet_held(self) -> str:
         """A packet that exists."""
         at = self.name("a packet")
-        if self.names.get(at.word) != "a packet":
-            cure = f"`clone {at.word} from 0` or `new {at.word} from 0` makes one, to the end of its block"
-            raise SourceError(at, f"there is no packet {at.word} here", cure)
+        cure = f"`clone {at.word} from 0` or `new {at.word} from 0` makes one, to the end of its block"
+        require(self.names.get(at.word) == "a packet", at, f"there is no packet {at.word} here", cure)
         return at.word
 
     def packet_to(self) -> str:
@@ -77,25 +261,26 @@ class Reader(Numbers):
         return self.packet_held() if not self.may(THIS) and self.kind == "name" and self.place().word not in self.constants else THIS
 
     def packet_on(self) -> str:
+        """The packet named after `on`, or the packet of the program."""
         return self.packet_held() if self.may("on") else THIS
 
     # Statements
 
-    def block(self) -> Block:
+    def block(self, may_be_one: bool = False) -> Block:
         """Statements in braces, or one after `else`."""
         outside, found = dict(self.names), list[Node]()
-        if not self.sees("{") and self.words[self.next - 1][1].word == "else":
+        if may_be_one and not self.sees("{"):
             found = [self.statement()]
         else:
             self.take("{")
             while not self.may("}"):
-                found.append(self.statement(tuple(found)))
+                found.append(self.statement(tuple(found[-1:])))
         self.names = outside
         return tuple(found)
 
     def fallback(self) -> Block | None:
         """An `else` part."""
-        return self.block() if self.may("else") else None
+        return self.block(may_be_one=True) if self.may("else") else None
 
     def other_block(self) -> Block:
         """An `else` part, which may be absent."""
@@ -104,19 +289,17 @@ class Reader(Numbers):
     def statement(self, before: Block = ()) -> Node:
         """A statement: its first word gives its kind, and the table the syntax after it."""
         at = self.place()
-        kind, slots = STATEMENTS.get(at.word, (None, "")) if self.kind == "name" else (None, "")
-        if kind is None:
-            it = self.assignment(at, self.kind == "name" and self.may("mend"))
-        else:
-            self.take()
+        if self.kind == "name" and self.sees(*STATEMENTS):
+            kind, slots = STATEMENTS[self.take().word]
             it = self.let(at) if kind is Let else kind(at, *self.slots(slots))
-        if kind is Drop and self.kind == "string":
+        else:
+            it = self.assignment(at, self.kind == "name" and self.may("mend"))
+        if isinstance(it, Drop) and self.kind == "string":
             self.take()
         self.refuse_unknown()
-        if not goes_on(before):
-            raise SourceError(at, "control never comes here: the statement before it ends the program", "delete it, or move it up")
-        if isinstance(it, (Lookup, Need, Clone, New)) and it.fallback is not None and goes_on(it.fallback):
-            raise SourceError(at, "what is after this `else` has to end the program", "end it with drop or send")
+        require(goes_on(before), at, "control never comes here: the statement before it ends the program", "delete it, or move it up")
+        if isinstance(it, (Lookup, Need, Clone, New)) and it.fallback is not None:
+            require(not goes_on(it.fallback), at, "what is after this `else` has to end the program", "end it with drop or send")
         if isinstance(it, (Let, Lookup, Clone, New)):
             self.declare(at, it.name, MAKES[type(it)])
         return it
@@ -133,6 +316,7 @@ class Reader(Numbers):
         return found
 
     def let(self, at: Place) -> Node:
+        """A variable, for a number or what a table has."""
         name = self.name("a variable").word
         self.take("=")
         if self.may("lookup"):
@@ -145,8 +329,7 @@ class Reader(Numbers):
         self.take("{")
         while not self.may("}"):
             at, name = self.place(), self.field_name(header.word)
-            if name in values:
-                raise SourceError(at, f"{name} is given twice")
+            require(name not in values, at, f"{name} is given twice")
             self.take("=")
             values[name] = None if self.may("auto") else self.number()
             self.may(",")
@@ -155,36 +338,32 @@ class Reader(Numbers):
 
     def assignment(self, at: Place, mends: bool) -> Node:
         """An assignment to a variable or field."""
-        first = self.place()
-        if self.kind != "name" or first.word in RESERVED - {PORT}:
-            raise out_of_place(first, f"a field is wanted here, and {first.word!r} is none" if mends else f"no statement begins with {first.word!r}")
+        first, fault = self.place(), f"no statement begins with {self.place().word!r}"
+        is_name = self.kind == "name" and first.word not in RESERVED - {PORT}
+        require_word(is_name, first, f"a field is wanted here, and {first.word!r} is none" if mends else fault)
         target = self.operand()
-        if isinstance(target, Name) and not self.sees(*ASSIGNMENTS, "-", "+"):
-            cure = f"statements begin with {', '.join(STATEMENTS)}, mend, or are assignments"
-            raise SourceError(first, f"no statement begins with {first.word!r}", cure)
-        if not isinstance(target, (Name, Field)) or mends and isinstance(target, Name):
+        is_assigned = not isinstance(target, Name) or self.sees(*ASSIGNMENTS, "-", "+")
+        require(is_assigned, first, fault, f"statements begin with {', '.join(STATEMENTS)}, mend, or are assignments")
+        if not isinstance(target, Field) and (mends or not isinstance(target, Name)):
             raise SourceError(first, "`mend` assigns to a field" if mends else f"{first.word} cannot be assigned to")
         sign = self.take()
-        if sign.word not in ASSIGNMENTS:
-            raise SourceError(sign, f"an assignment is wanted here, and this is {sign.word!r}", CURES.get(sign.word, ""))
+        require_word(sign.word in ASSIGNMENTS, sign, f"an assignment is wanted here, and this is {sign.word!r}")
         value = self.number()
-        if target == Name(at, PORT):
-            raise SourceError(at, "port is where the packet came from, and is not assigned to", "let x = port")
+        require(target != Name(at, PORT), at, "port is where the packet came from, and is not assigned to", "let x = port")
         return Assign(at, target, value if sign.word == "=" else combined(sign.word[:-1], target, value), mends)
 
     # Declarations
 
     def program(self) -> Program:
         """The whole text."""
-        program, said = Program(self.headers), list[str]()
+        program, said = Program(self.headers), set[str]()
         while self.kind != "end":
             at = self.place()
             if not self.sees("const", "ports", "segments", "otherwise", "given", "header"):
                 program.statements += (self.statement(program.statements),)
                 continue
-            if at.word in ("ports", "segments", "otherwise") and at.word in said:
-                raise SourceError(at, f"{at.word} is declared twice")
-            said.append(self.take().word)
+            require(at.word not in said & {"ports", "segments", "otherwise"}, at, f"{at.word} is declared twice")
+            said.add(self.take().word)
             if at.word in ("ports", "segments"):
                 setattr(program, at.word, self.limited(f"number of {at.word}", 1))
             else:
@@ -199,9 +378,8 @@ class Reader(Numbers):
 
     def declare_otherwise(self, program: Program) -> None:
         at, it = self.place(), self.statement()
-        simple = isinstance(it, Drop) or isinstance(it, (Send, Queue)) and it.packet == THIS and it.fallback is None
-        if not simple or isinstance(it, Send) and not isinstance(it.port, Number) and it.port != Name(at, PORT):
-            raise SourceError(at, "after `otherwise` is `drop`, `send port`, `send` with a constant, or `queue`, and no `else`")
+        is_sent = isinstance(it, Send) and it.packet == THIS and it.fallback is None and (isinstance(it.port, (int, Number)) or it.port == Name(at, PORT))
+        require(is_sent or isinstance(it, Drop), at, "after `otherwise` is `drop`, `send port`, `send` with a constant, or `queue`, and no `else`")
         program.otherwise = it
 
     def declare_given(self, program: Program) -> None:
@@ -214,8 +392,8 @@ class Reader(Numbers):
             program.length = self.limited("count")
         else:
             program.given = self.path()
-            if self.headers[program.given[0]].follows or any(self.headers[name].length for name in program.given[:-1]):
-                raise SourceError(at, "a given path begins at byte 0, and each header but the last has one length")
+            is_fixed = not self.headers[program.given[0]].follows and not any(self.headers[name].length for name in program.given[:-1])
+            require(is_fixed, at, "a given path begins at byte 0, and each header but the last has one length")
 
     def declare_header(self, _: Program) -> None:
         at = self.name("a header")
@@ -223,9 +401,8 @@ class Reader(Numbers):
         header = Header(at.word, at)
         self.fields(header)
         self.headers[at.word] = header
-        clauses = {"after": self.clause_after, "length": self.clause_length, "next": self.clause_next, "sum": self.clause_sum}
-        while self.sees(*clauses):
-            clauses[self.take().word](header)
+        while self.sees("after", "length", "next", "sum"):
+            getattr(self, f"clause_{self.take().word}")(header)
         check(header, self.headers)
         header.before = frozenset({header.name}).union(*(self.headers[other].before for other in header.follows))
         self.unknown = []
@@ -236,8 +413,7 @@ class Reader(Numbers):
         total = 0
         while not self.may("}"):
             name = self.name("a field", may_be_reserved=True)
-            if name.word in header.fields:
-                raise SourceError(name, f"{name.word} is there twice")
+            require(name.word not in header.fields, name, f"{name.word} is there twice")
             alias = self.constant() if self.may("@") else None
             self.take(":")
             bits = self.constant()
@@ -245,28 +421,29 @@ class Reader(Numbers):
             total += bits if alias is None else 0
             if self.may("="):
                 header.defaults[name.word] = None if self.may("auto") else self.constant()
-        if total % 8 or total == 0:
-            raise SourceError(header.at, f"the {total} bits of {header.name} do not make whole bytes")
+        require(total and total % 8 == 0, header.at, f"the {total} bits of {header.name} do not make whole bytes")
         header.size = total // 8
 
     def clause_after(self, header: Header) -> None:
         other = self.header_name()
-        if other.word == header.name:
-            raise SourceError(other, "a header does not follow itself", "declare a second one with another name")
+        require(other.word != header.name, other, "a header does not follow itself", "declare a second one with another name")
         self.take("if")
         header.follows[other.word] = self.condition()
 
     def clause_length(self, header: Header) -> None:
         formula = self.number()
         self.take("for")
-        variable = self.name("a variable")
+        variable = self.name("a variable").word
         self.take(":")
         bits = self.limited("number of bits", 1, 16)
         self.take("in")
         low = self.constant()
         self.take("..")
         high = self.limited("last value", low, min(low + 255, (1 << bits) - 1))
-        sizes = {value: evaluate(formula, variable.word, value) for value in range(low, high + 1)}
+        for it in parts(formula):
+            is_own = not isinstance(it, Field) and (not isinstance(it, Name) or it.name == variable)
+            require(is_own, it.at, "a length is calculated from its own variable and constants")
+        sizes = {value: constant_of(substituted(formula, Number(header.at, value))) for value in range(low, high + 1)}
         header.length = VariableLength(bits, sizes, formula)
 
     def clause_next(self, header: Header) -> None:

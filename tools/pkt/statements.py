@@ -11,7 +11,7 @@ from .reader import Program
 from .state import FAR, SOMEBODY, Packet
 from .syntax import (
     BIGGEST, PORT, THIS, Assign, Block, Chain, Clone, Cut, Drop, Field, Found, If, Length, Let, Lookup, Name, Need, New, Node, Number, Pop, Push,
-    Queue, Send, SourceError, Truncate, While, has, parts,
+    Send, SourceError, Truncate, While, has, parts,
 )
 from .ways import Join, Unit
 
@@ -122,7 +122,7 @@ class Statements(Packets):
         """The `otherwise` part, for a packet without a header that a statement needs."""
         it, end = self.unit.program.otherwise, Join[Self](NOTHING)
         self.unit.needs = NOTHING
-        if isinstance(it, (Send, Queue)):
+        if isinstance(it, Send):
             self.do_send(it, end, end)
         else:
             self.drop()
@@ -173,7 +173,7 @@ class Statements(Packets):
         if has(it.body, Push, Pop, Cut, Truncate):
             for p in self.packets:
                 self.know(p, first=0, headroom=0)
-        if has(it.body, Clone) and has(it.body, Send, Queue):
+        if has(it.body, Clone) and has(it.body, Send):
             self.lose(self.held[THIS])
             name = next(part for part in parts(it.body) if isinstance(part, Clone))
             self.sharer = self.sharer if self.sharer[0] else (name.name, name.at.line)
@@ -213,10 +213,10 @@ class Statements(Packets):
     def do_drop(self, it: Drop, after: Join[Self], _: Join[Self]) -> None:
         self.drop()
 
-    def do_send(self, it: Send | Queue, after: Join[Self], _: Join[Self]) -> None:
+    def do_send(self, it: Send, after: Join[Self], _: Join[Self]) -> None:
         """Hands a packet to a port or a ring."""
         ports, port, failed, way = self.unit.program.ports, None, Join[Self](), self
-        if isinstance(it, Send):
+        if isinstance(it.port, Node):
             if isinstance(it.port, Number) and it.port.value >= ports:
                 raise SourceError(it.port.at, f"there is no port {it.port.value}: the program has {ports}", f"ports {it.port.value + 1}")
             port = self.in_register(self.evaluate(it.port))
@@ -224,13 +224,13 @@ class Statements(Packets):
         if it.packet == THIS:
             self.come_near()
             self.at = it.at
-        is_entry = isinstance(it, Send) and it.port == Name(it.at, PORT) and not self.unit.program.is_for_ring
+        is_entry = it.port == Name(it.at, PORT) and not self.unit.program.is_for_ring
         if port and not is_entry and self.bounds[port.r] >= ports:
             good = Join[Self]()
             self.emit("jlt", port, ports, to=good).bounds[port.r] = ports - 1
             self.jump(failed)
             (way,) = good.begin()
-        word, place = ("enq", it.ring) if isinstance(it, Queue) else ("tx", port)
+        word, place = ("tx", port) if port else ("enq", it.port)
         way.emit(word, f"p{p}", place, to=failed)
         way.dissolve(p)
         del way.packets[way.held.pop(it.packet)]
@@ -251,8 +251,6 @@ class Statements(Packets):
             else:
                 s.free(it.packet)
                 s.jump(after)
-
-    do_queue = do_send
 
     # Making packets
 

@@ -25,6 +25,12 @@ class SourceError(Exception):
         self.at, self.message, self.cure = at, message, cure
 
 
+def require(holds: object, at: Place, message: str, cure: str = "") -> None:
+    """Raises an error of the source unless something holds."""
+    if not holds:
+        raise SourceError(at, message, cure)
+
+
 @dataclass_transform(frozen_default=True)
 @dataclass(frozen=True)
 class Node:
@@ -41,12 +47,13 @@ Path = tuple[str, ...]
 
 # fmt: off
 # Numbers. `Bits` are bits of the packet that the compiler reads for its own use.
-class Number(Node): value: int  # noqa: E302, E701
-class Name(Node): name: str
-class Field(Node): header: str; name: str  # noqa: E702
-class Bits(Node): bit: int; bits: int
-class Length(Node): pass
-class Binary(Node): sign: str; left: Node; right: Node
+class Numeric(Node): pass  # noqa: E302, E701
+class Number(Numeric): value: int
+class Name(Numeric): name: str
+class Field(Numeric): header: str; name: str  # noqa: E702
+class Bits(Numeric): bit: int; bits: int
+class Length(Numeric): pass
+class Binary(Numeric): sign: str; left: Node; right: Node
 
 # Conditions. `Found`: each header of a path is present.
 class Compare(Node): sign: str; left: Node; right: Node
@@ -55,7 +62,7 @@ class Not(Node): condition: Node
 class And(Node): left: Node; right: Node
 class Or(Node): left: Node; right: Node
 
-# Statements. `fallback` is the `else` part; a pushed value that is None is `auto`.
+# Statements. `fallback` is the `else` part; a port that is an int is a ring; a pushed value that is None is `auto`.
 class Let(Node): name: str; value: Node
 class Lookup(Node): name: str; table: int; key: Node; fallback: Block | None
 class Assign(Node): target: Name | Field; value: Node; mends: bool
@@ -63,8 +70,7 @@ class If(Node): condition: Node; body: Block; fallback: Block
 class While(Node): condition: Node; body: Block
 class Need(Node): condition: Node; fallback: Block | None
 class Drop(Node): pass
-class Send(Node): packet: str; port: Node; fallback: Block | None
-class Queue(Node): packet: str; ring: int; fallback: Block | None
+class Send(Node): packet: str; port: Node | int; fallback: Block | None
 class Clone(Node): name: str; pool: int; fallback: Block | None
 class New(Node): name: str; pool: int; fallback: Block | None
 class Free(Node): packet: str
@@ -98,6 +104,6 @@ def goes_on(it: Node | Block) -> bool:
         return not it or goes_on(it[-1])
     if isinstance(it, If):
         return goes_on(it.body) or goes_on(it.fallback)
-    if isinstance(it, (Send, Queue)) and it.packet == THIS:
+    if isinstance(it, Send) and it.packet == THIS:
         return it.fallback is not None and goes_on(it.fallback)
     return not isinstance(it, Drop)

@@ -1,15 +1,15 @@
-"""The words of a text, and reading them one after another."""
+"""The lexer: the words of a text, and reading them one after another."""
 from __future__ import annotations
 
 import re
 
 from .headers import Headers
-from .syntax import Path, Place, SourceError
+from .syntax import Path, Place, SourceError, require
 
 WORD = re.compile(
-    r"(?P<blank>[ \t\r\n]+|\#[^\n]*)|(?P<ethernet>[0-9a-fA-F]{2}(?::[0-9a-fA-F]{2}){5}(?![0-9a-fA-F:]))|(?P<ip>\d+\.\d+\.\d+\.\d+(?!\d|\.\d))"
-    r"|(?P<number>0x[0-9a-fA-F]+|\d+)|(?P<name>[A-Za-z_]\w*)|(?P<string>\"[^\"\n]*\")"
-    r"|(?P<sign>\.\.|<<=|>>=|<<|>>|==|!=|<=|>=|[-+*&|^]=|[-+*&|^~<>=(){}.,:/@])",
+    r"(?P<blank>[ \t\r]+|\#[^\n]*)|(?P<line>\n)|(?P<ethernet>[0-9a-fA-F]{2}(?::[0-9a-fA-F]{2}){5}(?![0-9a-fA-F:]))"
+    r"|(?P<ip>\d+\.\d+\.\d+\.\d+(?!\d|\.\d))|(?P<number>0x[0-9a-fA-F]+|\d+)|(?P<name>[A-Za-z_]\w*)|(?P<string>\"[^\"\n]*\")"
+    r"|(?P<sign>\.\.|<<=|>>=|<<|>>|==|!=|<=|>=|[-+*&|^]=|[-+*&|^~<>=(){}.,:/@])|(?P<wrong>.)",
     re.ASCII,
 )
 RESERVED = frozenset(
@@ -25,24 +25,22 @@ CURES = {
 }  # fmt: skip
 
 
-def out_of_place(at: Place, message: str) -> SourceError:
-    """The error for a word out of place."""
-    return SourceError(at, message, CURES.get(at.word, ""))
-
-
 def words_of(text: str) -> list[tuple[str, Place]]:
     """The words of a text, each with its kind, and one for its end."""
-    found, at, line, begin = [], 0, 1, 0
-    while at < len(text):
-        match = WORD.match(text, at)
-        if not match:
-            raise out_of_place(Place(line, at - begin + 1, text[at]), f"no word begins with {text[at]!r}")
-        if match.lastgroup != "blank":
-            found.append((str(match.lastgroup), Place(line, at - begin + 1, match.group())))
-        line += match.group().count("\n")
-        begin = at + match.group().rindex("\n") + 1 if "\n" in match.group() else begin
-        at = match.end()
-    return [*found, ("end", Place(line, at - begin + 1, "the end of the text"))]
+    found, line, begin = [], 1, 0
+    for match in WORD.finditer(text):
+        kind, at = str(match.lastgroup), Place(line, match.start() - begin + 1, match.group())
+        require_word(kind != "wrong", at, f"no word begins with {at.word!r}")
+        if kind == "line":
+            line, begin = line + 1, match.end()
+        elif kind != "blank":
+            found.append((kind, at))
+    return [*found, ("end", Place(line, len(text) - begin + 1, "the end of the text"))]
+
+
+def require_word(holds: object, at: Place, message: str) -> None:
+    """Raises an error, with the cure for the word at its place."""
+    require(holds, at, message, CURES.get(at.word, ""))
 
 
 class Words:
@@ -71,8 +69,7 @@ class Words:
     def take(self, wanted: str = "") -> Place:
         """The next word, which must be this one."""
         place = self.place()
-        if wanted and not self.sees(wanted):
-            raise out_of_place(place, f"{wanted!r} is wanted here, and this is {place.word!r}")
+        require_word(not wanted or self.sees(wanted), place, f"{wanted!r} is wanted here, and this is {place.word!r}")
         self.next = min(self.next + 1, len(self.words) - 1)
         return place
 
@@ -83,14 +80,14 @@ class Words:
     def name(self, what: str, may_be_reserved: bool = False) -> Place:
         """The next word, which must be a name."""
         at = self.place()
-        if self.kind != "name" or at.word in RESERVED and not may_be_reserved:
-            raise SourceError(at, f"the name of {what} is wanted here, and {at.word!r} is {'a reserved word' if at.word in RESERVED else 'none'}")
+        is_name, is_now = self.kind == "name" and (at.word not in RESERVED or may_be_reserved), "a reserved word" if at.word in RESERVED else "none"
+        require(is_name, at, f"the name of {what} is wanted here, and {at.word!r} is {is_now}")
         return self.take()
 
     def header_name(self) -> Place:
         """The name of a header."""
-        if self.kind != "name" or self.place().word not in self.headers:
-            raise SourceError(self.place(), f"a header is wanted here, and {self.place().word!r} is none", self.known_headers())
+        at = self.place()
+        require(self.kind == "name" and at.word in self.headers, at, f"a header is wanted here, and {at.word!r} is none", self.known_headers())
         return self.take()
 
     def known_headers(self) -> str:
@@ -100,17 +97,16 @@ class Words:
     def field_name(self, header: str) -> str:
         """The name of a field of a header."""
         name, fields = self.name("a field", may_be_reserved=True), self.headers[header].fields
-        if name.word not in fields:
-            raise SourceError(name, f"{header} has no field {name.word}", f"its fields are {', '.join(fields)}")
+        require(name.word in fields, name, f"{header} has no field {name.word}", f"its fields are {', '.join(fields)}")
         return name.word
 
     def path(self) -> Path:
         """Headers that follow each other."""
-        names = [self.header_name()]
+        names = [self.header_name().word]
         while self.may("/"):
-            names.append(self.header_name())
-            before = self.headers[names[-1].word].follows
-            if not any(name.word in before for name in names[:-1]):
-                cure = f"it follows {', '.join(before)}" if before else "it follows no other"
-                raise SourceError(names[-1], f"{names[-1].word} cannot follow {names[-2].word}", cure)
-        return tuple(name.word for name in names)
+            at = self.header_name()
+            before = self.headers[at.word].follows
+            cure = f"it follows {', '.join(before)}" if before else "it follows no other"
+            require(before.keys() & {*names}, at, f"{at.word} cannot follow {names[-1]}", cure)
+            names.append(at.word)
+        return tuple(names)
