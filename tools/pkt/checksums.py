@@ -28,7 +28,7 @@ class Checksums(Conditions):
         self.assign_field(it.target, self.evaluate(it.value))
         if len(names) + len(over) > 1:
             self.fold(Value(register=self.variables[DIFFERENCE]))
-        way, done = self, Join[Self](after.needs | self.unit.reach.of(it))
+        way, done = self, Join[Self](after.needs | self.unit.needs_of(it))
         for name in names:
             updated = Join[Self]()
             way.update(name, updated)

@@ -23,7 +23,7 @@ class Conditions(Registers):
     def decide(self, it: Node, yes: Join[Self], no: Join[Self]) -> None:
         """Ends this path."""
         if isinstance(it, (And, Or)):
-            middle = Join[Self](yes.needs | no.needs | self.unit.reach.of(it.right))
+            middle = Join[Self](yes.needs | no.needs | self.unit.needs_of(it.right))
             self.decide(it.left, *((middle, no) if isinstance(it, And) else (yes, middle)))
             for s in middle.begin():
                 s.decide(it.right, yes, no)

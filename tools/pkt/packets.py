@@ -5,7 +5,6 @@ from typing import Self
 
 from .checksums import Checksums
 from .headers import Header, Span, asked_of
-from .needs import tag_follows
 from .registers import Value
 from .state import FAR, SOMEBODY, SOMEBODY_THE_REST, Packet
 from .syntax import THIS, Chain, Cut, Free, Number, Pop, Push, Pushed, SourceError, Truncate
@@ -133,7 +132,7 @@ class Packets(Checksums):
     # Pushed headers
 
     def do_push(self, it: Push, after: Join[Self], _: Join[Self]) -> None:
-        if before := tag_follows(it, self.headers):
+        if before := self.unit.tag_follows(it):
             self.push_tag(it.headers[0], self.header_before(it.headers[0].header) or before[0])
         else:
             self.push(it.headers, it.packet)

@@ -2,11 +2,10 @@
 from __future__ import annotations
 
 from dataclasses import dataclass
-from typing import NoReturn
 
 from .headers import Span
-from .state import FAR, SOMEBODY_THE_REST
-from .syntax import BIGGEST, THIS, Binary, Bits, Field, Name, Node, Number, SourceError, parts
+from .state import ALL, FAR, SOMEBODY_THE_REST
+from .syntax import BIGGEST, THIS, Binary, Bits, Field, Name, Node, Number, parts
 from .ways import Way
 
 INSTRUCTIONS = {"+": "add", "-": "sub", "&": "and", "|": "or", "^": "xor", "<<": "shl", ">>": "shr"}
@@ -35,10 +34,6 @@ class Value:
 class Registers(Way):
     """Assigns registers to numbers, and appends the instructions that compute them."""
 
-    def error(self, message: str, cure: str = "") -> NoReturn:
-        """An error of the current statement."""
-        raise SourceError(self.at, message, cure)
-
     # Registers
 
     def fresh(self) -> Value:
@@ -48,7 +43,7 @@ class Registers(Way):
             names = ", ".join(sorted(it for it in self.variables if not it.startswith("$")))
             self.error(f"this needs a ninth number: {names} are held, and what is calculated here",
                        "variables end with their block, and port where it is no more used")
-        needed = {self.span(it) for it in self.unit.needs.fields if it.header in self.found}
+        needed = {self.span(it) for it in self.unit.needs if isinstance(it, Field) and it.header in self.found}
         wanted = {r for it, r in self.loaded.items() if it in needed}
         register = min(free, key=lambda r: (r in self.loaded.values()) + (r in wanted))
         self.loaded = {it: r for it, r in self.loaded.items() if r != register}
@@ -66,8 +61,7 @@ class Registers(Way):
         if value.own:
             return value
         if value.register is not None and self.loaded.get(value.span) == value.register and self.pins[value.register] == 1:
-            is_needed = self.unit.needs.everything or value.field in self.unit.needs.fields
-            if value.field is None or not is_needed or len(self.used()) == 8:
+            if value.field is None or not self.unit.needs & {ALL, value.field} or len(self.used()) == 8:
                 self.loaded = {it: r for it, r in self.loaded.items() if r != value.register}
                 value.own = True
                 return value

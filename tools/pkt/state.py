@@ -2,12 +2,17 @@
 from __future__ import annotations
 
 from collections import Counter
+from copy import copy
 from dataclasses import dataclass, field, replace
 from typing import Self
 
 from .headers import Span
-from .needs import Needs
-from .syntax import PORT, THIS
+from .syntax import PORT, THIS, Field
+
+# The facts that later statements need: variables, fields, and headers with True if found, False if absent. ALL stands for every fact.
+Needs = frozenset[str | Field | tuple[str, bool]]
+ALL = "*"
+NOTHING, EVERYTHING = Needs(), Needs({ALL})
 
 # Who shares the buffers of a packet: registers of packets, somebody permanently, or somebody those after the first one.
 SOMEBODY, SOMEBODY_THE_REST = -1, -2
@@ -74,14 +79,14 @@ class State:
 
     def copy(self) -> Self:
         """A copy that is independent of this one."""
-        other = object.__new__(type(self))
-        vars(other).update((name, it.copy() if isinstance(it, (dict, set)) else it) for name, it in vars(self).items())
+        other = copy(self)
+        vars(other).update((name, copy(it)) for name, it in vars(self).items() if isinstance(it, (dict, set)))
         return other
 
     def signature(self) -> tuple[object, ...]:
         """The part of the state that must be equal where paths join."""
         far = self.far and (self.far.padding, self.far.base, self.far.register)
-        return *(tuple(sorted(it.items())) for it in (self.held, self.found, self.variables)), tuple(sorted(self.absent)), far
+        return *(frozenset(it.items()) for it in (self.held, self.found, self.variables)), frozenset(self.absent), far
 
     @property
     def this(self) -> Packet:
@@ -101,10 +106,10 @@ class State:
     def forget(self, needs: Needs) -> None:
         """Keeps only the needed facts."""
         self.pins = Counter()
-        if not needs.everything:
-            self.found = {name: at for name, at in self.found.items() if name in needs.found}
-            self.absent = self.absent & needs.absent
-            self.variables = {name: r for name, r in self.variables.items() if name in needs.variables or name.startswith("$")}
+        if ALL not in needs:
+            self.found = {name: at for name, at in self.found.items() if (name, True) in needs}
+            self.absent = {name for name in self.absent if (name, False) in needs}
+            self.variables = {name: r for name, r in self.variables.items() if name in needs or name.startswith("$")}
 
     def join(self, other: State) -> None:
         """Keeps only the facts of both paths."""
@@ -112,8 +117,8 @@ class State:
         if self.far and other.far:
             lengths = tuple(sorted({*self.far.lengths, *other.far.lengths}))
             self.far = replace(self.far, size=min(self.far.size, other.far.size), lengths=lengths)
-        if unlike := {bit // 8 for bit, _ in self.bits.items() ^ other.bits.items()}:
-            self.bits = {bit: it for bit, it in self.bits.items() if bit // 8 not in unlike}
+        unlike = {bit // 8 for bit, _ in self.bits.items() ^ other.bits.items()}
+        self.bits = {bit: it for bit, it in self.bits.items() if bit // 8 not in unlike}
         self.loaded = dict(self.loaded.items() & other.loaded.items())
         self.bounds = {r: max(b, other.bounds[r]) for r, b in self.bounds.items() if r in other.bounds}
         self.sharer = self.sharer if self.sharer[0] else other.sharer
@@ -159,12 +164,12 @@ class State:
         for k in self.packets.pop(p).clones():
             self.know(k, sharers=self.packets[k].sharers - {p})
 
-    def dissolve(self, p: int) -> None:
-        """Records that those that share the buffers of p do so permanently."""
-        if self.packets[p].clones():
-            self.lose(p)
-
     def lose(self, p: int) -> None:
         """Records that somebody shares the buffers of p permanently."""
         for k in {p, *self.packets[p].clones()}:
             self.know(k, sharers=frozenset({SOMEBODY}))
+
+    def dissolve(self, p: int) -> None:
+        """Records that those that share the buffers of p do so permanently."""
+        if self.packets[p].clones():
+            self.lose(p)

@@ -5,10 +5,9 @@ from dataclasses import replace
 from typing import Self
 
 from .graph import Graph, Instruction
-from .needs import NOTHING, Needs, tag_follows
 from .packets import Packets
 from .reader import Program
-from .state import FAR, SOMEBODY, Packet
+from .state import FAR, NOTHING, SOMEBODY, Needs, Packet
 from .syntax import (
     BIGGEST, PORT, THIS, Assign, Block, Chain, Clone, Cut, Drop, Field, Found, If, Length, Let, Lookup, Name, Need, New, Node, Number, Pop, Push,
     Send, SourceError, Truncate, While, has, parts,
@@ -28,8 +27,8 @@ def compile_program(program: Program) -> Graph:
     sharers = frozenset({SOMEBODY} if program.is_shared else ())
     way.packets[0] = Packet(sharers, program.headroom, max(program.length, at), program.segments)
     way.bounds[0] = MAX_PORT
-    needs = unit.reach.of(program.otherwise)
-    way.forget(needs | unit.reach.of(program.statements))
+    needs = unit.needs_of(program.otherwise)
+    way.forget(needs | unit.needs_of(program.statements))
     end = Join[Statements](needs)
     way.block(program.statements, end)
     for way in end.ways:
@@ -67,7 +66,7 @@ class Statements(Packets):
         """The statements of a block from one on, one after another."""
         if first == len(block):
             return self.jump(end)
-        later = end.needs | self.unit.reach.of(block, first + 1)
+        later = end.needs | self.unit.needs_of(block, first + 1)
         after, ready = Join[Self](later), Join[Self](later)
         self.statement(block[first], after)
         for s in after.begin():
@@ -80,7 +79,7 @@ class Statements(Packets):
 
     def body(self, block: Block, join: Join[Self], after: Join[Self]) -> None:
         """A block that paths lead to."""
-        join.needs = after.needs | self.unit.reach.of(block)
+        join.needs = after.needs | self.unit.needs_of(block)
         for s in join.begin():
             s.block(block, after)
 
@@ -108,7 +107,7 @@ class Statements(Packets):
         """A statement that needs the headers that it names."""
         found, missing = Join[Self](), Join[Self]()
         names = list(it.path) if isinstance(it, Pop) else self.headers_of(replace(it, fallback=None) if hasattr(it, "fallback") else it)
-        if isinstance(it, Push) and (before := tag_follows(it, self.headers)) and not {*before} & {*self.found}:
+        if isinstance(it, Push) and (before := self.unit.tag_follows(it)) and not {*before} & {*self.found}:
             names = self.headers.in_order([*names, before[0]])
         self.touch(names, found, missing)
         for s in found.begin():
@@ -130,19 +129,19 @@ class Statements(Packets):
     # Branches and loops
 
     def do_if(self, it: If, after: Join[Self]) -> None:
-        yes, no = (Join[Self](after.needs | self.unit.reach.of(block)) for block in (it.body, it.fallback))
+        yes, no = (Join[Self](after.needs | self.unit.needs_of(block)) for block in (it.body, it.fallback))
         self.decide(it.condition, yes, no)
         self.body(it.body, yes, after)
         self.body(it.fallback, no, after)
 
     def do_need(self, it: Need, after: Join[Self]) -> None:
-        no = Join[Self](self.unit.reach.of(it.fallback))
+        no = Join[Self](self.unit.needs_of(it.fallback))
         self.decide(it.condition, after, no)
         self.fallback(it.fallback, no, after)
 
     def do_while(self, it: While, after: Join[Self]) -> None:
         """The facts at its start must hold in each round."""
-        more = after.needs | self.unit.reach.of((it.condition, it.body))
+        more = after.needs | self.unit.needs_of((it.condition, it.body))
         self.enter_round(more)
         self.weaken(it)
         self.emit("")
@@ -240,8 +239,8 @@ class Statements(Packets):
             way.jump(after)
         for s in failed.begin():
             s.at = it.at
-            wanted = (after.needs | self.unit.reach.of(it.fallback)).found
-            if far and s.far is None and s.this.sharers == frozenset() and any(at >= FAR and name in wanted for name, at in found.items()):
+            wanted = after.needs | self.unit.needs_of(it.fallback)
+            if far and s.far is None and s.this.sharers == frozenset() and any(at >= FAR and (name, True) in wanted for name, at in found.items()):
                 s.emit("append", f"p{p}", far.padding)
                 s.far, s.found = far, dict(found)
             if it.fallback is not None:

@@ -2,16 +2,15 @@
 from __future__ import annotations
 
 from collections import defaultdict
-from collections.abc import Iterable, Iterator, Set
+from collections.abc import Callable, Iterable, Iterator, Set
 from dataclasses import dataclass, field
-from typing import Generic, Self, TypeVar
+from typing import Any, Generic, NoReturn, Self, TypeVar
 
 from .graph import Instruction
 from .headers import Headers
-from .needs import EVERYTHING, NOTHING, Needs, Reach
 from .reader import Program
-from .state import State
-from .syntax import Place, Pop, SourceError, parts
+from .state import EVERYTHING, NOTHING, Needs, State
+from .syntax import THIS, Assign, Field, Found, Name, Node, Place, Pop, Push, SourceError, parts, require
 
 MAX_BLOCKS = 20_000
 
@@ -20,10 +19,46 @@ class Unit:
     """The state that all paths of a program share. `needs` are the facts needed after the current statement, `reached` has statements."""
 
     def __init__(self, program: Program) -> None:
-        self.program, self.headers, self.reach, self.needs = program, program.headers, Reach(program.headers), NOTHING
-        self.blocks, self.reached = 0, set[int]()
-        self.used_headers = self.reach.of(program.statements).absent | self.reach.of(program.otherwise).absent
+        self.program, self.headers, self.needs, self.blocks, self.reached = program, program.headers, NOTHING, 0, set[int]()
+        self.known: dict[tuple[int, int], tuple[Any, Needs]] = {}
+        used = self.needs_of(program.statements) | self.needs_of(program.otherwise)
+        self.used_headers = {name for name in self.headers if (name, False) in used}
         self.popped = {name for it in parts(program.statements) if isinstance(it, Pop) for name in it.path}
+
+    def needs_of(self, it: Any, first: int = 0) -> Needs:
+        """The needs of a part of the text, or of a block from one of its statements on; computed once."""
+        key = id(it), first
+        if key not in self.known:
+            is_rest = isinstance(it, tuple) and first < len(it)
+            needs = self.needs_of(it[first]) | self.needs_of(it, first + 1) if is_rest else NOTHING if isinstance(it, tuple) else self.needs_of_all(it)
+            self.known[key] = it, needs
+        return self.known[key][1]
+
+    def needs_of_all(self, it: Any) -> Needs:
+        """The needs of all parts of a part together."""
+        values = [part.name if isinstance(part, Name) else part for part in parts(it) if isinstance(part, (Name, Field))]
+        names = {name for part in parts(it) for name in self.headers_of(part)}
+        found = {(other, True) for name in names for other in self.headers[name].before}
+        absent = {(other, False) for name in names for other in self.headers.looked_for(name)}
+        return Needs({*values, *found, *absent})
+
+    def headers_of(self, it: Node) -> Iterable[str]:
+        """The headers that a node itself uses."""
+        match it:
+            case Field(_, header):
+                return [header]
+            case Found(_, path) | Pop(_, path):
+                return path
+            case Push():
+                return self.tag_follows(it)
+            case Assign(_, Field() as target, _, True):
+                return self.headers.covering(target)
+        return []
+
+    def tag_follows(self, it: Push) -> list[str]:
+        """The headers that a tag which is pushed alone may follow."""
+        header = self.headers[it.headers[0].header]
+        return list(header.follows) if it.packet == THIS and len(it.headers) == 1 and header.next else []
 
 
 W = TypeVar("W", bound="Way")
@@ -47,6 +82,13 @@ class Join(Generic[W]):
             yield first
 
 
+def paths(step: Callable[[Join[W]], None], needs: Needs = EVERYTHING) -> Iterator[W]:
+    """The paths on which a step leads to its join."""
+    join = Join[W](needs)
+    step(join)
+    return join.begin()
+
+
 @dataclass
 class Way(State):
     """A place in the program, at which instructions are appended. `at` is the current statement. `constants` are bytes of a packet that are
@@ -62,6 +104,10 @@ class Way(State):
     def headers(self) -> Headers:
         """The headers of the program."""
         return self.unit.headers
+
+    def error(self, message: str, cure: str = "") -> NoReturn:
+        """An error of the current statement."""
+        raise SourceError(self.at, message, cure)
 
     def emit(self, word: str, *operands: object, to: Join[Self] | None = None) -> Self:
         """Appends an instruction; returns the path to its jump target, if it leads to a join."""
@@ -101,8 +147,7 @@ class Way(State):
     def unite(self, others: list[Self]) -> None:
         """This way goes on with what it has in common with others."""
         self.unit.blocks += 1
-        if self.unit.blocks > MAX_BLOCKS:
-            raise SourceError(self.at, "the program has too many ways", "`need` what most packets have, or test it once for all")
+        require(self.unit.blocks <= MAX_BLOCKS, self.at, "the program has too many ways", "`need` what most packets have, or test it once for all")
         label = Instruction()
         for way in (self, *others):
             way.flush()
