@@ -192,31 +192,31 @@ class Registers(Way):
 
     def evaluate(self, it: Node) -> Value:
         """A number; the headers of its fields were found."""
-        if isinstance(it, Number):
-            return Value(it.value)
-        if isinstance(it, Name):
-            self.pins[self.variables[it.name]] += 1
-            return Value(register=self.variables[it.name])
         if span := self.bits_of(it):
             return self.load(span, it if isinstance(it, Field) else None)
-        assert isinstance(it, Binary)
-        left, right = it.left, it.right
-        if it.sign in "+&|^*" and isinstance(left, Number):
-            left, right = right, left
-        if it.sign == "*":
-            assert isinstance(right, Number)
-            return self.multiply(self.evaluate(left), right.value)
-        return self.operate(self.own(self.evaluate(left)), it.sign, right)
+        match it:
+            case Number(_, value):
+                return Value(value)
+            case Name(_, name):
+                self.pins[self.variables[name]] += 1
+                return Value(register=self.variables[name])
+            case Binary(_, sign, left, right):
+                if isinstance(left, Number) and sign in "+&|^*":
+                    left, right = right, left
+                if sign == "*" and isinstance(right, Number):
+                    return self.multiply(self.evaluate(left), right.value)
+                return self.operate(self.own(self.evaluate(left)), sign, right)
+        raise AssertionError(it)
 
     def bits_of(self, it: Node) -> Span | None:
         """The bits of the packet that a number stands for: those of a field, or its first ones."""
-        if isinstance(it, Bits):
-            return Span(it.bit, it.bits)
-        if isinstance(it, Field):
-            return self.span(it)
-        if isinstance(it, Binary) and it.sign == ">>" and isinstance(it.left, Field) and isinstance(it.right, Number):
-            whole = self.span(it.left)
-            return Span(whole.bit, whole.bits - it.right.value) if it.right.value < whole.bits else None
+        match it:
+            case Bits(_, bit, bits):
+                return Span(bit, bits)
+            case Field():
+                return self.span(it)
+            case Binary(_, ">>", Field() as field, Number(_, count)) if count < self.span(field).bits:
+                return Span(self.span(field).bit, self.span(field).bits - count)
         return None
 
     def operate(self, left: Value, sign: str, right: Node) -> Value:
@@ -227,7 +227,7 @@ class Registers(Way):
         return left
 
     def apply(self, left: Value, sign: str, value: Value) -> None:
-        """The same with an operand."""
+        """An operation with an operand on a register that may be changed; none if it changes nothing."""
         m, n = self.bounds[left.r], self.bound(value)
         possible = (1 << m.bit_length()) - 1
         if value.register is None and (value.constant & possible == possible if sign == "&" else value.constant == 0):
@@ -257,32 +257,22 @@ class Registers(Way):
         self.bounds[total.r] = min(bound * factor, BIGGEST)
         return total
 
-    # Variables
-
-    def into(self, target: Value, it: Node) -> None:
-        """Computes a number in the register of a variable, which occurs in it at most at its left end."""
-        if isinstance(it, Binary) and it.sign != "*" and not isinstance(it.left, Number):
-            self.into(target, it.left)
-            self.operate(target, it.sign, it.right)
-        elif isinstance(it, Field) and self.span(it) not in self.loaded:
-            self.load(self.span(it), into=target.register)
-        else:
-            value = self.evaluate(it)
-            self.set(target, value)
-            self.release(value)
-
     def assign(self, target: Name, it: Node) -> None:
-        """An assignment to a variable."""
+        """An assignment to a variable. The operations at the left end are done in its register, unless it is used later."""
         register = Value(register=self.variables[target.name], own=True)
-        left, others = it, list[Node]()
+        left, chain = it, list[Binary]()
         while isinstance(left, Binary) and left.sign != "*" and not isinstance(left.left, Number):
-            others.append(left.right)
+            chain.append(left)
             left = left.left
         # The innermost right side is computed before the register changes, so it may use the variable if the left side is the variable.
-        late = others[:-1] if left == target else others
-        if target in set(parts(tuple(late))) or left != target and target in set(parts(left)):
-            value = self.evaluate(it)
+        late = [part.right for part in (chain[:-1] if left == target else chain)]
+        if target in parts(tuple(late)) or left != target and target in parts(left):
+            left, chain = it, []
+        if isinstance(left, Field) and self.span(left) not in self.loaded:
+            self.load(self.span(left), into=register.register)
+        else:
+            value = self.evaluate(left)
             self.set(register, value)
             self.release(value)
-        else:
-            self.into(register, it)
+        for part in reversed(chain):
+            self.operate(register, part.sign, part.right)

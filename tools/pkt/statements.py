@@ -1,4 +1,4 @@
-"""Statements: assignments, branches, loops, and packets that are made or sent."""
+"""Lowering of statements: assignments, branches, loops, and packets that are made or sent."""
 from __future__ import annotations
 
 from dataclasses import replace
@@ -7,12 +7,13 @@ from typing import Self
 from .graph import Graph, Instruction
 from .packets import Packets
 from .reader import Program
-from .state import FAR, NOTHING, SOMEBODY, Needs, Packet
+from .registers import Value
+from .state import FAR, NOTHING, SOMEBODY, Far, Needs, Packet
 from .syntax import (
     BIGGEST, PORT, THIS, Assign, Block, Chain, Clone, Cut, Drop, Field, Found, If, Length, Let, Lookup, Name, Need, New, Node, Number, Pop, Push,
-    Send, SourceError, Truncate, While, has, parts,
+    Send, Truncate, While, has, parts, require,
 )
-from .ways import Join, Unit
+from .ways import Join, Unit, paths
 
 MAX_PORT = 7
 
@@ -40,8 +41,7 @@ def compile_program(program: Program) -> Graph:
 def refuse_unreached(block: Block, reached: set[int]) -> None:
     """Refuses statements that control never reaches, except in `else` parts and under conditions made of constants."""
     for it in block:
-        if id(it) not in reached:
-            raise SourceError(it.at, "control never comes here: what was asked before decides it", "delete it, or ask another question before")
+        require(id(it) in reached, it.at, "control never comes here: what was asked before decides it", "delete it, or ask another question before")
         if isinstance(it, (If, While)) and has(it.condition, Name, Field, Found, Length):
             refuse_unreached(it.body, reached)
             refuse_unreached(it.fallback if isinstance(it, If) else (), reached)
@@ -49,8 +49,6 @@ def refuse_unreached(block: Block, reached: set[int]) -> None:
 
 class Statements(Packets):
     """Compiles statements: each ends the path and leads to a join after it."""
-
-    # Blocks
 
     def block(self, block: Block, after: Join[Self]) -> None:
         """Statements, after which their variables are gone and their packets dropped."""
@@ -66,61 +64,53 @@ class Statements(Packets):
         """The statements of a block from one on, one after another."""
         if first == len(block):
             return self.jump(end)
-        later = end.needs | self.unit.needs_of(block, first + 1)
-        after, ready = Join[Self](later), Join[Self](later)
-        self.statement(block[first], after)
-        for s in after.begin():
-            s.at = block[first].at
+        it, later = block[first], end.needs | self.unit.needs_of(block, first + 1)
+        ready = Join[Self](later)
+        for s in paths(lambda after: self.statement(it, after), later):
+            s.at = it.at
             if s.far and FAR not in s.found.values():
                 s.come_near()
             s.jump(ready)
         for s in ready.begin():
             s.sequence(block, first + 1, end)
 
-    def body(self, block: Block, join: Join[Self], after: Join[Self]) -> None:
-        """A block that paths lead to."""
+    def body(self, block: Block | None, join: Join[Self], after: Join[Self]) -> None:
+        """A block that paths lead to; if it is an `else` part that is missing, all packets are dropped."""
+        if block is None:
+            for s in join.ways:
+                s.drop()
+            return
         join.needs = after.needs | self.unit.needs_of(block)
         for s in join.begin():
             s.block(block, after)
 
-    def fallback(self, block: Block | None, failed: Join[Self], after: Join[Self]) -> None:
-        """An `else` part; by default all packets are dropped."""
-        if block is not None:
-            return self.body(block, failed, after)
-        for s in failed.ways:
-            s.drop()
-
     def statement(self, it: Node, after: Join[Self]) -> None:
-        """One statement."""
+        """One statement: the headers that it needs are found, or `otherwise` runs."""
         self.unit.reached.add(id(it))
-        self.at = it.at
-        if isinstance(it, If):
-            self.do_if(it, after)
-        elif isinstance(it, While):
-            self.do_while(it, after)
-        elif isinstance(it, Need):
-            self.do_need(it, after)
-        else:
-            self.with_headers(it, after)
-
-    def with_headers(self, it: Node, after: Join[Self]) -> None:
-        """A statement that needs the headers that it names."""
-        found, missing = Join[Self](), Join[Self]()
-        names = list(it.path) if isinstance(it, Pop) else self.headers_of(replace(it, fallback=None) if hasattr(it, "fallback") else it)
-        if isinstance(it, Push) and (before := self.unit.tag_follows(it)) and not {*before} & {*self.found}:
-            names = self.headers.in_order([*names, before[0]])
-        self.touch(names, found, missing)
-        for s in found.begin():
-            s.at, s.unit.needs = it.at, after.needs
-            getattr(s, f"do_{type(it).__name__.lower()}")(it, after, missing)
+        self.at, do, missing = it.at, f"do_{type(it).__name__.lower()}", Join[Self]()
+        if isinstance(it, (If, While, Need)):
+            return getattr(self, do)(it, after)
+        for s in paths(lambda found: self.touch(self.needed_by(it), found, missing)):
+            s.at, s.unit.needs, failed = it.at, after.needs, Join[Self]()
+            getattr(s, do)(it, after, failed if isinstance(it, (Lookup, Clone, New)) else missing)
+            if isinstance(it, (Lookup, Clone, New)):
+                s.body(it.fallback, failed, after)
         for s in missing.begin():
             s.at = it.at
             s.otherwise()
 
+    def needed_by(self, it: Node) -> list[str]:
+        """The headers that a statement needs."""
+        if isinstance(it, Pop):
+            return list(it.path)
+        names = self.headers_of(replace(it, fallback=None) if hasattr(it, "fallback") else it)  # type: ignore[call-arg]
+        if isinstance(it, Push) and (before := self.unit.tag_follows(it)) and not {*before} & {*self.found}:
+            names = self.headers.in_order([*names, before[0]])
+        return names
+
     def otherwise(self) -> None:
         """The `otherwise` part, for a packet without a header that a statement needs."""
-        it, end = self.unit.program.otherwise, Join[Self](NOTHING)
-        self.unit.needs = NOTHING
+        it, end, self.unit.needs = self.unit.program.otherwise, Join[Self](NOTHING), NOTHING
         if isinstance(it, Send):
             self.do_send(it, end, end)
         else:
@@ -137,7 +127,7 @@ class Statements(Packets):
     def do_need(self, it: Need, after: Join[Self]) -> None:
         no = Join[Self](self.unit.needs_of(it.fallback))
         self.decide(it.condition, after, no)
-        self.fallback(it.fallback, no, after)
+        self.body(it.fallback, no, after)
 
     def do_while(self, it: While, after: Join[Self]) -> None:
         """The facts at its start must hold in each round."""
@@ -152,7 +142,7 @@ class Statements(Packets):
         for s in again.begin():
             s.at = it.at
             s.enter_round(more)
-            if s.held != held or s.variables != variables:
+            if (s.held, s.variables) != (held, variables):
                 s.error("a round of this loop ends without a packet that it began with", "make the packet within the loop")
             s.emit("jmp").last.target = head
         for s in no.begin():
@@ -172,10 +162,10 @@ class Statements(Packets):
         if has(it.body, Push, Pop, Cut, Truncate):
             for p in self.packets:
                 self.know(p, first=0, headroom=0)
-        if has(it.body, Clone) and has(it.body, Send):
+        clones = [part for part in parts(it.body) if isinstance(part, Clone)]
+        if clones and has(it.body, Send):
             self.lose(self.held[THIS])
-            name = next(part for part in parts(it.body) if isinstance(part, Clone))
-            self.sharer = self.sharer if self.sharer[0] else (name.name, name.at.line)
+            self.sharer = self.sharer if self.sharer[0] else (clones[0].name, clones[0].at.line)
         for part in parts(it.body):
             if isinstance(part, Assign) and isinstance(part.target, Name) and part.target.name in self.variables:
                 self.bounds[self.variables[part.target.name]] = BIGGEST
@@ -186,9 +176,8 @@ class Statements(Packets):
         self.variables[it.name] = self.own(self.evaluate(it.value)).r
         self.jump(after)
 
-    def do_lookup(self, it: Lookup, after: Join[Self], _: Join[Self]) -> None:
-        key, failed = self.in_register(self.evaluate(it.key)), Join[Self]()
-        result = key
+    def do_lookup(self, it: Lookup, after: Join[Self], failed: Join[Self]) -> None:
+        key = result = self.in_register(self.evaluate(it.key))
         if not key.own:
             self.release(key)
             result = self.fresh()
@@ -196,7 +185,6 @@ class Statements(Packets):
         self.bounds[result.r] = 0xFFFFFF
         self.variables[it.name] = result.r
         self.jump(after)
-        self.fallback(it.fallback, failed, after)
 
     def do_assign(self, it: Assign, after: Join[Self], _: Join[Self]) -> None:
         if it.mends:
@@ -207,30 +195,39 @@ class Statements(Packets):
             self.store(self.span(it.target), self.evaluate(it.value))
         self.jump(after)
 
-    # Sending packets
+    # Making and sending packets
+
+    def do_clone(self, it: Clone, after: Join[Self], failed: Join[Self]) -> None:
+        p = self.free_register()
+        self.emit("clone", f"p{p}", f"p{self.held[THIS]}", it.pool, to=failed)
+        self.share(p, self.held[THIS])
+        self.held[it.name], self.sharer = p, (it.name, it.at.line)
+        if self.far:
+            self.emit("trim", f"p{p}", self.far.padding)
+        self.jump(after)
+
+    def do_new(self, it: New, after: Join[Self], failed: Join[Self]) -> None:
+        p = self.free_register()
+        self.emit("alloc", f"p{p}", it.pool, to=failed)
+        self.held[it.name], self.packets[p] = p, Packet()
+        self.jump(after)
 
     def do_drop(self, it: Drop, after: Join[Self], _: Join[Self]) -> None:
         self.drop()
 
     def do_send(self, it: Send, after: Join[Self], _: Join[Self]) -> None:
         """Hands a packet to a port or a ring."""
-        ports, port, failed, way = self.unit.program.ports, None, Join[Self](), self
-        if isinstance(it.port, Node):
-            if isinstance(it.port, Number) and it.port.value >= ports:
-                raise SourceError(it.port.at, f"there is no port {it.port.value}: the program has {ports}", f"ports {it.port.value + 1}")
-            port = self.in_register(self.evaluate(it.port))
-        p, far, found = self.register_of(it.packet), self.far, self.found
+        port, failed, way = self.port_of(it), Join[Self](), self
+        p, far, found, ports = self.register_of(it.packet), self.far, self.found, self.unit.program.ports
         if it.packet == THIS:
             self.come_near()
             self.at = it.at
         is_entry = it.port == Name(it.at, PORT) and not self.unit.program.is_for_ring
         if port and not is_entry and self.bounds[port.r] >= ports:
-            good = Join[Self]()
-            self.emit("jlt", port, ports, to=good).bounds[port.r] = ports - 1
+            way = self.emit("jlt", port, ports, to=Join())
+            way.bounds[port.r] = ports - 1
             self.jump(failed)
-            (way,) = good.begin()
-        word, place = ("tx", port) if port else ("enq", it.port)
-        way.emit(word, f"p{p}", place, to=failed)
+        way.emit("tx" if port else "enq", f"p{p}", port or it.port, to=failed)
         way.dissolve(p)
         del way.packets[way.held.pop(it.packet)]
         if it.packet == THIS:
@@ -238,34 +235,27 @@ class Statements(Packets):
         else:
             way.jump(after)
         for s in failed.begin():
-            s.at = it.at
-            wanted = after.needs | self.unit.needs_of(it.fallback)
-            if far and s.far is None and s.this.sharers == frozenset() and any(at >= FAR and (name, True) in wanted for name, at in found.items()):
-                s.emit("append", f"p{p}", far.padding)
-                s.far, s.found = far, dict(found)
-            if it.fallback is not None:
-                s.block(it.fallback, after)
-            elif it.packet == THIS:
-                s.drop()
-            else:
-                s.free(it.packet)
-                s.jump(after)
+            s.not_sent(it, far, found, after)
 
-    # Making packets
+    def port_of(self, it: Send) -> Value | None:
+        """The port in a register; none for a ring."""
+        if isinstance(it.port, int):
+            return None
+        if isinstance(it.port, Number):
+            number, ports = it.port.value, self.unit.program.ports
+            require(number < ports, it.port.at, f"there is no port {number}: the program has {ports}", f"ports {number + 1}")
+        return self.in_register(self.evaluate(it.port))
 
-    def do_clone(self, it: Clone, after: Join[Self], _: Join[Self]) -> None:
-        p, failed = self.free_register(), Join[Self]()
-        self.emit("clone", f"p{p}", f"p{self.held[THIS]}", it.pool, to=failed)
-        self.share(p, self.held[THIS])
-        self.held[it.name], self.sharer = p, (it.name, it.at.line)
-        if self.far:
-            self.emit("trim", f"p{p}", self.far.padding)
-        self.jump(after)
-        self.fallback(it.fallback, failed, after)
-
-    def do_new(self, it: New, after: Join[Self], _: Join[Self]) -> None:
-        p, failed = self.free_register(), Join[Self]()
-        self.emit("alloc", f"p{p}", it.pool, to=failed)
-        self.held[it.name], self.packets[p] = p, Packet()
-        self.jump(after)
-        self.fallback(it.fallback, failed, after)
+    def not_sent(self, it: Send, far: Far | None, found: dict[str, int], after: Join[Self]) -> None:
+        """The `else` part, which may use headers at the offset in a register again."""
+        self.at, wanted = it.at, after.needs | self.unit.needs_of(it.fallback)
+        if far and self.far is None and not self.this.sharers and any(at >= FAR and (name, True) in wanted for name, at in found.items()):
+            self.emit("append", f"p{self.held[THIS]}", far.padding)
+            self.far, self.found = far, dict(found)
+        if it.fallback is not None:
+            self.block(it.fallback, after)
+        elif it.packet == THIS:
+            self.drop()
+        else:
+            self.free(it.packet)
+            self.jump(after)
