@@ -132,12 +132,12 @@ class HeaderRules(unittest.TestCase):
         self.assertEqual(self.headers.looked_for("vxlan"), {"vxlan", "udp", "ipv4", "eth"})
         self.assertIn("vlan", self.headers["tcp"].before)
         self.assertEqual(self.headers.after("udp"), {"vxlan"})
-        self.assertEqual(self.headers["ipv4"].length.sizes[0x4F], 60)
+        self.assertEqual(self.headers["ipv4"].sizes[0x4F], 60)
 
     def test_checksums(self) -> None:
         at = self.headers["ipv4"].at
         self.assertEqual(self.headers.covering(Field(at, "ipv4", "src")), ["tcp", "udp"])
-        self.assertTrue(self.headers["udp"].checksum.optional)
+        self.assertTrue(self.headers["udp"].optional)
 
 
 class Errors(unittest.TestCase):

@@ -1,4 +1,4 @@
-"""Internet checksums: those that `mend` updates, and those of pushed headers."""
+"""Lowering of Internet checksums: those that `mend` updates, and those of pushed headers."""
 from __future__ import annotations
 
 from typing import Self
@@ -6,11 +6,13 @@ from typing import Self
 from .conditions import Conditions
 from .headers import Header, Span
 from .registers import Value
-from .syntax import Assign, Field
-from .ways import Join
+from .syntax import Assign, Field, Pushed, require
+from .ways import Join, paths
 
 # The name of the variable with the difference by which checksums are updated.
 DIFFERENCE = "$difference"
+# The fields of pushed headers that are not constant, each with its value.
+Others = list[tuple[Span, Value]]
 
 
 class Checksums(Conditions):
@@ -19,22 +21,17 @@ class Checksums(Conditions):
     def mend(self, it: Assign, after: Join[Self]) -> None:
         """Assigns to a field, and updates each checksum that covers it; the headers were found."""
         assert isinstance(it.target, Field)
-        own, over = self.headers[it.target.header], self.headers.covering(it.target)
-        names = [*([own.name] if own.checksum else []), *self.outer(own.name)]
-        if not names and not over:
-            self.error(f"no checksum covers {own.name}.{it.target.name}", "assign without `mend`")
-        if own.checksum and own.checksum.field == it.target.name:
-            self.error(f"{own.name}.{it.target.name} is the checksum itself", "assign without `mend`")
+        own, over, field = self.headers[it.target.header], self.headers.covering(it.target), f"{it.target.header}.{it.target.name}"
+        names = [*([own.name] if own.sum else []), *self.outer(own.name)]
+        require(names or over, self.at, f"no checksum covers {field}", "assign without `mend`")
+        require(own.sum != it.target.name, self.at, f"{field} is the checksum itself", "assign without `mend`")
         self.assign_field(it.target, self.evaluate(it.value))
         if len(names) + len(over) > 1:
             self.fold(Value(register=self.variables[DIFFERENCE]))
-        way, done = self, Join[Self](after.needs | self.unit.needs_of(it))
+        way = self
         for name in names:
-            updated = Join[Self]()
-            way.update(name, updated)
-            (way,) = updated.begin()
-        way.cover(over, done)
-        for s in done.begin():
+            (way,) = paths(lambda updated: way.update(name, updated))
+        for s in paths(lambda done: way.cover(over, done), after.needs | self.unit.needs_of(it)):
             del s.variables[DIFFERENCE]
             s.jump(after)
 
@@ -42,11 +39,11 @@ class Checksums(Conditions):
         """The headers before a header whose checksums cover what follows them."""
         found, begin = [], self.found[name]
         while before := self.header_before(name):
-            name, checksum = before, self.headers[before].checksum
-            if checksum and checksum.payload:
+            name = before
+            if self.headers[name].payload:
                 found.append(name)
-                if (begin - self.found[name]) % 2:
-                    self.error(f"the words of the checksum of {name} begin at other bytes", "`mend` needs a header at an even place")
+                is_even = (begin - self.found[name]) % 2 == 0
+                require(is_even, self.at, f"the words of the checksum of {name} begin at other bytes", "`mend` needs a header at an even place")
         return found
 
     def words_of(self, it: Field, span: Span) -> Span:
@@ -54,8 +51,8 @@ class Checksums(Conditions):
         base = 8 * self.found[it.header]
         first, end = (span.bit - base) // 16 * 16, (span.end - base + 15) // 16 * 16
         words = Span(base + first, end - first)
-        if words.bits > 16 and words != span or end > 8 * self.headers[it.header].size:
-            self.error(f"{it.header}.{it.name} is neither within one 16-bit word of its header nor made of whole ones", "split it")
+        is_whole = (words.bits == 16 or words == span) and end <= 8 * self.headers[it.header].size
+        require(is_whole, self.at, f"{it.header}.{it.name} is neither within one 16-bit word of its header nor made of whole ones", "split it")
         return words
 
     def assign_field(self, target: Field, value: Value) -> None:
@@ -86,36 +83,29 @@ class Checksums(Conditions):
         """Updates the checksum of the first of these headers that is present."""
         if not names:
             return self.jump(done)
-        yes, no = Join[Self](), Join[Self](done.needs)
-        self.look_for(names[0], yes, no)
-        for s in yes.begin():
+        no = Join[Self](done.needs)
+        for s in paths(lambda yes: self.look_for(names[0], yes, no)):
             s.update(names[0], done)
         for s in no.begin():
             s.cover(names[1:], done)
 
     def update(self, name: str, done: Join[Self]) -> None:
         """Updates a checksum by the difference."""
-        checksum = self.headers[name].checksum
-        assert checksum is not None
-        span = self.headers[name].fields[checksum.field].moved(self.found[name])
+        header = self.headers[name]
+        span = header.fields[header.sum].moved(self.found[name])
         total = self.load(span)
-        if checksum.optional:
+        if header.optional:
             self.emit("jeq", total, 0, to=done)
-        total, way = self.own(total), self
+        total = self.own(total)
         self.apply(total, "^", Value(0xFFFF))
         self.apply(total, "+", Value(register=self.variables[DIFFERENCE]))
-        self.complement(total, checksum.optional)
-        if checksum.optional:
-            stored = Join[Self]()
+        self.complement(total, header.optional)
+        if header.optional:
             zero = self.emit("jeq", total, 0, to=Join())
             zero.emit("set", total, "0xffff")
-            zero.bounds[total.r] = 0xFFFF
-            self.jump(stored)
-            zero.jump(stored)
-            (way,) = stored.begin()
-            way.pins[total.r] += 1
-        way.store(span, total)
-        way.jump(done)
+            self.unite([zero])
+        self.store(span, total)
+        self.jump(done)
 
     # Sums
 
@@ -145,15 +135,23 @@ class Checksums(Conditions):
         self.apply(total, "+", high)
         self.release(high)
 
-    def sum_of(self, header: Header, at: int, data: bytes, others: list[tuple[Span, Value]]) -> Value:
-        """The checksum of one pushed header, given its constant bytes and the other fields."""
+    def sums(self, pushed: tuple[Pushed, ...], data: bytes, others: Others) -> Others:
+        """The checksums of pushed headers that are `auto`, given their constant bytes and the other fields."""
+        found, at = Others(), 0
+        for it in pushed:
+            header = self.headers[it.header]
+            values = header.defaults | dict(it.values)
+            found += [(own.moved(at), self.sum_of(header, at, data, others)) for name, own in header.fields.items() if values.get(name, 0) is None]
+            at += header.size
+        return found
+
+    def sum_of(self, header: Header, at: int, data: bytes, others: Others) -> Value:
+        """The checksum of one pushed header."""
         own = data[at : at + header.size] + bytes(header.size % 2)
         total = sum(int.from_bytes(own[k : k + 2], "big") for k in range(0, len(own), 2))
         inside = [(span, value) for span, value in others if 8 * at <= span.bit < 8 * (at + header.size)]
         if not inside:
-            while total >> 16:
-                total = (total & 0xFFFF) + (total >> 16)
-            return Value(total ^ 0xFFFF)
+            return Value(0xFFFF - (total and (total - 1) % 0xFFFF + 1))
         result = self.own(Value(total))
         for span, value in inside:
             self.pins[value.r] += 1

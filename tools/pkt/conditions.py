@@ -1,18 +1,18 @@
 """Comparisons, and the search for headers."""
 from __future__ import annotations
 
-import operator
 from collections.abc import Iterable, Iterator
+from dataclasses import replace
+from itertools import pairwise
 from typing import Self
 
-from .headers import Header, Span, VariableLength
+from .headers import Header, Span
 from .reader import COMPARISONS, substituted
 from .registers import Registers, Value
 from .state import FAR, SOMEBODY_THE_REST, Far
-from .syntax import THIS, And, Binary, Bits, Compare, Field, Found, Length, Name, Node, Not, Number, Or, parts
-from .ways import Join
+from .syntax import THIS, And, Bits, Compare, Field, Found, Length, Node, Not, Number, Or, parts
+from .ways import Join, paths
 
-HOLDS = {"==": operator.eq, "!=": operator.ne, "<": operator.lt, ">": operator.gt, "<=": operator.le, ">=": operator.ge}
 CONTRARY = {"!=": "==", ">": "<=", ">=": "<"}
 
 
@@ -22,21 +22,19 @@ class Conditions(Registers):
 
     def decide(self, it: Node, yes: Join[Self], no: Join[Self]) -> None:
         """Ends this path."""
-        if isinstance(it, (And, Or)):
-            middle = Join[Self](yes.needs | no.needs | self.unit.needs_of(it.right))
-            self.decide(it.left, *((middle, no) if isinstance(it, And) else (yes, middle)))
-            for s in middle.begin():
-                s.decide(it.right, yes, no)
-        elif isinstance(it, Not):
-            self.decide(it.condition, no, yes)
-        elif isinstance(it, Found):
-            self.touch(it.path, yes, no)
-        elif isinstance(it, Compare):
-            found = Join[Self]()
-            self.touch(self.headers_of(it), found, no)
-            for s in found.begin():
-                s.unit.needs = yes.needs | no.needs
-                s.compare(it, yes, no)
+        match it:
+            case And(_, left, right) | Or(_, left, right):
+                more = yes.needs | no.needs | self.unit.needs_of(right)
+                for s in paths(lambda middle: self.decide(left, *((middle, no) if isinstance(it, And) else (yes, middle))), more):
+                    s.decide(right, yes, no)
+            case Not(_, condition):
+                self.decide(condition, no, yes)
+            case Found(_, path):
+                self.touch(path, yes, no)
+            case Compare():
+                for s in paths(lambda found: self.touch(self.headers_of(it), found, no)):
+                    s.unit.needs = yes.needs | no.needs
+                    s.compare(it, yes, no)
 
     def headers_of(self, it: object) -> list[str]:
         """The headers whose fields a part of the text uses."""
@@ -49,22 +47,23 @@ class Conditions(Registers):
         sign, left, right = it.sign, it.left, it.right
         if isinstance(left, Number):
             left, right, sign = right, left, COMPARISONS[sign]
-        if isinstance(left, Number) and isinstance(right, Number):
-            return self.jump(yes if HOLDS[sign](left.value, right.value) else no)
         if sign in CONTRARY:
             yes, no, sign = no, yes, CONTRARY[sign]
-        if isinstance(left, Length) and isinstance(right, Number):
-            self.compare_length(right.value + (sign == "<="), yes, no)
-        elif isinstance(right, Number):
-            self.compare_constant(sign, left, right.value, yes, no)
-        elif sign == "==":
-            a = self.in_register(self.evaluate(left))
-            self.emit("jeq", a, self.evaluate(right), to=yes)
-            self.jump(no)
-        elif sign == "<":
-            self.compare_less(left, right, yes, no)
-        else:
-            self.compare_less(right, left, no, yes)
+        match left, right:
+            case Number(_, a), Number(_, b):
+                self.jump(yes if {"==": a == b, "<": a < b, "<=": a <= b}[sign] else no)
+            case Length(), Number(_, value):
+                self.compare_length(value + (sign == "<="), yes, no)
+            case _, Number(_, value):
+                self.compare_constant(sign, left, value, yes, no)
+            case _ if sign == "==":
+                a = self.in_register(self.evaluate(left))
+                self.emit("jeq", a, self.evaluate(right), to=yes)
+                self.jump(no)
+            case _ if sign == "<":
+                self.compare_less(left, right, yes, no)
+            case _:
+                self.compare_less(right, left, no, yes)
 
     def compare_length(self, count: int, yes: Join[Self], no: Join[Self]) -> None:
         """Whether the first segment has fewer bytes."""
@@ -75,8 +74,8 @@ class Conditions(Registers):
 
     def compare_constant(self, sign: str, left: Node, value: int, yes: Join[Self], no: Join[Self]) -> None:
         """A number and a constant: ==, < or <=."""
-        span = self.bits_of(left)
-        if sign == "==" and span:
+        is_equal, span = sign == "==", self.bits_of(left)
+        if is_equal and span:
             mask, known = self.known(span)
             if value > span.largest or (known ^ value) & mask:
                 return self.jump(no)
@@ -84,15 +83,12 @@ class Conditions(Registers):
                 return self.jump(yes)
         value += sign == "<="
         a = self.in_register(self.evaluate(left))
-        most = self.bounds[a.r]
-        if sign != "==" and (value == 0 or value > most):
-            return self.jump(yes if value else no)
-        if value > most:
-            return self.jump(no)
+        if value > self.bounds[a.r] or not is_equal and value == 0:
+            return self.jump(no if is_equal or value == 0 else yes)
         self.release(a)
-        there = self.emit("jeq" if sign == "==" else "jlt", a, value, to=yes)
-        there.bounds[a.r] = value - (sign != "==")
-        if sign == "==" and span:
+        there = self.emit("jeq" if is_equal else "jlt", a, value, to=yes)
+        there.bounds[a.r] = value - (not is_equal)
+        if is_equal and span:
             there.learn(span, value)
         self.jump(no)
 
@@ -101,8 +97,8 @@ class Conditions(Registers):
         a, b = self.evaluate(left), self.evaluate(right)
         if not max(self.bound(a), self.bound(b)) >> 63:
             return self.test_sign(a, b, yes, no)
-        b = self.in_register(b)
-        t, alike = self.fresh(), Join[Self]()
+        b, alike = self.in_register(b), Join[Self]()
+        t = self.fresh()
         self.set(t, a)
         self.apply(t, "^", b)
         self.emit("shr", t, 63)
@@ -143,31 +139,30 @@ class Conditions(Registers):
         left = [name for name in names if name not in self.found]
         if not left:
             return self.jump(yes)
-        found = Join[Self]()
-        self.look_for(left[0], found, no)
-        for s in found.begin():
+        for s in paths(lambda found: self.look_for(left[0], found, no)):
             s.touch(left[1:], yes, no)
 
     def look_for(self, name: str, yes: Join[Self], no: Join[Self]) -> None:
         """Looks for one header: a path for each place where it can be."""
         if name in self.found or name in self.absent:
             return self.jump(yes if name in self.found else no)
-        header, found, missing, there, here = self.headers[name], Join[Self](), Join[Self](), Join[Self](), Join[Self]()
-        if not header.follows:
-            self.at_place(header, 0, found, missing)
-        else:
-            before = self.header_before(name) or next(iter(header.follows))
-            self.look_for(before, there, missing)
-            for s in there.begin():
-                s.decide(header.follows[before], here, missing)
-            for s in here.begin():
-                s.after(header, self.headers[before], found, missing)
-        for s in found.begin():
-            s.absent = s.absent - self.headers.after(name)
+        missing = Join[Self]()
+        for s in paths(lambda found: self.search(self.headers[name], found, missing)):
+            s.absent -= self.headers.after(name)
             s.jump(yes)
         for s in missing.begin():
-            s.absent = s.absent | {name}
+            s.absent.add(name)
             s.jump(no)
+
+    def search(self, header: Header, found: Join[Self], missing: Join[Self]) -> None:
+        """Looks for a header after the one that it follows."""
+        if not header.follows:
+            return self.at_place(header, 0, found, missing)
+        before, here = self.header_before(header.name) or next(iter(header.follows)), Join[Self]()
+        for s in paths(lambda there: self.look_for(before, there, missing)):
+            s.decide(header.follows[before], here, missing)
+        for s in here.begin():
+            s.after(header, self.headers[before], found, missing)
 
     def header_before(self, name: str) -> str | None:
         """The header that a header follows: among those that were found, the one that begins last."""
@@ -181,39 +176,38 @@ class Conditions(Registers):
 
     def after(self, header: Header, before: Header, found: Join[Self], missing: Join[Self]) -> None:
         """Looks for a header after one that was found and has a variable length."""
-        base, length = self.found[before.name], before.length
-        if length is None:
+        base = self.found[before.name]
+        if not before.bits:
             return self.at_place(header, base + before.size, found, missing)
         if base >= FAR // 2 or self.far and self.far.base != base:
             self.error(f"{header.name} is after two headers whose lengths vary", f"`need` one length of {before.name} before")
         if self.far and header.size <= self.far.size and self.may_be_far(header):
             self.found[header.name] = FAR
             return self.jump(found)
-        left = self.lengths_left(before, length)
-        sizes = [length.sizes[it] for it in left]
-        grows = len(left) > 2 and left[-1] - left[0] == len(left) - 1 and left[1] > 0 and all(a < b for a, b in zip(sizes, sizes[1:]))
-        if grows and self.may_be_far(header):
-            return self.at_register(header, length, base, left, found, missing)
+        left = self.sizes_left(before)
+        is_dense = len(left) > 2 and max(left) - min(left) == len(left) - 1 and max(left) >= len(left)
+        if is_dense and all(a < b for a, b in pairwise(left.values())) and self.may_be_far(header):
+            return self.at_register(header, before, left, found, missing)
         for s, size in self.each_length(before, missing):
             s.at_place(header, base + size, found, missing)
 
-    def lengths_left(self, header: Header, length: VariableLength) -> list[int]:
-        """The values of a header's first bits, each with its length, that are still possible."""
-        mask, known = self.known(Span(8 * self.found[header.name], length.bits))
-        return [it for it in length.sizes if (known ^ it) & mask == 0]
+    def sizes_left(self, header: Header) -> dict[int, int]:
+        """The lengths of a header that are still possible, by the value of its first bits."""
+        mask, known = self.known(self.first_bits(header))
+        return {value: size for value, size in header.sizes.items() if (known ^ value) & mask == 0}
+
+    def first_bits(self, header: Header) -> Span:
+        """The bits that give the length of a header that was found."""
+        return Span(8 * self.found[header.name], header.bits)
 
     def each_length(self, header: Header, missing: Join[Self]) -> Iterator[tuple[Self, int]]:
         """A path for each length that a header can have. Ends this path."""
-        length = header.length
-        if length is None:
-            yield self, header.size
-            return
-        span, left = Span(8 * self.found[header.name], length.bits), self.lengths_left(header, length)
+        span, left = self.first_bits(header), self.sizes_left(header)
         if left and self.known(span)[0] == span.largest:
-            yield self, length.sizes[left[0]]
+            yield self, min(left.values())
             return
-        for it in left:
-            yield self.if_length(span, it), length.sizes[it]
+        for value, size in left.items():
+            yield self.if_length(span, value), size
         self.jump(missing)
 
     def if_length(self, span: Span, value: int) -> Self:
@@ -230,36 +224,35 @@ class Conditions(Registers):
         may_append = self.this.sharers <= {SOMEBODY_THE_REST} and self.this.segments == 1
         return may_append and header.name not in self.unit.popped and not self.headers.after(header.name) & self.unit.used_headers
 
-    def at_register(self, header: Header, length: VariableLength, base: int, left: list[int], found: Join[Self], missing: Join[Self]) -> None:
+    def at_register(self, header: Header, before: Header, left: dict[int, int], found: Join[Self], missing: Join[Self]) -> None:
         """Looks for a header at its usual place; for all other lengths of the one before it, tested in order, at an offset in a register."""
-        inside, ready, span = Join[Self](), Join[Self](), Span(8 * base, length.bits)
+        base, span, ready = self.found[before.name], self.first_bits(before), Join[Self]()
         if self.far:
-            left = list(self.far.lengths)
+            left = {value: before.sizes[value] for value in self.far.lengths}
         else:
-            first = left.pop(0)
-            self.if_length(span, first).at_place(header, base + length.sizes[first], found, missing)
+            first = min(left)
+            self.if_length(span, first).at_place(header, base + left.pop(first), found, missing)
         value = self.load(span)
-        self.emit("jlt", value, left[0], to=missing)
-        self.emit("jlt", value, left[-1] + 1, to=inside)
+        self.emit("jlt", value, min(left), to=missing)
+        s = self.emit("jlt", value, max(left) + 1, to=Join())
         self.jump(missing)
-        for s in inside.begin():
-            value = s.load(span)
-            for it in left:
-                count = base + length.sizes[it] + header.size + s.padding
-                s.emit("iflen", f"p{s.held[THIS]}", count, to=missing)
-                if it != left[-1]:
-                    s.emit("jlt", value, it + 1, to=ready)
-            s.jump(ready)
+        s.pins.clear()
+        value = s.load(span)
+        for it, size in left.items():
+            s.emit("iflen", f"p{s.held[THIS]}", base + size + header.size + s.padding, to=missing)
+            if it != max(left):
+                s.emit("jlt", value, it + 1, to=ready)
+        s.jump(ready)
         for s in ready.begin():
-            far = s.far or s.go_far(length, base, left)
-            s.far = Far(far.padding, base, header.size, far.lengths, far.register)
-            s.found[header.name] = FAR
+            far = s.far or s.go_far(before, left)
+            s.far, s.found[header.name] = replace(far, size=header.size), FAR
             s.jump(found)
 
-    def go_far(self, length: VariableLength, base: int, left: list[int]) -> Far:
+    def go_far(self, before: Header, left: dict[int, int]) -> Far:
         """Appends zeros, so that the register's greatest value is within the packet, and computes the register."""
-        p, padding = self.held[THIS], max(length.sizes.values()) - min(length.sizes[it] for it in left)
+        p, base, padding = self.held[THIS], self.found[before.name], max(before.sizes.values()) - min(left.values())
+        assert before.formula is not None
         self.emit_or_drop("iftail", f"p{p}", padding)
         self.emit("append", f"p{p}", padding)
-        place = self.own(self.evaluate(substituted(length.formula, Bits(self.at, 8 * base, length.bits))))
+        place = self.own(self.evaluate(substituted(before.formula, Bits(self.at, 8 * base, before.bits))))
         return Far(padding, base, 0, tuple(left), place.r)

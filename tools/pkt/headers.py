@@ -38,26 +38,10 @@ class Span(NamedTuple):
         return self.bit < other.end and other.bit < self.end
 
 
-class VariableLength(NamedTuple):
-    """A length that varies: how many first bits give it, the length by their value, and as a formula."""
-
-    bits: int
-    sizes: dict[int, int]
-    formula: Node
-
-
-class Checksum(NamedTuple):
-    """An Internet checksum: whether it covers what follows the header, which fields of others, and whether 0 means that there is none."""
-
-    field: str
-    payload: bool
-    over: tuple[Field, ...]
-    optional: bool
-
-
 @dataclass
 class Header:
-    """A header. `follows` has the condition for each header that it may follow; `before` has it and all that may come before it."""
+    """A header. `follows` has the condition for each header that it may follow; `before` has it and all that may come before it. The value of
+    its first `bits` gives its length, in `sizes` and by a formula. Its checksum `sum` may cover what follows it, `over` fields of others, and be 0."""
 
     name: str
     at: Place
@@ -66,9 +50,14 @@ class Header:
     defaults: dict[str, int | None] = field(default_factory=dict)
     follows: dict[str, Node] = field(default_factory=dict)
     size: int = 0
-    length: VariableLength | None = None
-    next: str | None = None
-    checksum: Checksum | None = None
+    bits: int = 0
+    sizes: dict[int, int] = field(default_factory=dict)
+    formula: Node | None = None
+    next: str = ""
+    sum: str = ""
+    payload: bool = False
+    over: tuple[Field, ...] = ()
+    optional: bool = False
 
 
 class Headers(dict[str, Header]):
@@ -89,7 +78,7 @@ class Headers(dict[str, Header]):
 
     def covering(self, target: Field) -> list[str]:
         """The headers whose checksum is over a field of another header."""
-        return [name for name, it in self.items() if it.checksum and target in it.checksum.over]
+        return [name for name, it in self.items() if target in it.over]
 
 
 def asked_of(condition: Node) -> dict[str, int]:
@@ -104,7 +93,7 @@ def asked_of(condition: Node) -> dict[str, int]:
 
 def check(header: Header, headers: Headers) -> None:
     """Refuses a meaningless declaration."""
-    at, size, checksum = header.at, header.size, header.checksum
+    at, size = header.at, header.size
     for name, span in header.fields.items():
         require(1 <= span.bits <= 64 and len(span.bytes) <= 8, at, f"the field {name} does not lie within 8 bytes", "split it into two")
         require(span.end <= 8 * size, at, f"the field {name} goes past the end of the header")
@@ -112,11 +101,9 @@ def check(header: Header, headers: Headers) -> None:
         for it in parts(condition):
             is_own = not isinstance(it, Name) and (not isinstance(it, Field) or it.header == other)
             require(is_own, it.at, f"the condition after {other} is about fields of {other} and constants")
-    shortest = min(header.length.sizes.values()) if header.length else size
-    require(shortest >= size, at, f"a length of {header.name} is less than the {size} bytes of its fields")
-    if checksum:
-        require(header.fields[checksum.field][0] % 16 == 0 and header.fields[checksum.field].bits == 16, at,
-                f"the checksum {checksum.field} is one 16-bit word of the header")
+    require(min(header.sizes.values()) >= size, at, f"a length of {header.name} is less than the {size} bytes of its fields")
+    is_word = not header.sum or header.fields[header.sum].bits == 16 and header.fields[header.sum].bit % 16 == 0
+    require(is_word, at, f"the checksum {header.sum} is one 16-bit word of the header")
     if header.next:
         check_tag(header, header.fields[header.next], headers)
 

@@ -1,18 +1,17 @@
-"""Operations on packets: making, freeing, chaining, and changing their length."""
+"""Lowering of changes of packets: freeing, chaining, and changing their length."""
 from __future__ import annotations
 
+from itertools import combinations
 from typing import Self
 
-from .checksums import Checksums
+from .checksums import Checksums, Others
 from .headers import Header, Span, asked_of
 from .registers import Value
 from .state import FAR, SOMEBODY, SOMEBODY_THE_REST, Packet
-from .syntax import THIS, Chain, Cut, Free, Number, Pop, Push, Pushed, SourceError, Truncate
+from .syntax import THIS, Chain, Cut, Free, Node, Number, Pop, Push, Pushed, Truncate, require
 from .ways import Join, pieces
 
 MAX_BUFFER, MAX_SEGMENTS = 4_096, 64
-# The fields of pushed headers that are not constant, each with its value.
-Others = list[tuple[Span, Value]]
 
 
 class Packets(Checksums):
@@ -20,16 +19,14 @@ class Packets(Checksums):
 
     def register_of(self, name: str) -> int:
         """The register of a packet."""
-        if name not in self.held:
-            self.error(f"{name} may be gone here: it was sent, chained or freed on a way that leads here")
+        require(name in self.held, self.at, f"{name} may be gone here: it was sent, chained or freed on a way that leads here")
         return self.held[name]
 
     def free_register(self) -> int:
         """A packet register that is empty."""
-        free = [p for p in range(8) if p not in self.held.values()]
-        if not free:
-            self.error("this needs a ninth packet", "free or send one before")
-        return free[0]
+        free = {*range(8)} - {*self.held.values()}
+        require(free, self.at, "this needs a ninth packet", "free or send one before")
+        return min(free)
 
     def free(self, name: str) -> None:
         """Frees a packet."""
@@ -48,10 +45,9 @@ class Packets(Checksums):
         self.dissolve(p)
         self.dissolve(q)
         mine, yours = self.packets[p], self.packets.pop(q)
-        if mine.segments + yours.segments > MAX_SEGMENTS:
-            self.error(f"a packet has at most {MAX_SEGMENTS} segments")
+        require(mine.segments + yours.segments <= MAX_SEGMENTS, self.at, f"a packet has at most {MAX_SEGMENTS} segments")
         sharers = {SOMEBODY} if SOMEBODY in mine.sharers else {SOMEBODY_THE_REST} if mine.sharers or yours.sharers else set()
-        self.packets[p] = Packet(frozenset(sharers), mine.headroom, mine.first, mine.segments + yours.segments)
+        self.know(p, sharers=frozenset(sharers), segments=mine.segments + yours.segments)
         self.held[THIS] = self.held.pop(it.packet)
         self.loaded, self.bits = {}, {}
         self.reshape()
@@ -75,6 +71,8 @@ class Packets(Checksums):
         if self.packets[p].headroom < count:
             self.emit_or_drop("ifhead", f"p{p}", count)
         self.emit("prepend", f"p{p}", count)
+        if name == THIS:
+            self.move(count)
         return p
 
     def move_bytes(self, count: int, source: int, target: int) -> None:
@@ -86,16 +84,22 @@ class Packets(Checksums):
             self.overwrite(Span(8 * (target + at), 8 * width))
             self.release(value)
 
+    def remove(self, count: int, start: int) -> None:
+        """Removes bytes from the front of the packet, of which those from start on keep their facts."""
+        if count:
+            self.emit("adj", f"p{self.held[THIS]}", count)
+        self.move(-count, start)
+        self.reshape()
+
     def do_cut(self, it: Cut, after: Join[Self], missing: Join[Self]) -> None:
         p = self.register_of(it.packet)
         if it.packet == THIS:
             self.come_near()
-        self.has_bytes(it.count, missing if it.packet == THIS else after, it.packet)
-        if it.count:
+            self.has_bytes(it.count, missing)
+            self.remove(it.count, it.count)
+        else:
+            self.has_bytes(it.count, after, it.packet)
             self.emit("adj", f"p{p}", it.count)
-        if it.packet == THIS:
-            self.move(-it.count, it.count)
-            self.reshape()
         self.jump(after)
 
     def do_pop(self, it: Pop, after: Join[Self], missing: Join[Self]) -> None:
@@ -108,26 +112,21 @@ class Packets(Checksums):
             if last.next and begin:
                 begin -= last.fields[last.next].bits // 8
             s.move_bytes(begin, 0, count)
-            s.emit("adj", f"p{s.held[THIS]}", count)
-            s.move(-count, begin + count)
-            s.reshape()
+            s.remove(count, begin + count)
             s.jump(after)
 
     def do_truncate(self, it: Truncate, after: Join[Self], _: Join[Self]) -> None:
         if it.packet == THIS:
             self.come_near()
-        p, way = self.register_of(it.packet), self
-        if self.packets[p].segments > 1:
-            self.error("a packet of several segments cannot be truncated", "truncate before `chain`, and leave out `segments`")
+            self.reshape()
+        p = self.register_of(it.packet)
+        require(self.packets[p].segments == 1, self.at, "a packet of several segments cannot be truncated",
+                "truncate before `chain`, and leave out `segments`")
         for k in reversed(range((MAX_BUFFER - it.count).bit_length())):
-            done = Join[Self]()
-            way.emit("iflast", f"p{p}", it.count + (1 << k), to=done)
-            way.emit("trim", f"p{p}", 1 << k)
-            way.jump(done)
-            (way,) = done.begin()
-        if it.packet == THIS:
-            way.reshape()
-        way.jump(after)
+            short = self.emit("iflast", f"p{p}", it.count + (1 << k), to=Join())
+            self.emit("trim", f"p{p}", 1 << k)
+            self.unite([short])
+        self.jump(after)
 
     # Pushed headers
 
@@ -146,39 +145,43 @@ class Packets(Checksums):
             self.come_near()
         p = self.prepend(name, len(data))
         if name == THIS:
-            self.move(len(data))
             self.reshape()
         self.write(data, others, 0, p)
 
+    def push_tag(self, pushed: Pushed, before: str) -> None:
+        """Inserts a tag between a header that was found and the bytes after it."""
+        tag, header = self.headers[pushed.header], self.headers[before]
+        require(tag.next not in dict(pushed.values), pushed.at, f"{tag.name}.{tag.next} is what stood in {before}", f"take {tag.next} out")
+        data, others = self.values((pushed,))
+        self.come_near()
+        (kind,) = asked_of(tag.follows[before]).values()
+        width = tag.fields[tag.next].bits // 8
+        front = self.found[before] + header.size - width
+        p = self.prepend(THIS, tag.size)
+        self.found = {}
+        self.move_bytes(front, tag.size, 0)
+        self.reshape()
+        whole = kind.to_bytes(width, "big") + data[: tag.size - width]
+        self.write(whole, [(span.moved(width), value) for span, value in others], front, p, over_zeros=False)
+
     def values(self, pushed: tuple[Pushed, ...]) -> tuple[bytes, Others]:
         """The constant bytes of headers, and the other fields with their values."""
-        size, at = sum(self.headers[it.header].size for it in pushed), 0
-        whole, others = 0, Others()
+        left, whole, others = 8 * sum(self.headers[it.header].size for it in pushed), 0, Others()
+        size = left // 8
         for it, inner in zip(pushed, (*pushed[1:], pushed[-1])):
-            header, named = self.headers[it.header], dict(it.values)
-            asked = asked_of(self.headers[inner.header].follows.get(it.header, it))
+            header, named, at = self.headers[it.header], dict(it.values), size - left // 8
             refuse_overlap(it, header)
+            asked = header.defaults | asked_of(self.headers[inner.header].follows.get(it.header, it))
             for name in [*(it for it in header.fields if it not in named), *named]:
-                span, value = header.fields[name].moved(at), named.get(name)
-                constant = value.value if isinstance(value, Number) else 0 if name in named else asked.get(name, header.defaults.get(name) or 0)
-                place = 8 * size - span.end
+                span, value = header.fields[name], named.get(name, Number(it.at, asked.get(name) or 0))
+                constant = value.value if isinstance(value, Number) else 0
                 if name in named:
-                    whole &= ~(span.largest << place)
-                whole |= (constant & span.largest) << place
-                if value is not None and not isinstance(value, Number):
-                    others.append((span, self.evaluate(value)))
-            at += header.size
+                    whole &= ~(span.largest << left - span.end)
+                whole |= (constant & span.largest) << left - span.end
+                if isinstance(value, Node) and not isinstance(value, Number):
+                    others.append((span.moved(at), self.evaluate(value)))
+            left -= 8 * header.size
         return whole.to_bytes(size, "big"), others
-
-    def sums(self, pushed: tuple[Pushed, ...], data: bytes, others: Others) -> Others:
-        """The checksums of headers that are `auto`."""
-        found, at = Others(), 0
-        for it in pushed:
-            header = self.headers[it.header]
-            values = {**header.defaults, **dict(it.values)}
-            found += [(own.moved(at), self.sum_of(header, at, data, others)) for name, own in header.fields.items() if values.get(name, 0) is None]
-            at += header.size
-        return found
 
     def write(self, data: bytes, others: Others, front: int, packet: int, over_zeros: bool = True) -> None:
         """Writes headers, perhaps over zeros: constants in pieces as large as possible, and then the other fields."""
@@ -195,30 +198,9 @@ class Packets(Checksums):
             self.store(place, value, packet, known)
             known = {k: byte for k, byte in known.items() if k not in place.bytes}
 
-    def push_tag(self, pushed: Pushed, before: str) -> None:
-        """Inserts a tag between a header that was found and the bytes after it."""
-        tag, header = self.headers[pushed.header], self.headers[before]
-        assert tag.next is not None
-        if tag.next in dict(pushed.values):
-            raise SourceError(pushed.at, f"{tag.name}.{tag.next} is what stood in {before}", f"take {tag.next} out")
-        data, others = self.values((pushed,))
-        self.come_near()
-        (kind,) = asked_of(tag.follows[before]).values()
-        width = tag.fields[tag.next].bits // 8
-        front = self.found[before] + header.size - width
-        self.prepend(THIS, tag.size)
-        self.move(tag.size)
-        self.found = {}
-        self.move_bytes(front, tag.size, 0)
-        self.reshape()
-        whole = kind.to_bytes(width, "big") + data[: tag.size - width]
-        self.write(whole, [(span.moved(width), value) for span, value in others], front, self.held[THIS], over_zeros=False)
-
 
 def refuse_overlap(it: Pushed, header: Header) -> None:
     """Refuses two named fields of a pushed header with bits in common."""
-    names = [name for name, _ in it.values]
-    for number, name in enumerate(names):
-        for other in names[:number]:
-            if header.fields[name].meets(header.fields[other]):
-                raise SourceError(it.at, f"{header.name}.{name} and {header.name}.{other} have bits in common", "name one of them")
+    for (other, _), (name, _) in sorted(combinations(it.values, 2), key=lambda pair: it.values.index(pair[1])):
+        is_apart = not header.fields[name].meets(header.fields[other])
+        require(is_apart, it.at, f"{header.name}.{name} and {header.name}.{other} have bits in common", "name one of them")

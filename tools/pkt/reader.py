@@ -4,7 +4,7 @@ from __future__ import annotations
 import operator
 from dataclasses import dataclass
 
-from .headers import Checksum, Header, Headers, Span, VariableLength, check
+from .headers import Header, Headers, Span, check
 from .syntax import (
     BIGGEST, PORT, THIS, And, Assign, Binary, Block, Chain, Clone, Compare, Cut, Drop, Field, Found, Free, If, Length, Let, Lookup, Name, Need, New,
     Node, Not, Number, Numeric, Or, Path, Place, Pop, Push, Pushed, Send, SourceError, Truncate, While, goes_on, parts, require,
@@ -392,7 +392,7 @@ class Reader(Words):
             program.length = self.limited("count")
         else:
             program.given = self.path()
-            is_fixed = not self.headers[program.given[0]].follows and not any(self.headers[name].length for name in program.given[:-1])
+            is_fixed = not self.headers[program.given[0]].follows and not any(self.headers[name].bits for name in program.given[:-1])
             require(is_fixed, at, "a given path begins at byte 0, and each header but the last has one length")
 
     def declare_header(self, _: Program) -> None:
@@ -423,6 +423,7 @@ class Reader(Words):
                 header.defaults[name.word] = None if self.may("auto") else self.constant()
         require(total and total % 8 == 0, header.at, f"the {total} bits of {header.name} do not make whole bytes")
         header.size = total // 8
+        header.sizes = {0: header.size}
 
     def clause_after(self, header: Header) -> None:
         other = self.header_name()
@@ -431,28 +432,26 @@ class Reader(Words):
         header.follows[other.word] = self.condition()
 
     def clause_length(self, header: Header) -> None:
-        formula = self.number()
+        header.formula = formula = self.number()
         self.take("for")
         variable = self.name("a variable").word
         self.take(":")
-        bits = self.limited("number of bits", 1, 16)
+        header.bits = self.limited("number of bits", 1, 16)
         self.take("in")
         low = self.constant()
         self.take("..")
-        high = self.limited("last value", low, min(low + 255, (1 << bits) - 1))
+        high = self.limited("last value", low, min(low + 255, (1 << header.bits) - 1))
         for it in parts(formula):
             is_own = not isinstance(it, Field) and (not isinstance(it, Name) or it.name == variable)
             require(is_own, it.at, "a length is calculated from its own variable and constants")
-        sizes = {value: constant_of(substituted(formula, Number(header.at, value))) for value in range(low, high + 1)}
-        header.length = VariableLength(bits, sizes, formula)
+        header.sizes = {value: constant_of(substituted(formula, Number(header.at, value))) for value in range(low, high + 1)}
 
     def clause_next(self, header: Header) -> None:
         header.next = self.field_name(header.name)
 
     def clause_sum(self, header: Header) -> None:
-        name, payload, over = self.field_name(header.name), self.may("payload"), list[Field]()
-        if self.may("over"):
-            over.append(self.field())
-            while self.sees_header("."):
-                over.append(self.field())
-        header.checksum = Checksum(name, payload, tuple(over), self.may("optional"))
+        header.sum, header.payload, header.over = self.field_name(header.name), self.may("payload"), ()
+        is_over = self.may("over")
+        while is_over and (not header.over or self.sees_header(".")):
+            header.over += (self.field(),)
+        header.optional = self.may("optional")
