@@ -17,15 +17,15 @@ def main() -> int:
     path = pathlib.Path(sys.argv[1])
     try:
         source = path.read_text(encoding="utf-8")
+        text = compile_text(source, path.name)
     except (OSError, UnicodeDecodeError) as error:
         print(f"{path}: {error.strerror if isinstance(error, OSError) else 'it is no UTF-8 text'}", file=sys.stderr)
-        return 1
-    try:
-        sys.stdout.write(compile_text(source, path.name))
     except SourceError as error:
         print(error_text(error, str(path), source), file=sys.stderr)
-        return 1
-    return 0
+    else:
+        sys.stdout.write(text)
+        return 0
+    return 1
 
 
 if __name__ == "__main__":

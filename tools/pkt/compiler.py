@@ -40,6 +40,4 @@ def error_text(error: SourceError, name: str, source: str) -> str:
     if 0 < at.line <= len(rows):
         row = rows[at.line - 1].replace("\t", " ")
         lines += [f"    {row}", "    " + " " * (at.column - 1) + "^" * max(1, min(len(at.word), len(row) - at.column + 1))]
-    if error.cure:
-        lines.append(f"  help: {error.cure}")
-    return "\n".join(lines)
+    return "\n".join([*lines, *([f"  help: {error.cure}"] if error.cure else [])])

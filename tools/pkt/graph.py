@@ -1,28 +1,25 @@
-"""The program as a graph of instructions: optimized, ordered and written."""
+"""The layout and the writer: the program as a graph of instructions, which is optimized, ordered and written."""
 from __future__ import annotations
 
 from collections.abc import Iterator
 from dataclasses import dataclass
 
 from .state import Packet
-from .syntax import Place, SourceError
+from .syntax import Place, require
 
-MAX_INSTRUCTIONS = 1_024
-WIDTH = 96
+MAX_INSTRUCTIONS, WIDTH, ENDLESS = 1_024, 96, 1 << 64
 TESTS = {"jeq", "jlt", "iflen", "iflast", "ifhead", "iftail"}
 # Instructions that overwrite their first operand without reading it, that write it at all, and that change no packet.
 SETS = {"load", "loadx", "set", "mov", "lookup"}
 WRITES = {*SETS, "add", "sub", "and", "or", "xor", "shl", "shr"}
 HARMLESS = {*WRITES, *TESTS}
 ENDS = {"exit", "jmp"}
-ENDLESS = 1 << 64
 
 
 @dataclass(eq=False)
 class Instruction:
     """An instruction and its line of the source, 0 for none; the instruction after it, and the target of its jump. One without a word means
-    the instruction after it. `shares` is the sharing that it relies on, `left` the line of a jump after it. A `jmp` goes back to the start
-    of a loop."""
+    the instruction after it. `shares` is the sharing that it relies on, `left` the line of a jump after it. A `jmp` starts a round of a loop."""
 
     word: str = ""
     operands: tuple[str, ...] = ()
@@ -52,25 +49,24 @@ class Instruction:
         return [it for it in (self.target, self.next) if it]
 
 
+@dataclass
 class Graph:
     """A graph of instructions, given the first one."""
 
-    def __init__(self, first: Instruction) -> None:
-        self.first = first
+    first: Instruction
 
     def order(self) -> list[Instruction]:
         """All instructions, each before its successors, except in loops."""
-        order: list[Instruction] = []
-        seen: set[Instruction] = set()
-        pending = [(self.first, False)]
+        order, seen, pending = list[Instruction](), {self.first}, [(self.first, iter(self.first.leads_to))]
         while pending:
-            it, is_done = pending.pop()
-            if is_done:
+            it, successors = pending[-1]
+            other = next((other for other in successors if other not in seen), None)
+            if other:
+                seen.add(other)
+                pending.append((other, iter(other.leads_to)))
+            else:
                 order.append(it)
-            elif it not in seen:
-                seen.add(it)
-                pending.append((it, True))
-                pending += [(other, False) for other in reversed(it.leads_to)]
+                pending.pop()
         return order[::-1]
 
     # Optimizations
@@ -83,17 +79,16 @@ class Graph:
     def unite(self) -> bool:
         """Merges equal instructions with equal successors, and removes tests with equal ones; returns whether there were any."""
         same: dict[object, Instruction] = {}
-        instead: dict[Instruction, Instruction] = {}
+        instead: dict[Instruction | None, Instruction | None] = {None: None}
         for it in reversed(self.order()):
-            it.next, it.target = (instead.get(other, other) if other else None for other in (it.next, it.target))
-            if it.next and (not it.word or it.word in TESTS and it.next is it.target):
-                instead[it] = it.next
-            else:
-                instead[it] = same.setdefault((it.word, it.operands, it.shares, it.next, it.target), it)
+            it.next, it.target = instead.get(it.next, it.next), instead.get(it.target, it.target)
+            is_idle = it.next and (not it.word or it.word in TESTS and it.next is it.target)
+            instead[it] = it.next if is_idle else same.setdefault((it.word, it.operands, it.shares, it.next, it.target), it)
         for it in instead:
-            it.target = instead.get(it.target, it.target) if it.target else None
-        self.first = instead[self.first]
-        return any(it is not other and it.word for it, other in instead.items())
+            if it:
+                it.target = instead.get(it.target, it.target)
+        self.first = instead[self.first] or self.first
+        return any(it and it is not other and it.word for it, other in instead.items())
 
     def widen(self) -> bool:
         """Widens length tests to later ones with the same target, and jumps there at once if all do; returns whether any changed."""
@@ -111,16 +106,14 @@ class Graph:
 
     def registers_read(self) -> dict[Instruction, set[str]]:
         """The live number registers at each instruction."""
-        order, changed = self.order()[::-1], True
+        order, before = self.order()[::-1], None
         read: dict[Instruction, set[str]] = {it: set() for it in order}
-        while changed:
-            changed = False
+        while read != before:
+            before = dict(read)
             for it in order:
-                found = set().union(*(read[other] for other in it.leads_to))
-                found -= set(it.operands[:1]) if it.word in WRITES else set()
-                found |= {name for name in it.operands[it.word in SETS :] if name[:1] == "r"}
-                changed = changed or found != read[it]
-                read[it] = found
+                written = {*it.operands[:1]} if it.word in WRITES else set()
+                used = {name for name in it.operands[it.word in SETS :] if name[:1] == "r"}
+                read[it] = used.union(*(read[other] - written for other in it.leads_to))
         return read
 
     def forget_known(self) -> bool:
@@ -159,32 +152,29 @@ class Graph:
             if it in names:
                 yield f"{names[it]}:", None
             yield it.text(names), it.line
-            if it in jumps:
-                to = jumps[it]
+            if to := jumps.get(it):
                 yield to.text(names) if to.word in ENDS else f"jmp {names[to]}", to.line if to.word == "jmp" else it.left or it.line
 
     def write(self, source: str) -> str:
         """The node program; each instruction has its source line as a comment."""
         self.shorten()
-        rows, shown, lines = source.split("\n"), list[str](), list[int]()
+        rows, shown, lines = ["what is held is dropped", *source.split("\n")], list[str](), list[int]()
         for text, line in self.lines():
             if line is None:
                 shown.append(text)
                 continue
-            note = f"{line}: {' '.join(rows[line - 1].split())[:WIDTH]}" if line else "what is held is dropped"
+            note = f"{line}: {' '.join(rows[line].split())[:WIDTH]}" if line else rows[0]
             shown.append(f"        {text:<32}# {printable(note)}")
             lines.append(line)
-        if len(lines) > MAX_INSTRUCTIONS:
-            line = max(sorted({*lines} - {0}), key=lines.count)
-            message = f"the program has {len(lines)} instructions, and {MAX_INSTRUCTIONS:,} are possible; this line takes {lines.count(line)}"
-            cure = "`need ipv4.ihl == 5` before it where packets with options may be dropped; find out once, and use variables"
-            raise SourceError(Place(line, 1, ""), message, cure)
+        line = max(sorted({*lines} - {0}), key=lines.count, default=0)
+        require(len(lines) <= MAX_INSTRUCTIONS, Place(line, 1, ""),
+                f"the program has {len(lines)} instructions, and {MAX_INSTRUCTIONS:,} are possible; this line takes {lines.count(line)}",
+                "`need ipv4.ihl == 5` before it where packets with options may be dropped; find out once, and use variables")
         return "\n".join(shown) + "\n"
 
 
 def sure_to_come(order: list[Instruction], packet: int, end: Instruction, read: set[str]) -> dict[Instruction, int]:
-    """For each instruction, the last one first, a length: for shorter packets, each path from there leads to the end, and changes nothing
-    that is read there."""
+    """For each instruction, the last one first, a length: all paths from there on lead shorter packets to the end, and change nothing read there."""
     shorter = {end: ENDLESS}
     for it in order:
         there, after = shorter.get(it.target, 0) if it.target else ENDLESS, shorter.get(it.next, 0)

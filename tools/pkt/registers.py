@@ -1,11 +1,11 @@
-"""Numbers: their registers, loads, stores and arithmetic."""
+"""Register allocation, and the lowering of numbers: loads, stores and arithmetic."""
 from __future__ import annotations
 
 from dataclasses import dataclass
 
 from .headers import Span
 from .state import ALL, FAR, SOMEBODY_THE_REST
-from .syntax import BIGGEST, THIS, Binary, Bits, Field, Name, Node, Number, parts
+from .syntax import BIGGEST, THIS, Binary, Bits, Field, Name, Node, Number, parts, require
 from .ways import Way
 
 INSTRUCTIONS = {"+": "add", "-": "sub", "&": "and", "|": "or", "^": "xor", "<<": "shl", ">>": "shr"}
@@ -39,17 +39,20 @@ class Registers(Way):
     def fresh(self) -> Value:
         """A register for an operand; if all are in use, a loaded value that is not needed is forgotten."""
         free = sorted({*range(8)} - self.used())
-        if not free:
-            names = ", ".join(sorted(it for it in self.variables if not it.startswith("$")))
-            self.error(f"this needs a ninth number: {names} are held, and what is calculated here",
-                       "variables end with their block, and port where it is no more used")
+        names = ", ".join(sorted(it for it in self.variables if not it.startswith("$")))
+        require(free, self.at, f"this needs a ninth number: {names} are held, and what is calculated here",
+                "variables end with their block, and port where it is no more used")
         needed = {self.span(it) for it in self.unit.needs if isinstance(it, Field) and it.header in self.found}
         wanted = {r for it, r in self.loaded.items() if it in needed}
         register = min(free, key=lambda r: (r in self.loaded.values()) + (r in wanted))
-        self.loaded = {it: r for it, r in self.loaded.items() if r != register}
+        self.unload(register)
         self.pins[register] += 1
         self.bounds[register] = BIGGEST
         return Value(register=register, own=True)
+
+    def unload(self, register: int) -> None:
+        """Forgets which bits of the packet a register has."""
+        self.loaded = {it: r for it, r in self.loaded.items() if r != register}
 
     def release(self, value: Value) -> None:
         """Releases an operand."""
@@ -57,14 +60,13 @@ class Registers(Way):
             self.pins[value.register] -= 1
 
     def own(self, value: Value) -> Value:
-        """Copies a value to a register that may be changed."""
+        """Copies a value to a register that may be changed, or takes the register if the value is not needed in it."""
+        is_last = value.register is not None and self.loaded.get(value.span) == value.register and self.pins[value.register] == 1
+        if is_last and (value.field is None or not self.unit.needs & {ALL, value.field} or len(self.used()) == 8):
+            self.unload(value.r)
+            value.own = True
         if value.own:
             return value
-        if value.register is not None and self.loaded.get(value.span) == value.register and self.pins[value.register] == 1:
-            if value.field is None or not self.unit.needs & {ALL, value.field} or len(self.used()) == 8:
-                self.loaded = {it: r for it, r in self.loaded.items() if r != value.register}
-                value.own = True
-                return value
         target = self.fresh()
         self.set(target, value)
         self.release(value)
@@ -113,7 +115,7 @@ class Registers(Way):
             self.pins[self.loaded[span]] += 1
             return Value(register=self.loaded[span], span=span, field=field)
         start, width, shift = self.window(span, self.held[THIS])
-        value = self.fresh() if into is None else Value(register=into)
+        value = Value(register=self.fresh().r if into is None else into, span=span, field=field)
         self.access("load", self.held[THIS], start, width, value)
         if shift:
             self.emit("shr", value, shift)
@@ -122,16 +124,15 @@ class Registers(Way):
         self.bounds[value.r] = span.largest
         if into is None:
             self.loaded[span] = value.r
-        return Value(register=value.r, span=span, field=field)
+        return value
 
     def may_write(self, packet: int) -> None:
         """Refuses a write to shared bytes."""
-        if self.packets[packet].sharers <= {SOMEBODY_THE_REST}:
-            return
         name, line = self.sharer
         who = f"{name} (line {line}) shares them" if name else "the ring hands it over shared"
         cure = "write before `clone`, or free the clone first" if name else "have the ring declare share = 2"
-        self.error(f"the bytes of the packet cannot be written here: {who}", cure)
+        is_alone = self.packets[packet].sharers <= {SOMEBODY_THE_REST}
+        require(is_alone, self.at, f"the bytes of the packet cannot be written here: {who}", cure)
 
     def store(self, span: Span, value: Value, packet: int | None = None, known: dict[int, int] | None = None) -> None:
         """Writes the low bits of a value, and releases the value. `known` has bytes of the packet whose values are known."""
@@ -165,18 +166,20 @@ class Registers(Way):
         """Writes some bits of a window and keeps the others."""
         start, width, shift = self.window(span, packet)
         others = (1 << 8 * width) - 1 ^ span.largest << shift
-        if known.keys() >= {*range(start, start + width)}:
-            rest = Value(int.from_bytes(bytes(known[k] for k in range(start, start + width)), "big") & others)
+        rest, window = Value(), range(start, start + width)
+        if known.keys() >= {*window}:
+            rest.constant = int.from_bytes(bytes(known[k] for k in window), "big") & others
         else:
             rest = self.fresh()
             self.access("load", packet, start, width, rest)
             self.apply(rest, "&", Value(others))
         value = self.shifted(value, span, shift)
-        target, more = (rest, value) if rest.register is not None else (self.own(value) if rest.constant else self.in_register(value), rest)
-        self.apply(target, "|", more)
-        self.access("store", packet, start, width, target)
+        if rest.register is None:
+            rest, value = self.own(value) if rest.constant else self.in_register(value), rest
+        self.apply(rest, "|", value)
+        self.access("store", packet, start, width, rest)
         self.release(rest)
-        self.release(value if target is rest else target)
+        self.release(value)
 
     def shifted(self, value: Value, span: Span, shift: int) -> Value:
         """The low bits of a value, shifted to their place in a window."""
@@ -234,7 +237,7 @@ class Registers(Way):
             return
         self.emit(INSTRUCTIONS[sign], left, value)
         bits = (1 << max(m, n).bit_length()) - 1
-        bounds = {"+": m + n, "-": BIGGEST, "&": min(m, n), "|": bits, "^": bits, "<<": m << n if n < 64 else BIGGEST, ">>": m >> min(n, 64)}
+        bounds = {"+": m + n, "-": BIGGEST, "&": min(m, n), "|": bits, "^": bits, "<<": m << min(n, 64), ">>": m >> min(n, 64)}
         self.bounds[left.r] = min(bounds[sign], BIGGEST)
 
     def multiply(self, left: Value, factor: int) -> Value:
