@@ -136,7 +136,7 @@ class Conditions(Registers):
 
     def touch(self, names: Iterable[str], yes: Join[Self], no: Join[Self]) -> None:
         """Looks for headers one after another, until one is absent."""
-        left = [name for name in names if name not in self.found]
+        left = [name for name in names if self.found.get(name) is None]
         if not left:
             return self.jump(yes)
         for s in paths(lambda found: self.look_for(left[0], found, no)):
@@ -144,14 +144,14 @@ class Conditions(Registers):
 
     def look_for(self, name: str, yes: Join[Self], no: Join[Self]) -> None:
         """Looks for one header: a path for each place where it can be."""
-        if name in self.found or name in self.absent:
-            return self.jump(yes if name in self.found else no)
+        if name in self.found:
+            return self.jump(no if self.found[name] is None else yes)
         missing = Join[Self]()
         for s in paths(lambda found: self.search(self.headers[name], found, missing)):
-            s.absent -= self.headers.after(name)
+            s.found = {it: at for it, at in s.found.items() if at is not None or it not in self.headers.after(name)}
             s.jump(yes)
         for s in missing.begin():
-            s.absent.add(name)
+            s.found[name] = None
             s.jump(no)
 
     def search(self, header: Header, found: Join[Self], missing: Join[Self]) -> None:
@@ -166,7 +166,7 @@ class Conditions(Registers):
 
     def header_before(self, name: str) -> str | None:
         """The header that a header follows: among those that were found, the one that begins last."""
-        return max((it for it in self.headers[name].follows if it in self.found), key=lambda it: self.found[it], default=None)
+        return max((it for it in self.headers[name].follows if self.found.get(it) is not None), key=self.place, default=None)
 
     def at_place(self, header: Header, at: int, found: Join[Self], missing: Join[Self]) -> None:
         """Looks for a header at a constant place, where all its bytes have to be."""
@@ -176,7 +176,7 @@ class Conditions(Registers):
 
     def after(self, header: Header, before: Header, found: Join[Self], missing: Join[Self]) -> None:
         """Looks for a header after one that was found and has a variable length."""
-        base = self.found[before.name]
+        base = self.place(before.name)
         if not before.bits:
             return self.at_place(header, base + before.size, found, missing)
         if base >= FAR // 2 or self.far and self.far.base != base:
@@ -198,7 +198,7 @@ class Conditions(Registers):
 
     def first_bits(self, header: Header) -> Span:
         """The bits that give the length of a header that was found."""
-        return Span(8 * self.found[header.name], header.bits)
+        return Span(8 * self.place(header.name), header.bits)
 
     def each_length(self, header: Header, missing: Join[Self]) -> Iterator[tuple[Self, int]]:
         """A path for each length that a header can have. Ends this path."""
@@ -226,7 +226,7 @@ class Conditions(Registers):
 
     def at_register(self, header: Header, before: Header, left: dict[int, int], found: Join[Self], missing: Join[Self]) -> None:
         """Looks for a header at its usual place; for all other lengths of the one before it, tested in order, at an offset in a register."""
-        base, span, ready = self.found[before.name], self.first_bits(before), Join[Self]()
+        base, span, ready = self.place(before.name), self.first_bits(before), Join[Self]()
         if self.far:
             left = {value: before.sizes[value] for value in self.far.lengths}
         else:
@@ -250,7 +250,7 @@ class Conditions(Registers):
 
     def go_far(self, before: Header, left: dict[int, int]) -> Far:
         """Appends zeros, so that the register's greatest value is within the packet, and computes the register."""
-        p, base, padding = self.held[THIS], self.found[before.name], max(before.sizes.values()) - min(left.values())
+        p, base, padding = self.held[THIS], self.place(before.name), max(before.sizes.values()) - min(left.values())
         assert before.formula is not None
         self.emit_or_drop("iftail", f"p{p}", padding)
         self.emit("append", f"p{p}", padding)

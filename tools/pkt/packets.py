@@ -50,7 +50,7 @@ class Packets(Checksums):
         self.know(p, sharers=frozenset(sharers), segments=mine.segments + yours.segments)
         self.held[THIS] = self.held.pop(it.packet)
         self.loaded, self.bits = {}, {}
-        self.reshape()
+        self.found = {}
         self.jump(after)
 
     def come_near(self) -> None:
@@ -58,7 +58,7 @@ class Packets(Checksums):
         if self.far:
             self.emit("trim", f"p{self.held[THIS]}", self.far.padding)
             self.far = None
-            self.found = {name: at for name, at in self.found.items() if at < FAR // 2}
+            self.found = {name: at for name, at in self.found.items() if at is None or at < FAR // 2}
             self.loaded = {it: r for it, r in self.loaded.items() if it.bit < 4 * FAR}
             self.bits = {bit: it for bit, it in self.bits.items() if bit < 4 * FAR}
 
@@ -89,7 +89,7 @@ class Packets(Checksums):
         if count:
             self.emit("adj", f"p{self.held[THIS]}", count)
         self.move(-count, start)
-        self.reshape()
+        self.found = {}
 
     def do_cut(self, it: Cut, after: Join[Self], missing: Join[Self]) -> None:
         p = self.register_of(it.packet)
@@ -106,7 +106,7 @@ class Packets(Checksums):
         self.come_near()
         last = self.headers[it.path[-1]]
         for s, size in self.each_length(last, missing):
-            begin, end = s.found[it.path[0]], s.found[last.name] + size
+            begin, end = s.place(it.path[0]), s.place(last.name) + size
             count = end - begin
             s.has_bytes(end, missing)
             if last.next and begin:
@@ -118,7 +118,7 @@ class Packets(Checksums):
     def do_truncate(self, it: Truncate, after: Join[Self], _: Join[Self]) -> None:
         if it.packet == THIS:
             self.come_near()
-            self.reshape()
+            self.found = {}
         p = self.register_of(it.packet)
         require(self.packets[p].segments == 1, self.at, "a packet of several segments cannot be truncated",
                 "truncate before `chain`, and leave out `segments`")
@@ -145,7 +145,7 @@ class Packets(Checksums):
             self.come_near()
         p = self.prepend(name, len(data))
         if name == THIS:
-            self.reshape()
+            self.found = {}
         self.write(data, others, 0, p)
 
     def push_tag(self, pushed: Pushed, before: str) -> None:
@@ -156,11 +156,10 @@ class Packets(Checksums):
         self.come_near()
         (kind,) = asked_of(tag.follows[before]).values()
         width = tag.fields[tag.next].bits // 8
-        front = self.found[before] + header.size - width
+        front = self.place(before) + header.size - width
         p = self.prepend(THIS, tag.size)
         self.found = {}
         self.move_bytes(front, tag.size, 0)
-        self.reshape()
         whole = kind.to_bytes(width, "big") + data[: tag.size - width]
         self.write(whole, [(span.moved(width), value) for span, value in others], front, p, over_zeros=False)
 

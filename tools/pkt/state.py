@@ -67,8 +67,7 @@ class State:
 
     held: dict[str, int] = field(default_factory=lambda: {THIS: 0})
     packets: dict[int, Packet] = field(default_factory=lambda: {0: Packet()})
-    found: dict[str, int] = field(default_factory=dict)
-    absent: set[str] = field(default_factory=set)
+    found: dict[str, int | None] = field(default_factory=dict)  # the places of headers, none for an absent one
     bits: dict[int, int] = field(default_factory=dict)  # the known bits of the packet
     loaded: dict[Span, int] = field(default_factory=dict)  # the register that has these bits of the packet
     variables: dict[str, int] = field(default_factory=lambda: {PORT: 0})
@@ -86,7 +85,7 @@ class State:
     def signature(self) -> tuple[object, ...]:
         """The part of the state that must be equal where paths join."""
         far = self.far and (self.far.padding, self.far.base, self.far.register)
-        return *(frozenset(it.items()) for it in (self.held, self.found, self.variables)), frozenset(self.absent), far
+        return *(frozenset(it.items()) for it in (self.held, self.found, self.variables)), far
 
     @property
     def this(self) -> Packet:
@@ -107,8 +106,7 @@ class State:
         """Keeps only the needed facts."""
         self.pins = Counter()
         if ALL not in needs:
-            self.found = {name: at for name, at in self.found.items() if (name, True) in needs}
-            self.absent = {name for name in self.absent if (name, False) in needs}
+            self.found = {name: at for name, at in self.found.items() if (name, at is not None) in needs}
             self.variables = {name: r for name, r in self.variables.items() if name in needs or name.startswith("$")}
 
     def join(self, other: State) -> None:
@@ -125,9 +123,11 @@ class State:
 
     # Headers and bytes
 
-    def reshape(self) -> None:
-        """Forgets all facts about headers."""
-        self.found, self.absent = {}, set()
+    def place(self, name: str) -> int:
+        """The place of a header that was found."""
+        at = self.found[name]
+        assert at is not None
+        return at
 
     def known(self, span: Span) -> tuple[int, int]:
         """The known bits, and their values."""
@@ -164,12 +164,8 @@ class State:
         for k in self.packets.pop(p).clones():
             self.know(k, sharers=self.packets[k].sharers - {p})
 
-    def lose(self, p: int) -> None:
-        """Records that somebody shares the buffers of p permanently."""
-        for k in {p, *self.packets[p].clones()}:
-            self.know(k, sharers=frozenset({SOMEBODY}))
-
-    def dissolve(self, p: int) -> None:
-        """Records that those that share the buffers of p do so permanently."""
-        if self.packets[p].clones():
-            self.lose(p)
+    def dissolve(self, p: int, is_shared: bool = False) -> None:
+        """Records that those that share the buffers of p do so permanently, or that somebody shares them."""
+        if is_shared or self.packets[p].clones():
+            for k in {p, *self.packets[p].clones()}:
+                self.know(k, sharers=frozenset({SOMEBODY}))

@@ -104,7 +104,7 @@ class Statements(Packets):
         if isinstance(it, Pop):
             return list(it.path)
         names = self.headers_of(replace(it, fallback=None) if hasattr(it, "fallback") else it)  # type: ignore[call-arg]
-        if isinstance(it, Push) and (before := self.unit.tag_follows(it)) and not {*before} & {*self.found}:
+        if isinstance(it, Push) and (before := self.unit.tag_follows(it)) and self.header_before(it.headers[0].header) is None:
             names = self.headers.in_order([*names, before[0]])
         return names
 
@@ -151,9 +151,8 @@ class Statements(Packets):
     def enter_round(self, needs: Needs) -> None:
         """Each round looks for headers again."""
         self.come_near()
-        self.reshape()
         self.forget(needs)
-        self.loaded, self.bits = {}, {}
+        self.found, self.loaded, self.bits = {}, {}, {}
 
     def weaken(self, it: While) -> None:
         """Forgets the facts that a round may change."""
@@ -164,7 +163,7 @@ class Statements(Packets):
                 self.know(p, first=0, headroom=0)
         clones = [part for part in parts(it.body) if isinstance(part, Clone)]
         if clones and has(it.body, Send):
-            self.lose(self.held[THIS])
+            self.dissolve(self.held[THIS], is_shared=True)
             self.sharer = self.sharer if self.sharer[0] else (clones[0].name, clones[0].at.line)
         for part in parts(it.body):
             if isinstance(part, Assign) and isinstance(part.target, Name) and part.target.name in self.variables:
@@ -246,10 +245,10 @@ class Statements(Packets):
             require(number < ports, it.port.at, f"there is no port {number}: the program has {ports}", f"ports {number + 1}")
         return self.in_register(self.evaluate(it.port))
 
-    def not_sent(self, it: Send, far: Far | None, found: dict[str, int], after: Join[Self]) -> None:
+    def not_sent(self, it: Send, far: Far | None, found: dict[str, int | None], after: Join[Self]) -> None:
         """The `else` part, which may use headers at the offset in a register again."""
         self.at, wanted = it.at, after.needs | self.unit.needs_of(it.fallback)
-        if far and self.far is None and not self.this.sharers and any(at >= FAR and (name, True) in wanted for name, at in found.items()):
+        if far and self.far is None and not self.this.sharers and any((at or 0) >= FAR and (name, True) in wanted for name, at in found.items()):
             self.emit("append", f"p{self.held[THIS]}", far.padding)
             self.far, self.found = far, dict(found)
         if it.fallback is not None:
