@@ -107,8 +107,6 @@ class Checksums(Conditions):
         self.store(span, total)
         self.jump(done)
 
-    # Sums
-
     def halve(self, value: Value) -> None:
         """Makes room in a sum for more; as a checksum it is unchanged."""
         if self.bound(value) >> 34:

@@ -9,8 +9,8 @@ from typing import Self
 from .headers import Header, Span
 from .reader import COMPARISONS, substituted
 from .registers import Registers, Value
-from .state import FAR, SOMEBODY_THE_REST, Far
-from .syntax import THIS, And, Bits, Compare, Field, Found, Length, Node, Not, Number, Or, parts
+from .state import FAR, NEAR, SOMEBODY_THE_REST, Far
+from .syntax import THIS, And, Bits, Compare, Field, Found, Length, Node, Not, Number, Or, parts, require
 from .ways import Join, paths
 
 CONTRARY = {"!=": "==", ">": "<=", ">=": "<"}
@@ -40,8 +40,6 @@ class Conditions(Registers):
         """The headers whose fields a part of the text uses."""
         return self.headers.in_order(part.header for part in parts(it) if isinstance(part, Field))
 
-    # Comparisons
-
     def compare(self, it: Compare, yes: Join[Self], no: Join[Self]) -> None:
         """A comparison whose headers were found."""
         sign, left, right = it.sign, it.left, it.right
@@ -67,7 +65,7 @@ class Conditions(Registers):
 
     def compare_length(self, count: int, yes: Join[Self], no: Join[Self]) -> None:
         """Whether the first segment has fewer bytes."""
-        if count + self.padding > 65_535:
+        if count + self.far.padding > 65_535:
             return self.jump(yes)
         self.has_bytes(count, yes)
         self.jump(no)
@@ -120,17 +118,10 @@ class Conditions(Registers):
         self.emit("jeq", t, 0, to=no)
         self.jump(yes)
 
-    # Headers
-
-    @property
-    def padding(self) -> int:
-        """The number of zero bytes appended to the packet."""
-        return self.far.padding if self.far else 0
-
     def has_bytes(self, count: int, no: Join[Self], packet: str = THIS) -> None:
         """Jumps if the first segment of a packet has fewer bytes."""
         p = self.held[packet]
-        count += self.padding if packet == THIS else 0
+        count += self.far.padding if packet == THIS else 0
         if self.packets[p].first < count:
             self.emit("iflen", f"p{p}", count, to=no)
 
@@ -179,9 +170,9 @@ class Conditions(Registers):
         base = self.place(before.name)
         if not before.bits:
             return self.at_place(header, base + before.size, found, missing)
-        if base >= FAR // 2 or self.far and self.far.base != base:
-            self.error(f"{header.name} is after two headers whose lengths vary", f"`need` one length of {before.name} before")
-        if self.far and header.size <= self.far.size and self.may_be_far(header):
+        is_one = base < FAR // 2 and (self.far == NEAR or self.far.base == base)
+        require(is_one, self.at, f"{header.name} is after two headers whose lengths vary", f"`need` one length of {before.name} before")
+        if self.far != NEAR and header.size <= self.far.size and self.may_be_far(header):
             self.found[header.name] = FAR
             return self.jump(found)
         left = self.sizes_left(before)
@@ -221,13 +212,14 @@ class Conditions(Registers):
 
     def may_be_far(self, header: Header) -> bool:
         """Whether a header may be at an offset in a register: zeros can be appended, and no header after it is used."""
-        may_append = self.this.sharers <= {SOMEBODY_THE_REST} and self.this.segments == 1
+        this = self.packets[self.held[THIS]]
+        may_append = this.sharers <= {SOMEBODY_THE_REST} and this.segments == 1
         return may_append and header.name not in self.unit.popped and not self.headers.after(header.name) & self.unit.used_headers
 
     def at_register(self, header: Header, before: Header, left: dict[int, int], found: Join[Self], missing: Join[Self]) -> None:
         """Looks for a header at its usual place; for all other lengths of the one before it, tested in order, at an offset in a register."""
         base, span, ready = self.place(before.name), self.first_bits(before), Join[Self]()
-        if self.far:
+        if self.far.lengths:
             left = {value: before.sizes[value] for value in self.far.lengths}
         else:
             first = min(left)
@@ -239,12 +231,12 @@ class Conditions(Registers):
         s.pins.clear()
         value = s.load(span)
         for it, size in left.items():
-            s.emit("iflen", f"p{s.held[THIS]}", base + size + header.size + s.padding, to=missing)
+            s.emit("iflen", f"p{s.held[THIS]}", base + size + header.size + s.far.padding, to=missing)
             if it != max(left):
                 s.emit("jlt", value, it + 1, to=ready)
         s.jump(ready)
         for s in ready.begin():
-            far = s.far or s.go_far(before, left)
+            far = s.far if s.far != NEAR else s.go_far(before, left)
             s.far, s.found[header.name] = replace(far, size=header.size), FAR
             s.jump(found)
 
@@ -252,7 +244,7 @@ class Conditions(Registers):
         """Appends zeros, so that the register's greatest value is within the packet, and computes the register."""
         p, base, padding = self.held[THIS], self.place(before.name), max(before.sizes.values()) - min(left.values())
         assert before.formula is not None
-        self.emit_or_drop("iftail", f"p{p}", padding)
+        self.emit("iftail", f"p{p}", padding, to=Join()).drop()
         self.emit("append", f"p{p}", padding)
         place = self.own(self.evaluate(substituted(before.formula, Bits(self.at, 8 * base, before.bits))))
         return Far(padding, base, 0, tuple(left), place.r)

@@ -69,8 +69,6 @@ class Graph:
                 pending.pop()
         return order[::-1]
 
-    # Optimizations
-
     def shorten(self) -> None:
         """Removes unnecessary instructions, until nothing changes."""
         while self.unite() or self.widen() or self.forget_known():
@@ -137,8 +135,6 @@ class Graph:
                     before = known.setdefault(other, packets)
                     known[other] = {p: fact.joined(packets.get(p, Packet())) for p, fact in before.items()}
         return changed
-
-    # The text
 
     def lines(self) -> Iterator[tuple[str, int | None]]:
         """The instructions, each with its line, and labels. An instruction is followed by its successor, a jump to it, or a copy of it."""

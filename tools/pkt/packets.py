@@ -7,7 +7,7 @@ from typing import Self
 from .checksums import Checksums, Others
 from .headers import Header, Span, asked_of
 from .registers import Value
-from .state import FAR, SOMEBODY, SOMEBODY_THE_REST, Packet
+from .state import FAR, NEAR, SOMEBODY, SOMEBODY_THE_REST
 from .syntax import THIS, Chain, Cut, Free, Node, Number, Pop, Push, Pushed, Truncate, require
 from .ways import Join, pieces
 
@@ -55,21 +55,19 @@ class Packets(Checksums):
 
     def come_near(self) -> None:
         """Removes the zeros after the packet, and the facts about headers at an offset in a register."""
-        if self.far:
+        if self.far != NEAR:
             self.emit("trim", f"p{self.held[THIS]}", self.far.padding)
-            self.far = None
+            self.far = NEAR
             self.found = {name: at for name, at in self.found.items() if at is None or at < FAR // 2}
             self.loaded = {it: r for it, r in self.loaded.items() if it.bit < 4 * FAR}
             self.bits = {bit: it for bit, it in self.bits.items() if bit < 4 * FAR}
-
-    # Bytes at the front
 
     def prepend(self, name: str, count: int) -> int:
         """Prepends zero bytes to a packet; returns its register."""
         p = self.register_of(name)
         self.may_write(p)
         if self.packets[p].headroom < count:
-            self.emit_or_drop("ifhead", f"p{p}", count)
+            self.emit("ifhead", f"p{p}", count, to=Join()).drop()
         self.emit("prepend", f"p{p}", count)
         if name == THIS:
             self.move(count)
@@ -127,8 +125,6 @@ class Packets(Checksums):
             self.emit("trim", f"p{p}", 1 << k)
             self.unite([short])
         self.jump(after)
-
-    # Pushed headers
 
     def do_push(self, it: Push, after: Join[Self], _: Join[Self]) -> None:
         if before := self.unit.tag_follows(it):

@@ -49,9 +49,6 @@ class Program:
     statements: Block = ()
 
 
-# Numbers and conditions
-
-
 def as_side(node: Node) -> Node:
     """A side of a comparison."""
     require(isinstance(node, Numeric), node.at, "a condition stands where a number is wanted", "`and`, `or` and `not` join conditions; `if` decides by them")
@@ -222,8 +219,6 @@ class Reader(Words):
         self.take(".")
         return Field(header, header.word, self.field_name(header.word))
 
-    # Names
-
     def declare(self, at: Place, name: str, what: str) -> None:
         """Gives a new name its meaning."""
         is_now = self.names.get(name)
@@ -263,8 +258,6 @@ class Reader(Words):
     def packet_on(self) -> str:
         """The packet named after `on`, or the packet of the program."""
         return self.packet_held() if self.may("on") else THIS
-
-    # Statements
 
     def block(self, may_be_one: bool = False) -> Block:
         """Statements in braces, or one after `else`."""
@@ -351,8 +344,6 @@ class Reader(Words):
         value = self.number()
         require(target != Name(at, PORT), at, "port is where the packet came from, and is not assigned to", "let x = port")
         return Assign(at, target, value if sign.word == "=" else combined(sign.word[:-1], target, value), mends)
-
-    # Declarations
 
     def program(self) -> Program:
         """The whole text."""

@@ -5,7 +5,7 @@ from dataclasses import dataclass
 
 from .headers import Span
 from .state import ALL, FAR, SOMEBODY_THE_REST
-from .syntax import BIGGEST, THIS, Binary, Bits, Field, Name, Node, Number, parts, require
+from .syntax import BIGGEST, THIS, Binary, Bits, Field, Name, Node, Number, SourceError, parts, require
 from .ways import Way
 
 INSTRUCTIONS = {"+": "add", "-": "sub", "&": "and", "|": "or", "^": "xor", "<<": "shl", ">>": "shr"}
@@ -33,8 +33,6 @@ class Value:
 
 class Registers(Way):
     """Assigns registers to numbers, and appends the instructions that compute them."""
-
-    # Registers
 
     def fresh(self) -> Value:
         """A register for an operand; if all are in use, a loaded value that is not needed is forgotten."""
@@ -86,8 +84,6 @@ class Registers(Way):
         """The value in a register."""
         return self.own(value) if value.register is None else value
 
-    # Bytes
-
     def span(self, it: Field) -> Span:
         """The place of a field whose header was found."""
         return self.headers[it.header].fields[it.name].moved(self.place(it.header))
@@ -95,17 +91,17 @@ class Registers(Way):
     def window(self, span: Span, packet: int) -> tuple[int, int, int]:
         """The place and the width of a load with the bits, and their distance from its end."""
         low, high = span.bytes.start, span.bytes.stop
-        least, limit = (FAR, FAR + self.far.size) if self.far and low >= FAR else (0, self.packets[packet].first)
+        least, limit = (FAR, FAR + self.far.size) if low >= FAR else (0, self.packets[packet].first)
         for width in (1, 2, 4, 8):
             start = max(least, high - width) if high - width < low else low
             if high - width <= start <= low and start + width <= limit:
                 return start, width, 8 * (start + width) - span.end
-        self.error("this field cannot be read in one piece here", "split it in the declaration of its header")
+        raise SourceError(self.at, "this field cannot be read in one piece here", "split it in the declaration of its header")
 
     def access(self, word: str, packet: int, start: int, width: int, value: Value) -> None:
         """A load or a store, at a constant offset or at one in a register."""
         place: list[object] = [f"p{packet}", start, width]
-        if self.far and start >= FAR // 2:
+        if start >= FAR // 2:
             word, place = word + "x", [f"p{packet}", f"r{self.far.register}", start - FAR + self.far.base, width]
         self.emit(word, *([value, *place] if word.startswith("load") else [*place, value]))
 
@@ -190,8 +186,6 @@ class Registers(Way):
             self.apply(value, "&", Value(span.largest))
             self.apply(value, "<<", Value(shift))
         return value
-
-    # Arithmetic
 
     def evaluate(self, it: Node) -> Value:
         """A number; the headers of its fields were found."""

@@ -54,11 +54,14 @@ class Packet:
 class Far:
     """Headers at an offset in a register: the zeros after the packet, the base of the offset, the bytes that are there, the possible lengths."""
 
-    padding: int
-    base: int
-    size: int
-    lengths: tuple[int, ...]
-    register: int
+    padding: int = 0
+    base: int = 0
+    size: int = 0
+    lengths: tuple[int, ...] = ()
+    register: int | None = None
+
+
+NEAR = Far()
 
 
 @dataclass
@@ -73,7 +76,7 @@ class State:
     variables: dict[str, int] = field(default_factory=lambda: {PORT: 0})
     bounds: dict[int, int] = field(default_factory=lambda: {0: 0})
     pins: Counter[int] = field(default_factory=Counter)  # how many operands of the statement are in a register
-    far: Far | None = None
+    far: Far = NEAR
     sharer: tuple[str, int] = "", 0  # who came to share the bytes of the packet, and in which line
 
     def copy(self) -> Self:
@@ -84,23 +87,15 @@ class State:
 
     def signature(self) -> tuple[object, ...]:
         """The part of the state that must be equal where paths join."""
-        far = self.far and (self.far.padding, self.far.base, self.far.register)
-        return *(frozenset(it.items()) for it in (self.held, self.found, self.variables)), far
-
-    @property
-    def this(self) -> Packet:
-        """The facts about the packet."""
-        return self.packets[self.held[THIS]]
+        return *(frozenset(it.items()) for it in (self.held, self.found, self.variables)), self.far.padding, self.far.base, self.far.register
 
     def know(self, register: int, **news: object) -> None:
         """Sets the facts about a packet."""
         self.packets[register] = replace(self.packets[register], **news)  # type: ignore[arg-type]
 
-    def used(self) -> set[int]:
+    def used(self) -> set[int | None]:
         """The registers in use: by variables, operands and offsets."""
-        return {*self.variables.values(), *(+self.pins), *([self.far.register] if self.far else [])}
-
-    # Joining paths
+        return {*self.variables.values(), *(+self.pins), self.far.register}
 
     def forget(self, needs: Needs) -> None:
         """Keeps only the needed facts."""
@@ -112,16 +107,13 @@ class State:
     def join(self, other: State) -> None:
         """Keeps only the facts of both paths."""
         self.packets = {p: it.joined(other.packets[p]) for p, it in self.packets.items()}
-        if self.far and other.far:
-            lengths = tuple(sorted({*self.far.lengths, *other.far.lengths}))
-            self.far = replace(self.far, size=min(self.far.size, other.far.size), lengths=lengths)
+        lengths = tuple(sorted({*self.far.lengths, *other.far.lengths}))
+        self.far = replace(self.far, size=min(self.far.size, other.far.size), lengths=lengths)
         unlike = {bit // 8 for bit, _ in self.bits.items() ^ other.bits.items()}
         self.bits = {bit: it for bit, it in self.bits.items() if bit // 8 not in unlike}
         self.loaded = dict(self.loaded.items() & other.loaded.items())
         self.bounds = {r: max(b, other.bounds[r]) for r, b in self.bounds.items() if r in other.bounds}
         self.sharer = self.sharer if self.sharer[0] else other.sharer
-
-    # Headers and bytes
 
     def place(self, name: str) -> int:
         """The place of a header that was found."""
@@ -149,8 +141,6 @@ class State:
         """Records that the bytes from start on moved count bytes up, and that those before it changed."""
         self.loaded = {it.moved(count): r for it, r in self.loaded.items() if it.bit >= 8 * start}
         self.bits = {bit + 8 * count: it for bit, it in self.bits.items() if bit >= 8 * start}
-
-    # Sharing of buffers
 
     def share(self, p: int, q: int) -> None:
         """Records that p is a clone of q."""

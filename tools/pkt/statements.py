@@ -8,7 +8,7 @@ from .graph import Graph, Instruction
 from .packets import Packets
 from .reader import Program
 from .registers import Value
-from .state import FAR, NOTHING, SOMEBODY, Far, Needs, Packet
+from .state import FAR, NEAR, NOTHING, SOMEBODY, Far, Needs, Packet
 from .syntax import (
     BIGGEST, PORT, THIS, Assign, Block, Chain, Clone, Cut, Drop, Field, Found, If, Length, Let, Lookup, Name, Need, New, Node, Number, Pop, Push,
     Send, Truncate, While, has, parts, require,
@@ -68,7 +68,7 @@ class Statements(Packets):
         ready = Join[Self](later)
         for s in paths(lambda after: self.statement(it, after), later):
             s.at = it.at
-            if s.far and FAR not in s.found.values():
+            if FAR not in s.found.values():
                 s.come_near()
             s.jump(ready)
         for s in ready.begin():
@@ -116,8 +116,6 @@ class Statements(Packets):
         else:
             self.drop()
 
-    # Branches and loops
-
     def do_if(self, it: If, after: Join[Self]) -> None:
         yes, no = (Join[Self](after.needs | self.unit.needs_of(block)) for block in (it.body, it.fallback))
         self.decide(it.condition, yes, no)
@@ -142,8 +140,8 @@ class Statements(Packets):
         for s in again.begin():
             s.at = it.at
             s.enter_round(more)
-            if (s.held, s.variables) != (held, variables):
-                s.error("a round of this loop ends without a packet that it began with", "make the packet within the loop")
+            is_same = (s.held, s.variables) == (held, variables)
+            require(is_same, s.at, "a round of this loop ends without a packet that it began with", "make the packet within the loop")
             s.emit("jmp").last.target = head
         for s in no.begin():
             s.jump(after)
@@ -156,8 +154,7 @@ class Statements(Packets):
 
     def weaken(self, it: While) -> None:
         """Forgets the facts that a round may change."""
-        if has(it.body, Chain):
-            self.error("`chain` cannot be in a loop: a packet has at most 64 segments")
+        require(not has(it.body, Chain), self.at, "`chain` cannot be in a loop: a packet has at most 64 segments")
         if has(it.body, Push, Pop, Cut, Truncate):
             for p in self.packets:
                 self.know(p, first=0, headroom=0)
@@ -168,8 +165,6 @@ class Statements(Packets):
         for part in parts(it.body):
             if isinstance(part, Assign) and isinstance(part.target, Name) and part.target.name in self.variables:
                 self.bounds[self.variables[part.target.name]] = BIGGEST
-
-    # Numbers
 
     def do_let(self, it: Let, after: Join[Self], _: Join[Self]) -> None:
         self.variables[it.name] = self.own(self.evaluate(it.value)).r
@@ -194,14 +189,12 @@ class Statements(Packets):
             self.store(self.span(it.target), self.evaluate(it.value))
         self.jump(after)
 
-    # Making and sending packets
-
     def do_clone(self, it: Clone, after: Join[Self], failed: Join[Self]) -> None:
         p = self.free_register()
         self.emit("clone", f"p{p}", f"p{self.held[THIS]}", it.pool, to=failed)
         self.share(p, self.held[THIS])
         self.held[it.name], self.sharer = p, (it.name, it.at.line)
-        if self.far:
+        if self.far != NEAR:
             self.emit("trim", f"p{p}", self.far.padding)
         self.jump(after)
 
@@ -245,10 +238,11 @@ class Statements(Packets):
             require(number < ports, it.port.at, f"there is no port {number}: the program has {ports}", f"ports {number + 1}")
         return self.in_register(self.evaluate(it.port))
 
-    def not_sent(self, it: Send, far: Far | None, found: dict[str, int | None], after: Join[Self]) -> None:
+    def not_sent(self, it: Send, far: Far, found: dict[str, int | None], after: Join[Self]) -> None:
         """The `else` part, which may use headers at the offset in a register again."""
         self.at, wanted = it.at, after.needs | self.unit.needs_of(it.fallback)
-        if far and self.far is None and not self.this.sharers and any((at or 0) >= FAR and (name, True) in wanted for name, at in found.items()):
+        was_far = any((at or 0) >= FAR and (name, True) in wanted for name, at in found.items())
+        if was_far and self.far == NEAR and not self.packets[self.held[THIS]].sharers:
             self.emit("append", f"p{self.held[THIS]}", far.padding)
             self.far, self.found = far, dict(found)
         if it.fallback is not None:

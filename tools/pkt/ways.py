@@ -4,13 +4,13 @@ from __future__ import annotations
 from collections import defaultdict
 from collections.abc import Callable, Iterable, Iterator, Set
 from dataclasses import dataclass, field
-from typing import Any, Generic, NoReturn, Self, TypeVar
+from typing import Any, Generic, Self, TypeVar
 
 from .graph import Instruction
 from .headers import Headers
 from .reader import Program
 from .state import EVERYTHING, NOTHING, Needs, State
-from .syntax import THIS, Assign, Field, Found, Name, Node, Place, Pop, Push, SourceError, parts, require
+from .syntax import THIS, Assign, Field, Found, Name, Node, Place, Pop, Push, parts, require
 
 MAX_BLOCKS = 20_000
 
@@ -105,10 +105,6 @@ class Way(State):
         """The headers of the program."""
         return self.unit.headers
 
-    def error(self, message: str, cure: str = "") -> NoReturn:
-        """An error of the current statement."""
-        raise SourceError(self.at, message, cure)
-
     def emit(self, word: str, *operands: object, to: Join[Self] | None = None) -> Self:
         """Appends an instruction; returns the path to its jump target, if it leads to a join."""
         self.flush()
@@ -121,10 +117,6 @@ class Way(State):
         if (p := self.last.packet) in self.packets:
             self.packets[p] = self.packets[p].after(word, self.last.count)
         return there
-
-    def emit_or_drop(self, word: str, *operands: object) -> None:
-        """Appends an instruction that drops all packets if it jumps."""
-        self.emit(word, *operands, to=Join()).drop()
 
     def drop(self) -> None:
         """The end of the program: all packets are dropped."""
@@ -155,8 +147,6 @@ class Way(State):
         self.last = label
         for way in others:
             self.join(way)
-
-    # Constant bytes
 
     def put(self, packet: int, at: int, data: bytes, register: int) -> None:
         """Constant bytes of a packet. They are written before the next instruction, together with those beside them."""
