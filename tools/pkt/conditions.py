@@ -7,14 +7,13 @@ from itertools import pairwise
 from typing import Self
 
 from .headers import Header, Span
-from .reader import COMPARISONS, substituted
+from .reader import substituted
 from .registers import Registers, Value
 from .state import FAR, NEAR, SOMEBODY_THE_REST, Far
 from .syntax import THIS, And, Bits, Compare, Field, Found, Length, Node, Not, Number, Or, parts, require
 from .ways import Join, paths
 
 CONTRARY = {"!=": "==", ">": "<=", ">=": "<"}
-
 
 
 class Conditions(Registers):
@@ -43,8 +42,6 @@ class Conditions(Registers):
     def compare(self, it: Compare, yes: Join[Self], no: Join[Self]) -> None:
         """A comparison whose headers were found."""
         sign, left, right = it.sign, it.left, it.right
-        if isinstance(left, Number):
-            left, right, sign = right, left, COMPARISONS[sign]
         if sign in CONTRARY:
             yes, no, sign = no, yes, CONTRARY[sign]
         match left, right:

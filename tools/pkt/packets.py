@@ -66,11 +66,14 @@ class Packets(Checksums):
         """Prepends zero bytes to a packet; returns its register."""
         p = self.register_of(name)
         self.may_write(p)
+        if name == THIS:
+            self.come_near()
         if self.packets[p].headroom < count:
             self.emit("ifhead", f"p{p}", count, to=Join()).drop()
         self.emit("prepend", f"p{p}", count)
         if name == THIS:
             self.move(count)
+            self.found = {}
         return p
 
     def move_bytes(self, count: int, source: int, target: int) -> None:
@@ -130,19 +133,10 @@ class Packets(Checksums):
         if before := self.unit.tag_follows(it):
             self.push_tag(it.headers[0], self.header_before(it.headers[0].header) or before[0])
         else:
-            self.push(it.headers, it.packet)
+            data, others = self.values(it.headers)
+            others += self.sums(it.headers, data, others)
+            self.write(data, others, 0, self.prepend(it.packet, len(data)))
         self.jump(after)
-
-    def push(self, pushed: tuple[Pushed, ...], name: str) -> None:
-        """Puts headers at the front of a packet."""
-        data, others = self.values(pushed)
-        others += self.sums(pushed, data, others)
-        if name == THIS:
-            self.come_near()
-        p = self.prepend(name, len(data))
-        if name == THIS:
-            self.found = {}
-        self.write(data, others, 0, p)
 
     def push_tag(self, pushed: Pushed, before: str) -> None:
         """Inserts a tag between a header that was found and the bytes after it."""
@@ -154,7 +148,6 @@ class Packets(Checksums):
         width = tag.fields[tag.next].bits // 8
         front = self.place(before) + header.size - width
         p = self.prepend(THIS, tag.size)
-        self.found = {}
         self.move_bytes(front, tag.size, 0)
         whole = kind.to_bytes(width, "big") + data[: tag.size - width]
         self.write(whole, [(span.moved(width), value) for span, value in others], front, p, over_zeros=False)

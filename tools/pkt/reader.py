@@ -67,8 +67,8 @@ def as_condition(node: Node) -> Node:
 
 
 def compared(sign: str, left: Node, right: Node) -> Node:
-    """A comparison; the length is on its left."""
-    if isinstance(right, Length):
+    """A comparison; the length is on its left, a constant on its right."""
+    if isinstance(right, Length) or isinstance(left, Number):
         left, right, sign = right, left, COMPARISONS[sign]
     if isinstance(left, Length) and not isinstance(right, Number):
         as_number(left)

@@ -91,12 +91,11 @@ class Statements(Packets):
         if isinstance(it, (If, While, Need)):
             return getattr(self, do)(it, after)
         for s in paths(lambda found: self.touch(self.needed_by(it), found, missing)):
-            s.at, s.unit.needs, failed = it.at, after.needs, Join[Self]()
+            s.unit.needs, failed = after.needs, Join[Self]()
             getattr(s, do)(it, after, failed if isinstance(it, (Lookup, Clone, New)) else missing)
             if isinstance(it, (Lookup, Clone, New)):
                 s.body(it.fallback, failed, after)
         for s in missing.begin():
-            s.at = it.at
             s.otherwise()
 
     def needed_by(self, it: Node) -> list[str]:
@@ -116,16 +115,13 @@ class Statements(Packets):
         else:
             self.drop()
 
-    def do_if(self, it: If, after: Join[Self]) -> None:
+    def do_if(self, it: If | Need, after: Join[Self]) -> None:
         yes, no = (Join[Self](after.needs | self.unit.needs_of(block)) for block in (it.body, it.fallback))
         self.decide(it.condition, yes, no)
         self.body(it.body, yes, after)
         self.body(it.fallback, no, after)
 
-    def do_need(self, it: Need, after: Join[Self]) -> None:
-        no = Join[Self](self.unit.needs_of(it.fallback))
-        self.decide(it.condition, after, no)
-        self.body(it.fallback, no, after)
+    do_need = do_if
 
     def do_while(self, it: While, after: Join[Self]) -> None:
         """The facts at its start must hold in each round."""
@@ -134,8 +130,8 @@ class Statements(Packets):
         self.weaken(it)
         self.emit("")
         head, held, variables = self.last, dict(self.held), dict(self.variables)
-        yes, no, again = Join[Self](more), Join[Self](more), Join[Self](more)
-        self.decide(it.condition, yes, no)
+        yes, again = Join[Self](more), Join[Self](more)
+        self.decide(it.condition, yes, after)
         self.body(it.body, yes, again)
         for s in again.begin():
             s.at = it.at
@@ -143,8 +139,6 @@ class Statements(Packets):
             is_same = (s.held, s.variables) == (held, variables)
             require(is_same, s.at, "a round of this loop ends without a packet that it began with", "make the packet within the loop")
             s.emit("jmp").last.target = head
-        for s in no.begin():
-            s.jump(after)
 
     def enter_round(self, needs: Needs) -> None:
         """Each round looks for headers again."""
@@ -240,7 +234,7 @@ class Statements(Packets):
 
     def not_sent(self, it: Send, far: Far, found: dict[str, int | None], after: Join[Self]) -> None:
         """The `else` part, which may use headers at the offset in a register again."""
-        self.at, wanted = it.at, after.needs | self.unit.needs_of(it.fallback)
+        wanted = after.needs | self.unit.needs_of(it.fallback)
         was_far = any((at or 0) >= FAR and (name, True) in wanted for name, at in found.items())
         if was_far and self.far == NEAR and not self.packets[self.held[THIS]].sharers:
             self.emit("append", f"p{self.held[THIS]}", far.padding)

@@ -68,7 +68,7 @@ class Lookup(Node): name: str; table: int; key: Node; fallback: Block | None
 class Assign(Node): target: Name | Field; value: Node; mends: bool
 class If(Node): condition: Node; body: Block; fallback: Block
 class While(Node): condition: Node; body: Block
-class Need(Node): condition: Node; fallback: Block | None
+class Need(Node): condition: Node; fallback: Block | None; body: Block = ()
 class Drop(Node): pass
 class Send(Node): packet: str; port: Node | int; fallback: Block | None
 class Clone(Node): name: str; pool: int; fallback: Block | None
