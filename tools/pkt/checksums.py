@@ -6,7 +6,7 @@ from typing import Self
 from .conditions import Conditions
 from .headers import Header, Span
 from .registers import Value
-from .syntax import Assign, Field, Pushed, require
+from .syntax import Field, Mend, Pushed, require
 from .ways import Join, paths
 
 # The name of the variable with the difference by which checksums are updated.
@@ -18,9 +18,8 @@ Others = list[tuple[Span, Value]]
 class Checksums(Conditions):
     """Appends sums in one's complement."""
 
-    def mend(self, it: Assign, after: Join[Self]) -> None:
+    def do_mend(self, it: Mend, after: Join[Self], _: Join[Self]) -> None:
         """Assigns to a field, and updates each checksum that covers it; the headers were found."""
-        assert isinstance(it.target, Field)
         own, over, field = self.headers[it.target.header], self.headers.covering(it.target), f"{it.target.header}.{it.target.name}"
         names = [*([own.name] if own.sum else []), *self.outer(own.name)]
         require(names or over, self.at, f"no checksum covers {field}", "assign without `mend`")

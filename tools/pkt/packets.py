@@ -33,11 +33,10 @@ class Packets(Checksums):
         self.emit("free", f"p{self.register_of(name)}")
         self.leave(self.held.pop(name))
 
-    def do_free(self, it: Free, after: Join[Self], _: Join[Self]) -> None:
+    def do_free(self, it: Free, _: Join[Self]) -> None:
         self.free(it.packet)
-        self.jump(after)
 
-    def do_chain(self, it: Chain, after: Join[Self], _: Join[Self]) -> None:
+    def do_chain(self, it: Chain, _: Join[Self]) -> None:
         """The segments of a packet come before those of the packet of the program."""
         p, q = self.register_of(it.packet), self.held[THIS]
         self.come_near()
@@ -51,7 +50,6 @@ class Packets(Checksums):
         self.held[THIS] = self.held.pop(it.packet)
         self.loaded, self.bits = {}, {}
         self.found = {}
-        self.jump(after)
 
     def come_near(self) -> None:
         """Removes the zeros after the packet, and the facts about headers at an offset in a register."""
@@ -116,7 +114,7 @@ class Packets(Checksums):
             s.remove(count, begin + count)
             s.jump(after)
 
-    def do_truncate(self, it: Truncate, after: Join[Self], _: Join[Self]) -> None:
+    def do_truncate(self, it: Truncate, _: Join[Self]) -> None:
         if it.packet == THIS:
             self.come_near()
             self.found = {}
@@ -127,16 +125,14 @@ class Packets(Checksums):
             short = self.emit("iflast", f"p{p}", it.count + (1 << k), to=Join())
             self.emit("trim", f"p{p}", 1 << k)
             self.unite([short])
-        self.jump(after)
 
-    def do_push(self, it: Push, after: Join[Self], _: Join[Self]) -> None:
+    def do_push(self, it: Push, _: Join[Self]) -> None:
         if before := self.unit.tag_follows(it):
             self.push_tag(it.headers[0], self.header_before(it.headers[0].header) or before[0])
         else:
             data, others = self.values(it.headers)
             others += self.sums(it.headers, data, others)
             self.write(data, others, 0, self.prepend(it.packet, len(data)))
-        self.jump(after)
 
     def push_tag(self, pushed: Pushed, before: str) -> None:
         """Inserts a tag between a header that was found and the bytes after it."""

@@ -6,8 +6,8 @@ from dataclasses import dataclass
 
 from .headers import Header, Headers, Span, check
 from .syntax import (
-    BIGGEST, PORT, THIS, And, Assign, Binary, Block, Chain, Clone, Compare, Cut, Drop, Field, Found, Free, If, Length, Let, Lookup, Name, Need, New,
-    Node, Not, Number, Numeric, Or, Path, Place, Pop, Push, Pushed, Send, SourceError, Truncate, While, goes_on, parts, require,
+    BIGGEST, PORT, THIS, And, Assign, Binary, Block, Chain, Clone, Compare, Cut, Drop, Field, Found, Free, If, Length, Let, Lookup, Mend, Name, Need,
+    New, Node, Not, Number, Numeric, Or, Path, Place, Pop, Push, Pushed, Send, SourceError, Truncate, While, goes_on, parts, require,
 )
 from .words import RESERVED, Words, require_word
 
@@ -343,7 +343,7 @@ class Reader(Words):
         require_word(sign.word in ASSIGNMENTS, sign, f"an assignment is wanted here, and this is {sign.word!r}")
         value = self.number()
         require(target != Name(at, PORT), at, "port is where the packet came from, and is not assigned to", "let x = port")
-        return Assign(at, target, value if sign.word == "=" else combined(sign.word[:-1], target, value), mends)
+        return (Mend if mends else Assign)(at, target, value if sign.word == "=" else combined(sign.word[:-1], target, value))
 
     def program(self) -> Program:
         """The whole text."""

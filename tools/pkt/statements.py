@@ -10,7 +10,7 @@ from .reader import Program
 from .registers import Value
 from .state import FAR, NEAR, NOTHING, SOMEBODY, Far, Needs, Packet
 from .syntax import (
-    BIGGEST, PORT, THIS, Assign, Block, Chain, Clone, Cut, Drop, Field, Found, If, Length, Let, Lookup, Name, Need, New, Node, Number, Pop, Push,
+    BIGGEST, PORT, THIS, Assign, Block, Chain, Clone, Cut, Drop, Field, Found, If, Length, Let, Lookup, Mend, Name, Need, New, Node, Number, Pop, Push,
     Send, Truncate, While, has, parts, require,
 )
 from .ways import Join, Unit, paths
@@ -92,9 +92,12 @@ class Statements(Packets):
             return getattr(self, do)(it, after)
         for s in paths(lambda found: self.touch(self.needed_by(it), found, missing)):
             s.unit.needs, failed = after.needs, Join[Self]()
-            getattr(s, do)(it, after, failed if isinstance(it, (Lookup, Clone, New)) else missing)
-            if isinstance(it, (Lookup, Clone, New)):
-                s.body(it.fallback, failed, after)
+            if isinstance(it, (Send, Drop, Mend, Pop, Cut)):
+                getattr(s, do)(it, after, missing)
+            else:
+                getattr(s, do)(it, failed)
+                s.jump(after)
+                s.body(getattr(it, "fallback", None), failed, after)
         for s in missing.begin():
             s.otherwise()
 
@@ -160,43 +163,36 @@ class Statements(Packets):
             if isinstance(part, Assign) and isinstance(part.target, Name) and part.target.name in self.variables:
                 self.bounds[self.variables[part.target.name]] = BIGGEST
 
-    def do_let(self, it: Let, after: Join[Self], _: Join[Self]) -> None:
+    def do_let(self, it: Let, _: Join[Self]) -> None:
         self.variables[it.name] = self.own(self.evaluate(it.value)).r
-        self.jump(after)
 
-    def do_lookup(self, it: Lookup, after: Join[Self], failed: Join[Self]) -> None:
+    def do_lookup(self, it: Lookup, no: Join[Self]) -> None:
         key = result = self.in_register(self.evaluate(it.key))
         if not key.own:
             self.release(key)
             result = self.fresh()
-        self.emit("lookup", result, it.table, key, to=failed)
+        self.emit("lookup", result, it.table, key, to=no)
         self.bounds[result.r] = 0xFFFFFF
         self.variables[it.name] = result.r
-        self.jump(after)
 
-    def do_assign(self, it: Assign, after: Join[Self], _: Join[Self]) -> None:
-        if it.mends:
-            return self.mend(it, after)
+    def do_assign(self, it: Assign, _: Join[Self]) -> None:
         if isinstance(it.target, Name):
             self.assign(it.target, it.value)
         else:
             self.store(self.span(it.target), self.evaluate(it.value))
-        self.jump(after)
 
-    def do_clone(self, it: Clone, after: Join[Self], failed: Join[Self]) -> None:
+    def do_clone(self, it: Clone, no: Join[Self]) -> None:
         p = self.free_register()
-        self.emit("clone", f"p{p}", f"p{self.held[THIS]}", it.pool, to=failed)
+        self.emit("clone", f"p{p}", f"p{self.held[THIS]}", it.pool, to=no)
         self.share(p, self.held[THIS])
         self.held[it.name], self.sharer = p, (it.name, it.at.line)
         if self.far != NEAR:
             self.emit("trim", f"p{p}", self.far.padding)
-        self.jump(after)
 
-    def do_new(self, it: New, after: Join[Self], failed: Join[Self]) -> None:
+    def do_new(self, it: New, no: Join[Self]) -> None:
         p = self.free_register()
-        self.emit("alloc", f"p{p}", it.pool, to=failed)
+        self.emit("alloc", f"p{p}", it.pool, to=no)
         self.held[it.name], self.packets[p] = p, Packet()
-        self.jump(after)
 
     def do_drop(self, it: Drop, after: Join[Self], _: Join[Self]) -> None:
         self.drop()

@@ -65,7 +65,8 @@ class Or(Node): left: Node; right: Node
 # Statements. `fallback` is the `else` part; a port that is an int is a ring; a pushed value that is None is `auto`.
 class Let(Node): name: str; value: Node
 class Lookup(Node): name: str; table: int; key: Node; fallback: Block | None
-class Assign(Node): target: Name | Field; value: Node; mends: bool
+class Assign(Node): target: Name | Field; value: Node
+class Mend(Node): target: Field; value: Node
 class If(Node): condition: Node; body: Block; fallback: Block
 class While(Node): condition: Node; body: Block
 class Need(Node): condition: Node; fallback: Block | None; body: Block = ()

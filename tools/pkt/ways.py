@@ -10,7 +10,7 @@ from .graph import Instruction
 from .headers import Headers
 from .reader import Program
 from .state import EVERYTHING, NOTHING, Needs, State
-from .syntax import THIS, Assign, Field, Found, Name, Node, Place, Pop, Push, parts, require
+from .syntax import THIS, Field, Found, Mend, Name, Node, Place, Pop, Push, parts, require
 
 MAX_BLOCKS = 20_000
 
@@ -51,7 +51,7 @@ class Unit:
                 return path
             case Push():
                 return self.tag_follows(it)
-            case Assign(_, Field() as target, _, True):
+            case Mend(_, target):
                 return self.headers.covering(target)
         return []
 
