@@ -18,12 +18,12 @@ sys.path.insert(0, str(TOP / "tools"))
 from model import programs, rules  # noqa: E402
 from model.machine import Env, Input, Pool, Port, Ring, World, run  # noqa: E402
 from pkt.compiler import compile_text, error_text, parse  # noqa: E402
-from pkt.graph import Graph, Instruction  # noqa: E402
+from pkt.layout import Graph, Instruction  # noqa: E402
 from pkt.headers import Headers, Span  # noqa: E402
-from pkt.reader import Reader  # noqa: E402
+from pkt.parser import Parser  # noqa: E402
 from pkt.state import SOMEBODY, SOMEBODY_THE_REST, Packet, State  # noqa: E402
 from pkt.syntax import Compare, Field, Number, SourceError  # noqa: E402
-from pkt.words import words_of  # noqa: E402
+from pkt.lexer import words_of  # noqa: E402
 
 ROUTES = {(0x0A000000, 8): 1, (0xC0000200, 24): 0}
 ENV = Env([Pool(64, 0, 2176), Pool(64, 0, 0)], [ROUTES], [Ring(32, (0, 0, 0, 0, 0, 64))], [Port(0, 1, 32), Port(0, 1, 32), Port(0, 1, 32)])
@@ -102,12 +102,12 @@ class Words(unittest.TestCase):
         self.assertEqual([it[1] for it in found[7:]], ["02:00:00:00:00:0a", "10.0.0.1", "/", "8", "the end of the text"])
 
     def test_signs_bind_as_the_page_says(self) -> None:
-        reader = Reader("1 | 2 ^ 3 & 4 << 1 + 2 * 3", Headers())
-        self.assertEqual(reader.constant(), 1 | (2 ^ (3 & (4 << (1 + 2 * 3)))))
+        parser = Parser("1 | 2 ^ 3 & 4 << 1 + 2 * 3", Headers())
+        self.assertEqual(parser.constant(), 1 | (2 ^ (3 & (4 << (1 + 2 * 3)))))
 
     def test_constants_wrap_at_64_bits(self) -> None:
-        self.assertEqual(Reader("0 - 1", Headers()).constant(), (1 << 64) - 1)
-        self.assertEqual(Reader("~0 >> 60", Headers()).constant(), 15)
+        self.assertEqual(Parser("0 - 1", Headers()).constant(), (1 << 64) - 1)
+        self.assertEqual(Parser("~0 >> 60", Headers()).constant(), 15)
 
     def test_a_prefix_and_a_range(self) -> None:
         (need,) = parse("need ipv4.dst in 192.0.2.0/24").statements

@@ -3,15 +3,14 @@
 The compiler is not trusted: `dpv` infers a certificate for its output and checks it like any other node program. A mistake here can change
 the meaning of a program, but cannot make it read or write outside a packet.
 
-A text is read, and each name resolved (syntax.py has the parts of a text):
-    words.py -> numbers.py -> reader.py; headers.py has headers and their fields, prelude.pkt the known ones
+lexer.py and parser.py read a text; syntax.py has its parts, headers.py the headers and their fields, prelude.pkt those that are known.
 A path through the program appends instructions and keeps the facts known at its end. Each of these classes adds to the one before it:
     state.py       the facts at one place: packets, headers, bytes, registers
-    ways.py        appending instructions, and joining paths; needs.py finds the facts that a join has to keep
-    registers.py   numbers: their registers, loads, stores, arithmetic
+    ways.py        appending instructions, joining paths, and the facts that a join has to keep
+    registers.py   the allocation of registers; loads, stores, arithmetic
     conditions.py  comparisons, and the search for headers
     checksums.py   `mend`, and checksums of pushed headers
     packets.py     changes of packets: push, pop, cut, truncate, chain, free
     statements.py  assignments, branches, loops, and packets that are made or sent
-graph.py optimizes, orders and writes the instructions.
+layout.py optimizes and orders the instructions, writer.py writes them.
 """

@@ -5,11 +5,11 @@ import pathlib
 import sys
 from functools import lru_cache
 
-from .graph import printable
 from .headers import Headers
-from .reader import Program, Reader
+from .parser import Parser, Program
 from .statements import compile_program
 from .syntax import SourceError
+from .writer import printable, write
 
 PRELUDE = pathlib.Path(__file__).resolve().parent / "prelude.pkt"
 # Nested statements are nested calls; a text may have some thousands of them.
@@ -19,18 +19,20 @@ MAX_DEPTH = 60_000
 @lru_cache
 def known_headers() -> Headers:
     """The predeclared headers."""
-    return Reader(PRELUDE.read_text(encoding="utf-8"), Headers()).program().headers
+    return Parser(PRELUDE.read_text(encoding="utf-8"), Headers()).program().headers
 
 
 def parse(source: str) -> Program:
     """Parses a text."""
-    return Reader(source, Headers(known_headers())).program()
+    return Parser(source, Headers(known_headers())).program()
 
 
 def compile_text(source: str, name: str = "a text") -> str:
     """The node program of a text; raises SourceError."""
     sys.setrecursionlimit(MAX_DEPTH)
-    return f"# Built from {printable(name)} by `dpv build`; docs/users/pkt.md has its language.\n" + compile_program(parse(source)).write(source)
+    graph = compile_program(parse(source))
+    graph.shorten()
+    return f"# Built from {printable(name)} by `dpv build`; docs/users/pkt.md has its language.\n" + write(graph, source)
 
 
 def error_text(error: SourceError, name: str, source: str) -> str:

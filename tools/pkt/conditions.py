@@ -7,7 +7,7 @@ from itertools import pairwise
 from typing import Self
 
 from .headers import Header, Span
-from .reader import substituted
+from .parser import COMPARISONS, substituted
 from .registers import Registers, Value
 from .state import FAR, NEAR, SOMEBODY_THE_REST, Far
 from .syntax import THIS, And, Bits, Compare, Field, Found, Length, Node, Not, Number, Or, parts, require
@@ -42,6 +42,8 @@ class Conditions(Registers):
     def compare(self, it: Compare, yes: Join[Self], no: Join[Self]) -> None:
         """A comparison whose headers were found."""
         sign, left, right = it.sign, it.left, it.right
+        if isinstance(left, Number):
+            left, right, sign = right, left, COMPARISONS[sign]
         if sign in CONTRARY:
             yes, no, sign = no, yes, CONTRARY[sign]
         match left, right:

@@ -83,22 +83,16 @@ class Packets(Checksums):
             self.overwrite(Span(8 * (target + at), 8 * width))
             self.release(value)
 
-    def remove(self, count: int, start: int) -> None:
-        """Removes bytes from the front of the packet, of which those from start on keep their facts."""
-        if count:
-            self.emit("adj", f"p{self.held[THIS]}", count)
-        self.move(-count, start)
-        self.found = {}
-
     def do_cut(self, it: Cut, after: Join[Self], missing: Join[Self]) -> None:
-        p = self.register_of(it.packet)
-        if it.packet == THIS:
+        p, is_this = self.register_of(it.packet), it.packet == THIS
+        if is_this:
             self.come_near()
-            self.has_bytes(it.count, missing)
-            self.remove(it.count, it.count)
-        else:
-            self.has_bytes(it.count, after, it.packet)
+        self.has_bytes(it.count, missing if is_this else after, it.packet)
+        if it.count:
             self.emit("adj", f"p{p}", it.count)
+        if is_this:
+            self.move(-it.count, it.count)
+            self.found = {}
         self.jump(after)
 
     def do_pop(self, it: Pop, after: Join[Self], missing: Join[Self]) -> None:
@@ -111,7 +105,9 @@ class Packets(Checksums):
             if last.next and begin:
                 begin -= last.fields[last.next].bits // 8
             s.move_bytes(begin, 0, count)
-            s.remove(count, begin + count)
+            s.emit("adj", f"p{s.held[THIS]}", count)
+            s.move(-count, begin + count)
+            s.found = {}
             s.jump(after)
 
     def do_truncate(self, it: Truncate, _: Join[Self]) -> None:

@@ -93,9 +93,9 @@ class State:
         """Sets the facts about a packet."""
         self.packets[register] = replace(self.packets[register], **news)  # type: ignore[arg-type]
 
-    def used(self) -> set[int | None]:
+    def used(self) -> set[int]:
         """The registers in use: by variables, operands and offsets."""
-        return {*self.variables.values(), *(+self.pins), self.far.register}
+        return {r for r in (*self.variables.values(), *(+self.pins), self.far.register) if r is not None}
 
     def forget(self, needs: Needs) -> None:
         """Keeps only the needed facts."""

@@ -4,9 +4,9 @@ from __future__ import annotations
 from dataclasses import replace
 from typing import Self
 
-from .graph import Graph, Instruction
+from .layout import Graph, Instruction
 from .packets import Packets
-from .reader import Program
+from .parser import Program
 from .registers import Value
 from .state import FAR, NEAR, NOTHING, SOMEBODY, Far, Needs, Packet
 from .syntax import (

@@ -6,9 +6,9 @@ from collections.abc import Callable, Iterable, Iterator, Set
 from dataclasses import dataclass, field
 from typing import Any, Generic, Self, TypeVar
 
-from .graph import Instruction
+from .layout import Instruction
 from .headers import Headers
-from .reader import Program
+from .parser import Program
 from .state import EVERYTHING, NOTHING, Needs, State
 from .syntax import THIS, Field, Found, Mend, Name, Node, Place, Pop, Push, parts, require
 

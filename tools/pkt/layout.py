@@ -1,19 +1,16 @@
-"""The layout and the writer: the program as a graph of instructions, which is optimized, ordered and written."""
+"""The program as a graph of instructions, which is optimized and laid out."""
 from __future__ import annotations
 
-from collections.abc import Iterator
 from dataclasses import dataclass
 
 from .state import Packet
-from .syntax import Place, require
 
-MAX_INSTRUCTIONS, WIDTH, ENDLESS = 1_024, 96, 1 << 64
+ENDLESS = 1 << 64
 TESTS = {"jeq", "jlt", "iflen", "iflast", "ifhead", "iftail"}
 # Instructions that overwrite their first operand without reading it, that write it at all, and that change no packet.
 SETS = {"load", "loadx", "set", "mov", "lookup"}
 WRITES = {*SETS, "add", "sub", "and", "or", "xor", "shl", "shr"}
 HARMLESS = {*WRITES, *TESTS}
-ENDS = {"exit", "jmp"}
 
 
 @dataclass(eq=False)
@@ -136,38 +133,6 @@ class Graph:
                     known[other] = {p: fact.joined(packets.get(p, Packet())) for p, fact in before.items()}
         return changed
 
-    def lines(self) -> Iterator[tuple[str, int | None]]:
-        """The instructions, each with its line, and labels. An instruction is followed by its successor, a jump to it, or a copy of it."""
-        order = self.order()
-        targets = {it.target for it in order}
-        order = [it for it in order if it.word not in ENDS or it in targets]
-        jumps = {it: it.next for it, following in zip(order, [*order[1:], None]) if it.next and it.next is not following}
-        targets |= {it for it in jumps.values() if it.word not in ENDS}
-        names = {it: f"L{number}" for number, it in enumerate((it for it in order if it in targets), 1)}
-        for it in order:
-            if it in names:
-                yield f"{names[it]}:", None
-            yield it.text(names), it.line
-            if to := jumps.get(it):
-                yield to.text(names) if to.word in ENDS else f"jmp {names[to]}", to.line if to.word == "jmp" else it.left or it.line
-
-    def write(self, source: str) -> str:
-        """The node program; each instruction has its source line as a comment."""
-        self.shorten()
-        rows, shown, lines = ["what is held is dropped", *source.split("\n")], list[str](), list[int]()
-        for text, line in self.lines():
-            if line is None:
-                shown.append(text)
-                continue
-            note = f"{line}: {' '.join(rows[line].split())[:WIDTH]}" if line else rows[0]
-            shown.append(f"        {text:<32}# {printable(note)}")
-            lines.append(line)
-        line = max(sorted({*lines} - {0}), key=lines.count, default=0)
-        require(len(lines) <= MAX_INSTRUCTIONS, Place(line, 1, ""),
-                f"the program has {len(lines)} instructions, and {MAX_INSTRUCTIONS:,} are possible; this line takes {lines.count(line)}",
-                "`need ipv4.ihl == 5` before it where packets with options may be dropped; find out once, and use variables")
-        return "\n".join(shown) + "\n"
-
 
 def sure_to_come(order: list[Instruction], packet: int, end: Instruction, read: set[str]) -> dict[Instruction, int]:
     """For each instruction, the last one first, a length: all paths from there on lead shorter packets to the end, and change nothing read there."""
@@ -182,8 +147,3 @@ def sure_to_come(order: list[Instruction], packet: int, end: Instruction, read: 
             found = min(there, after)
         shorter.setdefault(it, found)
     return shorter
-
-
-def printable(text: str) -> str:
-    """A text, restricted to the bytes that a comment may have."""
-    return "".join(it if " " <= it <= "~" else "?" for it in text)

@@ -43,7 +43,7 @@ def require_word(holds: object, at: Place, message: str) -> None:
     require(holds, at, message, CURES.get(at.word, ""))
 
 
-class Words:
+class Lexer:
     """Reads the words of one text; headers may be declared already."""
 
     def __init__(self, text: str, headers: Headers) -> None:

@@ -9,7 +9,7 @@ from .syntax import (
     BIGGEST, PORT, THIS, And, Assign, Binary, Block, Chain, Clone, Compare, Cut, Drop, Field, Found, Free, If, Length, Let, Lookup, Mend, Name, Need,
     New, Node, Not, Number, Numeric, Or, Path, Place, Pop, Push, Pushed, Send, SourceError, Truncate, While, goes_on, parts, require,
 )
-from .words import RESERVED, Words, require_word
+from .lexer import RESERVED, Lexer, require_word
 
 OPERATORS = {
     "+": operator.add, "-": operator.sub, "*": operator.mul, "<<": operator.lshift, ">>": operator.rshift,
@@ -21,7 +21,7 @@ ASSIGNMENTS = ("=", *(f"{sign}=" for sign in OPERATORS))
 LEVELS = (("or",), ("and",), (*COMPARISONS, "in"), ("|",), ("^",), ("&",), ("<<", ">>"), ("+", "-"), ("*",))
 NOT, NUMBERS = 2, 3
 LIMITS = {"table": 3, "ring": 7, "pool": 7, "count": 65_535, "length": 4_096, "number of ports": 8, "number of segments": 64, "headroom": 65_535}
-# The syntax after the first word of a statement: methods of the reader, words, and constants within limits.
+# The syntax after the first word of a statement: methods of the parser, words, and constants within limits.
 STATEMENTS: dict[str, tuple[type[Node], str]] = {
     "let": (Let, ""), "if": (If, "condition block other_block"), "while": (While, "condition block"), "need": (Need, "condition fallback"),
     "drop": (Drop, ""), "send": (Send, "packet_to number fallback"), "queue": (Send, "packet_to ring fallback"),
@@ -67,8 +67,8 @@ def as_condition(node: Node) -> Node:
 
 
 def compared(sign: str, left: Node, right: Node) -> Node:
-    """A comparison; the length is on its left, a constant on its right."""
-    if isinstance(right, Length) or isinstance(left, Number):
+    """A comparison; the length is on its left."""
+    if isinstance(right, Length):
         left, right, sign = right, left, COMPARISONS[sign]
     if isinstance(left, Length) and not isinstance(right, Number):
         as_number(left)
@@ -110,7 +110,7 @@ def constant_of(node: Node) -> int:
     return node.value
 
 
-class Reader(Words):
+class Parser(Lexer):
     """Reads a text. `names` has the meaning of each name, `unknown` the names that are not numbers."""
 
     def __init__(self, text: str, headers: Headers) -> None:

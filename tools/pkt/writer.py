@@ -1,0 +1,48 @@
+"""Writes the instructions of a program, each with its source line as a comment."""
+from __future__ import annotations
+
+from collections.abc import Iterator
+
+from .layout import Graph
+from .syntax import Place, require
+
+MAX_INSTRUCTIONS, WIDTH = 1_024, 96
+ENDS = {"exit", "jmp"}
+
+
+def lines(graph: Graph) -> Iterator[tuple[str, int | None]]:
+    """The instructions, each with its line, and labels. An instruction is followed by its successor, a jump to it, or a copy of it."""
+    order = graph.order()
+    targets = {it.target for it in order}
+    order = [it for it in order if it.word not in ENDS or it in targets]
+    jumps = {it: it.next for it, following in zip(order, [*order[1:], None]) if it.next and it.next is not following}
+    targets |= {it for it in jumps.values() if it.word not in ENDS}
+    names = {it: f"L{number}" for number, it in enumerate((it for it in order if it in targets), 1)}
+    for it in order:
+        if it in names:
+            yield f"{names[it]}:", None
+        yield it.text(names), it.line
+        if to := jumps.get(it):
+            yield to.text(names) if to.word in ENDS else f"jmp {names[to]}", to.line if to.word == "jmp" else it.left or it.line
+
+
+def write(graph: Graph, source: str) -> str:
+    """The text of a program."""
+    rows, shown, used = ["what is held is dropped", *source.split("\n")], list[str](), list[int]()
+    for text, line in lines(graph):
+        if line is None:
+            shown.append(text)
+            continue
+        note = f"{line}: {' '.join(rows[line].split())[:WIDTH]}" if line else rows[0]
+        shown.append(f"        {text:<32}# {printable(note)}")
+        used.append(line)
+    line = max(sorted({*used} - {0}), key=used.count, default=0)
+    require(len(used) <= MAX_INSTRUCTIONS, Place(line, 1, ""),
+            f"the program has {len(used)} instructions, and {MAX_INSTRUCTIONS:,} are possible; this line takes {used.count(line)}",
+            "`need ipv4.ihl == 5` before it where packets with options may be dropped; find out once, and use variables")
+    return "\n".join(shown) + "\n"
+
+
+def printable(text: str) -> str:
+    """A text, restricted to the bytes that a comment may have."""
+    return "".join(it if " " <= it <= "~" else "?" for it in text)
