@@ -177,6 +177,9 @@ class Errors(unittest.TestCase):
             "drop;": "help: no sign ends a statement",
             "if tcp {\n  drop": "x.pkt:2:7: no statement begins with 'the end of the text'",
             "accept": "help: statements begin with let, if, while",
+            "send (1 == 1) + 1": "x.pkt:1:7: a condition stands where a number is wanted",
+            "header o { k:32 } length v * 4 for v:8 in 1..9\nheader p { x:32 } after o if o.k == 3\nneed tcp.dport == 1 and p.x == 3":
+                "x.pkt:3:1: p is after two headers whose lengths vary",
         }
         for source, text in wanted.items():
             with self.subTest(source):
@@ -245,6 +248,9 @@ class Layout(unittest.TestCase):
         self.assertEqual(text.count("iflen"), 2)
         self.assertEqual(compile_text("need ipv4.ttl > 1\nsend port").count("iflen"), 1)
         self.assertIn("iflen p0,34", compile_text("need ipv4.ttl > 1\nsend port"))
+
+    def test_what_changes_nothing_takes_no_instruction(self) -> None:
+        self.assertEqual(count("new h from 0\ncut h 0\ncut 0\ntruncate h 4096\nsend port"), count("new h from 0\nsend port"))
 
     def test_neighbouring_constants_are_written_together(self) -> None:
         text = compile_text("eth.dst = 1\neth.src = 2\nsend port")

@@ -1,6 +1,4 @@
 """Lowering of Internet checksums: those that `mend` updates, and those of pushed headers."""
-from __future__ import annotations
-
 from typing import Self
 
 from .conditions import Conditions

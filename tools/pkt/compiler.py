@@ -1,6 +1,4 @@
 """Compiles a text to a node program."""
-from __future__ import annotations
-
 import pathlib
 import sys
 from functools import lru_cache

@@ -1,6 +1,4 @@
 """Comparisons, and the search for headers."""
-from __future__ import annotations
-
 from collections.abc import Iterable, Iterator
 from dataclasses import replace
 from itertools import pairwise
@@ -49,8 +47,11 @@ class Conditions(Registers):
         match left, right:
             case Number(_, a), Number(_, b):
                 self.jump(yes if {"==": a == b, "<": a < b, "<=": a <= b}[sign] else no)
+            case Length(), Number(_, value) if value + (sign == "<=") + self.far.padding > 65_535:
+                self.jump(yes)
             case Length(), Number(_, value):
-                self.compare_length(value + (sign == "<="), yes, no)
+                self.has_bytes(value + (sign == "<="), yes)
+                self.jump(no)
             case _, Number(_, value):
                 self.compare_constant(sign, left, value, yes, no)
             case _ if sign == "==":
@@ -61,13 +62,6 @@ class Conditions(Registers):
                 self.compare_less(left, right, yes, no)
             case _:
                 self.compare_less(right, left, no, yes)
-
-    def compare_length(self, count: int, yes: Join[Self], no: Join[Self]) -> None:
-        """Whether the first segment has fewer bytes."""
-        if count + self.far.padding > 65_535:
-            return self.jump(yes)
-        self.has_bytes(count, yes)
-        self.jump(no)
 
     def compare_constant(self, sign: str, left: Node, value: int, yes: Join[Self], no: Join[Self]) -> None:
         """A number and a constant: ==, < or <=."""

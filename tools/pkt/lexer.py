@@ -1,6 +1,4 @@
 """The lexer: the words of a text, and reading them one after another."""
-from __future__ import annotations
-
 import re
 
 from .headers import Headers

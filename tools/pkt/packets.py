@@ -1,11 +1,9 @@
 """Lowering of changes of packets: freeing, chaining, and changing their length."""
-from __future__ import annotations
-
 from itertools import combinations
 from typing import Self
 
 from .checksums import Checksums, Others
-from .headers import Header, Span, asked_of
+from .headers import Span, asked_of
 from .registers import Value
 from .state import FAR, NEAR, SOMEBODY, SOMEBODY_THE_REST
 from .syntax import THIS, Chain, Cut, Free, Node, Number, Pop, Push, Pushed, Truncate, require
@@ -150,7 +148,9 @@ class Packets(Checksums):
         size = left // 8
         for it, inner in zip(pushed, (*pushed[1:], pushed[-1])):
             header, named, at = self.headers[it.header], dict(it.values), size - left // 8
-            refuse_overlap(it, header)
+            for (other, _), (name, _) in sorted(combinations(it.values, 2), key=lambda pair: [*named].index(pair[1][0])):
+                is_apart = not header.fields[name].meets(header.fields[other])
+                require(is_apart, it.at, f"{header.name}.{name} and {header.name}.{other} have bits in common", "name one of them")
             asked = header.defaults | asked_of(self.headers[inner.header].follows.get(it.header, it))
             for name in [*(it for it in header.fields if it not in named), *named]:
                 span, value = header.fields[name], named.get(name, Number(it.at, asked.get(name) or 0))
@@ -177,10 +177,3 @@ class Packets(Checksums):
             place = span.moved(front)
             self.store(place, value, packet, known)
             known = {k: byte for k, byte in known.items() if k not in place.bytes}
-
-
-def refuse_overlap(it: Pushed, header: Header) -> None:
-    """Refuses two named fields of a pushed header with bits in common."""
-    for (other, _), (name, _) in sorted(combinations(it.values, 2), key=lambda pair: it.values.index(pair[1])):
-        is_apart = not header.fields[name].meets(header.fields[other])
-        require(is_apart, it.at, f"{header.name}.{name} and {header.name}.{other} have bits in common", "name one of them")

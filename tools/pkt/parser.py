@@ -1,6 +1,4 @@
 """The parser: reads a text by the grammar of docs/users/pkt.md, and resolves each name."""
-from __future__ import annotations
-
 import operator
 from dataclasses import dataclass
 
@@ -29,8 +27,6 @@ STATEMENTS: dict[str, tuple[type[Node], str]] = {
     "chain": (Chain, "packet_held 'before 'this"), "push": (Push, "pushed packet_on"), "pop": (Pop, "path"),
     "cut": (Cut, "packet_first count"), "truncate": (Truncate, "packet_first length"),
 }  # fmt: skip
-# What the statements make that declare a name.
-MAKES: dict[type[Node], str] = {Let: "a variable", Lookup: "a variable", Clone: "a packet", New: "a packet"}
 
 
 @dataclass
@@ -294,7 +290,7 @@ class Parser(Lexer):
         if isinstance(it, (Lookup, Need, Clone, New)) and it.fallback is not None:
             require(not goes_on(it.fallback), at, "what is after this `else` has to end the program", "end it with drop or send")
         if isinstance(it, (Let, Lookup, Clone, New)):
-            self.declare(at, it.name, MAKES[type(it)])
+            self.declare(at, it.name, "a variable" if isinstance(it, (Let, Lookup)) else "a packet")
         return it
 
     def slots(self, slots: str) -> list[object]:

@@ -1,6 +1,4 @@
 """Register allocation, and the lowering of numbers: loads, stores and arithmetic."""
-from __future__ import annotations
-
 from dataclasses import dataclass
 
 from .headers import Span

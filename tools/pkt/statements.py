@@ -1,6 +1,4 @@
 """Lowering of statements: assignments, branches, loops, and packets that are made or sent."""
-from __future__ import annotations
-
 from dataclasses import replace
 from typing import Self
 

@@ -1,6 +1,4 @@
 """The parts of a text. Each knows its place in the text, which is ignored when two parts are compared."""
-from __future__ import annotations
-
 from collections.abc import Iterator
 from dataclasses import dataclass, field, fields
 from typing import Any, NamedTuple, dataclass_transform

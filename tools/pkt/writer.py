@@ -1,6 +1,4 @@
 """Writes the instructions of a program, each with its source line as a comment."""
-from __future__ import annotations
-
 from collections.abc import Iterator
 
 from .layout import Graph
