@@ -4,6 +4,7 @@ compiled programs send. The checker and the machine are those of tests/model.
 
 Usage: tests/pkt_test.py   (needs no program; some seconds)
 """
+import operator
 import pathlib
 import re
 import struct
@@ -18,12 +19,12 @@ sys.path.insert(0, str(TOP / "tools"))
 from model import programs, rules  # noqa: E402
 from model.machine import Env, Input, Pool, Port, Ring, World, run  # noqa: E402
 from pkt.compiler import compile_text, error_text, parse  # noqa: E402
-from pkt.layout import Graph, Instruction  # noqa: E402
 from pkt.headers import Headers, Span  # noqa: E402
+from pkt.layout import Graph, Instruction  # noqa: E402
+from pkt.lexer import words_of  # noqa: E402
 from pkt.parser import Parser  # noqa: E402
 from pkt.state import SOMEBODY, SOMEBODY_THE_REST, Packet, State  # noqa: E402
 from pkt.syntax import Compare, Field, Number, SourceError  # noqa: E402
-from pkt.lexer import words_of  # noqa: E402
 
 ROUTES = {(0x0A000000, 8): 1, (0xC0000200, 24): 0}
 ENV = Env([Pool(64, 0, 2176), Pool(64, 0, 0)], [ROUTES], [Ring(32, (0, 0, 0, 0, 0, 64))], [Port(0, 1, 32), Port(0, 1, 32), Port(0, 1, 32)])
@@ -172,7 +173,8 @@ class Errors(unittest.TestCase):
             "ports 2 clone c from 1 if port { free c } send c to 1": "x.pkt:1:43: c may be gone here",
             "need x ==": "x.pkt:1:10: a number or a condition is wanted here, and this is 'the end of the text'",
             "x = 1 ?": "x.pkt:1:7: no word begins with '?'",
-            "if tcp.dport = 5 { drop }": "x.pkt:1:14: '{' is wanted here, and this is '='\n    if tcp.dport = 5 { drop }\n                 ^\n  help: compare with ==",
+            "if tcp.dport = 5 { drop }":
+                "x.pkt:1:14: '{' is wanted here, and this is '='\n    if tcp.dport = 5 { drop }\n                 ^\n  help: compare with ==",
             "if ipv4.src == 10.0.0.0/8 { drop }": "help: a prefix stands after `in`",
             "drop;": "help: no sign ends a statement",
             "if tcp {\n  drop": "x.pkt:2:7: no statement begins with 'the end of the text'",
@@ -229,7 +231,8 @@ class Knowledge(unittest.TestCase):
 class Layout(unittest.TestCase):
     def test_equal_ends_are_one(self) -> None:
         ends = [Instruction("set", ("r1", "5"), 1, next=Instruction("free", ("p0",), 1, next=Instruction("exit"))) for _ in range(2)]
-        graph = Graph(Instruction(next=Instruction("jeq", ("r0", "1"), 1, target=ends[0], next=Instruction("jeq", ("r0", "2"), 1, target=ends[0], next=ends[1]))))
+        second = Instruction("jeq", ("r0", "2"), 1, target=ends[0], next=ends[1])
+        graph = Graph(Instruction(next=Instruction("jeq", ("r0", "1"), 1, target=ends[0], next=second)))
         graph.shorten()
         self.assertEqual([it.word for it in graph.order()], ["set", "free", "exit"])
 
@@ -260,7 +263,8 @@ class Layout(unittest.TestCase):
     def test_each_instruction_has_its_line(self) -> None:
         lines = compile_text("# a comment\nneed ipv4.ttl > 1 # expired\nsend port").splitlines()
         self.assertTrue(lines[0].startswith("# Built from"))
-        self.assertTrue(all("# 2: need ipv4.ttl > 1 # expired" in it or "# 3: send port" in it or "# what is held is dropped" in it for it in lines[1:] if ":" != it[-1]))
+        notes = ("# 2: need ipv4.ttl > 1 # expired", "# 3: send port", "# what is held is dropped")
+        self.assertTrue(all(any(note in it for note in notes) for it in lines[1:] if ":" != it[-1]))
 
 
 class Programs(unittest.TestCase):
@@ -358,7 +362,7 @@ send port"""
     def test_comparisons_of_64_bits(self) -> None:
         source = "let a = 0 - eth.dst\nlet b = 0 - eth.src\nif a {sign} b {{ eth.type = 1 }} else {{ eth.type = 0 }}\nsend port"
         values = [(1, 1), (1, 2), (2, 1), (0, 1), (1, 0), (0, 0)]
-        for sign, holds in {"<": lambda a, b: a < b, "<=": lambda a, b: a <= b, ">": lambda a, b: a > b, ">=": lambda a, b: a >= b, "!=": lambda a, b: a != b}.items():
+        for sign, holds in {"<": operator.lt, "<=": operator.le, ">": operator.gt, ">=": operator.ge, "!=": operator.ne}.items():
             frames = [a.to_bytes(6, "big") + b.to_bytes(6, "big") + b"\0\0" for a, b in values]
             wanted = [int(holds(-a % (1 << 64), -b % (1 << 64))) for a, b in values]
             self.assertEqual([it[13] for it in sent(source.format(sign=sign), *frames)[0]], wanted, sign)

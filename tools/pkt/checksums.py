@@ -34,18 +34,18 @@ class Checksums(Conditions):
 
     def outer(self, name: str) -> list[str]:
         """The headers before a header whose checksums cover what follows them."""
-        found, begin = [], self.place(name)
+        found, begin = [], self.found[name]
         while before := self.header_before(name):
             name = before
             if self.headers[name].payload:
                 found.append(name)
-                is_even = (begin - self.place(name)) % 2 == 0
+                is_even = (begin - self.found[name]) % 2 == 0
                 require(is_even, self.at, f"the words of the checksum of {name} begin at other bytes", "`mend` needs a header at an even place")
         return found
 
     def words_of(self, it: Field, span: Span) -> Span:
         """The 16-bit words of its header that a field has bits in."""
-        base = 8 * self.place(it.header)
+        base = 8 * self.found[it.header]
         first, end = (span.bit - base) // 16 * 16, (span.end - base + 15) // 16 * 16
         words = Span(base + first, end - first)
         is_whole = (words.bits == 16 or words == span) and end <= 8 * self.headers[it.header].size
@@ -89,7 +89,7 @@ class Checksums(Conditions):
     def update(self, name: str, done: Join[Self]) -> None:
         """Updates a checksum by the difference."""
         header = self.headers[name]
-        span = header.fields[header.sum].moved(self.place(name))
+        span = header.fields[header.sum].moved(self.found[name])
         total = self.load(span)
         if header.optional:
             self.emit("jeq", total, 0, to=done)

@@ -7,7 +7,7 @@ from typing import Self
 from .headers import Header, Span
 from .parser import COMPARISONS, substituted
 from .registers import Registers, Value
-from .state import FAR, NEAR, SOMEBODY_THE_REST, Far
+from .state import ABSENT, FAR, NEAR, SOMEBODY_THE_REST, Far
 from .syntax import THIS, And, Bits, Compare, Field, Found, Length, Node, Not, Number, Or, parts, require
 from .ways import Join, paths
 
@@ -120,7 +120,7 @@ class Conditions(Registers):
 
     def touch(self, names: Iterable[str], yes: Join[Self], no: Join[Self]) -> None:
         """Looks for headers one after another, until one is absent."""
-        left = [name for name in names if self.found.get(name) is None]
+        left = [name for name in names if self.found.get(name, ABSENT) == ABSENT]
         if not left:
             return self.jump(yes)
         for s in paths(lambda found: self.look_for(left[0], found, no)):
@@ -129,13 +129,13 @@ class Conditions(Registers):
     def look_for(self, name: str, yes: Join[Self], no: Join[Self]) -> None:
         """Looks for one header: a path for each place where it can be."""
         if name in self.found:
-            return self.jump(no if self.found[name] is None else yes)
+            return self.jump(no if self.found[name] == ABSENT else yes)
         missing = Join[Self]()
         for s in paths(lambda found: self.search(self.headers[name], found, missing)):
-            s.found = {it: at for it, at in s.found.items() if at is not None or it not in self.headers.after(name)}
+            s.found = {it: at for it, at in s.found.items() if at != ABSENT or it not in self.headers.after(name)}
             s.jump(yes)
         for s in missing.begin():
-            s.found[name] = None
+            s.found[name] = ABSENT
             s.jump(no)
 
     def search(self, header: Header, found: Join[Self], missing: Join[Self]) -> None:
@@ -150,7 +150,8 @@ class Conditions(Registers):
 
     def header_before(self, name: str) -> str | None:
         """The header that a header follows: among those that were found, the one that begins last."""
-        return max((it for it in self.headers[name].follows if self.found.get(it) is not None), key=self.place, default=None)
+        last = max(self.headers[name].follows, key=lambda it: self.found.get(it, ABSENT), default="")
+        return last if self.found.get(last, ABSENT) != ABSENT else None
 
     def at_place(self, header: Header, at: int, found: Join[Self], missing: Join[Self]) -> None:
         """Looks for a header at a constant place, where all its bytes have to be."""
@@ -160,7 +161,7 @@ class Conditions(Registers):
 
     def after(self, header: Header, before: Header, found: Join[Self], missing: Join[Self]) -> None:
         """Looks for a header after one that was found and has a variable length."""
-        base = self.place(before.name)
+        base = self.found[before.name]
         if not before.bits:
             return self.at_place(header, base + before.size, found, missing)
         is_one = base < FAR // 2 and (self.far == NEAR or self.far.base == base)
@@ -182,7 +183,7 @@ class Conditions(Registers):
 
     def first_bits(self, header: Header) -> Span:
         """The bits that give the length of a header that was found."""
-        return Span(8 * self.place(header.name), header.bits)
+        return Span(8 * self.found[header.name], header.bits)
 
     def each_length(self, header: Header, missing: Join[Self]) -> Iterator[tuple[Self, int]]:
         """A path for each length that a header can have. Ends this path."""
@@ -211,7 +212,7 @@ class Conditions(Registers):
 
     def at_register(self, header: Header, before: Header, left: dict[int, int], found: Join[Self], missing: Join[Self]) -> None:
         """Looks for a header at its usual place; for all other lengths of the one before it, tested in order, at an offset in a register."""
-        base, span, ready = self.place(before.name), self.first_bits(before), Join[Self]()
+        base, span, ready = self.found[before.name], self.first_bits(before), Join[Self]()
         if self.far.lengths:
             left = {value: before.sizes[value] for value in self.far.lengths}
         else:
@@ -235,7 +236,7 @@ class Conditions(Registers):
 
     def go_far(self, before: Header, left: dict[int, int]) -> Far:
         """Appends zeros, so that the register's greatest value is within the packet, and computes the register."""
-        p, base, padding = self.held[THIS], self.place(before.name), max(before.sizes.values()) - min(left.values())
+        p, base, padding = self.held[THIS], self.found[before.name], max(before.sizes.values()) - min(left.values())
         assert before.formula is not None
         self.emit("iftail", f"p{p}", padding, to=Join()).drop()
         self.emit("append", f"p{p}", padding)

@@ -2,7 +2,7 @@
 import re
 
 from .headers import Headers
-from .syntax import Path, Place, SourceError, require
+from .syntax import Path, Place, require
 
 WORD = re.compile(
     r"(?P<blank>[ \t\r]+|\#[^\n]*)|(?P<line>\n)|(?P<ethernet>[0-9a-fA-F]{2}(?::[0-9a-fA-F]{2}){5}(?![0-9a-fA-F:]))"

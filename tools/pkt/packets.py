@@ -54,7 +54,7 @@ class Packets(Checksums):
         if self.far != NEAR:
             self.emit("trim", f"p{self.held[THIS]}", self.far.padding)
             self.far = NEAR
-            self.found = {name: at for name, at in self.found.items() if at is None or at < FAR // 2}
+            self.found = {name: at for name, at in self.found.items() if at < FAR // 2}
             self.loaded = {it: r for it, r in self.loaded.items() if it.bit < 4 * FAR}
             self.bits = {bit: it for bit, it in self.bits.items() if bit < 4 * FAR}
 
@@ -97,7 +97,7 @@ class Packets(Checksums):
         self.come_near()
         last = self.headers[it.path[-1]]
         for s, size in self.each_length(last, missing):
-            begin, end = s.place(it.path[0]), s.place(last.name) + size
+            begin, end = s.found[it.path[0]], s.found[last.name] + size
             count = end - begin
             s.has_bytes(end, missing)
             if last.next and begin:
@@ -136,7 +136,7 @@ class Packets(Checksums):
         self.come_near()
         (kind,) = asked_of(tag.follows[before]).values()
         width = tag.fields[tag.next].bits // 8
-        front = self.place(before) + header.size - width
+        front = self.found[before] + header.size - width
         p = self.prepend(THIS, tag.size)
         self.move_bytes(front, tag.size, 0)
         whole = kind.to_bytes(width, "big") + data[: tag.size - width]

@@ -3,11 +3,11 @@ import operator
 from dataclasses import dataclass
 
 from .headers import Header, Headers, Span, check
+from .lexer import RESERVED, Lexer, require_word
 from .syntax import (
     BIGGEST, PORT, THIS, And, Assign, Binary, Block, Chain, Clone, Compare, Cut, Drop, Field, Found, Free, If, Length, Let, Lookup, Mend, Name, Need,
     New, Node, Not, Number, Numeric, Or, Path, Place, Pop, Push, Pushed, Send, SourceError, Truncate, While, goes_on, parts, require,
 )
-from .lexer import RESERVED, Lexer, require_word
 
 OPERATORS = {
     "+": operator.add, "-": operator.sub, "*": operator.mul, "<<": operator.lshift, ">>": operator.rshift,
@@ -167,7 +167,8 @@ class Parser(Lexer):
         if self.may("/"):
             at, depth = self.place(), self.constant()
             require(depth <= 32, at, f"a prefix has at most 32 bits, and this is {depth}")
-            return Compare(left.at, "==", *(combined(">>", it, Number(right.at, 32 - depth)) for it in (left, Number(right.at, constant_of(right)))))
+            shift = Number(right.at, 32 - depth)
+            return Compare(left.at, "==", combined(">>", left, shift), Number(right.at, constant_of(right) >> shift.value))
         return compared("==", left, right)
 
     def operand(self) -> Node:

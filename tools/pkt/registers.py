@@ -2,7 +2,7 @@
 from dataclasses import dataclass
 
 from .headers import Span
-from .state import ALL, FAR, SOMEBODY_THE_REST
+from .state import ABSENT, ALL, FAR, SOMEBODY_THE_REST
 from .syntax import BIGGEST, THIS, Binary, Bits, Field, Name, Node, Number, SourceError, parts, require
 from .ways import Way
 
@@ -38,7 +38,7 @@ class Registers(Way):
         names = ", ".join(sorted(it for it in self.variables if not it.startswith("$")))
         require(free, self.at, f"this needs a ninth number: {names} are held, and what is calculated here",
                 "variables end with their block, and port where it is no more used")
-        needed = {self.span(it) for it in self.unit.needs if isinstance(it, Field) and self.found.get(it.header) is not None}
+        needed = {self.span(it) for it in self.unit.needs if isinstance(it, Field) and self.found.get(it.header, ABSENT) != ABSENT}
         wanted = {r for it, r in self.loaded.items() if it in needed}
         register = min(free, key=lambda r: (r in self.loaded.values()) + (r in wanted))
         self.unload(register)
@@ -84,7 +84,7 @@ class Registers(Way):
 
     def span(self, it: Field) -> Span:
         """The place of a field whose header was found."""
-        return self.headers[it.header].fields[it.name].moved(self.place(it.header))
+        return self.headers[it.header].fields[it.name].moved(self.found[it.header])
 
     def window(self, span: Span, packet: int) -> tuple[int, int, int]:
         """The place and the width of a load with the bits, and their distance from its end."""

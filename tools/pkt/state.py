@@ -16,8 +16,8 @@ NOTHING, EVERYTHING = Needs(), Needs({ALL})
 
 # Who shares the buffers of a packet: registers of packets, somebody permanently, or somebody those after the first one.
 SOMEBODY, SOMEBODY_THE_REST = -1, -2
-# Places from here on mean offsets in a register.
-FAR = 1 << 20
+# The place of a header that is absent; places from FAR on mean offsets in a register.
+ABSENT, FAR = -1, 1 << 20
 # The factors by which instructions with a count change the headroom of a packet and the length of its first segment.
 MOVES = {"prepend": (-1, 1), "adj": (1, -1), "append": (0, 1), "trim": (0, -1)}
 
@@ -70,7 +70,7 @@ class State:
 
     held: dict[str, int] = field(default_factory=lambda: {THIS: 0})
     packets: dict[int, Packet] = field(default_factory=lambda: {0: Packet()})
-    found: dict[str, int | None] = field(default_factory=dict)  # the places of headers, none for an absent one
+    found: dict[str, int] = field(default_factory=dict)  # the places of headers that were looked for
     bits: dict[int, int] = field(default_factory=dict)  # the known bits of the packet
     loaded: dict[Span, int] = field(default_factory=dict)  # the register that has these bits of the packet
     variables: dict[str, int] = field(default_factory=lambda: {PORT: 0})
@@ -101,7 +101,7 @@ class State:
         """Keeps only the needed facts."""
         self.pins = Counter()
         if ALL not in needs:
-            self.found = {name: at for name, at in self.found.items() if (name, at is not None) in needs}
+            self.found = {name: at for name, at in self.found.items() if (name, at != ABSENT) in needs}
             self.variables = {name: r for name, r in self.variables.items() if name in needs or name.startswith("$")}
 
     def join(self, other: State) -> None:
@@ -114,12 +114,6 @@ class State:
         self.loaded = dict(self.loaded.items() & other.loaded.items())
         self.bounds = {r: max(b, other.bounds[r]) for r, b in self.bounds.items() if r in other.bounds}
         self.sharer = self.sharer if self.sharer[0] else other.sharer
-
-    def place(self, name: str) -> int:
-        """The place of a header that was found."""
-        at = self.found[name]
-        assert at is not None
-        return at
 
     def known(self, span: Span) -> tuple[int, int]:
         """The known bits, and their values."""

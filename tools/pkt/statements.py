@@ -226,10 +226,10 @@ class Statements(Packets):
             require(number < ports, it.port.at, f"there is no port {number}: the program has {ports}", f"ports {number + 1}")
         return self.in_register(self.evaluate(it.port))
 
-    def not_sent(self, it: Send, far: Far, found: dict[str, int | None], after: Join[Self]) -> None:
+    def not_sent(self, it: Send, far: Far, found: dict[str, int], after: Join[Self]) -> None:
         """The `else` part, which may use headers at the offset in a register again."""
         wanted = after.needs | self.unit.needs_of(it.fallback)
-        was_far = any((at or 0) >= FAR and (name, True) in wanted for name, at in found.items())
+        was_far = any(at >= FAR and (name, True) in wanted for name, at in found.items())
         if was_far and self.far == NEAR and not self.packets[self.held[THIS]].sharers:
             self.emit("append", f"p{self.held[THIS]}", far.padding)
             self.far, self.found = far, dict(found)

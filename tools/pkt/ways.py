@@ -29,8 +29,10 @@ class Unit:
         """The needs of a part of the text, or of a block from one of its statements on; computed once."""
         key = id(it), first
         if key not in self.known:
-            is_rest = isinstance(it, tuple) and first < len(it)
-            needs = self.needs_of(it[first]) | self.needs_of(it, first + 1) if is_rest else NOTHING if isinstance(it, tuple) else self.needs_of_all(it)
+            if isinstance(it, tuple):
+                needs = self.needs_of(it[first]) | self.needs_of(it, first + 1) if first < len(it) else NOTHING
+            else:
+                needs = self.needs_of_all(it)
             self.known[key] = it, needs
         return self.known[key][1]
 
