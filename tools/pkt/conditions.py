@@ -170,7 +170,7 @@ class Conditions(Registers):
             self.found[header.name] = FAR
             return self.jump(found)
         left = self.sizes_left(before)
-        is_dense = len(left) > 2 and max(left) - min(left) == len(left) - 1 and max(left) >= len(left)
+        is_dense = len(left) > 2 and max(left) - min(left) == len(left) - 1
         if is_dense and all(a < b for a, b in pairwise(left.values())) and self.may_be_far(header):
             return self.at_register(header, before, left, found, missing)
         for s, size in self.each_length(before, missing):
@@ -208,7 +208,7 @@ class Conditions(Registers):
         """Whether a header may be at an offset in a register: zeros can be appended, and no header after it is used."""
         this = self.packets[self.held[THIS]]
         may_append = this.sharers <= {SOMEBODY_THE_REST} and this.segments == 1
-        return may_append and header.name not in self.unit.popped and not self.headers.after(header.name) & self.unit.used_headers
+        return may_append and header.name not in self.unit.near and not self.headers.after(header.name) & self.unit.used_headers
 
     def at_register(self, header: Header, before: Header, left: dict[int, int], found: Join[Self], missing: Join[Self]) -> None:
         """Looks for a header at its usual place; for all other lengths of the one before it, tested in order, at an offset in a register."""

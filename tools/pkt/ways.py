@@ -16,14 +16,14 @@ MAX_BLOCKS = 20_000
 
 
 class Unit:
-    """The state that all paths of a program share. `needs` are the facts needed after the current statement, `reached` has statements."""
+    """What all paths of a program share: facts `needs` after the current statement, statements `reached`, headers `near` that need a constant place."""
 
     def __init__(self, program: Program) -> None:
         self.program, self.headers, self.needs, self.blocks, self.reached = program, program.headers, NOTHING, 0, set[int]()
         self.known: dict[tuple[int, int], tuple[Any, Needs]] = {}
         used = self.needs_of(program.statements) | self.needs_of(program.otherwise)
         self.used_headers = {name for name in self.headers if (name, False) in used}
-        self.popped = {name for it in parts(program.statements) if isinstance(it, Pop) for name in it.path}
+        self.near = {name for it in parts(program.statements) if isinstance(it, (Pop, Push)) for name in self.headers_of(it)}
 
     def needs_of(self, it: Any, first: int = 0) -> Needs:
         """The needs of a part of the text, or of a block from one of its statements on; computed once."""
