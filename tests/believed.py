@@ -1,11 +1,12 @@
 #!/usr/bin/env python3
 """Keeps the table of docs/proofs/definitions.md that lists, for each main promise, the definitions that a reader has to believe.
 
-Usage: tests/believed.py [--write]
+Usage: tests/believed.py [--write | --list PROMISE]
 A promise is the contract of a public function. It names definitions of specs/, these name others, and so on down to the library's own and
 to the types of the code. If contracts see a type of the call, or of a field of such a type, by a view (`impl Model`), the view has to be
 believed too. The table has for each promise the modules of the definitions, the types whose views count, and the number of lines of both,
-without comments and imports. Without --write it reports where the table is wrong, and exits with 1; with --write it updates the table."""
+without comments and imports. Without --write it reports where the table is wrong, and exits with 1; with --write it updates the table. With
+--list and a promise, as dp_pipe::run, it prints the definitions of that promise, a line for each module."""
 import collections
 import dataclasses
 import pathlib
@@ -189,8 +190,23 @@ def table() -> str:
     return "\n".join(rows)
 
 
+def listed(promise: str) -> int:
+    """Prints the definitions of a promise, by module. Returns 2 if there is no such promise."""
+    for crate, file, function, _ in PROMISES:
+        if promise == f"{crate}::{function}":
+            found, views = believed(crate, file, function, {})
+            for path in sorted(found):
+                print(f"{path}: {', '.join(sorted(found[path]))}")
+            print(f"views: {', '.join(sorted(views))}")
+            return 0
+    print(f"believed: no promise {promise}; there are {', '.join(f'{crate}::{function}' for crate, _, function, _ in PROMISES)}")
+    return 2
+
+
 def main() -> int:
-    """Checks the page, or writes its table."""
+    """Checks the page, writes its table, or prints the definitions of a promise."""
+    if sys.argv[1:2] == ["--list"]:
+        return listed(" ".join(sys.argv[2:]))
     text = PAGE.read_text()
     before, _, rest = text.partition(BEGIN)
     there, _, behind = rest.partition(END)
