@@ -4,7 +4,7 @@
 Usage: tests/fuzz_compiled.py [--seed N] [--families N] [--cases N] [PROGRAM]
 The programs of N families of cases (by default 12) are built into a program, once, as `./dpv --compiled` does with those of a pipeline;
 that takes some minutes. It then runs cases of these families, each with other captures and other calls refused, and compares them with
-tests/model, as tests/fuzz.py does. Run by hand; prints what tests/fuzz.py prints, and ends as it does.
+tests/model, as tests/fuzz.py does. Prints what tests/fuzz.py prints, and ends as it does.
 """
 import argparse
 import subprocess
