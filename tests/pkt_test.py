@@ -157,6 +157,8 @@ class Errors(unittest.TestCase):
             "clone c from 1\neth.type = 5\nsend port": "x.pkt:2:1: the bytes of the packet cannot be written here: c (line 1) shares them",
             "ports 2\nsend 2": "x.pkt:2:6: there is no port 2: the program has 2",
             "mend eth.src = 5": "x.pkt:1:1: no checksum covers eth.src",
+            "mend eth.dst = 5": "help: assign without `mend`",
+            "mend l4.sport = 5": "help: if tcp { mend tcp.sport = .. } else if udp { mend udp.sport = .. }",
             "mend ipv4.sum = 5": "x.pkt:1:1: ipv4.sum is the checksum itself",
             "let x = length": "x.pkt:1:9: the length is only compared with a constant",
             "send c to 1": "x.pkt:1:6: there is no packet c here",

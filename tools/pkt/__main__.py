@@ -11,7 +11,10 @@ from pkt.syntax import SourceError  # noqa: E402
 
 
 def main() -> int:
-    if len(sys.argv) != 2 or sys.argv[1] in ("-h", "--help"):
+    if sys.argv[1:] in (["-h"], ["--help"]):
+        print(__doc__)
+        return 0
+    if len(sys.argv) != 2:
         print(__doc__.splitlines()[0], file=sys.stderr)
         return 2
     path = pathlib.Path(sys.argv[1])

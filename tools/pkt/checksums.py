@@ -16,11 +16,18 @@ Others = list[tuple[Span, Value]]
 class Checksums(Conditions):
     """Appends sums in one's complement."""
 
+    def without_sum(self, target: Field) -> str:
+        """What to do for a field that no checksum covers: headers at the same place, as tcp and udp at that of l4, may have it with one."""
+        own = self.headers[target.header]
+        others = [it.name for it in self.headers.values()
+                  if it.sum and it.follows.keys() & own.follows.keys() and it.fields.get(target.name) == own.fields[target.name]]
+        return " else ".join(f"if {it} {{ mend {it}.{target.name} = .. }}" for it in others) or "assign without `mend`"
+
     def do_mend(self, it: Mend, after: Join[Self], _: Join[Self]) -> None:
         """Assigns to a field, and updates each checksum that covers it; the headers were found."""
         own, over, field = self.headers[it.target.header], self.headers.covering(it.target), f"{it.target.header}.{it.target.name}"
         names = [*([own.name] if own.sum else []), *self.outer(own.name)]
-        require(names or over, self.at, f"no checksum covers {field}", "assign without `mend`")
+        require(names or over, self.at, f"no checksum covers {field}", self.without_sum(it.target))
         require(own.sum != it.target.name, self.at, f"{field} is the checksum itself", "assign without `mend`")
         self.assign_field(it.target, self.evaluate(it.value))
         if len(names) + len(over) > 1:
