@@ -24,7 +24,7 @@ LENGTH = 1_024
 
 
 def sources(folder: pathlib.Path, commit: str | None) -> None:
-    """Copies of the crates into a folder."""
+    """Copies the crates into a folder."""
     (folder / "crates").mkdir(parents=True)
     if commit is None:
         for crate in CRATES:

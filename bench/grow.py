@@ -44,7 +44,7 @@ def by_records(program: str, folder: pathlib.Path) -> None:
 
 
 def by_instructions(program: str, folder: pathlib.Path) -> None:
-    """A record's cost and that of the start, by how many instructions its program has more, and runs."""
+    """The cost of a record and of the start, by the number of extra instructions of its program, which all run."""
     print(f"\n{'instructions':>12} {'a record':>10} {'one more':>10} {'start':>12}")
     base = 0.0
     for more in (0, 16, 64, 256, 1_000):
@@ -56,7 +56,7 @@ def by_instructions(program: str, folder: pathlib.Path) -> None:
 
 
 def routes_of(count: int) -> list[str]:
-    """So many routes of depths 8 to 32, at random, one of them that of the look-up."""
+    """This many routes of depths 8 to 32, at random, one of them that of the look-up."""
     draw, found = random.Random(1), {"10.1.0.0/16 1"}
     while len(found) < count:
         depth = draw.choice((8, 16, 20, 24, 24, 24, 24, 28, 32))
@@ -66,7 +66,7 @@ def routes_of(count: int) -> list[str]:
 
 
 def by_routes(program: str, folder: pathlib.Path) -> None:
-    """A look-up's cost and that of the start, by how many routes the table has."""
+    """The cost of a look-up and of the start, by the number of routes of the table."""
     print(f"\n{'routes':>12} {'a look-up':>10} {'start':>14}")
     sent, _ = each(program, pipeline(folder, ["set r1,0\nset r2,0\n" + SEND], None, 0), folder)
     for count in (1, 100, 1_000):
@@ -78,7 +78,7 @@ def by_routes(program: str, folder: pathlib.Path) -> None:
 
 
 def by_blocks(program: str, folder: pathlib.Path) -> None:
-    """The cost of a block that is taken and freed again, by how many others are held."""
+    """The cost of a block that is allocated and freed, by the number of other blocks held."""
     print(f"\n{'blocks held':>12} {'taken, freed':>13}")
     for held in (10, 100, 1_000, 10_000):
         counts = []

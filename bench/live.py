@@ -57,7 +57,7 @@ def compiled(source: pathlib.Path, program: pathlib.Path, words: list[str]) -> p
 
 
 def over(library: pathlib.Path) -> list[str]:
-    """The words with which a host is compiled over the library."""
+    """The compiler's arguments for a host over the library."""
     return [f"-I{library}", f"-L{library}", "-ldpv"]
 
 
@@ -134,7 +134,7 @@ class Host:
 
 
 def measured(words: list[str], home: pathlib.Path, seconds: float) -> Taken:
-    """What a host takes in a window, once it runs for a moment."""
+    """What a host takes in a window, after it has run for a moment."""
     host = Host(words, home)
     try:
         time.sleep(0.5)
@@ -202,7 +202,7 @@ def over_dpdk(library: pathlib.Path, folder: pathlib.Path, seconds: float) -> No
 
 
 def ip(*words: str) -> bool:
-    """Runs a command of ip; whether it went well."""
+    """Runs a command of ip; returns whether it succeeded."""
     return subprocess.run(["ip", *words], capture_output=True).returncode == 0
 
 

@@ -28,14 +28,14 @@ def repeated(path: pathlib.Path, records: int) -> None:
 
 
 def high_water(pid: int) -> int:
-    """The greatest resident set of a process until now, in kilobytes; 0 where it has ended."""
+    """The greatest resident set of a process so far, in kilobytes; 0 if it has ended."""
     status = pathlib.Path(f"/proc/{pid}/status").read_text()
     found = re.search(r"^VmHWM:\s*(\d+) kB", status, re.M)
     return int(found.group(1)) if found else 0
 
 
 def peak(command: list[str]) -> tuple[float, int]:
-    """The time of a run, and the most memory that it had, as it was seen last: it is asked again and again."""
+    """The time of a run, and its greatest memory, which is polled."""
     start = time.perf_counter()
     kilobytes = 0
     with subprocess.Popen(command, stdout=subprocess.DEVNULL) as child:

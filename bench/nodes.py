@@ -35,7 +35,7 @@ HEAD = 24
 
 
 class Counted(NamedTuple):
-    """What a record takes, and the captures of the shorter run."""
+    """The cost of a record, and the captures of the shorter run."""
 
     each: float
     written: list[bytes]
@@ -52,7 +52,7 @@ def records_of(capture: bytes) -> list[bytes]:
 
 
 def repeat(source: bytes, path: pathlib.Path, count: int) -> None:
-    """A capture of so many records, those of another over and over."""
+    """A capture of this many records, those of another over and over."""
     records = records_of(source)
     with open(path, "wb") as out:
         out.write(source[:HEAD])

@@ -27,7 +27,7 @@ Ways = dict[str, list[str]]
 
 
 def frame_of(size: int, is_tagged: bool) -> bytes:
-    """A frame of this length in bytes: an IPv4 packet with its checksum, since tcprewrite mends what is wrong there."""
+    """A frame of this length in bytes: an IPv4 packet with its checksum, since tcprewrite corrects a wrong one."""
     front = bytes(range(12)) + (b"\x81\x00\x00\x64\x08\x00" if is_tagged else b"\x08\x00")
     header = struct.pack(">BBHHHBBHII", 0x45, 0, size - len(front), 1, 0, 64, 253, 0, 0x0A000001, 0x0A010001)
     total = sum(struct.unpack(">10H", header))
@@ -46,7 +46,7 @@ def make(path: pathlib.Path, records: int, sizes: list[int], is_tagged: bool) ->
 
 
 def packets(path: pathlib.Path) -> bytes:
-    """What stands after the header of a capture, whose snapshot length writers choose."""
+    """What follows the header of a capture, whose snapshot length writers choose."""
     return path.read_bytes()[24:]
 
 
@@ -93,7 +93,7 @@ def taken_by(ways: Ways, files: dict[str, pathlib.Path], rounds: int) -> dict[st
 
 
 def row(title: str, count: int, ways: Ways, source: pathlib.Path, is_tagged: bool, rounds: int) -> bool:
-    """Prints a line. Whether all programs write what dpv writes."""
+    """Prints a line. Returns whether all programs write what dpv writes."""
     files = {name: source.parent / f"{name}.pcap" for name in ways}
     make(source, 1, SIZES[title], is_tagged)
     start = taken_by(ways, files, rounds)

@@ -11,7 +11,7 @@ TOP = pathlib.Path(__file__).resolve().parent.parent
 
 
 def built() -> str:
-    """The program that ./dpv runs, which builds it where it has to. valgrind counts nothing of a program that a script begins."""
+    """The program that ./dpv runs, which builds it if needed. valgrind counts nothing of a program that a script begins."""
     subprocess.run([str(TOP / "dpv"), "--version"], check=True, stdout=subprocess.DEVNULL)
     return str(TOP / "crates/dpv/out/dpv")
 
@@ -24,7 +24,7 @@ def seconds(command: list[str]) -> float:
 
 
 def processor(command: list[str], folder: str | None = None) -> float:
-    """The processor time of one run, its own and that in the kernel, in seconds: what others run at the same time is not in it."""
+    """The processor time of one run, its own and that in the kernel, in seconds: without what others run at the same time."""
     run = subprocess.Popen(command, cwd=folder, stdout=subprocess.DEVNULL, stderr=subprocess.DEVNULL)
     _, status, used = os.wait4(run.pid, 0)
     run.returncode = os.waitstatus_to_exitcode(status)

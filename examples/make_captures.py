@@ -367,8 +367,8 @@ def name(kind: str, port: int, ports: int) -> str:
 
 def make(folder: pathlib.Path) -> None:
     (folder / "none.pcap").write_bytes(capture([]))
-    for example, (told, inputs, ports) in EXAMPLES.items():
-        makers = told if isinstance(told, list) else [told] * len(inputs)
+    for example, (reported, inputs, ports) in EXAMPLES.items():
+        makers = reported if isinstance(reported, list) else [reported] * len(inputs)
         sent: list[list[tuple[int, bytes]]] = [[] for _ in range(ports)]
         longest = max(len(frames) for frames in inputs)
         # A record of each port in turn; all that are first come at the same time, and so on.

@@ -37,7 +37,7 @@ class Case(NamedTuple):
     files: dict[str, bytes]
     status: int
     printed: str
-    told: str
+    reported: str
 
 
 def whole() -> dict[str, Any]:
@@ -151,7 +151,7 @@ def bad_envs() -> Iterator[Case]:
 
 
 def bad_tables() -> Iterator[Case]:
-    """Routes that a table does not take, at each place."""
+    """Routes that a table refuses, at each place."""
     routes = {"10.1.0.0/0 1": 1, "10.1.0.0/33 1": 1, "10.1.0.0/99 1": 1, "10.1.0.0/16 16777216": 2, "10.1.0.0/16 99999999": 2}
     routes |= dict.fromkeys(("", "10.1.0.0", "10.1.0.0/16", "10.1.0.256/16 1", "10.1.0.0/16  1", "10.1.0.0/016 1", "10.1.0.0/16 123456789"), 6)
     for table in range(4):
@@ -324,10 +324,10 @@ def ends_so(program: str, folder: pathlib.Path, case: Case) -> bool:
     for name, data in files.items():
         (folder / name).write_bytes(data)
     run = subprocess.run([program, "check", "it.toml"], cwd=folder, capture_output=True, text=True, timeout=60)
-    told = fixed(run.stderr)
-    passed = run.returncode == case.status and bool(re.fullmatch(case.printed, run.stdout) and re.fullmatch(case.told, told))
+    reported = fixed(run.stderr)
+    passed = run.returncode == case.status and bool(re.fullmatch(case.printed, run.stdout) and re.fullmatch(case.reported, reported))
     if not passed:
-        print(f"{case.cause}: expected {case.status}, {case.printed!r}, {case.told!r}; came {run.returncode}, {run.stdout!r}, {run.stderr!r}")
+        print(f"{case.cause}: expected {case.status}, {case.printed!r}, {case.reported!r}; came {run.returncode}, {run.stdout!r}, {run.stderr!r}")
         print("\n".join(f"--- {name}\n{data.decode(errors='replace')[:600]}" for name, data in files.items()))
     return passed
 

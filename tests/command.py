@@ -37,9 +37,9 @@ def new_folder() -> Iterator[pathlib.Path]:
         yield pathlib.Path(name)
 
 
-def fixed(told: str) -> str:
+def fixed(reported: str) -> str:
     """The output on standard error, without the details after a fault's line and the lines on dropped packets."""
-    return re.sub(r"(?m)^(?:(?:port|ring) \d+: |\d+ node runs were cut|note: (?:port|ring) \d is not compiled).*\n", "", re.sub(r"(?ms)^  (?:file|because|at|help): .*", "", told))
+    return re.sub(r"(?m)^(?:(?:port|ring) \d+: |\d+ node runs were cut|note: (?:port|ring) \d is not compiled).*\n", "", re.sub(r"(?ms)^  (?:file|because|at|help): .*", "", reported))
 
 
 def put_library(name: str, folder: pathlib.Path) -> pathlib.Path | None:

@@ -208,13 +208,13 @@ def all_forms(folder: pathlib.Path) -> pathlib.Path:
     return folder / "all.toml"
 
 
-def is_run(program: str, pipeline: pathlib.Path, told: str) -> bool:
+def is_run(program: str, pipeline: pathlib.Path, reported: str) -> bool:
     """Whether a run writes the expected capture, and this on standard error."""
     run = subprocess.run([program, "run", pipeline.name], cwd=pipeline.parent, capture_output=True, text=True, timeout=60)
     setup = tomllib.loads(pipeline.read_text())
     written = (pipeline.parent / setup["port"][0]["out"]).read_bytes()
-    passed = (run.returncode, run.stderr) == (0, told) and written == (pipeline.parent / "expected.pcap").read_bytes()
-    print(f"{pipeline.parent.name}{', ' + told.strip() if told else ''}: {'as expected' if passed else f'status {run.returncode}, {run.stderr!r}, not as expected'}")
+    passed = (run.returncode, run.stderr) == (0, reported) and written == (pipeline.parent / "expected.pcap").read_bytes()
+    print(f"{pipeline.parent.name}{', ' + reported.strip() if reported else ''}: {'as expected' if passed else f'status {run.returncode}, {run.stderr!r}, not as expected'}")
     return passed
 
 

@@ -55,7 +55,7 @@ def ending_of_cert(text: bytes, entry: rules.Row) -> Ending:
 
 
 def certs(text: bytes, values: Iterable[int], try_each: bool) -> Iterator[tuple[str, bytes]]:
-    """The certificates with one byte set to one of these values, by what was changed; of those that are none only one for each byte."""
+    """The certificates with one byte set to one of these values, by what was changed; of those that cannot be read only one for each byte."""
     for place, old in enumerate(text):
         is_none_tried = False
         for value in values:
@@ -72,12 +72,12 @@ def run_on(place: Place, cert: bytes, data: bytes) -> Ending:
     place.put("in.pcap", data)
     ended = place.run(WORDS)
     # Other lines may explain the fault after its first line.
-    told = fixed(ended.told)
-    return ended.status, ended.printed, told, ended.written.get("out.pcap")
+    reported = fixed(ended.reported)
+    return ended.status, ended.printed, reported, ended.written.get("out.pcap")
 
 
 def cases(values: Iterable[int], try_each: bool) -> Iterator[tuple[str, bytes, bytes, Ending]]:
-    """What is tried: its name, the certificate, the capture, and how the run has to end."""
+    """What is tried: its name, the certificate, the capture, and how the run must end."""
     cert, entry = (STRIP / "strip.cert").read_bytes(), rules.entry_row(answers.ONE, 0)
     for size in range(len(INPUT) + 1):
         yield f"capture cut to {size} bytes", cert, INPUT[:size], ending_of_cut(size)

@@ -36,7 +36,7 @@ def build(folder: pathlib.Path) -> bool:
         run = subprocess.run([str(TOP / "dpv"), "build", source.name], cwd=folder, capture_output=True, text=True, timeout=60)
         is_good = run.stdout == stored if stored.startswith(BUILT) else run.returncode == 0 and count(run.stdout) <= 1.15 * count(stored)
         if not is_good:
-            print(f"examples/{folder.name}/{source.name}: {count(run.stdout)} instructions, {count(stored)} stored, told {run.stderr!r}")
+            print(f"examples/{folder.name}/{source.name}: {count(run.stdout)} instructions, {count(stored)} stored, reported {run.stderr!r}")
         passed = passed and is_good
         there.write_text(run.stdout)
     for pipeline in folder.glob("*.toml"):
@@ -55,12 +55,12 @@ def is_as_expected(program: str, pipeline: pathlib.Path, what: str = "") -> bool
         written = folder / port["out"]
         expected = folder / ("expected.pcap" if len(ports) == 1 else f"expected{k}.pcap")
         passed = passed and written.exists() and written.read_bytes() == expected.read_bytes()
-    print(f"examples/{folder.name}{what}: {'as expected' if passed else f'status {run.returncode}, told {run.stderr!r}, not as expected'}")
+    print(f"examples/{folder.name}{what}: {'as expected' if passed else f'status {run.returncode}, reported {run.stderr!r}, not as expected'}")
     return passed
 
 
 def strips_as_by_hand(program: str, folder: pathlib.Path) -> bool:
-    """Whether `dpv one` writes the same with the program that is built of strip.pkt, whose certificate is inferred."""
+    """Whether `dpv one` writes the same with the program built from strip.pkt, whose certificate is inferred."""
     captures = []
     for name in ("hand", "built"):
         if name == "built" and not build(folder):

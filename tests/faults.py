@@ -27,7 +27,7 @@ class Case(NamedTuple):
     words: list[str]
     status: int
     printed: str
-    told: str
+    reported: str
 
 
 def make_files(folder: pathlib.Path) -> None:
@@ -301,14 +301,14 @@ def cases() -> list[Case]:
 def ends_so(program: str, case: Case, folder: pathlib.Path) -> bool:
     """Whether the program ends as the case says."""
     run = subprocess.run([program, *case.words], cwd=folder, capture_output=True, text=True, timeout=60)
-    passed = (run.returncode, run.stdout, fixed(run.stderr)) == (case.status, case.printed, case.told)
+    passed = (run.returncode, run.stdout, fixed(run.stderr)) == (case.status, case.printed, case.reported)
     if not passed:
-        print(f"dpv {' '.join(case.words)}: status {run.returncode}, printed {run.stdout!r}, told {run.stderr!r}")
+        print(f"dpv {' '.join(case.words)}: status {run.returncode}, printed {run.stdout!r}, reported {run.stderr!r}")
     return passed
 
 
 def holds(name: str, found: bytes, wanted: bytes) -> bool:
-    """Whether a file holds what it has to."""
+    """Whether a file has the expected contents."""
     if found != wanted:
         print(f"{name}: holds {found!r} and not {wanted!r}")
     return found == wanted
@@ -361,7 +361,7 @@ def needed(pools: list[tuple[int, int]], places: list[int]) -> int:
 
 
 def largest(region: int, counts: list[int]) -> str:
-    """A pipeline with as much of everything as there may be; port 7 puts its packets into ring 7, whose program sends them there."""
+    """A pipeline with the maximum of everything; port 7 puts its packets into ring 7, whose program sends them there."""
     text = f"region = {region}\n" + "".join(f"[[pool]]\ncount = {count}\ncache = 512\nroom = 4096\n" for count in counts)
     text += 4 * "[[table]]\nrules = 65536\ngroups = 256\nroutes = []\n"
     text += 8 * (RING.replace("count = 4", "count = 65536") + 'node = "forward.dpv"\n')
@@ -396,7 +396,7 @@ def shows_usage(program: str, words: list[str], status: int, folder: pathlib.Pat
     shown, silent = (run.stdout, run.stderr) if status == 0 else (run.stderr, run.stdout)
     passed = run.returncode == status and shown != "" and silent == ""
     if not passed:
-        print(f"dpv {' '.join(words)}: status {run.returncode}, printed {run.stdout!r}, told {run.stderr!r}")
+        print(f"dpv {' '.join(words)}: status {run.returncode}, printed {run.stdout!r}, reported {run.stderr!r}")
     return passed
 
 

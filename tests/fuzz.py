@@ -51,7 +51,7 @@ class Ended(NamedTuple):
 
     status: int
     printed: str
-    told: str
+    reported: str
     written: dict[str, bytes]
     seconds: float
     memory: int
@@ -59,7 +59,7 @@ class Ended(NamedTuple):
 
 @dataclass
 class Tally:
-    """How many cases there were of each kind and status, how many findings, how long and large the worst was."""
+    """The number of cases of each kind and status, the number of findings, and the time and memory of the worst."""
 
     cases: Counter[str] = field(default_factory=Counter)
     statuses: Counter[str] = field(default_factory=Counter)
@@ -102,7 +102,7 @@ class Place:
     def __init__(self, program: str) -> None:
         # Tables are large, and made faster in large pages.
         self.program, self.env = program, {b"GLIBC_TUNABLES": b"glibc.malloc.hugetlb=1"}
-        self.streams = [os.memfd_create(name) for name in ("printed", "told")]
+        self.streams = [os.memfd_create(name) for name in ("printed", "reported")]
         self.files: dict[str, tuple[bytes, tuple[int, int]]] = {}
         self.folders: list[str] = []
 
@@ -145,11 +145,11 @@ class Place:
             os.kill(child, signal.SIGKILL)
             _, status, used = os.wait4(child, 0)
         signal.setitimer(signal.ITIMER_REAL, 0)
-        printed, told = (os.pread(stream, os.fstat(stream).st_size, 0).decode(errors="replace") for stream in self.streams)
-        return Ended(os.waitstatus_to_exitcode(status), printed, told, {}, used.ru_utime + used.ru_stime, used.ru_maxrss)
+        printed, reported = (os.pread(stream, os.fstat(stream).st_size, 0).decode(errors="replace") for stream in self.streams)
+        return Ended(os.waitstatus_to_exitcode(status), printed, reported, {}, used.ru_utime + used.ru_stime, used.ru_maxrss)
 
     def taken(self) -> dict[str, bytes]:
-        """What stands in files that are none of those that were put here, or are no longer as they were put; they are taken away."""
+        """The contents of files that are new or changed since they were put here; removes them."""
         with os.scandir() as entries:
             names = [it.name for it in entries if it.is_file() and self.files.get(it.name, (b"", ()))[1] != as_it_is(it.stat())]
         written = {name: bytes_of(name) for name in names}
@@ -170,12 +170,12 @@ def as_it_is(state: os.stat_result) -> tuple[int, int]:
 
 
 def complaint(expected: answers.Answer | None, ended: Ended) -> str | None:
-    """What is wrong with how a run ended; of words that are wrong only the status is fixed, and where texts go."""
+    """What is wrong with how a run ended; for wrong words only the status and the stream of each text are fixed."""
     if expected is None:
-        is_usage = (ended.status, ended.printed, ended.written) == (2, "", {}) and ended.told != ""
-        return None if is_usage else "words that are wrong are not told so"
-    ended = ended._replace(told=fixed(ended.told))
-    for part in ("status", "printed", "told"):
+        is_usage = (ended.status, ended.printed, ended.written) == (2, "", {}) and ended.reported != ""
+        return None if is_usage else "words that are wrong are not reported so"
+    ended = ended._replace(reported=fixed(ended.reported))
+    for part in ("status", "printed", "reported"):
         if getattr(expected, part) != getattr(ended, part):
             return f"{part}: expected {getattr(expected, part)!r}, came {getattr(ended, part)!r}"
     for name in sorted({*expected.written, *ended.written}) if expected.written is not None else ():
@@ -185,14 +185,14 @@ def complaint(expected: answers.Answer | None, ended: Ended) -> str | None:
 
 
 def without_cache(case: Case) -> bytes | None:
-    """The pipeline of a case with caches of 0, where it has others."""
+    """The pipeline of a case with caches of 0, if it has others."""
     lines = case.files["it.toml"].split(b"\n")
     plain = [b"cache = 0" if line.startswith(b"cache = ") and line[8:].isdigit() else line for line in lines]
     return b"\n".join(plain) if plain != lines else None
 
 
 def wrong_by(said: str, case: Case, place: Place, ended: Ended | None) -> tuple[Ended, answers.Answer | None, str | None]:
-    """How a case ended, what it had to come to, given what was printed where that is open, and what is wrong with it."""
+    """How a case ended, how it had to end, given what was printed if that is open, and what is wrong with it."""
     try:
         expected = answers.answer(case.words, answers.Disk(pathlib.Path(), case.files), said)
     except machine.Stuck as stuck:
@@ -202,7 +202,7 @@ def wrong_by(said: str, case: Case, place: Place, ended: Ended | None) -> tuple[
 
 
 def fault_of(place: Place, case: Case, tally: Tally) -> tuple[Ended, str | None]:
-    """How a case ended, and what is wrong with it. What the documents leave open is told from what was printed: whether rows are found
+    """How a case ended, and what is wrong with it. What the documents leave open is reported from what was printed: whether rows are found
     for a program with loops is open too, so that one which is stuck may be one that is not accepted."""
     place.put_case(case)
     ended, expected, wrong = wrong_by("", case, place, None)
@@ -217,24 +217,24 @@ def fault_of(place: Place, case: Case, tally: Tally) -> tuple[Ended, str | None]
 
 def without_link_type(ended: Ended) -> Ended:
     """How a case ended, without the link type that was found and its cure: a first read of fewer than 24 bytes does not have it."""
-    return ended._replace(told=re.sub(r"  because: the link type is .*\n(  help: .*\n)?", "", ended.told))
+    return ended._replace(reported=re.sub(r"  because: the link type is .*\n(  help: .*\n)?", "", ended.reported))
 
 
 def runs_with_short_calls(place: Place, case: Case, ended: Ended, how: str, more: dict[bytes, bytes]) -> str | None:
-    """What is wrong where a case, run once more with a few bytes a call, does not the same."""
+    """What is wrong if a case, run once more with a few bytes a call, does something else."""
     again = place.run(case.words, more)
     same = without_link_type(again)[:4] == without_link_type(ended)[:4]
     return None if same else f"another answer {how}: {ended[:3]}, then {again[:3]}"
 
 
 def runs_as(place: Place, case: Case, ended: Ended, how: str, more: dict[bytes, bytes] | None = None) -> str | None:
-    """What is wrong where a case, run once more, does not the same."""
+    """What is wrong if a case, run once more, does something else."""
     again = place.run(case.words, more)
     return None if again[:4] == ended[:4] else f"another answer {how}: {ended[:3]}, then {again[:3]}"
 
 
 def runs_without_cache(place: Place, case: Case, ended: Ended) -> str | None:
-    """What is wrong where a run that went well is another one without caches."""
+    """What is wrong if a run that went well differs without caches."""
     plain = without_cache(case) if case.kind == "run" and ended.status == 0 else None
     if plain is None:
         return runs_as(place, case, ended, "the second time")
@@ -243,18 +243,18 @@ def runs_without_cache(place: Place, case: Case, ended: Ended) -> str | None:
 
 
 def runs_refused(place: Place, case: Case, ended: Ended, more: dict[bytes, bytes]) -> str | None:
-    """What is wrong where an allocation is refused, and the case neither does the same nor tells of it and wrote nothing or all."""
+    """What is wrong if an allocation is refused, and the case neither does the same nor reports it and wrote nothing or all."""
     refused = place.run(case.words, more)
-    tells = (refused.status, refused.told) == (4, "fault: memory\n") and ended.printed.startswith(refused.printed)
+    tells = (refused.status, refused.reported) == (4, "fault: memory\n") and ended.printed.startswith(refused.printed)
     if tells and all(data in (b"", ended.written.get(name)) for name, data in refused.written.items()):
         return None
     # (the line at fault and the cure are left out where there is no memory for them)
-    same = refused._replace(told=fixed(refused.told))[:4] == ended._replace(told=fixed(ended.told))[:4]
+    same = refused._replace(reported=fixed(refused.reported))[:4] == ended._replace(reported=fixed(ended.reported))[:4]
     return None if same else f"allocation {more[b'REFUSE'].decode()} refused: {ended[:3]}, then {refused[:3]}"
 
 
 def runs_once_more(place: Place, case: Case, ended: Ended, how: str, number: int, shims: pathlib.Path | None) -> str | None:
-    """What is wrong with a case, run once more: as it is or without caches, with so many bytes a call, or with this allocation refused."""
+    """What is wrong with a case, run once more: as it is or without caches, with this many bytes a call, or with this allocation refused."""
     place.put_case(case)
     value = str(number).encode()
     if how == "short" and shims is not None:
@@ -265,7 +265,7 @@ def runs_once_more(place: Place, case: Case, ended: Ended, how: str, number: int
 
 
 def judge(place: Place, case: Case, rng: Random, tally: Tally, shims: pathlib.Path | None) -> str | None:
-    """Runs a case, some of them once more in another way, and tells what is wrong with it."""
+    """Runs a case, some of them once more in another way, and returns what is wrong with it."""
     ended, wrong = fault_of(place, case, tally)
     if wrong or rng.random() < 0.75:
         return wrong
@@ -276,7 +276,7 @@ def judge(place: Place, case: Case, rng: Random, tally: Tally, shims: pathlib.Pa
 
 
 def put_shims(folder: pathlib.Path) -> pathlib.Path | None:
-    """Builds the libraries that make reads and writes short and refuse allocations; or nothing where there is no C compiler."""
+    """Builds the libraries that make reads and writes short and refuse allocations; nothing if there is no C compiler."""
     if not all([put_library(name, folder) for name in ("short", "refused")]):
         print("fuzz: short writes and refused allocations NOT TRIED, for want of a C compiler")
         return None
@@ -284,7 +284,7 @@ def put_shims(folder: pathlib.Path) -> pathlib.Path | None:
 
 
 def keep(case: Case, wrong: str, number: int, seed: str, into: pathlib.Path) -> None:
-    """Writes a finding down."""
+    """Writes a finding to its folder."""
     folder = into / f"{case.kind}-{seed}-{number}"
     shutil.rmtree(folder, ignore_errors=True)
     folder.mkdir(parents=True)
@@ -298,7 +298,7 @@ def keep(case: Case, wrong: str, number: int, seed: str, into: pathlib.Path) -> 
 
 
 class Dice(Random):
-    """A generator that chooses sooner."""
+    """A random generator with a faster `choice`."""
 
     def choice(self, seq: Sequence[Any]) -> Any:
         """One of these."""
@@ -306,7 +306,7 @@ class Dice(Random):
 
 
 class Maker:
-    """Makes cases by their numbers: those of a family, one behind the other, share their programs."""
+    """Makes cases by their numbers: consecutive ones of a family share their programs."""
 
     def __init__(self, seed: str, kinds: list[str], families: int = 0) -> None:
         self.seed, self.kinds, self.families = seed, kinds, families
@@ -334,7 +334,7 @@ def numbers(jobs: int, first: int) -> Iterator[int]:
 
 @contextlib.contextmanager
 def own_place(program: str) -> Iterator[Place]:
-    """A folder in memory that is there for a while, as the current one."""
+    """A temporary folder in memory, as the current one."""
     home, shared = os.getcwd(), "/dev/shm" if os.access("/dev/shm", os.W_OK) else None
     with tempfile.TemporaryDirectory(dir=shared) as name:
         os.chdir(name)
@@ -361,9 +361,9 @@ def work(asked: argparse.Namespace, shims: pathlib.Path | None, first: int, unti
 
 def again(program: str, folder: pathlib.Path, shims: pathlib.Path | None) -> int:
     """Tries a finding once more, in each way."""
-    told = json.loads((folder / "case.json").read_text())
+    reported = json.loads((folder / "case.json").read_text())
     names = [it for it in folder.iterdir() if it.is_file() and it.name not in ("case.json", "finding.txt")]
-    case = Case(told["kind"], told["words"], {it.name: it.read_bytes() for it in names}, told["folders"])
+    case = Case(reported["kind"], reported["words"], {it.name: it.read_bytes() for it in names}, reported["folders"])
     signal.signal(signal.SIGALRM, give_up)
     with tempfile.TemporaryDirectory() as name:
         os.chdir(name)
@@ -391,7 +391,7 @@ def parser_of(description: str, findings: str) -> argparse.ArgumentParser:
 
 
 def words(parser: argparse.ArgumentParser, cases: int) -> argparse.Namespace:
-    """What was asked for; as many cases where neither cases nor seconds are given."""
+    """The arguments; the usual number of cases if neither cases nor seconds are given."""
     asked = parser.parse_args()
     asked.program = program_of(asked.program)
     asked.keep = asked.keep.resolve()

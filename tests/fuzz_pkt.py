@@ -191,7 +191,7 @@ def judged(place: Place, it: Case, tally: Tally) -> Finding | None:
     tally.left_out += given - sum(map(len, it.inputs))
     tally.sent += sent
     if ended.status != 0:
-        return Finding("refused", f"status {ended.status}: {ended.printed}{ended.told}")
+        return Finding("refused", f"status {ended.status}: {ended.printed}{ended.reported}")
     for port, data in enumerate(written):
         if (came := ended.written.get(f"o{port}")) != data:
             return Finding("captures", f"port {port}: {difference(data, came or b'')}\nexpected report\n{report}came\n{ended.printed}")
@@ -229,8 +229,8 @@ def keep(place: Place, it: Case, finding: Finding, folder: pathlib.Path) -> None
     finding = judged(place, it, Tally()) or finding
     shutil.rmtree(folder, ignore_errors=True)
     folder.mkdir(parents=True)
-    told = {"env": it.env[:1] + it.env[2:], "texts": it.texts, "inputs": [[data.hex() for data in port] for port in it.inputs]}
-    (folder / "case.json").write_text(json.dumps({**told, "refused": it.refused, "routes": it.routes}))
+    reported = {"env": it.env[:1] + it.env[2:], "texts": it.texts, "inputs": [[data.hex() for data in port] for port in it.inputs]}
+    (folder / "case.json").write_text(json.dumps({**reported, "refused": it.refused, "routes": it.routes}))
     (folder / "finding.txt").write_text(finding.text + "\n")
     for number, text in enumerate(it.texts):
         (folder / f"n{number}.pkt").write_text(text)
@@ -239,13 +239,13 @@ def keep(place: Place, it: Case, finding: Finding, folder: pathlib.Path) -> None
 
 def kept(folder: pathlib.Path) -> Case:
     """Reads a case from its folder."""
-    told = json.loads((folder / "case.json").read_text())
-    pools, rings, ports = told["env"]
-    routes = tuple(told["routes"])
+    reported = json.loads((folder / "case.json").read_text())
+    pools, rings, ports = reported["env"]
+    routes = tuple(reported["routes"])
     facts = [Ring(count, tuple(fact)) for count, fact in rings]
     env = Env([Pool(*pool) for pool in pools], [table_of(routes)] if routes else [], facts, [Port(*port) for port in ports])
-    inputs = tuple(tuple(bytes.fromhex(data) for data in port) for port in told["inputs"])
-    return Case(env, tuple(told["texts"]), inputs, tuple(told["refused"]), routes)
+    inputs = tuple(tuple(bytes.fromhex(data) for data in port) for port in reported["inputs"])
+    return Case(env, tuple(reported["texts"]), inputs, tuple(reported["refused"]), routes)
 
 
 def work(asked: argparse.Namespace, first: int, until: float) -> Tally:

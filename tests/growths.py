@@ -98,7 +98,7 @@ COMMANDS = [
 def is_like(ended: Ended, whole: Ended) -> bool:
     """Whether a run did all that another did."""
     # (the line at fault and the cure are left out where there is no memory for them)
-    same = fixed(ended.told.decode()) == fixed(whole.told.decode())
+    same = fixed(ended.reported.decode()) == fixed(whole.reported.decode())
     return same and (ended.status, ended.printed, ended.written) == (whole.status, whole.printed, whole.written)
 
 
@@ -110,10 +110,10 @@ def refuse_each(program: str, words: list[str], status: int, shim: pathlib.Path)
         refused += ended.is_refused(whole)
         if not ended.is_refused(whole) and not is_like(ended, whole):
             bad += 1
-            print(f"allocation {number}: status {ended.status}, told {ended.told!r}, printed {ended.printed[-200:]!r}")
+            print(f"allocation {number}: status {ended.status}, reported {ended.reported!r}, printed {ended.printed[-200:]!r}")
     print(f"dpv {' '.join(words)}: {whole.allocations} allocations, {refused} runs ended with fault: memory, {bad} in another way")
     if whole.status != status:
-        print(f"it ended with status {whole.status} and not {status}: {whole.printed!r} {whole.told!r}")
+        print(f"it ended with status {whole.status} and not {status}: {whole.printed!r} {whole.reported!r}")
     return whole.status == status and bad == 0 and refused > 0
 
 

@@ -98,7 +98,7 @@ def records_of(capture: pathlib.Path) -> list[bytes]:
 
 
 def sends_otherwise(host: pathlib.Path, pipeline: pathlib.Path) -> str | None:
-    """What dpdk.c over net_pcap does otherwise than is expected of `dpv run` with an example, a frame of each port in turn."""
+    """How dpdk.c over net_pcap differs from what is expected of `dpv run` with an example, a frame of each port in turn."""
     ports, home = tomllib.loads(pipeline.read_text())["port"], pipeline.parent
     devices = [f"--vdev=net_pcap{k},rx_pcap={home / port['in']},tx_pcap={home / f'over{k}.pcap'}" for k, port in enumerate(ports)]
     run = subprocess.run([str(host), *NO_CARD, *devices, "--", pipeline.name, "1", "1000"], cwd=home, capture_output=True, text=True, timeout=60)
@@ -217,7 +217,7 @@ def numbers_differ(world: machine.World, stream: BinaryIO, pipeline: pipelines.P
 
 
 def hand_in(stream: BinaryIO, data: bytes) -> None:
-    """Writes a case; where the driver has ended, it goes nowhere."""
+    """Writes a case, unless the driver has ended."""
     with contextlib.suppress(BrokenPipeError):
         stream.write(data)
         stream.flush()
@@ -248,7 +248,7 @@ def played_through(drive: "subprocess.Popen[bytes]", case: Case) -> str | None:
 
 
 def play(program: pathlib.Path, seed: str, numbers: range, until: float) -> Played:
-    """Plays these cases through a driver, until the first finding or that time."""
+    """Plays these cases through a driver, until the first finding or this time."""
     done, frames = 0, 0
     with subprocess.Popen([str(program)], stdin=subprocess.PIPE, stdout=subprocess.PIPE) as drive:
         assert drive.stdin

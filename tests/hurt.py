@@ -94,7 +94,7 @@ def put_captures(load: Load, count: int) -> None:
 
 
 def filled(begin: list[str], body: list[str], end: list[str], passes: int = 257) -> list[str]:
-    """A program of 1,024 instructions that goes so many times through a body, which is repeated; `%` in it is a number of its own."""
+    """A program of 1,024 instructions that goes this many times through a body, which is repeated; `%` is the number of the repetition."""
     times = (MOST - len(begin) - len(end) - 3) // len(body)
     lines = [line.replace("%", str(k)) for k in range(times) for line in body]
     return [*begin, "set r7,0", f"again: {lines[0]}", *lines[1:], "add r7,1", f"jlt r7,{passes},again", *end]
@@ -195,7 +195,7 @@ def memory_of(used: Used) -> str:
 
 
 def measure(program: str, load: Load) -> bool:
-    """Prints what a pipeline takes: to load it, for each record, and of memory. Whether it ended as it has to."""
+    """Prints what a pipeline takes: to load it, for each record, and of memory. Returns whether it ended as it must."""
     put_pipeline(load)
     put_captures(load, 0)
     empty = start(program, ["run", "it.toml"])
@@ -225,7 +225,7 @@ def scripts() -> dict[str, list[str]]:
 
 
 def measure_script(program: str, name: str, lines: list[str]) -> bool:
-    """Prints what a heap script takes. Whether it ended as it has to."""
+    """Prints what a heap script takes. Returns whether it ended as it must."""
     pathlib.Path("script").write_text("\n".join([f"region {1 << 30}", *lines, "stats"]) + "\n")
     used = start(program, ["mem", "script"])
     print(f"| {name} | {used.seconds:.2f} s | {memory_of(used)} |", flush=True)
@@ -233,7 +233,7 @@ def measure_script(program: str, name: str, lines: list[str]) -> bool:
 
 
 def repeated(part: str) -> str:
-    """A part over and over, as often as a text may have it; `%` in it is a number of its own."""
+    """A part over and over, as often as a text may have it; `%` is the number of the repetition."""
     text, count = [], 0
     left = LONGEST
     while True:
@@ -287,7 +287,7 @@ def texts() -> dict[str, tuple[str, str]]:
 
 
 def measure_text(program: str, name: str, text: str, first: str) -> bool:
-    """Prints what it takes to check a text. Whether it ended as it has to."""
+    """Prints what it takes to check a text. Returns whether it ended as it must."""
     put_pipeline(Load(name, [FORWARD]))
     pathlib.Path("n0" if ".dpv" in name else "it.toml").write_text(text)
     used = start(program, ["check", "it.toml"])

@@ -181,8 +181,8 @@ def is_explained(program: str, folder: pathlib.Path, words: list[str]) -> bool:
     made = run(program, folder, *words, "--json")
     doc = document(made.out)
     if text.status == 3:
-        told = {"text": made.err.decode().splitlines()[0], "status": 3}
-        return (made.status, made.err, text.out) == (3, text.err, b"") and doc == {"fault": told, "nodes": []}
+        reported = {"text": made.err.decode().splitlines()[0], "status": 3}
+        return (made.status, made.err, text.out) == (3, text.err, b"") and doc == {"fault": reported, "nodes": []}
     lines = []
     for node in doc["nodes"]:
         refused = node["verdict"] != "accepted"
@@ -224,12 +224,12 @@ def verdicts(program: str, top: pathlib.Path) -> list[tuple[str, bool]]:
 
 
 def is_fault(program: str, folder: pathlib.Path, words: list[str]) -> bool:
-    """Whether a command that ends with a fault prints just that as its document, and all else as ever."""
+    """Whether a command that ends with a fault prints only that as its document, and is otherwise as without --json."""
     text = run(program, folder, *words)
     made = run(program, folder, *words, "--json")
-    told = made.err.decode().splitlines()[0]
+    reported = made.err.decode().splitlines()[0]
     same = (made.status, made.err) == (text.status, text.err) and made.status in (3, 4)
-    return same and document(made.out) == {"fault": {"text": told, "status": made.status}} and not text.out
+    return same and document(made.out) == {"fault": {"text": reported, "status": made.status}} and not text.out
 
 
 def is_silent(program: str, folder: pathlib.Path, words: list[str]) -> bool:
@@ -256,8 +256,8 @@ def faults(program: str, top: pathlib.Path) -> list[tuple[str, bool]]:
         ["run", "multicast.toml", "--refuse", "0"], ["run"], ["explain", "multicast.toml", "port7"], ["explain", "multicast.toml", "nobody"])]
     made = run(program, folder, "explain", "node.toml", "--json")
     doc = document(made.out)
-    told = {"text": made.err.decode().splitlines()[0], "status": made.status}
-    cases.append(("explain node.toml", made.status == 3 and doc == {"fault": told, "nodes": []}))
+    reported = {"text": made.err.decode().splitlines()[0], "status": made.status}
+    cases.append(("explain node.toml", made.status == 3 and doc == {"fault": reported, "nodes": []}))
     full = subprocess.run([program, "run", "multicast.toml", "--json"], cwd=folder, stdout=open("/dev/full", "wb"), stderr=subprocess.PIPE, check=False)
     cases.append(("a full standard output", full.returncode == 3))
     return cases

@@ -117,7 +117,7 @@ class Runs(Case):
             done = self.one(whole[:size])
             ending = "whole" if size in (24, 100) else "open" if size < 24 else "cut 24"
             self.assertIn(f"sent {size // 100} input {ending}\n", done.printed)
-            self.assertEqual(done.told, "fault: input 0 cause 6\n" if size < 24 else "")
+            self.assertEqual(done.reported, "fault: input 0 cause 6\n" if size < 24 else "")
 
     def test_multicast(self) -> None:
         done = self.run_on(TWO, capture((1, 2, SIXTY)), capture())
@@ -170,7 +170,7 @@ class Runs(Case):
     def test_region(self) -> None:
         self.assertEqual(answers.ONE.need(), 148_288)
         done = self.run_on(TWO.replace("10368", "10304"), capture(), capture())
-        self.assertEqual((done.status, done.told), (3, "fault: region\n"))
+        self.assertEqual((done.status, done.reported), (3, "fault: region\n"))
         self.assertIn("sent 0 input open\npool 0 free 4 of 4\npool 1 free 4 of 4\ncalls 0 refused 0\n", done.printed)
 
     def test_names_of_outputs(self) -> None:
@@ -179,7 +179,7 @@ class Runs(Case):
         made = ("x" * 255, "\u00e9", "a\nb", "./out", "folder/out", "folder/../out")
         for name in (*made, "", "\0", "a\0b", "x" * 256, "none/out", "out/", "folder", "folder/", ".", "..", "in0/out"):
             done = self.run_on(text.replace("'out0'", json.dumps(name)), capture((1, 2, SIXTY)))
-            self.assertEqual((done.status, done.told), (0, "") if name in made else (3, f"fault: file {name}\n"))
+            self.assertEqual((done.status, done.reported), (0, "") if name in made else (3, f"fault: file {name}\n"))
             self.assertEqual([*done.written], [name] if name in made else [])
 
     def test_output_that_is_there(self) -> None:
@@ -187,7 +187,7 @@ class Runs(Case):
         one, two = capture((1, 2, SIXTY)), capture((1, 2, b""), (1, 2, b""))
         for name in ("in0", "./in1", "forward", "./forward"):
             done = self.run_on(text.replace("out1", name), one, two)
-            self.assertEqual((done.status, done.told, done.written), (3, f"fault: file {name}\n", {}))
+            self.assertEqual((done.status, done.reported, done.written), (3, f"fault: file {name}\n", {}))
         (self.folder / "old").write_bytes(b"old")
         self.assertEqual([*self.run_on(text.replace("out1", "old"), one, two).written], ["out0", "old"])
         self.assertEqual(self.run_on(text.replace("out1", "old"), one, b"").written, {"out0": b""})
@@ -197,7 +197,7 @@ class Runs(Case):
         for first, second in (("out0", "out0"), ("out0", "./out0"), ("old", "old"), ("./old", "old")):
             (self.folder / "old").write_bytes(b"old")
             done = self.run_on(text.replace("out0", first).replace("out1", second), capture(), capture())
-            self.assertEqual((done.status, done.told, done.written), (3, f"fault: file {second}\n", {}))
+            self.assertEqual((done.status, done.reported, done.written), (3, f"fault: file {second}\n", {}))
 
     def test_backward_jumps(self) -> None:
         env = answers.ONE
@@ -308,13 +308,13 @@ class Texts(unittest.TestCase):
         self.assertEqual(pipelines.routes({"rules": 1, "groups": 0, "routes": ["10.0.0.0/8 1", "10.0.0.1/8 2", "10.0.0.0/9 2"]}), "2 3")
 
     def test_pipelines(self) -> None:
-        told = {
+        reported = {
             b"=": "1 NotToml",
             b"": "2 BadKey top 0",
             b"region = 4097": "2 BadKey top 0",
             b"region = 4096": "3 BadEnv 1 0",
         }
-        for text, cause in told.items():
+        for text, cause in reported.items():
             self.assertEqual(pipelines.load(lambda _: None, text, False, ""), pipelines.fault(cause))
 
     def test_newer_toml(self) -> None:

@@ -127,7 +127,7 @@ def held(folder: pathlib.Path) -> dict[str, bytes]:
 
 
 def is_kept(program: str, case: Case, folder: pathlib.Path, must_be_alone: bool) -> bool:
-    """Whether a run is refused as the case says, and each file holds what it held; no new file holds a byte."""
+    """Whether a run is refused as the case says, and each file keeps its contents; no new file has a byte."""
     (folder / "case.toml").write_text(case.text)
     before = held(folder)
     run = subprocess.run([program, "run", "case.toml"], cwd=folder, stdin=subprocess.DEVNULL, capture_output=True, text=True, timeout=60)
@@ -144,7 +144,7 @@ def is_kept(program: str, case: Case, folder: pathlib.Path, must_be_alone: bool)
 
 
 def writes(program: str, folder: pathlib.Path) -> list[bool]:
-    """Runs that write: an old output holds the new capture alone; devices and pipes are written by several ports."""
+    """Runs that write: an old output then has only the new capture; several ports write devices and pipes."""
     answers = []
     for outputs in (["old.pcap"], ["/dev/null", "/dev/null"], ["fresh.pcap", "/dev/null"]):
         (folder / "case.toml").write_text(pipeline([("in.pcap", output) for output in outputs]))

@@ -31,7 +31,7 @@ def source() -> bytes:
 
 
 def target() -> bytes:
-    """What strip makes of it."""
+    """The capture that strip makes of it."""
     return captures.written(False, [(second, 0, data[14:]) for second, _, data in captures.read(source()).records])
 
 
@@ -59,8 +59,8 @@ class Tried:
                 feed.write(source()[HALF:])
             except BrokenPipeError:
                 pass
-        printed, told = run.communicate(timeout=60)
-        return run.returncode, printed.decode(), told.decode()
+        printed, reported = run.communicate(timeout=60)
+        return run.returncode, printed.decode(), reported.decode()
 
     def is_front(self) -> bool:
         """Whether the file on disk is a prefix of the capture, and is read as records up to a cut; also by tcpdump, if installed."""
@@ -79,7 +79,7 @@ class Tried:
 
 
 def is_whole(ended: tuple[int, str, str], tried: Tried) -> bool:
-    """Whether it ended as a run that nothing happens to."""
+    """Whether it ended as an undisturbed run does."""
     return ended == (0, REPORT.format(COUNT), "") and (not tried.output.exists() or tried.output.read_bytes() == target())
 
 
@@ -125,8 +125,8 @@ def one_by_one(tried: Tried) -> bool:
             feed.write(data[at : at + 1])
             time.sleep(0.0005)
         feed.write(data[300:])
-    printed, told = run.communicate(timeout=60)
-    return is_whole((run.returncode, printed.decode(), told.decode()), tried)
+    printed, reported = run.communicate(timeout=60)
+    return is_whole((run.returncode, printed.decode(), reported.decode()), tried)
 
 
 def ends(tried: Tried, suffix: str) -> tuple[int, str, str]:
@@ -150,8 +150,8 @@ def nothing_to_read(tried: Tried) -> bool:
     """Standard input is closed, but read: it is empty."""
     words = [tried.program, "one", *tried.words()[2:4], "/dev/stdin", str(tried.output)]
     run = subprocess.run(["sh", "-c", '"$@" <&-', "sh", *words], capture_output=True, text=True, timeout=60)
-    told = (run.returncode, run.stdout, run.stderr.partition("\n")[0])
-    return told == (3, REPORT.format(0).replace("whole", "open"), "fault: input 0 cause 6") and tried.output.read_bytes() == b""
+    reported = (run.returncode, run.stdout, run.stderr.partition("\n")[0])
+    return reported == (3, REPORT.format(0).replace("whole", "open"), "fault: input 0 cause 6") and tried.output.read_bytes() == b""
 
 
 def closed_pipe(tried: Tried) -> bool:
@@ -173,8 +173,8 @@ def left_pipe(tried: Tried) -> bool:
     run = subprocess.Popen(tried.words(), stdout=subprocess.PIPE, stderr=subprocess.PIPE, text=True)
     with open(tried.output, "rb", buffering=0) as reader:
         taken = reader.read(1000)
-    printed, told = run.communicate(timeout=60)
-    lines = (told.partition("\n")[0], printed.splitlines()[1:2])
+    printed, reported = run.communicate(timeout=60)
+    lines = (reported.partition("\n")[0], printed.splitlines()[1:2])
     return run.returncode == 3 and lines == ("fault: output 0", ["pool 0 free 64 of 64"]) and target().startswith(taken)
 
 
@@ -188,8 +188,8 @@ def read_only(tried: Tried) -> bool:
     words = [near[0], "one", *near[1:], *tried.words()[4:]]
     nobody = 65_534 if os.geteuid() == 0 else None
     run = subprocess.run(words, capture_output=True, text=True, timeout=60, user=nobody)
-    told = f"fault: file {tried.output}\n"
-    return (run.returncode, run.stdout, fixed(run.stderr)) == (3, "", told) and not tried.output.exists()
+    reported = f"fault: file {tried.output}\n"
+    return (run.returncode, run.stdout, fixed(run.stderr)) == (3, "", reported) and not tried.output.exists()
 
 
 CASES: dict[str, Callable[[Tried], bool]] = {

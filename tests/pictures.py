@@ -74,8 +74,8 @@ def named_by(source: str) -> set[str]:
 
 def is_pipeline(program: str, file: pathlib.Path, pipeline: dict) -> bool:
     """Whether the picture of a pipeline has its nodes and their arrows."""
-    status, text, told = run(program, ["show", file.name, "--dot"], file.parent)
-    passed = status == 0 and told == "" and is_drawn(text)
+    status, text, reported = run(program, ["show", file.name, "--dot"], file.parent)
+    passed = status == 0 and reported == "" and is_drawn(text)
     arrows = set(re.findall(r"^  (\w+) -> (\w+)", text, re.M))
     for kind, number, name in nodes_of(pipeline):
         source = (file.parent / name).read_text()
@@ -123,14 +123,14 @@ def is_program(program: str, file: pathlib.Path, node: tuple[str, int, str], ste
     """Whether the picture of a node's program has its instructions and arrows."""
     source = (file.parent / node[2]).read_text()
     which = f"{node[0]}{node[1]}"
-    status, text, told = run(program, ["show", file.name, which, "--dot"], file.parent)
+    status, text, reported = run(program, ["show", file.name, which, "--dot"], file.parent)
     rows = re.findall(r'<TR><TD ALIGN="LEFT">(?:&#160;)*(\d+)&#160; (.*?)</TD><TD ALIGN="LEFT">(?:<FONT COLOR="#607080"># (.*?)</FONT>)?</TD></TR>', text)
     wanted = [(str(k), one, comment) for k, (_, one, comment) in enumerate(instructions_in(source))]
-    passed = (status, told) == (0, "") and is_drawn(text) and [tuple(map(html.unescape, row)) for row in rows] == wanted
+    passed = (status, reported) == (0, "") and is_drawn(text) and [tuple(map(html.unescape, row)) for row in rows] == wanted
     labels = [label for labels, _, _ in instructions_in(source) for label in labels]
-    status, text, told = run(program, ["show", file.name, which, "--dot", "--counts", str(counts)], file.parent)
+    status, text, reported = run(program, ["show", file.name, which, "--dot", "--counts", str(counts)], file.parent)
     arrows = set(re.findall(r'^  L(\d+) -> L(\d+) \[style=(\w+), label=" (\d+)", penwidth=[1-8]\.\d\];$', text, re.M))
-    passed &= (status, told) == (0, "") and is_drawn(text) and arrows == arrows_of(steps, source)
+    passed &= (status, reported) == (0, "") and is_drawn(text) and arrows == arrows_of(steps, source)
     return passed and all(f"<B>{label}:</B>" in text for label in labels if label in {operands(t)[1][-1] for _, t, _ in instructions_in(source)})
 
 
@@ -153,11 +153,11 @@ def sizes_of(pipeline: dict) -> list[tuple[str, int]]:
 
 def are_sizes(program: str, file: pathlib.Path, pipeline: dict) -> bool:
     """Whether the table of a pipeline's sizes is the one computed here, in columns, after the verdicts."""
-    status, text, told = run(program, ["check", file.name, "--sizes"], file.parent)
+    status, text, reported = run(program, ["check", file.name, "--sizes"], file.parent)
     accepted = run(program, ["check", file.name], file.parent)[1]
     lines = text.removeprefix(accepted).splitlines()
     found = [(re.match(r"(?:pool|ring|port) \d|\w+", line)[0], int(line.split()[-1])) for line in lines]
-    return status == 0 and told == "" and text.startswith(accepted) and found == sizes_of(pipeline) and {len(line) for line in lines} == {54}
+    return status == 0 and reported == "" and text.startswith(accepted) and found == sizes_of(pipeline) and {len(line) for line in lines} == {54}
 
 
 def is_example(program: str, file: pathlib.Path, folder: pathlib.Path) -> bool:
@@ -227,10 +227,10 @@ def faults(folder: pathlib.Path) -> list[tuple[list[str], int, str]]:
     ]
 
 
-def is_refused(program: str, words: list[str], status: int, told: str) -> bool:
+def is_refused(program: str, words: list[str], status: int, reported: str) -> bool:
     """Whether these words end with this status and report."""
     found = run(program, words, EXAMPLES / "ttl")
-    passed = found[0] == status and found[1] == "" and found[2].startswith(told)
+    passed = found[0] == status and found[1] == "" and found[2].startswith(reported)
     if not passed:
         print(f"dpv {' '.join(words)}: status {found[0]}, reported {found[2]!r}")
     return passed

@@ -84,7 +84,7 @@ def taken(pipe: int, count: int) -> bytes:
 
 
 def strips(feed: int, output: int) -> tuple[list[bytes], list[bytes]]:
-    """Feeds the header and then each record, and takes what is made of it before the next is fed: what came, and what has to come."""
+    """Feeds the header and then each record, and takes what is made of it before the next is fed. Returns what came, and what must come."""
     wanted = heads([(second, nano, data[14:]) for second, nano, data in FED])
     got = []
     for piece, made in zip(heads(FED), wanted):
@@ -104,9 +104,9 @@ def live_streams(words: tuple[str, ...]) -> Callable[[Tried], bool]:
         with subprocess.Popen([tried.program, *words], cwd=tried.folder, bufsize=0, **pipes) as run:
             got, wanted = strips(run.stdin.fileno(), run.stdout.fileno())
             run.stdin.close()
-            rest, told = run.stdout.read(), run.stderr.read().decode()
+            rest, reported = run.stdout.read(), run.stderr.read().decode()
             status = run.wait(timeout=60)
-        return came(" ".join(words), (status, got, rest, told), (0, wanted, b"", REPORT.format(len(FED))))
+        return came(" ".join(words), (status, got, rest, reported), (0, wanted, b"", REPORT.format(len(FED))))
 
     return case
 
@@ -120,9 +120,9 @@ def live_files(tried: Tried) -> bool:
         feed, output = os.open(tried.folder / "from", os.O_WRONLY), os.open(tried.folder / "to", os.O_RDONLY)
         got, wanted = strips(feed, output)
         os.close(feed)
-        printed, told = run.communicate(timeout=60)
+        printed, reported = run.communicate(timeout=60)
         os.close(output)
-    return came("named pipes", (run.returncode, got, printed.decode(), told), (0, wanted, REPORT.format(len(FED)), b""))
+    return came("named pipes", (run.returncode, got, printed.decode(), reported), (0, wanted, REPORT.format(len(FED)), b""))
 
 
 def by_tools(tried: Tried) -> bool:
@@ -155,8 +155,8 @@ def left_pipe(tried: Tried) -> bool:
     words = [tried.program, "one", "-U", "strip.dpv", "strip.cert", "in.pcap", "-"]
     run = subprocess.run(words, cwd=tried.folder, stdout=writer, stderr=subprocess.PIPE, timeout=60, check=False)
     os.close(writer)
-    told = run.stderr.decode().splitlines()[-3:]
-    return came("left pipe", (run.returncode, told[0], told[1]), (3, "fault: output 0", "  file: -"))
+    reported = run.stderr.decode().splitlines()[-3:]
+    return came("left pipe", (run.returncode, reported[0], reported[1]), (3, "fault: output 0", "  file: -"))
 
 
 # ---- standard streams
@@ -214,7 +214,7 @@ def kept(tried: Tried) -> bool:
 
 
 def part_of_a_file(tried: Tried) -> bool:
-    """What stands before and after the capture in the same standard output is kept."""
+    """What is before and after the capture in the same standard output is kept."""
     capture, _report = stripped(tried)
     words = 'echo before; "$@"; echo after'
     run = subprocess.run(["sh", "-c", f"{{ {words}; }} > all", "sh", tried.program, *ONE, "in.pcap", "-"], cwd=tried.folder, capture_output=True, timeout=60, check=False)
@@ -235,8 +235,8 @@ def stream_clash(words: tuple[str, ...], suffix: str, output: str, other: str) -
     def case(tried: Tried) -> bool:
         held = tried.data("in.pcap")
         run = tried.by_shell(*words, suffix=suffix)
-        told = f"fault: file {output}\n  file: {other}\n  because: {READ}\n"
-        return came(f"{words} {suffix}", (run.returncode, run.stdout, run.stderr.decode(), tried.data("in.pcap")), (3, b"", told, held))
+        reported = f"fault: file {output}\n  file: {other}\n  because: {READ}\n"
+        return came(f"{words} {suffix}", (run.returncode, run.stdout, run.stderr.decode(), tried.data("in.pcap")), (3, b"", reported, held))
 
     return case
 
@@ -336,7 +336,7 @@ class Fault(NamedTuple):
 
     words: list[str]
     status: int
-    told: str
+    reported: str
 
 
 def usage(text: str) -> str:
@@ -345,11 +345,11 @@ def usage(text: str) -> str:
 
 
 def forms() -> list[Fault]:
-    """Words that have not their form."""
+    """Words that do not have their form."""
     named = ["", "0", "=", "0=", "=a", "8=a", "9=a", "00=a", "x=a", "-1=a", " 0=a", "port0=a", "0 =a", "0:a", "٠=a", "10=a", "/=a", ":=a"]
     bare = ["", "8", "00", "x", "port0", "0=", "0=a", " 0", "10", "/", ":"]
-    faults = [Fault([f"{option}={word}"], 2, usage(f"'{word}' is no PORT=NAME: {IN_WORDS}")) for option in ("--in", "--out") for word in named if word]
-    faults += [Fault([f"{option}={word}"], 2, usage(f"'{word}' is no port: a digit from 0 to 7")) for option in ("--no-in", "--no-out") for word in bare if word]
+    faults = [Fault([f"{option}={word}"], 2, usage(f"'{word}' is not PORT=NAME: {IN_WORDS}")) for option in ("--in", "--out") for word in named if word]
+    faults += [Fault([f"{option}={word}"], 2, usage(f"'{word}' is not a port: a digit from 0 to 7")) for option in ("--no-in", "--no-out") for word in bare if word]
     return faults
 
 
@@ -378,7 +378,7 @@ def missing() -> list[Fault]:
 
 
 def clashes() -> list[Fault]:
-    """Outputs that are a file which the run reads, or another port's output, under the names that are given."""
+    """Outputs that are a file that the run reads, or another port's output, under the given names."""
 
     def clash(output: str, other: str, why: str = READ) -> str:
         return f"fault: file {output}\n  file: {other}\n  because: {why}\n"
@@ -400,10 +400,10 @@ def first_faults() -> list[Fault]:
     """Each fault together with later ones: the first is reported."""
     none = "fault: file none\n  because: No such file or directory (os error 2)\n"
     return [
-        Fault(["--refuse", "x", "--in", "y", "--out", "9"], 2, usage("'x' is no list: numbers from 1 on, each above the one before it, joined by commas")),
-        Fault(["--in", "y", "--no-in", "x", "--out", "9"], 2, usage(f"'y' is no PORT=NAME: {IN_WORDS}")),
-        Fault(["--no-in", "x", "--out", "9"], 2, usage("'x' is no port: a digit from 0 to 7")),
-        Fault(["--out", "9", "--no-out", "x"], 2, usage(f"'9' is no PORT=NAME: {IN_WORDS}")),
+        Fault(["--refuse", "x", "--in", "y", "--out", "9"], 2, usage("'x' is not a list: numbers from 1 on, each above the one before it, joined by commas")),
+        Fault(["--in", "y", "--no-in", "x", "--out", "9"], 2, usage(f"'y' is not PORT=NAME: {IN_WORDS}")),
+        Fault(["--no-in", "x", "--out", "9"], 2, usage("'x' is not a port: a digit from 0 to 7")),
+        Fault(["--out", "9", "--no-out", "x"], 2, usage(f"'9' is not PORT=NAME: {IN_WORDS}")),
         Fault(["--in", "7=none", "--in", "0=none"], 2, usage("the pipeline has no port 7")),
         Fault(["--out", "0=in0.pcap", "--in", "1=none"], 3, none),
         Fault(["--out", "0=none/none", "--in", "0=none", "--in", "1=none/none"], 3, none),
@@ -420,11 +420,11 @@ def is_told(tried: Tried, fault: Fault) -> bool:
     before = {file.name: file.read_bytes() for file in tried.folder.iterdir()}
     run = tried.run("run", "case.toml", *fault.words, stdin=subprocess.DEVNULL)
     after = {file.name: file.read_bytes() for file in tried.folder.iterdir()}
-    report = run.stdout if "input" not in fault.told and "output" not in fault.told[:14] else b""
+    report = run.stdout if "input" not in fault.reported and "output" not in fault.reported[:14] else b""
     kept_all = all(after.get(name) == data for name, data in before.items())
     for name in set(after) - set(before):
         (tried.folder / name).unlink()
-    return came(" ".join(fault.words), (run.returncode, report, run.stderr.decode(), kept_all), (fault.status, b"", fault.told, True))
+    return came(" ".join(fault.words), (run.returncode, report, run.stderr.decode(), kept_all), (fault.status, b"", fault.reported, True))
 
 
 def not_loaded(tried: Tried) -> bool:
@@ -434,7 +434,7 @@ def not_loaded(tried: Tried) -> bool:
     words = tried.run("run", "none.toml", "--in", "8=none")
     file = tried.run("run", "none.toml", "--in", "7=none")
     got = [(run.returncode, run.stderr.decode().splitlines()[0]) for run in (port, words, file)]
-    return came("not loaded", got, [(3, "fault: pipeline 2 BadKey port 0"), (2, f"error: '8=none' is no PORT=NAME: {IN_WORDS}"), (3, "fault: file none.toml")])
+    return came("not loaded", got, [(3, "fault: pipeline 2 BadKey port 0"), (2, f"error: '8=none' is not PORT=NAME: {IN_WORDS}"), (3, "fault: file none.toml")])
 
 
 TRIED: list[Callable[[Tried], bool]] = [

@@ -50,7 +50,7 @@ def sent(text: str, *frames: str, port: int = 0, **more: object) -> list[list[st
 
 
 class Headers(unittest.TestCase):
-    """Which headers are found, and what is done where they are not."""
+    """Which headers are found, and what happens if they are not."""
 
     def passes(self, condition: str, frame: str) -> bool:
         """Whether a frame meets a condition."""
@@ -159,7 +159,7 @@ class Sums(unittest.TestCase):
 
 
 class Packets(unittest.TestCase):
-    """Packets that are made, handed on and dropped."""
+    """Packets that are made, sent or queued, and dropped."""
 
     def test_clones(self) -> None:
         text = "ports 2 clone c from 1 else send port truncate c 14 send c to 1 send 0"
@@ -220,7 +220,7 @@ class Bytes(unittest.TestCase):
 
 
 class Examples(unittest.TestCase):
-    """The interpreter sends what scapy says (tests/by_scapy.py, tests/tasks_by_scapy.py): it and the examples were made apart."""
+    """The interpreter sends what scapy says (tests/by_scapy.py, tests/tasks_by_scapy.py): it and the examples were written independently."""
 
     def test_examples(self) -> None:
         folders = [it for it in sorted(EXAMPLES.iterdir()) if (it / f"{it.name}.toml").exists() and list(it.glob("*.pkt"))]

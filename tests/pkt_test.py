@@ -165,7 +165,7 @@ class Errors(unittest.TestCase):
             "let c = 1\nclone c from 0": "x.pkt:2:1: c is a variable already",
             "const eth = 5": "x.pkt:1:7: eth is a header already",
             "need length + 1 == 5": "x.pkt:1:6: the length is only compared with a constant",
-            "let x = (eth.type == 5) + 1": "x.pkt:1:10: a condition stands where a number is wanted",
+            "let x = (eth.type == 5) + 1": "x.pkt:1:10: a condition is where a number is wanted",
             "need eth.type else { let x = 1 }": "x.pkt:1:1: what is after this `else` has to end the program",
             "while 1 { new h from 0 chain h before this }": "x.pkt:1:1: `chain` cannot be in a loop",
             "header mine { a:3 } after eth if eth.type == 5": "x.pkt:1:8: the 3 bits of mine do not make whole bytes",
@@ -177,11 +177,11 @@ class Errors(unittest.TestCase):
             "x = 1 ?": "x.pkt:1:7: no word begins with '?'",
             "if tcp.dport = 5 { drop }":
                 "x.pkt:1:14: '{' is wanted here, and this is '='\n    if tcp.dport = 5 { drop }\n                 ^\n  help: compare with ==",
-            "if ipv4.src == 10.0.0.0/8 { drop }": "help: a prefix stands after `in`",
+            "if ipv4.src == 10.0.0.0/8 { drop }": "help: a prefix comes after `in`",
             "drop;": "help: no sign ends a statement",
             "if tcp {\n  drop": "x.pkt:2:7: no statement begins with 'the end of the text'",
             "accept": "help: statements begin with let, if, while",
-            "send (1 == 1) + 1": "x.pkt:1:7: a condition stands where a number is wanted",
+            "send (1 == 1) + 1": "x.pkt:1:7: a condition is where a number is wanted",
             "header o { k:32 } length v * 4 for v:8 in 1..9\nheader p { x:32 } after o if o.k == 3\nneed tcp.dport == 1 and p.x == 3":
                 "x.pkt:3:1: p is after two headers whose lengths vary",
         }

@@ -152,7 +152,7 @@ def function_at(text: str, at: int) -> tuple[str, ...] | None:
 
 @functools.cache
 def calls_of(crate: Crate) -> dict[str, set[str]]:
-    """What stands as a call in each function, by the ends of the functions' names: `name`, `Type::name`, or `.name` of any type."""
+    """The calls in each function, by the ends of the functions' names: `name`, `Type::name`, or `.name` of any type."""
     found: dict[str, set[str]] = collections.defaultdict(set)
     for text in (it.read_text() for it in sorted((crate.folder / "src").rglob("*.rt"))):
         around = name = ""
@@ -487,9 +487,9 @@ def main() -> int:
         said = f"{it.checks} checks, {it.refused} refused, {len(it.passed)} not refused, {len(it.unfit)} not tried, {it.seconds:.0f} s"
         say(f"{crate.name}: {len(tried)} edits, {said}")
     failed, unfit = [[name for it in tallies for name in names(it)] for names in (lambda it: it.passed + it.unfit, lambda it: it.unfit)]
-    told = [f"planted: {sum(it.refused for it in tallies)} refused, {len(failed)} not{': ' * bool(failed)}{' '.join(failed)}"]
-    told += [f"{len(unfit)} of them could not be tried"] * bool(unfit) + [f"{left} are left for another time"] * bool(left)
-    say("; ".join([*told, f"{sum(it.seconds for it in tallies):.0f} s of processor time"]))
+    reported = [f"planted: {sum(it.refused for it in tallies)} refused, {len(failed)} not{': ' * bool(failed)}{' '.join(failed)}"]
+    reported += [f"{len(unfit)} of them could not be tried"] * bool(unfit) + [f"{left} are left for another time"] * bool(left)
+    say("; ".join([*reported, f"{sum(it.seconds for it in tallies):.0f} s of processor time"]))
     return 1 if failed else 0
 
 

@@ -68,7 +68,7 @@ def main() -> int:
         wrong = [Edit(crate, it) for it in sorted((crate.folder / "planted").glob("*.edit"))[:BESIDE]]
         tally = try_crate(crate, harmless + wrong, is_alone=False)
         is_well = (sorted(tally.passed), tally.refused, tally.unfit) == (sorted(it.name for it in harmless), len(wrong), [])
-        print(f"{crate.name}: {len(tally.passed)} of {len(harmless)} harmless bodies told, {tally.refused} of {len(wrong)} wrong ones refused")
+        print(f"{crate.name}: {len(tally.passed)} of {len(harmless)} harmless bodies reported, {tally.refused} of {len(wrong)} wrong ones refused")
         failed += not is_well
     return 1 if failed else 0
 

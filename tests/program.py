@@ -54,18 +54,18 @@ class Ended:
             output.unlink(missing_ok=True)
         env = dict(os.environ, LD_PRELOAD=str(shim), REFUSE=str(refused), COUNT=str(count))
         run = subprocess.run(command, env=env, cwd=folder, capture_output=True, timeout=60)
-        self.status, self.printed, self.told = run.returncode, run.stdout, run.stderr
+        self.status, self.printed, self.reported = run.returncode, run.stdout, run.stderr
         self.written = [output.read_bytes() if output.exists() else b"" for output in outputs]
         self.allocations, self.kept = map(int, count.read_text().split())
 
     def is_as(self, whole: "Ended") -> bool:
         """Whether it did all that this run did."""
-        return (self.status, self.printed, self.told, self.written) == (0, whole.printed, b"", whole.written)
+        return (self.status, self.printed, self.reported, self.written) == (0, whole.printed, b"", whole.written)
 
     def is_refused(self, whole: "Ended") -> bool:
         """Whether it reported the refused memory, and printed and wrote nothing else than that run."""
         return (
-            (self.status, self.told) == (4, b"fault: memory\n")
+            (self.status, self.reported) == (4, b"fault: memory\n")
             and (whole.printed.startswith(self.printed) or self.printed == NO_MEMORY)
             and all(held in (b"", complete) for held, complete in zip(self.written, whole.written))
         )
@@ -83,7 +83,7 @@ def refuse_each(name: str, command: list[str], shim: pathlib.Path) -> bool:
         refused += ended.is_refused(whole)
         if not ended.is_refused(whole) and not ended.is_as(whole):
             bad += 1
-            print(f"{name}: allocation {number}: status {ended.status}, told {ended.told!r}, printed {ended.printed!r}")
+            print(f"{name}: allocation {number}: status {ended.status}, reported {ended.reported!r}, printed {ended.printed!r}")
     print(f"{name}: {whole.allocations} allocations, {refused} runs ended with fault: memory, {bad} in another way")
     return bad == 0 and refused > 0
 
@@ -117,19 +117,19 @@ def gives_back(program: str, shim: pathlib.Path) -> bool:
 
 
 def shim_in(folder: pathlib.Path) -> pathlib.Path | None:
-    """The library that refuses an allocation; or nothing if there is no C compiler."""
+    """The library that refuses an allocation; nothing if there is no C compiler."""
     shim = put_library("refused", folder)
     if shim is None:
         print("refused memory: NOT TRIED, for want of a C compiler")
     return shim
 
 
-def is_full(name: str, command: list[str], told: bytes, printed: str | None = None) -> bool:
+def is_full(name: str, command: list[str], reported: bytes, printed: str | None = None) -> bool:
     """Whether a run ends with status 3 and this on standard error, with its output to a file or dropped."""
     with open(printed or os.devnull, "wb") as out:
         run = subprocess.run(command, stdout=out, stderr=subprocess.PIPE, timeout=60)
-    passed = (run.returncode, fixed(run.stderr.decode())) == (3, told.decode())
-    print(f"{name}: status {run.returncode}, told {run.stderr!r}" + ("" if passed else f", and not 3 and {told!r}"))
+    passed = (run.returncode, fixed(run.stderr.decode())) == (3, reported.decode())
+    print(f"{name}: status {run.returncode}, reported {run.stderr!r}" + ("" if passed else f", and not 3 and {reported!r}"))
     return passed
 
 
@@ -140,7 +140,7 @@ def limit_files(size: int) -> None:
 
 
 def sends_what_fits(program: str, folder: pathlib.Path, size: int) -> bool:
-    """Whether a run into a file of so many bytes at most tells the records of 46 bytes that are whole there, of 2,000, as sent."""
+    """Whether a run into a file of at most this many bytes reports as sent the records of 46 bytes, of 2,000, that are whole there."""
     header, record = 24, struct.pack("<IIII", 1, 2, 60, 60) + bytes(60)
     capture, out = folder / "many.pcap", folder / "fits.pcap"
     capture.write_bytes((STRIP / "in.pcap").read_bytes()[:header] + 2000 * record)
@@ -149,7 +149,7 @@ def sends_what_fits(program: str, folder: pathlib.Path, size: int) -> bool:
     sent = re.search(r" sent (\d+) input ", run.stdout)
     held, whole = out.stat().st_size, max(size - header, 0) // 62
     passed = (run.returncode, fixed(run.stderr), held, sent and int(sent[1])) == (3, "fault: output 0\n", size, whole)
-    print(f"dpv one into {size} bytes: status {run.returncode}, told {run.stderr!r}, sent {sent and sent[1]}" + ("" if passed else f", and not {whole}"))
+    print(f"dpv one into {size} bytes: status {run.returncode}, reported {run.stderr!r}, sent {sent and sent[1]}" + ("" if passed else f", and not {whole}"))
     return passed
 
 

@@ -2,11 +2,13 @@
 """Checks what needs no proof, before the proofs: the layout of code, definitions and proofs; that each wrong body can be made; and how many
 there are.
 
-Usage: tests/texts.py   (about half a minute)
+Usage: tests/texts.py   (some 12 seconds)
 Prints a line for each file that `rt fmt` would change, for each line of more than 160 columns, and for each edit whose old text does not
-occur exactly once; exits with 1 if there is one."""
+occur exactly once, for each lemma that a tactic is to use from a module that is not there, and for each page with the marks of a merge;
+exits with 1 if there is one."""
 import concurrent.futures
 import pathlib
+import re
 import shutil
 import subprocess
 import sys
@@ -35,6 +37,23 @@ def too_wide(crate: str) -> list[str]:
     return [f"{it.relative_to(TOP)}:{number}" for it in files for number, line in enumerate(it.read_text().splitlines(), 1) if len(line) > WIDTH]
 
 
+def missing_lemmas(crate: str) -> list[str]:
+    """The places where code names a lemma of a proof module that the crate does not have."""
+    found, here = [], TOP / "crates" / crate
+    for file in sorted((here / "src").rglob("*.rt")):
+        for path in re.findall(r"crate::proofs::([\w:]+)", file.read_text()):
+            words = path.split("::")
+            if not any((here / "proofs").joinpath(*words[:k]).with_suffix(".antt").is_file() for k in range(1, len(words))):
+                found.append(f"{file.relative_to(TOP)}: there is no module of {path}")
+    return found
+
+
+def merged_pages() -> list[str]:
+    """The pages with the marks that a merge leaves."""
+    pages = [TOP / "README.md", TOP / "CONTRIBUTING.md", *sorted((TOP / "docs").rglob("*.md"))]
+    return [f"{it.relative_to(TOP)}: the marks of a merge" for it in pages if re.search(r"^(<{7}|>{7}) ", it.read_text(), re.MULTILINE)]
+
+
 def main() -> int:
     with tempfile.TemporaryDirectory(prefix="texts-") as room:
         shutil.copy(TOP / "crates.txt", room)
@@ -45,6 +64,9 @@ def main() -> int:
     wide = [line for crate in CRATES for line in too_wide(crate)]
     for line in wide:
         print(f"{line}: more than {WIDTH} columns")
+    other = [line for crate in CRATES for line in missing_lemmas(crate)] + merged_pages()
+    for line in other:
+        print(line)
     tally = Tally()
     for crate in CRATES.values():
         fit([it for name in FOLDERS for it in edits_in(crate, name)], tally)
@@ -53,7 +75,7 @@ def main() -> int:
     if not is_counted:
         print("docs/notes/wrong_bodies.md counts what was there before: run tests/planted.py --count")
     print(f"texts: {len(files)} laid out otherwise, {len(wide)} lines too wide, {len(tally.unfit)} wrong bodies that cannot be made")
-    return 1 if files or wide or tally.unfit or not is_counted else 0
+    return 1 if files or wide or other or tally.unfit or not is_counted else 0
 
 
 if __name__ == "__main__":

@@ -40,7 +40,7 @@ def capture(rng: Random, env: Env, most: int, sound: bool) -> bytes:
 
 
 def spoiled(rng: Random, data: bytes, order: str, units: int) -> bytes:
-    """A capture that is cut, has a byte changed, or ends in a record of which something is wrong."""
+    """A capture that is cut, has a byte changed, or ends in a faulty record."""
     how = rng.randrange(6)
     if how == 0:
         return data[: rng.randrange(len(data) + 1)]

@@ -33,7 +33,7 @@ def changed_rows(rng: Random, rows: rules.Rows) -> rules.Rows:
 
 
 def change_groups(rng: Random, rows: rules.Rows) -> None:
-    """Changes who belongs to a group in some row and, often, in the rows behind it."""
+    """Changes who belongs to a group in some row and, often, in the rows after it."""
     many = [k for k, row in enumerate(rows) if row and sum(fact is not None for fact in row.facts) > 1]
     at = rng.choice(many or [0])
     held = [p for p, fact in enumerate(rows[at].facts) if fact] if many else []

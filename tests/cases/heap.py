@@ -7,7 +7,7 @@ from .noise import changed_bytes
 
 
 def heap_script(rng: Random) -> bytes:
-    """A heap script, most of whose commands are none that is refused."""
+    """A heap script, most of whose commands are not refused."""
     region = rng.choice((4096, 4096, 4160, 8192, 65_536, 1 << 20))
     lines, played = [f"region {region}"], heap.Heap(region)
     for _ in range(rng.choice((3, 10, 40))):

@@ -27,7 +27,7 @@ def any_operand(rng: Random, kind: str, size: int) -> int:
 
 
 def len_of(allowed: range) -> int:
-    """How long a range is, which may be longer than `len` tells."""
+    """The length of a range, which may be longer than `len` can return."""
     return allowed.stop - allowed.start
 
 

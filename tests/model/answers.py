@@ -1,4 +1,4 @@
-"""What a command of `dpv` prints, tells, writes and ends with, given its words and files."""
+"""What a command of `dpv` prints, reports, writes and ends with, given its words and files."""
 import os.path
 import pathlib
 from typing import NamedTuple
@@ -16,7 +16,7 @@ class Answer(NamedTuple):
 
     status: int
     printed: str
-    told: str
+    reported: str
     written: dict[str, bytes] | None = {}
     records: int = 0
 
@@ -116,7 +116,7 @@ def infer(disk: Disk, file: str, which: str, said: str) -> Answer:
 
 
 def clash(ports: list[pipelines.Node], reads: list[str], disk: Disk) -> str | None:
-    """The first output that is a file which the run reads, or the output of an earlier port."""
+    """The first output that is a file that the run reads, or the output of an earlier port."""
     for k, node in enumerate(ports):
         earlier = [it.writes for it in ports[:k]]
         if any(disk.are_same(node.writes, name) for name in [*reads, *earlier]) or any(disk.are_same_new(node.writes, name) for name in earlier):
@@ -138,7 +138,7 @@ def made(ports: list[pipelines.Node], reads: list[str], disk: Disk) -> tuple[str
 
 
 def forward(pipeline: pipelines.Pipeline, disk: Disk, pattern: frozenset[int], file: str | None, is_counted: bool) -> Answer:
-    """The run of a pipeline, with its counts where they are asked for."""
+    """The run of a pipeline, with its counts if they are requested."""
     world = World(pipeline.env, pipeline.programs, pattern)
     answer = forwarded(world, pipeline, disk, file)
     if not is_counted or not answer.printed:
@@ -161,14 +161,14 @@ def forwarded(world: World, pipeline: pipelines.Pipeline, disk: Disk, file: str 
         data = disk.read(node.reads)
         source = captures.Capture(0, [], "8", False) if data is None else captures.read(data)
         if not source.has_header:
-            told = f"fault: input {k} cause {source.ending}\n"
-            return Answer(3, report(world, ["open"] * len(ports)), told, written)
+            reported = f"fault: input {k} cause {source.ending}\n"
+            return Answer(3, report(world, ["open"] * len(ports)), reported, written)
         sources.append(source)
     nano = any(source.units == 1_000_000_000 for source in sources)
     done = run(world, [Input(source.records, source.ending) for source in sources])
     sent = {node.writes: captures.written(nano, records) for node, records in zip(ports, done.sent)}
-    told = "" if done.fault is None else done.fault + "\n"
-    return Answer(3 if told else 0, done.report, told, sent, sum(map(len, done.sent)))
+    reported = "" if done.fault is None else done.fault + "\n"
+    return Answer(3 if reported else 0, done.report, reported, sent, sum(map(len, done.sent)))
 
 
 def one(disk: Disk, node: str, cert: str, reads: str, writes: str, is_counted: bool) -> Answer:
@@ -192,7 +192,7 @@ def pattern_of(text: str) -> frozenset[int] | None:
 
 
 def run_file(disk: Disk, file: str, refuse: str | None, is_counted: bool, said: str) -> Answer | None:
-    """`dpv run FILE [--refuse LIST] [--counts]`; nothing where the words are wrong, which is told in words of their own."""
+    """`dpv run FILE [--refuse LIST] [--counts]`; nothing if the words are wrong, which is reported in other words."""
     pattern = frozenset() if refuse is None else pattern_of(refuse)
     if pattern is None:
         return None
@@ -201,7 +201,7 @@ def run_file(disk: Disk, file: str, refuse: str | None, is_counted: bool, said: 
 
 
 def answer(words: list[str], disk: Disk, said: str) -> Answer | None:
-    """How `dpv` ends with these words in this folder, given what it printed where that is open."""
+    """How `dpv` ends with these words in this folder, given what it printed if that is open."""
     command, *operands = (word for word in words if word != "--counts")
     is_counted = "--counts" in words
     if command == "one":

@@ -34,7 +34,7 @@ def read(data: bytes) -> Capture:
 
 
 def read_records(data: bytes, order: str, units: int) -> tuple[list[Record], str]:
-    """The records behind the header, and how they end."""
+    """The records after the header, and how they end."""
     records: list[Record] = []
     at = 24
     while at < len(data):

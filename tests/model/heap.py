@@ -19,7 +19,7 @@ class Element:
 
 @dataclass
 class Heap:
-    """The elements of a region, and where those that were handed out begin."""
+    """The elements of a region, and where the allocated blocks begin."""
 
     size: int
     elements: list[Element] = field(init=False)
@@ -35,7 +35,7 @@ class Heap:
         return place if place >= element.place + HEADER else -1
 
     def malloc(self, size: int, align: int, printed: str) -> str:
-        """The line of an allocation. Any free element that fits may be taken: which one, the line that was printed tells."""
+        """The line of an allocation. Any free element that fits may be taken: the printed line says which."""
         if size == 0:
             return "refused 1 ZeroSize"
         if align & (align - 1):
@@ -44,12 +44,12 @@ class Heap:
         fitting = [element for element in self.elements if element.free and self.data(element, size, align) >= 0]
         if not fitting:
             return "refused 3 NoRoom"
-        told = re.fullmatch(r"\d+ data (\d+) element \d+ \+ \d+", printed)
-        taken = next((e for e in fitting if told and e.place <= int(told[1]) < e.place + e.size), fitting[0])
+        reported = re.fullmatch(r"\d+ data (\d+) element \d+ \+ \d+", printed)
+        taken = next((e for e in fitting if reported and e.place <= int(reported[1]) < e.place + e.size), fitting[0])
         return self.take(taken, self.data(taken, size, align), size)
 
     def take(self, element: Element, data: int, size: int) -> str:
-        """Splits what is left in front and behind, where it is more than 128 bytes."""
+        """Splits off what is left before and after the block, if it is more than 128 bytes."""
         at, end = self.elements.index(element), element.place + element.size
         front, behind = data - HEADER - element.place, end - (data + size)
         place = data - HEADER if front > SPLIT else element.place
@@ -94,7 +94,7 @@ def numbers(words: list[bytes]) -> list[int] | None:
 
 
 def command(heap: Heap | None, line: bytes, printed: list[str]) -> tuple[Heap | None, list[str]] | None:
-    """The heap behind a command, and the lines that it prints; nothing for a bad command."""
+    """The heap after a command, and the lines that it prints; nothing for a bad command."""
     word, *words = line.split(b" ")
     values = numbers(words)
     form = (word, None if values is None else len(values))
@@ -111,12 +111,12 @@ def command(heap: Heap | None, line: bytes, printed: list[str]) -> tuple[Heap | 
 
 
 def answer(script: bytes, printed: str) -> tuple[int, str, str]:
-    """The status, what is printed and what is told, given what was printed."""
-    heap, lines, told = None, [], printed.split("\n")
+    """The status, and what is printed on both streams, given what was printed."""
+    heap, lines, reported = None, [], printed.split("\n")
     for at, line in enumerate(script.split(b"\n"), 1):
         if not line:
             continue
-        done = command(heap, line, told[len(lines) :])
+        done = command(heap, line, reported[len(lines) :])
         if done is None:
             return 3, "".join(text + "\n" for text in lines), f"fault: line {at} bad command\n"
         heap = done[0]

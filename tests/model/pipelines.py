@@ -53,7 +53,7 @@ class Fault(NamedTuple):
 
     status: int
     printed: str
-    told: str
+    reported: str
 
 
 def fault(text: str) -> Fault:
@@ -192,8 +192,8 @@ def named_for(name: str, program: list[Instr], env: Env, place: int, cert: bytes
 def inferred_for(name: str, program: list[Instr], env: Env, place: int, said: str) -> rules.Rows | Fault:
     """The certificate that is inferred for a node. Of a program with loops any refusal of it that was printed is open."""
     forward, rows = rules.is_forward(program), rules.infer(env, program, rules.entry_row(env, place))
-    told = re.fullmatch(rf"{name} (not inferred|refused) at \d+ by J\d+\n", said)
-    is_open = told and (told[1] == "not inferred" or not forward)
+    reported = re.fullmatch(rf"{name} (not inferred|refused) at \d+ by J\d+\n", said)
+    is_open = reported and (reported[1] == "not inferred" or not forward)
     if is_open and (rows is None or not forward):
         return Fault(1, said, "")
     return rows or ([] if not forward else Fault(1, f"{name} not inferred at some label by some rule\n", ""))

@@ -15,7 +15,7 @@ PLACES = {"alloc": (1, "pools"), "clone": (2, "pools"), "lookup": (1, "tables"),
 
 
 class Fact(NamedTuple):
-    """What is known of a packet; of a share from 8 on, less 8, is the group's name."""
+    """What is known of a packet; a share of at least 8 is the group's name plus 8."""
 
     share: int
     head: int
@@ -352,7 +352,7 @@ def weakened(old: Row, new: Row, constants: list[int]) -> Row:
 
 
 def infer(env: Env, program: list[Instr], entry: Row) -> Rows | None:
-    """The rows by one pass over a forward program, where no others say more; of other programs, rows that may do, or nothing."""
+    """The rows by one pass over a forward program, where no others say more; of other programs, rows that may suffice, or nothing."""
     rows: Rows = [None] * len(program)
     rows[0] = entry
     forward = is_forward(program)

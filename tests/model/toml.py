@@ -28,7 +28,7 @@ def escape(found: re.Match[str]) -> str:
 
 
 def older(text: str) -> str:
-    """A text of TOML 1.1 as one of 1.0, which is refused where the first is."""
+    """A text of TOML 1.1 as one of 1.0, which is refused exactly if the first is."""
     text = text.replace("\r\n", "\n")
     if "\r" in text:
         raise ValueError("a carriage return without a newline")
@@ -57,5 +57,5 @@ def older(text: str) -> str:
 
 
 def read(text: str) -> dict[str, Any]:
-    """The table of a text; a ValueError where it is none."""
+    """The table of a text; raises ValueError if it is not TOML."""
     return tomllib.loads(older(text))

@@ -1,4 +1,4 @@
-"""Numbers of 64 bits without a sign, and Internet checksums."""
+"""Unsigned numbers of 64 bits, and Internet checksums."""
 import operator
 from collections.abc import Callable
 

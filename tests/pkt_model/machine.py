@@ -239,7 +239,7 @@ class SourceRun:
         raise Ended
 
     def touch(self, headers: Iterable[str]) -> None:
-        """Looks for headers; where one is not there, does `otherwise`, which ends the program."""
+        """Looks for headers; if one is absent, does `otherwise`, which ends the program."""
         if not self.headers.finds_all(headers):
             self.ends_by(self.program.otherwise)
 
@@ -347,7 +347,7 @@ class SourceRun:
         return True
 
     def handed(self, name: str | None, is_taken: bool, otherwise: Block | None) -> None:
-        """What follows a try to hand a packet on."""
+        """What follows an attempt to put a packet into a list."""
         if is_taken:
             if name is None:
                 raise Ended

@@ -16,7 +16,7 @@ RESERVED = frozenset(
 )
 # The cures for these words out of place.
 CURES = {
-    "=": "compare with ==", "/": "a prefix stands after `in`; there is no division, and >> n divides by 2^n; a comment begins with #",
+    "=": "compare with ==", "/": "a prefix comes after `in`; there is no division, and >> n divides by 2^n; a comment begins with #",
     "!": "write `not`", ";": "no sign ends a statement", "&": "write `and`", "|": "write `or`", "-": "write x -= 1", "+": "write x += 1",
     ":": "write half of an IPv6 address as 0x20010db800000000", '"': "a text ends in its line", "lookup": "let x = lookup ..",
     "else": "an `else` comes after its statement", "the end of the text": "a block ends with }", "true": "write 1",

@@ -47,7 +47,7 @@ class Program:
 
 def as_side(node: Node) -> Node:
     """A side of a comparison."""
-    require(isinstance(node, Numeric), node.at, "a condition stands where a number is wanted", "`and`, `or` and `not` join conditions; `if` decides by them")
+    require(isinstance(node, Numeric), node.at, "a condition is where a number is wanted", "`and`, `or` and `not` join conditions; `if` decides by them")
     return node
 
 

@@ -3,13 +3,15 @@ use Rattle.std.proofs.Common.{◌≡◌, ℕ, zero, suc, ◌+◌, ◌-◌, ◌/�
 use Rattle.std.proofs.Common.{subst, arith, get_or}
 use Rattle.std.specs.Prelude.{max, replicate, slice_get, slice_set}
 use Rattle.std.specs.List.{AllByRecursion}
-use Rattle.std.proofs.lemmas.Option.{none-some, same_Some}
+use Rattle.std.proofs.lemmas.Option.{same_Some}
 use Rattle.dp_model.specs.Buffers.{Number, Buffers, ChangesOnly}
-use Rattle.dp_model.specs.Packets.{Segment, Packet, headroom, first_len, at_front, more_before, less_before, zeroed_before, refs, IsHeadSole, allocated}
+use Rattle.dp_model.specs.Packets.{Packet, headroom, first_len, at_front, more_before, less_before, zeroed_before, IsHeadSole, allocated}
 use Rattle.dp_model.specs.Packets.{cloned, needed, received, Filled}
 use Rattle.dp_model.specs.Environments.{room_at}
 use Rattle.dp_model.specs.Machine.{segments_held}
 use Rattle.dp_model.specs.Stores.{Store, Has, HasSome, IsLive, Becomes, unwritten, with_slot, Gives, Allocates, Clones, ReceivesInto}
+use Rattle.dp_model.specs.Laws.Lists.{get_replicate, get_set_same}
+use Rattle.dp_model.specs.Laws.Stores.{given_live}
 use Rattle.dp_region.specs.Ownership.{Home}
 use Rattle.dp_pool.specs.Pools.{PoolView, PoolZones}
 use Rattle.dp_mbuf.specs.Objects.{present, PoolsFirst, pool_in, zones_of}
@@ -23,25 +25,14 @@ put_back [] h o x is = refl
 put_back (y ∷ xs) zero o x is = ap (λ z. z ∷ xs) (sym (same_Some y o is))
 put_back (y ∷ xs) (suc h) o x is = ap (λ l. y ∷ l) (put_back xs h o x is)
 
-get_put : (xs : List (Option Packet)) (h : ℕ) (o x : Option Packet) → slice_get xs h ≡ Some o → slice_get (slice_set xs h x) h ≡ Some x
-get_put [] h o x is = absurd (none-some o is)
-get_put (y ∷ xs) zero o x is = refl
-get_put (y ∷ xs) (suc h) o x is = get_put xs h o x is
-
--- what is allocated is live, and once it is freed the packets are as before
+-- once what was allocated is freed, the packets are as before
 module _ (s s' : Store) (pool need h : ℕ) (packet : List Number → Packet) (Changes : List Number → Buffers → Buffers →
     Type 0) (g : Gives s pool need packet Changes s' (Some h)) where
-  given_live : IsLive s' h
-  given_live = (packet g.2, ap (λ (x : Store). slice_get x.slots h) g.6 ∙ get_put s.slots h None (Some (packet g.2)) g.1, tt)
-
   given_back : (s'' : Store) → s'' ≡ with_slot h None s' → (s''.slots ≡ s.slots) × (s''.pools ≡ s.pools)
   given_back s'' e = (
     ap (λ (x : Store). x.slots) e ∙ (ap (λ (x : Store). slice_set x.slots h None) g.6 ∙ put_back s.slots h None (Some (packet g.2)) g.1),
     ap (λ (x : Store). x.pools) e ∙ ap (λ (x : Store). x.pools) g.6,
   )
-
-pub alloc_live : (s s' : Store) (pool h : ℕ) → Allocates s pool s' (Some h) → IsLive s' h
-alloc_live s s' pool h g = given_live s s' pool 1 h (allocated s.pools) ChangesOnly g
 
 pub alloc_back : (s s' : Store) (pool h : ℕ) → Allocates s pool s' (Some h) → (s'' : Store) → s'' ≡ with_slot h None s' →
     (s''.slots ≡ s.slots) × (s''.pools ≡ s.pools)
@@ -92,7 +83,7 @@ module _ (s s' : Store) (h n : ℕ) (some : 0 < n) (f : HasFront s h n) (b : Bec
   grown = at_front (more_before n) f.0
 
   has_grown : Has s' h grown
-  has_grown = ap (λ (x : Store). slice_get x.slots h) (b f.0 f.1) ∙ get_put s.slots h (Some f.0) (Some grown) f.1
+  has_grown = ap (λ (x : Store). slice_get x.slots h) (b f.0 f.1) ∙ get_set_same s.slots h (Some grown) (Some f.0) f.1
 
   pub front_long : HasSome s' h (λ k. n ≤ first_len k)
   front_long = (grown, has_grown, longer f.0 n some f.2.0)
@@ -107,10 +98,6 @@ module _ (s s' : Store) (h n : ℕ) (some : 0 < n) (f : HasFront s h n) (b : Bec
             ∙ put_back s.slots h (Some f.0) (Some grown) f.1)),
         ap (λ (x : Store). x.pools) cut ∙ ap (λ (x : Store). x.pools) first,
       )
-
-pub head_sole : (live : List Segment) (k : Packet) (r : ℕ) → ((s : Segment) → slice_get k 0 ≡ Some s → r ≡ refs live s.buffer) → r ≡ 1 → IsHeadSole live k
-head_sole live [] r f one = tt
-head_sole live (s ∷ k) r f one = sym (f s refl) ∙ one
 
 -- ---- what depends on packets alone
 
@@ -128,11 +115,6 @@ some_kept s s' e some = let l = ap length e in omega (arith, l, some)
 
 -- ---- one pool
 
-none_out : (n i : ℕ) → get_or (replicate n false) i false ≡ false
-none_out zero i = refl
-none_out (suc n) zero = refl
-none_out (suc n) (suc i) = none_out n i
-
 abbrev pub one_of : PoolView → List (Option PoolView)
 one_of p = Some p ∷ None ∷ None ∷ None ∷ None ∷ None ∷ None ∷ None ∷ []
 
@@ -146,7 +128,7 @@ ready_one home p r = record {
 }
   where
     at : (k i : ℕ) → get_or (pool_in (p ∷ []) k).out i false ≡ false
-    at zero i = ap (λ o. get_or o i false) r.all_in ∙ none_out 400 i
+    at zero i = ap (λ o. get_or o i false) r.all_in ∙ get_replicate 400 i false
     at (suc k) i = refl
 
 pub new_room : (p : PoolView) (v : MbufsView) → IsNew (one_of p) v → p.size ≡ 2304 → HasRoom v.store

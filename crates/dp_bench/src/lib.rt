@@ -1,5 +1,5 @@
 //! The benchmarks that C programs call. Each call makes something in memory of its own, does `rounds` rounds of one operation on it, gives everything
-//! back, and returns how many rounds succeeded: 0 where there is no memory. The cost of a round is the difference between two calls with different
+//! back, and returns how many rounds succeeded: 0 if there is no memory. The cost of a round is the difference between two calls with different
 //! numbers of rounds.
 #![tactic(auto)]
 
@@ -55,7 +55,7 @@ pub extern "C" fn dpv_pool_bulk(alloc: Global, rounds: u32) -> u32
     pools::bulks(alloc, rounds)
 }
 
-/// Allocates an empty packet of one segment from a pool with a cache for 256 and frees it. The numbers 1 to 3 stand for cloning such a packet, for
+/// Allocates an empty packet of one segment from a pool with a cache for 256 and frees it. The numbers 1 to 3 mean cloning such a packet, for
 /// prepending 16 bytes and cutting them off, and for receiving 60 bytes and freeing the packet.
 #[unsafe(no_mangle)]
 pub extern "C" fn dpv_mbufs(alloc: Global, deed: u32, rounds: u32) -> u32

@@ -19,16 +19,13 @@ use Rattle.dp_cert.specs.Spelling.{Certificate, is_row_of, row_line, head_line, 
 use Rattle.dp_cert.specs.declared.cert.Version.{Version}
 use Rattle.dp_cert.specs.declared.cert.Version.TheVariants.{One, Two}
 use Rattle.std.proofs.lemmas.Option.{same_Some}
+use Rattle.std.proofs.lemmas.Bool.{and_parts}
 use Rattle.dp_cert.specs.Reading.{◌>>=◌, at_line, onto, is_line, digits_in, of_bytes, spelled_row, row_in, row_of, rows_of, version_in, certified, cert_of}
 use Rattle.dp_cert.specs.Reading.{Gives}
 
 pub chosen : {A E : Type 0} (b : Bool) (r : Result A E) (e : E) (x : A) → cond b r (Err e) ≡ Ok x → (b ≡ true) × (r ≡ Ok x)
 chosen true r e x h = (refl, h)
 chosen false r e x h = absurd cc
-
-pub both_true : (a b : Bool) → (a && b) ≡ true → (a ≡ true) × (b ≡ true)
-both_true true b h = (refl, h)
-both_true false b h = absurd cc
 
 pub bind_ok : {A B E : Type 0} (r : Result A E) (f : A → Result B E) (y : B) → (r >>= f) ≡ Ok y → (x : A) × (r ≡ Ok x) × (f x ≡ Ok y)
 bind_ok (Ok x) f y h = (x, refl, h)
@@ -56,7 +53,7 @@ module _ (version : Version) where
   spelled_found : (line : List ℕ) (made row : Row) → spelled_row version line made ≡ Ok row → Spells line row
   spelled_found line made row h =
       let p = chosen (bytes_eq (row_line made) line && is_row_of version made) (Ok made) BadRow row h in
-      let q = both_true (bytes_eq (row_line made) line) (is_row_of version made) p.0 in
+      let q = and_parts (bytes_eq (row_line made) line) (is_row_of version made) p.0 in
       let same : made ≡ row = ok_is {E = Cause} made row p.1 in
       let P : Row → Type 0 = λ r. Spells line r in
       subst P same (record { text = sym ((bytes_eq-Decides (row_line made) line).0 q.0); well_formed = q.1 })

@@ -7,6 +7,7 @@ use Rattle.std.specs.Str.{bytes_eq}
 use Rattle.std.proofs.lemmas.List.{length-take}
 use Rattle.std.proofs.lemmas.List.Sums.{AllPass-from_list_all}
 use Rattle.std.proofs.lemmas.Bool.Decides.{Decides-eqb}
+use Rattle.std.proofs.lemmas.Bool.{and_parts}
 use Rattle.hex.specs.Hex.{decode_sized, is_hex_digit}
 use Rattle.hex.specs.declared.error.FromHexError.{FromHexError}
 use Rattle.hex.proofs.HexLemmas.{IsOk-decode_sized}
@@ -17,7 +18,6 @@ use Rattle.dp_cert.specs.declared.error.Cause.TheVariants.{BadHead, BadLine, Bad
 use Rattle.dp_cert.specs.Spelling.{IsRow, is_row_of, row_line, is_digit, digits_in, is_line}
 use Rattle.dp_cert.specs.Faults.{IsWrong}
 use Rattle.dp_cert.specs.Reading.{of_bytes, row_in, row_of}
-use Rattle.dp_cert.proofs.Found.{both_true}
 use Rattle.dp_cert.proofs.Again.{line_again}
 
 abbrev pub wrong : {A E : Type 0} → E → Result A E
@@ -49,14 +49,14 @@ is_hex c h = some_value (nat_le 65 c && nat_le c 70) (nat_le 97 c && nat_le c 10
 pub all_hex : (digits : List ℕ) → list_all is_digit digits ≡ true → list_all is_hex_digit digits ≡ true
 all_hex [] h = refl
 all_hex (c ∷ digits) h =
-    let p = both_true (is_digit c) (list_all is_digit digits) h in
+    let p = and_parts (is_digit c) (list_all is_digit digits) h in
     rw (is_hex c p.0, all_hex digits p.1) refl
 
 -- a line of digits decodes to bytes
 pub has_bytes : (line : List ℕ) → is_line line ≡ true → IsOk (decode_sized (digits_in line) 153)
 has_bytes line h =
-    let p = both_true (eqb (length line) 307 && list_all is_digit (digits_in line)) (eqb (get_or line (length line - 1) 0) 10) h in
-    let q = both_true (eqb (length line) 307) (list_all is_digit (digits_in line)) p.0 in
+    let p = and_parts (eqb (length line) 307 && list_all is_digit (digits_in line)) (eqb (get_or line (length line - 1) 0) 10) h in
+    let q = and_parts (eqb (length line) 307) (list_all is_digit (digits_in line)) p.0 in
     let long : length line ≡ 307 = (Decides-eqb (length line) 307).0 q.0 in
     let half : length (digits_in line) ≡ 2 * 153 = omega (arith, long, length-take (length line - 1) line) in
     (IsOk-decode_sized (digits_in line) 153).1 (half, AllPass-from_list_all is_hex_digit (digits_in line) (all_hex (digits_in line) q.1))

@@ -1,4 +1,4 @@
--- Faults of texts that are no certificates.
+-- Faults of texts that are not certificates.
 use Rattle.std.specs.Prelude.{◌≡◌, ◌≢◌, ℕ, ◌+◌, ◌<◌, ◌⊎◌, true, false, List, ◌++◌, length, take, nat_eq}
 use Rattle.std.specs.List.{AllByRecursion, starts_with}
 use Rattle.dp_model.specs.declared.row.Row.{Row}
@@ -17,8 +17,8 @@ number_of BadLine = 2
 number_of BadRow = 3
 number_of BadCount = 4
 
--- What is wrong once these rows of n are read and these bytes remain: the next line has no such digits, or spells no row, or there is no next line,
--- or one too many.
+-- What is wrong after these rows of n are read and these bytes remain: the next line is not 306 digits, or is not a row, or is missing, or is one
+-- too many.
 abbrev pub IsWrong : Version → ℕ → List Row → List ℕ → Cause → Type 0
 IsWrong version n rows rest BadHead = ⊥
 IsWrong version n rows rest BadLine = (length rows < n) × (0 < length rest) × (is_line (take 307 rest) ≡ false)
@@ -26,7 +26,7 @@ IsWrong version n rows rest BadRow =
     (length rows < n) × (is_line (take 307 rest) ≡ true) × ((row : Row) → IsRow version row → take 307 rest ≢ row_line row)
 IsWrong version n rows rest BadCount = ((length rows < n) × (length rest ≡ 0)) ⊎ ((length rows ≡ n) × (0 < length rest))
 
--- the first line is that of no version
+-- the first line is not that of any version
 pub record HasBadHead (text : List ℕ) (fault : Fault) : Type 0 where
   pub is : fault ≡ record { line = 1; cause = BadHead }
   pub other : (version : Version) → starts_with nat_eq text (head_line version) ≡ false

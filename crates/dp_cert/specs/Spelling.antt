@@ -41,7 +41,7 @@ abbrev pub is_row_of : Version → Row → Bool
 is_row_of One row = is_well_formed_row row && not (have_groups row.facts)
 is_row_of Two row = is_well_formed_row row
 
--- the version for rows: 1 exactly where none has a group
+-- the version for rows: 1 exactly if none has a group
 abbrev pub version_for : List Row → Version
 version_for rows = if list_any (λ row. have_groups row.facts) rows then Two else One
 
@@ -95,6 +95,6 @@ is_digit c = (nat_le 48 c && nat_le c 57) || (nat_le 97 c && nat_le c 102)
 abbrev pub digits_in : List ℕ → List ℕ
 digits_in line = take (length line - 1) line
 
--- 306 digits and a newline
+-- a line of 306 digits and a newline
 abbrev pub is_line : List ℕ → Bool
 is_line line = (length line == 307) && list_all is_digit (digits_in line) && (slice_index line (length line - 1) == 10)

@@ -43,7 +43,7 @@ fn have_groups(rows: &[Row]) -> bool
     rows.iter().any(|row| row.has_groups())
 }
 
-/// The version for these rows: 1 exactly where none has a group.
+/// The version for these rows: 1 exactly if none has a group.
 fn version_for(rows: &[Row]) -> Version
     ensures { result ≡ version_for rows.now }
 {
@@ -74,7 +74,7 @@ impl Model for Cert {
 }
 
 impl Cert {
-    /// Makes a certificate of these rows, each of which has to be well formed (`Row::is_well_formed`). It has version 1 exactly where no row has a
+    /// Makes a certificate of these rows. Each must be well formed (`Row::is_well_formed`). It has version 1 exactly if no row has a
     /// group.
     #[tactic(auto, using(crate::proofs::Versions::rows_of_version))]
     pub fn new(rows: Vec<Row>) -> Cert

@@ -160,7 +160,7 @@ fn read(alloc: Global, text: &[u8], n: usize) -> Result<Cert, CertError>
 /// Reads a text as a certificate with `n` rows, or returns its first fault.
 ///
 /// # Errors
-/// `CertError::Memory` where the allocator refuses the memory for the rows, else `CertError::Fault` with the first faulty line, from 1, and
+/// `CertError::Memory` if the allocator refuses the memory for the rows, else `CertError::Fault` with the first faulty line, from 1, and
 /// its cause.
 pub fn decode(alloc: Global, text: &[u8], n: usize) -> Result<Cert, CertError>
     // The text spells the certificate that is returned.
@@ -170,7 +170,7 @@ pub fn decode(alloc: Global, text: &[u8], n: usize) -> Result<Cert, CertError>
         → spec.Gives (λ c. c) result (Ok cert) }
     // The fault is one that the text has.
     ensures fault { IfErr result (λ e. IsFaultOf n text.now e) }
-    // The exact fault: lines are judged one after the other.
+    // The exact fault: lines are tested in order.
     ensures exact { spec.Gives (λ c. c) result (spec.cert_of n text.now) }
 {
     read(alloc, text, n)

@@ -91,7 +91,7 @@ fn encode_rows(alloc: Global, head: &[u8], rows: &[Row]) -> Result<Vec<u8>, Allo
 /// Returns the text that spells the certificate.
 ///
 /// # Errors
-/// `AllocError` where the allocator refuses the memory for the text.
+/// `AllocError` if the allocator refuses the memory for the text.
 pub fn encode(alloc: Global, cert: &Cert) -> Result<Vec<u8>, AllocError>
     ensures { IfOk result (λ v. v.items ≡ spec.spelling cert.now) }
 {

@@ -1,4 +1,4 @@
-//! Why a text is no certificate.
+//! Why a text is not a certificate.
 
 ghost use Rattle.std.specs.Prelude.{◌≡◌};
 ghost use Rattle.dp_cert.specs.Faults.{number_of};
@@ -15,8 +15,8 @@ pub enum Cause {
     /// The line is not 306 lower-case hexadecimal digits and a newline.
     #[error("this is not a line of 306 hexadecimal digits")]
     BadLine,
-    /// The digits spell no row of this version: a value is out of range, a sharing group is not well formed or version 1 has one, or unused bytes are
-    /// not 0.
+    /// The digits are not a row of this version: a value is out of range, a sharing group is not well formed or version 1 has one, or unused bytes
+    /// are not 0.
     #[error("this is not a row")]
     BadRow,
     /// A line is missing, or bytes follow the last.
@@ -52,7 +52,7 @@ pub enum CertError {
     /// The allocator refused the memory for the rows.
     #[error("out of memory")]
     Memory,
-    /// The text is no certificate.
+    /// The text is not a certificate.
     #[error("{0}")]
     Fault(Fault),
 }

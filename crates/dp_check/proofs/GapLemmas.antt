@@ -1,9 +1,10 @@
 -- Testing the rest of a list.
 use Rattle.std.proofs.Common.{◌≡◌, ℕ, zero, suc, ◌+◌, Bool, true, List, [], ◌∷◌, Some, None, ◌<◌, length, get_or, drop, add-one, inr}
-use Rattle.std.proofs.Common.{refl, sym, subst, arith}
+use Rattle.std.proofs.Common.{sym, subst, arith}
 use Rattle.std.specs.Prelude.{◌&&◌, not, false, if◌then◌else◌, slice_get, Option, IfSome}
 use Rattle.std.specs.List.{find, list_all, position_from}
 use Rattle.std.specs.Option.{option_and_then}
+use Rattle.std.proofs.lemmas.Option.{slice_get-get_or}
 use Rattle.dp_check.specs.Diagnoses.{Is, Says, Explains, first_failing}
 use Rattle.dp_check.specs.declared.reason.Reason.{Reason}
 use Rattle.dp_model.specs.Rules.{Question}
@@ -55,14 +56,9 @@ pub explained : (q : Question) (label : ℕ) (i : Instr) (row : Row) (o : Option
 explained q label i row None ei er h = h
 explained q label i row (Some reason) ei er h = inr (rw (ei, er) h)
 
-at : {A : Type 0} → (xs : List A) (i : ℕ) (d : A) → i < length xs → slice_get xs i ≡ Some (get_or xs i d)
-at (x ∷ xs) zero d below = refl
-at (x ∷ xs) (suc i) d below = at xs i d (omega arith)
-at [] i d below = absurd (omega arith)
-
 -- the element at an index that is equal
 pub at_index : {A : Type 0} → (xs : List A) (i j : ℕ) (d : A) → j ≡ i → i < length xs → slice_get xs i ≡ Some (get_or xs j d)
-at_index xs i j d same below = subst (λ k. slice_get xs i ≡ Some (get_or xs k d)) (sym same) (at xs i d below)
+at_index xs i j d same below = subst (λ k. slice_get xs i ≡ Some (get_or xs k d)) (sym same) (slice_get-get_or xs i d below)
 
 failing_step : {A : Type 0} → (test : A → A → Bool) (k : ℕ) (xs ys : List A) (i : ℕ) (x y : A) → slice_get xs i ≡ Some x → slice_get ys i ≡ Some y
     → first_failing test k (drop i xs) (drop i ys) ≡ (if test x y then first_failing test (k + 1) (drop (suc i) xs) (drop (suc i) ys) else Some k)

@@ -1,4 +1,4 @@
--- What a diagnosis says of a refused program: what is known, and what the rule wants.
+-- The diagnosis of a refused program: what is known, and what the rule wants.
 use Rattle.std.specs.Prelude.{◌≡◌, ◌≢◌, ◌⊎◌, ℕ, ◌+◌, ◌<◌, ◌≤◌, Bool, true, false, not, ◌&&◌, if◌then◌else◌, nat_lt, nat_le, List, [], ◌∷◌, length, replicate}
 use Rattle.std.specs.Prelude.{Option, Some, None, MatchOption, slice_get}
 use Rattle.std.specs.List.{find, position_from}
@@ -14,7 +14,7 @@ use Rattle.dp_model.specs.declared.instr.Instr.{Instr}
 use Rattle.dp_model.specs.declared.instr.Instr.TheVariants.{Chain, Exit}
 use Rattle.dp_model.specs.Environments.{Environment}
 use Rattle.dp_model.specs.Groups.{group_of, is_in, keeps_groups, same_registers}
-use Rattle.dp_model.specs.Limits.{most_segments}
+use Rattle.dp_model.specs.Limits.{max_segments}
 use Rattle.dp_model.specs.Rows.{is_empty, holding, held, held_at, entails_fact, entails_option, entails_share, entry_row, fact_of_ring, bound, entails, leads}
 use Rattle.dp_model.specs.Rules.{Question, is_held, is_empty_at, holds_with, uses, indices_exist, targets_fit, bytes_fit, share_fits, may_leave}
 use Rattle.dp_model.specs.Rules.{row_passes, IsRefused}
@@ -52,7 +52,7 @@ rule_of (Successor to gap) = J11
 
 -- ---- words
 
--- there is one, and it satisfies this
+-- there is a value, and it satisfies this
 abbrev pub Is : {A : Type 0} → Option A → (A → Type 0) → Type 0
 Is o P = MatchOption o ⊥ P
 
@@ -86,7 +86,7 @@ first_greater bounds others = first_failing nat_le 0 bounds others
 abbrev pub first_held : List Fact → Option ℕ
 first_held facts = position_from (λ fact. not (is_empty fact)) 0 facts
 
--- ---- two rows, where the first does not entail the second
+-- ---- two rows, if the first does not entail the second
 
 -- the first row does not say all that the second does of a packet register
 abbrev pub IsFactGap : List Fact → List Fact → ℕ → Fact → Fact → Type 0
@@ -135,7 +135,7 @@ abbrev pub segs_in : Fact → ℕ
 segs_in Empty = 0
 segs_in (Held share head tail first last segs) = segs
 
--- ---- what a rule asks for at an instruction: it holds exactly where that is there
+-- ---- what a rule asks for at an instruction: it holds exactly if that is there
 
 abbrev pub AsksPool : Instr → ℕ → Type 0
 AsksPool i pool = (env : Environment) → indices_exist env i ≡ nat_lt pool (length env.pools)
@@ -150,7 +150,7 @@ AsksRing i ring = (env : Environment) → indices_exist env i ≡ nat_lt ring (l
 abbrev pub AsksEmpty : Instr → ℕ → Type 0
 AsksEmpty i p = (row : Row) → targets_fit row i ≡ is_empty_at row p
 
--- this many bytes of a packet, or room at it, where the numbers have these greatest values
+-- this many bytes of a packet, or this much room in it, if the numbers have these greatest values
 abbrev pub AsksBytes : List ℕ → Instr → ℕ → Measure → ℕ → Type 0
 AsksBytes bounds i p part n = (row : Row) → row.bounds ≡ bounds → bytes_fit row i ≡ holds_with row p (λ h. nat_le n (measured part (held h)))
 
@@ -181,7 +181,7 @@ first_unmet rows ways = find (λ lead. not (row_passes rows lead.to (entails lea
 abbrev pub IsUnmet : List Row → List Lead → ℕ → Gap → Type 0
 IsUnmet rows ways to gap = Is (first_unmet rows ways) (λ lead. (lead.to ≡ to) × Is (slice_get rows to) (λ there. IsGap lead.row there gap))
 
--- a reason of the rules at an instruction with its row. Of bytes, `count` are asked for even where each number is 0
+-- a reason of the rules at an instruction with its row. Of bytes, `count` are asked for even if each number is 0
 abbrev pub Says : Question → ℕ → Instr → Row → Reason → Type 0
 Says q label i row (NoPool pool known) = AsksPool i pool × (known ≡ length q.env.pools) × (known ≤ pool)
 Says q label i row (NoTable table known) = AsksTable i table × (known ≡ q.env.tables) × (known ≤ table)
@@ -197,7 +197,7 @@ Says q label i row (NotAlone p known wanted) =
     (slice_get row.facts p ≡ Some known) × AsksShare i p (segs_in known) wanted × (entails_share (share_in known) wanted ≡ false)
 Says q label i row (TooLong p r known more) =
     (i ≡ Chain p r) × Is (slice_get row.facts p) (λ fact. known ≡ segs_in fact) × Is (slice_get row.facts r) (λ fact. more ≡ segs_in fact)
-    × (most_segments < known + more)
+    × (max_segments < known + more)
 Says q label i row (NoPort r known ports) =
     AsksPort i r × (known ≡ bound row (Register r)) × (ports ≡ length q.env.ports) × (ports ≤ known)
 Says q label i row (LessThanRing p ring known wanted) =

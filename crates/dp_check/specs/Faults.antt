@@ -1,4 +1,4 @@
--- The question of a check.
+-- The question of a check, and its answers.
 use Rattle.std.specs.Prelude.{◌≡◌, ℕ, not, List, ◌++◌, Option, find, IsTrue, codes}
 use Rattle.std.specs.Fmt.{decimal}
 use Rattle.std.specs.List.{list_all}
@@ -20,7 +20,7 @@ question program cert env entry =
 abbrev pub IsWith : Question → Certificate → Type 0
 IsWith q cert = q ≡ question q.program cert q.env q.entry
 
--- the first of the rules from J3 on that fails at a label
+-- the first rule, of J3 to J11, that fails at a label
 abbrev pub later_fault : Question → ℕ → Option Rule
 later_fault q label = find (λ rule. not (holds q label rule)) later_rules
 

@@ -11,13 +11,13 @@ use Rattle.dp_check.specs.declared.reason.Measure.TheVariants as measure
 abbrev pub last_label : ℕ
 last_label = 65535
 
--- as a list
+-- the successors as a list
 abbrev pub listed : Leads → List Lead
 listed Ends = []
 listed (One a) = a ∷ []
 listed (Two a b) = a ∷ b ∷ []
 
--- with a measure at least that
+-- a fact with a measure raised to at least this
 abbrev pub raised : Measure → ℕ → Holding → Holding
 raised measure.Headroom n h = record h { head = max h.head n }
 raised measure.Tailroom n h = record h { tail = max h.tail n }

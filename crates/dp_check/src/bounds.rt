@@ -6,7 +6,7 @@ ghost use Rattle.dp_model.specs.Rows.{bound, with_bound};
 
 use dp_model::{NumberRegister, Operand, Row};
 
-/// The row with another bound of the register.
+/// The row with the register's bound replaced.
 pub(crate) fn with_bound(row: &Row, register: NumberRegister, bound: u64) -> Row
     ensures { result ≡ with_bound row.now register bound }
 {
@@ -27,7 +27,7 @@ fn all_ones(number: u64) -> u64
     }
 }
 
-/// The number shifted left, at most the greatest of 64 bits.
+/// The number shifted left, saturated at 64 bits.
 #[tactic(auto, using(crate::proofs::RowLemmas::far_left))]
 fn shifted_left(number: u64, by: u8) -> u64
     ensures { result ≡ min (number * 2 ^ by) greatest }
@@ -49,7 +49,7 @@ fn shifted_right(number: u64, by: u8) -> u64
     if by < 64 { number >> by } else { 0 }
 }
 
-/// The row after any bits that operand and register can have are set in the register.
+/// The row after any bits that the operand or the register can have are set in the register.
 pub(crate) fn with_bits(row: &Row, register: NumberRegister, operand: Operand) -> Row
     ensures { result ≡ with_bound row.now register (all_ones (max (bound row.now (Operand.Register register)) (bound row.now operand))) }
 {

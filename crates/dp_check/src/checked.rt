@@ -86,8 +86,8 @@ impl Checked {
     }
 }
 
-/// A refused program: the least failing label, from 0, the number of its first failing rule, 1 to 11, and what was handed in. It is displayed as
-/// `refused at 4 by J11`.
+/// A refused program: the lowest failing label, from 0, the number of its first failing rule, 1 to 11, and what was handed in. It is displayed
+/// as `refused at 4 by J11`.
 #[derive(Drop)]
 pub struct Refused {
     pub label: u16,
@@ -107,7 +107,7 @@ impl Display for Refused {
     }
 }
 
-/// The least failing label and its first failing rule.
+/// The lowest failing label and its first failing rule.
 fn first_fault(program: &Program, cert: &Cert, env: &Env, entry: Entry) -> Option<(u16, Rule)>
     ensures none { IfNone result (IsAccepted (question program.now cert.now env.now entry)) }
     ensures some { IfSome result (λ f. IsRefused (question program.now cert.now env.now entry) f.0 f.1) }
@@ -119,8 +119,8 @@ fn first_fault(program: &Program, cert: &Cert, env: &Env, entry: Entry) -> Optio
     }
 }
 
-/// What `check` finds, without taking the program: the least failing label and its first failing rule, or nothing where the program would be
-/// accepted.
+/// Returns what `check` finds, without taking the program: the lowest failing label and its first failing rule, or nothing if the program
+/// would be accepted.
 pub fn fault_of(program: &Program, cert: &Cert, env: &Env, entry: Entry) -> Option<(u16, Rule)>
     ensures none { IfNone result (IsAccepted (question program.now cert.now env.now entry)) }
     ensures some { IfSome result (λ f. IsRefused (question program.now cert.now env.now entry) f.0 f.1) }
@@ -128,12 +128,12 @@ pub fn fault_of(program: &Program, cert: &Cert, env: &Env, entry: Entry) -> Opti
     first_fault(program, cert, env, entry)
 }
 
-/// Decides whether a program may run in an environment at an entry, as its certificate shows. It looks at each instruction once, and takes
-/// no memory.
+/// Decides by its certificate whether a program may run in an environment at an entry. It looks at each instruction once, and takes no
+/// memory.
 ///
-/// # Errors
-/// `Refused` where a rule fails, with the least failing label and the first rule that fails there. An entry that the
-/// environment does not have is refused at label 0 by J2.
+/// # Errors `Refused` if a rule fails, with the lowest failing label and the first rule
+/// that fails there. An entry that the environment does not have is refused at label 0 by
+/// J2.
 pub fn check(program: Program, cert: Cert, env: &Env, entry: Entry) -> Result<Checked, Refused>
     ensures same { IfOk result (λ checked. checked ≡ question program cert env.now entry) }
     ensures accepted { IfOk result (λ checked. IsChecked checked) }

@@ -18,7 +18,7 @@ use dp_cert::Cert;
 use dp_lang::Program;
 use dp_model::{Entry, Env, Instr, Row};
 
-/// Why a program is refused: the least failing label, from 0, and the reason of the first rule that fails there.
+/// Why a program is refused: the lowest failing label, from 0, and why the first rule that fails there does.
 #[derive(Clone, Copy, Debug, PartialEq, Eq)]
 pub struct Diagnosis {
     pub label: u16,
@@ -77,7 +77,7 @@ pub(crate) fn first_reason(
     None
 }
 
-/// Says why [`check`](crate::check) refuses a program, or nothing where it accepts it. Label and rule are those of `check`; the reason says what is
+/// Says why [`check`](crate::check) refuses a program, or nothing if it accepts it. Label and rule are those of `check`; the reason says what is
 /// known there and what the rule wants. It takes no memory.
 pub fn diagnose(program: &Program, cert: &Cert, env: &Env, entry: Entry) -> Option<Diagnosis>
     ensures accepted { IfNone result (IsAccepted (question program.now cert.now env.now entry)) }

@@ -1,4 +1,4 @@
-//! The first difference between two rows, of which one should entail the other.
+//! Finds the first difference between a row and one that it should entail.
 
 ghost use Rattle.std.specs.Prelude.{◌≡◌, ◌<◌, true, false, Some, nat_le, slice_get, IfSome, IfNone};
 ghost use Rattle.std.proofs.Math.Bool.{beq};
@@ -92,7 +92,7 @@ fn groups_gap(facts: &[Fact; 8], others: &[Fact; 8]) -> Option<(u8, PacketRegist
     None
 }
 
-/// What `row` does not say of what `there` wants.
+/// The first thing that `there` wants and `row` does not say.
 pub(crate) fn gap(row: &Row, there: &Row) -> Gap
     requires { entails row.now there.now ≡ false }
     ensures { IsGap row.now there.now result }

@@ -9,7 +9,7 @@ use crate::entailing::same_registers;
 use crate::packet_facts::{emptied, held_at, joined, with_held, with_share};
 use dp_model::{Fact, Holding, PacketRegister, Row};
 
-/// Whether the group is one of the first row, named by its least register, and has the same registers in the second.
+/// Whether the group is one of the first row, named by its least register, and has the same registers in the second row.
 pub fn shares_group(row: &Row, other: &Row, group: u8) -> bool
     ensures { result ≡ (is_group row.now.facts group && same_registers row.now.facts other.now.facts group) }
 {
@@ -87,7 +87,7 @@ fn dissolved(row: &Row, packet: PacketRegister) -> Row
     }
 }
 
-/// The row after the rest of a group gets its new name, or none.
+/// The row after the registers that remain of a group get its new name, or none.
 fn renamed(row: &Row, group: u8) -> Row
     ensures { result ≡ renamed row.now group }
 {

@@ -9,7 +9,7 @@ ghost use Rattle.dp_model.specs.Rules.{IsAccepted, IsRefused};
 ghost use Rattle.dp_cert.specs.Spelling.{Certificate, raised};
 ghost use Rattle.dp_check.specs.Faults.{question};
 
-/// A certificate and its `Cert::raise` get the same answer, and a refusal is at the same label by the same rule.
+/// `check` returns the same for a certificate and for its `Cert::raise`: accepted, or refused at the same label by the same rule.
 pub fn raised_certificates_get_the_same_answer()
     ensures accepted { (program : List Instr) (cert : Certificate) (env : Environment) (entry : Entry) →
         (IsAccepted (question program cert env entry)) ↔ (IsAccepted (question program (raised cert) env entry)) }

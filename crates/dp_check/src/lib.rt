@@ -2,9 +2,9 @@
 //! repository describes. Only `check` makes a `Checked`, and only a `Checked` reaches an engine, so the engine need not test what the rules
 //! establish. `diagnose` says why a program is refused. Nothing here takes memory, and each instruction is visited once.
 //!
-//! Where each rule is: `diagnosis.rt` has J1 and J2 and goes through the labels, `rules.rt` applies J3 to J11 to one label, `requirements.rt`
-//! has what each kind of instruction needs for J3 to J10, and `transfer.rt` where it leads and which facts hold there. The definitions are in
-//! dp_model, `specs/Rules.antt` and `specs/Rows.antt`.
+//! Where each rule is: `diagnosis.rt` has J1 and J2 and goes through the labels, `rules.rt` applies J3 to J11 to one label,
+//! `requirements.rt` has what each kind of instruction needs for J3 to J10, and `transfer.rt` where it leads and which facts hold there.
+//! The definitions are in dp_model, `specs/Rules.antt` and `specs/Rows.antt`.
 #![tactic(auto)]
 
 mod bounds;

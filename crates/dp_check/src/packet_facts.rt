@@ -3,7 +3,7 @@
 ghost use Rattle.std.specs.Prelude.{◌≡◌, ◌≤◌, IsTrue};
 ghost use Rattle.std.specs.List.{list_all};
 ghost use Rattle.dp_model.specs.Facts.{is_fact_of_row};
-ghost use Rattle.dp_model.specs.Limits.{most_segments};
+ghost use Rattle.dp_model.specs.Limits.{max_segments};
 ghost use Rattle.dp_model.specs.Rows.{held, held_at, with_fact, emptied, changed, after_prepend, after_adj, after_append, after_trim};
 ghost use Rattle.dp_model.specs.Rows.{shared, owns_head, chained_share, after_chain, chained, after_alloc};
 ghost use Rattle.dp_check.specs.Leads.{raised};
@@ -18,7 +18,7 @@ pub(crate) fn held_at(row: &Row, packet: PacketRegister) -> Option<Holding>
     row.fact(packet).holding()
 }
 
-/// The row with another fact of the register.
+/// The row with the register's fact replaced.
 fn with_fact(row: &Row, packet: PacketRegister, fact: Fact) -> Row
     ensures { result ≡ with_fact row.now packet fact }
 {
@@ -27,7 +27,7 @@ fn with_fact(row: &Row, packet: PacketRegister, fact: Fact) -> Row
     changed
 }
 
-/// The row with this known of the register's packet.
+/// The row with these facts of the register's packet.
 pub(crate) fn with_held(row: &Row, packet: PacketRegister, holding: Holding) -> Row
     ensures { result ≡ with_fact row.now packet (held holding) }
 {
@@ -90,7 +90,7 @@ pub(crate) fn appended(row: &Row, packet: PacketRegister, count: u16) -> Row
 }
 
 /// The fact after `trim packet, count`.
-pub(crate) fn cut_behind(row: &Row, packet: PacketRegister, count: u16) -> Row
+pub(crate) fn cut_after(row: &Row, packet: PacketRegister, count: u16) -> Row
     ensures { result ≡ changed row.now packet (after_trim count) }
 {
     let Some(h) = held_at(row, packet) else {
@@ -105,7 +105,7 @@ pub(crate) fn cut_behind(row: &Row, packet: PacketRegister, count: u16) -> Row
     with_held(row, packet, after)
 }
 
-/// The holding, with a measure at least that.
+/// The facts of a packet, with a measure raised to at least `least`.
 fn raised(h: Holding, part: Measure, least: u16) -> Holding
     ensures { result ≡ raised part least h }
 {
@@ -129,7 +129,7 @@ fn raised(h: Holding, part: Measure, least: u16) -> Holding
     }
 }
 
-/// The row where a measure of the register's packet is at least that.
+/// The row after a test that a measure of the register's packet is at least `least`.
 pub(crate) fn with_least(row: &Row, packet: PacketRegister, part: Measure, least: u16) -> Row
     ensures { result ≡ changed row.now packet (raised part least) }
 {
@@ -187,32 +187,32 @@ fn chained_share(front: u8, back: u8) -> u8
 
 /// The row with these segments appended to those of the register's packet.
 #[tactic(auto, using(crate::proofs::RowLemmas::few_segs))]
-fn with_behind(row: &Row, packet: PacketRegister, behind: Holding) -> Row
+fn with_after(row: &Row, packet: PacketRegister, beyond: Holding) -> Row
     requires in_range { IsTrue (list_all is_fact_of_row row.now.facts) }
-    requires few { behind.segs ≤ most_segments }
-    ensures { result ≡ changed row.now packet (λ h. after_chain h behind) }
+    requires few { beyond.segs ≤ max_segments }
+    ensures { result ≡ changed row.now packet (λ h. after_chain h beyond) }
 {
     let Some(h) = held_at(row, packet) else {
         return *row;
     };
     let after = Holding {
-        share: chained_share(h.share, behind.share),
-        tail: behind.tail,
-        last: behind.last,
-        segs: h.segs + behind.segs,
+        share: chained_share(h.share, beyond.share),
+        tail: beyond.tail,
+        last: beyond.last,
+        segs: h.segs + beyond.segs,
         ..h
     };
     with_held(row, packet, after)
 }
 
-/// The row after the second packet's segments are appended to the first's, where neither belongs to a group.
+/// The row after the second packet's segments are appended to the first's, if neither belongs to a group.
 #[tactic(auto, using(crate::proofs::RowLemmas::few_segs))]
 pub(crate) fn joined(row: &Row, front: PacketRegister, back: PacketRegister) -> Row
     requires { IsTrue (list_all is_fact_of_row row.now.facts) }
     ensures { result ≡ chained row.now front back }
 {
-    let Some(behind) = held_at(row, back) else {
+    let Some(beyond) = held_at(row, back) else {
         return *row;
     };
-    emptied(&with_behind(row, front, behind), back)
+    emptied(&with_after(row, front, beyond), back)
 }

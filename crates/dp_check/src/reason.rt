@@ -48,7 +48,7 @@ pub enum Gap {
 /// Why a rule fails at an instruction: what is known there, and what the rule wants.
 #[derive(Clone, Copy, Debug, PartialEq, Eq)]
 pub enum Reason {
-    /// J1: the certificate's rows are more or fewer than the instructions.
+    /// J1: the certificate has more or fewer rows than the program has instructions.
     RowCount {
         known: usize,
         wanted: usize,
@@ -90,7 +90,7 @@ pub enum Reason {
     OneRegister {
         packet: PacketRegister,
     },
-    /// J6: the packet has too few bytes: `count` are wanted from `start` on, the greatest value of the index.
+    /// J6: the packet has too few bytes: `count` are wanted from `start`, the greatest value of the index.
     TooLittle {
         packet: PacketRegister,
         part: Measure,

@@ -58,7 +58,7 @@ fn not_held(row: &Row, packet: PacketRegister) -> Option<PacketRegister>
 }
 
 /// The first packet register that is used and empty, if there is one.
-pub(crate) fn empty_use(row: &Row, instr: Instr) -> Option<PacketRegister>
+pub(crate) fn check_held(row: &Row, instr: Instr) -> Option<PacketRegister>
     ensures first { result ≡ find (λ p. not (is_held row.now p)) (uses instr) }
     ensures none { IfNone result (list_all (is_held row.now) (uses instr) ≡ true) }
     ensures some { IfSome result (λ p. (list_all (is_held row.now) (uses instr) ≡ false) × (is_held row.now p ≡ false)) }
@@ -163,7 +163,7 @@ fn too_little(
 }
 
 /// The reason, if bytes or room that the instruction takes are not there.
-pub(crate) fn unfit_bytes(row: &Row, instr: Instr) -> Option<Reason>
+pub(crate) fn check_bytes(row: &Row, instr: Instr) -> Option<Reason>
     requires held { list_all (is_held row.now) (uses instr) ≡ true }
     ensures none { IfNone result (bytes_fit row.now instr ≡ true) }
     ensures some { IfSome result (λ reason. (bytes_fit row.now instr ≡ false) × (rule_of reason ≡ J6)) }
@@ -210,7 +210,7 @@ pub(crate) fn unfit_bytes(row: &Row, instr: Instr) -> Option<Reason>
     }
 }
 
-/// The most segments that a fact lets the packet have.
+/// The maximum number of segments that a fact lets the packet have.
 fn segs_in(fact: Fact) -> u8
     ensures { result ≡ segs_in fact }
 {
@@ -265,7 +265,7 @@ pub(crate) fn unfit_share(row: &Row, instr: Instr) -> Option<Reason>
     }
 }
 
-/// The reason, if two packets can be too long together.
+/// The reason, if two packets can have too many segments together.
 pub(crate) fn unfit_segments(row: &Row, instr: Instr) -> Option<Reason>
     requires held { list_all (is_held row.now) (uses instr) ≡ true }
     ensures none { IfNone result (segments_fit row.now instr ≡ true) }

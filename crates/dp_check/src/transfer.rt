@@ -6,7 +6,7 @@ ghost use Rattle.dp_check.specs.Leads.{last_label, listed};
 
 use crate::bounds::{with_bits, with_bound, with_left_shift, with_right_shift};
 use crate::groups::{chained, cloned, freed, sent};
-use crate::packet_facts::{allocated, appended, cut_behind, cut_in_front, prepended, with_least};
+use crate::packet_facts::{allocated, appended, cut_after, cut_in_front, prepended, with_least};
 use crate::reason::Measure;
 use dp_model::{Env, Instr, Lead, MAX_HOP, Row, by_instr};
 
@@ -49,7 +49,7 @@ pub fn leads_of(instr: Instr, env: &Env, label: u16, row: &Row) -> Leads
         Prepend: { packet, count } => Leads::onward(label, prepended(row, packet, count));
         Adj: { packet, count } => Leads::onward(label, cut_in_front(row, packet, count));
         Append: { packet, count } => Leads::onward(label, appended(row, packet, count));
-        Trim: { packet, count } => Leads::onward(label, cut_behind(row, packet, count));
+        Trim: { packet, count } => Leads::onward(label, cut_after(row, packet, count));
         Chain: { front, back } => Leads::onward(label, chained(row, front, back));
         IfHead: { packet, least, less } => Leads::fork(label, with_least(row, packet, Measure::Headroom, least), less, *row);
         IfTail: { packet, least, less } => Leads::fork(label, with_least(row, packet, Measure::Tailroom, least), less, *row);

@@ -5,7 +5,7 @@ use dp_lang::{AsmError, assemble, print};
 use dp_model::Instr;
 use std::test::*;
 
-/// The line and the cause of a text; (0, 0) where it is a program.
+/// The line and the cause of a text; (0, 0) if it is a program.
 fn fault(rt: &HostRuntime, text: &str) -> (usize, u8) {
     match assemble(rt.alloc(), text.as_bytes()) {
         Ok(_) => (0, 0),

@@ -13,7 +13,7 @@ use Rattle.dp_heap.specs.Elements.{Taken, alignment, busy, end_of, kept, merged,
 use Rattle.dp_heap.specs.Refusals.{IsAlign}
 use Rattle.dp_cli.specs.Heaps.{block_line, element_at, freed_line, lies_in}
 use Rattle.dp_cli.specs.declared.mem.Held.{Held}
-use Rattle.dp_cli.specs.Scripts.{IsFilled, IsFreed, IsPrinted, IsTaken, Stage, IsRefusalTold, is_held, next_number, stage}
+use Rattle.dp_cli.specs.Scripts.{IsFilled, IsFreed, IsPrinted, IsTaken, Stage, PrintsRefusal, is_held, next_number, stage}
 use Rattle.dp_cli.proofs.Playing.{place_is, no_place_is}
 
 -- ---- the element around a block
@@ -57,13 +57,13 @@ pub is_taken : (zeros : Bool) (n a : ℕ) (old new : Stage) (block : BlockView) 
     → Taken old.elements (rounded n) (alignment a) block.offset new.elements → new.taken ≡ next_number old.taken
     → new.held ≡ old.held ++ record { number = new.taken; block = block } ∷ []
     → IfSome (element_at new.elements offset) (λ e. Appends before after (block_line new.taken offset e))
-    → IsPrinted (λ text. IsTaken zeros n a old text new ⊎ IsRefusalTold n a old text new) before after
-is_taken zeros n a old new block offset before after own_offset asked filled taken number held told =
+    → IsPrinted (λ text. IsTaken zeros n a old text new ⊎ PrintsRefusal n a old text new) before after
+is_taken zeros n a old new block offset before after own_offset asked filled taken number held is_printed =
     let more : 0 < n = asked.0 in
     let own : 0 < rounded n = omega arith in
     let here = around old.elements (rounded n) (alignment a) block.offset new.elements own taken in
     let at : IfSome (element_at new.elements block.offset) (λ e. Appends before after (block_line new.taken block.offset e)) =
-    subst (λ (p : ℕ). IfSome (element_at new.elements p) (λ e. Appends before after (block_line new.taken p e))) own_offset told in
+    subst (λ (p : ℕ). IfSome (element_at new.elements p) (λ e. Appends before after (block_line new.taken p e))) own_offset is_printed in
     record {
       text = block_line new.taken block.offset here.0;
       done = inl (record {
@@ -75,7 +75,7 @@ is_taken zeros n a old new block offset before after own_offset asked filled tak
         number = number;
         held = held;
         around = here.1;
-        told = refl;
+        is_printed = refl;
       });
       printed = rw here.1 at at;
     }
@@ -138,7 +138,7 @@ pub is_freed : (number : ℕ) (old new : Stage) (k : ℕ) (x : Held) (before aft
     → x ≡ get_or old.held k x
     → new.held ≡ remove old.held k → new.elements ≡ merged x.block.offset old.elements → new.taken ≡ old.taken
     → Appends before after (freed_line number) → IsPrinted (λ text. IsFreed number old text new) before after
-is_freed number old new k x before after e here held elements taken told =
+is_freed number old new k x before after e here held elements taken is_printed =
     let at = place_is (position_or_len (λ (h : Held). h.number == number) old.held) (length old.held) k
     (nat_lt (position_or_len (λ (h : Held). h.number == number) old.held) (length old.held)) refl e in
     let found = parts (λ h. h.number == number) old.held k x at.0 at.1 here in
@@ -152,7 +152,7 @@ is_freed number old new k x before after e here held elements taken told =
         first = found.none;
         held = found.whole ∙ ap (λ n. take k old.held ++ record { number = n; block = x.block } ∷ drop (suc k) old.held) same;
         freed = same_stage new.elements (merged x.block.offset old.elements) new.held (remove old.held k) new.taken old.taken elements held taken;
-        told = refl;
+        is_printed = refl;
       };
-      printed = told;
+      printed = is_printed;
     }

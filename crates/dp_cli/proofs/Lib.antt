@@ -1,4 +1,4 @@
-pub mod Behind
+pub mod LaterLines
 pub mod Counts
 pub mod Printed
 pub mod Endings
@@ -11,7 +11,7 @@ pub mod Blocks
 pub mod Commands
 pub mod Playing
 pub mod Closing
-pub mod Telling
+pub mod PrintedNodes
 pub mod Took
 pub mod Devices
 pub mod Found

@@ -4,7 +4,7 @@ use Rattle.dp_model.specs.Environments.{Environment}
 use Rattle.dp_pipe.specs.Devices.{Device}
 use Rattle.dp_pipe.specs.Pipelines.{Plan}
 use Rattle.dp_cli.specs.declared.counting.Counting.{Counting}
-use Rattle.dp_cli.specs.declared.run.closing.Settled.{Settled}
+use Rattle.dp_cli.specs.declared.run.closing.Flushed.{Flushed}
 use Rattle.dp_cli.specs.declared.run.capture_errors.CaptureNames.{CaptureNames}
 use Rattle.dp_cli.specs.declared.run.watched.Seen.{Seen}
 use Rattle.dp_cli.specs.Counting.{IsReportedWithCounts}
@@ -16,11 +16,11 @@ use Rattle.dp_cli.specs.Printing.{Paper}
 -- a run with its counts, reported as text or as a document in the pipeline's environment
 pub opened_run : (p : Plan) (pattern : List ℕ) (had left held : List Device) (taken : List (Option (List ℕ))) (names : List CaptureNames)
     (saw : List (Option Seen)) (totals is_json : Bool) (counting counting' : Option Counting) (e : Environment) (out out' err err' : Paper)
-    (settled : Settled) (status : ℕ) → e ≡ p.env → IsCountedRun counting counting' p pattern had left held taken settled
-    → (is_json ≡ false → IsReportedWithCounts names saw totals counting' e out out' err err' settled status)
-    → (is_json ≡ true → IsRunDocumented names saw totals counting' e out out' err err' settled status)
+    (flushed : Flushed) (status : ℕ) → e ≡ p.env → IsCountedRun counting counting' p pattern had left held taken flushed
+    → (is_json ≡ false → IsReportedWithCounts names saw totals counting' e out out' err err' flushed status)
+    → (is_json ≡ true → IsRunDocumented names saw totals counting' e out out' err err' flushed status)
     → IsOpenedRun p pattern names totals is_json counting counting' status
-opened_run p pattern had left held taken names saw totals is_json counting counting' e out out' err err' settled status same run text document = record {
+opened_run p pattern had left held taken names saw totals is_json counting counting' e out out' err err' flushed status same run text document = record {
   had = had;
   left = left;
   held = held;
@@ -30,8 +30,8 @@ opened_run p pattern had left held taken names saw totals is_json counting count
   out' = out';
   err = err;
   err' = err';
-  settled = settled;
+  flushed = flushed;
   run = run;
-  text = λ is. subst (λ (env : Environment). IsReportedWithCounts names saw totals counting' env out out' err err' settled status) same (text is);
-  document = λ is. subst (λ (env : Environment). IsRunDocumented names saw totals counting' env out out' err err' settled status) same (document is);
+  text = λ is. subst (λ (env : Environment). IsReportedWithCounts names saw totals counting' env out out' err err' flushed status) same (text is);
+  document = λ is. subst (λ (env : Environment). IsRunDocumented names saw totals counting' env out out' err err' flushed status) same (document is);
 }

@@ -4,9 +4,9 @@ use Rattle.std.proofs.Common.{None, inl, inr, refl, sym, ◌∙◌, ap, subst, a
 use Rattle.std.specs.Prelude.{◌==◌, IfSome, cond, nat_lt, not, option_map, replicate}
 use Rattle.std.specs.List.{onto_first, position, position_or_len}
 use Rattle.std.specs.Io.KnownBytes.{Appends}
-use Rattle.std.proofs.KnownBytes.{Appends-trans}
+use Rattle.std.proofs.KnownBytes.{Appends-trans, Appends-nil}
 use Rattle.std.proofs.lemmas.Bool.{ltb-false, ltb-true}
-use Rattle.std.proofs.lemmas.List.{length-drop, length-replicate, take_all}
+use Rattle.std.proofs.lemmas.List.{length-drop, length-replicate, take_all, nil_from_length}
 use Rattle.std.proofs.lemmas.Option.{same_Some}
 use Rattle.dp_region.specs.Region.{IsRegionSize}
 use Rattle.dp_cli.specs.declared.mem.Ending.{Ending}
@@ -75,10 +75,6 @@ uncut xs e = one_line xs (no_place_is (position_or_len newline xs) (length xs) (
 
 -- ---- the first line that is not empty
 
-empty_is : (line : List ℕ) → length line ≡ 0 → line ≡ []
-empty_is [] e = refl
-empty_is (b ∷ bs) e = absurd (omega arith)
-
 first_here : (k : ℕ) (line : List ℕ) (rest : List (List ℕ)) → 0 < length line → first_from k (line ∷ rest) ≡ Some (k, (line, rest))
 first_here k [] rest some = absurd (omega arith)
 first_here k (b ∷ bs) rest some = refl
@@ -88,7 +84,7 @@ pub first_blank : (k n : ℕ) (lines rest : List (List ℕ)) (line : List ℕ) (
     → length line ≡ 0
     → first_from k lines ≡ o → first_from n rest ≡ o
 first_blank k n lines rest line o next is none so_far =
-    ap (λ m. first_from m rest) next ∙ sym (ap (first_from k) (is ∙ ap (λ l. l ∷ rest) (empty_is line none))) ∙ so_far
+    ap (λ m. first_from m rest) next ∙ sym (ap (first_from k) (is ∙ ap (λ l. l ∷ rest) (nil_from_length line none))) ∙ so_far
 
 -- any other
 pub first_found : (k : ℕ) (lines rest : List (List ℕ)) (line : List ℕ) (o : Option (ℕ × (List ℕ × List (List ℕ)))) → lines ≡ line ∷ rest → 0 < length line
@@ -132,19 +128,15 @@ pub record Played (base : ℕ) (all : List (List ℕ)) (s : Stage) (n : ℕ) (li
   pub goes_on : (text : List ℕ) (fault : Option ℕ) → Plays (suc n) lines t text fault → Plays base all s (so_far ++ text) fault
   pub printed : Appends before after so_far
 
-appends_none : (a : Option (List ℕ)) → Appends a a []
-appends_none None = tt
-appends_none (Some xs) = sym (append-nil xs)
-
 pub played_none : (n : ℕ) (all : List (List ℕ)) (s : Stage) (a : Option (List ℕ)) → Played (suc n) all s n all s a a
-played_none n all s a = record { so_far = []; goes_on = λ text fault p. p; printed = appends_none a }
+played_none n all s a = record { so_far = []; goes_on = λ text fault p. p; printed = Appends-nil a }
 
 pub played_blank : (base : ℕ) (all : List (List ℕ)) (s : Stage) (k n : ℕ) (lines rest : List (List ℕ)) (line : List ℕ) (t : Stage) (a b : Option (List ℕ))
     → n ≡ suc k → lines ≡ line ∷ rest → length line ≡ 0
     → Played base all s k lines t a b → Played base all s n rest t a b
 played_blank base all s k n lines rest line t a b e is none played = record {
   so_far = played.so_far;
-  goes_on = λ text fault p. played.goes_on text fault (subst (λ ls. Plays (suc k) ls t text fault) (sym (is ∙ ap (λ l. l ∷ rest) (empty_is line none)))
+  goes_on = λ text fault p. played.goes_on text fault (subst (λ ls. Plays (suc k) ls t text fault) (sym (is ∙ ap (λ l. l ∷ rest) (nil_from_length line none)))
       (subst (λ m. Plays (suc m) rest t text fault) e p));
   printed = played.printed;
 }
@@ -202,9 +194,9 @@ pub some_fits : (rest : Option (Bor (List ℕ))) (text : Bor (List ℕ)) (n : �
     → n + length text.now < 2 ^ 64
 some_fits rest text n e fits = subst (λ o. IfSome o (λ t. n + length t.now < 2 ^ 64)) e fits
 
-pub next_fits : (n m : ℕ) (text : List ℕ) (behind : Option (Bor (List ℕ))) → m ≡ suc n → n + length text < 2 ^ 64
-    → IfSome behind (λ more. length more.now < length text)
-    → IfSome behind (λ more. m + length more.now < 2 ^ 64)
+pub next_fits : (n m : ℕ) (text : List ℕ) (beyond : Option (Bor (List ℕ))) → m ≡ suc n → n + length text < 2 ^ 64
+    → IfSome beyond (λ more. length more.now < length text)
+    → IfSome beyond (λ more. m + length more.now < 2 ^ 64)
 next_fits n m text None e fits less = tt
 next_fits n m text (Some more) e fits less = omega arith
 
@@ -219,11 +211,11 @@ some_line (x ∷ xs) b e f = omega arith
 -- ---- how a script ends
 
 pub ends_none : (lines : List (List ℕ)) (a : Option (List ℕ)) → None ≡ first_from 1 lines → IsPrinted (λ text. Runs 1 lines text None) a a
-ends_none lines a e = record { text = []; done = runs_none 1 lines (sym e); printed = appends_none a }
+ends_none lines a e = record { text = []; done = runs_none 1 lines (sym e); printed = Appends-nil a }
 
 pub ends_wrong : (n : ℕ) (lines rest : List (List ℕ)) (line : List ℕ) (a : Option (List ℕ)) → Some (n, (line, rest)) ≡ first_from 1 lines → IsNoRegion line
     → IsPrinted (λ text. Runs 1 lines text (Some n)) a a
-ends_wrong n lines rest line a e bad = record { text = []; done = runs_wrong 1 n lines rest line (sym e) bad; printed = appends_none a }
+ends_wrong n lines rest line a e bad = record { text = []; done = runs_wrong 1 n lines rest line (sym e) bad; printed = Appends-nil a }
 
 ends_printed : (n : ℕ) (lines rest : List (List ℕ)) (line : List ℕ) (size : ℕ) (s : Stage) (a b : Option (List ℕ)) (fault : Option ℕ)
     → first_from 1 lines ≡ Some (n, (line, rest))

@@ -12,7 +12,7 @@ use Rattle.std.specs.Fmt.{decimal}
 use Rattle.serde_json.specs.View.{view}
 use Rattle.serde_json.specs.declared.value.Value.{Value}
 use Rattle.serde_json.proofs.OnLiterals.{serde_json_on_literals}
-use Rattle.dp_cli.specs.Documents.{IsPrinted, IsTextIn, PrintsDocument, memory_told}
+use Rattle.dp_cli.specs.Documents.{IsPrinted, IsTextIn, PrintsDocument, memory_printed}
 use Rattle.dp_cli.specs.Printing.{IsEnded, Paper, Prints}
 
 -- the document without memory, with these digits for its status
@@ -24,7 +24,7 @@ four : decimal 4 ≡ codes "4"
 four = decimal_digit 4 (omega arith)
 
 -- its text
-pub no_memory_text : IsTextOf (codes "{\"fault\":{\"status\":4,\"text\":\"fault: memory\"}}") (fault_document memory_told)
+pub no_memory_text : IsTextOf (codes "{\"fault\":{\"status\":4,\"text\":\"fault: memory\"}}") (fault_document memory_printed)
 unfolding serde_json_on_literals
 no_memory_text = record {
   compact = λ plain. ap (λ (status : List ℕ). codes "{\"fault\":{\"status\":" ++ ((status ++ codes ",\"text\":\"fault: memory\"}") ++ codes "}"))

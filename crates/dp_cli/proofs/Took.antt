@@ -4,7 +4,7 @@ use Rattle.std.proofs.Math.Logic.{∥∥₁_map}
 use Rattle.std.specs.List.{flat_map}
 use Rattle.std.proofs.lemmas.List.{flat_map_more}
 use Rattle.dp_pcap.specs.declared.byte_order.Order.{Order}
-use Rattle.dp_pcap.specs.Counting.{Counted, ArePieces, IsBehind, records_in}
+use Rattle.dp_pcap.specs.Counting.{Counted, ArePieces, IsAfter, records_in}
 use Rattle.dp_cli.specs.Outlets.{joined, Counts, HasWhole}
 
 -- there are no more whole pieces than bytes
@@ -21,7 +21,7 @@ pieces_few o (suc (suc n)) bytes (front, head, body, earlier, whole, split) =
     ))
 
 -- a count is of no more pieces than bytes
-pub counted_few : (c : Counted) (bytes : List ℕ) → IsBehind c bytes → c.pieces ≤ length bytes
+pub counted_few : (c : Counted) (bytes : List ℕ) → IsAfter c bytes → c.pieces ≤ length bytes
 counted_few c bytes b =
     let whole = b.whole in
     let part = b.part in
@@ -31,12 +31,12 @@ counted_few c bytes b =
 
 -- more bytes go by
 pub counts_more : (old new : Counted) (bytes more : List ℕ) → Counts old bytes → new.order ≡ old.order
-    → (old.pieces + length more < 2 ^ 64 → (before : List ℕ) → IsBehind old before → IsBehind new (before ++ more)) → Counts new (bytes ++ more)
-counts_more old new bytes more counts order behind few =
+    → (old.pieces + length more < 2 ^ 64 → (before : List ℕ) → IsAfter old before → IsAfter new (before ++ more)) → Counts new (bytes ++ more)
+counts_more old new bytes more counts order beyond few =
     let within : length bytes < 2 ^ 64 = omega (arith, few, length-append bytes more) in
-    let b : IsBehind old bytes = (counts within).1 in
+    let b : IsAfter old bytes = (counts within).1 in
     let most : old.pieces ≤ length bytes = counted_few old bytes b in
-    (order ∙ (counts within).0, behind (omega (arith, few, most, length-append bytes more)) bytes b)
+    (order ∙ (counts within).0, beyond (omega (arith, few, most, length-append bytes more)) bytes b)
 
 -- one piece more
 pub joined_more : (pieces : List (List ℕ)) (piece : List ℕ) → joined (pieces ++ piece ∷ []) ≡ joined pieces ++ piece
@@ -45,11 +45,11 @@ joined_more pieces piece = sym (flat_map_more (λ (p : List ℕ). p) [] pieces p
 -- another piece goes by
 pub piece_passes : (old new : Counted) (pieces after : List (List ℕ)) (more : List ℕ) → ∥ Counts old (joined pieces) ∥₁ → after ≡ pieces ++ more ∷ []
     → new.order ≡ old.order
-    → (old.pieces + length more < 2 ^ 64 → (before : List ℕ) → IsBehind old before → IsBehind new (before ++ more)) → ∥ Counts new (joined after) ∥₁
-piece_passes old new pieces after more counts is order behind =
+    → (old.pieces + length more < 2 ^ 64 → (before : List ℕ) → IsAfter old before → IsAfter new (before ++ more)) → ∥ Counts new (joined after) ∥₁
+piece_passes old new pieces after more counts is order beyond =
     subst (λ (l : List (List ℕ)). ∥ Counts new (joined l) ∥₁) (sym is) (
     subst (λ (l : List ℕ). ∥ Counts new l ∥₁) (sym (joined_more pieces more)) (
-    ∥∥₁_map counts (λ h. counts_more old new (joined pieces) more h order behind)))
+    ∥∥₁_map counts (λ h. counts_more old new (joined pieces) more h order beyond)))
 
 -- this number of records is whole
 pub whole_counted : (c : Counted) (bytes : List ℕ) (whole : ℕ) → whole ≡ records_in c → ∥ Counts c bytes ∥₁ → HasWhole whole (Some bytes)

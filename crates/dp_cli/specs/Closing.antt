@@ -1,4 +1,4 @@
--- The outputs of a run after they were written out, and the result of the run then.
+-- The outputs of a run after they were flushed, and the result of the run then.
 use Rattle.std.specs.Prelude.{◌≡◌, ℕ, suc, min, List, [], ◌∷◌, Option, Some, None, is_some, Result, Ok, Err, ⊤, position, slice_get}
 use Rattle.std.specs.Prelude.{option_map, option_and_then}
 use Rattle.std.specs.Option.{option_map_or}
@@ -11,7 +11,7 @@ use Rattle.dp_pipe.specs.declared.forwarding.RunCause.TheVariants.{Out}
 use Rattle.dp_pipe.specs.declared.running.RunFault.{RunFault}
 use Rattle.dp_pipe.specs.Running.{report_of, answer_of}
 use Rattle.dp_cli.specs.declared.run.outlet.Incomplete.{Incomplete}
-use Rattle.dp_cli.specs.declared.run.closing.Settled.{Settled}
+use Rattle.dp_cli.specs.declared.run.closing.Flushed.{Flushed}
 use Rattle.dp_cli.specs.Outlets.{HasWhole, TookFront}
 
 -- an output's file took everything; or a prefix, and the count is of the records that are whole there
@@ -34,7 +34,7 @@ abbrev pub lowered : PortReport → Option Incomplete → PortReport
 lowered port None = port
 lowered port (Some incomplete) = record port { sent = min port.sent incomplete.whole }
 
--- each port of a list, which are numbered from k on
+-- each port of a list, numbered from k
 abbrev pub lowered_from : ℕ → List PortReport → List (Option Incomplete) → List PortReport
 lowered_from k [] lost = []
 lowered_from k (port ∷ ports) lost = lowered port (loss_at lost k) ∷ lowered_from (suc k) ports lost
@@ -54,7 +54,7 @@ failure_of lost (Err (Out port)) = option_map (λ incomplete. incomplete.failure
 failure_of lost answer = None
 
 -- The result of a run after its outputs, which were given these bytes, are written out to files that took those.
-pub record IsSettled (givens takens : List (Option (List ℕ))) (ran : Result Report RunFault) (s : Settled) : Type 0 where
+pub record IsFlushed (givens takens : List (Option (List ℕ))) (ran : Result Report RunFault) (s : Flushed) : Type 0 where
   pub lost : List (Option Incomplete)
   pub closed : AreClosed givens takens lost
   pub came : answer_of s.answer ≡ came_to ran lost

@@ -11,9 +11,9 @@ use Rattle.dp_pipe.specs.Loads.{IsUnloaded}
 use Rattle.serde_json.specs.Data.{Data, item, no_items}
 use Rattle.dp_cli.specs.declared.fault.Fault.{Fault}
 use Rattle.dp_cli.specs.declared.fault.Fault.TheVariants as fault
-use Rattle.dp_cli.specs.Documents.{PrintsDocument, told_fault}
+use Rattle.dp_cli.specs.Documents.{PrintsDocument, view_of_fault}
 use Rattle.dp_cli.specs.Printing.{IsEnded, Paper, PrintsFault}
-use Rattle.dp_cli.specs.Told.{status_of_fault}
+use Rattle.dp_cli.specs.Statuses.{status_of_fault}
 
 -- the node whose program is refused, or has no certificate, and where
 abbrev pub refusal_of : PipeError → Option Refusal
@@ -33,11 +33,11 @@ refusal_document refusal = verdicts_document (item (refused_data refusal) no_ite
 -- it was reported why a pipeline is not loaded: a program that is refused, or has no certificate, by a document; a fault by its lines and a document
 abbrev pub IsUnloadedDocumented : PipeError → Paper → Paper → Paper → Paper → ℕ → Type 0
 IsUnloadedDocumented error out out' err err' status = MatchOption (refusal_of error)
-    (IsEnded (status_of_fault (fault_for error)) (PrintsDocument (fault_document (told_fault (fault_for error))) out out'
+    (IsEnded (status_of_fault (fault_for error)) (PrintsDocument (fault_document (view_of_fault (fault_for error))) out out'
     × PrintsFault (fault_for error) err err') out' err err' status)
     (λ refusal. IsEnded 1 (PrintsDocument (refusal_document refusal) out out' × (err' ≡ err)) out' err err' status)
 
 -- there is no pipeline, for this cause, which was reported
-pub record IsUnloadedTold (known : Option FileMap) (how : How) (text : List ℕ) (out out' err err' : Paper) (error : PipeError) (status : ℕ) : Type 0 where
+pub record PrintsUnloaded (known : Option FileMap) (how : How) (text : List ℕ) (out out' err err' : Paper) (error : PipeError) (status : ℕ) : Type 0 where
   pub unloaded : IsUnloaded known how text error
   pub reported : IsUnloadedDocumented error out out' err err' status

@@ -5,7 +5,7 @@ use Rattle.dp_check.specs.declared.diagnosis.Diagnosis.{Diagnosis}
 use Rattle.dp_check.specs.Diagnoses.{IsDiagnosis, rule_of}
 use Rattle.dp_check.specs.Faults.{question}
 use Rattle.dp_cert.specs.Spelling.{Certificate}
-use Rattle.dp_json.specs.Documents.{Told, fault_document, verdicts_document}
+use Rattle.dp_json.specs.Documents.{FaultView, fault_document, verdicts_document}
 use Rattle.dp_json.specs.Verdicts.{accepted_data, explained_data}
 use Rattle.dp_json.specs.declared.verdicts.Explanation.{Explanation}
 use Rattle.dp_json.specs.declared.verdicts.Refusal.{Refusal}
@@ -23,10 +23,10 @@ use Rattle.serde_json.specs.View.{items_of}
 use Rattle.dp_cli.specs.declared.fault.Fault.{Fault}
 use Rattle.dp_cli.specs.declared.fault.Fault.TheVariants as fault
 use Rattle.dp_cli.specs.DocumentedLoads.{IsUnloadedDocumented, fault_for}
-use Rattle.dp_cli.specs.Documents.{PrintsDocument, told_fault}
+use Rattle.dp_cli.specs.Documents.{PrintsDocument, view_of_fault}
 use Rattle.dp_cli.specs.Judging.{IsJudged, IsUnjudged, entry_at, node_in}
 use Rattle.dp_cli.specs.Printing.{IsEnded, Paper, PrintsFault}
-use Rattle.dp_cli.specs.Told.{IsTold, status_of_fault}
+use Rattle.dp_cli.specs.Statuses.{IsExitStatus, status_of_fault}
 
 -- ---- check
 
@@ -98,11 +98,11 @@ AreListed known config nodes refused (Err error) = (n : ℕ) × (n < 16) × IsLi
 
 -- the document of verdicts
 abbrev pub explain_document : List Data → Option Fault → Data
-explain_document nodes fault = verdicts_document (items_of nodes) (option_map told_fault fault)
+explain_document nodes fault = verdicts_document (items_of nodes) (option_map view_of_fault fault)
 
--- it was printed, with the lines of the fault that ended the verdicts; where memory ran out the document has that alone
+-- it was printed, with the lines of the fault that ended the verdicts; if memory ran out, it has only that fault
 abbrev pub end_document : List Data → Fault → Data
-end_document nodes fault.Memory = fault_document (told_fault fault.Memory)
+end_document nodes fault.Memory = fault_document (view_of_fault fault.Memory)
 end_document nodes f = explain_document nodes (Some f)
 
 abbrev pub IsEndDocumented : List Data → Fault → Paper → Paper → Paper → Paper → ℕ → Type 0
@@ -142,7 +142,7 @@ pub record AreAllDocumented (known : Option FileMap) (config : Config) (out out'
 -- the document of the node with this entry was printed, or it was reported that there is none
 abbrev pub IsDocumentedAt : Option FileMap → Config → Entry → Paper → Paper → Paper → Paper → ℕ → Type 0
 IsDocumentedAt known config entry out out' err err' status = MatchOption (node_in config entry)
-    (IsTold 2 status × (out' ≡ out)) (λ node. IsNodeDocumented known config.env node out out' err err' status)
+    (IsExitStatus 2 status × (out' ≡ out)) (λ node. IsNodeDocumented known config.env node out out' err err' status)
 
 -- the document of a text's pipeline was printed: its fault; or the verdicts on its nodes, or on the one that is named
 abbrev pub IsOf : Option FileMap → Config → Option Entry → Paper → Paper → Paper → Paper → ℕ → Type 0

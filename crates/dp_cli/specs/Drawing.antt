@@ -5,23 +5,23 @@ use Rattle.dp_pipe.specs.Config.{IsConfigOf}
 use Rattle.dp_pipe.specs.Files.{FileMap}
 use Rattle.dp_cli.specs.declared.verdicts.Wanted.TheVariants as wanted
 use Rattle.dp_cli.specs.declared.verdicts.show.Form.TheVariants as form
-use Rattle.dp_cli.specs.Judging.{AreAllTold, IsSaid, IsTextFaultTold}
+use Rattle.dp_cli.specs.Judging.{PrintsAll, IsSaid, PrintsTextFault}
 use Rattle.dp_cli.specs.Printing.{Paper}
 
--- what was drawn on a page is printed where all nodes are on it; else nothing is, as a fault was reported
+-- what was drawn on a page is printed if all nodes are on it; else nothing is, as a fault was reported
 abbrev pub IsPageSaid : ℕ → Paper → Paper → Paper → Paper → ℕ → Type 0
-IsPageSaid told out out' err err' status =
-    (((told ≡ 0) ⊎ (told ≡ 1)) × IsSaid told out out' err err' status)
-    ⊎ ((told ≢ 0) × (told ≢ 1) × (status ≡ told) × (out' ≡ out) × (err' ≡ err))
+IsPageSaid verdict out out' err err' status =
+    (((verdict ≡ 0) ⊎ (verdict ≡ 1)) × IsSaid verdict out out' err err' status)
+    ⊎ ((verdict ≢ 0) × (verdict ≢ 1) × (status ≡ verdict) × (out' ≡ out) × (err' ≡ err))
 
 -- all nodes were drawn on a page, which was then printed; or a fault ended that
 pub record AreDrawn (known : Option FileMap) (config : Config) (out out' err err' : Paper) (status : ℕ) : Type 0 where
   pub start : Paper
   pub page : Paper
   pub between : Paper
-  pub told : ℕ
-  pub drawn : AreAllTold known config (wanted.Program form.Part) start page err between told
-  pub said : IsPageSaid told out out' between err' status
+  pub verdict : ℕ
+  pub drawn : PrintsAll known config (wanted.Program form.Part) start page err between verdict
+  pub said : IsPageSaid verdict out out' between err' status
 
 -- the pipeline of a text was drawn
 pub record IsTextDrawn (known : Option FileMap) (text : List ℕ) (out out' err err' : Paper) (status : ℕ) : Type 0 where
@@ -32,4 +32,4 @@ pub record IsTextDrawn (known : Option FileMap) (text : List ℕ) (out out' err 
 -- the pipeline of a text was drawn, or the fault of the text reported
 abbrev pub IsPipelineDrawn : Option FileMap → List ℕ → Paper → Paper → Paper → Paper → ℕ → Type 0
 IsPipelineDrawn known text out out' err err' status =
-    IsTextFaultTold text out out' err err' status ⊎ IsTextDrawn known text out out' err err' status
+    PrintsTextFault text out out' err err' status ⊎ IsTextDrawn known text out out' err err' status

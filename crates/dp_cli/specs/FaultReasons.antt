@@ -22,7 +22,7 @@ abbrev pub reason_text : Reason → Option (List ℕ)
 reason_text TooLong = Some (codes "it is longer than 1048576 bytes")
 reason_text IsRead = Some (codes "the run reads this file, so it is not overwritten")
 reason_text IsOutput = Some (codes "another port writes this file, too")
-reason_text IsPcapng = Some (codes "it is a pcapng file, of which editcap -F pcap IN OUT makes a capture")
+reason_text IsPcapng = Some (codes "it is a pcapng file; editcap -F pcap IN OUT converts it to a capture")
 reason_text (Link link) = Some (link_text link)
 reason_text _ = None
 

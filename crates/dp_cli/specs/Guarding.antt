@@ -39,7 +39,7 @@ read_name read = string_bytes read.name
 abbrev pub ReadsInputs : List ReadFile → List CaptureNames → Type 0
 ReadsInputs reads names = (earlier : List (List ℕ)) × (map read_name reads ≡ earlier ++ map input_name names)
 
--- an output is no file that the run reads, and none of the earlier outputs
+-- an output is not a file that the run reads, nor one of the earlier outputs
 pub record IsApart (reads : List ReadFile) (earlier : List Written) (output : Written) : Type 0 where
   pub unread : find (is_read output.target) reads ≡ None
   pub alone : find (λ (other : Written). is_same_target output.target other.target) earlier ≡ None

@@ -1,4 +1,4 @@
--- What `dpv mem` prints of a heap.
+-- What `dpv mem` prints about a heap.
 use Rattle.std.specs.Prelude.{ℕ, ◌-◌, List, ◌∷◌, [], ◌++◌, ◌&&◌, Bool, Option, find, nat_le, nat_lt, codes}
 use Rattle.std.specs.Fmt.{decimal}
 use Rattle.std.specs.List.{flat_map}
@@ -13,7 +13,7 @@ use Rattle.dp_heap.specs.Refusals.{number_of}
 abbrev pub lies_in : ℕ → Element → Bool
 lies_in offset e = nat_le e.offset offset && nat_lt (offset - e.offset) e.size
 
--- the element in which an offset lies, where there is one
+-- the element in which an offset lies, if there is one
 abbrev pub element_at : List Element → ℕ → Option Element
 element_at es offset = find (lies_in offset) es
 
@@ -32,7 +32,7 @@ element_line e = element_text e ++ 10 ∷ []
 abbrev pub list_text : List Element → List ℕ
 list_text es = flat_map element_line es
 
--- the line of an allocation: its number, the offset of its data, and the element of these
+-- the line of an allocation: its number, the offset of its data, and the element that contains them
 abbrev pub block_line : ℕ → ℕ → Element → List ℕ
 block_line number offset e =
     (decimal number ++ (codes " data " ++ (decimal offset ++ (codes " element " ++ (decimal e.offset ++ (codes " + " ++ decimal e.size)))))) ++ 10 ∷ []

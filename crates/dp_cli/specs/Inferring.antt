@@ -13,7 +13,7 @@ use Rattle.dp_pipe.specs.Pipelines.{Plan}
 use Rattle.dp_cli.specs.declared.fault.Fault.TheVariants as fault
 use Rattle.dp_cli.specs.Pipelines.{node_at, IsUnloadedReported}
 use Rattle.dp_cli.specs.Printing.{Paper, Prints, PrintsFault, IsEnded}
-use Rattle.dp_cli.specs.Told.{no_node_line}
+use Rattle.dp_cli.specs.Statuses.{no_node_line}
 
 -- a node with this program file and no certificate
 abbrev pub by_itself : Entry → List ℕ → Node
@@ -46,12 +46,12 @@ pub record HasInferred (known : Option FileMap) (env : Environment) (node : Node
   pub ended : IsCertEnded cert out out' err err' status
 
 -- why there is none was reported
-pub record IsNoneTold (known : Option FileMap) (env : Environment) (node : Node) (out out' err err' : Paper) (status : ℕ) : Type 0 where
+pub record PrintsNotInferred (known : Option FileMap) (env : Environment) (node : Node) (out out' err err' : Paper) (status : ℕ) : Type 0 where
   pub error : PipeError
   pub fails : Fails known env node error
   pub reported : IsUnloadedReported error out out' err err' status
 
--- the one or the other
-abbrev pub IsInferredTold : Option FileMap → Environment → Node → Paper → Paper → Paper → Paper → ℕ → Type 0
-IsInferredTold known env node out out' err err' status =
-    HasInferred known env node out out' err err' status ⊎ IsNoneTold known env node out out' err err' status
+-- the certificate was printed, or it was reported why there is none
+abbrev pub PrintsInferred : Option FileMap → Environment → Node → Paper → Paper → Paper → Paper → ℕ → Type 0
+PrintsInferred known env node out out' err err' status =
+    HasInferred known env node out out' err err' status ⊎ PrintsNotInferred known env node out out' err err' status

@@ -5,6 +5,6 @@ use Rattle.dp_pcap.specs.OfStd.{buffered_reader}
 use Rattle.dp_cli.specs.declared.run.watched.Seen.{Seen}
 use Rattle.dp_cli.specs.declared.run.watched.Watched.{Watched}
 
--- what its file gave away beside its bytes
-abbrev pub given_away : {R P : Type 0} → OfBufReader (Watched R P) → Seen
-given_away {R} {P} reader = (reader_inner {T = Watched R P} (buffered_reader reader)).seen
+-- what was seen of its file besides the bytes
+abbrev pub seen_of_file : {R P : Type 0} → OfBufReader (Watched R P) → Seen
+seen_of_file {R} {P} reader = (reader_inner {T = Watched R P} (buffered_reader reader)).seen

@@ -30,7 +30,7 @@ use Rattle.dp_cli.specs.declared.verdicts.show.Form.{Form}
 use Rattle.dp_cli.specs.declared.verdicts.show.Form.TheVariants as form
 use Rattle.dp_cli.specs.Pipelines.{IsUnloadedReported}
 use Rattle.dp_cli.specs.Printing.{Paper, Prints, Says, Reports, IsEnded}
-use Rattle.dp_cli.specs.Told.{no_node_line}
+use Rattle.dp_cli.specs.Statuses.{no_node_line}
 
 -- the node that is asked about, with the names of its files
 abbrev pub asked_node : Asked → Node
@@ -77,8 +77,8 @@ abbrev pub IsFaultSaid : Paper → Paper → Paper → Paper → ℕ → Type 0
 IsFaultSaid out out' err err' ended = IsEnded 3 (Reports out out' err err') out' err err' ended ⊎ IsUnloadedReported Memory out out' err err' ended
 
 -- the verdict was printed: with 0 for an accepted program, with 1 for a refused one, of which there is a diagnosis
-abbrev pub IsVerdictTold : Question → Paper → Paper → Paper → Paper → ℕ → Type 0
-IsVerdictTold q out out' err err' status =
+abbrev pub PrintsVerdict : Question → Paper → Paper → Paper → Paper → ℕ → Type 0
+PrintsVerdict q out out' err err' status =
     (IsAccepted q × IsSaid 0 out out' err err' status) ⊎ ((diagnosis : Diagnosis) × IsDiagnosis q diagnosis × IsSaid 1 out out' err err' status)
 
 -- the counts in a form, if they are of a program with another number of instructions than this
@@ -87,14 +87,14 @@ misfit_in (form.Counted counted) count = if length counted.steps.now == count th
 misfit_in _ count = None
 
 -- a program was shown in this form; or it was reported that its counts do not fit
-abbrev pub IsFormTold : Form → Question → Paper → Paper → Paper → Paper → ℕ → Type 0
-IsFormTold shown q out out' err err' status = MatchOption (misfit_in shown (length q.program))
-    (IsVerdictTold q out out' err err' status) (λ counted. IsFaultSaid out out' err err' status)
+abbrev pub PrintsForm : Form → Question → Paper → Paper → Paper → Paper → ℕ → Type 0
+PrintsForm shown q out out' err err' status = MatchOption (misfit_in shown (length q.program))
+    (PrintsVerdict q out out' err err' status) (λ counted. IsFaultSaid out out' err err' status)
 
 -- what is wanted of a program was printed or reported
-abbrev pub IsWantedTold : Wanted → Question → Paper → Paper → Paper → Paper → ℕ → Type 0
-IsWantedTold wanted.Reason q out out' err err' status = IsVerdictTold q out out' err err' status
-IsWantedTold (wanted.Program shown) q out out' err err' status = IsFormTold shown q out out' err err' status
+abbrev pub PrintsWanted : Wanted → Question → Paper → Paper → Paper → Paper → ℕ → Type 0
+PrintsWanted wanted.Reason q out out' err err' status = PrintsVerdict q out out' err err' status
+PrintsWanted (wanted.Program shown) q out out' err err' status = PrintsForm shown q out out' err err' status
 
 -- a node was judged, and what is wanted of it was printed or reported
 pub record IsExplained (known : Option FileMap) (env : Environment) (node : Node) (asked : Wanted) (out out' err err' : Paper) (status : ℕ) : Type 0 where
@@ -102,18 +102,18 @@ pub record IsExplained (known : Option FileMap) (env : Environment) (node : Node
   pub program : List Instr
   pub cert : Certificate
   pub judged : IsJudged known env node text program cert
-  pub told : IsWantedTold asked (question program cert env node.entry) out out' err err' status
+  pub is_printed : PrintsWanted asked (question program cert env node.entry) out out' err err' status
 
 -- why a node is not judged was reported
-pub record IsUnjudgedTold (known : Option FileMap) (node : Node) (out out' err err' : Paper) (status : ℕ) : Type 0 where
+pub record PrintsUnjudged (known : Option FileMap) (node : Node) (out out' err err' : Paper) (status : ℕ) : Type 0 where
   pub error : PipeError
   pub unjudged : IsUnjudged known node error
-  pub told : IsUnloadedReported error out out' err err' status
+  pub is_printed : IsUnloadedReported error out out' err err' status
 
--- what was printed or reported of a node
-abbrev pub IsNodeTold : Option FileMap → Environment → Node → Wanted → Paper → Paper → Paper → Paper → ℕ → Type 0
-IsNodeTold known env node asked out out' err err' status =
-    IsExplained known env node asked out out' err err' status ⊎ IsUnjudgedTold known node out out' err err' status
+-- what was printed or reported about a node
+abbrev pub PrintsNode : Option FileMap → Environment → Node → Wanted → Paper → Paper → Paper → Paper → ℕ → Type 0
+PrintsNode known env node asked out out' err err' status =
+    IsExplained known env node asked out out' err err' status ⊎ PrintsUnjudged known node out out' err err' status
 
 -- the node of a pipeline with this entry, if there is one
 abbrev pub node_in : Config → Entry → Option Node
@@ -124,26 +124,26 @@ abbrev pub entry_at : ℕ → Entry
 entry_at index = if nat_lt index 8 then Port index else Ring (index - 8)
 
 -- the node with this index was reported, if there is one; else nothing was
-abbrev pub IsToldNth : Option FileMap → Config → ℕ → Wanted → Paper → Paper → Paper → Paper → ℕ → Type 0
-IsToldNth known config index asked out out' err err' status = MatchOption (node_in config (entry_at index))
-    ((status ≡ 0) × (out' ≡ out) × (err' ≡ err)) (λ node. IsNodeTold known config.env node asked out out' err err' status)
+abbrev pub PrintsNth : Option FileMap → Config → ℕ → Wanted → Paper → Paper → Paper → Paper → ℕ → Type 0
+PrintsNth known config index asked out out' err err' status = MatchOption (node_in config (entry_at index))
+    ((status ≡ 0) × (out' ≡ out) × (err' ≡ err)) (λ node. PrintsNode known config.env node asked out out' err err' status)
 
 -- among others this node was reported, with this status, while nothing was on standard error
-pub record WasTold (known : Option FileMap) (env : Environment) (node : Node) (asked : Wanted) (err : Paper) (status : ℕ) : Type 0 where
+pub record WasPrinted (known : Option FileMap) (env : Environment) (node : Node) (asked : Wanted) (err : Paper) (status : ℕ) : Type 0 where
   pub before : Paper
   pub after : Paper
-  pub told : IsNodeTold known env node asked before after err err status
+  pub is_printed : PrintsNode known env node asked before after err err status
 
 -- the node with this index, if there is one, was accepted
 abbrev pub AcceptedAt : Option FileMap → Config → Wanted → Paper → ℕ → Type 0
-AcceptedAt known config asked err index = IfSome (node_in config (entry_at index)) (λ node. WasTold known config.env node asked err 0)
+AcceptedAt known config asked err index = IfSome (node_in config (entry_at index)) (λ node. WasPrinted known config.env node asked err 0)
 
 -- the node with this index was refused
 pub record RefusedAt (known : Option FileMap) (config : Config) (asked : Wanted) (err : Paper) : Type 0 where
   pub index : ℕ
   pub node : Node
   pub is : node_in config (entry_at index) ≡ Some node
-  pub told : WasTold known config.env node asked err 1
+  pub is_printed : WasPrinted known config.env node asked err 1
 
 -- the nodes before this one were reported, and this one ended it
 pub record EndedAt (known : Option FileMap) (config : Config) (asked : Wanted) (out out' err err' : Paper) (status : ℕ) : Type 0 where
@@ -152,41 +152,41 @@ pub record EndedAt (known : Option FileMap) (config : Config) (asked : Wanted) (
   pub is : node_in config (entry_at index) ≡ Some node
   pub between : Paper
   pub before : Says out between err err
-  pub told : IsNodeTold known config.env node asked between out' err err' status
+  pub is_printed : PrintsNode known config.env node asked between out' err err' status
 
--- All nodes were reported: 0 where all of them are accepted, and 1 where one is refused. Or a fault ended it at a node.
-pub record AreAllTold (known : Option FileMap) (config : Config) (asked : Wanted) (out out' err err' : Paper) (status : ℕ) : Type 0 where
+-- All nodes were reported: 0 if all of them are accepted, and 1 if one is refused. Or a fault ended it at a node.
+pub record PrintsAll (known : Option FileMap) (config : Config) (asked : Wanted) (out out' err err' : Paper) (status : ℕ) : Type 0 where
   pub accepted : status ≡ 0 → (index : ℕ) → index < 16 → AcceptedAt known config asked err index
   pub refused : status ≡ 1 → RefusedAt known config asked err
   pub ends : (((status ≡ 0) ⊎ (status ≡ 1)) × Says out out' err err') ⊎ (EndedAt known config asked out out' err err' status × (status ≢ 0) × (status ≢ 1))
 
 -- the node with this entry was reported: that there is none, or what is wanted of it
-abbrev pub IsToldAt : Option FileMap → Config → Entry → Wanted → Paper → Paper → Paper → Paper → ℕ → Type 0
-IsToldAt known config entry asked out out' err err' status = MatchOption (node_in config entry)
+abbrev pub PrintsAt : Option FileMap → Config → Entry → Wanted → Paper → Paper → Paper → Paper → ℕ → Type 0
+PrintsAt known config entry asked out out' err err' status = MatchOption (node_in config entry)
     (IsEnded 2 (Prints err err' (no_node_line entry) × (out' ≡ out)) out' err err' status)
-    (λ node. IsNodeTold known config.env node asked out out' err err' status)
+    (λ node. PrintsNode known config.env node asked out out' err err' status)
 
 -- the fault of a text was reported
-pub record IsTextFaultTold (text : List ℕ) (out out' err err' : Paper) (status : ℕ) : Type 0 where
+pub record PrintsTextFault (text : List ℕ) (out out' err err' : Paper) (status : ℕ) : Type 0 where
   pub error : PipeError
   pub fault : IsFaultOf text error
-  pub told : IsUnloadedReported error out out' err err' status
+  pub is_printed : IsUnloadedReported error out out' err err' status
 
 -- one node of a text's pipeline was reported
 pub record IsOfNode (known : Option FileMap) (text : List ℕ) (entry : Entry) (asked : Wanted) (out out' err err' : Paper) (status : ℕ) : Type 0 where
   pub config : Config
   pub is : IsConfigOf text config
-  pub told : IsToldAt known config entry asked out out' err err' status
+  pub is_printed : PrintsAt known config entry asked out out' err err' status
 
 -- all nodes of a text's pipeline were reported
 pub record IsOfAll (known : Option FileMap) (text : List ℕ) (asked : Wanted) (out out' err err' : Paper) (status : ℕ) : Type 0 where
   pub config : Config
   pub is : IsConfigOf text config
-  pub told : AreAllTold known config asked out out' err err' status
+  pub is_printed : PrintsAll known config asked out out' err err' status
 
--- one node of a text's pipeline was reported, or all where none is named
-abbrev pub IsPipelineTold : Option FileMap → List ℕ → Option Entry → Wanted → Paper → Paper → Paper → Paper → ℕ → Type 0
-IsPipelineTold known text None asked out out' err err' status =
-    IsTextFaultTold text out out' err err' status ⊎ IsOfAll known text asked out out' err err' status
-IsPipelineTold known text (Some entry) asked out out' err err' status =
-    IsTextFaultTold text out out' err err' status ⊎ IsOfNode known text entry asked out out' err err' status
+-- one node of a text's pipeline was reported, or all if none is named
+abbrev pub PrintsPipeline : Option FileMap → List ℕ → Option Entry → Wanted → Paper → Paper → Paper → Paper → ℕ → Type 0
+PrintsPipeline known text None asked out out' err err' status =
+    PrintsTextFault text out out' err err' status ⊎ IsOfAll known text asked out out' err err' status
+PrintsPipeline known text (Some entry) asked out out' err err' status =
+    PrintsTextFault text out out' err err' status ⊎ IsOfNode known text entry asked out out' err err' status

@@ -26,7 +26,7 @@ pub mod Report
 pub mod Run
 pub mod Scripts
 pub mod SinglePort
-pub mod Told
+pub mod Statuses
 pub mod Tracing
 pub mod Truncated
 pub mod Unfit

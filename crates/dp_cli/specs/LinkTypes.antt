@@ -1,4 +1,4 @@
--- The link types of captures: the one in a header, its name, and what helps where it is not read.
+-- The link types of captures: the one in a header, its name, and what helps if `dpv` does not read it.
 use Rattle.std.specs.Prelude.{◌≡◌, ℕ, ◌%◌, ◌/◌, ◌==◌, ◌&&◌, ◌<◌, ◌≤◌, ◌⊎◌, List, ◌++◌, Option, MatchOption, length, drop, codes, nat_le, if◌then◌else◌}
 use Rattle.std.specs.Fmt.{decimal}
 use Rattle.dp_cli.specs.declared.run.link_type.LinkType.{LinkType}

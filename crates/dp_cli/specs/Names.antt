@@ -16,12 +16,12 @@ use Rattle.dp_cli.specs.declared.run.replaced.Place.TheVariants.{File, Stream, N
 use Rattle.dp_cli.specs.declared.run.replaced.Replaced.{Replaced}
 use Rattle.dp_cli.specs.declared.run.watched.Watched.{Watched}
 use Rattle.dp_cli.specs.declared.single_port.Naming.{Naming}
-use Rattle.dp_cli.specs.declared.single_port.Naming.TheVariants.{AsTheyStand, One}
+use Rattle.dp_cli.specs.declared.single_port.Naming.TheVariants.{AsWritten, One}
 use Rattle.dp_cli.specs.Replacing.{capture_at}
 
 -- the file that a name of a pipeline means: the one with this name; or, for `dpv one`, the one that was given for it
 abbrev pub file_named : Naming → List ℕ → List ℕ
-file_named AsTheyStand name = name
+file_named AsWritten name = name
 file_named (One files) name = if bytes_eq name (codes "node") then files.node.now else if bytes_eq name (codes "cert") then files.cert.now else
     if bytes_eq name (codes "in") then files.input.now else files.output.now
 

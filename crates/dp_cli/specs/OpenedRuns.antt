@@ -3,7 +3,7 @@ use Rattle.std.specs.Prelude.{◌≡◌, ℕ, List, Bool, true, false, Option}
 use Rattle.dp_pipe.specs.Devices.{Device}
 use Rattle.dp_pipe.specs.Pipelines.{Plan}
 use Rattle.dp_cli.specs.declared.counting.Counting.{Counting}
-use Rattle.dp_cli.specs.declared.run.closing.Settled.{Settled}
+use Rattle.dp_cli.specs.declared.run.closing.Flushed.{Flushed}
 use Rattle.dp_cli.specs.declared.run.capture_errors.CaptureNames.{CaptureNames}
 use Rattle.dp_cli.specs.declared.run.watched.Seen.{Seen}
 use Rattle.dp_cli.specs.Counting.{IsReportedWithCounts}
@@ -23,7 +23,7 @@ pub record IsOpenedRun (p : Plan) (pattern : List ℕ) (names : List CaptureName
   pub out' : Paper
   pub err : Paper
   pub err' : Paper
-  pub settled : Settled
-  pub run : IsCountedRun counting counting' p pattern had left held taken settled
-  pub text : is_json ≡ false → IsReportedWithCounts names saw totals counting' p.env out out' err err' settled status
-  pub document : is_json ≡ true → IsRunDocumented names saw totals counting' p.env out out' err err' settled status
+  pub flushed : Flushed
+  pub run : IsCountedRun counting counting' p pattern had left held taken flushed
+  pub text : is_json ≡ false → IsReportedWithCounts names saw totals counting' p.env out out' err err' flushed status
+  pub document : is_json ≡ true → IsRunDocumented names saw totals counting' p.env out out' err err' flushed status

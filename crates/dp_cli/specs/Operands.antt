@@ -23,7 +23,7 @@ abbrev pub number_in : List ℕ → Option ℕ
 number_in word = if list_all is_ascii_digit word && (nat_lt 0 (length word) && nat_lt (digits_value 10 word) (2 ^ 64)) then Some (digits_value 10 word)
     else None
 
--- a word as a number of records: from 1 to the most turns of a run
+-- a word as a number of records: from 1 to the maximum number of turns of a run
 abbrev pub records_in : List ℕ → Option ℕ
 records_in word = option_and_then (λ n. if nat_lt 0 n && nat_le n MAX_TURNS then Some n else None) (number_in word)
 
@@ -41,11 +41,11 @@ ascending_in last (word ∷ words) =
 abbrev pub words_in : List ℕ → List (List ℕ)
 words_in list = slice_split (λ b. b == 44) list
 
--- the numbers of a list, from 1 on, ascending
+-- the numbers of a list, at least 1, ascending
 abbrev pub numbers_in : List ℕ → Option (List ℕ)
 numbers_in list = ascending_in 0 (words_in list)
 
--- the calls that a run refuses: those of the list that is given, where there is one
+-- the calls that a run refuses: those of the list that is given, if there is one
 abbrev pub calls_refused : Option (List ℕ) → Option (List ℕ)
 calls_refused None = Some []
 calls_refused (Some list) = numbers_in list

@@ -1,16 +1,16 @@
--- What becomes of the bytes that an output is given.
+-- Where the bytes go that an output is given.
 use Rattle.std.specs.Prelude.{◌≡◌, ℕ, ◌<◌, ◌^◌, ◌++◌, List, length, Option, Some, None, ⊤}
 use Rattle.std.specs.List.{flat_map}
 use Rattle.dp_pcap.specs.declared.byte_order.Order.TheVariants.{Little}
-use Rattle.dp_pcap.specs.Counting.{Counted, IsBehind, records_in}
+use Rattle.dp_pcap.specs.Counting.{Counted, IsAfter, records_in}
 
--- pieces, one after the other
+-- pieces, concatenated
 abbrev pub joined : List (List ℕ) → List ℕ
 joined pieces = flat_map (λ piece. piece) pieces
 
 -- a count of the records that are whole in these bytes, of which there are fewer than 2^64
 abbrev pub Counts : Counted → List ℕ → Type 0
-Counts counted bytes = length bytes < 2 ^ 64 → (counted.order ≡ Little) × IsBehind counted bytes
+Counts counted bytes = length bytes < 2 ^ 64 → (counted.order ≡ Little) × IsAfter counted bytes
 
 -- this number of records are whole in these bytes, if they are known
 abbrev pub HasWhole : ℕ → Option (List ℕ) → Type 0

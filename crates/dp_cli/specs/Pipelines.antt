@@ -14,9 +14,9 @@ use Rattle.dp_pipe.specs.Causes.{node_text}
 use Rattle.dp_cli.specs.declared.fault.Fault.{Fault}
 use Rattle.dp_cli.specs.declared.fault.Fault.TheVariants as fault
 use Rattle.dp_cli.specs.Printing.{Paper, Prints, PrintsFault, IsEnded}
-use Rattle.dp_cli.specs.Told.{refusal_line, status_of_fault}
+use Rattle.dp_cli.specs.Statuses.{refusal_line, status_of_fault}
 
--- the fault of a pipeline that is not loaded; none where a program is refused or has no certificate
+-- the fault of a pipeline that is not loaded; none if a program is refused or has no certificate
 abbrev pub fault_of : PipeError → Option Fault
 fault_of Memory = Some fault.Memory
 fault_of (NotInferred _ _ _) = None
@@ -30,13 +30,13 @@ IsUnloadedReported error out out' err err' status = MatchOption (fault_of error)
     (λ fault. IsEnded (status_of_fault fault) (PrintsFault fault err err' × (out' ≡ out)) out' err err' status)
 
 -- there is no pipeline, for this cause, which was reported
-pub record IsUnloadedTold (known : Option FileMap) (how : How) (text : List ℕ) (out out' err err' : Paper) (error : PipeError) (status : ℕ) : Type 0 where
+pub record PrintsUnloaded (known : Option FileMap) (how : How) (text : List ℕ) (out out' err err' : Paper) (error : PipeError) (status : ℕ) : Type 0 where
   pub unloaded : IsUnloaded known how text error
   pub reported : IsUnloadedReported error out out' err err' status
 
 -- for some cause
-abbrev pub IsFaultTold : Option FileMap → How → List ℕ → Paper → Paper → Paper → Paper → ℕ → Type 0
-IsFaultTold known how text out out' err err' status = (error : PipeError) × IsUnloadedTold known how text out out' err err' error status
+abbrev pub PrintsLoadFault : Option FileMap → How → List ℕ → Paper → Paper → Paper → Paper → ℕ → Type 0
+PrintsLoadFault known how text out out' err err' status = (error : PipeError) × PrintsUnloaded known how text out out' err err' error status
 
 -- the line of a node that is accepted
 abbrev pub accepted_line : Question → List ℕ

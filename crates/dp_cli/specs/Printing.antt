@@ -3,7 +3,7 @@ use Rattle.std.specs.Prelude.{◌≡◌, ℕ, ◌⊎◌, List, [], ◌∷◌, �
 use Rattle.std.specs.Io.KnownBytes.{Appends}
 use Rattle.dp_cli.specs.declared.printer.Printer.{Printer}
 use Rattle.dp_cli.specs.declared.fault.Fault.{Fault}
-use Rattle.dp_cli.specs.Told.{text_of_fault, finding_of, lines_behind, TellsMemory}
+use Rattle.dp_cli.specs.Statuses.{text_of_fault, finding_of, lines_after, PrintsMemory}
 
 -- a printer notes whether its writer failed
 abbrev pub Notes : {W A E : Type 0} → Printer W → Printer W → Result A E → Type 0
@@ -26,19 +26,19 @@ pub record Prints (old new : Paper) (text : List ℕ) : Type 0 where
 pub record WritesFault (fault : Fault) (old new : Option (List ℕ)) : Type 0 where
   pub between : Option (List ℕ)
   pub line : Appends old between (text_of_fault fault ++ 10 ∷ [])
-  pub more : IfSome (lines_behind (finding_of fault)) (Appends between new)
+  pub more : IfSome (lines_after (finding_of fault)) (Appends between new)
 
 -- a fault was reported
 pub record PrintsFault (fault : Fault) (old new : Paper) : Type 0 where
   pub lines : WritesFault fault old.bytes new.bytes
   pub sound : new.failed ≡ old.failed
 
--- A command ended. With the status that it is to end with, all was said that it is to say. Where a text could not be written, it ended with 3; or
--- with 4, where memory ran out for one, and that was reported.
+-- A command ended in one of three ways: with the intended status, after it printed all that it has to; with 3, if a text could not be written; or
+-- with 4, if memory ran out for a text, and that was reported.
 abbrev pub IsEnded : ℕ → Type 0 → Paper → Paper → Paper → ℕ → Type 0
 IsEnded status said out err err' ended =
     ((ended ≡ status) × said) ⊎ ((ended ≡ 3) × ((out.failed ≡ true) ⊎ (err'.failed ≡ true)))
-    ⊎ ((ended ≡ 4) × (out.failed ≡ true) × TellsMemory err.bytes err'.bytes)
+    ⊎ ((ended ≡ 4) × (out.failed ≡ true) × PrintsMemory err.bytes err'.bytes)
 
 -- a text was printed, and nothing was reported
 pub record Says (out out' err err' : Paper) : Type 0 where

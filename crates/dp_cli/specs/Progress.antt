@@ -2,7 +2,7 @@
 use Rattle.std.specs.Prelude.{ℕ, ◌+◌, ◌-◌, ◌/◌, ◌%◌, List, [], ◌∷◌, ◌++◌, nat_lt, codes, if◌then◌else◌}
 use Rattle.std.specs.Fmt.{decimal}
 use Rattle.dp_engine.specs.declared.report.PortReport.{PortReport}
-use Rattle.dp_cli.specs.Report.{lines_from}
+use Rattle.dp_counts.specs.Totals.{lines_from}
 
 -- that this many records of a port's capture were read
 abbrev pub step_line : ℕ → ℕ → List ℕ

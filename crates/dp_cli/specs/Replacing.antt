@@ -35,7 +35,7 @@ port_digit _ = None
 abbrev pub place_named : List ℕ → Place
 place_named name = if bytes_eq name (codes "-") then Stream else File
 
--- the capture of a port that is given with its name; none where there is no name
+-- the capture of a port that is given with its name; none if there is no name
 abbrev pub row_named : List ℕ → List ℕ → ℕ → Option Row
 row_named word [] port = None
 row_named word (byte ∷ bytes) port = Some (record { word = word; port = port; place = place_named (byte ∷ bytes); name = byte ∷ bytes })

@@ -1,11 +1,12 @@
 -- The lines of a report.
-use Rattle.std.specs.Prelude.{ℕ, suc, List, ◌∷◌, [], ◌++◌, nat_lt, codes, if◌then◌else◌}
+use Rattle.std.specs.Prelude.{ℕ, List, ◌∷◌, [], ◌++◌, nat_lt, codes, if◌then◌else◌}
 use Rattle.std.specs.Fmt.{decimal}
 use Rattle.dp_engine.specs.declared.report.InputState.{InputState}
 use Rattle.dp_engine.specs.declared.report.InputState.TheVariants.{Open, Whole, Cut}
 use Rattle.dp_engine.specs.declared.report.PortReport.{PortReport}
 use Rattle.dp_engine.specs.declared.report.PoolReport.{PoolReport}
 use Rattle.dp_engine.specs.declared.report.Report.{Report}
+use Rattle.dp_counts.specs.Totals.{lines_from}
 
 -- how far an input was read
 abbrev pub state_text : InputState → List ℕ
@@ -23,11 +24,6 @@ ring_line k left = codes "ring " ++ (decimal k ++ (codes " left " ++ (decimal le
 
 abbrev pub pool_line : ℕ → PoolReport → List ℕ
 pool_line k p = codes "pool " ++ (decimal k ++ (codes " free " ++ (decimal p.free ++ (codes " of " ++ (decimal p.count ++ 10 ∷ [])))))
-
--- a line for each, numbered from k on
-abbrev pub lines_from : {A : Type 0} → (ℕ → A → List ℕ) → ℕ → List A → List ℕ
-lines_from line k [] = []
-lines_from line k (x ∷ xs) = line k x ++ lines_from line (suc k) xs
 
 abbrev pub port_lines : List PortReport → List ℕ
 port_lines ports = lines_from port_line 0 ports

@@ -22,10 +22,10 @@ use Rattle.dp_cli.specs.declared.fault.Fault.{Fault}
 use Rattle.dp_cli.specs.declared.fault.Fault.TheVariants as fault
 use Rattle.dp_cli.specs.declared.error_text.Finding.{Finding}
 use Rattle.dp_cli.specs.declared.error_text.Reason.TheVariants.{Capture}
-use Rattle.dp_cli.specs.declared.run.closing.Settled.{Settled}
+use Rattle.dp_cli.specs.declared.run.closing.Flushed.{Flushed}
 use Rattle.dp_cli.specs.declared.run.capture_errors.CaptureNames.{CaptureNames}
 use Rattle.dp_cli.specs.declared.run.watched.Seen.{Seen}
-use Rattle.dp_cli.specs.Closing.{IsSettled}
+use Rattle.dp_cli.specs.Closing.{IsFlushed}
 use Rattle.dp_cli.specs.FaultReasons.{file_of, reason_for}
 use Rattle.dp_cli.specs.Printing.{Paper, Prints, PrintsFault, IsEnded}
 use Rattle.dp_cli.specs.Progress.{total_lines}
@@ -55,7 +55,7 @@ stop_fault NoRoom found = fault.Region
 stop_fault (In port error) found = fault.Input port error (unwrap_or found (record { file = None; reason = Capture error }))
 stop_fault (Out port) found = fault.Output port (unwrap_or found (record { file = None; reason = Capture Write }))
 
--- the report that is printed; none for a run that found no memory
+-- the report that is printed; none for a run that ran out of memory
 abbrev pub report_for : RunCause → Report → Option Report
 report_for Memory report = None
 report_for cause report = Some report
@@ -81,7 +81,7 @@ IsRunReported answer found out out' err err' status =
 -- A run of a pipeline with these calls refused: the bytes that each reader had and has left, those that each writer had before and that its file took
 -- once everything is written out, the events that the watcher was shown, and the result of the run.
 pub record IsRun {V : Type 0} (sees : V → Event → V → Type 0) (v v' : V) (p : Plan) (pattern : List ℕ) (had left held : List Device)
-    (taken : List (Option (List ℕ))) (settled : Settled) : Type 0 where
+    (taken : List (Option (List ℕ))) (flushed : Flushed) : Type 0 where
   pub answer : Result Report RunFault
   -- what each writer was given
   pub holds : List Device
@@ -90,7 +90,7 @@ pub record IsRun {V : Type 0} (sees : V → Event → V → Type 0) (v v' : V) (
   pub no_room : answer_of answer ≡ Err NoRoom ↔ p.region < bytes_needed p.env
   pub untouched : IfErr answer (λ (f : RunFault). (f.cause ≡ Memory) ⊎ (f.cause ≡ NoRoom) → (left ≡ had) × (holds ≡ held) × (v' ≡ v))
   pub shown : (answer_of answer ≡ Err Memory) ⊎ (answer_of answer ≡ Err NoRoom) ⊎ WatchesRun sees v v' p pattern answer
-  pub settled_is : IsSettled (map (λ (d : Device). d.bytes) holds) taken answer settled
+  pub flushed_is : IsFlushed (map (λ (d : Device). d.bytes) holds) taken answer flushed
 
 -- the finding for the capture at which a run stopped: its file's name, and the reason
 abbrev pub IsFound : List CaptureNames → List (Option Seen) → Result ⊤ RunCause → Option Error → Option Finding → Type 0
@@ -103,11 +103,11 @@ AreTotals false answer err err' = err' ≡ err
 AreTotals true answer err err' = Prints err err' (total_lines (report_of answer).ports.items) ⊎ (err'.failed ≡ true)
 
 -- What was printed for a run with this result.
-pub record IsRunTold (names : List CaptureNames) (saw : List (Option Seen)) (counts : Bool) (out out' err err' : Paper) (settled : Settled) (status : ℕ)
+pub record PrintsRun (names : List CaptureNames) (saw : List (Option Seen)) (counts : Bool) (out out' err err' : Paper) (flushed : Flushed) (status : ℕ)
     : Type 0 where
   pub found : Option Finding
-  pub is_found : IsFound names saw (answer_of settled.answer) settled.failure found
+  pub is_found : IsFound names saw (answer_of flushed.answer) flushed.failure found
   -- before the run is reported
   pub between : Paper
-  pub totals : AreTotals counts settled.answer err between
-  pub reported : IsRunReported settled.answer found out out' between err' status
+  pub totals : AreTotals counts flushed.answer err between
+  pub reported : IsRunReported flushed.answer found out out' between err' status

@@ -1,4 +1,4 @@
--- What the commands of a heap script do and print.
+-- The effects and the output of the commands of a heap script.
 use Rattle.std.specs.Prelude.{◌≡◌, ℕ, suc, ◌+◌, ◌<◌, ◌⊎◌, min, MatchOption, Bool, true, false, List, [], ◌∷◌, ◌++◌, length, replicate, Option, Some, None}
 use Rattle.std.specs.Prelude.{◌==◌, ⊤}
 use Rattle.std.specs.List.{list_any, slice_split}
@@ -17,7 +17,7 @@ use Rattle.dp_cli.specs.declared.mem.script.Command.{Command}
 use Rattle.dp_cli.specs.declared.mem.script.Command.TheVariants as command
 use Rattle.dp_cli.specs.Commands.{command_in}
 use Rattle.dp_cli.specs.Heaps.{element_at, block_line, refusal_line, freed_line, list_text, stats_line}
-use Rattle.dp_cli.specs.Told.{TellsMemory, text_of_fault}
+use Rattle.dp_cli.specs.Statuses.{PrintsMemory, text_of_fault}
 
 -- the state of a script: the elements of its heap, the blocks that it holds, and how many it allocated
 pub record Stage : Type 0 where
@@ -25,7 +25,7 @@ pub record Stage : Type 0 where
   pub held : List Held
   pub taken : ℕ
 
--- the same of its three parts
+-- the state of these three parts
 abbrev pub stage : List Element → List Held → ℕ → Stage
 stage elements held taken = record { elements = elements; held = held; taken = taken }
 
@@ -48,14 +48,14 @@ pub record IsTaken (zeros : Bool) (n a : ℕ) (old : Stage) (text : List ℕ) (n
   pub number : new.taken ≡ next_number old.taken
   pub held : new.held ≡ old.held ++ record { number = new.taken; block = block } ∷ []
   pub around : element_at new.elements block.offset ≡ Some element
-  pub told : text ≡ block_line new.taken block.offset element
+  pub is_printed : text ≡ block_line new.taken block.offset element
 
 -- the request is refused, and its cause printed
-pub record IsRefusalTold (n a : ℕ) (old : Stage) (text : List ℕ) (new : Stage) : Type 0 where
+pub record PrintsRefusal (n a : ℕ) (old : Stage) (text : List ℕ) (new : Stage) : Type 0 where
   pub error : HeapError
   pub refused : IsRefused error n a old.elements
   pub stays : new ≡ old
-  pub told : text ≡ refusal_line error
+  pub is_printed : text ≡ refusal_line error
 
 -- whether a block of this number is among them
 abbrev pub is_held : ℕ → List Held → Bool
@@ -69,18 +69,18 @@ pub record IsFreed (number : ℕ) (old : Stage) (text : List ℕ) (new : Stage) 
   pub first : is_held number before ≡ false
   pub held : old.held ≡ before ++ record { number = number; block = block } ∷ after
   pub freed : new ≡ record { elements = merged block.offset old.elements; held = before ++ after; taken = old.taken }
-  pub told : text ≡ freed_line number
+  pub is_printed : text ≡ freed_line number
 
 -- what a command does, and the text that it prints
 abbrev pub IsDone : Command → Stage → List ℕ → Stage → Type 0
 IsDone (command.Region size) old text new = ⊥
-IsDone (command.Malloc size align) old text new = IsTaken false size align old text new ⊎ IsRefusalTold size align old text new
-IsDone (command.Zmalloc size align) old text new = IsTaken true size align old text new ⊎ IsRefusalTold size align old text new
+IsDone (command.Malloc size align) old text new = IsTaken false size align old text new ⊎ PrintsRefusal size align old text new
+IsDone (command.Zmalloc size align) old text new = IsTaken true size align old text new ⊎ PrintsRefusal size align old text new
 IsDone (command.Free number) old text new = IsFreed number old text new
 IsDone command.List old text new = (text ≡ list_text old.elements) × (new ≡ old)
 IsDone command.Stats old text new = (text ≡ stats_line old.elements) × (new ≡ old)
 
--- a command that is wrong here: a region, or a block that is not held
+-- a command that may not come here: a region, or the number of a block that is not held
 abbrev pub IsWrong : Command → Stage → Type 0
 IsWrong (command.Region size) s = ⊤
 IsWrong (command.Free number) s = is_held number s.held ≡ false
@@ -92,7 +92,7 @@ pub record IsPrinted (tells : List ℕ → Type 0) (before after : Option (List 
   pub done : tells text
   pub printed : Appends before after text
 
--- a line that is no command here
+-- a line that is not a command that may come here
 abbrev pub IsBad : List ℕ → Stage → Type 0
 IsBad line s = MatchOption (command_in line) ⊤ (λ c. IsWrong c s)
 
@@ -113,7 +113,7 @@ Plays k ((b ∷ bs) ∷ lines) s text fault =
 abbrev pub fresh : ℕ → Stage
 fresh size = stage (record { offset = 0; size = size; state = Free; pad = 0 } ∷ []) [] 0
 
--- a line that is no region of a permitted size
+-- a line that is not a region of a permitted size
 abbrev pub IsNoRegion : List ℕ → Type 0
 IsNoRegion line = (size : ℕ) → IsRegionSize size → command_in line ≡ Some (command.Region size) → ⊥
 
@@ -136,17 +136,17 @@ IsEnding plays before after (ending.Line line) = IsPrinted (λ text. plays text 
 IsEnding plays before after _ = ⊤
 
 -- the status of an ending, and the line that is reported: none at the end of a script, otherwise that of its fault
-abbrev pub IsEndingTold : Ending → Option (List ℕ) → Option (List ℕ) → ℕ → Type 0
-IsEndingTold ending.Done old new status = (status ≡ 0) × (new ≡ old)
-IsEndingTold ending.Memory old new status = (status ≡ 4) × TellsMemory old new
-IsEndingTold (ending.Line line) old new status = (status ≡ 3) × Appends old new (text_of_fault (fault.Line line) ++ 10 ∷ [])
-IsEndingTold ending.Unwritten old new status = ⊥
+abbrev pub PrintsEnding : Ending → Option (List ℕ) → Option (List ℕ) → ℕ → Type 0
+PrintsEnding ending.Done old new status = (status ≡ 0) × (new ≡ old)
+PrintsEnding ending.Memory old new status = (status ≡ 4) × PrintsMemory old new
+PrintsEnding (ending.Line line) old new status = (status ≡ 3) × Appends old new (text_of_fault (fault.Line line) ++ 10 ∷ [])
+PrintsEnding ending.Unwritten old new status = ⊥
 
 -- how a script ended, from its first line on, the line that was reported, and the status
-pub record IsScriptTold (script : List ℕ) (before after old new : Option (List ℕ)) (status : ℕ) : Type 0 where
+pub record PrintsScript (script : List ℕ) (before after old new : Option (List ℕ)) (status : ℕ) : Type 0 where
   pub ending : Ending
   pub is : IsEnding (Runs 1 (script_lines script)) before after ending
-  pub told : IsEndingTold ending old new status
+  pub is_printed : PrintsEnding ending old new status
 
 -- the lines of the rest of a script, if there is more
 abbrev pub lines_left : Option (List ℕ) → List (List ℕ)

@@ -21,7 +21,7 @@ IsTraceReported answer found out out' err err' status =
     IsEnded (status_of_answer answer) ((out'.failed ≡ out.failed) × IsStopReported answer found err err') out' err err' status
 
 -- Such a run, and the text that was printed after its trace.
-pub record IsTraceTold (p : Plan) (olds news : List (Option (List ℕ))) (names : List CaptureNames) (saw : List (Option Seen)) (out out' err err' : Paper)
+pub record PrintsTrace (p : Plan) (olds news : List (Option (List ℕ))) (names : List CaptureNames) (saw : List (Option Seen)) (out out' err err' : Paper)
     (status : ℕ) : Type 0 where
   pub answer : Result ⊤ RunCause
   pub traced : IsTraced p olds news answer

@@ -1,4 +1,4 @@
--- What is reported of a certificate that was given for a refused program.
+-- What is reported about a certificate that was given for a refused program.
 use Rattle.std.specs.Prelude.{ℕ, ◌≡◌, ◌≢◌, ◌⊎◌, List, [], ◌∷◌, ◌++◌, Option, Some, None, codes}
 use Rattle.std.specs.Fmt.{decimal}
 use Rattle.std.specs.Io.KnownBytes.{Appends}
@@ -85,7 +85,7 @@ pub record IsFit (known : Option FileMap) (env : Environment) (given : Given) (b
   pub is_remedy : IsRemedy program cert env given.node remedy
   pub written : Appends before after (remedy_lines given remedy)
 
--- it was; or a file is missing or is at fault, and nothing was written
+-- that was written; or a file is missing or at fault, and nothing was written
 abbrev pub IsFitWritten : Option FileMap → Environment → Given → Option (List ℕ) → Option (List ℕ) → Type 0
 IsFitWritten known env given before after = IsFit known env given before after
     ⊎ ((error : PipeError) × (error ≢ Memory) × IsUnjudged known (given_node given) error × (after ≡ before))

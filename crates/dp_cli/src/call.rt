@@ -1,4 +1,4 @@
-//! A command of the command line, with its words.
+//! A command that runs: its words, and the host on which it runs.
 
 ghost use Rattle.std.specs.Prelude.{◌≡◌};
 ghost use Rattle.dp_cli.specs.Replacing.{is_on_error};
@@ -62,7 +62,7 @@ pub struct Call<'a, 'w, R> {
 }
 
 impl<'w, R> Call<'_, 'w, R> {
-    /// A required operand.
+    /// Returns a required operand.
     pub fn word(&self, name: &str) -> &'w str {
         self.words.get_str(name).unwrap_or("")
     }
@@ -72,7 +72,7 @@ impl<'w, R> Call<'_, 'w, R> {
         self.words.get_flag("json")
     }
 
-    /// The same command, whose capture goes to standard output if so.
+    /// The same command, with `gives_stdout` replaced.
     pub fn giving_stdout(&self, gives_stdout: bool) -> Call<'_, 'w, R>
         ensures { result.gives_stdout ≡ gives_stdout }
     {
@@ -88,7 +88,7 @@ impl<'w, R> Call<'_, 'w, R> {
 }
 
 impl<R: Print> Call<'_, '_, R> {
-    /// Where the command prints.
+    /// Returns where the command prints.
     pub fn paper(&self) -> Paper<'_, R>
         ensures { is_on_error result ≡ self.now.gives_stdout }
     {

@@ -11,7 +11,7 @@ use crate::printer::Printer;
 use dp_pipe::{NodeName, Pipeline};
 use std::io::Write;
 
-/// Prints a line for each node of a pipeline, all of which are accepted, and returns the status: 0, or 3 or 4 where a line could not be written.
+/// Prints a line for each node of a pipeline, all of which are accepted, and returns the status: 0, or 3 or 4 if a line could not be written.
 pub fn check_line<O: Write, E: Write>(
     pipeline: &Pipeline,
     out: &mut Printer<O>,

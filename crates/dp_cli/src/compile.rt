@@ -1,11 +1,11 @@
 //! `dpv compile`: the Rattle module of a pipeline's programs.
 
 ghost use Rattle.std.specs.Prelude.{◌≡◌};
-ghost use Rattle.dp_cli.specs.Told.{IsTold, TellsMemory};
+ghost use Rattle.dp_cli.specs.Statuses.{IsExitStatus, PrintsMemory};
 
 pub mod files;
 
-use crate::fault::{DONE, Fault, MEMORY, status_of_write, tell_fault, tell_if_memory};
+use crate::fault::{DONE, Fault, MEMORY, fail_with, report_if_memory, status_of_write};
 use dp_compile::Module;
 use dp_engine::Known;
 use dp_pipe::{NodeName, Pipeline};
@@ -28,15 +28,15 @@ pub fn compile_line<O: Write, E: Write>(
     out: &mut O,
     err: &mut E,
 ) -> u8
-    ensures status { IsTold DONE result }
+    ensures status { IsExitStatus DONE result }
     ensures silent { result ≡ DONE → err.new ≡ err.old }
-    ensures memory { result ≡ MEMORY → TellsMemory (E.contents err.old) (E.contents err.new) }
+    ensures memory { result ≡ MEMORY → PrintsMemory (E.contents err.old) (E.contents err.new) }
 {
     let Ok(text) = module_of(alloc, pipeline) else {
-        return tell_fault(err, Fault::Memory);
+        return fail_with(err, Fault::Memory);
     };
     let status = status_of_write(out.write_all(text.as_str().as_bytes()), DONE);
-    tell_if_memory(err, status)
+    report_if_memory(err, status)
 }
 
 /// Writes a line for each program of a pipeline that is not among `K`, and so is interpreted.

@@ -8,16 +8,16 @@ ghost use Rattle.dp_cli.specs.Counting.{AreCounts, AreCountsEnded, IsReportedWit
 ghost use Rattle.dp_cli.specs.CountedRuns.{IsCountedRun};
 ghost use Rattle.dp_cli.specs.Documents.{IsRunDocumented};
 ghost use Rattle.dp_cli.specs.Printing.{Notes, paper};
-ghost use Rattle.dp_cli.specs.Run.{IsRunTold};
+ghost use Rattle.dp_cli.specs.Run.{PrintsRun};
 
 pub mod programs;
 
 use crate::call::Call;
 use crate::counting::programs::{ProgramText, sources_of};
-use crate::documents::runs::document_settled;
+use crate::documents::runs::document_flushed;
 use crate::fault::{MEMORY, status_unwritten};
 use crate::printer::Printer;
-use crate::run::closing::Settled;
+use crate::run::closing::Flushed;
 use crate::run::inlet::Inlet;
 use crate::run::outlet::Outlet;
 use crate::run::{Ended, Reporting, run_line, run_to_end};
@@ -40,7 +40,7 @@ pub struct Counting<'a> {
 }
 
 impl<'a> Counting<'a> {
-    /// The counts of a run of these programs, at its start.
+    /// Makes the counts of a run of these programs, all zero.
     pub fn of(
         alloc: Global,
         pipeline: &Pipeline,
@@ -69,7 +69,7 @@ pub fn print_counts<O: Write>(
     print_pools(levels, env.pools(), out)
 }
 
-/// The counts to print, if requested.
+/// Makes the counts of a run, if the command line asks for them.
 pub fn counting_in<'a, R>(
     call: &Call<'_, '_, R>,
     pipeline: &Pipeline,
@@ -90,7 +90,7 @@ fn run_watching<K: Known, I: Inlet, O: Outlet>(
     outs: &mut [O],
     pattern: Vec<u64>,
     counting: &mut Option<Counting<'_>>,
-) -> Settled
+) -> Flushed
     requires readers { length ins.old ≡ length pipeline.env.ports }
     requires writers { length outs.old ≡ length pipeline.env.ports }
     requires pattern { IsAscending 0 pattern.items }
@@ -122,9 +122,9 @@ pub fn run_counted<K: Known, I: Inlet, O: Outlet, P: Write, E: Write>(
     requires writers { length outs.old ≡ length pipeline.env.ports }
     requires pattern { IsAscending 0 pattern.items }
     ensures run { IsCountedRun counting.old counting.new pipeline pattern.items (map (seen I.remaining I.calls) ins.old)
-        (map (seen I.remaining I.calls) ins.new) (map (seen O.contents O.calls) outs.old) (map O.taken outs.new) result.settled }
-    ensures told { IsRunTold reporting.entry.names.now (map I.saw ins.new) reporting.entry.counts (paper P.contents out.old) (paper P.contents out.new)
-        (paper E.contents err.old) (paper E.contents err.new) result.settled result.status }
+        (map (seen I.remaining I.calls) ins.new) (map (seen O.contents O.calls) outs.old) (map O.taken outs.new) result.flushed }
+    ensures is_printed { PrintsRun reporting.entry.names.now (map I.saw ins.new) reporting.entry.counts (paper P.contents out.old) (paper P.contents out.new)
+        (paper E.contents err.old) (paper E.contents err.new) result.flushed result.status }
 {
     match counting {
         None => run_line::<K, Silent, I, O, P, E>(
@@ -169,16 +169,16 @@ pub fn run_documented<K: Known, I: Inlet, O: Outlet, P: Write, E: Write>(
     requires writers { length outs.old ≡ length pipeline.env.ports }
     requires pattern { IsAscending 0 pattern.items }
     ensures run { IsCountedRun counting.old counting.new pipeline pattern.items (map (seen I.remaining I.calls) ins.old)
-        (map (seen I.remaining I.calls) ins.new) (map (seen O.contents O.calls) outs.old) (map O.taken outs.new) result.settled }
-    ensures told { IsRunDocumented reporting.entry.names.now (map I.saw ins.new) reporting.entry.counts counting.new env.now
-        (paper P.contents out.old) (paper P.contents out.new) (paper E.contents err.old) (paper E.contents err.new) result.settled result.status }
+        (map (seen I.remaining I.calls) ins.new) (map (seen O.contents O.calls) outs.old) (map O.taken outs.new) result.flushed }
+    ensures is_printed { IsRunDocumented reporting.entry.names.now (map I.saw ins.new) reporting.entry.counts counting.new env.now
+        (paper P.contents out.old) (paper P.contents out.new) (paper E.contents err.old) (paper E.contents err.new) result.flushed result.status }
 {
-    let settled = run_watching::<K, I, O>(alloc, pipeline, ins, outs, pattern, counting);
-    let status = document_settled(alloc, &settled, ins, counting, env, reporting, out, err);
-    Ended { status, settled }
+    let flushed = run_watching::<K, I, O>(alloc, pipeline, ins, outs, pattern, counting);
+    let status = document_flushed(alloc, &flushed, ins, counting, env, reporting, out, err);
+    Ended { status, flushed }
 }
 
-/// Prints the counts, if requested, after a run that ended with this status, except for one that found no memory.
+/// Prints the counts, if requested, after a run that ended with this status, unless it ran out of memory.
 fn print_requested<O: Write>(
     counting: &Option<Counting<'_>>,
     env: &Env,
@@ -199,7 +199,7 @@ fn print_requested<O: Write>(
     }
 }
 
-/// Prints the counts, if requested, after a run that ended with this status. Returns the status: that of the run, or that of a text that could not be
+/// Prints the counts, if requested, after a run that ended with this status. Returns that status, or that of a text that could not be
 /// written.
 fn report_counts<O: Write, E: Write>(
     counting: &Option<Counting<'_>>,
@@ -217,7 +217,7 @@ fn report_counts<O: Write, E: Write>(
     }
 }
 
-/// Runs a pipeline, counts its steps if requested, and reports the run with its counts: as one document, or as text. The status is that of the run, or
+/// Runs a pipeline, counts its steps if requested, and reports the run with its counts: as one document, or as text. Returns the status of the run, or
 /// that of a write that failed.
 pub fn run_and_report<K: Known, I: Inlet, O: Outlet, P: Write, E: Write>(
     alloc: Global,
@@ -236,11 +236,11 @@ pub fn run_and_report<K: Known, I: Inlet, O: Outlet, P: Write, E: Write>(
     requires writers { length outs.old ≡ length pipeline.env.ports }
     requires pattern { IsAscending 0 pattern.items }
     ensures run { IsCountedRun counting.old counting.new pipeline pattern.items (map (seen I.remaining I.calls) ins.old)
-        (map (seen I.remaining I.calls) ins.new) (map (seen O.contents O.calls) outs.old) (map O.taken outs.new) result.settled }
+        (map (seen I.remaining I.calls) ins.new) (map (seen O.contents O.calls) outs.old) (map O.taken outs.new) result.flushed }
     ensures text { is_json ≡ false → IsReportedWithCounts reporting.entry.names.now (map I.saw ins.new) reporting.entry.counts counting.new env.now
-        (paper P.contents out.old) (paper P.contents out.new) (paper E.contents err.old) (paper E.contents err.new) result.settled result.status }
+        (paper P.contents out.old) (paper P.contents out.new) (paper E.contents err.old) (paper E.contents err.new) result.flushed result.status }
     ensures document { is_json ≡ true → IsRunDocumented reporting.entry.names.now (map I.saw ins.new) reporting.entry.counts counting.new env.now
-        (paper P.contents out.old) (paper P.contents out.new) (paper E.contents err.old) (paper E.contents err.new) result.settled result.status }
+        (paper P.contents out.old) (paper P.contents out.new) (paper E.contents err.old) (paper E.contents err.new) result.flushed result.status }
 {
     if is_json {
         return run_documented::<K, I, O, P, E>(
@@ -251,6 +251,6 @@ pub fn run_and_report<K: Known, I: Inlet, O: Outlet, P: Write, E: Write>(
         alloc, pipeline, ins, outs, pattern, counting, reporting, out, err,
     );
     let status = report_counts(counting, env, ended.status, out, err);
-    let Ended { status: _, settled } = ended;
-    Ended { status, settled }
+    let Ended { status: _, flushed } = ended;
+    Ended { status, flushed }
 }

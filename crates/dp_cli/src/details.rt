@@ -109,7 +109,7 @@ fn write_refused<R: Files, E: Write>(
         program: naming.file(program),
         cert: naming.file(cert),
         place: match naming {
-            Naming::AsTheyStand => NodePlace::In(call.word("FILE")),
+            Naming::AsWritten => NodePlace::In(call.word("FILE")),
             Naming::One(_) => NodePlace::One,
         },
     };
@@ -137,7 +137,7 @@ pub fn write_details<R: Files, E: Write>(
         | PipeError::BadKey { .. }
         | PipeError::BadEnv(_)
         | PipeError::BadTable { .. } => match naming {
-            Naming::AsTheyStand => write_pipeline_fault(
+            Naming::AsWritten => write_pipeline_fault(
                 call.alloc,
                 err,
                 call.word("FILE"),

@@ -3,9 +3,9 @@
 ghost use Rattle.std.specs.Prelude.{◌≡◌, ◌++◌, ◌∷◌, [], true, IfOk, OnOk, string_bytes};
 ghost use Rattle.serde_json.specs.View.{view};
 ghost use Rattle.dp_json.specs.Documents as json;
-ghost use Rattle.dp_cli.specs.Documents.{IsPrinted, IsTextIn, PrintsDocument, memory_told, told_fault};
+ghost use Rattle.dp_cli.specs.Documents.{IsPrinted, IsTextIn, PrintsDocument, memory_printed, view_of_fault};
 ghost use Rattle.dp_cli.specs.Printing.{IsEnded, Notes, Prints, PrintsFault, paper};
-ghost use Rattle.dp_cli.specs.Told.{status_of_fault};
+ghost use Rattle.dp_cli.specs.Statuses.{status_of_fault};
 
 pub mod checks;
 pub mod loads;
@@ -13,25 +13,25 @@ pub mod runs;
 pub mod verdicts;
 
 use crate::call::Call;
-use crate::fault::{FAULT, Fault, MEMORY, print_fault, status_unwritten, tell_fault};
+use crate::fault::{FAULT, Fault, MEMORY, fail_with, print_fault, status_unwritten};
 use crate::printer::Printer;
 use dp_json::{FaultText, fault_document, line_of};
 use serde_json::Value;
 use std::alloc::{AllocError, Global};
 use std::io::{self, Write};
 
-/// The document of a command that found no memory; it is printed without any.
+/// The document of a command that ran out of memory; printing it takes none.
 const NO_MEMORY: &str = r#"{"fault":{"status":4,"text":"fault: memory"}}"#;
 
-/// Prints the document of a command that found no memory.
+/// Prints the document of a command that ran out of memory.
 pub fn print_memory<O: Write>(out: &mut Printer<O>) -> io::Result<()>
-    ensures printed { OnOk result (PrintsDocument (json.fault_document memory_told) (paper O.contents out.old) (paper O.contents out.new)) }
+    ensures printed { OnOk result (PrintsDocument (json.fault_document memory_printed) (paper O.contents out.old) (paper O.contents out.new)) }
     ensures noted { Notes out.old out.new result }
 {
     out.line(NO_MEMORY)
 }
 
-/// Prints that document in place of another one, for which there was no memory, and notes that this one was not printed. Returns the error.
+/// Prints that document in place of one for which there was no memory, and notes that the other was not printed. Returns the error.
 fn note_no_memory<O: Write>(out: &mut Printer<O>) -> io::Error
     ensures { (paper O.contents out.new).failed ≡ true }
 {
@@ -51,11 +51,11 @@ fn text_of(alloc: Global, document: Result<Value, AllocError>) -> Result<String,
     }
 }
 
-/// Prints a document as a line. Where there was no memory for it, the document of that is printed instead, and the result is an error.
+/// Prints a document as a line. If there was no memory for it, prints the document that says so instead, and returns an error.
 ///
 /// # Errors
 ///
-/// The writer's, or want of memory.
+/// The writer's, or lack of memory.
 pub fn print_document<O: Write>(
     alloc: Global,
     document: Result<Value, AllocError>,
@@ -70,7 +70,7 @@ pub fn print_document<O: Write>(
     }
 }
 
-/// Prints a document, with which a command ends. Returns this status; or 3 or 4 where it could not be written, and then 4 says that want of memory was
+/// Prints the document with which a command ends. Returns this status; or 3 or 4 if it could not be written, where 4 says that lack of memory was
 /// reported.
 pub fn end_documented<O: Write, E: Write>(
     alloc: Global,
@@ -88,7 +88,7 @@ pub fn end_documented<O: Write, E: Write>(
     }
 }
 
-/// Reports a fault with its lines, and prints this line. Returns the fault's status, or 3 where one of them could not be written.
+/// Reports a fault with its lines, and prints this line. Returns the fault's status, or 3 if one of them could not be written.
 fn fault_with_line<O: Write, E: Write>(
     line: String,
     fault: Fault<'_>,
@@ -108,8 +108,8 @@ fn fault_with_line<O: Write, E: Write>(
     }
 }
 
-/// Reports a fault with its lines, and prints this document. Returns the fault's status, or 3 where one of them could not be written. Where there is no
-/// memory for the document, that alone is reported.
+/// Reports a fault with its lines, and prints this document. Returns the fault's status, or 3 if one of them could not be written. If there is no
+/// memory for the document, only that is reported.
 pub fn document_with<O: Write, E: Write>(
     alloc: Global,
     document: Result<Value, AllocError>,
@@ -132,19 +132,19 @@ pub fn document_with<O: Write, E: Write>(
 
 /// The document of a fault.
 pub fn value_of_fault(alloc: Global, fault: Fault<'_>) -> Result<Value, AllocError>
-    ensures { IfOk result (λ v. view v ≡ json.fault_document (told_fault fault.entry)) }
+    ensures { IfOk result (λ v. view v ≡ json.fault_document (view_of_fault fault.entry)) }
 {
     let line = format!(in alloc; "{fault}")?;
-    let told = FaultText {
+    let fault_text = FaultText {
         text: line.as_str(),
         status: fault.status(),
     };
-    fault_document(alloc, told)
+    fault_document(alloc, fault_text)
 }
 
-/// Reports that there was no memory, and prints the document of that. Returns the status.
+/// Reports that memory ran out, and prints the document that says so. Returns the status.
 fn document_memory<O: Write, E: Write>(out: &mut Printer<O>, err: &mut Printer<E>) -> u8
-    ensures { IsEnded MEMORY (PrintsDocument (json.fault_document memory_told) (paper O.contents out.old) (paper O.contents out.new)
+    ensures { IsEnded MEMORY (PrintsDocument (json.fault_document memory_printed) (paper O.contents out.old) (paper O.contents out.new)
         × PrintsFault Fault.Memory (paper E.contents err.old) (paper E.contents err.new)) (paper O.contents out.new) (paper E.contents err.old)
         (paper E.contents err.new) result }
 {
@@ -157,14 +157,14 @@ fn document_memory<O: Write, E: Write>(out: &mut Printer<O>, err: &mut Printer<E
     }
 }
 
-/// Reports a fault with its lines, and prints its document. Returns its status, or 3 where one of them could not be written.
+/// Reports a fault with its lines, and prints its document. Returns its status, or 3 if one of them could not be written.
 pub fn document_fault<O: Write, E: Write>(
     alloc: Global,
     fault: Fault<'_>,
     out: &mut Printer<O>,
     err: &mut Printer<E>,
 ) -> u8
-    ensures { IsEnded (status_of_fault fault.entry) (PrintsDocument (json.fault_document (told_fault fault.entry)) (paper O.contents out.old)
+    ensures { IsEnded (status_of_fault fault.entry) (PrintsDocument (json.fault_document (view_of_fault fault.entry)) (paper O.contents out.old)
         (paper O.contents out.new) × PrintsFault fault.entry (paper E.contents err.old) (paper E.contents err.new)) (paper O.contents out.new)
         (paper E.contents err.old) (paper E.contents err.new) result }
 {
@@ -177,10 +177,10 @@ pub fn document_fault<O: Write, E: Write>(
     }
 }
 
-/// Reports a fault that ends a command: with its lines, and under `--json` with its document, too. Returns the status.
+/// Reports a fault that ends a command: its lines, and with `--json` its document too. Returns the status.
 pub fn end_with<R: Print, E: Write>(call: &Call<'_, '_, R>, fault: Fault<'_>, err: &mut E) -> u8 {
     if !call.is_json() {
-        return tell_fault(err, fault);
+        return fail_with(err, fault);
     }
     let mut out = Printer::new(call.paper());
     document_fault(call.alloc, fault, &mut out, &mut Printer::new(err))

@@ -47,7 +47,7 @@ impl fmt::Display for Reason {
             Reason::Capture(error) => write!(f, "{error}"),
             Reason::IsPcapng => write!(
                 f,
-                "it is a pcapng file, of which editcap -F pcap IN OUT makes a capture"
+                "it is a pcapng file; editcap -F pcap IN OUT converts it to a capture"
             ),
             Reason::Link(link) => write!(f, "{link}"),
             Reason::Pipeline(error) => PipeWords(*error).fmt(f),
@@ -62,16 +62,16 @@ fn line_words(cause: Cause) -> &'static str {
         Cause::BadWord => "no instruction has this name",
         Cause::BadOperands => "there are too few or too many operands",
         Cause::BadRegister =>
-            "an operand is no register: p0 to p7 for a packet, r0 to r7 for a number",
-        Cause::BadNumber => "an operand is no number, or one out of its range",
-        Cause::BadLabel => "a label is no name",
+            "an operand is not a register: p0 to p7 for a packet, r0 to r7 for a number",
+        Cause::BadNumber => "an operand is not a number, or is out of its range",
+        Cause::BadLabel => "a label is not a name",
         Cause::LabelTwice => "the label was given before",
         Cause::LabelUnknown => "the label is not given, or no instruction follows it",
         Cause::Size => "there is no instruction, or there are more than 1024",
     }
 }
 
-/// What is wrong with a pipeline.
+/// What is wrong with a pipeline, in words.
 #[derive(Clone, Copy)]
 struct PipeWords(PipeError);
 
@@ -79,7 +79,7 @@ impl fmt::Display for PipeWords {
     fn fmt<W: fmt::Write>(&self, f: &mut fmt::Formatter<W>) -> fmt::Result {
         match self.0 {
             PipeError::Memory => write!(f, "out of memory"),
-            PipeError::NotToml => write!(f, "the text is no TOML"),
+            PipeError::NotToml => write!(f, "the text is not TOML"),
             PipeError::BadKey { .. } => write!(
                 f,
                 "a key is missing, unknown, of the wrong type or out of its range"
@@ -106,7 +106,7 @@ impl fmt::Display for PipeWords {
     }
 }
 
-/// The words for a pipeline's fault; none for a file's, for which the files have a reason.
+/// The reason for a pipeline's fault; none for that of a file, whose reason the files keep.
 pub fn reason_of(error: PipeError) -> Option<Reason>
     ensures { result ≡ reason_of error }
 {
@@ -125,7 +125,7 @@ pub struct Finding<'a> {
     pub reason: Reason,
 }
 
-/// Writes a line with a file's name, if it is to be reported.
+/// Writes the line with the name of the file at fault, if there is one to report.
 fn write_file<W: Write>(to: &mut W, file: Option<&str>) -> io::Result<()>
     ensures { OnOk result (Appends (W.contents to.old) (W.contents to.new) (file_line (option_map (λ name. name.now) file.entry))) }
 {

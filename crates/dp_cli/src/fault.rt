@@ -3,8 +3,8 @@
 ghost use Rattle.std.specs.Prelude.{◌≡◌, ◌≢◌, ◌⊎◌, ◌++◌, ◌∷◌, [], IfOk, IfSome, OnErr, OnOk};
 ghost use Rattle.std.specs.Fmt.{with_newline};
 ghost use Rattle.std.specs.Io.KnownBytes.{Appends};
-ghost use Rattle.dp_cli.specs.Told.{IsTold, TellsMemory, finding_of, lines_behind, lines_of_fault, no_node_line, refusal_line, status_of, status_of_fault};
-ghost use Rattle.dp_cli.specs.Told.{text_of_fault};
+ghost use Rattle.dp_cli.specs.Statuses.{IsExitStatus, PrintsMemory, finding_of, lines_after, lines_of_fault};
+ghost use Rattle.dp_cli.specs.Statuses.{no_node_line, status_of_fault, text_of_fault};
 ghost use Rattle.dp_cli.specs.Printing.{Notes, PrintsFault, WritesFault, paper};
 
 use crate::error_text::{Finding, Reason, reason_of, write_finding};
@@ -31,7 +31,7 @@ pub const FAULT: u8 = 3;
 /// Memory was refused.
 pub const MEMORY: u8 = 4;
 
-/// The exit status of a command; an error where a fault, already reported, ended it before its work began.
+/// The exit status of a command; an error if a fault, already reported, ended the command before its work began.
 pub type Status = Result<u8, u8>;
 
 /// What went wrong. Ports and nodes are given by number, and lines count from 1.
@@ -41,7 +41,7 @@ pub enum Fault<'a> {
     Memory,
     /// A file cannot be opened, made or read, is too long, or may not be made, with the reason.
     File(&'a str, Reason),
-    /// An output is another file of the run, given by its name there, with the reason.
+    /// An output is another file of the run, given by that file's name, with the reason.
     Clash {
         output: &'a str,
         other: &'a str,
@@ -51,7 +51,7 @@ pub enum Fault<'a> {
     Pipeline(PipeError),
     /// A pipeline's region is smaller than it needs.
     Region,
-    /// An input is no capture, or its reader failed.
+    /// An input is not a capture, or its reader failed.
     Input {
         port: u8,
         cause: PcapError,
@@ -62,12 +62,12 @@ pub enum Fault<'a> {
         port: u8,
         found: Finding<'a>,
     },
-    /// A line of a heap script is no command.
+    /// A line of a heap script is not a command.
     Line(u64),
 }
 
 impl<'a> Fault<'a> {
-    /// What is reported after its line.
+    /// What is reported after the line of the fault.
     fn finding(self) -> Option<Finding<'a>>
         ensures { result ≡ finding_of self.entry }
     {
@@ -86,7 +86,7 @@ impl<'a> Fault<'a> {
         }
     }
 
-    /// The exit status for it.
+    /// The exit status for the fault.
     pub fn status(self) -> u8
         ensures { result ≡ status_of_fault self.entry }
     {
@@ -99,7 +99,7 @@ impl<'a> Fault<'a> {
 
 impl fmt::Display for Fault<'_> {
     ghost use Rattle.std.specs.Prelude.{Some};
-    ghost use Rattle.dp_cli.specs.Told.{text_of_fault};
+    ghost use Rattle.dp_cli.specs.Statuses.{text_of_fault};
     ghost use Rattle.dp_cli.specs.Printing.{Notes, PrintsFault, WritesFault, paper};
 
     ghost output = { λ fault. Some (text_of_fault fault) };
@@ -120,7 +120,7 @@ impl fmt::Display for Fault<'_> {
     }
 }
 
-/// The status, if the text was written; else 4 for want of memory, or 3.
+/// The status, if the text was written; else 4 for lack of memory, or 3.
 pub fn status_of_write(written: io::Result<()>, status: u8) -> u8
     ensures done { OnOk written (result ≡ status) }
     ensures failed { OnErr written ((result ≡ FAULT) ⊎ (result ≡ MEMORY)) }
@@ -132,17 +132,17 @@ pub fn status_of_write(written: io::Result<()>, status: u8) -> u8
     }
 }
 
-/// Writes a text as a line; returns the status, or 4 or 3 where the write fails, for want of memory or otherwise.
-pub fn tell<W: Write, T: Display + Drop>(to: &mut W, text: T, status: u8) -> u8
-    ensures status { IsTold status result }
+/// Writes a text as a line. Returns the status; or, if the write fails, 4 for lack of memory and else 3.
+pub fn report_line<W: Write, T: Display + Drop>(to: &mut W, text: T, status: u8) -> u8
+    ensures status { IsExitStatus status result }
     ensures printed { result ≢ FAULT → result ≢ MEMORY → IfSome (with_newline (T.output text)) (Appends (W.contents to.old) (W.contents to.new)) }
 {
     status_of_write(writeln!(to, "{text}"), status)
 }
 
-/// Writes the lines after that of a fault, if there are any.
-fn write_behind<W: Write>(to: &mut W, finding: Option<Finding<'_>>) -> io::Result<()>
-    ensures { OnOk result (IfSome (lines_behind finding.entry) (Appends (W.contents to.old) (W.contents to.new))) }
+/// Writes the lines after the first line of a fault, if there are any.
+fn write_after<W: Write>(to: &mut W, finding: Option<Finding<'_>>) -> io::Result<()>
+    ensures { OnOk result (IfSome (lines_after finding.entry) (Appends (W.contents to.old) (W.contents to.new))) }
 {
     match finding {
         Some(finding) => write_finding(to, finding),
@@ -163,7 +163,7 @@ fn write_fault<W: Write>(to: &mut W, fault: Fault<'_>) -> io::Result<()>
     ensures each { OnOk result (WritesFault fault.entry (W.contents to.old) (W.contents to.new)) }
 {
     write_line(to, fault)?;
-    write_behind(to, fault.finding())
+    write_after(to, fault.finding())
 }
 
 /// Prints the line of a fault, and after it the file and the reason.
@@ -181,7 +181,7 @@ pub fn print_fault<W: Write>(to: &mut Printer<W>, fault: Fault<'_>) -> io::Resul
 
 /// The status if a text could not be written: 4 for lack of memory, which is reported, and otherwise 3.
 pub fn status_unwritten<W: Write>(error: io::Error, err: &mut Printer<W>) -> u8
-    ensures { (result ≡ FAULT) ⊎ ((result ≡ MEMORY) × TellsMemory (W.contents err.old.to) (W.contents err.new.to)) }
+    ensures { (result ≡ FAULT) ⊎ ((result ≡ MEMORY) × PrintsMemory (W.contents err.old.to) (W.contents err.new.to)) }
 {
     if error.kind() != io::ErrorKind::OutOfMemory {
         return FAULT;
@@ -200,8 +200,8 @@ pub struct Unwritten;
 ///
 /// # Errors
 ///
-/// [`Unwritten`] where it cannot be written.
-pub fn try_tell_fault<W: Write>(to: &mut W, fault: Fault<'_>) -> Result<u8, Unwritten>
+/// [`Unwritten`] if it cannot be written.
+pub fn try_fail_with<W: Write>(to: &mut W, fault: Fault<'_>) -> Result<u8, Unwritten>
     ensures status { IfOk result (λ status. status ≡ status_of_fault fault.entry) }
     ensures lines { OnOk result (IfSome (lines_of_fault fault.entry) (Appends (W.contents to.old) (W.contents to.new))) }
 {
@@ -211,20 +211,20 @@ pub fn try_tell_fault<W: Write>(to: &mut W, fault: Fault<'_>) -> Result<u8, Unwr
     }
 }
 
-/// Reports a fault with its reason; returns its status, or 3 where it cannot be written. So 4 means that want of memory was reported.
-pub fn tell_fault<W: Write>(to: &mut W, fault: Fault<'_>) -> u8
-    ensures status { IsTold (status_of_fault fault.entry) result }
-    ensures memory { result ≡ MEMORY → TellsMemory (W.contents to.old) (W.contents to.new) }
+/// Reports a fault with its reason; returns its status, or 3 if it cannot be written. So 4 means that lack of memory was reported.
+pub fn fail_with<W: Write>(to: &mut W, fault: Fault<'_>) -> u8
+    ensures status { IsExitStatus (status_of_fault fault.entry) result }
+    ensures memory { result ≡ MEMORY → PrintsMemory (W.contents to.old) (W.contents to.new) }
 {
-    match try_tell_fault(to, fault) {
+    match try_fail_with(to, fault) {
         Ok(status) => status,
         Err(Unwritten) => FAULT,
     }
 }
 
-/// Reports what is wrong with the command line, and returns the status, or 3 where it cannot be written.
-pub fn tell_usage<W: Write, T: Display + Drop>(to: &mut W, text: T) -> u8
-    ensures status { IsTold USAGE result }
+/// Reports what is wrong with the command line, and returns the status, or 3 if it cannot be written.
+pub fn write_usage_error<W: Write, T: Display + Drop>(to: &mut W, text: T) -> u8
+    ensures status { IsExitStatus USAGE result }
     ensures printed { result ≡ USAGE → IfSome (with_newline (T.output text)) (Appends (W.contents to.old) (W.contents to.new)) }
     ensures memory { result ≢ MEMORY }
 {
@@ -235,43 +235,24 @@ pub fn tell_usage<W: Write, T: Display + Drop>(to: &mut W, text: T) -> u8
 }
 
 /// Reports that a pipeline has no such node.
-pub fn tell_no_node<E: Write>(node: Entry, err: &mut E) -> u8
-    ensures status { IsTold USAGE result }
+pub fn write_no_node<E: Write>(node: Entry, err: &mut E) -> u8
+    ensures status { IsExitStatus USAGE result }
     ensures printed { result ≡ USAGE → Appends (E.contents err.old) (E.contents err.new) (no_node_line node) }
     ensures memory { result ≢ MEMORY }
 {
     let name = NodeName(node);
-    tell_usage(err, format_args!("error: the pipeline has no {name}"))
+    write_usage_error(err, format_args!("error: the pipeline has no {name}"))
 }
 
 /// The status of a print. Lack of memory is reported.
-pub fn tell_if_memory<W: Write>(to: &mut W, status: u8) -> u8
-    ensures status { IsTold status result }
+pub fn report_if_memory<W: Write>(to: &mut W, status: u8) -> u8
+    ensures status { IsExitStatus status result }
     ensures silent { status ≢ MEMORY → to.new ≡ to.old }
-    ensures memory { result ≡ MEMORY → TellsMemory (W.contents to.old) (W.contents to.new) }
+    ensures memory { result ≡ MEMORY → PrintsMemory (W.contents to.old) (W.contents to.new) }
 {
     if status == MEMORY {
-        tell_fault(to, Fault::Memory)
+        fail_with(to, Fault::Memory)
     } else {
         status
-    }
-}
-
-/// Reports why a pipeline is not loaded, and returns the status: a program that is refused or has no certificate on `out`, everything else on `err`.
-pub fn tell_unloaded<O: Write, E: Write>(error: PipeError, out: &mut O, err: &mut E) -> u8
-    ensures status { IsTold (status_of error) result }
-    ensures refused { result ≡ REFUSED → err.new ≡ err.old }
-    ensures printed { result ≡ REFUSED → Appends (O.contents out.old) (O.contents out.new) (refusal_line error) }
-    ensures fault { status_of error ≢ REFUSED → out.new ≡ out.old }
-    ensures fails { result ≢ DONE }
-    ensures memory { result ≡ MEMORY → TellsMemory (E.contents err.old) (E.contents err.new) }
-{
-    match error {
-        PipeError::Memory => tell_fault(err, Fault::Memory),
-        PipeError::NotInferred { .. } | PipeError::Refused { .. } => {
-            let status = tell(out, error, REFUSED);
-            tell_if_memory(err, status)
-        }
-        _ => tell_fault(err, Fault::Pipeline(error)),
     }
 }

@@ -1,7 +1,7 @@
 //! Reads whole files of bounded length; fills closed standard streams.
 
 ghost use Rattle.std.specs.Prelude.{◌≡◌, ◌≢◌};
-ghost use Rattle.dp_cli.specs.Told.{finding_of, read_finding, read_text, text_of_fault};
+ghost use Rattle.dp_cli.specs.Statuses.{finding_of, read_finding, read_text, text_of_fault};
 
 use crate::error_text::Reason;
 use crate::fault::Fault;
@@ -72,7 +72,7 @@ fn open_nothing<R: Files>(rt: &R) -> Result<Option<R::File>, AllocError> {
     }
 }
 
-/// Files that stay open until the program ends, as many as there are standard streams.
+/// Files that stay open until the program ends, one for each standard stream.
 #[derive(Drop)]
 pub struct Held<F> {
     pub first: Option<F>,
@@ -80,8 +80,8 @@ pub struct Held<F> {
     pub third: Option<F>,
 }
 
-/// Opens the null device once for each standard stream. An opened file takes the least free number, so these take the numbers of closed streams, and
-/// no capture gets what is printed or reported.
+/// Opens the null device once for each standard stream. An opened file gets the lowest free number, so these files take the numbers of closed
+/// streams, and no capture receives what is printed or reported.
 pub fn fill_streams<R: Files>(rt: &R) -> Result<Held<R::File>, AllocError> {
     Ok(Held {
         first: open_nothing(rt)?,

@@ -1,4 +1,4 @@
-//! Fetches the host's files by the names of a pipeline, and keeps the reason if one was not fetched.
+//! Fetches the host's files by the names in a pipeline, and keeps the reason if a file was not fetched.
 
 ghost use Rattle.std.specs.Prelude.{◌≡◌, ◌≢◌};
 
@@ -27,7 +27,7 @@ pub struct Unfetched {
 pub struct HostFiles<'a, R> {
     /// The host.
     rt: &'a R,
-    /// How names become files.
+    /// Which files the names mean.
     naming: Naming<'a>,
     /// The plain files that were fetched, in order.
     reads: Vec<ReadFile>,
@@ -72,7 +72,7 @@ impl<'a, R> HostFiles<'a, R> {
     }
 
     /// Reports, after a fault's line, why a file was not fetched, and returns the status.
-    pub fn tell_unfetched<E: Write>(&self, status: u8, err: &mut E) -> u8
+    pub fn write_unfetched<E: Write>(&self, status: u8, err: &mut E) -> u8
         ensures status { result ≡ status }
         ensures silent { status ≢ FAULT → err.new ≡ err.old }
     {

@@ -4,7 +4,7 @@ ghost use Rattle.std.specs.Prelude.{◌≡◌, option_map};
 ghost use Rattle.dp_cli.specs.Inferring.{IsNodeInferred};
 ghost use Rattle.dp_cli.specs.Pipelines as spec;
 ghost use Rattle.dp_cli.specs.Printing.{paper, IsEnded, Prints};
-ghost use Rattle.dp_cli.specs.Told.{no_node_line};
+ghost use Rattle.dp_cli.specs.Statuses.{no_node_line};
 
 pub mod certifying;
 pub mod files;

@@ -5,8 +5,8 @@
 //! `files.rt`, which opens the host's files and calls it. Output goes to two writers, for standard output and standard error.
 //!
 //! Who owns what: the caller owns readers and writers, and lends them. `run_line` and `trace_line` consume the pipeline, so what is needed
-//! after a run, such as the names of its captures, is copied before. An `Outlet` may hold bytes back: `run_line` writes them out before it
-//! prints the report, so a caller must not close an output itself.
+//! after a run, such as the names of its captures, is copied before. An `Outlet` may buffer bytes: `run_line` flushes them before it prints
+//! the report, so a caller must not close an output itself.
 //!
 //! What not to do: do not print to the writers of a `Printer` directly, as it remembers a failed write for the status; and do not open an
 //! output before `keep_apart` has compared it with the files that the run reads.
@@ -36,7 +36,7 @@ mod verdicts;
 
 pub use call::Streams;
 pub use check::check_line;
-pub use check::sizes::say_sizes;
+pub use check::sizes::print_sizes;
 pub use compile::compile_line;
 pub use counting::{Counting, run_and_report, run_counted, run_documented};
 pub use documents::checks::check_document;
@@ -44,7 +44,7 @@ pub use documents::document_fault;
 pub use documents::loads::load_or_document;
 pub use documents::verdicts::{document_node, document_pipeline};
 pub use error_text::{Finding, Reason, reason_of};
-pub use fault::{DONE, FAULT, Fault, MEMORY, REFUSED, USAGE, Unwritten, tell_fault};
+pub use fault::{DONE, FAULT, Fault, MEMORY, REFUSED, USAGE, Unwritten, fail_with};
 pub use infer::certifying::infer_node;
 pub use infer::infer_line;
 pub use loading::{Unloaded, load_line};
@@ -53,7 +53,7 @@ pub use operands::{node_named, nowhere_in, numbers_in, port_in, records_in, repl
 pub use printer::Printer;
 pub use program::{run_command_line, run_compiled};
 pub use run::capture_errors::CaptureNames;
-pub use run::closing::Settled;
+pub use run::closing::Flushed;
 pub use run::guarded::Guarded;
 pub use run::inlet::Inlet;
 pub use run::link_type::LinkType;
@@ -70,4 +70,4 @@ pub use verdicts::counted::Counted;
 pub use verdicts::draw::draw_pipeline;
 pub use verdicts::node_source::Asked;
 pub use verdicts::show::Form;
-pub use verdicts::{Wanted, tell_node, tell_pipeline};
+pub use verdicts::{Wanted, print_node, print_pipeline};

@@ -4,7 +4,7 @@ ghost use Rattle.std.specs.Prelude.{◌≡◌, IfOk, IfErr, OnOk};
 ghost use Rattle.dp_pipe.specs.Loads.{IsLoadedFrom};
 ghost use Rattle.dp_cli.specs.Pipelines as spec;
 ghost use Rattle.dp_cli.specs.Printing.{IsEnded, Prints, PrintsFault, paper};
-ghost use Rattle.dp_cli.specs.Told.{refusal_line, status_of_fault};
+ghost use Rattle.dp_cli.specs.Statuses.{refusal_line, status_of_fault};
 
 use crate::call::Call;
 use crate::counting::programs::{ProgramText, programs_of};
@@ -22,14 +22,14 @@ use std::alloc::{AllocError, Global};
 use std::io::Write;
 use std::rt;
 
-/// Why a pipeline was not loaded, and the status once that is reported.
+/// Why a pipeline was not loaded, and the status after that is reported.
 #[derive(Clone, Copy, Debug, Drop)]
 pub struct Unloaded {
     pub status: u8,
     pub error: PipeError,
 }
 
-/// The fault of a pipeline that is not loaded; none where a program is refused or has no certificate.
+/// The fault of a pipeline that is not loaded; none if a program is refused or has no certificate.
 fn fault_of(error: PipeError) -> Option<Fault<'static>>
     ensures { result ≡ spec.fault_of error }
 {
@@ -40,7 +40,7 @@ fn fault_of(error: PipeError) -> Option<Fault<'static>>
     }
 }
 
-/// Prints a fault, and answers the status.
+/// Prints a fault, and returns the status.
 pub fn report_fault<O: Write, E: Write>(
     fault: Fault<'_>,
     out: &mut Printer<O>,
@@ -55,7 +55,7 @@ pub fn report_fault<O: Write, E: Write>(
     }
 }
 
-/// Prints that a program is refused or has no certificate, and answers the status.
+/// Prints that a program is refused or has no certificate, and returns the status.
 fn report_refusal<O: Write, E: Write>(
     error: PipeError,
     out: &mut Printer<O>,
@@ -70,7 +70,7 @@ fn report_refusal<O: Write, E: Write>(
     }
 }
 
-/// Prints why a pipeline is not loaded, or a node not judged, and answers the status.
+/// Prints why a pipeline is not loaded, or why a node has no verdict, and returns the status.
 pub fn report_unloaded<O: Write, E: Write>(
     error: PipeError,
     out: &mut Printer<O>,
@@ -100,7 +100,7 @@ pub fn load_or_report<F: Files, O: Write, E: Write>(
 ) -> Result<Pipeline, Unloaded>
     ensures loaded { IfOk result (IsLoadedFrom (F.known files.old) how text.now) }
     ensures silent { OnOk result ((out.new ≡ out.old) × (err.new ≡ err.old)) }
-    ensures fails { IfErr result (λ unloaded. spec.IsUnloadedTold (F.known files.old) how text.now (paper O.contents out.old) (paper O.contents out.new)
+    ensures fails { IfErr result (λ unloaded. spec.PrintsUnloaded (F.known files.old) how text.now (paper O.contents out.old) (paper O.contents out.new)
         (paper E.contents err.old) (paper E.contents err.new) unloaded.error unloaded.status) }
     ensures stays { F.known files.new ≡ F.known files.old }
 {
@@ -113,12 +113,12 @@ pub fn load_or_report<F: Files, O: Write, E: Write>(
     }
 }
 
-/// The pipeline of a text and the files that it names; or the status, once the first fault is reported: a program that is refused
+/// Loads the pipeline of a text and the files that it names; or reports the first fault, and returns the status: a program that is refused
 /// or has no certificate on `out`, all else on `err`.
 ///
 /// # Errors
 ///
-/// The status: 1 where a program is refused or has no certificate, 4 for want of memory, and else 3; or 3 or 4 where the fault could not be
+/// The status: 1 if a program is refused or has no certificate, 4 for lack of memory, and else 3; or 3 or 4 if the fault could not be
 /// written.
 pub fn load_line<F: Files, O: Write, E: Write>(
     alloc: Global,
@@ -130,7 +130,7 @@ pub fn load_line<F: Files, O: Write, E: Write>(
 ) -> Result<Pipeline, u8>
     ensures loaded { IfOk result (IsLoadedFrom (F.known files.old) how text.now) }
     ensures silent { OnOk result ((out.new ≡ out.old) × (err.new ≡ err.old)) }
-    ensures fails { IfErr result (spec.IsFaultTold (F.known files.old) how text.now (paper O.contents out.old) (paper O.contents out.new)
+    ensures fails { IfErr result (spec.PrintsLoadFault (F.known files.old) how text.now (paper O.contents out.old) (paper O.contents out.new)
         (paper E.contents err.old) (paper E.contents err.new)) }
     ensures stays { F.known files.new ≡ F.known files.old }
 {
@@ -140,7 +140,7 @@ pub fn load_line<F: Files, O: Write, E: Write>(
     }
 }
 
-/// The bytes of the file that a command is about; or the status, after reporting why it cannot be read.
+/// Reads the file that a command is about; or reports why it cannot be read, and returns the status.
 pub fn bytes_of<R: rt::Files + Print, E: Write>(
     call: &Call<'_, '_, R>,
     err: &mut E,
@@ -188,9 +188,9 @@ fn load_keeping<R: rt::Files + Print, E: Write>(
 ) -> Result<Loaded, u8> {
     let mut files = HostFiles::new(call.rt, call.alloc, naming);
     files.keep(is_kept);
-    let mut told = Printer::new(err);
-    let loaded = load_as(call, text, &mut files, how, &mut told);
-    let err = told.into_inner();
+    let mut faults = Printer::new(err);
+    let loaded = load_as(call, text, &mut files, how, &mut faults);
+    let err = faults.into_inner();
     match loaded {
         Ok(pipeline) => match programs_of(call.alloc, &pipeline, text, files.kept(), naming) {
             Ok(programs) => Ok(Loaded {
@@ -201,7 +201,7 @@ fn load_keeping<R: rt::Files + Print, E: Write>(
             Err(AllocError) => Err(end_with(call, Fault::Memory, err)),
         },
         Err(Unloaded { status, error }) => {
-            let status = files.tell_unfetched(status, err);
+            let status = files.write_unfetched(status, err);
             if status == FAULT || status == REFUSED {
                 // If these lines cannot be written, the status is not changed.
                 let _written = write_details(call, naming, &files.into_reads(), text, error, err);
@@ -229,7 +229,7 @@ pub fn load_with_programs<R: rt::Files + Print, E: Write>(
     err: &mut E,
 ) -> Result<Loaded, u8> {
     let text = bytes_of(call, err)?;
-    load_keeping(call, text.as_slice(), Naming::AsTheyStand, how, true, err)
+    load_keeping(call, text.as_slice(), Naming::AsWritten, how, true, err)
 }
 
 /// Loads the pipeline of the file that a command is about. Reports the first fault, and returns the status.
@@ -239,20 +239,20 @@ pub fn load_with_reads<R: rt::Files + Print, E: Write>(
     err: &mut E,
 ) -> Result<Loaded, u8> {
     let text = bytes_of(call, err)?;
-    let mut loaded = load_text(call, text.as_slice(), Naming::AsTheyStand, how, err)?;
+    let mut loaded = load_text(call, text.as_slice(), Naming::AsWritten, how, err)?;
     match note_read(call.rt, call.alloc, &mut loaded.reads, call.word("FILE")) {
         Ok(()) => Ok(loaded),
         Err(fault) => Err(end_with(call, fault, err)),
     }
 }
 
-/// The pipeline of the file that a command is about; or the status, after reporting the first fault.
+/// Loads the pipeline of the file that a command is about; or reports the first fault, and returns the status.
 pub fn load_file<R: rt::Files + Print, E: Write>(
     call: &Call<'_, '_, R>,
     how: How,
     err: &mut E,
 ) -> Result<Pipeline, u8> {
     let text = bytes_of(call, err)?;
-    let loaded = load_text(call, text.as_slice(), Naming::AsTheyStand, how, err)?;
+    let loaded = load_text(call, text.as_slice(), Naming::AsWritten, how, err)?;
     Ok(loaded.pipeline)
 }

@@ -8,15 +8,15 @@ ghost use Rattle.dp_heap.specs.Requests.{Answered};
 ghost use Rattle.dp_region.specs.Region.{IsRegionSize};
 ghost use Rattle.dp_cli.specs.Commands.{command_in};
 ghost use Rattle.dp_cli.specs.Heaps as spec;
-ghost use Rattle.dp_cli.specs.Scripts.{IsBad, IsDone, IsEnding, IsEndingTold, IsFilled, IsFreed, IsLineDone, IsNoRegion, IsPrinted, IsRefusalTold};
-ghost use Rattle.dp_cli.specs.Scripts.{IsScriptTold, IsTaken};
+ghost use Rattle.dp_cli.specs.Scripts.{IsBad, IsDone, IsEnding, PrintsEnding, IsFilled, IsFreed, IsLineDone, IsNoRegion, IsPrinted, PrintsRefusal};
+ghost use Rattle.dp_cli.specs.Scripts.{PrintsScript, IsTaken};
 ghost use Rattle.dp_cli.specs.Scripts.{IsWrong, Plays, Runs, first_from, fresh, is_held, lines_left, script_lines, stage};
-ghost use Rattle.dp_cli.specs.Told.{IsTold, TellsMemory};
+ghost use Rattle.dp_cli.specs.Statuses.{IsExitStatus, PrintsMemory};
 
 pub mod files;
 pub mod script;
 
-use crate::fault::{DONE, Fault, MEMORY, Unwritten, tell, try_tell_fault};
+use crate::fault::{DONE, Fault, MEMORY, Unwritten, report_line, try_fail_with};
 use crate::mem::script::{Command, command_of};
 use dp_heap::{Element, Heap, HeapError, State};
 use dp_region::{Block, CACHE_LINE, MAX_REGION, MIN_REGION, Region};
@@ -70,13 +70,13 @@ fn element_around(heap: &Heap, offset: u32) -> Option<Element>
 }
 
 /// Prints the line of a block that was allocated.
-fn tell_block<O: Write>(heap: &Heap, number: u32, offset: u32, out: &mut O) -> u8
-    ensures status { IsTold DONE result }
+fn print_block<O: Write>(heap: &Heap, number: u32, offset: u32, out: &mut O) -> u8
+    ensures status { IsExitStatus DONE result }
     ensures printed { result ≡ DONE → IfSome (spec.element_at heap.now.elements offset)
         (λ element. Appends (O.contents out.old) (O.contents out.new) (spec.block_line number offset element)) }
 {
     match element_around(heap, offset) {
-        Some(element) => tell(
+        Some(element) => report_line(
             out,
             format_args!(
                 "{number} data {offset} element {} + {}",
@@ -89,8 +89,8 @@ fn tell_block<O: Write>(heap: &Heap, number: u32, offset: u32, out: &mut O) -> u
 }
 
 /// Prints a refusal.
-fn tell_refusal<O: Write>(error: HeapError, out: &mut O) -> u8
-    ensures status { IsTold DONE result }
+fn print_refusal<O: Write>(error: HeapError, out: &mut O) -> u8
+    ensures status { IsExitStatus DONE result }
     ensures printed { result ≡ DONE → Appends (O.contents out.old) (O.contents out.new) (spec.refusal_line error) }
 {
     let name = match error {
@@ -98,7 +98,7 @@ fn tell_refusal<O: Write>(error: HeapError, out: &mut O) -> u8
         HeapError::BadAlign => "BadAlign",
         HeapError::NoRoom => "NoRoom",
     };
-    tell(out, format_args!("refused {} {name}", error.number()), DONE)
+    report_line(out, format_args!("refused {} {name}", error.number()), DONE)
 }
 
 /// Allocates a block of this size and alignment, zeroed if asked for.
@@ -113,7 +113,7 @@ fn request(heap: &mut Heap, size: u32, align: u32, zeros: bool) -> Result<Block,
 }
 
 impl Session {
-    /// A heap over a region, with no block out.
+    /// Makes a heap over a region, with no block allocated.
     fn over(alloc: Global, region: Region) -> Session
         requires { region.lent ≡ [] }
         ensures { stage result.heap.elements result.held.items result.taken ≡ fresh (length region.bytes) }
@@ -142,12 +142,12 @@ impl Session {
         heap.close().close();
     }
 
-    /// `malloc` and `zmalloc`.
+    /// Runs `malloc` or `zmalloc`.
     fn take<O: Write>(&mut self, size: u32, align: u32, zeros: bool, out: &mut O) -> u8
-        ensures status { IsTold DONE result }
+        ensures status { IsExitStatus DONE result }
         ensures answered { result ≡ DONE → IsPrinted (λ text. IsTaken zeros size align (stage self.old.heap.elements self.old.held.items self.old.taken) text
             (stage self.new.heap.elements self.new.held.items self.new.taken)
-            ⊎ IsRefusalTold size align (stage self.old.heap.elements self.old.held.items self.old.taken) text
+            ⊎ PrintsRefusal size align (stage self.old.heap.elements self.old.held.items self.old.taken) text
             (stage self.new.heap.elements self.new.held.items self.new.taken)) (O.contents out.old) (O.contents out.new) }
     {
         match request(&mut self.heap, size, align, zeros) {
@@ -156,7 +156,7 @@ impl Session {
                 self.taken = self.taken.saturating_add(1);
                 let number = self.taken;
                 match self.held.push(Held { number, block }) {
-                    Ok(()) => tell_block(&self.heap, number, start, out),
+                    Ok(()) => print_block(&self.heap, number, start, out),
                     Err(full) => {
                         let Held { number: _, block } = full.value;
                         self.heap.free(block);
@@ -164,7 +164,7 @@ impl Session {
                     }
                 }
             }
-            Err(error) => tell_refusal(error, out),
+            Err(error) => print_refusal(error, out),
         }
     }
 
@@ -176,10 +176,11 @@ impl Session {
         self.held.iter().position(|held| held.number == number)
     }
 
-    /// `free`; `None` where the number is not held.
+    /// Runs `free`; returns `None` if no block has the number.
     fn free<O: Write>(&mut self, number: u32, out: &mut O) -> Option<u8>
         ensures held { MatchOption result ((is_held number self.old.held.items ≡ false) × (self.new ≡ self.old)
-            × (out.new ≡ out.old)) (λ status. (is_held number self.old.held.items ≡ true) × IsTold DONE status) }
+            × (out.new ≡ out.old)) (λ status. (is_held number self.old.held.items ≡ true)
+            × IsExitStatus DONE status) }
         ensures freed { result ≡ Some DONE → IsPrinted (λ text. IsFreed number (stage self.old.heap.elements self.old.held.items self.old.taken) text
             (stage self.new.heap.elements self.new.held.items self.new.taken)) (O.contents out.old) (O.contents out.new) }
     {
@@ -188,16 +189,16 @@ impl Session {
         };
         let Held { number: _, block } = self.held.remove(index);
         self.heap.free(block);
-        Some(tell(out, format_args!("freed {number}"), DONE))
+        Some(report_line(out, format_args!("freed {number}"), DONE))
     }
 
-    /// `list`.
+    /// Runs `list`.
     fn list<O: Write>(&self, out: &mut O) -> u8
-        ensures status { IsTold DONE result }
+        ensures status { IsExitStatus DONE result }
         ensures printed { result ≡ DONE → Appends (O.contents out.old) (O.contents out.new) (spec.list_text self.now.heap.elements) }
     {
         for element in self.heap.iter() {
-            let status = tell(out, ElementLine(element), DONE);
+            let status = report_line(out, ElementLine(element), DONE);
             if status != DONE {
                 return status;
             }
@@ -205,13 +206,13 @@ impl Session {
         DONE
     }
 
-    /// `stats`.
+    /// Runs `stats`.
     fn stats<O: Write>(&self, out: &mut O) -> u8
-        ensures status { IsTold DONE result }
+        ensures status { IsExitStatus DONE result }
         ensures printed { result ≡ DONE → Appends (O.contents out.old) (O.contents out.new) (spec.stats_line self.now.heap.elements) }
     {
         let all = self.heap.stats();
-        tell(
+        report_line(
             out,
             format_args!(
                 "free {} bytes {} busy {} bytes {}",
@@ -221,10 +222,10 @@ impl Session {
         )
     }
 
-    /// Runs a command; `None` where it is none here.
+    /// Runs a command; returns `None` if it may not come here.
     fn run<O: Write>(&mut self, command: Command, out: &mut O) -> Option<u8>
         ensures wrong { MatchOption result (IsWrong command (stage self.old.heap.elements self.old.held.items self.old.taken) × (self.new ≡ self.old)
-            × (out.new ≡ out.old)) (λ status. ¬ IsWrong command (stage self.old.heap.elements self.old.held.items self.old.taken) × IsTold DONE status) }
+            × (out.new ≡ out.old)) (λ status. ¬ IsWrong command (stage self.old.heap.elements self.old.held.items self.old.taken) × IsExitStatus DONE status) }
         ensures done { result ≡ Some DONE → IsPrinted (λ text. IsDone command (stage self.old.heap.elements self.old.held.items self.old.taken) text
             (stage self.new.heap.elements self.new.held.items self.new.taken)) (O.contents out.old) (O.contents out.new) }
     {
@@ -246,10 +247,10 @@ fn is_region_size(size: u32) -> bool
     size >= MIN_REGION && size <= MAX_REGION && size % CACHE_LINE == 0
 }
 
-/// The first line of a text, and what follows its newline, if it has one.
+/// A text cut after its first line: that line, and what follows its newline, if it has one.
 struct Cut<'a> {
     line: &'a [u8],
-    behind: Option<&'a [u8]>,
+    beyond: Option<&'a [u8]>,
 }
 
 /// The index of the first newline.
@@ -259,20 +260,20 @@ fn newline_in(text: &[u8]) -> Option<usize>
     text.iter().position(|b| *b == b'\n')
 }
 
-/// The first line of a text.
+/// Cuts off the first line of a text.
 fn cut_line<'a>(text: &'a [u8]) -> Cut<'a>
-    ensures lines { script_lines text.now ≡ result.line.now ∷ lines_left (option_map (λ more. more.now) result.behind) }
-    ensures shorter { IfSome result.behind (λ more. length more.now < length text.now) }
+    ensures lines { script_lines text.now ≡ result.line.now ∷ lines_left (option_map (λ more. more.now) result.beyond) }
+    ensures shorter { IfSome result.beyond (λ more. length more.now < length text.now) }
     ensures within { length result.line.now ≤ length text.now }
 {
     match newline_in(text) {
         Some(index) => Cut {
             line: &text[..index],
-            behind: Some(&text[index + 1..]),
+            beyond: Some(&text[index + 1..]),
         },
         None => Cut {
             line: text,
-            behind: None,
+            beyond: None,
         },
     }
 }
@@ -281,33 +282,33 @@ fn cut_line<'a>(text: &'a [u8]) -> Cut<'a>
 struct Numbered<'a> {
     number: usize,
     line: &'a [u8],
-    behind: Option<&'a [u8]>,
+    beyond: Option<&'a [u8]>,
 }
 
 /// The first line of a script that is not empty.
 fn first_line<'a>(script: &'a [u8]) -> Option<Numbered<'a>>
-    ensures first { option_map (λ found. (found.number, (found.line.now, lines_left (option_map (λ more. more.now) found.behind)))) result
+    ensures first { option_map (λ found. (found.number, (found.line.now, lines_left (option_map (λ more. more.now) found.beyond)))) result
         ≡ first_from 1 (script_lines script.now) }
-    ensures within { IfSome result (λ found. IfSome found.behind (λ more. found.number + length more.now < 2 ^ 64)) }
+    ensures within { IfSome result (λ found. IfSome found.beyond (λ more. found.number + length more.now < 2 ^ 64)) }
 {
     let mut number = 0usize;
     let mut rest = Some(script);
     while let Some(text) = rest {
-        let Cut { line, behind } = cut_line(text);
+        let Cut { line, beyond } = cut_line(text);
         number = number.saturating_add(1);
         if !line.is_empty() {
             return Some(Numbered {
                 number,
                 line,
-                behind,
+                beyond,
             });
         }
-        rest = behind;
+        rest = beyond;
     }
     None
 }
 
-/// The size of the region in a line, if it is permitted.
+/// Reads the size of the region from a line, if it is permitted.
 fn region_size(line: &[u8]) -> Option<u32>
     ensures { MatchOption result (IsNoRegion line.now) (λ size. (command_in line.now ≡ Some (Command.Region size)) × IsRegionSize size) }
 {
@@ -317,10 +318,11 @@ fn region_size(line: &[u8]) -> Option<u32>
     }
 }
 
-/// Runs a line that is not empty; `None` where it is no command there.
+/// Runs a line that is not empty; returns `None` if it is not a command that may come there.
 fn play_line<O: Write>(session: &mut Session, line: &[u8], out: &mut O) -> Option<u8>
     ensures bad { MatchOption result (IsBad line.now (stage session.old.heap.elements session.old.held.items session.old.taken) × (session.new ≡ session.old)
-        × (out.new ≡ out.old)) (λ status. ¬ IsBad line.now (stage session.old.heap.elements session.old.held.items session.old.taken) × IsTold DONE status) }
+        × (out.new ≡ out.old)) (λ status.
+        ¬ IsBad line.now (stage session.old.heap.elements session.old.held.items session.old.taken) × IsExitStatus DONE status) }
     ensures done { result ≡ Some DONE → IsPrinted (λ text. IsLineDone line.now (stage session.old.heap.elements session.old.held.items session.old.taken) text
         (stage session.new.heap.elements session.new.held.items session.new.taken)) (O.contents out.old) (O.contents out.new) }
 {
@@ -346,20 +348,20 @@ enum Ending {
 /// Runs the rest of a script after the line with this number, up to the first line that is at fault or whose output cannot be written.
 fn play<O: Write>(
     session: &mut Session,
-    behind: Option<&[u8]>,
+    beyond: Option<&[u8]>,
     number: usize,
     out: &mut O,
 ) -> Ending
-    requires { IfSome behind (λ more. number + length more.now < 2 ^ 64) }
-    ensures { IsEnding (Plays (suc number) (lines_left (option_map (λ more. more.now) behind.entry))
+    requires { IfSome beyond (λ more. number + length more.now < 2 ^ 64) }
+    ensures { IsEnding (Plays (suc number) (lines_left (option_map (λ more. more.now) beyond.entry))
         (stage session.old.heap.elements session.old.held.items session.old.taken)) (O.contents out.old) (O.contents out.new) result }
 {
     let mut number = number;
-    let mut rest = behind;
+    let mut rest = beyond;
     while let Some(text) = rest {
-        let Cut { line, behind } = cut_line(text);
+        let Cut { line, beyond } = cut_line(text);
         number = number.saturating_add(1);
-        rest = behind;
+        rest = beyond;
         if line.is_empty() {
             continue;
         }
@@ -381,7 +383,7 @@ fn ending_of<O: Write>(alloc: Global, script: &[u8], out: &mut O) -> Ending
         Numbered {
             number,
             line,
-            behind,
+            beyond,
         },
     ) = first_line(script)
     else {
@@ -394,40 +396,40 @@ fn ending_of<O: Write>(alloc: Global, script: &[u8], out: &mut O) -> Ending
         return Ending::Memory;
     };
     let mut session = Session::over(alloc, region);
-    let ending = play(&mut session, behind, number, out);
+    let ending = play(&mut session, beyond, number, out);
     session.end();
     ending
 }
 
 /// Reports how a script ended, if not at its end, and returns the status.
-fn tell_ending<E: Write>(ending: Ending, err: &mut E) -> Result<u8, Unwritten>
-    ensures ending { IfOk result (IsEndingTold ending (E.contents err.old) (E.contents err.new)) }
+fn write_ending<E: Write>(ending: Ending, err: &mut E) -> Result<u8, Unwritten>
+    ensures ending { IfOk result (PrintsEnding ending (E.contents err.old) (E.contents err.new)) }
     ensures silent { IfOk result (λ status. status ≡ DONE → err.new ≡ err.old) }
 {
     match ending {
         Ending::Done => Ok(DONE),
-        Ending::Memory => try_tell_fault(err, Fault::Memory),
+        Ending::Memory => try_fail_with(err, Fault::Memory),
         Ending::Unwritten => Err(Unwritten),
-        Ending::Line(line) => try_tell_fault(err, Fault::Line(line)),
+        Ending::Line(line) => try_fail_with(err, Fault::Line(line)),
     }
 }
 
-/// Runs a heap script, and returns the status: 0; 3 where a line is at fault, which is reported; 4 for want of memory, which is reported
+/// Runs a heap script, and returns the status: 0; 3 if a line is at fault, which is reported; 4 for lack of memory, which is reported
 /// too. The output of the commands before a fault is in `out`.
 ///
 /// # Errors
 ///
-/// [`Unwritten`] where a text could not be written.
+/// [`Unwritten`] if a text could not be written.
 pub fn mem_line<O: Write, E: Write>(
     alloc: Global,
     script: &[u8],
     out: &mut O,
     err: &mut E,
 ) -> Result<u8, Unwritten>
-    ensures script { IfOk result (IsScriptTold script.now (O.contents out.old) (O.contents out.new) (E.contents err.old) (E.contents err.new)) }
+    ensures script { IfOk result (PrintsScript script.now (O.contents out.old) (O.contents out.new) (E.contents err.old) (E.contents err.new)) }
     ensures silent { IfOk result (λ status. status ≡ DONE → err.new ≡ err.old) }
-    ensures memory { IfOk result (λ status. status ≡ MEMORY → TellsMemory (E.contents err.old) (E.contents err.new)) }
+    ensures memory { IfOk result (λ status. status ≡ MEMORY → PrintsMemory (E.contents err.old) (E.contents err.new)) }
 {
     let ending = ending_of(alloc, script, out);
-    tell_ending(ending, err)
+    write_ending(ending, err)
 }

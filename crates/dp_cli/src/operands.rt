@@ -15,7 +15,7 @@ use dp_model::Entry;
 use dp_pipe::MAX_TURNS;
 use std::alloc::{AllocError, Global};
 
-/// The node that a word names: `port` or `ring`, and one digit.
+/// Parses a word as a node: `port` or `ring`, and one digit.
 pub fn node_named(word: &str) -> Option<Entry>
     ensures spelled { IfSome result (λ node. word.now ≡ word_of node) }
     ensures only { (node : Entry) → number_of node < 10 → word.now ≡ word_of node → result ≡ Some node }
@@ -34,7 +34,7 @@ pub fn are_digits(word: &str) -> bool
     word.as_bytes().iter().all(|b| b.is_ascii_digit())
 }
 
-/// A word as a number: decimal digits, at most 18,446,744,073,709,551,615.
+/// Parses a word as a number: decimal digits, at most 18,446,744,073,709,551,615.
 fn number_in(word: &str) -> Option<u64>
     ensures { result ≡ spec.number_in word.now }
 {
@@ -45,7 +45,7 @@ fn number_in(word: &str) -> Option<u64>
     }
 }
 
-/// A word as a number of records: from 1 to [`MAX_TURNS`].
+/// Parses a word as a number of records, from 1 to [`MAX_TURNS`].
 pub fn records_in(word: &str) -> Option<u32>
     ensures number { result ≡ spec.records_in word.now }
     ensures range { IfSome result (λ records. (1 ≤ records) × (records ≤ MAX_TURNS)) }
@@ -56,7 +56,7 @@ pub fn records_in(word: &str) -> Option<u32>
     }
 }
 
-/// A word as a port: a number from 0 to 7.
+/// Parses a word as a port: a number from 0 to 7.
 pub fn port_in(word: &str) -> Option<u8>
     ensures { result ≡ spec.port_in word.now }
 {
@@ -66,14 +66,14 @@ pub fn port_in(word: &str) -> Option<u8>
     }
 }
 
-/// The words between commas.
+/// Splits a list at its commas.
 fn words_in<'a>(alloc: Global, list: &'a str) -> Result<Vec<&'a str>, AllocError>
     ensures { IfOk result (λ words. map (λ word. word.now) words.items ≡ spec.words_in list.now) }
 {
     list.split(',').collect(alloc)
 }
 
-/// A list of numbers: one or more, from 1 on, ascending, with commas between them.
+/// Parses a list of numbers: one or more, at least 1, ascending, with commas between them.
 pub fn numbers_in(alloc: Global, list: &str) -> Result<Option<Vec<u64>>, AllocError>
     ensures numbers { IfOk result (λ numbers. option_map (λ given. given.items) numbers ≡ spec.numbers_in list.now) }
     ensures ascending { IfOk result (λ numbers. IfSome numbers (λ given. IsAscending 0 given.items)) }
@@ -93,7 +93,7 @@ pub fn numbers_in(alloc: Global, list: &str) -> Result<Option<Vec<u64>>, AllocEr
     Ok(Some(numbers))
 }
 
-/// A word as the port of a replaced capture: one digit from 0 to 7.
+/// Parses a word as the port of a replaced capture: one digit from 0 to 7.
 fn port_digit(word: &str) -> Option<u8>
     ensures { result ≡ replacing.port_digit word.now }
 {
@@ -121,7 +121,7 @@ fn parts_in(word: &str) -> Option<(&str, &str)>
     word.split_once('=')
 }
 
-/// The capture that a word PORT=NAME gives a port.
+/// Parses a word PORT=NAME: the capture that it gives a port.
 pub fn replaced_in(word: &str) -> Option<Replaced<'_>>
     ensures { option_map row_of result ≡ replacing.replaced_in word.now }
 {
@@ -139,7 +139,7 @@ pub fn replaced_in(word: &str) -> Option<Replaced<'_>>
     })
 }
 
-/// The port that a word PORT gives no capture.
+/// Parses a word PORT: the port that it gives no capture.
 pub fn nowhere_in(word: &str) -> Option<Replaced<'_>>
     ensures { option_map row_of result ≡ replacing.nowhere_in word.now }
 {

@@ -16,7 +16,7 @@ pub struct Printer<W> {
 }
 
 impl<W: Write> Printer<W> {
-    /// Prints to a writer.
+    /// Makes a printer over a writer.
     pub fn new(to: W) -> Printer<W>
         ensures to { result.to ≡ to }
         ensures sound { result.has_failed ≡ false }
@@ -68,7 +68,7 @@ impl<W: Write> Printer<W> {
         self.note(written)
     }
 
-    /// Remembers a result of the writer.
+    /// Remembers whether a write failed.
     pub(crate) fn note(&mut self, written: Result<()>) -> Result<()>
         ensures same { result ≡ written }
         ensures to { self.new.to ≡ self.old.to }

@@ -1,21 +1,21 @@
-//! The program `dpv`: which command runs, and with which status it ends.
+//! The program `dpv`: finds the command, runs it, and returns the exit status.
 
 ghost use Rattle.std.specs.Prelude.{◌≡◌, ◌↔◌, IfOk, IsErr};
 ghost use Rattle.std.specs.Io.KnownBytes.{Appends};
 ghost use Rattle.std.specs.declared.io.ErrorKind.TheVariants.{OutOfMemory};
-ghost use Rattle.dp_cli.specs.Told.{IsTold, unread_text};
+ghost use Rattle.dp_cli.specs.Statuses.{IsExitStatus, unread_text};
 
 use crate::call::{Call, Streams};
 use crate::check::files::check_file;
 use crate::compile::files::compile_file;
-use crate::fault::{DONE, FAULT, Fault, Status, USAGE, tell_fault, tell_usage};
+use crate::fault::{DONE, FAULT, Fault, Status, USAGE, fail_with, write_usage_error};
 use crate::files::fill_streams;
 use crate::infer::files::{infer_file, infer_program};
 use crate::mem::files::run_script;
 use crate::run::files::{run_file, run_one_port};
 use crate::run::progress::ToStderr;
 use crate::trace::files::trace_file;
-use crate::verdicts::files::{explain_file, explain_one, show_file, shown_in, tell_one};
+use crate::verdicts::files::{explain_file, explain_one, print_one, show_file, shown_in};
 use clap::ArgMatches;
 use clap::error::ErrorKind;
 use dp_engine::{Known, Nothing};
@@ -27,7 +27,7 @@ use std::rt::{Env, Files};
 /// Reports an error of the command line, or prints the requested help, and returns the status.
 fn wrong_words<R: Print + Eprint, E: Write>(rt: &R, error: &clap::Error, err: &mut E) -> u8 {
     if error.kind() == ErrorKind::OutOfMemory {
-        return tell_fault(err, Fault::Memory);
+        return fail_with(err, Fault::Memory);
     }
     let status = if error.exit_code() == 0 { DONE } else { USAGE };
     match error.print(rt) {
@@ -36,7 +36,7 @@ fn wrong_words<R: Print + Eprint, E: Write>(rt: &R, error: &clap::Error, err: &m
     }
 }
 
-/// Runs the command with this name that examines programs: explains or shows them.
+/// Runs the command of this name among those that explain or show programs.
 fn judge_programs<R: Files + Print, E: Write>(
     call: &Call<'_, '_, R>,
     name: &str,
@@ -50,7 +50,7 @@ fn judge_programs<R: Files + Print, E: Write>(
         "explain" => explain_file(call, err),
         "explain-one" => explain_one(call, err),
         "show" => show_file(call, err),
-        "show-one" => tell_one(call, shown_in(call.words), err),
+        "show-one" => print_one(call, shown_in(call.words), err),
         _ => Err(USAGE),
     }
 }
@@ -102,14 +102,14 @@ fn run_matches<'a, K: Known, R: Files + Print, E: Write>(
 ///
 /// `AllocError` if there is no memory for them.
 fn unread_words<E: Write>(kind: io::ErrorKind, err: &mut E) -> Result<u8, AllocError>
-    ensures status { IfOk result (IsTold USAGE) }
+    ensures status { IfOk result (IsExitStatus USAGE) }
     ensures printed { IfOk result (λ status. status ≡ USAGE → Appends (E.contents err.old) (E.contents err.new) unread_text) }
     ensures memory { IsErr result ↔ kind ≡ OutOfMemory }
 {
     if kind == io::ErrorKind::OutOfMemory {
         return Err(AllocError);
     }
-    Ok(tell_usage(err, "error: an argument is not UTF-8"))
+    Ok(write_usage_error(err, "error: an argument is not UTF-8"))
 }
 
 /// Runs the command that the words of the command line name, and returns the status.
@@ -154,11 +154,11 @@ fn run_with<K: Known, R: Env + AllocGlobal + Files + Print + Eprint>(
 ) -> u8 {
     let mut err = io::writer(&streams.error);
     let Ok(_streams) = fill_streams(rt) else {
-        return tell_fault(&mut err, Fault::Memory);
+        return fail_with(&mut err, Fault::Memory);
     };
     match run_words::<K, R, _>(rt, streams, reports_interpreted, &mut err) {
         Ok(status) => status,
-        Err(AllocError) => tell_fault(&mut err, Fault::Memory),
+        Err(AllocError) => fail_with(&mut err, Fault::Memory),
     }
 }
 

@@ -7,7 +7,7 @@ ghost use Rattle.dp_pipe.specs.Running.{answer_of};
 ghost use Rattle.dp_cli.specs.Printing.{Notes, paper};
 ghost use Rattle.dp_cli.specs.Run as spec;
 ghost use Rattle.dp_cli.specs.Run.{status_of_answer, status_of_cause, stop_text};
-ghost use Rattle.dp_cli.specs.Told.{finding_of, status_of_fault, text_of_fault};
+ghost use Rattle.dp_cli.specs.Statuses.{finding_of, status_of_fault, text_of_fault};
 
 pub mod capture_errors;
 pub mod captures;
@@ -31,10 +31,10 @@ use crate::error_text::{Finding, Reason};
 use crate::fault::{DONE, FAULT, Fault, MEMORY, print_fault, status_unwritten};
 use crate::printer::Printer;
 use crate::run::capture_errors::{CaptureNames, finding_of};
-use crate::run::closing::{Settled, settle};
+use crate::run::closing::{Flushed, flush_outputs};
 use crate::run::inlet::Inlet;
 use crate::run::outlet::Outlet;
-use crate::run::progress::tell_totals;
+use crate::run::progress::report_totals;
 use crate::run::report::print_report;
 use dp_engine::{Known, Report, Watch};
 use dp_pcap::PcapError;
@@ -42,7 +42,7 @@ use dp_pipe::{Pipeline, RunCause, RunFault, run_watched};
 use std::alloc::Global;
 use std::io::{self, Error, Write};
 
-/// The finding for a run that stopped, if there is no other.
+/// The default finding for a run that stopped.
 fn words_of<'a>(error: PcapError) -> Finding<'a>
     ensures reason { result.reason ≡ Reason.Capture error }
     ensures file { result.file ≡ None }
@@ -74,7 +74,7 @@ pub fn fault_of<'a>(cause: RunCause, found: Option<Finding<'a>>) -> Fault<'a>
     }
 }
 
-/// The report to print, also of a run that stopped; none for one that found no memory.
+/// The report to print, even for a run that stopped; none if it ran out of memory.
 fn printed_of(answer: &Result<Report, RunFault>) -> Option<&Report>
     ensures { option_map (λ report. report.now) result ≡ spec.printed_of answer.now }
 {
@@ -171,17 +171,17 @@ pub(crate) fn run_to_end<K: Known, V: Watch, I: Inlet, O: Outlet>(
     outs: &mut [O],
     pattern: Vec<u64>,
     watch: &mut V,
-) -> Settled
+) -> Flushed
     requires readers { length ins.old ≡ length pipeline.env.ports }
     requires writers { length outs.old ≡ length pipeline.env.ports }
     requires pattern { IsAscending 0 pattern.items }
     ensures { spec.IsRun V.sees watch.old watch.new pipeline pattern.items (map (seen I.remaining I.calls) ins.old) (map (seen I.remaining I.calls) ins.new)
         (map (seen O.contents O.calls) outs.old) (map O.taken outs.new) result }
 {
-    // So `settle` has at most eight outputs.
+    // This shows that `flush_outputs` gets at most eight outputs.
     let _ports = count_ports(&pipeline);
     let answer = run_watched::<K, I, O, V>(alloc, pipeline, ins, outs, pattern, watch);
-    settle(outs, answer)
+    flush_outputs(outs, answer)
 }
 
 /// The finding for the capture at which a run stopped, if it stopped at one.
@@ -201,14 +201,14 @@ pub fn found_of<'a, I: Inlet>(
 
 /// Prints the number of records that the run processed for each port, if requested. If that cannot be written, the rest is still printed.
 pub(crate) fn print_totals<E: Write>(
-    is_told: bool,
+    is_reported: bool,
     answer: &Result<Report, RunFault>,
     err: &mut Printer<E>,
 )
-    ensures { spec.AreTotals is_told answer.now (paper E.contents err.old) (paper E.contents err.new) }
+    ensures { spec.AreTotals is_reported answer.now (paper E.contents err.old) (paper E.contents err.new) }
 {
-    if is_told {
-        let written = tell_totals(is_told, answer, &mut err.to);
+    if is_reported {
+        let written = report_totals(is_reported, answer, &mut err.to);
         let _noted = err.note(written);
     }
 }
@@ -227,32 +227,32 @@ pub struct Reporting<'a> {
 pub struct Ended {
     /// The status that the program ends with.
     pub status: u8,
-    /// The result of the run once its captures were written out.
-    pub settled: Settled,
+    /// The result of the run after its captures were written out.
+    pub flushed: Flushed,
 }
 
 /// Reports a run with this result: prints the records of each port, if requested, the report, and why the run stopped, if it did. Returns the status.
-pub(crate) fn report_settled<I: Inlet, P: Write, E: Write>(
-    settled: &Settled,
+pub(crate) fn report_flushed<I: Inlet, P: Write, E: Write>(
+    flushed: &Flushed,
     ins: &[I],
     reporting: Reporting<'_>,
     out: &mut Printer<P>,
     err: &mut Printer<E>,
 ) -> u8
-    ensures { spec.IsRunTold reporting.entry.names.now (map I.saw ins.now) reporting.entry.counts (paper P.contents out.old) (paper P.contents out.new)
-        (paper E.contents err.old) (paper E.contents err.new) settled.now result }
+    ensures { spec.PrintsRun reporting.entry.names.now (map I.saw ins.now) reporting.entry.counts (paper P.contents out.old) (paper P.contents out.new)
+        (paper E.contents err.old) (paper E.contents err.new) flushed.now result }
 {
-    print_totals(reporting.counts, &settled.answer, err);
-    let stop = stop_of(&settled.answer);
-    let found = found_of(reporting.names, ins, stop, settled.failure);
-    report_run(&settled.answer, found, out, err)
+    print_totals(reporting.counts, &flushed.answer, err);
+    let stop = stop_of(&flushed.answer);
+    let found = found_of(reporting.names, ins, stop, flushed.failure);
+    report_run(&flushed.answer, found, out, err)
 }
 
 /// Runs a pipeline from captures to captures, one input and one output for each port, with these allocation calls refused, under a watcher.
-/// Writes the outputs out, prints the report, also of a run that stopped, and then why it did. Programs that are among `K` run as machine code of
-/// their own; nothing else depends on `K`.
+/// Flushes the outputs, prints the report, even of a run that stopped, and then why it stopped. Programs that are among `K` run as machine code;
+/// nothing else depends on `K`.
 ///
-/// The status is 0 where all was forwarded and written out, 4 for want of memory, and else 3; or 3 or 4 where a text could not be written.
+/// The status is 0 if all was forwarded and written out, 4 for lack of memory, and else 3; or 3 or 4 if a text could not be written.
 pub fn run_line<K: Known, V: Watch, I: Inlet, O: Outlet, P: Write, E: Write>(
     alloc: Global,
     pipeline: Pipeline,
@@ -268,11 +268,11 @@ pub fn run_line<K: Known, V: Watch, I: Inlet, O: Outlet, P: Write, E: Write>(
     requires writers { length outs.old ≡ length pipeline.env.ports }
     requires pattern { IsAscending 0 pattern.items }
     ensures run { spec.IsRun V.sees watch.old watch.new pipeline pattern.items (map (seen I.remaining I.calls) ins.old)
-        (map (seen I.remaining I.calls) ins.new) (map (seen O.contents O.calls) outs.old) (map O.taken outs.new) result.settled }
-    ensures told { spec.IsRunTold reporting.entry.names.now (map I.saw ins.new) reporting.entry.counts (paper P.contents out.old) (paper P.contents out.new)
-        (paper E.contents err.old) (paper E.contents err.new) result.settled result.status }
+        (map (seen I.remaining I.calls) ins.new) (map (seen O.contents O.calls) outs.old) (map O.taken outs.new) result.flushed }
+    ensures is_printed { spec.PrintsRun reporting.entry.names.now (map I.saw ins.new) reporting.entry.counts (paper P.contents out.old)
+        (paper P.contents out.new) (paper E.contents err.old) (paper E.contents err.new) result.flushed result.status }
 {
-    let settled = run_to_end::<K, V, I, O>(alloc, pipeline, ins, outs, pattern, watch);
-    let status = report_settled(&settled, ins, reporting, out, err);
-    Ended { status, settled }
+    let flushed = run_to_end::<K, V, I, O>(alloc, pipeline, ins, outs, pattern, watch);
+    let status = report_flushed(&flushed, ins, reporting, out, err);
+    Ended { status, flushed }
 }

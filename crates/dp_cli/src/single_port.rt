@@ -61,7 +61,7 @@ pub struct OneFiles<'a> {
 #[derive(Clone, Copy)]
 pub enum Naming<'a> {
     /// The names are used as they are written.
-    AsTheyStand,
+    AsWritten,
     /// The files of `dpv one`.
     One(OneFiles<'a>),
 }
@@ -72,7 +72,7 @@ impl<'a> Naming<'a> {
         ensures { result.now ≡ file_named self.entry name.now }
     {
         match self {
-            Naming::AsTheyStand => name,
+            Naming::AsWritten => name,
             Naming::One(files) => match name {
                 "node" => files.node,
                 "cert" => files.cert,

@@ -3,7 +3,7 @@
 ghost use Rattle.std.specs.Prelude.{◌≡◌, ◌≤◌, length, map, IsErr, IfOk};
 ghost use Rattle.dp_engine.specs.Engines.{IsAscending};
 ghost use Rattle.dp_cli.specs.Printing.{paper};
-ghost use Rattle.dp_cli.specs.Tracing.{IsTraceReported, IsTraceTold, IsTraced};
+ghost use Rattle.dp_cli.specs.Tracing.{IsTraceReported, PrintsTrace, IsTraced};
 
 pub mod became;
 pub mod files;
@@ -82,7 +82,7 @@ pub struct Shown<'a, 's> {
     pub picked: Picked<'a>,
 }
 
-/// What a traced run came to.
+/// The result of a traced run.
 #[derive(Debug)]
 struct TracedRun {
     /// What stopped it, if anything did.
@@ -123,7 +123,7 @@ fn print_trace<K: Known, R: Feed, O: Write>(
     })
 }
 
-/// Traces as [`print_trace`] does. If there is no memory for the texts of instructions, the run stopped for lack of memory.
+/// Traces as [`print_trace`] does. If there is no memory for the texts of instructions, the result is that of a run that ran out of memory.
 fn traced<K: Known, R: Feed, O: Write>(
     alloc: Global,
     pipeline: Pipeline,
@@ -182,7 +182,7 @@ pub fn trace_line<K: Known, I: Inlet, O: Write, E: Write>(
     requires readers { length ins.old ≡ length pipeline.env.ports }
     requires pattern { IsAscending 0 pattern.items }
     requires limit { which.records ≤ MAX_TURNS }
-    ensures { IsTraceTold pipeline (map I.remaining ins.old) (map I.remaining ins.new) names.now (map I.saw ins.new) (paper O.contents out.old)
+    ensures { PrintsTrace pipeline (map I.remaining ins.old) (map I.remaining ins.new) names.now (map I.saw ins.new) (paper O.contents out.old)
         (paper O.contents out.new) (paper E.contents err.old) (paper E.contents err.new) result }
 {
     let run = traced::<K, I, O>(alloc, pipeline, ins, pattern, which, shown, &mut out.to);

@@ -1,4 +1,4 @@
-//! What is reported after the line of a refused program if a certificate was given for it: that this does not fit, and what helps.
+//! Reports, after the line of a refused program with a given certificate, that the certificate does not fit, and what helps.
 
 ghost use Rattle.std.specs.Prelude.{◌≢◌, ◌≡◌, IfOk, OnOk};
 ghost use Rattle.std.specs.Io.KnownBytes.{Appends};
@@ -19,7 +19,7 @@ use std::io::{self, ErrorKind, Write};
 pub enum Remedy {
     /// The program is accepted with a certificate that is inferred.
     Infer,
-    /// None is inferred: the program has to be changed.
+    /// No certificate can be inferred: the program must be changed.
     Explain,
 }
 
@@ -176,7 +176,7 @@ fn write_remedy<W: Write>(to: &mut W, given: Given<'_>, remedy: Remedy) -> io::R
     write_help(to, given, remedy)
 }
 
-/// How it ends if the program is not judged for this cause: well, unless memory ran out.
+/// The result if this cause prevents a verdict on the program: `Ok`, unless memory ran out.
 fn unjudged(error: PipeError) -> io::Result<()>
     ensures { OnOk result (error ≢ PipeError.Memory) }
 {

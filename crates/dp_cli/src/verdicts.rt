@@ -1,9 +1,9 @@
 //! `dpv explain` and `dpv show`: the verdicts on the programs of a pipeline.
 
 ghost use Rattle.std.specs.Prelude.{◌≡◌};
-ghost use Rattle.dp_cli.specs.Judging.{asked_node, accepted_text, entry_at, IsNodeTold, IsToldNth, AreAllTold, IsToldAt, IsPipelineTold};
+ghost use Rattle.dp_cli.specs.Judging.{asked_node, accepted_text, entry_at, PrintsNode, PrintsNth, PrintsAll, PrintsAt, PrintsPipeline};
 ghost use Rattle.dp_cli.specs.Printing.{IsEnded, Prints, paper};
-ghost use Rattle.dp_cli.specs.Told.{no_node_line};
+ghost use Rattle.dp_cli.specs.Statuses.{no_node_line};
 
 pub mod counted;
 pub mod draw;
@@ -25,7 +25,7 @@ use dp_pipe::{Files, NodeName, Survey, survey_of};
 use std::alloc::Global;
 use std::io::Write;
 
-/// What is printed of a program besides the verdict.
+/// What is printed about a program besides the verdict.
 #[derive(Clone, Copy, Debug)]
 pub enum Wanted<'a> {
     /// Why it is refused, if it is.
@@ -34,9 +34,9 @@ pub enum Wanted<'a> {
     Program(Form<'a>),
 }
 
-/// Prints the verdict on a node's program with what is wanted, and returns the status: 1 where the program is refused.
+/// Prints the verdict on a node's program with what is wanted, and returns the status: 1 if the program is refused.
 #[tactic(auto, using(crate::proofs::Endings::node_explained, crate::proofs::Endings::node_shown))]
-pub fn tell_node<F: Files, O: Write, E: Write>(
+pub fn print_node<F: Files, O: Write, E: Write>(
     alloc: Global,
     files: &mut F,
     env: &Env,
@@ -45,7 +45,7 @@ pub fn tell_node<F: Files, O: Write, E: Write>(
     out: &mut Printer<O>,
     err: &mut Printer<E>,
 ) -> u8
-    ensures status { IsNodeTold (F.known files.old) env.now (asked_node asked.entry) wanted.entry (paper O.contents out.old) (paper O.contents out.new)
+    ensures status { PrintsNode (F.known files.old) env.now (asked_node asked.entry) wanted.entry (paper O.contents out.old) (paper O.contents out.new)
         (paper E.contents err.old) (paper E.contents err.new) result }
     ensures printed { wanted.entry ≡ Wanted.Reason → result ≡ DONE
         → Prints (paper O.contents out.old) (paper O.contents out.new) (accepted_text asked.entry.node) }
@@ -72,8 +72,8 @@ pub(crate) fn entry_at(index: u8) -> Entry
     }
 }
 
-/// Prints the verdict on the node with this index, and returns the status: 0 also where the pipeline has no such node.
-fn tell_nth<F: Files, O: Write, E: Write>(
+/// Prints the verdict on the node with this index, and returns the status, which is 0 if the pipeline has no such node.
+fn print_nth<F: Files, O: Write, E: Write>(
     alloc: Global,
     files: &mut F,
     survey: &Survey,
@@ -82,19 +82,19 @@ fn tell_nth<F: Files, O: Write, E: Write>(
     out: &mut Printer<O>,
     err: &mut Printer<E>,
 ) -> u8
-    ensures verdict { IsToldNth (F.known files.old) survey.now.config index wanted.entry (paper O.contents out.old) (paper O.contents out.new)
+    ensures verdict { PrintsNth (F.known files.old) survey.now.config index wanted.entry (paper O.contents out.old) (paper O.contents out.new)
         (paper E.contents err.old) (paper E.contents err.new) result }
     ensures stays { F.known files.new ≡ F.known files.old }
 {
     match asked_of(survey, entry_at(index)) {
-        Some(asked) => tell_node(alloc, files, survey.env(), asked, wanted, out, err),
+        Some(asked) => print_node(alloc, files, survey.env(), asked, wanted, out, err),
         None => DONE,
     }
 }
 
-/// Prints the verdict on each node of a pipeline; returns 1 where one is refused, unless a fault ends it before.
-#[tactic(auto, using(crate::proofs::Telling::reached_none, crate::proofs::Telling::reached_more, crate::proofs::Telling::reached_stop))]
-pub fn tell_all<F: Files, O: Write, E: Write>(
+/// Prints the verdict on each node of a pipeline; returns 1 if one is refused, unless a fault comes first.
+#[tactic(auto, using(crate::proofs::PrintedNodes::reached_none, crate::proofs::PrintedNodes::reached_more, crate::proofs::PrintedNodes::reached_stop))]
+pub fn print_all<F: Files, O: Write, E: Write>(
     alloc: Global,
     files: &mut F,
     survey: &Survey,
@@ -102,13 +102,13 @@ pub fn tell_all<F: Files, O: Write, E: Write>(
     out: &mut Printer<O>,
     err: &mut Printer<E>,
 ) -> u8
-    ensures verdicts { AreAllTold (F.known files.old) survey.now.config wanted.entry (paper O.contents out.old) (paper O.contents out.new)
+    ensures verdicts { PrintsAll (F.known files.old) survey.now.config wanted.entry (paper O.contents out.old) (paper O.contents out.new)
         (paper E.contents err.old) (paper E.contents err.new) result }
     ensures stays { F.known files.new ≡ F.known files.old }
 {
     let mut worst = DONE;
     for index in 0..16 {
-        let status = tell_nth(alloc, files, survey, index, wanted, out, err);
+        let status = print_nth(alloc, files, survey, index, wanted, out, err);
         if status == REFUSED {
             worst = REFUSED;
         } else if status != DONE {
@@ -131,7 +131,7 @@ fn report_no_node<O: Write, E: Write>(node: Entry, out: &mut Printer<O>, err: &m
 }
 
 /// Prints the verdict on the node of a pipeline with this entry.
-fn tell_at<F: Files, O: Write, E: Write>(
+fn print_at<F: Files, O: Write, E: Write>(
     alloc: Global,
     files: &mut F,
     survey: &Survey,
@@ -140,20 +140,20 @@ fn tell_at<F: Files, O: Write, E: Write>(
     out: &mut Printer<O>,
     err: &mut Printer<E>,
 ) -> u8
-    ensures verdict { IsToldAt (F.known files.old) survey.now.config node wanted.entry (paper O.contents out.old) (paper O.contents out.new)
+    ensures verdict { PrintsAt (F.known files.old) survey.now.config node wanted.entry (paper O.contents out.old) (paper O.contents out.new)
         (paper E.contents err.old) (paper E.contents err.new) result }
     ensures stays { F.known files.new ≡ F.known files.old }
 {
     match asked_of(survey, node) {
-        Some(asked) => tell_node(alloc, files, survey.env(), asked, wanted, out, err),
+        Some(asked) => print_node(alloc, files, survey.env(), asked, wanted, out, err),
         None => report_no_node(node, out, err),
     }
 }
 
-/// Prints the verdict on the nodes of a pipeline, or on the one that is named, with what is wanted, and returns the status: 1 where one is refused, 2
-/// where the pipeline has no such node.
-#[tactic(auto, using(crate::proofs::Endings::all_told, crate::proofs::Endings::one_told, crate::proofs::Endings::none_told))]
-pub fn tell_pipeline<F: Files, O: Write, E: Write>(
+/// Prints the verdict on the nodes of a pipeline, or on the one that is named, with what is wanted, and returns the status: 1 if one is refused, 2
+/// if the pipeline has no such node.
+#[tactic(auto, using(crate::proofs::Endings::all_printed, crate::proofs::Endings::one_printed, crate::proofs::Endings::none_printed))]
+pub fn print_pipeline<F: Files, O: Write, E: Write>(
     alloc: Global,
     text: &[u8],
     files: &mut F,
@@ -162,7 +162,7 @@ pub fn tell_pipeline<F: Files, O: Write, E: Write>(
     out: &mut Printer<O>,
     err: &mut Printer<E>,
 ) -> u8
-    ensures verdicts { IsPipelineTold (F.known files.old) text.now which wanted.entry (paper O.contents out.old) (paper O.contents out.new)
+    ensures verdicts { PrintsPipeline (F.known files.old) text.now which wanted.entry (paper O.contents out.old) (paper O.contents out.new)
         (paper E.contents err.old) (paper E.contents err.new) result }
     ensures stays { F.known files.new ≡ F.known files.old }
 {
@@ -171,7 +171,7 @@ pub fn tell_pipeline<F: Files, O: Write, E: Write>(
         Err(error) => return report_unloaded(error, out, err),
     };
     match which {
-        None => tell_all(alloc, files, &survey, wanted, out, err),
-        Some(node) => tell_at(alloc, files, &survey, node, wanted, out, err),
+        None => print_all(alloc, files, &survey, wanted, out, err),
+        Some(node) => print_at(alloc, files, &survey, node, wanted, out, err),
     }
 }

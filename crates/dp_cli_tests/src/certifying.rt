@@ -22,7 +22,7 @@ fn certified(alloc: Global, name: &str, program: &str) -> Ended {
     Ended {
         status,
         printed: out.into_inner(),
-        told: err.into_inner(),
+        reported: err.into_inner(),
     }
 }
 
@@ -50,12 +50,12 @@ fn a_program_gets_its_certificate(rt: HostRuntime) -> Result<(), Fail> {
     let cert = strip_cert(alloc)?;
     assert_eq!(rt; ended.status, 0);
     assert!(rt; ended.printed == cert);
-    assert!(rt; ended.told.is_empty());
+    assert!(rt; ended.reported.is_empty());
     Ok(())
 }
 
 #[test]
-fn a_program_without_one_is_told(rt: HostRuntime) -> Result<(), Fail> {
+fn a_program_without_one_is_reported(rt: HostRuntime) -> Result<(), Fail> {
     let alloc = rt.alloc();
     let lost = certified(alloc, "node.dpv", "exit\n");
     assert!(rt; lost.is(1, "port 0 not inferred at 0 by J10\n", ""));

@@ -1,6 +1,6 @@
 //! Printed texts and statuses of `dpv explain`.
 
-use crate::testing::{Ended, cert_text, file, told_alone, told_of};
+use crate::testing::{Ended, cert_text, file, reported_alone, told_of};
 use dp_cli::Wanted;
 use dp_model::Entry;
 use std::alloc::{AllocError, Global};
@@ -12,7 +12,7 @@ struct Case {
     rows: &'static [&'static str],
     status: u8,
     printed: &'static str,
-    told: &'static str,
+    reported: &'static str,
 }
 
 /// A row in which p0 is sole, with a headroom of 128 and one segment. Zeros follow.
@@ -24,7 +24,7 @@ const CASES: [Case; 10] = [
         rows: &[],
         status: 0,
         printed: "port 0 accepted\n",
-        told: "",
+        reported: "",
     },
     Case {
         program: "tx p0,r0,d\nexit\nd: free p0\nexit\n",
@@ -35,7 +35,7 @@ const CASES: [Case; 10] = [
             known:  p0 sole, headroom 128, at most 1 segment\n  \
             wanted: p0 sole, headroom 128, first 1, at most 1 segment\n  \
             help:   let dpv infer write the certificate\n",
-        told: "",
+        reported: "",
     },
     Case {
         program: "alloc p1,1,out\nfree p1\nout: free p0\nexit\n",
@@ -45,7 +45,7 @@ const CASES: [Case; 10] = [
             J3: the pool, the table, the ring and each label are there\n  \
             known:  the number of pools is 1\n  wanted: a pool with the number 1, from 0\n  \
             help:   declare one more in the pipeline, or name another\n",
-        told: "",
+        reported: "",
     },
     Case {
         program: "tx p0,r0,out\ntx p0,r0,none\nnone: exit\nout: free p0\nexit\n",
@@ -55,7 +55,7 @@ const CASES: [Case; 10] = [
             J4: each packet register that is used holds a packet\n  \
             known:  p0 empty\n  wanted: a packet in p0\n  \
             help:   put a packet into p0 before it, by alloc or clone\n",
-        told: "",
+        reported: "",
     },
     Case {
         program: "alloc p0,0,out\nout: free p0\nexit\n",
@@ -65,27 +65,27 @@ const CASES: [Case; 10] = [
             J5: the target of alloc and clone is empty, and those of chain differ\n  \
             known:  p0 sole, headroom 128, at most 1 segment\n  wanted: p0 empty\n  \
             help:   free p0 before it, or take another register\n",
-        told: "",
+        reported: "",
     },
     Case {
         program: "# cuts\n\n\tadj p0,14   # a header\ntx p0,r0,d\nexit\nd: free p0\nexit\n",
         rows: &[],
         status: 1,
         printed: "port 0 not inferred at 0 by J6\nnode.dpv:3: adj p0,14   # a header\n  \
-            J6: there are as many bytes, or as much room, as is taken\n  \
+            J6: the bytes or the room that it takes are there\n  \
             known:  p0 first 0\n  wanted: p0 first 14\n  \
             help:   iflen p0,14,L before it\n",
-        told: "",
+        reported: "",
     },
     Case {
         program: "iflen p0,14,out\nclone p1,p0,0,out\nstore p0,0,8,r0\nfree p1\nout: free p0\nexit\n",
         rows: &[],
         status: 1,
         printed: "port 0 not inferred at 2 by J7\nnode.dpv:3: store p0,0,8,r0\n  \
-            J7: what is written is held by nobody else\n  \
+            J7: what it writes is not shared\n  \
             known:  p0 in group p0, headroom 128, first 14, at most 1 segment\n  wanted: p0 sole or head sole\n  \
             help:   free its clones before it, or write before clone\n",
-        told: "",
+        reported: "",
     },
     Case {
         program: "iflen p0,14,out\nload r1,p0,5,1\ntx p0,r1,out\nexit\nout: free p0\nexit\n",
@@ -95,7 +95,7 @@ const CASES: [Case; 10] = [
             J9: the port is there, and the packet is as the ring declares\n  \
             known:  r1 <= 255\n  wanted: r1 below 1, the number of ports\n  \
             help:   jlt r1,1,L before it, and at L the tx\n",
-        told: "",
+        reported: "",
     },
     Case {
         program: "iflen p0,14,short\nadj p0,14\ntx p0,r0,out\nexit\nout: free p0\nexit\nshort:  exit\n",
@@ -105,23 +105,23 @@ const CASES: [Case; 10] = [
             J10: at exit no register holds a packet\n  \
             known:  p0 sole, headroom 128, at most 1 segment\n  wanted: p0 empty\n  \
             help:   free p0 before it\n",
-        told: "",
+        reported: "",
     },
     Case {
         program: "exit\nadj p0,65536\n",
         rows: &[],
         status: 3,
         printed: "",
-        told: "fault: pipeline 6 Asm port 0 line 2 cause 5\n  because: line 2: an operand is no number, or one out of its range\n",
+        reported: "fault: pipeline 6 Asm port 0 line 2 cause 5\n  because: line 2: an operand is not a number, or is out of its range\n",
     },
 ];
 
 #[test]
 fn programs_are_explained(rt: HostRuntime) -> Result<(), Fail> {
     for (k, case) in CASES.iter().enumerate() {
-        let ended = told_alone(rt.alloc(), case.program, case.rows, Wanted::Reason)?;
+        let ended = reported_alone(rt.alloc(), case.program, case.rows, Wanted::Reason)?;
         assert!(rt;
-            ended.is_just(case.status, case.printed, case.told),
+            ended.is_just(case.status, case.printed, case.reported),
             "case {k}"
         );
     }
@@ -181,16 +181,16 @@ fn pipelines_are_explained(rt: HostRuntime) -> Result<(), Fail> {
     let ended = explained(alloc, PIPELINE, None)?;
     assert!(rt; ended.is_just(1, all.as_str(), ""));
     let none = "error: the pipeline has no port 3\n";
-    let bad = "fault: pipeline 1 NotToml\n  because: the text is no TOML\n";
+    let bad = "fault: pipeline 1 NotToml\n  because: the text is not TOML\n";
     let cases = [
         (PIPELINE, Entry::Port(0), 1, NODES[0], ""),
         (PIPELINE, Entry::Ring(0), 0, NODES[3], ""),
         (PIPELINE, Entry::Port(3), 2, "", none),
         ("region", Entry::Port(0), 3, "", bad),
     ];
-    for (text, which, status, printed, told) in cases {
+    for (text, which, status, printed, reported) in cases {
         let ended = explained(alloc, text, Some(which))?;
-        assert!(rt; ended.is_just(status, printed, told));
+        assert!(rt; ended.is_just(status, printed, reported));
     }
     Ok(())
 }

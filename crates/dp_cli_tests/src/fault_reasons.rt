@@ -1,8 +1,8 @@
 //! The reasons of faults, and what readers and writers keep of a failure.
 
 use dp_cli::{
-    Fault, Finding, Guarded, LinkType, MEMORY, Progress, Reason, Watched, fault_of, reason_of,
-    tell_fault,
+    Fault, Finding, Guarded, LinkType, MEMORY, Progress, Reason, Watched, fail_with, fault_of,
+    reason_of,
 };
 use dp_model::{Entry, EnvError};
 use dp_pcap::PcapError;
@@ -19,13 +19,13 @@ const FULL: i32 = 28;
 const UNREADABLE: i32 = 5;
 
 /// Whether a fault is reported so, with this status.
-fn is_told(alloc: Global, fault: Fault<'_>, status: u8, text: &str) -> bool {
-    let mut told = Vec::new(alloc);
-    tell_fault(&mut told, fault) == status && told.as_slice() == text.as_bytes()
+fn is_reported(alloc: Global, fault: Fault<'_>, status: u8, text: &str) -> bool {
+    let mut reported = Vec::new(alloc);
+    fail_with(&mut reported, fault) == status && reported.as_slice() == text.as_bytes()
 }
 
 #[test]
-fn a_reason_stands_behind_the_line_of_a_fault(rt: HostRuntime) {
+fn a_reason_stands_after_the_line_of_a_fault(rt: HostRuntime) {
     let system = Reason::System(Error::from_raw_os_error(MISSING));
     let cases = [
         (
@@ -48,9 +48,9 @@ fn a_reason_stands_behind_the_line_of_a_fault(rt: HostRuntime) {
         (Fault::Line(7), "fault: line 7 bad command\n"),
     ];
     for (fault, text) in cases {
-        assert!(&rt; is_told(rt.alloc(), fault, 3, text), "{text}");
+        assert!(&rt; is_reported(rt.alloc(), fault, 3, text), "{text}");
     }
-    assert!(&rt; is_told(rt.alloc(), Fault::Memory, MEMORY, "fault: memory\n"));
+    assert!(&rt; is_reported(rt.alloc(), Fault::Memory, MEMORY, "fault: memory\n"));
 }
 
 #[test]
@@ -67,7 +67,7 @@ fn a_pipeline_has_the_words_of_its_cause(rt: HostRuntime) {
     let cases = [
         (
             PipeError::NotToml,
-            "fault: pipeline 1 NotToml\n  because: the text is no TOML\n",
+            "fault: pipeline 1 NotToml\n  because: the text is not TOML\n",
         ),
         (
             part,
@@ -88,7 +88,7 @@ fn a_pipeline_has_the_words_of_its_cause(rt: HostRuntime) {
     ];
     for (error, text) in cases {
         assert!(&rt;
-            is_told(rt.alloc(), Fault::Pipeline(error), 3, text),
+            is_reported(rt.alloc(), Fault::Pipeline(error), 3, text),
             "{text}"
         );
     }
@@ -116,7 +116,7 @@ fn a_capture_has_its_file_and_what_was_found(rt: HostRuntime) {
         (
             magic,
             other,
-            "fault: input 0 cause 1\n  file: in\n  because: it is a pcapng file, of which editcap -F pcap IN OUT makes a capture\n",
+            "fault: input 0 cause 1\n  file: in\n  because: it is a pcapng file; editcap -F pcap IN OUT converts it to a capture\n",
         ),
         (
             RunCause::Out(1),
@@ -132,7 +132,7 @@ fn a_capture_has_its_file_and_what_was_found(rt: HostRuntime) {
     ];
     for (cause, found, text) in cases {
         assert!(&rt;
-            is_told(rt.alloc(), fault_of(cause, found), 3, text),
+            is_reported(rt.alloc(), fault_of(cause, found), 3, text),
             "{text}"
         );
     }
@@ -195,7 +195,7 @@ fn a_link_type_has_its_name_and_a_cure(rt: HostRuntime) -> std::result::Result<(
             "fault: input 3 cause 3\n  file: in.pcap\n  because: {words}\n  help: {cure}\n"
         )?;
         assert!(&rt;
-            is_told(alloc, fault_of(cause, found), 3, text.as_str()),
+            is_reported(alloc, fault_of(cause, found), 3, text.as_str()),
             "{text}"
         );
     }

@@ -212,8 +212,8 @@ fn checks_are_documents(rt: HostRuntime) -> Result<(), Fail> {
     assert!(&rt; unloaded(alloc, "region = \n", PORT).is(3, fault, "fault: pipeline 1 NotToml\n"));
     let fault =
         "{\"fault\":{\"status\":3,\"text\":\"fault: pipeline 6 Asm port 0 line 1 cause 2\"}}\n";
-    let told = "fault: pipeline 6 Asm port 0 line 1 cause 2\n";
-    assert!(&rt; unloaded(alloc, PIPELINE, "iflen_ p0\n").is(3, fault, told));
+    let reported = "fault: pipeline 6 Asm port 0 line 1 cause 2\n";
+    assert!(&rt; unloaded(alloc, PIPELINE, "iflen_ p0\n").is(3, fault, reported));
     Ok(())
 }
 
@@ -249,15 +249,15 @@ fn explanations_are_documents(rt: HostRuntime) -> Result<(), Fail> {
     let refused = "{\"fault\":null,\"nodes\":[{\"comment\":\"four bytes\",\"file\":\"node.dpv\",\
         \"help\":\"iflen p0,4,L before it\",\"instruction\":\"load r1,p0,0,4\",\"known\":\"p0 first 0\",\"label\":0,\"line\":1,\
         \"node\":\"port 0\",\"reason\":[\"port 0 not inferred at 0 by J6\",\"node.dpv:1: load r1,p0,0,4   # four bytes\",\
-        \"  J6: there are as many bytes, or as much room, as is taken\",\"  known:  p0 first 0\",\"  wanted: p0 first 4\",\
+        \"  J6: the bytes or the room that it takes are there\",\"  known:  p0 first 0\",\"  wanted: p0 first 4\",\
         \"  help:   iflen p0,4,L before it\"],\"rule\":\"J6\",\
-        \"states\":\"J6: there are as many bytes, or as much room, as is taken\",\"verdict\":\"not inferred\",\
+        \"states\":\"J6: the bytes or the room that it takes are there\",\"verdict\":\"not inferred\",\
         \"wanted\":\"p0 first 4\"}]}\n";
     assert!(&rt; explained(alloc, REFUSED, &[])?.is_just(1, refused, ""));
     let fault =
         "{\"fault\":{\"status\":3,\"text\":\"fault: pipeline 6 Asm port 0 line 1 cause 2\"},\"nodes\":[]}\n";
-    let told = "fault: pipeline 6 Asm port 0 line 1 cause 2\n";
-    assert!(&rt; explained(alloc, "none p0\n", &[])?.is(3, fault, told));
+    let reported = "fault: pipeline 6 Asm port 0 line 1 cause 2\n";
+    assert!(&rt; explained(alloc, "none p0\n", &[])?.is(3, fault, reported));
     Ok(())
 }
 

@@ -74,7 +74,7 @@ fn files() -> [NamedBytes<'static>; 6] {
     ]
 }
 
-/// Runs `dpv check` on a pipeline file; or `dpv infer`, where a node is given.
+/// Runs `dpv check` on a pipeline file; or `dpv infer`, if a node is given.
 fn answered(alloc: Global, text: &str, which: Option<Entry>) -> Ended {
     let held = files();
     let mut files = Listed {
@@ -96,7 +96,7 @@ fn answered(alloc: Global, text: &str, which: Option<Entry>) -> Ended {
         Err(status) => status,
     };
     ended.printed = out.into_inner();
-    ended.told = err.into_inner();
+    ended.reported = err.into_inner();
     ended
 }
 
@@ -110,7 +110,7 @@ fn infer(alloc: Global, text: &str, which: Entry) -> Ended {
     answered(alloc, text, Some(which))
 }
 
-/// The pipeline of two ports with a text changed where it first occurs.
+/// The pipeline of two ports with a text changed at its first occurrence.
 pub fn changed(alloc: Global, old: &str, new: &str) -> Result<String, AllocError> {
     match TWO_PORTS.split_once(old) {
         Some((before, after)) => format!(in alloc; "{before}{new}{after}"),
@@ -183,16 +183,16 @@ static CHANGES: [(&str, &str, u8, &str, &str); 11] = [
 
 #[test]
 fn a_line_is_printed_for_each_node_or_the_first_fault(rt: HostRuntime) -> Result<(), Fail> {
-    for (old, new, status, printed, told) in CHANGES.iter() {
+    for (old, new, status, printed, reported) in CHANGES.iter() {
         let text = changed(rt.alloc(), old, new)?;
         let ended = check(rt.alloc(), text.as_str());
-        assert!(&rt; ended.is(*status, printed, told), "at {new}");
+        assert!(&rt; ended.is(*status, printed, reported), "at {new}");
     }
     Ok(())
 }
 
 #[test]
-fn nodes_of_rings_come_behind_those_of_ports(rt: HostRuntime) -> Result<(), Fail> {
+fn nodes_of_rings_come_after_those_of_ports(rt: HostRuntime) -> Result<(), Fail> {
     let alloc = rt.alloc();
     let text = format!(in alloc; "{TWO_PORTS}{RING}")?;
     let lines = "port 0 accepted\nport 1 accepted\nring 0 accepted\n";
@@ -208,7 +208,7 @@ fn nodes_of_rings_come_behind_those_of_ports(rt: HostRuntime) -> Result<(), Fail
         ],
     )?;
     assert_eq!(&rt; ended.status, 0);
-    assert!(&rt; ended.told.is_empty());
+    assert!(&rt; ended.reported.is_empty());
     assert_eq!(&rt; ended.printed.as_slice(), cert.as_slice());
     Ok(())
 }
@@ -224,7 +224,7 @@ fn a_certificate_is_printed_as_it_is_inferred(rt: HostRuntime) -> Result<(), Fai
     let ended = infer(alloc, text.as_str(), Entry::Port(1));
     let cert = cert_text(alloc, &FORWARD_ROWS)?;
     assert_eq!(&rt; ended.status, 0);
-    assert!(&rt; ended.told.is_empty());
+    assert!(&rt; ended.reported.is_empty());
     assert_eq!(&rt; ended.printed.as_slice(), cert.as_slice());
     Ok(())
 }

@@ -121,7 +121,7 @@ enum Failing {
 
 impl Failing {
     /// What is reported of it.
-    fn told(self) -> &'static str {
+    fn reported(self) -> &'static str {
         match self {
             Failing::Reader => "fault: input 0 cause 8\n",
             Failing::Writer(0) => "fault: output 0\n",
@@ -130,15 +130,15 @@ impl Failing {
     }
 
     /// The number of bytes after which this device fails, if it is the one that fails.
-    fn limit(self, device: Failing, behind: usize) -> usize {
-        if self == device { behind } else { WHOLE }
+    fn limit(self, device: Failing, beyond: usize) -> usize {
+        if self == device { beyond } else { WHOLE }
     }
 }
 
 const J: usize = WHOLE;
 
 /// The bytes of a run of multicast after which the reader of port 0 or a writer fails, the first and the last; what port 0 received, with
-/// four calls for each, and what both ports sent; how far the input of port 1 was read; and how many bytes each writer holds, where
+/// four calls for each, and what both ports sent; how far the input of port 1 was read; and how many bytes each writer holds, if
 /// `J` is as many as it took.
 static FAILURES: [(Failing, [usize; 2], [u64; 3], &str, [usize; 2]); 7] = [
     (Failing::Writer(0), [0, 23], [0, 0, 0], "open", [J, 0]),
@@ -151,29 +151,29 @@ static FAILURES: [(Failing, [usize; 2], [u64; 3], &str, [usize; 2]); 7] = [
 ];
 
 /// A run of multicast with a device that fails after a number of bytes.
-fn failed(alloc: Global, failing: Failing, behind: usize, input: &[u8]) -> Result<Ran, AllocError> {
+fn failed(alloc: Global, failing: Failing, beyond: usize, input: &[u8]) -> Result<Ran, AllocError> {
     let devices = Devices {
         inputs: &[
-            (input, failing.limit(Failing::Reader, behind)),
+            (input, failing.limit(Failing::Reader, beyond)),
             (HEADER, WHOLE),
         ],
         most: 1,
         outputs: &[
-            failing.limit(Failing::Writer(0), behind),
-            failing.limit(Failing::Writer(1), behind),
+            failing.limit(Failing::Writer(0), beyond),
+            failing.limit(Failing::Writer(1), beyond),
         ],
     };
     run_on(alloc, TWO_PORTS, &programs(), NONE, devices)
 }
 
-/// Whether the writer of a port holds a front of these bytes, of this length; `J` stands for the number after which a device fails.
-fn holds_front(ran: &Ran, port: usize, bytes: &[u8], held: usize, behind: usize) -> bool {
-    let taken = if held == J { behind } else { held };
+/// Whether the writer of a port holds a prefix of these bytes, of this length; `J` is the number after which a device fails.
+fn holds_front(ran: &Ran, port: usize, bytes: &[u8], held: usize, beyond: usize) -> bool {
+    let taken = if held == J { beyond } else { held };
     ran.holds(port, front(bytes, taken))
 }
 
 #[test]
-fn a_device_may_fail_behind_each_byte(rt: HostRuntime) -> Result<(), Fail> {
+fn a_device_may_fail_after_each_byte(rt: HostRuntime) -> Result<(), Fail> {
     let alloc = rt.alloc();
     let first = joined(alloc, &[HEADER, HEAD_60, FIRST])?;
     let second = joined(alloc, &[HEADER, HEAD_64, LABEL, FIRST])?;
@@ -182,15 +182,15 @@ fn a_device_may_fail_behind_each_byte(rt: HostRuntime) -> Result<(), Fail> {
         let (states, calls) = (["open", *state], received.saturating_mul(4));
         let printed = report(alloc, [received, 0], [sent, other], states, [calls, 0])?;
         let [least, most] = *bytes;
-        for behind in least..=most {
-            let ran = failed(alloc, *failing, behind, first.as_slice())?;
-            let told = failing.told();
+        for beyond in least..=most {
+            let ran = failed(alloc, *failing, beyond, first.as_slice())?;
+            let reported = failing.reported();
             assert!(&rt;
-                ran.ended.is(3, printed.as_str(), told),
-                "{told} behind {behind}"
+                ran.ended.is(3, printed.as_str(), reported),
+                "{reported} beyond {beyond}"
             );
-            assert!(&rt; holds_front(&ran, 0, first.as_slice(), held[0], behind));
-            assert!(&rt; holds_front(&ran, 1, second.as_slice(), held[1], behind));
+            assert!(&rt; holds_front(&ran, 0, first.as_slice(), held[0], beyond));
+            assert!(&rt; holds_front(&ran, 1, second.as_slice(), held[1], beyond));
         }
     }
     Ok(())
@@ -351,8 +351,11 @@ fn a_full_file_is_reported_with_the_records_that_it_has(rt: HostRuntime) -> Resu
         let printed = format!(in alloc;
             "port 0 received 2 nobuf 0 oversize 0 sent {sent} input whole\npool 0 free 64 of 64\ncalls 2 refused 0\n"
         )?;
-        let told = "fault: output 0\n  because: it is full\n";
-        assert!(&rt; ended.is_just(3, printed.as_str(), told), "{left} bytes");
+        let reported = "fault: output 0\n  because: it is full\n";
+        assert!(&rt;
+            ended.is_just(3, printed.as_str(), reported),
+            "{left} bytes"
+        );
     }
     let whole = buffered(alloc, input.as_slice(), 176)?;
     let printed =

@@ -1,6 +1,6 @@
 //! Printed texts and statuses of `dpv show`.
 
-use crate::testing::{Ended, drawn_of, file, told_alone, told_of};
+use crate::testing::{Ended, drawn_of, file, reported_alone, told_of};
 use dp_cli::{Counted, Form, Wanted};
 use dp_model::Entry;
 use dp_words::StepCount;
@@ -205,7 +205,7 @@ const CASES: [Case; 7] = [
 fn programs_are_shown(rt: HostRuntime) -> Result<(), Fail> {
     for (k, case) in CASES.iter().enumerate() {
         let wanted = Wanted::Program(case.form);
-        let ended = told_alone(rt.alloc(), case.program, case.rows, wanted)?;
+        let ended = reported_alone(rt.alloc(), case.program, case.rows, wanted)?;
         assert!(rt; ended.is(case.status, case.printed, ""), "case {k}");
     }
     Ok(())
@@ -247,7 +247,7 @@ fn nodes_of_a_pipeline_are_shown(rt: HostRuntime) -> Result<(), Fail> {
 #[test]
 fn counts_of_another_program_are_refused(rt: HostRuntime) -> Result<(), Fail> {
     let wanted = Wanted::Program(Form::Counted(COUNTED));
-    let ended = told_alone(rt.alloc(), "free p0\nexit\n", &[], wanted)?;
+    let ended = reported_alone(rt.alloc(), "free p0\nexit\n", &[], wanted)?;
     let text = "fault: file counts.json\n  \
         because: it has counts of 5 instructions for port 0, whose program has 2\n  \
         help: count again with the program as it is now: dpv run FILE --counts --json\n";

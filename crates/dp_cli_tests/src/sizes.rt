@@ -1,7 +1,7 @@
 //! What takes the bytes of a region.
 
 use crate::testing::{Ended, file};
-use dp_cli::{Printer, load_line, say_sizes};
+use dp_cli::{Printer, load_line, print_sizes};
 use dp_model::{Env, Fact, PoolSpec, PortSpec, RingSpec};
 use dp_pipe::{How, Listed};
 use dp_sizes::{PoolSize, sizes_of};
@@ -77,7 +77,7 @@ fn sizes_in(alloc: Global, region: u32) -> Result<Ended, Fail> {
     let mut err = Printer::new(Vec::new(alloc));
     let bytes = text.as_str().as_bytes();
     let status = match load_line(alloc, bytes, &mut files, How::Given, &mut out, &mut err) {
-        Ok(pipeline) => say_sizes(alloc, &pipeline, &mut out, &mut err),
+        Ok(pipeline) => print_sizes(alloc, &pipeline, &mut out, &mut err),
         Err(status) => status,
     };
     Ok(Ended::of(status, out, err))

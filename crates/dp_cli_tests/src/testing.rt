@@ -2,7 +2,7 @@
 
 use dp_cli::{
     Asked, Incomplete, Inlet, Outlet, Printer, Reporting, Seen, Wanted, draw_pipeline, load_line,
-    numbers_in, one_env, run_line, tell_node, tell_pipeline,
+    numbers_in, one_env, print_node, print_pipeline, run_line,
 };
 use dp_engine::{Nothing, Silent};
 use dp_model::Entry;
@@ -24,7 +24,7 @@ pub const WHOLE: usize = usize::MAX;
 pub struct Ended {
     pub status: u8,
     pub printed: Vec<u8>,
-    pub told: Vec<u8>,
+    pub reported: Vec<u8>,
 }
 
 impl Ended {
@@ -33,7 +33,7 @@ impl Ended {
         Ended {
             status: 255,
             printed: Vec::new(alloc),
-            told: Vec::new(alloc),
+            reported: Vec::new(alloc),
         }
     }
 
@@ -42,22 +42,22 @@ impl Ended {
         Ended {
             status,
             printed: out.into_inner(),
-            told: err.into_inner(),
+            reported: err.into_inner(),
         }
     }
 
     /// Whether it ended so. After the line of a fault there may be a reason.
-    pub fn is(&self, status: u8, printed: &str, told: &str) -> bool {
-        let (line, behind) = split_at(self.told.as_slice(), told.len());
+    pub fn is(&self, status: u8, printed: &str, reported: &str) -> bool {
+        let (line, beyond) = split_at(self.reported.as_slice(), reported.len());
         self.status == status
             && self.printed.as_slice() == printed.as_bytes()
-            && line == told.as_bytes()
-            && (behind.is_empty() || !told.is_empty() && behind.starts_with(b"  because: "))
+            && line == reported.as_bytes()
+            && (beyond.is_empty() || !reported.is_empty() && beyond.starts_with(b"  because: "))
     }
 
     /// Whether it ended so, with nothing after what was reported.
-    pub fn is_just(&self, status: u8, printed: &str, told: &str) -> bool {
-        self.is(status, printed, told) && self.told.len() == told.len()
+    pub fn is_just(&self, status: u8, printed: &str, reported: &str) -> bool {
+        self.is(status, printed, reported) && self.reported.len() == reported.len()
     }
 }
 
@@ -210,7 +210,7 @@ pub fn cert_text(alloc: Global, rows: &[&str]) -> Result<Vec<u8>, AllocError> {
     Ok(text)
 }
 
-/// The first n bytes and the rest, or all where there are fewer.
+/// The first n bytes and the rest, or all if there are fewer.
 fn split_at(bytes: &[u8], n: usize) -> (&[u8], &[u8]) {
     if n <= bytes.len() {
         (&bytes[..n], &bytes[n..])
@@ -219,7 +219,7 @@ fn split_at(bytes: &[u8], n: usize) -> (&[u8], &[u8]) {
     }
 }
 
-/// The first n bytes, or all where there are fewer.
+/// The first n bytes, or all if there are fewer.
 pub fn front(bytes: &[u8], n: usize) -> &[u8] {
     if n <= bytes.len() { &bytes[..n] } else { bytes }
 }
@@ -295,7 +295,7 @@ pub fn run_on(
 }
 
 /// What is printed of a program by itself, with a certificate of these rows, if there are any.
-pub fn told_alone(
+pub fn reported_alone(
     alloc: Global,
     program: &str,
     rows: &[&str],
@@ -321,7 +321,7 @@ pub fn told_alone(
     let mut out = Printer::new(Vec::new(alloc));
     let mut err = Printer::new(Vec::new(alloc));
     let env = one_env();
-    let status = tell_node(alloc, &mut files, &env, asked, wanted, &mut out, &mut err);
+    let status = print_node(alloc, &mut files, &env, asked, wanted, &mut out, &mut err);
     Ok(Ended::of(status, out, err))
 }
 
@@ -337,7 +337,7 @@ pub fn told_of(
     let mut out = Printer::new(Vec::new(alloc));
     let mut err = Printer::new(Vec::new(alloc));
     let text = text.as_bytes();
-    let status = tell_pipeline(alloc, text, &mut files, which, wanted, &mut out, &mut err);
+    let status = print_pipeline(alloc, text, &mut files, which, wanted, &mut out, &mut err);
     Ended::of(status, out, err)
 }
 

@@ -75,7 +75,7 @@ fn run(alloc: Global, node: &str, cert: &[u8], input: &[u8]) -> Result<Ran, Allo
 /// How a heap script ends.
 fn played(alloc: Global, script: &str) -> Ended {
     let mut ended = Ended::new(alloc);
-    let (out, err) = (&mut ended.printed, &mut ended.told);
+    let (out, err) = (&mut ended.printed, &mut ended.reported);
     ended.status = match mem_line(alloc, script.as_bytes(), out, err) {
         Ok(status) => status,
         Err(Unwritten) => FAULT,
@@ -182,12 +182,12 @@ fn heap_scripts_print_as_the_rules_say(rt: HostRuntime) {
 }
 
 #[test]
-fn bad_commands_are_located_behind_what_was_printed(rt: HostRuntime) -> Result<(), Fail> {
+fn bad_commands_are_located_after_what_was_printed(rt: HostRuntime) -> Result<(), Fail> {
     let alloc = rt.alloc();
     for (script, printed, line) in BAD_SCRIPTS.iter() {
-        let told = format!(in alloc; "fault: line {line} bad command\n")?;
+        let reported = format!(in alloc; "fault: line {line} bad command\n")?;
         assert!(&rt;
-            played(alloc, script).is(3, printed, told.as_str()),
+            played(alloc, script).is(3, printed, reported.as_str()),
             "{script}"
         );
     }
@@ -219,9 +219,16 @@ fn certified(alloc: Global, node: &str) -> Vec<u8> {
     };
     let text = ONE_PORT.as_bytes();
     let mut out = Printer::new(Vec::new(alloc));
-    let mut told = Printer::new(Vec::new(alloc));
-    if let Ok(pipeline) = load_line(alloc, text, &mut files, How::Inferred, &mut out, &mut told) {
-        let _status = infer_line(alloc, &pipeline, Entry::Port(0), &mut out, &mut told);
+    let mut reported = Printer::new(Vec::new(alloc));
+    if let Ok(pipeline) = load_line(
+        alloc,
+        text,
+        &mut files,
+        How::Inferred,
+        &mut out,
+        &mut reported,
+    ) {
+        let _status = infer_line(alloc, &pipeline, Entry::Port(0), &mut out, &mut reported);
     }
     out.into_inner()
 }
@@ -231,7 +238,7 @@ const RESOLE: &str =
     "clone p1,p0,0,d\nfree p1\niflen p0,1,d\nset r1,7\nstore p0,0,1,r1\ntx p0,r0,d\nexit\nd: free p0\nexit\n";
 
 #[test]
-fn a_packet_is_sole_again_behind_its_clone(rt: HostRuntime) -> Result<(), Fail> {
+fn a_packet_is_sole_again_after_its_clone(rt: HostRuntime) -> Result<(), Fail> {
     let alloc = rt.alloc();
     let cert = certified(alloc, RESOLE);
     let mut wanted = one_record(alloc, 0)?;
@@ -244,7 +251,7 @@ fn a_packet_is_sole_again_behind_its_clone(rt: HostRuntime) -> Result<(), Fail> 
     Ok(())
 }
 
-/// What is printed where too little is known of the two packets, and what is reported where the digits are no row.
+/// What is printed if too little is known of the two packets, and what is reported if the digits are no row.
 const NOT_ENOUGH: &str = "port 0 refused at 1 by J11\n";
 
 const NO_ROW: &str = "fault: pipeline 7 BadCert port 0 line 3 cause 3\n";
@@ -270,13 +277,16 @@ fn set(bytes: &mut Vec<u8>, offset: usize, value: u8) {
 #[test]
 fn a_packet_and_its_clone_are_a_group(rt: HostRuntime) -> Result<(), Fail> {
     let alloc = rt.alloc();
-    for (digits, status, printed, told) in OTHER_SHARES.iter() {
+    for (digits, status, printed, reported) in OTHER_SHARES.iter() {
         let mut cert = certified(alloc, RESOLE);
         set(&mut cert, 9, digits[0]);
         set(&mut cert, 323, digits[1]);
         set(&mut cert, 345, digits[2]);
         let ran = run(alloc, RESOLE, cert.as_slice(), b"")?;
-        assert!(&rt; ran.ended.is(*status, printed, told), "{printed}{told}");
+        assert!(&rt;
+            ran.ended.is(*status, printed, reported),
+            "{printed}{reported}"
+        );
     }
     Ok(())
 }
@@ -362,7 +372,7 @@ struct Case {
     input: usize,
     status: u8,
     printed: &'static str,
-    told: &'static str,
+    reported: &'static str,
 }
 
 /// A report without records.
@@ -379,7 +389,7 @@ static CASES: [Case; 7] = [
         input: 0,
         status: 3,
         printed: "",
-        told: "fault: pipeline 6 Asm port 0 line 0 cause 9\n",
+        reported: "fault: pipeline 6 Asm port 0 line 0 cause 9\n",
     },
     Case {
         node: "adj p0,65536\n",
@@ -387,7 +397,7 @@ static CASES: [Case; 7] = [
         input: 0,
         status: 3,
         printed: "",
-        told: "fault: pipeline 6 Asm port 0 line 1 cause 5\n",
+        reported: "fault: pipeline 6 Asm port 0 line 1 cause 5\n",
     },
     Case {
         node: STRIP,
@@ -395,7 +405,7 @@ static CASES: [Case; 7] = [
         input: 0,
         status: 3,
         printed: "",
-        told: "fault: pipeline 7 BadCert port 0 line 1 cause 1\n",
+        reported: "fault: pipeline 7 BadCert port 0 line 1 cause 1\n",
     },
     Case {
         node: STRIP,
@@ -403,7 +413,7 @@ static CASES: [Case; 7] = [
         input: 0,
         status: 3,
         printed: "",
-        told: "fault: pipeline 7 BadCert port 0 line 2 cause 4\n",
+        reported: "fault: pipeline 7 BadCert port 0 line 2 cause 4\n",
     },
     Case {
         node: STRIP,
@@ -411,7 +421,7 @@ static CASES: [Case; 7] = [
         input: 0,
         status: 3,
         printed: NOTHING,
-        told: "fault: input 0 cause 6\n",
+        reported: "fault: input 0 cause 6\n",
     },
     Case {
         node: STRIP,
@@ -419,7 +429,7 @@ static CASES: [Case; 7] = [
         input: 23,
         status: 3,
         printed: NOTHING,
-        told: "fault: input 0 cause 6\n",
+        reported: "fault: input 0 cause 6\n",
     },
     Case {
         node: STRIP,
@@ -427,20 +437,20 @@ static CASES: [Case; 7] = [
         input: 99,
         status: 0,
         printed: CUT,
-        told: "",
+        reported: "",
     },
 ];
 
 #[test]
-fn faults_are_told_in_their_order(rt: HostRuntime) -> Result<(), Fail> {
+fn faults_are_reported_in_their_order(rt: HostRuntime) -> Result<(), Fail> {
     let alloc = rt.alloc();
     let cert = cert_text(alloc, STRIP_ROWS.as_slice())?;
     let input = one_record(alloc, 0)?;
     for case in CASES.iter() {
         let cert = front(cert.as_slice(), case.cert);
         let ran = run(alloc, case.node, cert, front(input.as_slice(), case.input))?;
-        let is_so = ran.ended.is(case.status, case.printed, case.told);
-        assert!(&rt; is_so, "{}", case.told);
+        let is_so = ran.ended.is(case.status, case.printed, case.reported);
+        assert!(&rt; is_so, "{}", case.reported);
     }
     Ok(())
 }
@@ -466,13 +476,13 @@ static CAPTURES: [(&[u8], &str, usize); 4] = [
 ];
 
 #[test]
-fn a_capture_at_fault_is_told_behind_the_report(rt: HostRuntime) -> Result<(), Fail> {
+fn a_capture_at_fault_is_reported_after_the_report(rt: HostRuntime) -> Result<(), Fail> {
     let alloc = rt.alloc();
     let cert = cert_text(alloc, STRIP_ROWS.as_slice())?;
-    for (input, told, held) in CAPTURES.iter() {
+    for (input, reported, held) in CAPTURES.iter() {
         let ran = run(alloc, STRIP, cert.as_slice(), input)?;
-        assert!(&rt; ran.ended.is(3, NOTHING, told), "{told}");
-        assert!(&rt; ran.holds(0, front(HEADER, *held)), "{told}");
+        assert!(&rt; ran.ended.is(3, NOTHING, reported), "{reported}");
+        assert!(&rt; ran.holds(0, front(HEADER, *held)), "{reported}");
     }
     Ok(())
 }
@@ -516,15 +526,15 @@ static FAILURES: [(usize, usize, &str, &str, usize); 6] = [
 ];
 
 #[test]
-fn a_device_that_fails_is_told_of_behind_the_report(rt: HostRuntime) -> Result<(), Fail> {
+fn a_device_that_fails_is_reported_after_the_report(rt: HostRuntime) -> Result<(), Fail> {
     let alloc = rt.alloc();
     let cert = cert_text(alloc, STRIP_ROWS.as_slice())?;
     let input = one_record(alloc, 0)?;
     let whole = one_record(alloc, 14)?;
-    for (given, taken, printed, told, held) in FAILURES.iter() {
+    for (given, taken, printed, reported, held) in FAILURES.iter() {
         let input = (input.as_slice(), *given);
         let ran = run_failing(alloc, STRIP, cert.as_slice(), input, *taken)?;
-        assert!(&rt; ran.ended.is(3, printed, told), "{given} {taken}");
+        assert!(&rt; ran.ended.is(3, printed, reported), "{given} {taken}");
         assert!(&rt;
             ran.holds(0, front(whole.as_slice(), *held)),
             "{given} {taken}"

@@ -35,7 +35,7 @@ fn all(records: u32) -> Traced {
     }
 }
 
-/// Traces a pipeline of two ports, or returns 255 where it has another number.
+/// Traces a pipeline of two ports, or returns 255 if it has another number.
 fn trace_both<O: Write, E: Write>(
     alloc: Global,
     pipeline: Pipeline,
@@ -113,11 +113,11 @@ fn traced(
     list: &str,
     which: Traced,
 ) -> Result<Ended, AllocError> {
-    let (parts, behind) = first;
+    let (parts, beyond) = first;
     let first = joined(alloc, parts)?;
-    let inputs = [(first.as_slice(), behind), (second, WHOLE)];
+    let inputs = [(first.as_slice(), beyond), (second, WHOLE)];
     let mut ended = Ended::new(alloc);
-    let (out, err) = (&mut ended.printed, &mut ended.told);
+    let (out, err) = (&mut ended.printed, &mut ended.reported);
     ended.status = trace_to(alloc, text, inputs, list, which, Picked::ALL, out, err);
     Ok(ended)
 }
@@ -204,9 +204,9 @@ fn the_records_of_all_ports_are_traced_in_the_order_of_a_run(rt: HostRuntime) ->
     assert!(&rt; ended.is(0, COPIED, ""));
     let both = traced(alloc, TWO_PORTS, one, SHORT, NONE, all(10))?;
     match FORWARDED.split_once("call 1") {
-        Some((before, behind)) => {
+        Some((before, beyond)) => {
             let last = "record 2: sent to port 1 (port 1, 0)\n";
-            let text = format!(in alloc; "{COPIED}record 2 {before}call 5{behind}{last}")?;
+            let text = format!(in alloc; "{COPIED}record 2 {before}call 5{beyond}{last}")?;
             assert!(&rt; both.is(0, text.as_str(), ""));
         }
         None => assert_eq!(&rt; FORWARDED, ""),
@@ -236,7 +236,7 @@ turn nobuf runs 0 cuts 0 steps 0
 record 1: refused: it got no buffer
 ";
 
-/// The trace of the same record, which comes again, where its program gets no buffer.
+/// The trace of the same record, which comes again, if its program gets no buffer.
 const REFUSED: &str = "record 2 port 0 time 1.000002000, 60 bytes
 port 0
       allocation call 2: made
@@ -280,7 +280,7 @@ fn records_are_picked_by_what_became_of_them(rt: HostRuntime) -> Result<(), Fail
             only: Some(only),
             at: None,
         };
-        let (mut out, mut told) = (Vec::new(alloc), Vec::new(alloc));
+        let (mut out, mut reported) = (Vec::new(alloc), Vec::new(alloc));
         let status = trace_to(
             alloc,
             TWO_PORTS,
@@ -289,7 +289,7 @@ fn records_are_picked_by_what_became_of_them(rt: HostRuntime) -> Result<(), Fail
             all(10),
             picked,
             &mut out,
-            &mut told,
+            &mut reported,
         );
         assert_eq!(&rt; status, 0);
         assert!(&rt; out.as_slice() == text.as_bytes());
@@ -308,7 +308,7 @@ fn records_are_picked_by_an_instruction(rt: HostRuntime) -> Result<(), Fail> {
             only: None,
             at: Some(&labels),
         };
-        let (mut out, mut told) = (Vec::new(alloc), Vec::new(alloc));
+        let (mut out, mut reported) = (Vec::new(alloc), Vec::new(alloc));
         let status = trace_to(
             alloc,
             TWO_PORTS,
@@ -317,7 +317,7 @@ fn records_are_picked_by_an_instruction(rt: HostRuntime) -> Result<(), Fail> {
             all(10),
             picked,
             &mut out,
-            &mut told,
+            &mut reported,
         );
         assert_eq!(&rt; status, 0);
         assert!(&rt; out.as_slice() == text.as_bytes());
@@ -362,7 +362,7 @@ fn rings_are_traced(rt: HostRuntime) -> Result<(), Fail> {
 }
 
 #[test]
-fn faults_of_a_traced_run_are_told(rt: HostRuntime) -> Result<(), Fail> {
+fn faults_of_a_traced_run_are_reported(rt: HostRuntime) -> Result<(), Fail> {
     let alloc = rt.alloc();
     let short = (ONE.as_slice(), 100);
     let failing = traced(alloc, TWO_PORTS, short, HEADER, NONE, all(10))?;
@@ -407,7 +407,7 @@ fn a_writer_that_failed_is_not_called_again(rt: HostRuntime) -> Result<(), Fail>
     let inputs = [(first.as_slice(), WHOLE), (HEADER, WHOLE)];
     for call in 1..3u32 {
         let mut out = FailsAt { call, calls: 0 };
-        let mut told = Vec::new(alloc);
+        let mut reported = Vec::new(alloc);
         let status = trace_to(
             alloc,
             TWO_PORTS,
@@ -416,11 +416,11 @@ fn a_writer_that_failed_is_not_called_again(rt: HostRuntime) -> Result<(), Fail>
             all(2),
             Picked::ALL,
             &mut out,
-            &mut told,
+            &mut reported,
         );
         assert_eq!(&rt; status, 3);
         assert_eq!(&rt; out.calls, call);
-        assert!(&rt; told.is_empty());
+        assert!(&rt; reported.is_empty());
     }
     Ok(())
 }

@@ -49,9 +49,9 @@ fn written(
         cert: "node.cert",
         place,
     };
-    let mut told = Vec::new(alloc);
-    write_unfit(alloc, &mut files, &one_env(), given, &mut told)?;
-    Ok(told)
+    let mut reported = Vec::new(alloc);
+    write_unfit(alloc, &mut files, &one_env(), given, &mut reported)?;
+    Ok(reported)
 }
 
 #[test]

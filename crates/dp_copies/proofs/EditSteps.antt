@@ -4,7 +4,7 @@ use Rattle.std.specs.Prelude.{nat_le, ◌==◌}
 use Rattle.std.proofs.lemmas.Bool.{le-leb, ne_eqb}
 use Rattle.std.proofs.lemmas.List.{map-append, length-map}
 use Rattle.dp_model.specs.declared.env.PoolSpec.{PoolSpec}
-use Rattle.dp_model.specs.Packets.{Packet, first_len, last_len, at_front, at_end, less_before, less_behind}
+use Rattle.dp_model.specs.Packets.{Packet, first_len, last_len, at_front, at_end, less_before, less_after}
 use Rattle.dp_model.specs.Machine.{State, Holds, At, with_packet, without_packet, goes_on, Setting, Move}
 use Rattle.dp_model.specs.CopyMachine.{Copy, copy_step, with_held, copy_put, copy_on, without_front}
 use Rattle.dp_model.specs.CopyMachine.{without_back, provided, copy_edits}
@@ -43,9 +43,9 @@ adj_copies c s p k n later holds le well = put_copies c.env.pools s p (Some (at_
     ∙ ap (λ x. copy_put p (Some x) (copied c.env.pools s later)) (adj_copy c.env.pools s.world.buffers k n le (there c s p k well holds))
 
 pub trim_copies : (c : Setting) (s : State) (p : ℕ) (k : Packet) (n : ℕ) (later : List Bool) → Holds s p k → n ≤ last_len k → IsInside c s →
-    copied c.env.pools (with_packet p (at_end (less_behind n) k) s) later
+    copied c.env.pools (with_packet p (at_end (less_after n) k) s) later
     ≡ copy_put p (Some (at_end (without_back n) (copy_of c.env.pools s.world.buffers k))) (copied c.env.pools s later)
-trim_copies c s p k n later holds le well = put_copies c.env.pools s p (Some (at_end (less_behind n) k)) later
+trim_copies c s p k n later holds le well = put_copies c.env.pools s p (Some (at_end (less_after n) k)) later
     ∙ ap (λ x. copy_put p (Some x) (copied c.env.pools s later)) (trim_copy c.env.pools s.world.buffers k n le (there c s p k well holds))
 
 -- a packet that is freed

@@ -36,10 +36,10 @@ module _ (pools : List PoolSpec) (buffers : Buffers) where
   first_length (s ∷ rest) all = length_segment pools buffers s all.0.1
 
   -- the tailroom
-  pub last_behind : (k : Packet) → (last_piece (copy_of pools buffers k)).behind ≡ tailroom pools k
-  last_behind [] = refl
-  last_behind (s ∷ []) = refl
-  last_behind (s ∷ t ∷ rest) = last_behind (t ∷ rest)
+  pub last_after : (k : Packet) → (last_piece (copy_of pools buffers k)).beyond ≡ tailroom pools k
+  last_after [] = refl
+  last_after (s ∷ []) = refl
+  last_after (s ∷ t ∷ rest) = last_after (t ∷ rest)
 
   -- the last length
   pub last_length : (k : Packet) → AllByRecursion IsThere k → length (last_piece (copy_of pools buffers k)).bytes ≡ last_len k

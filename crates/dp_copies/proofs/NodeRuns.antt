@@ -7,7 +7,7 @@ use Rattle.dp_model.specs.CopyMachine.{CopyMove, copy_step, are_answered, CopySt
 use Rattle.dp_model.specs.Environments.{Environment}
 use Rattle.dp_model.specs.Prefixes.{Route}
 use Rattle.dp_model.specs.declared.instr.Instr.{Instr}
-use Rattle.dp_model.specs.Runs.{Then, Goes}
+use Rattle.dp_model.specs.Runs.{Then, StepsTo}
 use Rattle.dp_model.specs.Laws.Within.{IsInside}
 use Rattle.dp_model.specs.Laws.StepsWithin.{step_within}
 use Rattle.dp_copies.proofs.States.{copied}
@@ -32,7 +32,7 @@ goes_more env tables program (suc n) label s t e (suc fuel) le =
 
 -- steps in a row
 pub goes_copies : (c : Setting) → StepsCopy c → (program : List Instr) (n label : ℕ) (s s' : State) (answers later : List Bool) →
-    IsWithin c.env.pools s.world.buffers (live s) → Goes c program n label s answers Ended s' →
+    IsWithin c.env.pools s.world.buffers (live s) → StepsTo c program n label s answers Ended s' →
     copy_goes c.env c.tables program n label (copied c.env.pools s (answers ++ later)) ≡ Some (copied c.env.pools s' later)
 goes_copies c steps program zero label s s' answers later within (is_next, _, _) = cc is_next
 goes_copies c steps program (suc n) label s s' answers later within (m, rest, st, are_answered, next) =
@@ -45,8 +45,8 @@ goes_copies c steps program (suc n) label s s' answers later within (m, rest, st
     ap (λ o. copy_then o (copy_goes c.env c.tables program n)) o
     ∙ go m.next next (goes_copies c steps program n) (step_within c program label s m within st)
   where
-    go : (x : Next) → Then x (λ l. Goes c program n l m.state rest Ended s') ((Ended ≡ Ended) × (n ≡ 0) × (rest ≡ []) × (s' ≡ m.state)) →
-        ((label : ℕ) (s s' : State) (answers later : List Bool) → IsWithin c.env.pools s.world.buffers (live s) → Goes c program n label s answers Ended s' →
+    go : (x : Next) → Then x (λ l. StepsTo c program n l m.state rest Ended s') ((Ended ≡ Ended) × (n ≡ 0) × (rest ≡ []) × (s' ≡ m.state)) →
+        ((label : ℕ) (s s' : State) (answers later : List Bool) → IsWithin c.env.pools s.world.buffers (live s) → StepsTo c program n label s answers Ended s' →
         copy_goes c.env c.tables program n label (copied c.env.pools s (answers ++ later)) ≡ Some (copied c.env.pools s' later)) →
         IsWithin c.env.pools m.state.world.buffers (live m.state) → copy_then (Some (x, copied c.env.pools m.state (rest ++ later)))
         (copy_goes c.env c.tables program n) ≡ Some (copied c.env.pools s' later)
@@ -56,12 +56,12 @@ goes_copies c steps program (suc n) label s s' answers later within (m, rest, st
 
 -- packets stay within the buffers
 pub goes_within : (c : Setting) (program : List Instr) (n label : ℕ) (s s' : State) (answers : List Bool) (next : Next) → IsInside c s →
-    Goes c program n label s answers next s' → IsInside c s'
+    StepsTo c program n label s answers next s' → IsInside c s'
 goes_within c program zero label s s' answers next well (_, _, is) = subst (IsInside c) (sym is) well
 goes_within c program (suc n) label s s' answers next well (m, rest, st, are_answered, further) =
     go m.next further (λ l. goes_within c program n l m.state s' rest next) (step_within c program label s m well st)
   where
-    go : (x : Next) → Then x (λ l. Goes c program n l m.state rest next s') ((next ≡ Ended) × (n ≡ 0) × (rest ≡ []) × (s' ≡ m.state)) →
-        ((l : ℕ) → IsInside c m.state → Goes c program n l m.state rest next s' → IsInside c s') → IsInside c m.state → IsInside c s'
+    go : (x : Next) → Then x (λ l. StepsTo c program n l m.state rest next s') ((next ≡ Ended) × (n ≡ 0) × (rest ≡ []) × (s' ≡ m.state)) →
+        ((l : ℕ) → IsInside c m.state → StepsTo c program n l m.state rest next s' → IsInside c s') → IsInside c m.state → IsInside c s'
     go (At l) further on well = on l well further
     go Ended (_, _, _, is) on well = subst (IsInside c) (sym is) well

@@ -6,7 +6,7 @@ use Rattle.dp_model.specs.declared.env.PoolSpec.{PoolSpec}
 use Rattle.dp_model.specs.declared.env.PortSpec.{PortSpec}
 use Rattle.dp_model.specs.Arithmetic.{big_endian}
 use Rattle.dp_model.specs.Buffers.{Number, Buffers, bytes_of, with_bytes, overwritten}
-use Rattle.dp_model.specs.Packets.{Segment, Packet, refs, IsHeadSole, IsTailSole, zeroed_before, zeroed_behind, stored}
+use Rattle.dp_model.specs.Packets.{Segment, Packet, refs, IsHeadSole, IsTailSole, zeroed_before, zeroed_after, stored}
 use Rattle.dp_model.specs.Machine.{Setting, World, State, live, Move, Acts, Holds}
 use Rattle.dp_model.specs.Runs.{Receives, between}
 use Rattle.dp_model.specs.Copies.{copy_of}
@@ -55,10 +55,10 @@ stored_written segments offset w n (s ∷ rest) old sole =
     })
 
 -- append writes so
-behind_written : (segments : List Segment) (n : ℕ) (j : Packet) (old : Buffers) → IsTailSole segments j →
-    (zeroed_behind n j old ≡ old) ⊎ Writes segments j old (zeroed_behind n j old)
-behind_written segments n [] old sole = inl refl
-behind_written segments n (s ∷ []) old sole =
+after_written : (segments : List Segment) (n : ℕ) (j : Packet) (old : Buffers) → IsTailSole segments j →
+    (zeroed_after n j old ≡ old) ⊎ Writes segments j old (zeroed_after n j old)
+after_written segments n [] old sole = inl refl
+after_written segments n (s ∷ []) old sole =
     inr (record {
       buffer = s.buffer;
       bytes = overwritten (bytes_of old s.buffer) (s.offset + s.len) (replicate n 0);
@@ -66,10 +66,10 @@ behind_written segments n (s ∷ []) old sole =
       sole = sole;
       part = refs_first s [];
     })
-behind_written segments n (s ∷ t ∷ rest) old sole = further (behind_written segments n (t ∷ rest) old sole)
+after_written segments n (s ∷ t ∷ rest) old sole = further (after_written segments n (t ∷ rest) old sole)
   where
-    further : (zeroed_behind n (t ∷ rest) old ≡ old) ⊎ Writes segments (t ∷ rest) old (zeroed_behind n (t ∷ rest) old) →
-        (zeroed_behind n (t ∷ rest) old ≡ old) ⊎ Writes segments (s ∷ t ∷ rest) old (zeroed_behind n (t ∷ rest) old)
+    further : (zeroed_after n (t ∷ rest) old ≡ old) ⊎ Writes segments (t ∷ rest) old (zeroed_after n (t ∷ rest) old) →
+        (zeroed_after n (t ∷ rest) old ≡ old) ⊎ Writes segments (s ∷ t ∷ rest) old (zeroed_after n (t ∷ rest) old)
     further (inl e) = inl e
     further (inr w) = inr (record {
       buffer = w.buffer;
@@ -114,7 +114,7 @@ effect_stays c s i m k (Freed p j holds is _) at beside = moved c s _ k m is ref
 effect_stays c s i m k (Prepended p n j holds le sole is _) at beside =
     moved c s _ k m is (write_stays c.env.pools i s p j k _ at holds beside (before_written (live s) n j s.world.buffers sole))
 effect_stays c s i m k (Appended p n j holds le sole is _) at beside =
-    moved c s _ k m is (write_stays c.env.pools i s p j k _ at holds beside (behind_written (live s) n j s.world.buffers sole))
+    moved c s _ k m is (write_stays c.env.pools i s p j k _ at holds beside (after_written (live s) n j s.world.buffers sole))
 effect_stays c s i m k (Adjusted p n j holds le is _) at beside = moved c s _ k m is refl
 effect_stays c s i m k (Trimmed p n j holds le is _) at beside = moved c s _ k m is refl
 effect_stays c s i m k (Chained p q j t hj ht apart few is _) at beside = moved c s _ k m is refl

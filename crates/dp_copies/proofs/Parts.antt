@@ -1,9 +1,8 @@
 -- Parts of lists of bytes that were overwritten.
-use Rattle.std.proofs.Common.{◌≡◌, ℕ, zero, suc, ◌+◌, ◌-◌, ◌<◌, ◌≤◌, List, [], ◌∷◌, ◌++◌, length, drop, refl, ◌∙◌, ap, arith, ⊎_elim, take, sym, rules}
+use Rattle.std.proofs.Common.{◌≡◌, ℕ, zero, suc, ◌+◌, ◌-◌, ◌<◌, ◌≤◌, List, [], ◌∷◌, ◌++◌, length, drop, refl, ◌∙◌, arith, ⊎_elim, take, sym, rules}
 use Rattle.std.specs.Prelude.{slice_range}
 use Rattle.std.proofs.lemmas.Bool.{cases_lt}
 use Rattle.std.proofs.lemmas.List.{places, same_lists}
-use Rattle.dp_model.specs.Arithmetic.{big_endian}
 use Rattle.dp_model.specs.Buffers.{Number, Buffers, bytes_of, overwritten, written}
 use Rattle.dp_model.specs.Laws.Stored.{bytes_same, bytes_either}
 
@@ -12,9 +11,9 @@ pub range_before : (old new : List ℕ) (offset len n : ℕ) → length new ≡ 
     slice_range (overwritten old (offset - n) new) (offset - n) (offset - n + (len + n)) ≡ new ++ slice_range old offset (offset + len)
 range_before old new offset len n is short long = same_lists _ _ (search (rules, places)) (λ k d h. grind (arith, places))
 
-pub range_behind : (old new : List ℕ) (offset len n : ℕ) → length new ≡ n → offset + len + n ≤ length old →
+pub range_after : (old new : List ℕ) (offset len n : ℕ) → length new ≡ n → offset + len + n ≤ length old →
     slice_range (overwritten old (offset + len) new) offset (offset + (len + n)) ≡ slice_range old offset (offset + len) ++ new
-range_behind old new offset len n is long = same_lists _ _ (search (rules, places)) (λ k d h. grind (arith, places))
+range_after old new offset len n is long = same_lists _ _ (search (rules, places)) (λ k d h. grind (arith, places))
 
 -- a part without its first bytes, and without its last
 pub range_drop : (old : List ℕ) (offset len n : ℕ) → n ≤ len → offset + len ≤ length old → slice_range old (offset + n) (offset + n + (len - n))
@@ -47,8 +46,3 @@ written_at buffers n start new fits =
     nothing [] [] (suc start) a b = sym (drop_none (suc start + 0))
     nothing [] (x ∷ new) start a b = absurd (omega (arith, a))
     nothing (x ∷ old) new start a b = absurd (omega (arith, b))
-
--- a number of w bytes has w bytes
-pub length-big_endian : (w n : ℕ) → length (big_endian w n) ≡ w
-length-big_endian zero n = refl
-length-big_endian (suc w) n = ap suc (length-big_endian w n)

@@ -9,7 +9,7 @@ use Rattle.dp_model.specs.Machine.{segments_listed, Setting, World}
 use Rattle.dp_model.specs.Copies.{copy_of}
 use Rattle.dp_model.specs.CopyMachine.{are_answered, Copy, CopyState, copy_node_run, copy_serves}
 use Rattle.dp_model.specs.declared.instr.Instr.{Instr}
-use Rattle.dp_model.specs.Runs.{first_state, NodeRun, between, Waiting, behind, first_waiting, Serves}
+use Rattle.dp_model.specs.Runs.{first_state, NodeRun, between, Waiting, beyond, first_waiting, Serves}
 use Rattle.dp_model.specs.Laws.Lists.{all_left, all_right, all_join}
 use Rattle.dp_model.specs.Laws.Within.{IsInside, all_first}
 use Rattle.dp_model.specs.Laws.Waiting.{waits, all_pop}
@@ -24,10 +24,10 @@ copy_waiting pools buffers next = record { ring = next.ring; packet = copy_of po
 first_copies : (pools : List PoolSpec) (buffers : Buffers) (rings : List (List Packet)) → first_waiting (map (map (copy_of pools buffers)) rings)
     ≡ option_map (copy_waiting pools buffers) (first_waiting rings)
 first_copies pools buffers [] = refl
-first_copies pools buffers ([] ∷ rings) = ap (option_map (behind [])) (first_copies pools buffers rings) ∙ swap (first_waiting rings)
+first_copies pools buffers ([] ∷ rings) = ap (option_map (beyond [])) (first_copies pools buffers rings) ∙ swap (first_waiting rings)
   where
-    swap : (o : Option (Waiting Packet)) → option_map (behind []) (option_map (copy_waiting pools buffers) o)
-        ≡ option_map (copy_waiting pools buffers) (option_map (behind []) o)
+    swap : (o : Option (Waiting Packet)) → option_map (beyond []) (option_map (copy_waiting pools buffers) o)
+        ≡ option_map (copy_waiting pools buffers) (option_map (beyond []) o)
     swap None = refl
     swap (Some next) = refl
 first_copies pools buffers ((k ∷ packets) ∷ rings) = refl

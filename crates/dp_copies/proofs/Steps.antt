@@ -12,7 +12,7 @@ use Rattle.dp_model.specs.declared.instr.Instr.{Instr}
 use Rattle.dp_copies.proofs.States.{copied}
 use Rattle.dp_copies.proofs.Moves.{by}
 use Rattle.dp_copies.proofs.AllocationSteps.{allocates, clones}
-use Rattle.dp_copies.proofs.Lengths.{first_before, first_length, last_behind, last_length, there}
+use Rattle.dp_copies.proofs.Lengths.{first_before, first_length, last_after, last_length, there}
 use Rattle.dp_copies.proofs.Lengthening.{prepend_copies, append_copies}
 use Rattle.dp_copies.proofs.EditSteps.{edited, free_copies, adj_copies, trim_copies, chain_copies}
 use Rattle.dp_copies.proofs.TestSteps.{tested}
@@ -40,8 +40,8 @@ steps_copy c label s (Prepend p n) m later well (k, holds, le, sole, is) = edite
     (λ k. nat_le n (first_piece k).before) (at_front (with_front n)) k (λ answers. refl) is holds
     (le-leb n _ (omega (arith, le, first_before c.env.pools s.world.buffers k))) (prepend_copies c s p k n later holds le sole well)
 steps_copy c label s (Append p n) m later well (k, holds, le, sole, is) = edited c label s _ (Append p n) m later p
-    (λ k. nat_le n (last_piece k).behind) (at_end (with_back n)) k (λ answers. refl) is holds
-    (le-leb n _ (omega (arith, le, last_behind c.env.pools s.world.buffers k))) (append_copies c s p k n later holds le sole well)
+    (λ k. nat_le n (last_piece k).beyond) (at_end (with_back n)) k (λ answers. refl) is holds
+    (le-leb n _ (omega (arith, le, last_after c.env.pools s.world.buffers k))) (append_copies c s p k n later holds le sole well)
 steps_copy c label s (Adj p n) m later well (k, holds, le, is) = edited c label s _ (Adj p n) m later p
     (λ k. nat_le n (length (first_piece k).bytes)) (at_front (without_front n)) k (λ answers. refl) is holds
     (le-leb n _ (omega (arith, le, first_length c.env.pools s.world.buffers k (there c s p k well holds)))) (adj_copies c s p k n later holds le well)
@@ -52,8 +52,8 @@ steps_copy c label s (Chain p q) m later well (k, t, hk, ht, apart, few, is) =
     by c label s (Chain p q) later m _ is (chain_copies c label s p q k t later hk ht apart few)
 steps_copy c label s (IfHead p n l) m later well (k, holds, is) = tested c label s (IfHead p n l) m later p n l (λ k. (first_piece k).before) _ k
     (λ answers. refl) is holds (first_before c.env.pools s.world.buffers k)
-steps_copy c label s (IfTail p n l) m later well (k, holds, is) = tested c label s (IfTail p n l) m later p n l (λ k. (last_piece k).behind) _ k
-    (λ answers. refl) is holds (last_behind c.env.pools s.world.buffers k)
+steps_copy c label s (IfTail p n l) m later well (k, holds, is) = tested c label s (IfTail p n l) m later p n l (λ k. (last_piece k).beyond) _ k
+    (λ answers. refl) is holds (last_after c.env.pools s.world.buffers k)
 steps_copy c label s (IfLen p n l) m later well (k, holds, is) = tested c label s (IfLen p n l) m later p n l (λ k. length (first_piece k).bytes) _ k
     (λ answers. refl) is holds (first_length c.env.pools s.world.buffers k (there c s p k well holds))
 steps_copy c label s (IfLast p n l) m later well (k, holds, is) = tested c label s (IfLast p n l) m later p n l (λ k. length (last_piece k).bytes) _ k

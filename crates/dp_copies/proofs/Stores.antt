@@ -14,10 +14,10 @@ use Rattle.dp_model.specs.Laws.Cases.{one_if}
 use Rattle.dp_model.specs.Laws.Lists.{all_left}
 use Rattle.dp_model.specs.Laws.Within.{all_held}
 use Rattle.dp_model.specs.Laws.Stored.{bytes_other, bytes_same, range_overwritten}
+use Rattle.dp_model.specs.Laws.StepsWithin.{length_big_endian}
 use Rattle.dp_copies.proofs.States.{copied}
 use Rattle.dp_copies.proofs.Unchanged.{Same, copy_same, listed_same}
 use Rattle.dp_copies.proofs.Lists.{map_one}
-use Rattle.dp_copies.proofs.Parts.{length-big_endian}
 use Rattle.dp_copies.proofs.Lengths.{there}
 use Rattle.dp_copies.proofs.Writes.{apart}
 
@@ -32,13 +32,13 @@ stored_copy pools st s rest off w n some short fits room same =
     let bytes : bytes_of (stored off w n (s ∷ rest) st.world.buffers) s.buffer ≡ overwritten old (s.offset + off) new =
     bytes_same st.world.buffers s.buffer (overwritten old (s.offset + off) new) (omega (arith, some, short, fits, room)) in
     let range = ap (λ bs. slice_range bs s.offset (s.offset + s.len)) bytes
-    ∙ range_overwritten old new s.offset s.len off (omega (arith, length-big_endian w n, short)) (omega (arith, fits, room)) in
-    ap (λ bs. record { before = s.offset; bytes = bs; behind = room_at pools s.buffer.pool - s.offset - s.len }
+    ∙ range_overwritten old new s.offset s.len off (omega (arith, length_big_endian w n, short)) (omega (arith, fits, room)) in
+    ap (λ bs. record { before = s.offset; bytes = bs; beyond = room_at pools s.buffer.pool - s.offset - s.len }
     ∷ copy_of pools (stored off w n (s ∷ rest) st.world.buffers) rest) range
     ∙ ap (λ c. record {
       before = s.offset;
       bytes = overwritten (slice_range old s.offset (s.offset + s.len)) off new;
-      behind = room_at pools s.buffer.pool - s.offset - s.len;
+      beyond = room_at pools s.buffer.pool - s.offset - s.len;
     } ∷ c)
     (copy_same pools st.world.buffers (stored off w n (s ∷ rest) st.world.buffers) rest same)
 

@@ -27,8 +27,8 @@ pub received_copy : (pools : List PoolSpec) (new : Buffers) (room : ℕ) (ns : L
 received_copy pools new room [] len bytes big is few roomy spells some = absurd (omega arith)
 received_copy pools new room (n ∷ []) len bytes big is few roomy spells some =
     let here : segment_bytes new (direct n 128 len) ≡ bytes = sym (append-nil (segment_bytes new (direct n 128 len))) ∙ spells in
-    let behind : room_at pools n.pool - 128 - len ≡ room - 128 - length bytes = omega (arith, roomy.0.0, is) in
-    λ i. record { before = 128; bytes = here i; behind = behind i } ∷ []
+    let beyond : room_at pools n.pool - 128 - len ≡ room - 128 - length bytes = omega (arith, roomy.0.0, is) in
+    λ i. record { before = 128; bytes = here i; beyond = beyond i } ∷ []
 received_copy pools new room (n ∷ m ∷ ns) len bytes big is few roomy spells some =
     let first = segment_bytes new (direct n 128 (room - 128)) in
     let rest = packet_bytes new (received room (m ∷ ns) (len - (room - 128))) in
@@ -41,10 +41,10 @@ received_copy pools new room (n ∷ m ∷ ns) len bytes big is few roomy spells 
     ) in
     let here : first ≡ take (room - 128) bytes = sym (take_at first rest (room - 128) long) ∙ ap (take (room - 128)) spells in
     let later : rest ≡ drop (room - 128) bytes = sym (drop_at first rest (room - 128) long) ∙ ap (drop (room - 128)) spells in
-    let behind : room_at pools n.pool - 128 - (room - 128) ≡ 0 = omega (arith, roomy.0.0) in
+    let beyond : room_at pools n.pool - 128 - (room - 128) ≡ 0 = omega (arith, roomy.0.0) in
     let tail = received_copy pools new room (m ∷ ns) (len - (room - 128)) (drop (room - 128) bytes) big (omega (arith, length-drop (room - 128) bytes, is))
     (fewer (length ns) (room - 128) len few) roomy.1 later (omega arith) in
-    λ i. record { before = 128; bytes = here i; behind = behind i } ∷ tail i
+    λ i. record { before = 128; bytes = here i; beyond = beyond i } ∷ tail i
   where
     fewer : (c r len : ℕ) → len ≤ suc (suc c) * r → len - r ≤ suc c * r
     fewer c r len h = omega (arith, h)
@@ -57,7 +57,7 @@ alloc_copy pools buffers pool n is =
     let b : room_at pools n.pool - min 128 (room_at pools n.pool) - 0 ≡ room_at pools pool - min 128 (room_at pools pool) =
     omega (arith, ap (room_at pools) is) in
     let e : segment_bytes buffers (direct n (min 128 (room_at pools n.pool)) 0) ≡ [] = empty_range (bytes_of buffers n) (min 128 (room_at pools n.pool)) in
-    λ i. record { before = o i; bytes = e i; behind = b i } ∷ []
+    λ i. record { before = o i; bytes = e i; beyond = b i } ∷ []
   where
     empty_range : (xs : List ℕ) (i : ℕ) → slice_range xs i (i + 0) ≡ []
     empty_range xs i = let z : i + 0 - i ≡ 0 = omega arith in ap (λ n. take n (drop i xs)) z

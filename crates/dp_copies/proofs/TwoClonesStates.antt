@@ -2,7 +2,7 @@
 use Rattle.std.proofs.Common.{ℕ, ◌+◌, [], ◌∷◌, ◌++◌}
 use Rattle.std.specs.Prelude.{slice_set}
 use Rattle.dp_model.specs.Buffers.{Number, Buffers, written}
-use Rattle.dp_model.specs.Packets.{Packet, received, allocated, cloned, at_front, at_end, less_before, more_behind, zeroed_behind, stored}
+use Rattle.dp_model.specs.Packets.{Packet, received, allocated, cloned, at_front, at_end, less_before, more_after, zeroed_after, stored}
 use Rattle.dp_model.specs.Machine.{State, Move, Ended, with_step, goes_on, moves_to, is_given, with_packet, without_packet, with_buffers, with_outbox}
 use Rattle.dp_model.specs.Runs.{first_state}
 use Rattle.dp_copies.specs.TwoClones.{one_port, before}
@@ -29,7 +29,7 @@ abbrev pub fresh : Packet
 fresh = allocated one_port.pools (number 1 ∷ [])
 
 abbrev pub longer : Packet
-longer = at_end (more_behind 1) fresh
+longer = at_end (more_after 1) fresh
 
 abbrev pub other_clone : Packet
 other_clone = cloned (number 0 ∷ []) longer
@@ -40,7 +40,7 @@ abbrev pub filled : Buffers
 filled = written before.buffers (number 2) 128 (7 ∷ 8 ∷ [])
 
 abbrev pub zeroed : Buffers
-zeroed = zeroed_behind 1 fresh filled
+zeroed = zeroed_after 1 fresh filled
 
 abbrev pub rewritten : Buffers
 rewritten = stored 0 1 9 longer zeroed

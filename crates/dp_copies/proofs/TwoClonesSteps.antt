@@ -3,7 +3,7 @@ use Rattle.std.proofs.Common.{true, [], ◌∷◌, refl, arith}
 use Rattle.dp_model.specs.declared.instr.Instr.TheVariants.{Alloc, Free, Clone, Adj, Append, Chain, Set, Store, Tx, Exit}
 use Rattle.dp_model.specs.declared.registers.Width.TheVariants.{One}
 use Rattle.dp_model.specs.Machine.{Ended, Step}
-use Rattle.dp_model.specs.Runs.{Goes}
+use Rattle.dp_model.specs.Runs.{StepsTo}
 use Rattle.dp_copies.specs.TwoClones.{setting, program}
 use Rattle.dp_copies.proofs.TwoClonesStates.{number, whole, cut, clone, joined, fresh, longer, filled, s0, m0, m1, m2, m3, m4, m5, m6, m7, m8, m9, m10, m11}
 
@@ -144,11 +144,11 @@ allocates = record {
 
 -- ---- joined
 
-from_8 : Goes setting program 4 8 m7.state [] Ended m11.state
+from_8 : StepsTo setting program 4 8 m7.state [] Ended m11.state
 from_8 = (m8, [], sets, refl, (m9, [], stores, refl, (m10, [], sends_other, refl, (m11, [], exits, refl, (refl, refl, refl, refl)))))
 
-from_4 : Goes setting program 8 4 m3.state [] Ended m11.state
+from_4 : StepsTo setting program 8 4 m3.state [] Ended m11.state
 from_4 = (m4, [], adjusts, refl, (m5, [], chains, refl, (m6, [], sends, refl, (m7, [], frees, refl, from_8))))
 
-pub steps : Goes setting program 12 0 s0 (true ∷ true ∷ true ∷ []) Ended m11.state
+pub steps : StepsTo setting program 12 0 s0 (true ∷ true ∷ true ∷ []) Ended m11.state
 steps = (m0, true ∷ true ∷ [], allocates, refl, (m1, true ∷ true ∷ [], appends, refl, (m2, true ∷ [], clones, refl, (m3, [], clones_other, refl, from_4))))

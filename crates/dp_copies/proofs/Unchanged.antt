@@ -23,7 +23,7 @@ module _ (pools : List PoolSpec) (old new : Buffers) where
       ap (λ bytes. record {
         before = s.offset;
         bytes = slice_range bytes s.offset (s.offset + s.len);
-        behind = room_at pools s.buffer.pool - s.offset - s.len;
+        beyond = room_at pools s.buffer.pool - s.offset - s.len;
       }) (same s.buffer (refs_first s rest)) in
       ap (λ x. x ∷ copy_of pools new rest) e ∙ ap (λ x. piece_of pools old s ∷ x) (copy_same rest (λ b one. same b (omega (arith, one, refs-cons s rest b))))
 

@@ -5,7 +5,7 @@ use Rattle.std.proofs.lemmas.List.{append-nil}
 use Rattle.dp_model.specs.CopyMachine.{Copy, CopyState, copy_start, copy_turn, copy_records_at, copy_run, Captures, copy_bytes}
 use Rattle.dp_model.specs.Copies.{copy_of}
 use Rattle.dp_model.specs.Machine.{Setting, World}
-use Rattle.dp_model.specs.Runs.{Outcome, Nodes, Arrival, Shown, Run, joined, between, records_at, with_empty_outboxes}
+use Rattle.dp_model.specs.Runs.{Outcome, Nodes, Arrival, Observed, Run, joined, between, records_at, with_empty_outboxes}
 use Rattle.dp_model.specs.Starts.{IsStart}
 use Rattle.dp_model.specs.Laws.Limits.{HaveRoom}
 use Rattle.dp_model.specs.Laws.Within.{IsInside, start_inside}
@@ -30,15 +30,15 @@ drains {T} time run o outcome x z records more captures turn drained rest are =
     ∙ (ap (λ r. Some (joined r more, z)) drained ∙ ap (λ cs. Some (cs, z)) (sym are)))
 
 -- each record in turn
-run_lands : {T : Type 0} (c : Setting) (nodes : Nodes) (arrivals : List (Arrival T)) (w w' : World) (later : List Bool) (shown : Shown T)
+run_lands : {T : Type 0} (c : Setting) (nodes : Nodes) (arrivals : List (Arrival T)) (w w' : World) (later : List Bool) (shown : Observed T)
     (x : CopyState) → HaveRoom c.env → IsInside c (between w) → Shows c.env.pools w (shown.answers ++ later) x → Run c nodes arrivals w shown w' →
     Lands c w' later (λ fuel. copy_run c.env c.tables fuel nodes arrivals x) (λ t. (shown.captures, t))
 run_lands {T} c nodes [] w w' later shown x rooms well shows (none, is) =
     stays c w w' shown.answers later x (λ fuel. copy_run c.env c.tables fuel nodes [] x) (λ t. (shown.captures, t)) well shows
-    (ap (λ (s : Shown T). s.answers) none) is (λ fuel. ap (λ (s : Shown T). Some (s.captures, x)) (sym none))
+    (ap (λ (s : Observed T). s.answers) none) is (λ fuel. ap (λ (s : Observed T). Some (s.captures, x)) (sym none))
 run_lands {T} c nodes (a ∷ arrivals) w w' later shown x rooms well shows (outcome, answers, runs, mid, rest, turn, run, is) =
     let pools = c.env.pools in
-    let split : shown.answers ++ later ≡ answers ++ (rest.answers ++ later) = ap (λ (s : Shown T). s.answers ++ later) is
+    let split : shown.answers ++ later ≡ answers ++ (rest.answers ++ later) = ap (λ (s : Observed T). s.answers ++ later) is
     ∙ append_assoc answers rest.answers later in
     let first = turn_lands c nodes a.port a.bytes w mid outcome runs answers (rest.answers
     ++ later) x rooms well (record { rings = shows.rings; outboxes = shows.outboxes; to_answer = shows.to_answer ∙ split; cuts = shows.cuts }) turn in
@@ -61,12 +61,12 @@ run_lands {T} c nodes (a ∷ arrivals) w w' later shown x rooms well shows (outc
       lands = λ fuel le.
           drains a.time (copy_run c.env c.tables fuel nodes arrivals) (copy_turn c.env c.tables fuel nodes a.port a.bytes x) outcome first.state others.state
           (records_at a.time mid) rest.captures shown.captures (first.lands fuel (omega (arith, le))) records (others.lands fuel (omega (arith, le)))
-          (ap (λ (s : Shown T). s.captures) is);
+          (ap (λ (s : Observed T). s.captures) is);
       within = others.within;
     }
 
 -- a whole run has the captures of the copies
-pub run_copies : {T : Type 0} (c : Setting) (nodes : Nodes) (arrivals : List (Arrival T)) (w w' : World) (shown : Shown T) → HaveRoom c.env →
+pub run_copies : {T : Type 0} (c : Setting) (nodes : Nodes) (arrivals : List (Arrival T)) (w w' : World) (shown : Observed T) → HaveRoom c.env →
     IsStart c.env w → Run c nodes arrivals w shown w' → Captures c.env c.tables nodes arrivals shown.answers shown.captures w'.cuts
 run_copies c nodes arrivals w w' shown rooms start run =
     let copy = copy_of c.env.pools w.buffers in

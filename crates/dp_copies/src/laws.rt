@@ -7,7 +7,7 @@ ghost use Rattle.dp_model.specs.Environments.{Environment, fault_of};
 ghost use Rattle.dp_model.specs.Prefixes.{Route};
 ghost use Rattle.dp_model.specs.Packets.{Packet};
 ghost use Rattle.dp_model.specs.Machine.{Setting, World, State, Move, Step};
-ghost use Rattle.dp_model.specs.Runs.{Nodes, Arrival, Receives, Shown, Run};
+ghost use Rattle.dp_model.specs.Runs.{Nodes, Arrival, Receives, Observed, Run};
 ghost use Rattle.dp_model.specs.Starts.{IsStart};
 ghost use Rattle.dp_model.specs.Copies.{copy_of};
 ghost use Rattle.dp_model.specs.CopyMachine.{Captures};
@@ -17,7 +17,7 @@ ghost use Rattle.dp_copies.specs.Seen.{IsQueued, IsBeside};
 /// each packet has its own bytes, given the same answers to allocation calls. No row, rule or certificate is involved. The environment is one that
 /// `Env::new` accepts. `T` is the time of a record.
 pub fn clones_are_copies<T>()
-    ensures { (c : Setting) (nodes : Nodes) (arrivals : List (Arrival T)) (w w' : World) (shown : Shown T) →
+    ensures { (c : Setting) (nodes : Nodes) (arrivals : List (Arrival T)) (w w' : World) (shown : Observed T) →
         fault_of c.env ≡ None → IsStart c.env w → Run c nodes arrivals w shown w' →
         Captures c.env c.tables nodes arrivals shown.answers shown.captures w'.cuts }
 {}
@@ -34,7 +34,7 @@ pub fn copies_are_deterministic<T>()
 /// Two runs on the same records with the same answers to allocation calls have the same captures and the same number of cuts, whatever buffers were
 /// taken and whatever these held.
 pub fn buffers_are_not_seen<T>()
-    ensures { (c d : Setting) (nodes : Nodes) (arrivals : List (Arrival T)) (w w' v v' : World) (shown shown' : Shown T) →
+    ensures { (c d : Setting) (nodes : Nodes) (arrivals : List (Arrival T)) (w w' v v' : World) (shown shown' : Observed T) →
         c.env ≡ d.env → c.tables ≡ d.tables → fault_of c.env ≡ None → IsStart c.env w → IsStart c.env v →
         Run c nodes arrivals w shown w' → Run d nodes arrivals v shown' v' → shown.answers ≡ shown'.answers →
         (shown.captures ≡ shown'.captures) × (w'.cuts ≡ v'.cuts) }

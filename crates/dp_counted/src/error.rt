@@ -11,7 +11,7 @@ pub struct Member {
     pub instruction: Option<usize>,
     /// Its name.
     pub name: &'static str,
-    /// What it has to be.
+    /// What its value must be.
     pub wanted: &'static str,
 }
 
@@ -32,9 +32,9 @@ impl fmt::Display for Member {
 pub enum CountsError {
     /// Memory was refused.
     Memory,
-    /// The text is no JSON, from this line and column on; both count from 1, and are 0 for a text that is not UTF-8.
+    /// The text is not JSON, from this line and column; both count from 1, and are 0 for a text that is not UTF-8.
     NotJson { line: usize, column: usize },
-    /// A member is not there, or is not what it has to be.
+    /// A member is missing, or is not what it must be.
     BadMember(Member),
     /// There is no node with the name.
     NoNode,
@@ -45,7 +45,7 @@ impl fmt::Display for CountsError {
         match *self {
             CountsError::Memory => write!(f, "memory"),
             CountsError::NotJson { line, column } => {
-                write!(f, "line {line} column {column}: the text is no JSON")
+                write!(f, "line {line} column {column}: the text is not JSON")
             }
             CountsError::BadMember(member) => write!(f, "{member}"),
             CountsError::NoNode => write!(f, "it has no counts of this node"),

@@ -25,7 +25,7 @@ fn bad_in_node(node: usize, name: &'static str, wanted: &'static str) -> CountsE
     })
 }
 
-/// A number below 2^64: JSON's, or its decimal digits as a text.
+/// Reads a number below 2^64: a JSON number, or a string of its decimal digits.
 fn number_of(value: &Value) -> Option<u64> {
     match value.as_str() {
         Some(digits) => digits.parse::<u64>().ok(),
@@ -44,7 +44,7 @@ fn taken_of(value: &Value) -> Option<Option<u64>> {
     }
 }
 
-/// The counts of an instruction with this number; or the name of the first member that is not what it has to be, and what that is.
+/// The counts of an instruction with this number; or the name of the first member that is not what it must be, and what that is.
 fn step_of(value: &Value, number: usize) -> Result<StepCount, (&'static str, &'static str)> {
     let label = value.get("label").and_then(Value::as_u64);
     if label != Some(number as u64) {
@@ -115,7 +115,7 @@ fn value_of(alloc: Global, text: &[u8]) -> Result<Value, CountsError> {
     }
 }
 
-/// The counts of each instruction of a node, by its name, as `port 0`, in a document that `dpv run FILE --counts --json` printed.
+/// Returns the counts of each instruction of a node, given by its name, as `port 0`, in a document of `dpv run FILE --counts --json`.
 ///
 /// # Errors
 ///

@@ -4,9 +4,10 @@ use Rattle.std.proofs.Common.{List, length, refl, sym, ◌∙◌, ap, subst, ari
 use Rattle.std.specs.Prelude.{◌==◌, ◌≤◌, ◌-◌, slice_index}
 use Rattle.std.proofs.lemmas.Bool.{eqb-true, eqb-false}
 use Rattle.std.proofs.Math.Nat.{mod-lt, mod-add-div, add-mul-mod_self_left}
+use Rattle.std.proofs.lemmas.List.{get_or-set_same}
 use Rattle.dp_model.specs.Arithmetic.{wrapped}
 use Rattle.dp_counts.specs.Counting.{Tally, one_more, less, on_from, ran_at, HasNone, IsTally}
-use Rattle.dp_counts.proofs.Tallies.{index_same, index_other}
+use Rattle.dp_counts.proofs.Tallies.{index_other}
 
 -- ---- numbers that are the same modulo 2^64
 
@@ -49,7 +50,7 @@ one_at : (b : Bool) (j k : ℕ) (numbers : List ℕ) → (j == k) ≡ b → k < 
 one_at true j k numbers e few =
     let here : j ≡ k = eqb-true j k e in
     subst (λ i. Same (slice_index (one_more i numbers) k) (slice_index numbers k + 1)) (sym here)
-    (subst (λ x. Same x (slice_index numbers k + 1)) (sym (index_same numbers k (wrapped (slice_index numbers k + 1)) few))
+    (subst (λ x. Same x (slice_index numbers k + 1)) (sym (get_or-set_same numbers k (wrapped (slice_index numbers k + 1)) 0 few))
     (same_wrapped (slice_index numbers k + 1)))
 one_at false j k numbers e few =
     let is = index_other numbers j k (wrapped (slice_index numbers j + 1)) (eqb-false j k e) in

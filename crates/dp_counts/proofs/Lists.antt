@@ -1,32 +1,19 @@
 -- One more element of a list that is numbered, joined, printed or summed up.
-use Rattle.std.proofs.Common.{◌≡◌, ℕ, zero, suc, ◌+◌, ◌^◌, ◌<◌, List, [], ◌∷◌, ◌++◌, length, map, take, Option, Some, refl, sym, ◌∙◌, ap, subst, arith}
-use Rattle.std.proofs.Common.{append_assoc, append-nil, add-one, get_or, Bor}
+use Rattle.std.proofs.Common.{◌≡◌, ℕ, zero, suc, ◌+◌, ◌^◌, ◌<◌, List, [], ◌∷◌, ◌++◌, length, map, take, Some, refl, sym, ◌∙◌, ap, arith}
+use Rattle.std.proofs.Common.{add-one, get_or, Bor}
 use Rattle.std.specs.Prelude.{slice_get, sum_by}
 use Rattle.std.proofs.Math.Nat.{mod-add-mod}
 use Rattle.dp_model.specs.Arithmetic.{wrapped}
-use Rattle.std.specs.List.{flat_map}
-use Rattle.std.specs.Io.KnownBytes.{Appends}
-use Rattle.std.proofs.KnownBytes.{Appends-trans}
 use Rattle.std.proofs.lemmas.List.{map-append}
 use Rattle.std.proofs.lemmas.List.Sums.{sum_by-cons}
 use Rattle.std.proofs.lemmas.Option.{same_Some, slice_get-get_or}
 use Rattle.std.specs.List.{slice_split}
 use Rattle.dp_model.specs.declared.instr.Instr.{Instr}
 use Rattle.dp_counts.specs.declared.source.SourceLine.{SourceLine}
-use Rattle.dp_counts.specs.Totals.{lines_from}
 use Rattle.dp_counts.specs.Sources.{each_from, view_line, line_at, lines_of, body_of, is_newline}
+use Rattle.dp_counts.specs.Laws.{each_more}
 
 -- ---- numbered
-
-each_more : {A B : Type 0} (f : ℕ → A → B) (k : ℕ) (xs : List A) (i : ℕ) (x : A) → slice_get xs i ≡ Some x
-    → each_from f k (take (suc i) xs) ≡ each_from f k (take i xs) ++ f (k + i) x ∷ []
-each_more f k [] i x e = cc
-each_more f k (y ∷ xs) zero x e =
-    let here : k ≡ k + 0 = omega arith in
-    ap (λ z. f k z ∷ []) (same_Some y x e) ∙ ap (λ n. f n x ∷ []) here
-each_more f k (y ∷ xs) (suc i) x e =
-    let here : suc k + i ≡ k + suc i = omega arith in
-    ap (λ l. f k y ∷ l) (each_more f (suc k) xs i x e) ∙ ap (λ n. f k y ∷ (each_from f (suc k) (take i xs) ++ f n x ∷ [])) here
 
 -- one more of them, if the list so far is known
 pub each_next : {A B : Type 0} (f : ℕ → A → B) (xs : List A) (i : ℕ) (x : A) (so_far : List B) → slice_get xs i ≡ Some x
@@ -40,42 +27,6 @@ each_next f xs i x so_far here is =
 pub each_map : {A B C : Type 0} (f : ℕ → B → C) (g : A → B) (k : ℕ) (xs : List A) → each_from (λ n x. f n (g x)) k xs ≡ each_from f k (map g xs)
 each_map f g k [] = refl
 each_map f g k (x ∷ xs) = ap (λ l. f k (g x) ∷ l) (each_map f g (suc k) xs)
-
--- ---- printed
-
-map_more : {A : Type 0} (line : A → List ℕ) (xs : List A) (i : ℕ) (x : A) → slice_get xs i ≡ Some x
-    → flat_map line (take (suc i) xs) ≡ flat_map line (take i xs) ++ line x
-map_more line [] i x e = cc
-map_more line (y ∷ xs) zero x e = append-nil (line y) ∙ ap line (same_Some y x e)
-map_more line (y ∷ xs) (suc i) x e = ap (λ l. line y ++ l) (map_more line xs i x e) ∙ sym (append_assoc (line y) (flat_map line (take i xs)) (line x))
-
--- one more of them
-pub appends_piece : {A : Type 0} (a b d : Option (List ℕ)) (line : A → List ℕ) (xs : List A) (i : ℕ) (x : A) → slice_get xs i ≡ Some x
-    → Appends a b (flat_map line (take i xs)) → Appends b d (line x) → Appends a d (flat_map line (take (i + 1) xs))
-appends_piece a b d line xs i x here before now =
-    subst (Appends a d) (sym (map_more line xs i x here) ∙ ap (λ n. flat_map line (take n xs)) (sym (add-one i)))
-    (Appends-trans a b d (flat_map line (take i xs)) (line x) before now)
-
-lines_more : {A : Type 0} (line : ℕ → A → List ℕ) (k : ℕ) (xs : List A) (i : ℕ) (x : A) → slice_get xs i ≡ Some x
-    → lines_from line k (take (suc i) xs) ≡ lines_from line k (take i xs) ++ line (k + i) x
-lines_more line k [] i x e = cc
-lines_more line k (y ∷ xs) zero x e =
-    let here : k ≡ k + 0 = omega arith in
-    append-nil (line k y) ∙ ap (line k) (same_Some y x e) ∙ ap (λ n. line n x) here
-lines_more line k (y ∷ xs) (suc i) x e =
-    let here : suc k + i ≡ k + suc i = omega arith in
-    ap (λ l. line k y ++ l) (lines_more line (suc k) xs i x e) ∙ sym (append_assoc (line k y) (lines_from line (suc k) (take i xs)) (line (suc k + i) x))
-    ∙ ap (λ n. (line k y ++ lines_from line (suc k) (take i xs)) ++ line n x) here
-
--- one more numbered line
-pub appends_line : {A : Type 0} (a b d : Option (List ℕ)) (line : ℕ → A → List ℕ) (xs : List A) (i : ℕ) (other : A) → i < length xs
-    → Appends a b (lines_from line 0 (take i xs)) → Appends b d (line i (get_or xs i other)) → Appends a d (lines_from line 0 (take (i + 1) xs))
-appends_line a b d line xs i other lt before now =
-    let x = get_or xs i other in
-    let own : i ≡ 0 + i = omega arith in
-    subst (Appends a d) (ap (λ n. lines_from line 0 (take i xs) ++ line n x) own ∙ sym (lines_more line 0 xs i x (slice_get-get_or xs i other lt))
-    ∙ ap (λ n. lines_from line 0 (take n xs)) (sym (add-one i)))
-    (Appends-trans a b d (lines_from line 0 (take i xs)) (line i x) before now)
 
 -- ---- lines of a source
 

@@ -4,6 +4,7 @@ use Rattle.std.proofs.Common.{◌&&◌, List, [], ◌∷◌, refl, sym, ◌∙�
 use Rattle.std.specs.Prelude.{◌==◌, ◌≤◌, nat_lt, slice_index, Option, Some, None, ⊤, if◌then◌else◌}
 use Rattle.std.proofs.lemmas.Bool.{and_from, lt-ltb}
 use Rattle.std.proofs.Math.Nat.{mod-eq_of_lt}
+use Rattle.std.proofs.Math.Bool.{and-true}
 use Rattle.dp_model.specs.Arithmetic.{wrapped}
 use Rattle.dp_model.specs.declared.env.Entry.{Entry}
 use Rattle.dp_model.specs.declared.env.Entry.TheVariants.{Port, Ring}
@@ -94,10 +95,6 @@ stands_after label (To to) place is = is
 stands_after label Out place is = tt
 stands_after label Cut place is = tt
 
-and_true : (b : Bool) → (b && true) ≡ b
-and_true true = refl
-and_true false = refl
-
 -- all that is shown: what came less what left is one more for each step
 moves : (pos : Option ℕ) (t t' : Tally) (events : List Event) (k n : ℕ) → IsTally t → Stands pos t.place → IsPlace k → k + 1024 ≤ 16384 → n < 1024
     → FollowFrom pos events → SeesAll counts_see t events t'
@@ -129,7 +126,7 @@ moves (Some label) t t' (Ran at way s ∷ events) k n all stands own room few (i
     let steps_are : steps_at any_way (k + n) m.place events ≡ steps_at any_way (k + n) t.place events =
     ap (λ p. steps_at any_way (k + n) p events) own_place in
     let one : one_if ((t.place + at == k + n) && true) ≡ one_if (t.place + label == k + n) =
-    ap one_if (and_true (t.place + at == k + n)) ∙ ap (λ l. one_if (t.place + l == k + n)) is_at in
+    ap one_if (and-true (t.place + at == k + n)) ∙ ap (λ l. one_if (t.place + l == k + n)) is_at in
     (a + c, b + d, omega (arith, later, first, ahead_is, steps_are, one))
 
 -- ---- how often an instruction ran

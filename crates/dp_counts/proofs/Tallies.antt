@@ -4,10 +4,12 @@ use Rattle.std.proofs.Common.{◌&&◌, List, [], ◌∷◌, length, refl, sym, 
 use Rattle.std.specs.Prelude.{◌==◌, ◌≤◌, replicate, slice_index, slice_set}
 use Rattle.std.proofs.lemmas.Bool.{eqb-true, eqb-false}
 use Rattle.std.proofs.Math.Nat.{mod-eq_of_lt, mod-add-mod, mod-lt}
+use Rattle.std.proofs.lemmas.List.{get_or-set_same, length-set}
 use Rattle.dp_model.specs.Arithmetic.{wrapped}
 use Rattle.dp_model.specs.Machine.{State}
 use Rattle.dp_model.specs.declared.env.Entry.{Entry}
 use Rattle.dp_model.specs.declared.env.Entry.TheVariants.{Port, Ring}
+use Rattle.dp_model.specs.Laws.Lists.{get_replicate}
 use Rattle.dp_engine.specs.declared.watch.Way.{Way}
 use Rattle.dp_engine.specs.declared.watch.Way.TheVariants.{On, To, Out, Cut}
 use Rattle.dp_engine.specs.Watching.{Event, Began, Ran, IsOneOfEight, SeesAll}
@@ -16,22 +18,12 @@ use Rattle.dp_counts.specs.Counting.{IsTally}
 
 -- ---- one number of a list
 
-pub index_same : (numbers : List ℕ) (k n : ℕ) → k < length numbers → slice_index (slice_set numbers k n) k ≡ n
-index_same [] k n less = absurd (omega (arith, less))
-index_same (x ∷ numbers) zero n less = refl
-index_same (x ∷ numbers) (suc k) n less = index_same numbers k n (omega (arith, less))
-
 pub index_other : (numbers : List ℕ) (j k n : ℕ) → (j ≡ k → ⊥) → slice_index (slice_set numbers j n) k ≡ slice_index numbers k
 index_other [] j k n other = refl
 index_other (x ∷ numbers) zero zero n other = absurd (other refl)
 index_other (x ∷ numbers) zero (suc k) n other = refl
 index_other (x ∷ numbers) (suc j) zero n other = refl
 index_other (x ∷ numbers) (suc j) (suc k) n other = index_other numbers j k n (λ e. other (ap suc e))
-
-pub length_same : (numbers : List ℕ) (k n : ℕ) → length (slice_set numbers k n) ≡ length numbers
-length_same [] k n = refl
-length_same (x ∷ numbers) zero n = refl
-length_same (x ∷ numbers) (suc k) n = ap suc (length_same numbers k n)
 
 small : (n : ℕ) → n < 2 ^ 64 → n ≡ wrapped (n + 0)
 small n less = sym (ap (λ m. m % 2 ^ 64) (add-zero n) ∙ mod-eq_of_lt less)
@@ -41,7 +33,7 @@ abbrev grown : Bool → ℕ → List ℕ → List ℕ
 grown b k numbers = cond b (one_more k numbers) numbers
 
 grown_length : (b : Bool) (k : ℕ) (numbers : List ℕ) → length (grown b k numbers) ≡ length numbers
-grown_length true k numbers = length_same numbers k (wrapped (slice_index numbers k + 1))
+grown_length true k numbers = length-set numbers k (wrapped (slice_index numbers k + 1))
 grown_length false k numbers = refl
 
 grown_at : (b d : Bool) (j k : ℕ) (numbers : List ℕ) → (j == k) ≡ b → k < length numbers → slice_index numbers k < 2 ^ 64
@@ -49,7 +41,7 @@ grown_at : (b d : Bool) (j k : ℕ) (numbers : List ℕ) → (j == k) ≡ b → 
 grown_at true true j k numbers e less within =
     let same : j ≡ k = eqb-true j k e in
     subst (λ i. slice_index (one_more i numbers) k ≡ wrapped (slice_index numbers k + 1)) (sym same)
-    (index_same numbers k (wrapped (slice_index numbers k + 1)) less)
+    (get_or-set_same numbers k (wrapped (slice_index numbers k + 1)) 0 less)
 grown_at false true j k numbers e less within =
     index_other numbers j k (wrapped (slice_index numbers j + 1)) (eqb-false j k e) ∙ small (slice_index numbers k) within
 grown_at true false j k numbers e less within = small (slice_index numbers k) within
@@ -128,7 +120,7 @@ more_numbers : (k : ℕ) (numbers : List ℕ) → AreNumbers numbers → AreNumb
 more_numbers k numbers are = grown_numbers true k numbers are
 
 more_length : (k n : ℕ) (numbers : List ℕ) → length numbers ≡ n → length (one_more k numbers) ≡ n
-more_length k n numbers is = length_same numbers k (wrapped (slice_index numbers k + 1)) ∙ is
+more_length k n numbers is = length-set numbers k (wrapped (slice_index numbers k + 1)) ∙ is
 
 pub place_within : (node : Entry) → IsOneOfEight node → place_of node + 1024 ≤ 16384
 place_within (Port port) few = omega (arith, few)
@@ -203,10 +195,5 @@ tally_seen t t' (e ∷ events) (mid, seen, rest) all = tally_seen mid t' events 
 
 -- ---- zeros
 
-zero_at : (n k : ℕ) → slice_index (replicate n 0) k ≡ 0
-zero_at zero k = refl
-zero_at (suc n) zero = refl
-zero_at (suc n) (suc k) = zero_at n k
-
 pub zeros_are : (numbers : List ℕ) (n : ℕ) → numbers ≡ replicate n 0 → AreZero numbers
-zeros_are numbers n is k = ap (λ l. slice_index l k) is ∙ zero_at n k
+zeros_are numbers n is k = ap (λ l. slice_index l k) is ∙ get_replicate n k 0

@@ -45,7 +45,7 @@ pub record HasRoom (came taken ended cut : List ℕ) (place : ℕ) : Type 0 wher
   pub cut_all : length cut ≡ 16384
   pub within : place + 1024 ≤ 16384
 
--- whether its number is below eight
+-- whether a node's number is below eight
 abbrev pub is_one_of_eight : Entry → Bool
 is_one_of_eight (Port port) = nat_lt port 8
 is_one_of_eight (Ring ring) = nat_lt ring 8
@@ -56,12 +56,12 @@ is_one_of_eight (Ring ring) = nat_lt ring 8
 abbrev pub less : ℕ → ℕ → ℕ
 less m n = (m + (2 ^ 64 - n)) % 2 ^ 64
 
--- where the instruction with the index k ran so often, how often control went on from it to the next one
+-- how often control went on from the instruction with the index k, which ran `ran` times, to the next one
 abbrev pub on_from : Tally → ℕ → ℕ → ℕ
 on_from t k ran = less (less (less ran (slice_index t.taken k)) (slice_index t.ended k)) (slice_index t.cut k)
 
--- How often the instruction at a label ran, of the node whose counts begin at `place`, modulo 2^64: as often as control came there, and went on to it from
--- the one before.
+-- How often the instruction at a label ran, modulo 2^64, of the node whose counts begin at `place`: the number of times that control came to it by a jump
+-- or a beginning, or went on to it from the one before.
 abbrev pub ran_at : Tally → ℕ → ℕ → ℕ
 ran_at t place zero = slice_index t.came place
 ran_at t place (suc label) = wrapped (on_from t (place + label) (ran_at t place label) + slice_index t.came (place + label + 1))
@@ -82,7 +82,7 @@ pub record NodeTally : Type 0 where
   pub tally : Tally
   pub node : Entry
 
--- a node whose counts begin at this place was read up to a label, whose instruction ran so often
+-- a node whose counts begin at this place was read up to a label, whose instruction ran `ran` times
 pub record IsReading (t : Tally) (node : Entry) (place label ran : ℕ) : Type 0 where
   pub own : IsOneOfEight node → place ≡ place_of node
   pub within : place + 1024 ≤ 16384
@@ -93,7 +93,7 @@ pub record IsReading (t : Tally) (node : Entry) (place label ran : ℕ) : Type 0
 abbrev pub one_more : ℕ → List ℕ → List ℕ
 one_more k numbers = slice_set numbers k (wrapped (slice_index numbers k + 1))
 
--- a step that only goes on changes nothing
+-- a step to the next instruction changes nothing
 abbrev pub with_way : Way → ℕ → Tally → Tally
 with_way On label t = t
 with_way (To to) label t = record t { came = one_more (t.place + to % 1024) t.came; taken = one_more (t.place + label) t.taken }
@@ -104,7 +104,7 @@ abbrev pub counted : Event → Tally → Tally
 counted (Began node s) t = record t { came = one_more (place_of node) t.came; place = place_of node }
 counted (Ran label way s) t = with_way way label t
 
--- its node's number is below 8; its label is below 1,024
+-- an event's node has a number below 8; its label is below 1,024
 abbrev pub IsWithin : Event → Type 0
 IsWithin (Began node s) = IsOneOfEight node
 IsWithin (Ran label way s) = label < 1024

@@ -1,4 +1,5 @@
 pub mod Counting
+pub mod Laws
 pub mod Listings
 pub mod Sources
 pub mod Sums

@@ -1,4 +1,4 @@
-//! The watcher that counts.
+//! A watcher that counts how often each instruction ran.
 ghost use Rattle.std.specs.Prelude.{◌≡◌, ◌+◌, ◌*◌, ◌<◌, ◌≤◌, ◌↔◌, length, slice_index, IfOk, IsTrue};
 ghost use Rattle.dp_lang.specs.declared.program.TheConstants.{MAX_INSTRS};
 ghost use Rattle.dp_engine.specs.Watching.{IsOneOfEight};
@@ -12,7 +12,7 @@ use dp_model::Entry;
 use std::alloc::{AllocError, Global};
 use std::marker::Model;
 
-/// The most ports and the most rings.
+/// The maximum number of ports, and of rings.
 const MAX_OF_A_KIND: usize = 8;
 
 /// A number for each label that a program of a node may have, for all nodes.
@@ -21,8 +21,8 @@ const ALL_LABELS: usize = 2 * MAX_OF_A_KIND * MAX_INSTRS;
 /// Counts node runs: for each instruction of each node how often it ran, how often its jump was taken, and how often a node run was
 /// cut there. The numbers have 64 bits and wrap at 2^64, which no run of captures reaches.
 ///
-/// A step that only goes on to the next instruction costs nothing: how often an instruction ran is a sum over the labels up to its own, which is
-/// made when it is read. A jump that is taken updates two numbers; the beginning of a node run, its end and a cut one each. Only [`Counts::new`]
+/// A step to the next instruction costs nothing: how often an instruction ran is a sum over the labels up to its own, computed when it is
+/// read. A taken jump updates two numbers; the beginning of a node run, its end and a cut update one each. Only [`Counts::new`]
 /// allocates.
 #[derive(Drop)]
 pub struct Counts {
@@ -62,7 +62,7 @@ pub(crate) fn place_of(node: Entry) -> usize
     }
 }
 
-// This number of zeros.
+// Makes a list of this many zeros.
 fn zeros(alloc: Global, count: usize) -> Result<Vec<u64>, AllocError>
     ensures zero { IfOk result (λ v. AreZero v.items) }
     ensures len { IfOk result (λ v. length v.items ≡ count) }
@@ -101,11 +101,11 @@ pub(crate) fn is_one_of_eight(node: Entry) -> bool
 }
 
 impl Counts {
-    /// All counts are zero.
+    /// Makes counts that are all zero.
     ///
     /// # Errors
     ///
-    /// If the memory for the counts is refused, 512 kB.
+    /// `AllocError` if the memory for the counts, 512 kB, is refused.
     pub fn new(alloc: Global) -> Result<Counts, AllocError>
         ensures { IfOk result HasNone }
     {
@@ -176,7 +176,7 @@ impl Counts {
         self.came[k]
     }
 
-    // The counts at the label with this index, where its instruction ran so often.
+    // The counts at the label with this index, given that its instruction ran `ran` times.
     pub(crate) fn step_at(&self, k: usize, ran: u64) -> StepCounts
         requires { k < 16 * MAX_INSTRS }
         ensures { result ≡ record { ran = ran; taken = slice_index self.now.taken k; cut = slice_index self.now.cut k } }
@@ -188,7 +188,7 @@ impl Counts {
         }
     }
 
-    // Where the instruction with this index ran so often, how often control went on from it to the next one.
+    // How often control went from the instruction with this index, which ran `ran` times, to the next one.
     fn on_from(&self, k: usize, ran: u64) -> u64
         requires { k < 16 * MAX_INSTRS }
         ensures { result ≡ on_from self.now k ran }
@@ -198,7 +198,7 @@ impl Counts {
             .wrapping_sub(self.cut[k])
     }
 
-    // How often the instruction at the label `to` ran, of the node whose counts begin at this place, where that at the label `from` ran so often.
+    // How often the instruction at the label `to` ran, given that the one at `from` ran `ran` times. The node's counts begin at `place`.
     pub(crate) fn ran_from(&self, place: usize, from: usize, to: usize, ran: u64) -> u64
         requires place { place + MAX_INSTRS ≤ 16 * MAX_INSTRS }
         requires order { from ≤ to }

@@ -1,7 +1,7 @@
 //! The laws of counts.
 ghost use Rattle.dp_counts.specs.Counting.{BeginsAtZero, CountsSteps, CountsTurns, TurnsAreRuns};
 
-/// A law, which does nothing: after events that are whole node runs, one after the other, each count is its old value plus one for each step that it
+/// A law, which does nothing: after events that are a sequence of whole node runs, each count is its old value plus one for each step that it
 /// counts, modulo 2^64.
 pub fn counts_are_of_steps()
     ensures { CountsSteps }
@@ -12,7 +12,7 @@ pub fn counts_begin_at_zero()
     ensures { BeginsAtZero }
 {}
 
-/// A law, which does nothing: the events that a watcher is shown of a turn are whole node runs, one after the other.
+/// A law, which does nothing: the events that a watcher is shown of a turn are a sequence of whole node runs.
 pub fn turns_are_runs()
     ensures { TurnsAreRuns }
 {}

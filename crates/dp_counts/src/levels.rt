@@ -6,9 +6,9 @@ use dp_model::Entry;
 /// How full rings were at the ends of node runs, and how many buffers were free at their beginnings and ends.
 #[derive(Clone, Copy, Debug, PartialEq, Eq)]
 pub struct Levels {
-    /// The greatest number of packets that waited in each ring; 0 where there is no such ring.
+    /// The greatest number of packets that waited in each ring; 0 if there is no such ring.
     pub waited: [u32; 8],
-    /// The least number of buffers of each pool that were free; `u32::MAX` where there is no such pool, and before a node run.
+    /// The least number of buffers of each pool that were free; `u32::MAX` if there is no such pool, and before a node run.
     pub free: [u32; 8],
 }
 
@@ -19,7 +19,7 @@ impl Levels {
         free: [u32::MAX; 8],
     };
 
-    // Looks how many buffers of each pool are free; apart for the others, since most pipelines have one pool.
+    // Reads how many buffers of each pool are free; the first pool is read apart from the others, since most pipelines have one pool.
     #[inline(always)]
     fn note_pools(&mut self, view: &View<'_>) {
         if let Some(free) = view.free(0) {
@@ -41,7 +41,7 @@ impl Levels {
         }
     }
 
-    // Looks how full each ring is.
+    // Reads how full each ring is.
     #[inline(always)]
     fn note_rings(&mut self, view: &View<'_>) {
         if let Some(waiting) = view.waiting(0) {
@@ -64,11 +64,11 @@ impl Levels {
     }
 }
 
-/// What no number of allocation calls is.
+/// A value that no number of allocation calls has.
 const NEVER: u64 = u64::MAX;
 
-/// Notes levels, and looks only where they can have changed: a pool has fewer free buffers only after an allocation call, and within a node run a
-/// ring gives up nothing, so it is fullest at the end.
+/// Tracks levels, and looks only when they can have changed: a pool has fewer free buffers only after an allocation call, and no packet leaves
+/// a ring within a node run, so it is fullest at the end.
 #[derive(Clone, Copy)]
 pub(crate) struct Gauge {
     levels: Levels,
@@ -88,14 +88,14 @@ impl Gauge {
         self.levels
     }
 
-    // Looks how many buffers are free.
+    // Reads how many buffers are free.
     #[inline(always)]
     fn note_pools(&mut self, view: &View<'_>) {
         self.calls = view.calls();
         self.levels.note_pools(view);
     }
 
-    // Looks how many buffers are free, if there was an allocation call since it last looked.
+    // Reads how many buffers are free, if there was an allocation call since the last time.
     #[inline(always)]
     fn note_pools_after_calls(&mut self, view: &View<'_>) {
         if view.calls() != self.calls {

@@ -1,8 +1,8 @@
 //! Counts node runs: for each instruction of each node, how often it ran, how often its jump was taken, and how often a node run was cut there.
 //!
-//! A caller makes `Counts` and gives them to `run_watched` of dp_pipe, or to an engine's `watched_turn`, as the watcher. A step that only goes
-//! on costs nothing: control comes to a label from the one before, unless an event says otherwise, so the beginnings of node runs, the jumps
-//! that are taken, the ends and the cuts are counted, and how often an instruction ran is their sum up to its label. An event takes no memory.
+//! A caller makes `Counts` and gives them to `run_watched` of dp_pipe, or to an engine's `watched_turn`, as the watcher. A step to the next
+//! instruction costs nothing: control comes to a label from the one before, unless an event says otherwise. So only the beginnings of node
+//! runs, taken jumps, ends and cuts are counted, and how often an instruction ran is their sum up to its label. An event takes no memory.
 //! After the run, `print_programs` prints the programs in the words of their source with their counts, and `print_tables` and `print_rings`
 //! the sums for each table and ring.
 #![tactic(auto)]

@@ -9,7 +9,7 @@ use dp_lang::MAX_INSTRS;
 use dp_model::Entry;
 use std::marker::Model;
 
-/// The counts of a node. To read them takes least in the order of labels: it adds up from the label that was read last.
+/// The counts of a node. Reading them in the order of labels is fastest: it adds up from the label that was read last.
 #[derive(Drop)]
 pub struct NodeCounts<'a> {
     counts: &'a Counts,
@@ -32,7 +32,7 @@ impl<'a> Model for NodeCounts<'a> {
     ghost invariant = { λ c. IsReading c.counts.now c.node c.place c.label c.ran };
 }
 
-// Where the counts of a node begin; of a node that there is not, those of the first.
+// Where the counts of a node begin; for a node that does not exist, where those of the first node begin.
 fn place_in(node: Entry) -> usize
     ensures value { IsOneOfEight node → result ≡ place_of node }
     ensures bound { result + MAX_INSTRS ≤ 16 * MAX_INSTRS }
@@ -44,7 +44,7 @@ fn place_in(node: Entry) -> usize
     }
 }
 
-// How often the instruction at a label ran, where that at the label `last` ran so often.
+// How often the instruction at a label ran, given that the one at the label `last` ran `ran` times.
 fn ran_after(counts: &Counts, place: usize, last: usize, ran: u64, label: usize) -> u64
     requires place { place + MAX_INSTRS ≤ 16 * MAX_INSTRS }
     requires label { label < MAX_INSTRS }

@@ -157,7 +157,7 @@ fn numbered<'a>(
 ///
 /// # Errors
 ///
-/// `AllocError` where a growth was refused.
+/// `AllocError` if an allocation was refused.
 pub fn lines_of<'a>(
     alloc: Global,
     text: &'a [u8],

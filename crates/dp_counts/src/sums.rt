@@ -18,7 +18,7 @@ pub enum Total {
     Full(u8),
 }
 
-// How often the jump of an instruction was not taken, and it did its work.
+// How often an instruction did its work: its jump was not taken.
 fn passed(counts: StepCounts) -> u64
     ensures { result ≡ spec.passed counts }
 {

@@ -111,7 +111,7 @@ fn first_pools(pools: &[PoolSpec]) -> &[PoolSpec]
     if pools.len() > 8 { &pools[..8] } else { pools }
 }
 
-// Prints how many buffers of a pool were free at least, and how many it has.
+// Prints the least number of free buffers of a pool, and how many it has.
 fn print_pool<O: Write>(pool: usize, free: u32, count: u32, out: &mut O) -> io::Result<()>
     ensures { OnOk result (Appends (O.contents out.old) (O.contents out.new) (spec.pool_line pool free count)) }
 {
@@ -130,7 +130,7 @@ fn print_few_pools<O: Write>(levels: &Levels, pools: &[PoolSpec], out: &mut O) -
     Ok(())
 }
 
-/// Prints for each pool, eight at most, how many of its buffers were free at least, and how many it has.
+/// Prints for each pool, eight at most, the least number of its buffers that were free, and how many it has.
 ///
 /// # Errors
 ///

@@ -19,13 +19,12 @@ use Rattle.dp_model.specs.Packets.{Segment, Packet, Lies, segment_bytes, packet_
 use Rattle.dp_model.specs.Machine.{Setting, World, live, segments_listed}
 use Rattle.dp_model.specs.Runs.{between}
 use Rattle.dp_model.specs.Safety.{IsPacket, IsAtRest}
-use Rattle.dp_model.specs.Laws.Lists.{all_left, all_right}
+use Rattle.dp_model.specs.Laws.Lists.{all_left, all_right, take_more}
 use Rattle.dp_model.specs.Laws.Within.{parts}
 use Rattle.dp_engine.specs.declared.batch.SentRecord.{SentRecord}
 use Rattle.dp_engine.specs.declared.batch.BatchSize.{BatchSize}
 use Rattle.dp_engine.specs.Batches.{Frame, frame_of, frames_from, frames_in, bytes_of_all, records_for, Holds, all_buffers, widest}
 use Rattle.dp_model.specs.Laws.Few.{live_few}
-use Rattle.dp_engine.proofs.Writing.{take_more}
 
 -- ---- what was written
 

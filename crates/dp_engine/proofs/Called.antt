@@ -6,14 +6,11 @@ use Rattle.dp_pcap.specs.declared.time.Time.{Time}
 use Rattle.dp_pcap.specs.declared.time.Unit.{Unit as TimeUnit}
 use Rattle.dp_pcap.specs.Capture.{PacketRecord}
 use Rattle.dp_pcap.specs.Text.{head_text}
+use Rattle.dp_pcap.specs.Laws.Chaining.{length_head}
 use Rattle.dp_model.specs.Packets.{Packet}
 use Rattle.dp_model.specs.Machine.{World}
 use Rattle.dp_engine.specs.Drains.{record_of, Written, IsCalledFor}
 use Rattle.dp_engine.proofs.Writing.{piece_more, taken_records, written_of}
-
-pub length_head : (unit : TimeUnit) (time : Time) (len : ℕ) → length (head_text unit time len) ≡ 16
-unfolding head_text
-length_head unit time len = refl
 
 -- the 16 bytes before the record's alone
 pub called_head : (a d : ℕ) (unit : TimeUnit) (time : Time) (len : ℕ) (rest : List ℕ) → d ≤ a + 16 → d ≤ a + length (head_text unit time len ++ rest)

@@ -3,20 +3,20 @@ use Rattle.std.proofs.Common.{◌≡◌, ℕ, zero, suc, ◌≤◌, List, [], �
 use Rattle.std.proofs.Common.{subst, arith}
 use Rattle.std.specs.Prelude.{slice_get, slice_set, MatchOption}
 use Rattle.std.proofs.lemmas.Option.{same_Some}
+use Rattle.std.proofs.lemmas.List.{map-set}
 use Rattle.dp_model.specs.Buffers.{Buffers}
 use Rattle.dp_model.specs.Packets.{Packet}
 use Rattle.dp_model.specs.Machine.{State}
 use Rattle.dp_model.specs.Runs.{Waiting, first_state, first_waiting}
 use Rattle.dp_model.specs.Stores.{Store}
-use Rattle.dp_model.specs.Laws.Lists.{get_set_same}
+use Rattle.dp_model.specs.Laws.Lists.{get_set_same, set_itself}
 use Rattle.dp_ring.specs.Rings.{RingView}
 use Rattle.dp_engine.specs.declared.place.Place.{Place}
 use Rattle.dp_engine.specs.declared.place.Place.TheVariants.{Port, Ring}
 use Rattle.dp_engine.specs.Drains.{AtPacket}
 use Rattle.dp_engine.specs.Places.{packets_at, with_packets, IsPlace}
 use Rattle.dp_engine.specs.Queues.{ring_at}
-use Rattle.dp_engine.specs.Handles.{packet_at, entries_of, Lists, Frames, StandOnce, Core, Ran, core_of, ran, moved}
-use Rattle.dp_engine.proofs.Handles.{set_itself, map_set}
+use Rattle.dp_engine.specs.Handles.{packet_at, entries_of, Lists, Frames, OccurOnce, Core, RunCounts, core_of, run_counts, moved}
 use Rattle.dp_engine.proofs.Draining.{waits_less}
 use Rattle.dp_engine.proofs.Receive.{Idle}
 use Rattle.dp_engine.proofs.Waits.{in_rings, IsFirst}
@@ -25,7 +25,7 @@ use Rattle.dp_engine.proofs.Waits.{in_rings, IsFirst}
 
 -- it is in a register then
 pub stand_first : (slots : List (Option Packet)) (registers : List (Option ℕ)) (lists : Lists) (i h : ℕ) (xs : List ℕ) → Idle slots registers lists
-    → slice_get lists.rings i ≡ Some (h ∷ xs) → StandOnce slots (Some h ∷ replicate 7 None) (record lists { rings = slice_set lists.rings i xs })
+    → slice_get lists.rings i ≡ Some (h ∷ xs) → OccurOnce slots (Some h ∷ replicate 7 None) (record lists { rings = slice_set lists.rings i xs })
 stand_first slots registers lists i h xs idle there x = omega (arith, idle.each x, waits_less (Ring i) lists h x xs there)
 
 -- what a machine does with the first that waits, if one does
@@ -48,17 +48,17 @@ starts_some core new found w is first state =
     subst (λ (o : Option (Waiting Packet)). StartsWith o (Some found.ring) core new) (sym (ap first_waiting (sym is) ∙ first)) (refl, state)
 
 pub starts_first : (s : Store) (frames : Frames) (registers : List (Option ℕ)) (numbers : List ℕ) (rings : List RingView) (outboxes : List (List ℕ))
-    (calls : ℕ) (steps : Ran) (core : Core) (i h : ℕ) (xs : List ℕ) → core_of s frames registers numbers
+    (calls : ℕ) (steps : RunCounts) (core : Core) (i h : ℕ) (xs : List ℕ) → core_of s frames registers numbers
     (record { rings = map entries_of rings; outboxes = outboxes }) calls steps ≡ core → IsFirst s.slots rings i → (ring_at rings i).entries ≡ h ∷ xs
     → Starts (Some i) core
     (core_of s frames (Some h ∷ replicate 7 None) (i ∷ replicate 7 0) (record { rings = slice_set (map entries_of rings) i xs; outboxes = outboxes }) calls
-    (ran steps.steps steps.cuts 0))
+    (run_counts steps.steps steps.cuts 0))
 starts_first s frames registers numbers rings outboxes calls steps core i h xs is first at =
     let new : Core =
     core_of s frames (Some h ∷ replicate 7 None) (i ∷ replicate 7 0) (record { rings = slice_set (map entries_of rings) i xs; outboxes = outboxes })
-    calls (ran steps.steps steps.cuts 0) in
+    calls (run_counts steps.steps steps.cuts 0) in
     let found : Waiting Packet = record { ring = i; packet = packet_at s.slots h; rings = slice_set (in_rings s.slots rings) i (map (packet_at s.slots) xs) } in
-    let e = map_set (map (packet_at s.slots)) (map entries_of rings) i xs in
+    let e = map-set (map (packet_at s.slots)) (map entries_of rings) i xs in
     let P : Core → Type 0 = λ c. new ≡ moved (first_state found.packet found.ring (record c.state.world { rings = found.rings })) c in
     starts_some core new found (in_rings s.slots rings) (ap (λ (c : Core). c.state.world.rings) is) (first.is h xs at) (subst P is (rw e refl))
 

@@ -1,11 +1,12 @@
 -- An engine of which nothing is left.
-use Rattle.std.proofs.Common.{◌≡◌, ℕ, zero, suc, ◌+◌, List, [], ◌∷◌, map, refl, ◌∙◌, ap, subst, arith}
+use Rattle.std.proofs.Common.{◌≡◌, ℕ, suc, ◌+◌, List, [], ◌∷◌, map, refl, ◌∙◌, ap, subst, arith}
 use Rattle.std.specs.List.{AllByRecursion}
 use Rattle.dp_model.specs.declared.env.PoolSpec.{PoolSpec}
 use Rattle.dp_model.specs.Environments.{Environment, count_at}
-use Rattle.dp_model.specs.Packets.{Packet, available, free_below}
+use Rattle.dp_model.specs.Packets.{Packet, available}
 use Rattle.dp_model.specs.Machine.{live}
 use Rattle.dp_model.specs.Runs.{between}
+use Rattle.dp_model.specs.Laws.Available.{available_all}
 use Rattle.dp_engine.specs.declared.report.Report.{Report}
 use Rattle.dp_engine.specs.Engines.{EngineState, flushed, IsFlushed}
 use Rattle.dp_engine.specs.Reports.{pool_reports, IsReport, IsWhole}
@@ -18,10 +19,6 @@ pub flushed_empty : (e : EngineState) → IsFlushed (flushed e)
 flushed_empty e = record { rings = all_empty e.world.rings; outboxes = all_empty e.world.outboxes }
 
 -- ---- without packets every buffer is free
-
-all_free : (pool n : ℕ) → free_below [] pool n ≡ n
-all_free pool zero = refl
-all_free pool (suc n) = let more = all_free pool n in omega (arith, more)
 
 full_from : (free : ℕ → ℕ) (k : ℕ) (pools : List PoolSpec) → ((i : ℕ) → free (k + i) ≡ count_at pools i)
     → pool_reports free k pools ≡ map (λ (p : PoolSpec). record { free = p.count; count = p.count }) pools
@@ -37,4 +34,4 @@ whole_report env e r same none is =
     let pools = e.setting.env.pools in
     subst (λ (x : Environment). IsWhole x r) same
     (is.pools ∙ (ap (λ l. pool_reports (available pools l) 0 pools) none ∙ full_from (available pools []) 0 pools
-    (λ i. ap (available pools []) (let e : 0 + i ≡ i = omega arith in e) ∙ all_free i (count_at pools i))))
+    (λ i. ap (available pools []) (let e : 0 + i ≡ i = omega arith in e) ∙ available_all pools i)))

@@ -13,7 +13,7 @@ use Rattle.dp_model.specs.Machine.{segments_held, segments_listed}
 use Rattle.dp_model.specs.Laws.Lists.{get_set_other, get_set_same}
 use Rattle.dp_model.specs.Laws.Cases.{one_if}
 use Rattle.dp_model.specs.Laws.References.{refs-cons}
-use Rattle.dp_engine.specs.Handles.{held_of, packet_at, register_at, handles_held, once, occurs, in_slot, joined, waiting, packets_in, Lists, StandOnce}
+use Rattle.dp_engine.specs.Handles.{held_of, packet_at, register_at, handles_held, once, occurs, in_slot, joined, waiting, packets_in, Lists, OccurOnce}
 use Rattle.dp_engine.proofs.Handles.{is_one, in_slot_some, in_slot_few, occurs-append}
 
 -- how many of the segments are such
@@ -194,7 +194,7 @@ held_at slots (None ∷ registers) = held_at slots registers
 held_at slots (Some h ∷ registers) = ap (λ l. packet_at slots h ++ l) (held_at slots registers)
 
 -- the packets of registers and lists are all that there are
-pub live_counts : (slots : List (Option Packet)) (registers : List (Option ℕ)) (lists : Lists) → StandOnce slots registers lists →
+pub live_counts : (slots : List (Option Packet)) (registers : List (Option ℕ)) (lists : Lists) → OccurOnce slots registers lists →
     CountSame (segments_held (map (register_at slots) registers) ++ (segments_listed (packets_in slots lists.rings)
     ++ segments_listed (packets_in slots lists.outboxes))) (segments_held slots)
 live_counts slots registers lists stand f =

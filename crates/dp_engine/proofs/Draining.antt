@@ -7,15 +7,15 @@ use Rattle.dp_model.specs.Laws.Lists.{get_set_other, get_set_same}
 use Rattle.dp_model.specs.Stores.{Store, with_slot}
 use Rattle.dp_engine.specs.declared.place.Place.{Place}
 use Rattle.dp_engine.specs.declared.place.Place.TheVariants.{Port, Ring}
-use Rattle.dp_engine.specs.Handles.{packet_at, handles_held, once, occurs, in_slot, waiting, Lists, Frames, StandOnce, Core, core_of, moved, Ran}
+use Rattle.dp_engine.specs.Handles.{packet_at, handles_held, once, occurs, in_slot, waiting, Lists, Frames, OccurOnce, Core, core_of, moved, RunCounts}
 use Rattle.dp_engine.specs.Places.{packets_at, with_packets, handles_at, with_handles}
 use Rattle.dp_engine.proofs.Handles.{is_one, in_slot_some, not_held, not_in, occurs_less, waits}
 use Rattle.dp_engine.proofs.Machines.{packets_of, core_with}
 
 -- a handle leaves the lists, and its slot is empty
 pub stand_less : (slots : List (Option Packet)) (registers : List (Option ℕ)) (lists lists' : Lists) (h : ℕ) (k : Packet) →
-    ((x : ℕ) → occurs x (waiting lists') + once (h == x) ≡ occurs x (waiting lists)) → slice_get slots h ≡ Some (Some k) → StandOnce slots registers lists →
-    StandOnce (slice_set slots h None) registers lists'
+    ((x : ℕ) → occurs x (waiting lists') + once (h == x) ≡ occurs x (waiting lists)) → slice_get slots h ≡ Some (Some k) → OccurOnce slots registers lists →
+    OccurOnce (slice_set slots h None) registers lists'
 stand_less slots registers lists lists' h k less there stand x = go (x == h) refl
   where
     go : (b : Bool) → (x == h) ≡ b → occurs x (handles_held registers) + occurs x (waiting lists') ≡ in_slot (slice_get (slice_set slots h None) x)
@@ -51,12 +51,12 @@ waits_less (Ring i) lists h x xs there =
 
 -- and it named a packet
 pub first_held : (place : Place) (slots : List (Option Packet)) (registers : List (Option ℕ)) (lists : Lists) (h : ℕ) (xs : List ℕ)
-    → handles_at place lists ≡ Some (h ∷ xs) → StandOnce slots registers lists → (k : Packet) × (slice_get slots h ≡ Some (Some k))
+    → handles_at place lists ≡ Some (h ∷ xs) → OccurOnce slots registers lists → (k : Packet) × (slice_get slots h ≡ Some (Some k))
 first_held place slots registers lists h xs there stand =
     in_slot_some (slice_get slots h) (omega (arith, stand h, waits_less place lists h h xs there, is_one h h refl))
 
 -- the slot of a handle that is nowhere does not matter
-unmoved : (s : Store) (frames : Frames) (registers : List (Option ℕ)) (numbers : List ℕ) (lists : Lists) (calls : ℕ) (steps : Ran) (h : ℕ)
+unmoved : (s : Store) (frames : Frames) (registers : List (Option ℕ)) (numbers : List ℕ) (lists : Lists) (calls : ℕ) (steps : RunCounts) (h : ℕ)
     → occurs h (handles_held registers) ≡ 0 → occurs h (waiting lists) ≡ 0
     → core_of (with_slot h None s) frames registers numbers lists calls steps ≡ core_of s frames registers numbers lists calls steps
 unmoved s frames registers numbers lists calls steps h held none =
@@ -65,9 +65,9 @@ unmoved s frames registers numbers lists calls steps h held none =
     let g = not_in s.slots h None lists.outboxes (omega (arith, none, waits h lists)) in
     rw (e, f, g) refl
 
-pub first_drops : (place : Place) (s : Store) (frames : Frames) (registers : List (Option ℕ)) (numbers : List ℕ) (lists : Lists) (calls : ℕ) (steps : Ran)
+pub first_drops : (place : Place) (s : Store) (frames : Frames) (registers : List (Option ℕ)) (numbers : List ℕ) (lists : Lists) (calls : ℕ) (steps : RunCounts)
     (core : Core) (h : ℕ) (xs : List ℕ) (packets : List Packet) (k k' : Packet) → core_of s frames registers numbers lists calls steps ≡ core
-    → handles_at place lists ≡ Some (h ∷ xs) → slice_get s.slots h ≡ Some (Some k') → StandOnce s.slots registers lists
+    → handles_at place lists ≡ Some (h ∷ xs) → slice_get s.slots h ≡ Some (Some k') → OccurOnce s.slots registers lists
     → packets_at place core.state.world ≡ Some (k ∷ packets)
     → core_of (with_slot h None s) frames registers numbers (with_handles place xs lists) calls steps ≡ moved (with_packets place packets core.state) core
 first_drops place s frames registers numbers lists calls steps core h xs packets k k' is there has stand box =

@@ -1,23 +1,25 @@
 -- Engines whose rings and transmit lists are emptied.
 use Rattle.std.proofs.Common.{◌≡◌, ℕ, zero, suc, ◌+◌, ◌*◌, ◌<◌, ◌≤◌, List, [], ◌∷◌, length, map, Some, refl, sym, ◌∙◌, ap, subst, arith, add-zero}
 use Rattle.std.specs.Prelude.{slice_get, slice_set, slice_index_or}
-use Rattle.std.specs.List.{AllZip}
 use Rattle.std.proofs.lemmas.Option.{same_Some}
+use Rattle.std.proofs.lemmas.Slice.Zip.{AllZip-long}
+use Rattle.std.proofs.lemmas.List.{length-set}
 use Rattle.dp_model.specs.Packets.{Packet}
 use Rattle.dp_model.specs.Machine.{live, segments_listed, with_ring, with_outbox}
 use Rattle.dp_model.specs.Runs.{between, with_empty_outboxes, with_empty_rings, left_in_rings}
 use Rattle.dp_model.specs.Laws.Waiting.{nothing_listed}
+use Rattle.dp_model.specs.Laws.Lists.{get_within}
 use Rattle.dp_engine.specs.declared.report.Tallies.{Tallies}
 use Rattle.dp_engine.specs.Handles.{Core, moved}
 use Rattle.dp_engine.specs.Schemes.{Scheme}
-use Rattle.dp_engine.specs.Spaces.{SpaceView}
+use Rattle.dp_engine.specs.Memories.{EngineMemoryView}
 use Rattle.dp_engine.specs.Tallies.{listed_count}
-use Rattle.dp_engine.specs.Engines.{EngineState, engine_of, IsEngine, over_ports, sent_by, records_of, sum, tallies_at, sent_at, drained, left_at, with_left}
+use Rattle.dp_engine.specs.Engines.{EngineState, engine_of, IsEngine, sent_by, records_of, sum, tallies_at, sent_at, drained, left_at, with_left}
 use Rattle.dp_engine.specs.Engines.{flushed}
 use Rattle.dp_engine.specs.Batches.{with_sent, all_drained}
-use Rattle.dp_engine.proofs.Writing.{at_slot}
-use Rattle.dp_engine.proofs.Resting.{length_set, left_rests, sent_rests}
+use Rattle.dp_engine.proofs.Resting.{left_rests, sent_rests}
 use Rattle.dp_engine.specs.Laws.{known}
+use Rattle.dp_engine.proofs.Turning.{one_changed, one_of_all}
 
 -- ---- sums
 
@@ -39,32 +41,15 @@ sum_at [] i = omega arith
 sum_at (x ∷ counts) zero = omega arith
 sum_at (x ∷ counts) (suc i) = let more = sum_at counts i in omega (arith, more)
 
-over_set : (f : Tallies → ℕ) (tallies : List Tallies) (i : ℕ) (t : Tallies) → i < length tallies
-    → over_ports f (slice_set tallies i t) + f (tallies_at tallies i) ≡ over_ports f tallies + f t
-over_set f [] i t lt = absurd (omega (arith, lt))
-over_set f (x ∷ tallies) zero t lt = omega arith
-over_set f (x ∷ tallies) (suc i) t lt = let more = over_set f tallies i t (omega (arith, lt)) in omega (arith, more)
-
-pub over_at : (f : Tallies → ℕ) (tallies : List Tallies) (i : ℕ) → i < length tallies → f (tallies_at tallies i) ≤ over_ports f tallies
-over_at f [] i lt = absurd (omega (arith, lt))
-over_at f (x ∷ tallies) zero lt = omega arith
-over_at f (x ∷ tallies) (suc i) lt = let more = over_at f tallies i (omega (arith, lt)) in omega (arith, more)
-
 -- ---- slots
-
-length_zip : {A B : Type 0} (R : A → B → Type 0) (xs : List A) (ys : List B) → AllZip R xs ys → length ys ≡ length xs
-length_zip R [] [] all = refl
-length_zip R [] (y ∷ ys) all = absurd all
-length_zip R (x ∷ xs) [] all = absurd all
-length_zip R (x ∷ xs) (y ∷ ys) all = ap suc (length_zip R xs ys all.1)
 
 -- it has the environment's rings and ports
 pub record HasAll (e : EngineState) : Type 0 where
   pub rings : length e.world.rings ≡ length e.setting.env.rings
   pub ports : length e.world.outboxes ≡ length e.setting.env.ports
 
-module _ (s : Scheme) (core : Core) (space : SpaceView) (turns : ℕ) (tallies : List Tallies) (left : List ℕ)
-    (is : IsEngine s core space turns tallies left) where
+module _ (s : Scheme) (core : Core) (memory : EngineMemoryView) (turns : ℕ) (tallies : List Tallies) (left : List ℕ)
+    (is : IsEngine s core memory turns tallies left) where
   -- each ring and each port of the environment has a slot in the engine
   pub ring_within : (i : ℕ) → i < length s.setting.env.rings → i < 8
   ring_within i lt = omega (arith, lt, (known s.setting.env is.within).rings)
@@ -72,19 +57,19 @@ module _ (s : Scheme) (core : Core) (space : SpaceView) (turns : ℕ) (tallies :
   pub port_within : (i : ℕ) → i < length s.setting.env.ports → i < 8
   port_within i lt = omega (arith, lt, (known s.setting.env is.within).ports.1)
 
-  pub has_all : (e : EngineState) → engine_of s core space turns tallies left ≡ e → HasAll e
+  pub has_all : (e : EngineState) → engine_of s core memory turns tallies left ≡ e → HasAll e
   has_all e same = subst HasAll same (record {
-    rings = length_zip _ s.setting.env.rings core.state.world.rings is.rests.rest.ready.world.rings;
+    rings = AllZip-long _ s.setting.env.rings core.state.world.rings is.rests.rest.ready.world.rings;
     ports = is.rests.rest.ready.world.outboxes;
   })
 
   -- each port has its list of packets
   pub box_at : (i : ℕ) → i < length s.setting.env.ports → (packets : List Packet) × (slice_get core.state.world.outboxes i ≡ Some packets)
-  box_at i lt = at_slot core.state.world.outboxes i (omega (arith, lt, is.rests.rest.ready.world.outboxes))
+  box_at i lt = get_within core.state.world.outboxes i (omega (arith, lt, is.rests.rest.ready.world.outboxes))
 
   -- a transmit list is emptied, and some of its packets are counted as written
   pub sent_kept : (port sent : ℕ) (packets : List Packet) → port < 8 → slice_get core.state.world.outboxes port ≡ Some packets → sent ≤ length packets
-      → IsEngine s (moved (with_outbox port [] core.state) core) space turns (sent_at port sent tallies) left
+      → IsEngine s (moved (with_outbox port [] core.state) core) memory turns (sent_at port sent tallies) left
   sent_kept port sent packets lt box le =
       let t : Tallies = record (tallies_at tallies port) { sent = (tallies_at tallies port).sent + sent } in
       record {
@@ -92,9 +77,9 @@ module _ (s : Scheme) (core : Core) (space : SpaceView) (turns : ℕ) (tallies :
         rests = sent_rests s core port is.rests;
         stand = is.stand;
         limit = is.limit;
-        ports = length_set tallies port t ∙ is.ports;
+        ports = length-set tallies port t ∙ is.ports;
         rings = is.rings;
-        records = omega (arith, is.records, is.ports, lt, over_set records_of tallies port t (omega (arith, is.ports, lt)));
+        records = omega (arith, is.records, is.ports, lt, one_changed records_of tallies port t (omega (arith, is.ports, lt)));
         calls = is.calls;
         cuts = is.cuts;
         packets = omega (
@@ -102,7 +87,7 @@ module _ (s : Scheme) (core : Core) (space : SpaceView) (turns : ℕ) (tallies :
           is.packets,
           le,
           listed_less core.state.world.outboxes port packets box,
-          over_set sent_by tallies port t (omega (arith, is.ports, lt)),
+          one_changed sent_by tallies port t (omega (arith, is.ports, lt)),
         );
       }
 
@@ -117,12 +102,12 @@ module _ (s : Scheme) (core : Core) (space : SpaceView) (turns : ℕ) (tallies :
         is.limit,
         le,
         listed_less core.state.world.outboxes port packets box,
-        over_at sent_by tallies port (omega (arith, is.ports, lt)),
+        one_of_all sent_by tallies port (omega (arith, is.ports, lt)),
       )
 
   -- a ring is emptied, and what was in it is counted
   pub left_kept : (ring : ℕ) (packets : List Packet) → ring < 8 → slice_get core.state.world.rings ring ≡ Some packets
-      → IsEngine s (moved (with_ring ring [] core.state) core) space turns tallies (slice_set left ring (slice_index_or left ring 0 + length packets))
+      → IsEngine s (moved (with_ring ring [] core.state) core) memory turns tallies (slice_set left ring (slice_index_or left ring 0 + length packets))
   left_kept ring packets lt there =
       let n = slice_index_or left ring 0 + length packets in
       record {
@@ -131,7 +116,7 @@ module _ (s : Scheme) (core : Core) (space : SpaceView) (turns : ℕ) (tallies :
         stand = is.stand;
         limit = is.limit;
         ports = is.ports;
-        rings = length_set left ring n ∙ is.rings;
+        rings = length-set left ring n ∙ is.rings;
         records = is.records;
         calls = is.calls;
         cuts = is.cuts;
@@ -151,14 +136,14 @@ counted_there [] i packets e = cc
 counted_there (r ∷ rings) zero packets e = ap length (same_Some r packets e)
 counted_there (r ∷ rings) (suc i) packets e = counted_there rings i packets e
 
-pub leaves : (s : Scheme) (core core' : Core) (space : SpaceView) (turns : ℕ) (tallies : List Tallies) (left : List ℕ) (e : EngineState) (ring n : ℕ)
-    (packets : List Packet) → engine_of s core space turns tallies left ≡ e → core' ≡ moved (with_ring ring [] core.state) core
+pub leaves : (s : Scheme) (core core' : Core) (memory : EngineMemoryView) (turns : ℕ) (tallies : List Tallies) (left : List ℕ) (e : EngineState) (ring n : ℕ)
+    (packets : List Packet) → engine_of s core memory turns tallies left ≡ e → core' ≡ moved (with_ring ring [] core.state) core
     → slice_get core.state.world.rings ring ≡ Some packets → n ≡ length packets
-    → engine_of s core' space turns tallies (slice_set left ring (slice_index_or left ring 0 + n)) ≡ left_at ring e
-leaves s core core' space turns tallies left e ring n packets is becomes there count =
+    → engine_of s core' memory turns tallies (slice_set left ring (slice_index_or left ring 0 + n)) ≡ left_at ring e
+leaves s core core' memory turns tallies left e ring n packets is becomes there count =
     let same : n ≡ slice_index_or (left_in_rings core.state.world) ring 0 = count ∙ sym (counted_there core.state.world.rings ring packets there) in
-    ap (λ m. engine_of s m space turns tallies (slice_set left ring (slice_index_or left ring 0 + n))) becomes
-    ∙ ap (λ m. engine_of s (moved (with_ring ring [] core.state) core) space turns tallies (slice_set left ring (slice_index_or left ring 0 + m))) same
+    ap (λ m. engine_of s m memory turns tallies (slice_set left ring (slice_index_or left ring 0 + n))) becomes
+    ∙ ap (λ m. engine_of s (moved (with_ring ring [] core.state) core) memory turns tallies (slice_set left ring (slice_index_or left ring 0 + m))) same
     ∙ ap (left_at ring) is
 
 -- no more records that a port wrote
@@ -167,21 +152,21 @@ sent_none [] port = refl
 sent_none (t ∷ tallies) zero = ap (λ n. record t { sent = n } ∷ tallies) (add-zero t.sent)
 sent_none (t ∷ tallies) (suc port) = ap (λ l. t ∷ l) (sent_none tallies port)
 
-pub drops : (s : Scheme) (core core' : Core) (space : SpaceView) (turns : ℕ) (tallies : List Tallies) (left : List ℕ) (e : EngineState) (port : ℕ)
-    → engine_of s core space turns tallies left ≡ e → core' ≡ moved (with_outbox port [] core.state) core
-    → engine_of s core' space turns tallies left ≡ drained port 0 e
-drops s core core' space turns tallies left e port is becomes =
-    ap (λ m. engine_of s m space turns tallies left) becomes
-    ∙ ap (λ l. engine_of s (moved (with_outbox port [] core.state) core) space turns l left) (sym (sent_none tallies port))
+pub drops : (s : Scheme) (core core' : Core) (memory : EngineMemoryView) (turns : ℕ) (tallies : List Tallies) (left : List ℕ) (e : EngineState) (port : ℕ)
+    → engine_of s core memory turns tallies left ≡ e → core' ≡ moved (with_outbox port [] core.state) core
+    → engine_of s core' memory turns tallies left ≡ drained port 0 e
+drops s core core' memory turns tallies left e port is becomes =
+    ap (λ m. engine_of s m memory turns tallies left) becomes
+    ∙ ap (λ l. engine_of s (moved (with_outbox port [] core.state) core) memory turns l left) (sym (sent_none tallies port))
     ∙ ap (drained port 0) is
 
-pub dropped_kept : (s : Scheme) (core : Core) (space : SpaceView) (turns : ℕ) (tallies : List Tallies) (left : List ℕ) (port : ℕ)
-    → IsEngine s core space turns tallies left → port < length s.setting.env.ports
-    → IsEngine s (moved (with_outbox port [] core.state) core) space turns tallies left
-dropped_kept s core space turns tallies left port is lt =
-    let (packets, box) = box_at s core space turns tallies left is port lt in
-    subst (λ l. IsEngine s (moved (with_outbox port [] core.state) core) space turns l left) (sent_none tallies port)
-    (sent_kept s core space turns tallies left is port 0 packets (port_within s core space turns tallies left is port lt) box (omega arith))
+pub dropped_kept : (s : Scheme) (core : Core) (memory : EngineMemoryView) (turns : ℕ) (tallies : List Tallies) (left : List ℕ) (port : ℕ)
+    → IsEngine s core memory turns tallies left → port < length s.setting.env.ports
+    → IsEngine s (moved (with_outbox port [] core.state) core) memory turns tallies left
+dropped_kept s core memory turns tallies left port is lt =
+    let (packets, box) = box_at s core memory turns tallies left is port lt in
+    subst (λ l. IsEngine s (moved (with_outbox port [] core.state) core) memory turns l left) (sent_none tallies port)
+    (sent_kept s core memory turns tallies left is port 0 packets (port_within s core memory turns tallies left is port lt) box (omega arith))
 
 -- ---- the first slots, and all
 

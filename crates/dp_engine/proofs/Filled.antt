@@ -8,7 +8,7 @@ use Rattle.dp_ring.specs.Rings.{RingView}
 use Rattle.dp_pool.specs.Pools.{PoolView}
 use Rattle.dp_model.specs.declared.env.PoolSpec.{PoolSpec}
 use Rattle.dp_engine.specs.Needs.{total}
-use Rattle.dp_engine.specs.Spaces.{AreFilled, IsNewRing, IsNewPool, filled, RingsIn, PoolsIn}
+use Rattle.dp_engine.specs.Memories.{AreFilled, IsNewRing, IsNewPool, filled, RingsIn, PoolsIn}
 
 -- one slot more
 pub fills_next : {X V : Type 0} → (P : X → V → Type 0) (xs : List X) (slots : List (Option V)) (i : ℕ) (d : X) (v : V) → i < length xs → i < length slots

@@ -23,8 +23,8 @@ true_false : true ≡ false → ⊥
 true_false e = cc
 
 -- where none of the first ones waits, the first that does comes later
-pub behind : (rings : List RingView) (k : ℕ) → k ≤ length rings → ((j : ℕ) → j < k → is_waiting (ring_at rings j) ≡ false) → k ≤ first_slot rings
-behind rings k there idle = cases (ltb (first_slot rings) k) refl
+pub beyond : (rings : List RingView) (k : ℕ) → k ≤ length rings → ((j : ℕ) → j < k → is_waiting (ring_at rings j) ≡ false) → k ≤ first_slot rings
+beyond rings k there idle = cases (ltb (first_slot rings) k) refl
   where
     cases : (b : Bool) → ltb (first_slot rings) k ≡ b → k ≤ first_slot rings
     cases false not' = ltb-false _ _ not'
@@ -35,7 +35,7 @@ behind rings k there idle = cases (ltb (first_slot rings) k) refl
 
 -- one that does not wait is skipped
 pub stepped : (rings : List RingView) (k : ℕ) → k ≤ first_slot rings → k < length rings → is_waiting (ring_at rings k) ≡ false → suc k ≤ first_slot rings
-stepped rings k from there idle = behind rings (suc k) (omega arith) below
+stepped rings k from there idle = beyond rings (suc k) (omega arith) below
   where
     below : (j : ℕ) → j < suc k → is_waiting (ring_at rings j) ≡ false
     below j lt = go (ltb j k) refl
@@ -91,7 +91,7 @@ stays rings k r lt there =
 -- it does not come before a changed one, if it did not
 pub not_before : (rings : List RingView) (k : ℕ) (r : RingView) → k ≤ first_slot rings → k < length rings → k ≤ first_slot (set rings k r)
 not_before rings k r from there =
-    behind (set rings k r) k (omega (arith, length-set rings k r, there)) (λ j l. below rings k j r l (omega (arith, l, from)))
+    beyond (set rings k r) k (omega (arith, length-set rings k r, there)) (λ j l. below rings k j r l (omega (arith, l, from)))
 
 -- a changed one that waits is the first, where it comes before the first
 pub comes_first : (rings : List RingView) (k : ℕ) (r : RingView) → k < first_slot rings → k < length rings → is_waiting r ≡ true →

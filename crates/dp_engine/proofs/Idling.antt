@@ -6,7 +6,8 @@ use Rattle.dp_ring.specs.Rings.{RingView}
 use Rattle.dp_model.specs.Packets.{Packet}
 use Rattle.dp_model.specs.Stores.{Store}
 use Rattle.dp_mbuf.specs.Mbufs.{HasNone}
-use Rattle.dp_engine.specs.Handles.{packet_at, handles_held, occurs, in_slot, joined, waiting, packets_in, Frames, entries_of, lists_of, StandOnce, Core, Ran}
+use Rattle.dp_engine.specs.Handles.{packet_at, handles_held, occurs, in_slot, joined, waiting, packets_in, Frames, entries_of, lists_of, OccurOnce, Core}
+use Rattle.dp_engine.specs.Handles.{RunCounts}
 use Rattle.dp_engine.specs.Handles.{core_of}
 use Rattle.dp_engine.proofs.Counts.{idle_handles}
 
@@ -20,7 +21,7 @@ none_wait (r ∷ rings) empty = ap (λ es. es ++ joined (map entries_of rings)) 
 -- registers, rings and transmit lists without handles, and slots without packets
 pub stand_over : (slots : List (Option Packet)) (registers : List (Option ℕ)) (rings outboxes : List RingView) → registers ≡ replicate 8 None
     → AreEmpty rings → AreEmpty outboxes → ((h : ℕ) → in_slot (slice_get slots h) ≡ 0)
-    → StandOnce slots registers (lists_of rings outboxes)
+    → OccurOnce slots registers (lists_of rings outboxes)
 stand_over slots registers rings outboxes is empty unsent none h =
     let held : occurs h (handles_held registers) ≡ 0 = ap (λ rs. occurs h (handles_held rs)) is in
     let waits : occurs h (waiting (lists_of rings outboxes)) ≡ 0 =
@@ -44,9 +45,9 @@ none_at (None ∷ slots) zero e = refl
 none_at (Some k ∷ slots) zero e = absurd (omega (arith, e))
 none_at (o ∷ slots) (suc h) e = none_at slots h e
 
-pub has_none : (s : Store) (frames : Frames) (registers : List (Option ℕ)) (numbers : List ℕ) (rings outboxes : List RingView) (calls : ℕ) (steps : Ran)
+pub has_none : (s : Store) (frames : Frames) (registers : List (Option ℕ)) (numbers : List ℕ) (rings outboxes : List RingView) (calls : ℕ) (steps : RunCounts)
     (core : Core)
-    → core_of s frames registers numbers (lists_of rings outboxes) calls steps ≡ core → StandOnce s.slots registers (lists_of rings outboxes) →
+    → core_of s frames registers numbers (lists_of rings outboxes) calls steps ≡ core → OccurOnce s.slots registers (lists_of rings outboxes) →
     AllByRecursion (λ o. o ≡ None) core.state.packets
     → AllByRecursion (λ (packets : List Packet). packets ≡ []) core.state.world.rings
     → AllByRecursion (λ (packets : List Packet). packets ≡ []) core.state.world.outboxes → HasNone s

@@ -18,8 +18,8 @@ pub mod Returned
 pub mod Runs
 pub mod Shown
 pub mod Slots
-pub mod StackLemmas
-pub mod Stacking
+pub mod BuilderLemmas
+pub mod Building
 pub mod Steps
 pub mod Taking
 pub mod Waits

@@ -9,10 +9,10 @@ use Rattle.std.proofs.lemmas.Slice.Eq.{bytes_eq-Decides}
 use Rattle.dp_zone.specs.Names.{is_name}
 use Rattle.dp_zone.specs.Zones.{Reserved, is_named, has_name, without_name}
 use Rattle.dp_pool.specs.Making.{object_name, queue_name}
-use Rattle.dp_engine.specs.declared.names.Kind.{Kind}
-use Rattle.dp_engine.specs.declared.names.Kind.TheVariants.{Port, Ring}
+use Rattle.dp_engine.specs.declared.names.ListKind.{ListKind}
+use Rattle.dp_engine.specs.declared.names.ListKind.TheVariants.{Port, Ring}
 use Rattle.dp_engine.specs.Names.{pool_name, ring_name, rank, AllBefore, first_of, first_pool, IsNext}
-use Rattle.dp_engine.specs.Stacks.{names_of}
+use Rattle.dp_engine.specs.Builders.{names_of}
 
 -- ---- computed for each digit
 
@@ -27,11 +27,11 @@ each_digit P a b c d e f g h (suc (suc (suc (suc (suc (suc zero)))))) low = g
 each_digit P a b c d e f g h (suc (suc (suc (suc (suc (suc (suc zero))))))) low = h
 each_digit P a b c d e f g h (suc (suc (suc (suc (suc (suc (suc (suc k)))))))) low = absurd (omega arith)
 
-ring_named : (kind : Kind) (k : ℕ) → k < 8 → is_name (ring_name kind k) ≡ true
+ring_named : (kind : ListKind) (k : ℕ) → k < 8 → is_name (ring_name kind k) ≡ true
 ring_named Port k low = each_digit (λ i. is_name (ring_name Port i) ≡ true) refl refl refl refl refl refl refl refl k low
 ring_named Ring k low = each_digit (λ i. is_name (ring_name Ring i) ≡ true) refl refl refl refl refl refl refl refl k low
 
-ring_rank : (kind : Kind) (k : ℕ) → k < 8 → rank (ring_name kind k) ≡ first_of kind + 10 * k
+ring_rank : (kind : ListKind) (k : ℕ) → k < 8 → rank (ring_name kind k) ≡ first_of kind + 10 * k
 ring_rank Port k low = each_digit (λ i. rank (ring_name Port i) ≡ 1485 + 10 * i) refl refl refl refl refl refl refl refl k low
 ring_rank Ring k low = each_digit (λ i. rank (ring_name Ring i) ≡ 2485 + 10 * i) refl refl refl refl refl refl refl refl k low
 
@@ -69,7 +69,7 @@ fresh name (r ∷ table) all =
     let low = all.0 in omega arith) in
     ap (λ (b : Bool). b || has_name name table) off ∙ fresh name table all.1
 
--- ---- the next zones of a stack
+-- ---- the next zones of a builder
 
 pub spare_next : IsNext (codes "spare") []
 spare_next = record { named = refl; after = tt; few = omega arith }
@@ -77,7 +77,7 @@ spare_next = record { named = refl; after = tt; few = omega arith }
 pub spare_first : AllBefore 1485 (codes "spare" ∷ [])
 spare_first = (omega arith, tt)
 
-pub ring_next : (kind : Kind) (k : ℕ) (names : List (List ℕ)) → k < 8 → AllBefore (first_of kind + 10 * k) names → length names < 64 →
+pub ring_next : (kind : ListKind) (k : ℕ) (names : List (List ℕ)) → k < 8 → AllBefore (first_of kind + 10 * k) names → length names < 64 →
     IsNext (ring_name kind k) names
 ring_next kind k names low all room = record {
   named = ring_named kind k low;
@@ -85,7 +85,7 @@ ring_next kind k names low all room = record {
   few = room;
 }
 
-pub ring_taken : (kind : Kind) (k : ℕ) (names new : List (List ℕ)) → k < 8 → AllBefore (first_of kind + 10 * k) names → new ≡ names ++ ring_name kind k ∷ []
+pub ring_taken : (kind : ListKind) (k : ℕ) (names new : List (List ℕ)) → k < 8 → AllBefore (first_of kind + 10 * k) names → new ≡ names ++ ring_name kind k ∷ []
     → AllBefore (first_of kind + 10 * (k + 1)) new × (length new ≡ length names + 1)
 ring_taken kind k names new low all is =
     let at = ring_rank kind k low in (

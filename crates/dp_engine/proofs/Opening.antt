@@ -18,12 +18,12 @@ use Rattle.dp_model.specs.Starts.{IsStart}
 use Rattle.dp_model.specs.Laws.Runs.{start_rest}
 use Rattle.dp_lpm.specs.Routes.{RouteTable}
 use Rattle.dp_mbuf.specs.Mbufs.{MbufsView, IsNew}
-use Rattle.dp_engine.specs.declared.space.Parts.{Parts}
-use Rattle.dp_engine.specs.Handles.{packet_at, in_slot, packets_in, entries_of, frames_of, lists_of, Core, core_of, ran}
+use Rattle.dp_engine.specs.declared.memory.Parts.{Parts}
+use Rattle.dp_engine.specs.Handles.{packet_at, in_slot, packets_in, entries_of, frames_of, lists_of, Core, core_of, run_counts}
 use Rattle.dp_engine.specs.Queues.{rings_in}
 use Rattle.dp_engine.specs.Schemes.{Scheme, scheme_of}
 use Rattle.dp_engine.specs.Serving.{Rests}
-use Rattle.dp_engine.specs.Spaces.{SpaceView, AreFilled, IsNewRing}
+use Rattle.dp_engine.specs.Memories.{EngineMemoryView, AreFilled, IsNewRing}
 use Rattle.dp_engine.specs.Layouts.{IsLaidOut}
 use Rattle.dp_engine.specs.Tallies.{listed_count}
 use Rattle.dp_engine.specs.Engines.{IsEngine, engine_of, IsOpened, StandIn, no_tallies}
@@ -32,7 +32,8 @@ use Rattle.dp_engine.proofs.Parts.{rings_first, counts_in, stand_in}
 
 -- a machine over mbufs, rings and transmit lists at its start
 abbrev pub first_core : MbufsView → List RingView → List RingView → Core
-first_core m rings outboxes = core_of m.store (frames_of m.zones rings outboxes) (replicate 8 None) (replicate 8 0) (lists_of rings outboxes) 0 (ran 0 0 0)
+first_core m rings outboxes = core_of m.store (frames_of m.zones rings outboxes) (replicate 8 None) (replicate 8 0) (lists_of rings outboxes) 0
+    (run_counts 0 0 0)
 
 -- nothing waits in rings that were laid out for these
 empty_lists : {X : Type 0} (f : X → ℕ) (home : Home) (slots : List (Option Packet)) (xs : List X) (others : List (Option RingView))
@@ -59,7 +60,7 @@ none_listed : {X : Type 0} (xs : List X) → listed_count (map (λ _. []) xs) �
 none_listed [] = refl
 none_listed (x ∷ xs) = let more = none_listed xs in omega arith
 
-module _ (home : Home) (size : ℕ) (env : Environment) (space : SpaceView) (parts : Parts) (m : MbufsView) (laid : IsLaidOut home size env space parts)
+module _ (home : Home) (size : ℕ) (env : Environment) (memory : EngineMemoryView) (parts : Parts) (m : MbufsView) (laid : IsLaidOut home size env memory parts)
     (new : IsNew parts.pools m) (well : IsWellFormedStore m.store) where
   abbrev core : Core
   core = first_core m (rings_in parts.rings) (rings_in parts.lists)
@@ -79,9 +80,9 @@ module _ (home : Home) (size : ℕ) (env : Environment) (space : SpaceView) (par
     cuts = refl;
   }
 
-  stands : StandIn space core.frames
-  stands = subst (λ (zones : List PoolZones). StandIn space (frames_of zones (rings_in parts.rings) (rings_in parts.lists))) (sym new.zones)
-      (stand_in space parts laid.ready.first (rings_first home _ parts.rings laid.rings) (rings_first home _ parts.lists laid.lists) laid.stand laid.out)
+  stands : StandIn memory core.frames
+  stands = subst (λ (zones : List PoolZones). StandIn memory (frames_of zones (rings_in parts.rings) (rings_in parts.lists))) (sym new.zones)
+      (stand_in memory parts laid.ready.first (rings_first home _ parts.rings laid.rings) (rings_first home _ parts.lists laid.lists) laid.stand laid.out)
 
   pub rests_first : (s : Scheme) → s.setting.env ≡ env → fault_of s.setting.env ≡ None → TablesFit s.setting → Rests s core
   rests_first s same within tables = record {
@@ -96,7 +97,7 @@ module _ (home : Home) (size : ℕ) (env : Environment) (space : SpaceView) (par
   }
 
   pub engine_first : (s : Scheme) → s.setting.env ≡ env → fault_of s.setting.env ≡ None → TablesFit s.setting →
-      IsEngine s core space 0 (replicate 8 no_tallies) (replicate 8 0)
+      IsEngine s core memory 0 (replicate 8 no_tallies) (replicate 8 0)
   engine_first s same within tables =
       let queued : listed_count core.state.world.rings ≡ 0 = ap listed_count starts.rings ∙ none_listed env.rings in
       let sent : listed_count core.state.world.outboxes ≡ 0 = ap listed_count starts.outboxes ∙ none_listed env.ports in
@@ -114,7 +115,7 @@ module _ (home : Home) (size : ℕ) (env : Environment) (space : SpaceView) (par
       }
 
   pub is_opened : (tables : List RouteTable) (questions : List Question)
-      → IsOpened home size env tables questions (engine_of (scheme_of env tables questions []) core space 0 (replicate 8 no_tallies) (replicate 8 0))
+      → IsOpened home size env tables questions (engine_of (scheme_of env tables questions []) core memory 0 (replicate 8 no_tallies) (replicate 8 0))
   is_opened tables questions = record {
     setting = refl;
     nodes = refl;

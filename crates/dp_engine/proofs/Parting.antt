@@ -1,6 +1,5 @@
 -- Splitting programs into those of the ports and those of the rings.
-use Rattle.std.proofs.Common.{◌≡◌, ℕ, zero, suc, ◌<◌, ◌≤◌, List, [], ◌∷◌, ◌++◌, length, get_or, take, drop, sym, ◌∙◌, ap, arith}
-use Rattle.std.specs.List.{AllByRecursion}
+use Rattle.std.proofs.Common.{◌≡◌, ℕ, zero, suc, ◌<◌, ◌≤◌, List, [], ◌∷◌, ◌++◌, length, take, drop, sym, ◌∙◌, ap, arith}
 use Rattle.std.proofs.lemmas.List.{map-append, take-append-le, drop-append-le, take_all, drop_all, length-append}
 use Rattle.dp_model.specs.Rules.{Question}
 use Rattle.dp_engine.specs.Schemes.{programs_of}
@@ -43,9 +42,3 @@ module _ (ports : ℕ) (nodes : List Question) (node : Question) where
         ap (take ports) now ∙ take-append-le ports (programs_of nodes) (node.program ∷ []) more,
         ap (drop ports) now ∙ drop-append-le ports (programs_of nodes) (node.program ∷ []) more,
       )
-
--- what holds of all holds of the one at an index
-pub item_at : {X : Type 0} (P : X → Type 0) (xs : List X) (k : ℕ) (d : X) → k < length xs → AllByRecursion P xs → P (get_or xs k d)
-item_at P [] k d lt all = absurd (omega (arith, lt))
-item_at P (x ∷ xs) zero d lt all = all.0
-item_at P (x ∷ xs) (suc k) d lt all = item_at P xs k d (omega (arith, lt)) all.1

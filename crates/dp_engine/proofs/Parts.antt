@@ -1,4 +1,4 @@
--- The pools and rings of a space, as an engine takes them over and gives them back.
+-- The pools and rings of an engine's memory, as an engine takes them over and gives them back.
 use Rattle.std.proofs.Common.{◌≡◌, ℕ, List, [], ◌∷◌, length, map, Option, Some, None, refl, sym, ◌∙◌, ap, subst, arith}
 use Rattle.std.specs.List.{AllByRecursion}
 use Rattle.std.proofs.lemmas.Option.{none-some}
@@ -6,10 +6,10 @@ use Rattle.dp_region.specs.Ownership.{Home}
 use Rattle.dp_ring.specs.Rings.{RingView}
 use Rattle.dp_pool.specs.Pools.{PoolZones, PoolView}
 use Rattle.dp_mbuf.specs.Objects.{present, zones_of, HeadersFirst, PoolsFirst}
-use Rattle.dp_engine.specs.declared.space.Parts.{Parts}
+use Rattle.dp_engine.specs.declared.memory.Parts.{Parts}
 use Rattle.dp_engine.specs.Handles.{Frames, without_entries, frames_of}
 use Rattle.dp_engine.specs.Queues.{rings_in, RingsFirst}
-use Rattle.dp_engine.specs.Spaces.{SpaceView, AreFilled, IsNewRing, filled, RingsIn, PoolsIn}
+use Rattle.dp_engine.specs.Memories.{EngineMemoryView, AreFilled, IsNewRing, filled, RingsIn, PoolsIn}
 use Rattle.dp_engine.specs.Layouts.{PartsIn, zones_in}
 use Rattle.dp_engine.specs.Engines.{StandIn}
 use Rattle.dp_engine.proofs.Filled.{none_filled}
@@ -98,35 +98,36 @@ pools_stay home [] first all = tt
 pools_stay home (None ∷ slots) first all = (tt, no_pools home slots first)
 pools_stay home (Some p ∷ slots) first all = (all.0, pools_stay home slots first.1 all.1)
 
--- what is laid out lies in the space
-pub stand_in : (space : SpaceView) (parts : Parts) → HeadersFirst parts.pools → RingsFirst parts.rings → RingsFirst parts.lists → PartsIn space.home parts
-    → zones_in parts ≡ space.out
-    → StandIn space (frames_of (zones_of (present parts.pools)) (rings_in parts.rings) (rings_in parts.lists))
-stand_in space parts pools rings lists (pools_here, rings_here, lists_here) out = record {
-  pools = pools_at space.home parts.pools pools_here;
-  rings = rings_at space.home parts.rings rings_here;
-  outboxes = rings_at space.home parts.lists lists_here;
+-- what is laid out lies in the engine's memory
+pub stand_in : (memory : EngineMemoryView) (parts : Parts) → HeadersFirst parts.pools → RingsFirst parts.rings → RingsFirst parts.lists → PartsIn memory.home
+    parts
+    → zones_in parts ≡ memory.out
+    → StandIn memory (frames_of (zones_of (present parts.pools)) (rings_in parts.rings) (rings_in parts.lists))
+stand_in memory parts pools rings lists (pools_here, rings_here, lists_here) out = record {
+  pools = pools_at memory.home parts.pools pools_here;
+  rings = rings_at memory.home parts.rings rings_here;
+  outboxes = rings_at memory.home parts.lists lists_here;
   out = omega (arith, out, new_filled parts.pools pools, rings_filled parts.rings rings, rings_filled parts.lists lists);
 }
 
 -- and so does what comes back of it
-pub stand_back : (space : SpaceView) (parts : Parts) → PoolsFirst parts.pools → RingsFirst parts.rings → RingsFirst parts.lists
-    → StandIn space (frames_of (zones_of (present parts.pools)) (rings_in parts.rings) (rings_in parts.lists)) → PartsIn space.home parts ×
-    (zones_in parts ≡ space.out)
-stand_back space parts pools rings lists stand = (
+pub stand_back : (memory : EngineMemoryView) (parts : Parts) → PoolsFirst parts.pools → RingsFirst parts.rings → RingsFirst parts.lists
+    → StandIn memory (frames_of (zones_of (present parts.pools)) (rings_in parts.rings) (rings_in parts.lists)) → PartsIn memory.home parts ×
+    (zones_in parts ≡ memory.out)
+stand_back memory parts pools rings lists stand = (
   (
-    pools_stay space.home parts.pools pools stand.pools,
-    rings_stay space.home parts.rings rings stand.rings,
-    rings_stay space.home parts.lists lists stand.outboxes,
+    pools_stay memory.home parts.pools pools stand.pools,
+    rings_stay memory.home parts.rings rings stand.rings,
+    rings_stay memory.home parts.lists lists stand.outboxes,
   ),
   omega (arith, stand.out, pools_filled parts.pools pools, rings_filled parts.rings rings, rings_filled parts.lists lists),
 )
 
-pub parts_back : (space : SpaceView) (frames : Frames) (zones : List PoolZones) (rings outboxes : List RingView) (parts : Parts) → StandIn space frames
+pub parts_back : (memory : EngineMemoryView) (frames : Frames) (zones : List PoolZones) (rings outboxes : List RingView) (parts : Parts) → StandIn memory frames
     → frames_of zones rings outboxes ≡ frames
     → PoolsFirst parts.pools → zones_of (present parts.pools) ≡ zones → RingsFirst parts.rings → rings_in parts.rings ≡ rings → RingsFirst parts.lists →
     rings_in parts.lists ≡ outboxes
-    → PartsIn space.home parts × (zones_in parts ≡ space.out)
-parts_back space frames zones rings outboxes parts stand is pools zones_are first rings_are lists lists_are =
+    → PartsIn memory.home parts × (zones_in parts ≡ memory.out)
+parts_back memory frames zones rings outboxes parts stand is pools zones_are first rings_are lists lists_are =
     let same : frames_of (zones_of (present parts.pools)) (rings_in parts.rings) (rings_in parts.lists) ≡ frames = rw (zones_are, rings_are, lists_are) is in
-    stand_back space parts pools first lists (subst (StandIn space) (sym same) stand)
+    stand_back memory parts pools first lists (subst (StandIn memory) (sym same) stand)

@@ -8,10 +8,10 @@ use Rattle.dp_ring.specs.Rings.{RingView, IsCount}
 use Rattle.dp_pool.specs.Pools.{PoolView}
 use Rattle.dp_model.specs.declared.env.PoolSpec.{PoolSpec}
 use Rattle.dp_model.specs.Environments.{Environment, pool_fits, fault_of}
-use Rattle.dp_engine.specs.declared.space.Parts.{Parts}
+use Rattle.dp_engine.specs.declared.memory.Parts.{Parts}
 use Rattle.dp_engine.specs.Layouts.{IsLaidOut, PartsIn}
 use Rattle.dp_engine.specs.Needs.{zone_bytes, objects_len, queue_len, pool_bytes, ring_bytes, total, ring_counts, list_counts, bytes_needed}
-use Rattle.dp_engine.specs.Spaces.{SpaceView, AreFilled, IsNewRing, IsNewPool}
+use Rattle.dp_engine.specs.Memories.{EngineMemoryView, AreFilled, IsNewRing, IsNewPool}
 use Rattle.dp_engine.specs.Laws.{known}
 use Rattle.dp_engine.proofs.Filled.{total_last, all_at, all_take, filled_count, rings_stand, pools_stand, pool_filled}
 use Rattle.dp_engine.proofs.Ready.{ready, specs_are}
@@ -67,7 +67,7 @@ plan e specs lists rings size i d none ps ls rs room last =
 pub some_pools : (e : Environment) → fault_of e ≡ None → 1 ≤ length e.pools
 some_pools e none = (known e none).pools.0
 
-pub laid_out : (e : Environment) (home : Home) (size : ℕ) (v : SpaceView) (parts : Parts) → fault_of e ≡ None → v.home ≡ home → v.size ≡ size
+pub laid_out : (e : Environment) (home : Home) (size : ℕ) (v : EngineMemoryView) (parts : Parts) → fault_of e ≡ None → v.home ≡ home → v.size ≡ size
     → AreFilled (IsNewPool home) e.pools parts.pools → AreFilled (IsNewRing home) (ring_counts e) parts.rings →
     AreFilled (IsNewRing home) (list_counts e) parts.lists
     → v.out ≡ 2 * length e.pools + length (ring_counts e) + length (list_counts e) → IsLaidOut home size e v parts

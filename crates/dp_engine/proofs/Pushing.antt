@@ -2,17 +2,17 @@
 use Rattle.std.proofs.Common.{◌≡◌, ℕ, ◌+◌, ◌-◌, ◌<◌, Bool, true, false, List, [], ◌∷◌, ◌++◌, length, drop, map, Option, Some, None, refl, sym, ◌∙◌, ap, arith}
 use Rattle.std.specs.Prelude.{slice_get, slice_set, nat_lt, if◌then◌else◌}
 use Rattle.std.proofs.lemmas.Bool.{ltb-true, ltb-false, lt-ltb, le-ltb}
-use Rattle.std.proofs.lemmas.List.{length-map}
+use Rattle.std.proofs.lemmas.List.{length-map, map-set}
 use Rattle.dp_model.specs.Packets.{Packet}
 use Rattle.dp_model.specs.Stores.{Store}
+use Rattle.dp_model.specs.Laws.Lists.{map_get}
 use Rattle.dp_pool.specs.Pools.{PoolZones}
 use Rattle.dp_ring.specs.Rings.{RingView, room_in, with_more, without_first}
 use Rattle.dp_engine.specs.declared.place.Place.{Place}
 use Rattle.dp_engine.specs.declared.place.Place.TheVariants.{Port, Ring}
 use Rattle.dp_engine.specs.Places.{packets_at, handles_at, IsPlace, place_in}
 use Rattle.dp_engine.specs.Queues.{ring_at}
-use Rattle.dp_engine.specs.Handles.{packet_at, packets_in, without_entries, entries_of, frames_of, lists_of, Core, core_of, Ran}
-use Rattle.dp_engine.proofs.Handles.{map_get, map_set}
+use Rattle.dp_engine.specs.Handles.{packet_at, packets_in, without_entries, entries_of, frames_of, lists_of, Core, core_of, RunCounts}
 use Rattle.dp_engine.proofs.Machines.{list_of}
 use Rattle.dp_engine.proofs.Rings.{entries_at, frames_kept, frames_length, frame_count, first_of}
 
@@ -53,7 +53,7 @@ pushed rings rings' i h b is taken =
     let e : rings' ≡ slice_set rings i r = is ∙ ap (λ (b : Bool). if b then slice_set rings i r else rings) taken in
     record {
       frames = ap (map without_entries) e ∙ frames_kept rings i r.entries;
-      lists = ap (map entries_of) e ∙ map_set entries_of rings i r;
+      lists = ap (map entries_of) e ∙ map-set entries_of rings i r;
     }
 
 pub popped : (rings rings' : List RingView) (i : ℕ) → rings' ≡ slice_set rings i (without_first (ring_at rings i) 1)
@@ -62,7 +62,7 @@ popped rings rings' i e =
     let r : RingView = without_first (ring_at rings i) 1 in
     record {
       frames = ap (map without_entries) e ∙ frames_kept rings i r.entries;
-      lists = ap (map entries_of) e ∙ map_set entries_of rings i r;
+      lists = ap (map entries_of) e ∙ map-set entries_of rings i r;
     }
 
 -- the handles of a place
@@ -99,7 +99,7 @@ listed_in slots i n rings lists there is many =
 
 -- ---- in terms of what a view shows of a machine
 
-module _ (s : Store) (zones : List PoolZones) (rings outboxes : List RingView) (registers : List (Option ℕ)) (numbers : List ℕ) (calls : ℕ) (steps : Ran)
+module _ (s : Store) (zones : List PoolZones) (rings outboxes : List RingView) (registers : List (Option ℕ)) (numbers : List ℕ) (calls : ℕ) (steps : RunCounts)
     (core : Core) (is : core_of s (frames_of zones rings outboxes) registers numbers (lists_of rings outboxes) calls steps ≡ core) where
   pub place_there : (place : Place) → IsPlace place core.frames.rings core.frames.outboxes → IsPlace place rings outboxes
   place_there (Port i) there = let e = ap (λ (c : Core). length c.frames.outboxes) is in omega (arith, e, there, frames_length outboxes)

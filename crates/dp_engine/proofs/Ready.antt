@@ -1,15 +1,16 @@
 -- Pools as an environment wants them are pools of mbufs.
 use Rattle.std.proofs.Common.{◌≡◌, ℕ, zero, suc, ◌-◌, ◌≤◌, false, List, [], ◌∷◌, length, get_or, Option, Some, None, refl, sym, ap, ◌∙◌, arith}
-use Rattle.std.specs.Prelude.{replicate, sum_by}
+use Rattle.std.specs.Prelude.{sum_by}
 use Rattle.std.specs.List.{AllByRecursion}
 use Rattle.std.proofs.lemmas.List.{length-map}
 use Rattle.std.proofs.lemmas.List.Sums.{sum_by-cons}
 use Rattle.dp_region.specs.Ownership.{Home}
 use Rattle.dp_pool.specs.Pools.{PoolView}
 use Rattle.dp_model.specs.declared.env.PoolSpec.{PoolSpec}
+use Rattle.dp_model.specs.Laws.Lists.{get_replicate}
 use Rattle.dp_mbuf.specs.Objects.{present, no_pool, spec_of, specs_of, HeadersFirst}
 use Rattle.dp_mbuf.specs.Mbufs.{AreReady}
-use Rattle.dp_engine.specs.Spaces.{AreFilled, IsNewPool}
+use Rattle.dp_engine.specs.Memories.{AreFilled, IsNewPool}
 
 abbrev AreNew : Home → List PoolSpec → List (Option PoolView) → Type 0
 AreNew home specs slots = AreFilled (IsNewPool home) specs slots
@@ -50,17 +51,12 @@ counts home (s ∷ specs) (Some p ∷ slots) are =
     let left = sum_by-cons (λ (q : PoolView). length q.objects) p (present slots) in let right = sum_by-cons (λ (t : PoolSpec). t.count) s specs in
     omega arith
 
-none_out : (n i : ℕ) → get_or (replicate n false) i false ≡ false
-none_out zero i = refl
-none_out (suc n) zero = refl
-none_out (suc n) (suc i) = none_out n i
-
 in_all : (home : Home) (specs : List PoolSpec) (slots : List (Option PoolView)) → AreNew home specs slots →
     (k i : ℕ) → get_or (get_or (present slots) k no_pool).out i false ≡ false
 in_all home [] slots are k i = ap (λ (ps : List PoolView). get_or (get_or ps k no_pool).out i false) (none_present slots are)
 in_all home (s ∷ specs) [] are k i = absurd are
 in_all home (s ∷ specs) (None ∷ slots) are k i = absurd are.0
-in_all home (s ∷ specs) (Some p ∷ slots) are zero i = ap (λ (out : List _). get_or out i false) are.0.all_in ∙ none_out s.count i
+in_all home (s ∷ specs) (Some p ∷ slots) are zero i = ap (λ (out : List _). get_or out i false) are.0.all_in ∙ get_replicate s.count i false
 in_all home (s ∷ specs) (Some p ∷ slots) are (suc k) i = in_all home specs slots are.1 k i
 
 pub ready : (home : Home) (specs : List PoolSpec) (slots : List (Option PoolView)) → 1 ≤ length specs → length specs ≤ 8 →

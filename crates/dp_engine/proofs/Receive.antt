@@ -3,6 +3,7 @@ use Rattle.std.proofs.Common.{◌≡◌, ℕ, ◌+◌, ◌<◌, ◌≤◌, Bool,
 use Rattle.std.proofs.Common.{arith, nat_eq, nat_lt}
 use Rattle.std.specs.Prelude.{slice_get, slice_set}
 use Rattle.std.specs.List.{list_any, AllByRecursion}
+use Rattle.std.proofs.lemmas.Bool.{or_from}
 use Rattle.dp_model.specs.Environments.{room_at}
 use Rattle.dp_model.specs.Buffers.{Buffers}
 use Rattle.dp_model.specs.Packets.{Packet, available, needed, received}
@@ -10,7 +11,7 @@ use Rattle.dp_model.specs.Machine.{Setting, State, live, is_denied}
 use Rattle.dp_model.specs.Runs.{first_state, between}
 use Rattle.dp_model.specs.Laws.Lists.{get_set_same}
 use Rattle.dp_model.specs.Stores.{Store, segments_of, ReceivesInto}
-use Rattle.dp_engine.specs.Handles.{held_of, packet_at, handles_held, occurs, in_slot, waiting, Lists, Frames, StandOnce, Core, core_of, Ran, ran}
+use Rattle.dp_engine.specs.Handles.{held_of, packet_at, handles_held, occurs, in_slot, waiting, Lists, Frames, OccurOnce, Core, core_of, RunCounts, run_counts}
 use Rattle.dp_engine.specs.Turns.{IsReceived}
 use Rattle.dp_engine.proofs.Handles.{not_in, waits, slot_filled}
 use Rattle.dp_engine.proofs.Counts.{CountSame, idle_handles, idle_counts, available_same, fresh_same}
@@ -19,8 +20,8 @@ pub record Idle (slots : List (Option Packet)) (registers : List (Option ℕ)) (
   pub empty : handles_held registers ≡ []
   pub each : (h : ℕ) → occurs h (waiting lists) ≡ in_slot (slice_get slots h)
 
-pub idle_of : (s : Store) (frames : Frames) (registers : List (Option ℕ)) (numbers : List ℕ) (lists : Lists) (calls : ℕ) (steps : Ran) (core : Core) →
-    core_of s frames registers numbers lists calls steps ≡ core → StandOnce s.slots registers lists → AllByRecursion (λ o. o ≡ None) core.state.packets →
+pub idle_of : (s : Store) (frames : Frames) (registers : List (Option ℕ)) (numbers : List ℕ) (lists : Lists) (calls : ℕ) (steps : RunCounts) (core : Core) →
+    core_of s frames registers numbers lists calls steps ≡ core → OccurOnce s.slots registers lists → AllByRecursion (λ o. o ≡ None) core.state.packets →
     Idle s.slots registers lists
 idle_of s frames registers numbers lists calls steps core is stand idle =
     let empty : handles_held registers ≡ [] = idle_handles s.slots registers
@@ -30,20 +31,21 @@ idle_of s frames registers numbers lists calls steps core is stand idle =
       each = λ h. (let none : occurs h (handles_held registers) ≡ 0 = ap (occurs h) empty in omega (arith, none, stand h));
     }
 
-pub live_same : (s : Store) (frames : Frames) (registers : List (Option ℕ)) (numbers : List ℕ) (lists : Lists) (calls : ℕ) (steps : Ran) (core : Core) →
+pub live_same : (s : Store) (frames : Frames) (registers : List (Option ℕ)) (numbers : List ℕ) (lists : Lists) (calls : ℕ) (steps : RunCounts) (core : Core) →
     core_of s frames registers numbers lists calls steps ≡ core → Idle s.slots registers lists → CountSame (live (between core.state.world)) (segments_of s)
 live_same s frames registers numbers lists calls steps core is idle =
     subst (λ (c : Core). CountSame (live (between c.state.world)) (segments_of s)) is (idle_counts s.slots lists idle.each)
 
 pub stand_received : (slots : List (Option Packet)) (registers : List (Option ℕ)) (lists : Lists) (h : ℕ) (k : Packet) → Idle slots registers lists →
-    slice_get slots h ≡ Some None → StandOnce (slice_set slots h (Some k)) (Some h ∷ replicate 7 None) lists
+    slice_get slots h ≡ Some None → OccurOnce (slice_set slots h (Some k)) (Some h ∷ replicate 7 None) lists
 stand_received slots registers lists h k idle free x = omega (arith, idle.each x, slot_filled slots h x k free)
 
-pub state_received : (s : Store) (frames : Frames) (registers : List (Option ℕ)) (numbers : List ℕ) (lists : Lists) (calls : ℕ) (steps : Ran) (core : Core)
+pub state_received : (s : Store) (frames : Frames) (registers : List (Option ℕ)) (numbers : List ℕ) (lists : Lists) (calls : ℕ) (steps : RunCounts)
+    (core : Core)
     (port h : ℕ) (k : Packet) (buffers : Buffers) → core_of s frames registers numbers lists calls steps ≡ core → Idle s.slots registers lists →
     slice_get s.slots h ≡ Some None
     → (core_of (record s { buffers = buffers; slots = slice_set s.slots h (Some k) }) frames (Some h ∷ replicate 7 None) (port ∷ replicate 7 0) lists
-    (calls + 1) (ran steps.steps steps.cuts 0)).state ≡ first_state k port
+    (calls + 1) (run_counts steps.steps steps.cuts 0)).state ≡ first_state k port
     (record core.state.world { buffers = buffers; calls = core.state.world.calls + 1 })
 state_received s frames registers numbers lists calls steps core port h k buffers is idle free =
     let here : packet_at (slice_set s.slots h (Some k)) h ≡ k = ap held_of (get_set_same s.slots h (Some k) None free) in
@@ -51,15 +53,11 @@ state_received s frames registers numbers lists calls steps core port h k buffer
     let f = not_in s.slots h (Some k) lists.rings (omega (arith, none, waits h lists)) in
     let g = not_in s.slots h (Some k) lists.outboxes (omega (arith, none, waits h lists)) in
     subst (λ (c : Core). (core_of (record s { buffers = buffers; slots = slice_set s.slots h (Some k) }) frames (Some h ∷ replicate 7 None)
-    (port ∷ replicate 7 0) lists (calls + 1) (ran steps.steps steps.cuts 0)).state
+    (port ∷ replicate 7 0) lists (calls + 1) (run_counts steps.steps steps.cuts 0)).state
     ≡ first_state k port (record c.state.world { buffers = buffers; calls = c.state.world.calls + 1 })) is
     (rw (f, g, here) refl)
 
 -- ---- what the store returns, and what that is for a machine
-
-or_false : (a b : Bool) → a ≡ false → b ≡ false → (a || b) ≡ false
-or_false false b e f = f
-or_false true b e f = cc
 
 or_right : (a b : Bool) → a ≡ false → b ≡ true → (a || b) ≡ true
 or_right false b e f = f
@@ -74,7 +72,7 @@ lt_true a b lt = search (arith, lt)
 pub not_denied : (c : Setting) (s : Store) (state : State) (pool need : ℕ) → s.pools ≡ c.env.pools → CountSame (live state) (segments_of s) →
     list_any (nat_eq (state.world.calls + 1)) c.pattern ≡ false → need ≤ available s.pools (segments_of s) pool → is_denied c state pool need ≡ false
 not_denied c s state pool need pools same listed le =
-    or_false _ _ listed (lt_false (available c.env.pools (live state) pool) need
+    or_from _ _ listed (lt_false (available c.env.pools (live state) pool) need
     (rw (available_same c.env.pools (live state) (segments_of s) pool same, ← pools) le))
 
 pub denied : (c : Setting) (s : Store) (state : State) (pool need : ℕ) → s.pools ≡ c.env.pools → CountSame (live state) (segments_of s) →
@@ -83,29 +81,29 @@ denied c s state pool need pools same listed lt =
     or_right _ _ listed (lt_true (available c.env.pools (live state) pool) need
     (rw (available_same c.env.pools (live state) (segments_of s) pool same, ← pools) lt))
 
-pub calls_of : (s : Store) (frames : Frames) (registers : List (Option ℕ)) (numbers : List ℕ) (lists : Lists) (calls : ℕ) (steps : Ran) (core : Core) →
+pub calls_of : (s : Store) (frames : Frames) (registers : List (Option ℕ)) (numbers : List ℕ) (lists : Lists) (calls : ℕ) (steps : RunCounts) (core : Core) →
     core_of s frames registers numbers lists calls steps ≡ core → calls ≡ core.state.world.calls
 calls_of s frames registers numbers lists calls steps core is = ap (λ (c : Core). c.state.world.calls) is
 
-pub pools_of : (s : Store) (frames : Frames) (registers : List (Option ℕ)) (numbers : List ℕ) (lists : Lists) (calls : ℕ) (steps : Ran) (core : Core) →
+pub pools_of : (s : Store) (frames : Frames) (registers : List (Option ℕ)) (numbers : List ℕ) (lists : Lists) (calls : ℕ) (steps : RunCounts) (core : Core) →
     core_of s frames registers numbers lists calls steps ≡ core → s.pools ≡ core.pools
 pools_of s frames registers numbers lists calls steps core is = ap (λ (c : Core). c.pools) is
 
-pub buffers_of : (s : Store) (frames : Frames) (registers : List (Option ℕ)) (numbers : List ℕ) (lists : Lists) (calls : ℕ) (steps : Ran) (core : Core) →
+pub buffers_of : (s : Store) (frames : Frames) (registers : List (Option ℕ)) (numbers : List ℕ) (lists : Lists) (calls : ℕ) (steps : RunCounts) (core : Core) →
     core_of s frames registers numbers lists calls steps ≡ core → s.buffers ≡ core.state.world.buffers
 buffers_of s frames registers numbers lists calls steps core is = ap (λ (c : Core). c.state.world.buffers) is
 
 -- a machine after a call that was granted
-pub record Given (c : Setting) (s' : Store) (frames : Frames) (registers : List (Option ℕ)) (lists : Lists) (calls : ℕ) (steps : Ran) (core : Core)
+pub record Given (c : Setting) (s' : Store) (frames : Frames) (registers : List (Option ℕ)) (lists : Lists) (calls : ℕ) (steps : RunCounts) (core : Core)
     (pool port h : ℕ) (bytes : List ℕ) : Type 0 where
-  pub stand : StandOnce s'.slots (Some h ∷ replicate 7 None) lists
+  pub stand : OccurOnce s'.slots (Some h ∷ replicate 7 None) lists
   pub state : IsReceived c pool port bytes core.state.world (core_of s' frames (Some h ∷ replicate 7 None) (port ∷ replicate 7 0) lists (calls + 1)
-      (ran steps.steps steps.cuts 0)).state
+      (run_counts steps.steps steps.cuts 0)).state
   pub pools : s'.pools ≡ core.pools
   pub allowed : list_any (nat_eq (calls + 1)) c.pattern ≡ false → is_denied c (between core.state.world) pool (needed c.env.pools pool (length bytes)) ≡ false
 
-pub given : (c : Setting) (s s' : Store) (frames : Frames) (registers : List (Option ℕ)) (numbers : List ℕ) (lists : Lists) (calls : ℕ) (steps : Ran)
-    (core : Core) (pool port h : ℕ) (bytes : List ℕ) → core_of s frames registers numbers lists calls steps ≡ core → StandOnce s.slots registers lists →
+pub given : (c : Setting) (s s' : Store) (frames : Frames) (registers : List (Option ℕ)) (numbers : List ℕ) (lists : Lists) (calls : ℕ) (steps : RunCounts)
+    (core : Core) (pool port h : ℕ) (bytes : List ℕ) → core_of s frames registers numbers lists calls steps ≡ core → OccurOnce s.slots registers lists →
     AllByRecursion (λ o. o ≡ None) core.state.packets → core.pools ≡ c.env.pools → ReceivesInto s pool bytes s' (Some h) →
     Given c s' frames registers lists calls steps core pool port h bytes
 given c s s' frames registers numbers lists calls steps core pool port h bytes is stand rests pools (le, free, ns, buffers, fresh, filled, becomes) =
@@ -129,8 +127,8 @@ given c s s' frames registers numbers lists calls steps core pool port h bytes i
           (rw (← of_env) le);
     }
 
-pub refused : (c : Setting) (s s' : Store) (frames : Frames) (registers : List (Option ℕ)) (numbers : List ℕ) (lists : Lists) (calls : ℕ) (steps : Ran)
-    (core : Core) (pool : ℕ) (bytes : List ℕ) → core_of s frames registers numbers lists calls steps ≡ core → StandOnce s.slots registers lists →
+pub refused : (c : Setting) (s s' : Store) (frames : Frames) (registers : List (Option ℕ)) (numbers : List ℕ) (lists : Lists) (calls : ℕ) (steps : RunCounts)
+    (core : Core) (pool : ℕ) (bytes : List ℕ) → core_of s frames registers numbers lists calls steps ≡ core → OccurOnce s.slots registers lists →
     AllByRecursion (λ o. o ≡ None) core.state.packets → core.pools ≡ c.env.pools → list_any (nat_eq (calls + 1)) c.pattern ≡ false →
     ReceivesInto s pool bytes s' None → is_denied c (between core.state.world) pool (needed c.env.pools pool (length bytes)) ≡ true
 refused c s s' frames registers numbers lists calls steps core pool bytes is stand rests pools listed (less, becomes) =

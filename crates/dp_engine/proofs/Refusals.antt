@@ -15,7 +15,7 @@ use Rattle.dp_model.specs.declared.env.PoolSpec.{PoolSpec}
 use Rattle.dp_model.specs.Environments.{pool_fits}
 use Rattle.dp_engine.specs.Needs.{power_above, objects_len, queue_len}
 use Rattle.dp_engine.specs.Names.{IsNext}
-use Rattle.dp_engine.specs.Stacks.{names_of}
+use Rattle.dp_engine.specs.Builders.{names_of}
 use Rattle.dp_engine.proofs.NameLemmas.{fresh, names_counted, name_reserved}
 use Rattle.dp_engine.proofs.Powers.{power_is, power_low}
 

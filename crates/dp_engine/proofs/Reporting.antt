@@ -1,12 +1,12 @@
 -- What reports count.
-use Rattle.std.proofs.Common.{◌≡◌, ℕ, zero, suc, ◌+◌, ◌<◌, ◌≤◌, List, [], ◌∷◌, ◌++◌, length, take, Some, refl, ◌∙◌, ap, arith, nat_le, add-one}
-use Rattle.std.specs.Prelude.{slice_get, slice_index_or, if◌then◌else◌}
+use Rattle.std.proofs.Common.{◌≡◌, ℕ, zero, suc, ◌+◌, ◌<◌, ◌≤◌, List, [], ◌∷◌, ◌++◌, take, Some, refl, ◌∙◌, ap, arith, nat_le, add-one}
+use Rattle.std.specs.Prelude.{slice_get, if◌then◌else◌}
 use Rattle.std.proofs.lemmas.Bool.Decides.{nat_tests}
 use Rattle.std.proofs.lemmas.Option.{same_Some}
 use Rattle.dp_model.specs.declared.env.PoolSpec.{PoolSpec}
+use Rattle.dp_model.specs.Laws.Lists.{take_more}
 use Rattle.dp_engine.specs.Reports.{pool_reports}
 use Rattle.dp_engine.specs.Tallies.{refused_of}
-use Rattle.dp_engine.proofs.Writing.{take_more}
 
 -- ---- calls that were refused
 
@@ -37,11 +37,6 @@ pub reached_none : (pattern : List ℕ) (i n calls count : ℕ) → slice_get pa
 reached_none pattern i n calls count here lt is = omega (arith, is, refused_more pattern i n calls here, none_where n calls lt)
 
 -- ---- a list, element by element
-
-pub get_there : {A : Type 0} (xs : List A) (i : ℕ) (d : A) → i < length xs → slice_get xs i ≡ Some (slice_index_or xs i d)
-get_there [] i d lt = absurd (omega (arith, lt))
-get_there (x ∷ xs) zero d lt = refl
-get_there (x ∷ xs) (suc i) d lt = get_there xs i d (omega (arith, lt))
 
 -- one more pool's counts
 pub pools_more : (free : ℕ → ℕ) (j : ℕ) (specs : List PoolSpec) (i n : ℕ) (p : PoolSpec) → slice_get specs i ≡ Some p → n ≡ j + i

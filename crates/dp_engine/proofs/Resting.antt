@@ -1,7 +1,8 @@
 -- A world at rest stays at rest when one ring or one transmit list is emptied.
-use Rattle.std.proofs.Common.{◌≡◌, ℕ, zero, suc, ◌+◌, ◌≤◌, Bool, List, [], ◌∷◌, length, refl, ◌∙◌, arith}
+use Rattle.std.proofs.Common.{◌≡◌, ℕ, zero, suc, ◌+◌, ◌≤◌, Bool, List, [], ◌∷◌, ◌∙◌, arith}
 use Rattle.std.specs.Prelude.{slice_set}
 use Rattle.std.specs.List.{AllByRecursion, AllZip, flat_map}
+use Rattle.std.proofs.lemmas.List.{length-set}
 use Rattle.dp_model.specs.declared.env.PoolSpec.{PoolSpec}
 use Rattle.dp_model.specs.declared.env.RingSpec.{RingSpec}
 use Rattle.dp_model.specs.Buffers.{Number, same_number}
@@ -58,11 +59,6 @@ rings_emptied pools held (spec ∷ specs) [] i all = all
 rings_emptied pools held (spec ∷ specs) (r ∷ rings) zero all = (tt, all.1)
 rings_emptied pools held (spec ∷ specs) (r ∷ rings) (suc i) all = (all.0, rings_emptied pools held specs rings i all.1)
 
-pub length_set : {A : Type 0} (xs : List A) (i : ℕ) (x : A) → length (slice_set xs i x) ≡ length xs
-length_set [] i x = refl
-length_set (y ∷ xs) zero x = refl
-length_set (y ∷ xs) (suc i) x = let more = length_set xs i x in omega (arith, more)
-
 -- ---- worlds
 
 abbrev pub without_ring : ℕ → World → World
@@ -114,7 +110,7 @@ outbox_ready c w i ready =
         rings = rings_kept c.env.pools (live (between w)) (live (between (without_outbox i w))) c.env.rings w.rings
             (λ b part one. omega (arith, part, one, refs_of (without_outbox i w) b, outbox_fewer w i (λ s. same_number s.buffer b)))
             ready.world.rings;
-        outboxes = length_set w.outboxes i [] ∙ ready.world.outboxes;
+        outboxes = length-set w.outboxes i [] ∙ ready.world.outboxes;
       };
       tables = ready.tables;
       within = record {

@@ -12,7 +12,7 @@ use Rattle.dp_model.specs.Environments.{Environment, room_at, pool_fits, fault_o
 use Rattle.dp_model.specs.Packets.{Packet, first_len, needed, received, Filled, AreFresh}
 use Rattle.dp_model.specs.Machine.{Setting, World, State, Holds, live, is_denied}
 use Rattle.dp_model.specs.Meaning.{RingHolds}
-use Rattle.dp_model.specs.Runs.{first_state, between, Took, Receives, Waiting, behind, first_waiting, Serves, Nodes}
+use Rattle.dp_model.specs.Runs.{first_state, between, Consumed, Receives, Waiting, beyond, first_waiting, Serves, Nodes}
 use Rattle.dp_model.specs.Safety.{IsAtRest, Beginning, IsOfRecord, IsSafeBeginning, IsPipeline, KeepsSafe}
 use Rattle.dp_model.specs.Laws.Lists.{get_within, zip_back}
 use Rattle.dp_model.specs.Laws.Limits.{segs_small}
@@ -203,11 +203,11 @@ next_runs c nodes program m m' ring keeps limits is_program rest n =
 
 -- and that is a node run
 pub next_serves : (s : Scheme) (program : List Instr) (m m' m2 : Core) (ring : ℕ) (run : took.NodeRun) → slice_get s.nodes.rings ring ≡ Some program
-    → (n : Next s.setting s.nodes m m' ring) → Runs s.setting program m'.state m2.state → Took m'.state.world m2.state.world run.steps run.cuts
+    → (n : Next s.setting s.nodes m m' ring) → Runs s.setting program m'.state m2.state → Consumed m'.state.world m2.state.world run.steps run.cuts
     → ServesOne s m.state.world (Some run) m2.state.world
 next_serves s program m m' m2 ring run is_program n runs took =
     let (k, answers, goes) = subst (λ (x : Core). Runs s.setting program x.state m2.state) n.taken runs in
-    let t = subst (λ (x : Core). Took x.state.world m2.state.world run.steps run.cuts) n.taken took in (
+    let t = subst (λ (x : Core). Consumed x.state.world m2.state.world run.steps run.cuts) n.taken took in (
       n.next,
       program,
       answers,
@@ -230,12 +230,12 @@ listed_waiting : (rings : List (List Packet)) (next : Waiting Packet) → first_
 listed_waiting [] next h = cc
 listed_waiting ([] ∷ rings) next h = go (first_waiting rings) refl h (listed_waiting rings)
   where
-    go : (o : Option (Waiting Packet)) → first_waiting rings ≡ o → option_map (behind []) o ≡ Some next
+    go : (o : Option (Waiting Packet)) → first_waiting rings ≡ o → option_map (beyond []) o ≡ Some next
         → ((w : Waiting Packet) → first_waiting rings ≡ Some w → listed_count w.rings + 1 ≡ listed_count rings)
         → listed_count next.rings + 1 ≡ 0 + listed_count rings
     go None e h others = cc
     go (Some w) e h others =
-        let same : 0 + listed_count w.rings ≡ listed_count next.rings = ap (λ (x : Waiting Packet). listed_count x.rings) (same_Some (behind [] w) next h) in
+        let same : 0 + listed_count w.rings ≡ listed_count next.rings = ap (λ (x : Waiting Packet). listed_count x.rings) (same_Some (beyond [] w) next h) in
         omega (arith, same, others w e)
 listed_waiting ((k ∷ packets) ∷ rings) next h =
     let same : length packets + listed_count rings ≡ listed_count next.rings = ap (λ (x : Waiting Packet). listed_count x.rings)
@@ -280,7 +280,7 @@ pub record Rounds (s : Scheme) (m0 m : Core) (i runs steps cuts : ℕ) : Type 0 
   pub answers : List Bool
   pub serves : (later : List Bool) (more : ℕ) (w : World) → Serves s.setting s.nodes.rings (32 - i) m.state.world later more w
       → Serves s.setting s.nodes.rings 32 m0.state.world (answers ++ later) (runs + more) w
-  pub took : Took m0.state.world m.state.world steps cuts
+  pub took : Consumed m0.state.world m.state.world steps cuts
   pub few_runs : runs ≤ i
   pub few_steps : steps ≤ runs * 263168
   pub few_cuts : cuts ≤ i
@@ -314,7 +314,7 @@ pub one_round : (s : Scheme) (m0 m m' : Core) (i runs steps cuts : ℕ) (run : t
     → ServesOne s m.state.world (Some run) m'.state.world → run.steps ≤ 263168 → run.cuts ≤ 1 → Round s m m'
     → Rounds s m0 m' (i + 1) (runs + 1) (steps + run.steps) (cuts + run.cuts)
 one_round s m0 m m' i runs steps cuts run less r o few_steps few_cuts k =
-    let t : Took m.state.world m'.state.world run.steps run.cuts = o.6 in
+    let t : Consumed m.state.world m'.state.world run.steps run.cuts = o.6 in
     record {
       answers = r.answers ++ o.2;
       serves = λ later more w serves.

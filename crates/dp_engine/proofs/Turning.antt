@@ -1,6 +1,7 @@
 -- Turns of an engine.
-use Rattle.std.proofs.Common.{◌≡◌, ℕ, zero, suc, ◌+◌, ◌<◌, ◌≤◌, Bool, List, [], ◌∷◌, ◌++◌, length, refl, sym, ◌∙◌, ap, subst, arith}
+use Rattle.std.proofs.Common.{◌≡◌, ℕ, zero, suc, ◌+◌, ◌<◌, ◌≤◌, Bool, List, [], ◌∷◌, ◌++◌, length, refl, sym, ◌∙◌, subst, arith}
 use Rattle.std.specs.Prelude.{slice_set}
+use Rattle.std.proofs.lemmas.List.{length-set}
 use Rattle.dp_model.specs.Machine.{World}
 use Rattle.dp_model.specs.Runs as runs
 use Rattle.dp_model.specs.Runs.{Serves, Turn}
@@ -10,7 +11,7 @@ use Rattle.dp_engine.specs.declared.report.Tallies.{Tallies}
 use Rattle.dp_engine.specs.Handles.{Core}
 use Rattle.dp_engine.specs.Schemes.{Scheme}
 use Rattle.dp_engine.specs.Serving.{ArrivesAt, Rests}
-use Rattle.dp_engine.specs.Spaces.{SpaceView}
+use Rattle.dp_engine.specs.Memories.{EngineMemoryView}
 use Rattle.dp_engine.specs.Tallies.{counted, packet_count}
 use Rattle.dp_engine.specs.Engines.{over_ports, records_of, sent_by, StandIn, IsEngine, tallies_at, counted_at}
 
@@ -65,11 +66,6 @@ one_changed f [] port t' less = absurd (omega (arith, less))
 one_changed f (t ∷ tallies) zero t' less = omega arith
 one_changed f (t ∷ tallies) (suc port) t' less = omega (arith, one_changed f tallies port t' (omega (arith, less)))
 
-pub still_all : (tallies : List Tallies) (port : ℕ) (t' : Tallies) → length (slice_set tallies port t') ≡ length tallies
-still_all [] port t' = refl
-still_all (t ∷ tallies) zero t' = refl
-still_all (t ∷ tallies) (suc port) t' = ap suc (still_all tallies port t')
-
 counted_records : (outcome : runs.Outcome) (t : Tallies) → records_of (counted outcome t) ≡ records_of t + 1
 counted_records runs.Outcome.Got t = omega arith
 counted_records runs.Outcome.NoBuffer t = omega arith
@@ -83,20 +79,20 @@ counted_sent runs.Outcome.Oversize t = refl
 -- ---- what holds of an engine
 
 -- after a turn
-pub turned : (s : Scheme) (m m' : Core) (space : SpaceView) (turns : ℕ) (tallies : List Tallies) (left : List ℕ) (port : ℕ) (outcome : runs.Outcome)
-    → IsEngine s m space turns tallies left → turns < 1099511627776 → port < 8 → Rests s m' → m'.frames ≡ m.frames
+pub turned : (s : Scheme) (m m' : Core) (memory : EngineMemoryView) (turns : ℕ) (tallies : List Tallies) (left : List ℕ) (port : ℕ) (outcome : runs.Outcome)
+    → IsEngine s m memory turns tallies left → turns < 1099511627776 → port < 8 → Rests s m' → m'.frames ≡ m.frames
     → m'.state.world.calls ≤ m.state.world.calls + 8684545
     → m'.state.world.cuts ≤ m.state.world.cuts + 33 → packet_count m'.state + m.state.world.calls ≤ packet_count m.state + m'.state.world.calls
-    → IsEngine s m' space (turns + 1) (counted_at port outcome tallies) left
-turned s m m' space turns tallies left port outcome e limit less rests frames calls cuts packets =
+    → IsEngine s m' memory (turns + 1) (counted_at port outcome tallies) left
+turned s m m' memory turns tallies left port outcome e limit less rests frames calls cuts packets =
     let t = tallies_at tallies port in
     let there : port < length tallies = omega (arith, less, e.ports) in
     record {
       within = e.within;
       rests = rests;
-      stand = subst (StandIn space) (sym frames) e.stand;
+      stand = subst (StandIn memory) (sym frames) e.stand;
       limit = omega (arith, limit);
-      ports = still_all tallies port (counted outcome t) ∙ e.ports;
+      ports = length-set tallies port (counted outcome t) ∙ e.ports;
       rings = e.rings;
       records = omega (arith, e.records, one_changed records_of tallies port (counted outcome t) there, counted_records outcome t);
       calls = omega (arith, e.calls, calls);

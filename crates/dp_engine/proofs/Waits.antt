@@ -8,7 +8,7 @@ use Rattle.std.proofs.lemmas.Iterator.Adapters.{position_from-zero}
 use Rattle.dp_ring.specs.Rings.{RingView}
 use Rattle.dp_engine.specs.Queues.{ring_at, is_waiting}
 use Rattle.dp_model.specs.Packets.{Packet}
-use Rattle.dp_model.specs.Runs.{behind, first_waiting}
+use Rattle.dp_model.specs.Runs.{beyond, first_waiting}
 use Rattle.dp_engine.specs.Handles.{packet_at, packets_in, entries_of}
 
 -- the packets of rings
@@ -32,10 +32,10 @@ first_later : (slots : List (Option Packet)) (r : RingView) (rings : List RingVi
 first_later slots r rings j none first = record {
   there = omega (arith, first.there);
   is = λ h xs at. (
-      let e : first_waiting (in_rings slots (r ∷ rings)) ≡ option_map (behind []) (first_waiting (in_rings slots rings)) =
+      let e : first_waiting (in_rings slots (r ∷ rings)) ≡ option_map (beyond []) (first_waiting (in_rings slots rings)) =
       ap (λ es. first_waiting (map (packet_at slots) es ∷ in_rings slots rings)) none in
       let back : [] ≡ map (packet_at slots) r.entries = ap (map (packet_at slots)) (sym none) in
-      e ∙ ap (option_map (behind [])) (first.is h xs at) ∙ ap (λ (l : List Packet).
+      e ∙ ap (option_map (beyond [])) (first.is h xs at) ∙ ap (λ (l : List Packet).
       Some (record { ring = suc j; packet = packet_at slots h; rings = l ∷ slice_set (in_rings slots rings) j (map (packet_at slots) xs) })) back
       );
 }
@@ -79,7 +79,7 @@ none_from slots (r ∷ rings) n e = go r.entries refl (λ later. none_from slots
         first_waiting (in_rings slots (r ∷ rings)) ≡ None
     go [] none more =
         let later : position_from is_waiting (n + 1) rings ≡ None = rw none at e in
-        ap (λ es. first_waiting (map (packet_at slots) es ∷ in_rings slots rings)) none ∙ ap (option_map (behind [])) (more later)
+        ap (λ es. first_waiting (map (packet_at slots) es ∷ in_rings slots rings)) none ∙ ap (option_map (beyond [])) (more later)
     go (h ∷ xs) some more =
         let bad : Some n ≡ None = sym (ap (λ b. cond b (Some n) (position_from is_waiting (n + 1) rings)) (waits r h xs some)) ∙ e in cc
 

@@ -5,47 +5,32 @@ use Rattle.std.specs.Prelude.{slice_get, Result, Ok, Err, is_err, OnOk, OnErr}
 use Rattle.std.specs.List.{flat_map}
 use Rattle.std.specs.Io.KnownBytes.{Appends}
 use Rattle.std.proofs.KnownBytes.{Appends-trans}
-use Rattle.std.proofs.lemmas.List.{take-append-le}
+use Rattle.std.proofs.lemmas.List.{take-append-le, length-map, take_all}
 use Rattle.std.proofs.lemmas.List.Concat.{flat_map-append}
 use Rattle.std.proofs.lemmas.List.Folds.{flat_map-map}
-use Rattle.std.proofs.Math.Seq.{take-append-add}
 use Rattle.std.proofs.lemmas.Option.{same_Some}
 use Rattle.dp_pcap.specs.declared.time.Time.{Time}
 use Rattle.dp_pcap.specs.declared.time.Unit.{Unit as TimeUnit}
 use Rattle.dp_pcap.specs.Capture as capture
 use Rattle.dp_pcap.specs.Text.{record_text, AppendsPart}
+use Rattle.dp_pcap.specs.Laws.Chaining.{AppendsPart-after}
 use Rattle.dp_model.specs.Buffers.{Buffers}
 use Rattle.dp_model.specs.Packets.{Packet, packet_bytes}
 use Rattle.dp_model.specs.Machine.{World}
 use Rattle.dp_model.specs.Runs.{drained}
 use Rattle.dp_model.specs.Stores.{Store}
+use Rattle.dp_model.specs.Laws.Lists.{map_get, take_more}
 use Rattle.dp_ring.specs.Rings.{RingView}
 use Rattle.dp_pool.specs.Pools.{PoolZones}
 use Rattle.dp_engine.specs.Queues.{ring_at}
-use Rattle.dp_engine.specs.Handles.{held_of, packet_at, in_slot, occurs, joined, packets_in, StandOnce, Core, core_of, Ran, frames_of, lists_of}
+use Rattle.dp_engine.specs.Handles.{held_of, packet_at, in_slot, occurs, joined, packets_in, OccurOnce, Core, core_of, RunCounts, frames_of, lists_of}
 use Rattle.dp_engine.specs.Handles.{without_entries, entries_of}
 use Rattle.dp_engine.proofs.Rings.{entries_at, frames_length}
 use Rattle.dp_engine.specs.Drains.{record_of, captured, WrotePart, Written}
-use Rattle.dp_engine.proofs.Handles.{map_get, in_slot_some, is_one, occurs-append, waits}
+use Rattle.dp_engine.proofs.Handles.{in_slot_some, is_one, occurs-append, waits}
 use Rattle.dp_engine.specs.Laws.{get_map}
 
 -- ---- lists, element by element
-
-pub at_slot : {A : Type 0} (xs : List A) (i : ℕ) → i < length xs → (x : A) × (slice_get xs i ≡ Some x)
-at_slot [] i lt = absurd (omega arith)
-at_slot (x ∷ xs) zero lt = (x, refl)
-at_slot (x ∷ xs) (suc i) lt = at_slot xs i (omega arith)
-
-pub take_more : {A : Type 0} (xs : List A) (i : ℕ) (x : A) → slice_get xs i ≡ Some x → take (suc i) xs ≡ take i xs ++ x ∷ []
-take_more [] i x e = cc
-take_more (y ∷ xs) zero x e = ap (λ z. z ∷ []) (same_Some y x e)
-take_more (y ∷ xs) (suc i) x e = ap (λ l. y ∷ l) (take_more xs i x e)
-
-pub take_all : {A : Type 0} (xs : List A) (n : ℕ) → length xs ≤ n → take n xs ≡ xs
-take_all [] zero le = refl
-take_all [] (suc n) le = refl
-take_all (x ∷ xs) zero le = absurd (omega arith)
-take_all (x ∷ xs) (suc n) le = ap (λ l. x ∷ l) (take_all xs n (omega arith))
 
 -- the pieces before one, it, and those after it
 pieces : {A : Type 0} (f : A → List ℕ) (xs : List A) (i : ℕ) (x : A) → slice_get xs i ≡ Some x
@@ -69,11 +54,6 @@ pub appends_piece : {A : Type 0} (a b d : Option (List ℕ)) (head : List ℕ) (
     → Appends a d (head ++ flat_map f (take (i + 1) xs))
 appends_piece a b d head f xs i x bytes here is before now =
     subst (Appends a d) (piece_more head f xs i x here) (Appends-trans a b d (head ++ flat_map f (take i xs)) (f x) before (subst (Appends b d) is now))
-
--- the whole of xs, and then a part of ys
-pub AppendsPart-after : (a b c : Option (List ℕ)) (xs ys : List ℕ) → Appends a b xs → AppendsPart b c ys → AppendsPart a c (xs ++ ys)
-AppendsPart-after a b c xs ys p (n, less, q) =
-    (length xs + n, omega (arith, length-append xs ys, less), rw (take-append-add xs ys n) (Appends-trans a b c xs (take n ys) p q))
 
 -- a part of a front is a part of the whole
 pub part_before : (a b : Option (List ℕ)) (xs ys : List ℕ) → AppendsPart a b xs → AppendsPart a b (xs ++ ys)
@@ -116,10 +96,11 @@ slot_of slots h k one named =
     let (k', has) = in_slot_some (slice_get slots h) one in has ∙ ap (λ k. Some (Some k)) (sym (ap held_of has) ∙ named)
 
 -- a packet in a transmit list has a handle at its index
-pub waits_at : (s : Store) (zones : List PoolZones) (registers : List (Option ℕ)) (numbers : List ℕ) (rings boxes : List RingView) (calls : ℕ) (steps : Ran)
+pub waits_at : (s : Store) (zones : List PoolZones) (registers : List (Option ℕ)) (numbers : List ℕ) (rings boxes : List RingView) (calls : ℕ)
+    (steps : RunCounts)
     (core : Core) (port i : ℕ) (packets : List Packet) (k : Packet)
     → core_of s (frames_of zones rings boxes) registers numbers (lists_of rings boxes) calls steps ≡ core
-    → StandOnce s.slots registers (lists_of rings boxes) → port < length core.frames.outboxes → slice_get core.state.world.outboxes port ≡ Some packets
+    → OccurOnce s.slots registers (lists_of rings boxes) → port < length core.frames.outboxes → slice_get core.state.world.outboxes port ≡ Some packets
     → slice_get packets i ≡ Some k → (h : ℕ) × (slice_get (ring_at boxes port).entries i ≡ Some h) × (slice_get s.slots h ≡ Some (Some k))
 waits_at s zones registers numbers rings boxes calls steps core port i packets k is stand lt box here =
     let long : length (map without_entries boxes) ≡ length core.frames.outboxes = ap (λ (c : Core). length c.frames.outboxes) is in
@@ -142,10 +123,6 @@ timed : (time : Time) (buffers : Buffers) (packets : List Packet)
     → map captured (map (λ bytes. (time, bytes)) (drained buffers packets)) ≡ map (packet_record time buffers) packets
 timed time buffers [] = refl
 timed time buffers (k ∷ packets) = ap (λ l. packet_record time buffers k ∷ l) (timed time buffers packets)
-
-pub length_map : {A B : Type 0} (f : A → B) (xs : List A) → length (map f xs) ≡ length xs
-length_map f [] = refl
-length_map f (x ∷ xs) = let more = length_map f xs in omega (arith, more)
 
 pub map_take : {A B : Type 0} (f : A → B) (n : ℕ) (xs : List A) → take n (map f xs) ≡ map f (take n xs)
 map_take f zero xs = refl
@@ -177,8 +154,8 @@ all_written unit time port w a b sent n packets box is least most wrote =
     let g = packet_record time w.buffers in
     let P : List capture.PacketRecord → Type 0 = λ records. (sent ≡ length records) × Appends a b (flat_map (record_text unit) records) in
     let all : flat_map (record_of unit time w.buffers) (take n packets) ≡ flat_map (record_text unit) (map g packets) =
-    ap (flat_map (record_of unit time w.buffers)) (take_all packets n least) ∙ sym (flat_map-map (record_text unit) g packets) in
-    written_of unit time port w packets P box (omega (arith, is, least, most, length_map g packets), subst (Appends a b) all wrote)
+    ap (flat_map (record_of unit time w.buffers)) (take_all n packets least) ∙ sym (flat_map-map (record_text unit) g packets) in
+    written_of unit time port w packets P box (omega (arith, is, least, most, length-map packets g), subst (Appends a b) all wrote)
 
 -- the records before one, and a part of its bytes
 pub part_written : (unit : TimeUnit) (time : Time) (port : ℕ) (w : World) (a b d : Option (List ℕ)) (sent n : ℕ) (packets : List Packet) (k : Packet)

@@ -22,22 +22,22 @@ Frame = ℕ × List ℕ
 abbrev pub frame_of : ℕ → Buffers → Packet → Frame
 frame_of port buffers k = (port, packet_bytes buffers k)
 
--- those of the transmit lists from a port on: port by port, first packet first
+-- the frames of the transmit lists from one port on: port by port, first packet first
 abbrev pub frames_from : ℕ → Buffers → List (List Packet) → List Frame
 frames_from port buffers [] = []
 frames_from port buffers (packets ∷ lists) = map (frame_of port buffers) packets ++ frames_from (port + 1) buffers lists
 
--- those of all transmit lists
+-- the frames of all transmit lists
 abbrev pub frames_in : World → List Frame
 frames_in w = frames_from 0 w.buffers w.outboxes
 
 -- ---- batches
 
--- the bytes of the frames, one after the other
+-- the bytes of the frames, concatenated
 abbrev pub bytes_of_all : List Frame → List ℕ
 bytes_of_all frames = flat_map (λ (f : Frame). f.1) frames
 
--- the records of these frames, where the first has its bytes at an offset: the time, the offset, the port and the length
+-- the records of these frames, the first of which has its bytes at an offset: the time, the offset, the port and the length
 abbrev pub records_for : ℕ → ℕ → List Frame → List SentRecord
 records_for time offset [] = []
 records_for time offset (f ∷ frames) =
@@ -62,12 +62,12 @@ widest [] = 0
 widest (p ∷ pools) = max p.room (widest pools)
 
 -- room for whatever a turn sends: a record for each buffer, each with the largest data room
-abbrev pub largest_batch : Environment → BatchSize
-largest_batch env = record { records = all_buffers env.pools; bytes = all_buffers env.pools * widest env.pools }
+abbrev pub max_batch : Environment → BatchSize
+max_batch env = record { records = all_buffers env.pools; bytes = all_buffers env.pools * widest env.pools }
 
 -- ---- a pass
 
--- each port's counts, with that many more records written whole
+-- the counts of each port, with this many more records written whole
 abbrev pub with_sent : List Tallies → List ℕ → List Tallies
 with_sent [] counts = []
 with_sent (t ∷ tallies) [] = t ∷ tallies

@@ -1,26 +1,26 @@
--- Engines: what one is, how it begins, and what its calls do.
+-- Engines: their state, how one begins, and the effect of its calls.
 use Rattle.std.specs.Prelude.{◌≡◌, ℕ, ◌+◌, ◌*◌, ◌≤◌, Bool, List, [], ◌∷◌, length, replicate, slice_index_or, slice_set, None}
 use Rattle.std.specs.List.{AllByRecursion}
 use Rattle.dp_region.specs.Ownership.{Home}
 use Rattle.dp_pool.specs.Pools.{PoolZones}
 use Rattle.dp_ring.specs.Rings.{RingView}
 use Rattle.dp_lpm.specs.Routes.{RouteTable}
-use Rattle.dp_model.specs.Limits.{most_ring_runs}
+use Rattle.dp_model.specs.Limits.{max_ring_runs}
 use Rattle.dp_model.specs.Environments.{Environment, fault_of}
 use Rattle.dp_model.specs.Packets.{Packet}
 use Rattle.dp_model.specs.Rules.{Question}
 use Rattle.dp_model.specs.Machine.{Setting, World, jump_budget}
 use Rattle.dp_model.specs.Runs as runs
-use Rattle.dp_model.specs.Runs.{Turn as IsTurn, Took, NeverStuck, Nodes, with_empty_outboxes, with_empty_rings, left_in_rings}
+use Rattle.dp_model.specs.Runs.{Turn as IsTurn, Consumed, NeverStuck, Nodes, with_empty_outboxes, with_empty_rings, left_in_rings}
 use Rattle.dp_model.specs.Safety.{Beginning, IsOfTurn, AreShort}
 use Rattle.dp_model.specs.Starts.{IsStart}
 use Rattle.dp_engine.specs.declared.engine.Turn.{Turn}
 use Rattle.dp_engine.specs.declared.report.Tallies.{Tallies}
-use Rattle.dp_engine.specs.Outcomes.{outcome_of, most_steps}
+use Rattle.dp_engine.specs.Outcomes.{outcome_of, max_steps}
 use Rattle.dp_engine.specs.Handles.{Frames, Core}
 use Rattle.dp_engine.specs.Schemes.{Scheme, scheme_of}
 use Rattle.dp_engine.specs.Serving.{Rests}
-use Rattle.dp_engine.specs.Spaces.{SpaceView}
+use Rattle.dp_engine.specs.Memories.{EngineMemoryView}
 use Rattle.dp_engine.specs.Tallies.{counted, packet_count}
 
 -- an engine as contracts see it: what never changes, its programs, its world, its counts for each port and each ring (eight slots, the first of them
@@ -35,16 +35,16 @@ pub record EngineState : Type 0 where
   pub home : Home
   pub size : ℕ
 
-abbrev pub engine_of : Scheme → Core → SpaceView → ℕ → List Tallies → List ℕ → EngineState
-engine_of s core space turns tallies left = record {
+abbrev pub engine_of : Scheme → Core → EngineMemoryView → ℕ → List Tallies → List ℕ → EngineState
+engine_of s core memory turns tallies left = record {
   setting = s.setting;
   nodes = s.nodes;
   world = core.state.world;
   turns = turns;
   tallies = tallies;
   left = left;
-  home = space.home;
-  size = space.size;
+  home = memory.home;
+  size = memory.size;
 }
 
 -- ---- what holds of every engine
@@ -64,29 +64,29 @@ abbrev pub sum : List ℕ → ℕ
 sum [] = 0
 sum (n ∷ ns) = n + sum ns
 
--- pools, rings and transmit lists lie in zones of the space, and nothing else does
-pub record StandIn (space : SpaceView) (frames : Frames) : Type 0 where
-  pub pools : AllByRecursion (λ (z : PoolZones). z.home ≡ space.home) frames.zones
-  pub rings : AllByRecursion (λ (r : RingView). r.home ≡ space.home) frames.rings
-  pub outboxes : AllByRecursion (λ (r : RingView). r.home ≡ space.home) frames.outboxes
-  pub out : 2 * length frames.zones + length frames.rings + length frames.outboxes ≡ space.out
+-- pools, rings and transmit lists lie in zones of the engine's memory, and nothing else does
+pub record StandIn (memory : EngineMemoryView) (frames : Frames) : Type 0 where
+  pub pools : AllByRecursion (λ (z : PoolZones). z.home ≡ memory.home) frames.zones
+  pub rings : AllByRecursion (λ (r : RingView). r.home ≡ memory.home) frames.rings
+  pub outboxes : AllByRecursion (λ (r : RingView). r.home ≡ memory.home) frames.outboxes
+  pub out : 2 * length frames.zones + length frames.rings + length frames.outboxes ≡ memory.out
 
--- the most turns of an engine: 2^40, so that its counts of calls stay below 2^64
-abbrev pub most_turns : ℕ
-most_turns = 1099511627776
+-- the maximum number of turns of an engine: 2^40, so its counts of calls stay below 2^64
+abbrev pub max_turns : ℕ
+max_turns = 1099511627776
 
 -- its environment is within the limits; a turn has the node run of its record and those on packets of rings; each step and each record make at most
 -- one allocation call, each node run is cut at most once, and each packet that was sent or left comes from a call
-pub record IsEngine (s : Scheme) (core : Core) (space : SpaceView) (turns : ℕ) (tallies : List Tallies) (left : List ℕ) : Type 0 where
+pub record IsEngine (s : Scheme) (core : Core) (memory : EngineMemoryView) (turns : ℕ) (tallies : List Tallies) (left : List ℕ) : Type 0 where
   pub within : fault_of s.setting.env ≡ None
   pub rests : Rests s core
-  pub stand : StandIn space core.frames
-  pub limit : turns ≤ most_turns
+  pub stand : StandIn memory core.frames
+  pub limit : turns ≤ max_turns
   pub ports : length tallies ≡ 8
   pub rings : length left ≡ 8
   pub records : over_ports records_of tallies ≤ turns
-  pub calls : core.state.world.calls ≤ turns * ((most_ring_runs + 1) * most_steps + 1)
-  pub cuts : core.state.world.cuts ≤ turns * (most_ring_runs + 1)
+  pub calls : core.state.world.calls ≤ turns * ((max_ring_runs + 1) * max_steps + 1)
+  pub cuts : core.state.world.cuts ≤ turns * (max_ring_runs + 1)
   pub packets : over_ports sent_by tallies + sum left + packet_count core.state ≤ core.state.world.calls
 
 -- ---- how it begins
@@ -105,7 +105,7 @@ pub record IsOpened (home : Home) (size : ℕ) (env : Environment) (tables : Lis
   pub home_is : e.home ≡ home
   pub size_is : e.size ≡ size
 
--- numbers in ascending order, each above the one before
+-- numbers in strictly ascending order
 abbrev pub IsAscending : ℕ → List ℕ → Type 0
 IsAscending least [] = Unit {0}
 IsAscending least (n ∷ ns) = (least + 1 ≤ n) × IsAscending n ns
@@ -115,7 +115,7 @@ IsAscending least (n ∷ ns) = (least + 1 ≤ n) × IsAscending n ns
 abbrev pub tallies_at : List Tallies → ℕ → Tallies
 tallies_at tallies port = slice_index_or tallies port no_tallies
 
--- one more record at a port, with this outcome
+-- the counts after one more record at a port, with this outcome
 abbrev pub counted_at : ℕ → runs.Outcome → List Tallies → List Tallies
 counted_at port outcome tallies = slice_set tallies port (counted outcome (tallies_at tallies port))
 
@@ -124,14 +124,14 @@ counted_at port outcome tallies = slice_set tallies port (counted outcome (talli
 pub record TakesTurn (old new : EngineState) (port : ℕ) (bytes : List ℕ) (answer : Turn) : Type 0 where
   pub turn : (answers : List Bool) × IsTurn old.setting old.nodes port bytes old.world (outcome_of answer.outcome) answer.runs answers new.world
   pub never_stuck : (b : Beginning) → IsOfTurn old.setting old.nodes port bytes old.world b → NeverStuck old.setting b.program b.packet b.number b.world
-  pub took : Took old.world new.world answer.steps answer.cuts
-  pub few : answer.steps ≤ answer.runs * most_steps
+  pub took : Consumed old.world new.world answer.steps answer.cuts
+  pub few : answer.steps ≤ answer.runs * max_steps
   -- each node run takes at most 257 times as many steps as the longest program has instructions
   pub short : (most : ℕ) → AreShort most old.nodes.ports → AreShort most old.nodes.rings → answer.steps ≤ answer.runs * ((jump_budget + 1) * most)
   pub lists : length new.world.outboxes ≡ length new.setting.env.ports
   pub rest : new ≡ record old { world = new.world; turns = old.turns + 1; tallies = counted_at port (outcome_of answer.outcome) old.tallies }
 
--- that many more records of a port written whole
+-- the counts after this many more records of a port are written whole
 abbrev pub sent_at : ℕ → ℕ → List Tallies → List Tallies
 sent_at port sent tallies =
     slice_set tallies port (record (tallies_at tallies port) { sent = (tallies_at tallies port).sent + sent })
@@ -156,7 +156,7 @@ with_left [] counts = []
 with_left (n ∷ ns) [] = n ∷ ns
 with_left (n ∷ ns) (x ∷ counts) = (n + x) ∷ with_left ns counts
 
--- an engine after a flush: nothing waits, and what waited in rings is counted as left
+-- an engine after a flush: no packet waits, and those that waited in rings are counted as left
 abbrev pub flushed : EngineState → EngineState
 flushed e = record e {
   world = with_empty_rings (with_empty_outboxes e.world);

@@ -30,7 +30,7 @@ abbrev pub once : Bool → ℕ
 once true = 1
 once false = 0
 
--- how often a handle occurs in a list
+-- the number of times that a handle occurs in a list
 abbrev pub occurs : ℕ → List ℕ → ℕ
 occurs h [] = 0
 occurs h (x ∷ xs) = once (x == h) + occurs h xs
@@ -51,7 +51,7 @@ abbrev pub joined : List (List ℕ) → List ℕ
 joined [] = []
 joined (handles ∷ lists) = handles ++ joined lists
 
--- all of them
+-- all handles that wait
 abbrev pub waiting : Lists → List ℕ
 waiting lists = joined lists.rings ++ joined lists.outboxes
 
@@ -78,8 +78,8 @@ abbrev pub lists_of : List RingView → List RingView → Lists
 lists_of rings outboxes = record { rings = map entries_of rings; outboxes = map entries_of outboxes }
 
 -- each packet of the store has its handle once in a register or a list, and there are no other handles
-abbrev pub StandOnce : List (Option Packet) → List (Option ℕ) → Lists → Type 0
-StandOnce slots registers lists =
+abbrev pub OccurOnce : List (Option Packet) → List (Option ℕ) → Lists → Type 0
+OccurOnce slots registers lists =
     (h : ℕ) → occurs h (handles_held registers) + occurs h (waiting lists) ≡ in_slot (slice_get slots h)
 
 -- a machine: its pools, its rings and transmit lists without their entries, and a state
@@ -89,16 +89,16 @@ pub record Core : Type 0 where
   pub state : State
 
 -- what a machine counts besides allocation calls: steps, cut node runs, and the backward jumps of the node run
-pub record Ran : Type 0 where
+pub record RunCounts : Type 0 where
   pub steps : ℕ
   pub cuts : ℕ
   pub jumps : ℕ
 
-abbrev pub ran : ℕ → ℕ → ℕ → Ran
-ran steps cuts jumps = record { steps = steps; cuts = cuts; jumps = jumps }
+abbrev pub run_counts : ℕ → ℕ → ℕ → RunCounts
+run_counts steps cuts jumps = record { steps = steps; cuts = cuts; jumps = jumps }
 
 -- a machine of these parts
-abbrev pub core_of : Store → Frames → List (Option ℕ) → List ℕ → Lists → ℕ → Ran → Core
+abbrev pub core_of : Store → Frames → List (Option ℕ) → List ℕ → Lists → ℕ → RunCounts → Core
 core_of store frames registers numbers lists calls steps = record {
   pools = store.pools;
   frames = frames;
@@ -121,7 +121,7 @@ core_of store frames registers numbers lists calls steps = record {
 abbrev pub moved : State → Core → Core
 moved s core = record core { state = s }
 
--- a register of a handle, where it holds one
+-- a register with a handle, if it holds one
 abbrev pub register_of : ℕ → Bool → Option ℕ
 register_of h true = Some h
 register_of h false = None

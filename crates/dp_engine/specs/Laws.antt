@@ -1,5 +1,5 @@
 -- Internal: plans, facts about environments, and that checked programs make a pipeline.
-use Rattle.std.proofs.Common.{◌≡◌, ℕ, ◌+◌, ◌≤◌, Bool, true, false, not, cond, ◌&&◌, List, [], ◌∷◌, length, map, Option, Some, None, refl, sym, ◌∙◌, zero, suc}
+use Rattle.std.proofs.Common.{◌≡◌, ℕ, ◌+◌, ◌≤◌, Bool, true, false, not, ◌&&◌, List, [], ◌∷◌, length, map, Some, None, refl, sym, ◌∙◌, zero, suc}
 use Rattle.std.proofs.Common.{ap, arith, ◌<◌, take, drop, subst}
 use Rattle.std.specs.Prelude.{nat_le, position, sum_by, if◌then◌else◌, slice_get}
 use Rattle.std.specs.List.{position_from, AllByRecursion}
@@ -12,7 +12,7 @@ use Rattle.dp_model.specs.declared.env.EnvError.TheVariants.{BadNumber, BadPool,
 use Rattle.dp_model.specs.declared.env.Entry.{Entry}
 use Rattle.dp_model.specs.declared.env.Entry.TheVariants.{Port, Ring}
 use Rattle.dp_model.specs.declared.instr.Instr.{Instr}
-use Rattle.dp_model.specs.Limits.{most_buffers, most_segments, largest_ring, largest_hop, least_port_room}
+use Rattle.dp_model.specs.Limits.{max_buffers, max_segments, max_ring, max_hop, min_port_room}
 use Rattle.dp_model.specs.Facts.{is_empty, is_well_formed_fact}
 use Rattle.dp_model.specs.Environments.{Environment, room_at, is_ring_count, pool_fits, ring_fits, port_fits, numbers_fit, fault_of}
 use Rattle.dp_ring.specs.Rings.{IsCount}
@@ -25,26 +25,21 @@ use Rattle.dp_check.specs.Faults.{IsChecked}
 use Rattle.dp_engine.specs.Steps.{setting_of, routes_of}
 use Rattle.dp_engine.specs.Schemes.{programs_of, nodes_of, scheme_of, AreNodes, IsPlan}
 use Rattle.dp_model.specs.Laws.{Checked, AreChecked}
-use Rattle.dp_model.specs.Laws.Limits.{if_none, or_none, map_none, not_false, ports_have_room}
-use Rattle.dp_model.specs.Laws.Lists.{each_at}
-
--- where no element fails, neither the first nor a later one does
-step_none : (b : Bool) (i : ℕ) (r : Option ℕ) → cond b (Some i) r ≡ None → (b ≡ false) × (r ≡ None)
-step_none true i r h = cc
-step_none false i r h = (refl, h)
+use Rattle.dp_model.specs.Laws.Limits.{if_none, or_none, map_none, not_false, ports_have_room, step_none}
+use Rattle.dp_model.specs.Laws.Lists.{each_at, each_slot}
 
 -- all elements pass a test
 abbrev AllPass : {X : Type 0} → (X → Bool) → List X → Type 0
 AllPass test xs = AllByRecursion (λ x. test x ≡ true) xs
 
--- all pass where none fails, counted from an index on
+-- all pass if none fails, counted from an index on
 from_none : {X : Type 0} → (test : X → Bool) (xs : List X) (i : ℕ) → position_from (λ x. not (test x)) i xs ≡ None → AllPass test xs
 from_none test [] i h = tt
 from_none test (x ∷ xs) i h =
     let parts = step_none (not (test x)) i (position_from (λ y. not (test y)) (i + 1) xs) h in
     (not_false (test x) parts.0, from_none test xs (i + 1) parts.1)
 
--- all pass where none fails
+-- all pass if none fails
 all_pass : {X : Type 0} → (test : X → Bool) (xs : List X) → position (λ x. not (test x)) xs ≡ None → AllPass test xs
 all_pass test xs h = from_none test xs 0 (sym (position_from-zero (λ x. not (test x)) xs) ∙ h)
 
@@ -57,9 +52,9 @@ each_map P Q f step (x ∷ xs) all = (step x all.0, each_map P Q f step xs all.1
 -- the size of a ring in an environment is permitted for rings
 count_fits : (n : ℕ) → is_ring_count n ≡ true → IsCount n
 count_fits n h =
-    let (both, power) = and_parts (nat_le 2 n && nat_le n largest_ring) (is_power_of_two n) h in
-    let (low, high) = and_parts (nat_le 2 n) (nat_le n largest_ring) both in
-    (leb-true 2 n low, leb-true n largest_ring high)
+    let (both, power) = and_parts (nat_le 2 n && nat_le n max_ring) (is_power_of_two n) h in
+    let (low, high) = and_parts (nat_le 2 n) (nat_le n max_ring) both in
+    (leb-true 2 n low, leb-true n max_ring high)
 
 -- the numbers of an environment, and that each pool, ring and list is within the limits
 pub record IsKnown (e : Environment) : Type 0 where
@@ -70,7 +65,7 @@ pub record IsKnown (e : Environment) : Type 0 where
   pub pools_fit : AllByRecursion (λ s. pool_fits s ≡ true) e.pools
   pub rings_fit : AllByRecursion IsCount (ring_counts e)
   pub lists_fit : AllByRecursion IsCount (list_counts e)
-  pub mbufs : sum_by (λ p. p.count) e.pools ≤ most_buffers
+  pub mbufs : sum_by (λ p. p.count) e.pools ≤ max_buffers
   pub facts : AllByRecursion (λ r. is_well_formed_fact r.fact ≡ true) e.rings
 
 -- what follows for each element follows for all
@@ -78,12 +73,12 @@ each_is : {X : Type 0} → (P Q : X → Type 0) → ((x : X) → P x → Q x) �
 each_is P Q step [] all = tt
 each_is P Q step (x ∷ xs) all = (step x all.0, each_is P Q step xs all.1)
 
--- there are not too many buffers where nothing else is wrong
-nothing_else : (n : ℕ) → (if nat_le n most_buffers then None else Some TooMany) ≡ None → n ≤ most_buffers
-nothing_else n h = go (nat_le n most_buffers) refl h
+-- there are not too many buffers if nothing else is wrong
+nothing_else : (n : ℕ) → (if nat_le n max_buffers then None else Some TooMany) ≡ None → n ≤ max_buffers
+nothing_else n h = go (nat_le n max_buffers) refl h
   where
-    go : (b : Bool) → nat_le n most_buffers ≡ b → (if b then None else Some TooMany) ≡ None → n ≤ most_buffers
-    go true is none = leb-true n most_buffers is
+    go : (b : Bool) → nat_le n max_buffers ≡ b → (if b then None else Some TooMany) ≡ None → n ≤ max_buffers
+    go true is none = leb-true n max_buffers is
     go false is none = cc
 
 -- all this holds of an environment without a fault
@@ -114,7 +109,7 @@ known e h =
           (all_pass ring_fits e.rings (map_none BadRing _ two.0));
       lists_fit = each_map (λ p. port_fits e.pools p ≡ true) IsCount (λ p. p.queue)
           (λ p fits. count_fits p.queue
-          (and_parts (nat_le least_port_room (room_at e.pools p.pool) && nat_le 1 p.segs && nat_le p.segs most_segments) (is_ring_count p.queue)
+          (and_parts (nat_le min_port_room (room_at e.pools p.pool) && nat_le 1 p.segs && nat_le p.segs max_segments) (is_ring_count p.queue)
           fits).1) e.ports
           (all_pass (port_fits e.pools) e.ports (map_none BadPort _ three.0));
       facts = each_is (λ r. ring_fits r ≡ true) (λ r. is_well_formed_fact r.fact ≡ true)
@@ -145,11 +140,6 @@ get_drop (suc n) (x ∷ xs) k = get_drop n xs k ∙ ap (slice_get (x ∷ xs)) on
   where
     one_more : suc (n + k) ≡ suc n + k
     one_more = omega arith
-
--- what holds at each slot holds of all
-each_slot : {X : Type 0} → (P : X → Type 0) (xs : List X) → ((k : ℕ) (x : X) → slice_get xs k ≡ Some x → P x) → AllByRecursion P xs
-each_slot P [] all = tt
-each_slot P (x ∷ xs) all = (all 0 x refl, each_slot P xs (λ k y h. all (suc k) y h))
 
 -- a checked question is the checked node of its entry
 node_of : (env : Environment) (entry : Entry) (program : List Instr) (q : Question) → q.program ≡ program → q.env ≡ env → q.entry ≡ entry → IsChecked q
@@ -183,7 +173,7 @@ are_checked env tables questions pattern limits nodes checked = record {
 -- programs that are checked for the entries of an environment, with its tables, make a plan
 pub plan_of : (env : Environment) (tables : List RouteTable) (questions : List Question) (pattern : List ℕ) → fault_of env ≡ None → AreNodes env questions
     → length tables ≡ env.tables → ((k : ℕ) (q : Question) → slice_get questions k ≡ Some q → IsChecked q)
-    → ((k : ℕ) (t : RouteTable) → slice_get tables k ≡ Some t → AllByRecursion (λ (route : Route). route.hop ≤ largest_hop) t.routes)
+    → ((k : ℕ) (t : RouteTable) → slice_get tables k ≡ Some t → AllByRecursion (λ (route : Route). route.hop ≤ max_hop) t.routes)
     → IsPlan (scheme_of env tables questions pattern)
 plan_of env tables questions pattern limits nodes many checked hops =
     let all : length (programs_of questions) ≡ length env.ports + length env.rings = length-map questions (λ (q : Question). q.program) ∙ nodes.many in
@@ -196,9 +186,9 @@ plan_of env tables questions pattern limits nodes many checked hops =
       };
       tables_fit = record {
         count = length-map tables (λ (t : RouteTable). t.routes) ∙ many;
-        hops = each_slot (AllByRecursion (λ (route : Route). route.hop ≤ largest_hop)) (routes_of tables) (λ k routes h.
+        hops = each_slot (AllByRecursion (λ (route : Route). route.hop ≤ max_hop)) (routes_of tables) (λ k routes h.
             let (t, is_t, is_routes) = get_map (λ (t : RouteTable). t.routes) tables k routes h in
-            subst (AllByRecursion (λ (route : Route). route.hop ≤ largest_hop)) is_routes (hops k t is_t));
+            subst (AllByRecursion (λ (route : Route). route.hop ≤ max_hop)) is_routes (hops k t is_t));
       };
       ports = each_slot IsProgram (take (length env.ports) (programs_of questions)) (λ k program h.
           are_programs k program (get_take (length env.ports) (programs_of questions) k program h).1);

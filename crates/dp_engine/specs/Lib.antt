@@ -16,8 +16,8 @@ pub mod Reports
 pub mod Schemes
 pub mod Serving
 pub mod Shapes
-pub mod Spaces
-pub mod Stacks
+pub mod Memories
+pub mod Builders
 pub mod Steps
 pub mod Tallies
 pub mod Turns

@@ -2,9 +2,9 @@
 use Rattle.std.specs.Prelude.{◌≡◌, ℕ, ◌+◌, ◌*◌, ◌<◌, ◌==◌, codes, true, if◌then◌else◌, List, [], ◌∷◌, ◌++◌, length, slice_index}
 use Rattle.std.specs.List.{AllByRecursion}
 use Rattle.dp_zone.specs.Names.{is_name}
-use Rattle.dp_zone.specs.Zones.{most_zones}
-use Rattle.dp_engine.specs.declared.names.Kind.{Kind}
-use Rattle.dp_engine.specs.declared.names.Kind.TheVariants.{Port, Ring}
+use Rattle.dp_zone.specs.Zones.{max_zones}
+use Rattle.dp_engine.specs.declared.names.ListKind.{ListKind}
+use Rattle.dp_engine.specs.declared.names.ListKind.TheVariants.{Port, Ring}
 
 -- a word and a digit
 abbrev pub numbered : List ℕ → ℕ → List ℕ
@@ -14,7 +14,7 @@ abbrev pub pool_name : ℕ → List ℕ
 pool_name k = numbered (codes "pool") k
 
 -- the name of the k-th ring of a kind
-abbrev pub ring_name : Kind → ℕ → List ℕ
+abbrev pub ring_name : ListKind → ℕ → List ℕ
 ring_name Port k = numbered (codes "port") k
 ring_name Ring k = numbered (codes "ring") k
 
@@ -31,7 +31,7 @@ abbrev pub AllBefore : ℕ → List (List ℕ) → Type 0
 AllBefore r names = AllByRecursion (λ n. rank n < r) names
 
 -- the least rank of a kind
-abbrev pub first_of : Kind → ℕ
+abbrev pub first_of : ListKind → ℕ
 first_of Port = 1485
 first_of Ring = 2485
 
@@ -43,4 +43,4 @@ first_pool = 3485
 pub record IsNext (name : List ℕ) (names : List (List ℕ)) : Type 0 where
   pub named : is_name name ≡ true
   pub after : AllBefore (rank name) names
-  pub few : length names < most_zones
+  pub few : length names < max_zones

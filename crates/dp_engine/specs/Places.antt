@@ -1,4 +1,4 @@
--- Internal: the places where packets wait, transmit lists and rings. What holds of both is said once.
+-- Internal: the places where packets wait, transmit lists and rings. What holds of both is stated once.
 use Rattle.std.specs.Prelude.{◌≡◌, ℕ, ◌<◌, List, length, map, Option, slice_get, slice_set}
 use Rattle.dp_model.specs.Packets.{Packet}
 use Rattle.dp_model.specs.Machine.{State, World, with_outbox, with_ring}
@@ -8,32 +8,32 @@ use Rattle.dp_engine.specs.declared.place.Place.TheVariants.{Port, Ring}
 use Rattle.dp_engine.specs.Handles.{Lists, lists_of, without_entries, entries_of}
 use Rattle.dp_engine.specs.Queues.{ring_at}
 
--- the packets that wait there
+-- the packets that wait at a place
 abbrev pub packets_at : Place → World → Option (List Packet)
 packets_at (Port i) w = slice_get w.outboxes i
 packets_at (Ring i) w = slice_get w.rings i
 
--- a state in which these wait there
+-- the state with these packets waiting at a place
 abbrev pub with_packets : Place → List Packet → State → State
 with_packets (Port i) packets s = with_outbox i packets s
 with_packets (Ring i) packets s = with_ring i packets s
 
--- the handles that wait there
+-- the handles that wait at a place
 abbrev pub handles_at : Place → Lists → Option (List ℕ)
 handles_at (Port i) lists = slice_get lists.outboxes i
 handles_at (Ring i) lists = slice_get lists.rings i
 
--- lists in which these wait there
+-- the lists with these handles waiting at a place
 abbrev pub with_handles : Place → List ℕ → Lists → Lists
 with_handles (Port i) xs lists = record lists { outboxes = slice_set lists.outboxes i xs }
 with_handles (Ring i) xs lists = record lists { rings = slice_set lists.rings i xs }
 
--- there is such a place among rings and transmit lists
+-- the place exists among rings and transmit lists
 abbrev pub IsPlace : Place → List RingView → List RingView → Type 0
 IsPlace (Port i) rings outboxes = i < length outboxes
 IsPlace (Ring i) rings outboxes = i < length rings
 
--- its ring
+-- the ring of a place
 abbrev pub place_in : Place → List RingView → List RingView → RingView
 place_in (Port i) rings outboxes = ring_at outboxes i
 place_in (Ring i) rings outboxes = ring_at rings i

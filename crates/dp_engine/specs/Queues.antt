@@ -19,7 +19,7 @@ RingsFirst (Some r ∷ slots) = RingsFirst slots
 
 -- ---- rings by their numbers
 
--- stands for a missing ring
+-- a placeholder for a missing ring
 abbrev pub no_ring : RingView
 no_ring = record {
   count = 0;
@@ -40,7 +40,7 @@ is_waiting r = not (length r.entries == 0)
 
 -- ---- a slot for a ring
 
--- its ring
+-- the ring in a slot
 abbrev pub ring_of : Option RingView → RingView
 ring_of None = no_ring
 ring_of (Some r) = r

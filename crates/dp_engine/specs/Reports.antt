@@ -1,4 +1,4 @@
--- What a report says of an engine: counts of ports, pools and rings.
+-- The contents of an engine's report: the counts of ports, pools and rings.
 use Rattle.std.specs.Prelude.{◌≡◌, ℕ, suc, List, [], ◌∷◌, length, map, take}
 use Rattle.dp_model.specs.declared.env.PoolSpec.{PoolSpec}
 use Rattle.dp_model.specs.Environments.{Environment}
@@ -17,7 +17,7 @@ use Rattle.dp_engine.specs.Engines.{EngineState}
 abbrev pub port_report : InputState → Tallies → PortReport
 port_report state t = record { received = t.received; nobuf = t.nobuf; oversize = t.oversize; sent = t.sent; state = state }
 
--- the report of each pool from one on
+-- the report of each pool, starting at one
 abbrev pub pool_reports : (ℕ → ℕ) → ℕ → List PoolSpec → List PoolReport
 pool_reports free k [] = []
 pool_reports free k (p ∷ pools) = record { free = free k; count = p.count } ∷ pool_reports free (suc k) pools

@@ -1,18 +1,18 @@
--- Internal: what each part of a turn does to the world.
+-- Internal: the effect of each part of a turn on the world.
 use Rattle.std.specs.Prelude.{◌≡◌, ℕ, Bool, List, Option, Some, None, slice_get}
 use Rattle.std.specs.List.{AllByRecursion}
 use Rattle.dp_model.specs.declared.env.PortSpec.{PortSpec}
 use Rattle.dp_model.specs.declared.instr.Instr.{Instr}
 use Rattle.dp_model.specs.Packets.{Packet}
 use Rattle.dp_model.specs.Machine.{World}
-use Rattle.dp_model.specs.Runs.{Outcome, Arrives, Waiting, first_waiting, NodeRun, Took}
+use Rattle.dp_model.specs.Runs.{Outcome, Arrives, Waiting, first_waiting, NodeRun, Consumed}
 use Rattle.dp_model.specs.Safety.{IsAtRest}
 use Rattle.dp_engine.specs.declared.run.NodeRun as took
 use Rattle.dp_engine.specs.Handles.{Core}
 use Rattle.dp_engine.specs.Steps.{FitsIn}
 use Rattle.dp_engine.specs.Schemes.{Scheme}
 use Rattle.dp_engine.specs.Watching.{Event, SeesAll, ShowsRun, ShowsArrival, ShowsServing, of_ring}
-use Rattle.dp_model.specs.Limits.{most_ring_runs}
+use Rattle.dp_model.specs.Limits.{max_ring_runs}
 
 -- the outcome of a record at a port with its program
 abbrev pub ArrivesAt : Scheme → ℕ → List ℕ → World → Outcome → List Bool → World → Type 0
@@ -28,7 +28,7 @@ ServesOne s w (Some run) w' =
     (next : Waiting Packet) × (program : List Instr) × (answers : List Bool)
     × (first_waiting w.rings ≡ Some next) × (slice_get s.nodes.rings next.ring ≡ Some program)
     × NodeRun s.setting program next.packet next.ring (record w { rings = next.rings }) answers w'
-    × Took w w' run.steps run.cuts
+    × Consumed w w' run.steps run.cuts
 
 -- a machine between two node runs of a scheme
 pub record Rests (s : Scheme) (core : Core) : Type 0 where
@@ -39,7 +39,7 @@ pub record Rests (s : Scheme) (core : Core) : Type 0 where
 
 -- ---- what watchers are shown
 
--- a watcher saw the part of the record
+-- a watcher was shown the arrival of the record
 pub record WatchesArrival {V : Type 0} (sees : V → Event → V → Type 0) (v v' : V) (s : Scheme) (port : ℕ) (bytes : List ℕ) (w : World) (outcome : Outcome)
     (w' : World) : Type 0 where
   pub answers : List Bool
@@ -47,7 +47,7 @@ pub record WatchesArrival {V : Type 0} (sees : V → Event → V → Type 0) (v 
   pub shows : ShowsArrival s.setting s.nodes port bytes w outcome answers w' events
   pub seen : SeesAll sees v events v'
 
--- it saw the node run on the front packet of the first ring that has one
+-- a watcher was shown the node run on the front packet of the first ring that has one
 pub record WatchesNext {V : Type 0} (sees : V → Event → V → Type 0) (v v' : V) (s : Scheme) (w w' : World) : Type 0 where
   pub next : Waiting Packet
   pub waits : first_waiting w.rings ≡ Some next
@@ -58,14 +58,14 @@ pub record WatchesNext {V : Type 0} (sees : V → Event → V → Type 0) (v v' 
   pub shows : ShowsRun s.setting (of_ring program next w) answers w' events
   pub seen : SeesAll sees v events v'
 
--- it saw that, or there was none
+-- a watcher was shown that node run, or there was none
 abbrev pub WatchesOne : {V : Type 0} → (V → Event → V → Type 0) → V → V → Scheme → World → Option took.NodeRun → World → Type 0
 WatchesOne sees v v' s w None w' = v' ≡ v
 WatchesOne sees v v' s w (Some run) w' = WatchesNext sees v v' s w w'
 
--- it saw up to 32 of them
+-- a watcher was shown up to 32 of these node runs
 pub record WatchesServing {V : Type 0} (sees : V → Event → V → Type 0) (v v' : V) (s : Scheme) (w : World) (runs : ℕ) (w' : World) : Type 0 where
   pub answers : List Bool
   pub events : List Event
-  pub shows : ShowsServing s.setting s.nodes.rings most_ring_runs w answers runs w' events
+  pub shows : ShowsServing s.setting s.nodes.rings max_ring_runs w answers runs w' events
   pub seen : SeesAll sees v events v'

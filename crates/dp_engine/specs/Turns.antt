@@ -1,4 +1,4 @@
--- Internal: how turns begin.
+-- Internal: the state in which a turn's node run begins.
 use Rattle.std.specs.Prelude.{◌≡◌, ℕ, ◌+◌, List, length}
 use Rattle.dp_model.specs.Environments.{room_at}
 use Rattle.dp_model.specs.Buffers.{Number, Buffers}

@@ -1,4 +1,4 @@
-//! What a pass hands out: records in one array of the caller's, and their bytes in another.
+//! The output of a pass: records in one array of the caller, and their bytes in another.
 
 /// A record that a port sent. Its bytes are in the array of bytes of the same pass.
 #[repr(C)]

@@ -2,8 +2,8 @@
 ghost use Rattle.std.specs.Prelude.{◌≡◌, ◌+◌, Some, IfSome, option_map, if◌then◌else◌};
 ghost use Rattle.dp_engine.specs.Steps.{label_after, IsOnOrTo};
 
-/// Where control goes after an instruction that does not end its node run. Each form of instruction without a label is known to go on, so only jumps
-/// are tested for leading backward.
+/// Where control goes after an instruction that does not end its node run. An instruction without a label is known to go on, so only jumps are
+/// tested for leading backward.
 #[derive(Clone, Copy)]
 pub(crate) enum Control {
     /// To the next instruction.
@@ -12,7 +12,7 @@ pub(crate) enum Control {
     To(u16),
 }
 
-// A jump to the label where the test passes, else on.
+// Jumps to the label if the test passes, else goes on.
 #[inline(always)]
 pub(crate) fn branch(test: bool, to: u16, label: usize) -> Option<Control>
     ensures leads { option_map (label_after label) result ≡ Some (if test then to else label + 1) }

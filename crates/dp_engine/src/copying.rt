@@ -7,7 +7,7 @@ ghost use Rattle.dp_model.specs.Stores.{IsLive, Of};
 use dp_mbuf::Mbufs;
 use dp_model::Packet as Handle;
 
-// Writes `part` into an array from `start` on.
+// Writes `part` into an array at index `start`.
 #[inline(always)]
 fn write_at(bytes: &mut [u8], start: usize, part: &[u8])
     requires { start + length part.now ≤ length bytes.old }
@@ -16,7 +16,7 @@ fn write_at(bytes: &mut [u8], start: usize, part: &[u8])
     bytes[start..start + part.len()].copy_from_slice(part);
 }
 
-// Copies the bytes of a packet into an array from an offset on, segment by segment. Returns how many they are.
+// Copies the bytes of a packet into an array at an offset, segment by segment. Returns their number.
 #[inline(always)]
 pub(crate) fn copy_packet(mbufs: &Mbufs, packet: Handle, bytes: &mut [u8], from: usize) -> u32
     requires live { IsLive mbufs.now.store packet }

@@ -5,7 +5,7 @@ ghost use Rattle.dp_engine.specs.Needs.{bytes_needed};
 ghost use Rattle.dp_engine.specs.Schemes.{AreNodes};
 ghost use Rattle.dp_engine.specs.Engines.{IsOpened, IsAscending, IsFlushed, flushed};
 ghost use Rattle.dp_engine.specs.Reports.{IsReport, IsWhole};
-ghost use Rattle.dp_engine.specs.Spaces.{IsOneFree};
+ghost use Rattle.dp_engine.specs.Memories.{IsOneFree};
 
 mod drains;
 mod pass;
@@ -15,10 +15,10 @@ mod turns;
 use crate::known::{Known, Nothing};
 use crate::lists::Lists;
 use crate::machine::Machine;
+use crate::memory::{EngineMemory, Parts};
 use crate::plan::Plan;
 use crate::queues::Queues;
 use crate::report::{NO_TALLIES, Report, Tallies};
-use crate::space::{Parts, Space};
 use dp_check::Checked;
 use dp_lpm::Lpm;
 use dp_mbuf::Mbufs;
@@ -27,7 +27,7 @@ use dp_region::Region;
 pub use pass::Pass;
 use std::marker::Model;
 
-/// What became of a record.
+/// The outcome of a record: received, or why it was dropped.
 #[derive(Clone, Copy, Debug, PartialEq, Eq)]
 pub enum Outcome {
     /// Received; the port's program ran on it.
@@ -58,7 +58,7 @@ pub struct WriteFault {
     pub sent: u32,
 }
 
-/// The region is smaller than the engine needs. Everything that was handed in comes back.
+/// The region is smaller than the engine needs. The error returns everything that was handed in.
 pub struct OpenFault {
     /// The region.
     pub region: Region,
@@ -69,11 +69,11 @@ pub struct OpenFault {
 }
 
 /// An engine: pools of mbufs, rings and transmit lists in one region, tables, and a checked program for each port and ring. `finish` ends it.
-/// Programs that are among `K` run as machine code of their own, others are interpreted; nothing else depends on `K`.
+/// Programs that are among `K` run as machine code, others are interpreted; nothing else depends on `K`.
 pub struct Engine<K: Known = Nothing> {
     plan: Plan<K>,
     machine: Machine,
-    space: Space,
+    memory: EngineMemory,
     turns: u64,
     tallies: [Tallies; 8],
     left: [u64; 8],
@@ -84,15 +84,15 @@ impl<K: Known> Model for Engine<K> {
 
     ghost Value = { EngineState };
 
-    ghost view = { λ e. engine_of e.plan e.machine e.space e.turns e.tallies e.left };
+    ghost view = { λ e. engine_of e.plan e.machine e.memory e.turns e.tallies e.left };
 
-    ghost invariant = { λ e. IsEngine e.plan e.machine e.space e.turns e.tallies e.left };
+    ghost invariant = { λ e. IsEngine e.plan e.machine e.memory e.turns e.tallies e.left };
 }
 
 impl<K: Known> Engine<K> {
-    /// Opens an engine in a region of which nothing is lent, with as many tables as the environment has, and a checked program for each port and then
-    /// for each ring, of this environment and its own entry. No allocation call is refused at first. It fails exactly where the region has fewer
-    /// bytes than `need` returns, and then everything comes back.
+    /// Opens an engine in a region with nothing lent. The tables are as many as the environment has; the checked programs are one for each
+    /// port and then one for each ring, each of this environment and its own entry. No allocation call is refused at first. It fails exactly
+    /// if the region has fewer bytes than `need` returns; the error then has everything.
     pub fn open(
         region: Region,
         env: &Env,
@@ -106,7 +106,7 @@ impl<K: Known> Engine<K> {
         ensures room { OnOk result (bytes_needed env.now ≤ length region.bytes) }
         ensures refused { IfErr result (λ f. (length region.bytes < bytes_needed env.now) × (f.region ≡ region) × (f.tables ≡ tables) × (f.nodes ≡ nodes)) }
     {
-        let (space, parts) = match Space::open(region, env) {
+        let (memory, parts) = match EngineMemory::open(region, env) {
             Ok(opened) => opened,
             Err(region) => {
                 return Err(OpenFault {
@@ -128,14 +128,14 @@ impl<K: Known> Engine<K> {
         Ok(Engine {
             plan,
             machine,
-            space,
+            memory,
             turns: 0,
             tallies: [NO_TALLIES; 8],
             left: [0; 8],
         })
     }
 
-    /// Replaces the pattern: the numbers of the allocation calls to refuse, ascending, from 1. To be called before the first turn.
+    /// Replaces the pattern: the numbers of the allocation calls to refuse, ascending, from 1. Call it before the first turn.
     pub fn refuse(&mut self, pattern: Vec<u64>)
         requires ascending { IsAscending 0 pattern.items }
         requires first { self.old.turns ≡ 0 }
@@ -159,8 +159,8 @@ impl<K: Known> Engine<K> {
         self.machine.queued(port) as usize
     }
 
-    /// Ends the engine: frees what is left in rings and transmit lists. Returns the report, in which all buffers are free, and the region, of which
-    /// nothing is lent: its heap is one free element.
+    /// Ends the engine: frees what is left in rings and transmit lists. Returns the report, in which all buffers are free, and the region, with
+    /// nothing lent: its heap is one free element.
     pub fn finish(self) -> (Report, Region)
         ensures report { IsReport (flushed self) result.0 }
         ensures whole { IsWhole self.setting.env result.0 }
@@ -174,7 +174,7 @@ impl<K: Known> Engine<K> {
         (report, engine.close())
     }
 
-    // Takes the engine apart, where no packet is left.
+    // Takes the engine apart. No packet may be left.
     fn close(self) -> Region
         requires none { IsFlushed self }
         ensures region { (result.home ≡ self.home) × (length result.bytes ≡ self.size) }
@@ -184,13 +184,13 @@ impl<K: Known> Engine<K> {
         let Engine {
             plan: _,
             machine,
-            space,
+            memory,
             turns: _,
             tallies: _,
             left: _,
         } = self;
         let (mbufs, rings, outboxes) = machine.into_parts();
-        space.close(Parts {
+        memory.close(Parts {
             pools: mbufs.into_pools(),
             rings: rings.into_rings(),
             lists: outboxes.into_rings(),

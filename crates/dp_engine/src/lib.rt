@@ -35,12 +35,14 @@
 #![tactic(auto)]
 
 mod batch;
+mod builder;
 mod control;
 mod copying;
 mod engine;
 mod known;
 mod lists;
 mod machine;
+mod memory;
 mod names;
 mod needs;
 mod node;
@@ -52,8 +54,6 @@ mod report;
 mod route_lookup;
 mod run;
 mod serving;
-mod space;
-mod stack;
 mod view;
 mod watch;
 

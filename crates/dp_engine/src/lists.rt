@@ -57,7 +57,7 @@ fn push_in(slot: &mut Option<Ring>, entry: u32) -> bool
     }
 }
 
-// Takes the first entry of a slot's ring out.
+// Removes and returns the first entry of a slot's ring.
 fn pop_in(slot: &mut Option<Ring>) -> Option<u32>
     requires { IsSome slot.old }
     ensures first { result ≡ slice_get (ring_of slot.old).entries 0 }
@@ -70,7 +70,7 @@ fn pop_in(slot: &mut Option<Ring>) -> Option<u32>
 }
 
 impl Lists {
-    /// Takes these rings over, by slot.
+    /// Takes ownership of these rings, by slot.
     pub fn over(rings: [Option<Ring>; 8]) -> Lists
         requires { RingsFirst rings }
         ensures { result ≡ rings_in rings }
@@ -104,7 +104,7 @@ impl Lists {
         ring_in(&self.rings, k).peek(i)
     }
 
-    /// Appends an entry to a ring. Answers false where that is full.
+    /// Appends an entry to a ring. Returns false if the ring is full.
     pub fn push(&mut self, k: u8, entry: u32) -> bool
         requires { k < length self.old }
         ensures taken { result ≡ nat_lt 0 (room_in (ring_at self.old k)) }
@@ -114,7 +114,7 @@ impl Lists {
         push_in(&mut self.rings[usize::from(k)], entry)
     }
 
-    /// Takes the first entry of a ring out, if there is one.
+    /// Removes and returns the first entry of a ring, if there is one.
     pub fn pop(&mut self, k: u8) -> Option<u32>
         requires { k < length self.old }
         ensures first { result ≡ slice_get (ring_at self.old k).entries 0 }
@@ -123,7 +123,7 @@ impl Lists {
         pop_in(&mut self.rings[usize::from(k)])
     }
 
-    /// Hands the rings back, each in the slot of its number.
+    /// Returns the rings, each in the slot of its number.
     pub fn into_rings(self) -> [Option<Ring>; 8]
         ensures same { rings_in result ≡ self }
         ensures first { RingsFirst result }

@@ -5,10 +5,10 @@ ghost use Rattle.dp_model.specs.Arithmetic.{value};
 ghost use Rattle.dp_model.specs.Machine.{Holds, with_packet, without_packet, with_number, with_step, with_outbox, is_denied, live};
 ghost use Rattle.std.specs.Prelude.{not, None, Some, nat_eq, IsTrue, IsFalse, slice_get, replicate};
 ghost use Rattle.std.specs.List.{list_any, AllByRecursion};
-ghost use Rattle.dp_model.specs.Limits.{least_port_room, most_segments};
+ghost use Rattle.dp_model.specs.Limits.{min_port_room, max_segments};
 ghost use Rattle.dp_model.specs.Environments.{room_at};
 ghost use Rattle.dp_model.specs.Runs.{between, first_state, first_waiting, Waiting};
-ghost use Rattle.dp_engine.specs.Handles.{moved, in_slot, core_of, ran, frames_of, lists_of};
+ghost use Rattle.dp_engine.specs.Handles.{moved, in_slot, core_of, run_counts, frames_of, lists_of};
 ghost use Rattle.dp_engine.specs.Steps.{setting_of, with_jumps};
 ghost use Rattle.dp_engine.specs.Turns.{IsReceived, with_one_call};
 ghost use Rattle.dp_model.specs.Machine.{with_cut, without_packets, jump_budget};
@@ -34,11 +34,11 @@ use crate::queues::Queues;
 use calls::{handle_in, is_held_in};
 use dp_mbuf::Mbufs;
 use dp_model::{Env, NumberRegister, Operand, Packet as Handle, PacketRegister};
-use dp_pcap::{Calls, PcapError, Sink, Time, Unit};
+use dp_pcap::{GhostCount, PcapError, Sink, Time, Unit};
 use register::{Register, no_packets, one_packet};
 use std::marker::Model;
 
-// How many backward jumps a node run may take.
+// The maximum number of backward jumps of a node run.
 const JUMP_BUDGET: u16 = 256;
 
 pub struct Machine {
@@ -48,20 +48,20 @@ pub struct Machine {
     rings: Queues,
     outboxes: Lists,
     calls: u64,
-    steps: Calls,
+    steps: GhostCount,
     cuts: u64,
     jumps: u16,
 }
 
 impl Model for Machine {
-    ghost use Rattle.dp_engine.specs.Handles.{Core, core_of, ran, frames_of, lists_of, StandOnce};
+    ghost use Rattle.dp_engine.specs.Handles.{Core, core_of, run_counts, frames_of, lists_of, OccurOnce};
 
     ghost Value = { Core };
 
     ghost view = { λ m. core_of m.mbufs.store (frames_of m.mbufs.zones m.rings m.outboxes) m.registers m.numbers (lists_of m.rings m.outboxes) m.calls
-        (ran m.steps.count m.cuts m.jumps) };
+        (run_counts m.steps.count m.cuts m.jumps) };
 
-    ghost invariant = { λ m. StandOnce m.mbufs.store.slots m.registers (lists_of m.rings m.outboxes) };
+    ghost invariant = { λ m. OccurOnce m.mbufs.store.slots m.registers (lists_of m.rings m.outboxes) };
 }
 
 // Whether the call's number is in the pattern.
@@ -71,7 +71,7 @@ fn is_listed(calls: &[u64], call: u64) -> bool
     calls.iter().any(|x| call == *x)
 }
 
-// Appends a handle to a transmit list or a ring. Answers false where that is full.
+// Appends a handle to a transmit list or a ring. Returns false if it is full.
 #[inline(always)]
 fn push_at(rings: &mut Queues, outboxes: &mut Lists, place: Place, handle: u32) -> bool
     requires { IsPlace place rings.old outboxes.old }
@@ -86,7 +86,7 @@ fn push_at(rings: &mut Queues, outboxes: &mut Lists, place: Place, handle: u32) 
     }
 }
 
-// Takes the first handle of a transmit list or a ring out, if there is one.
+// Removes and returns the first handle of a transmit list or a ring, if there is one.
 #[inline(always)]
 fn pop_at(rings: &mut Queues, outboxes: &mut Lists, place: Place) -> Option<u32>
     requires { IsPlace place rings.old outboxes.old }
@@ -106,7 +106,7 @@ impl Machine {
         requires rings { AllByRecursion (λ (r : RingView). r.entries ≡ []) rings }
         requires outboxes { AllByRecursion (λ (r : RingView). r.entries ≡ []) outboxes }
         ensures { result ≡ core_of mbufs.store (frames_of mbufs.zones rings outboxes) (replicate 8 None) (replicate 8 0) (lists_of rings outboxes) 0
-            (ran 0 0 0) }
+            (run_counts 0 0 0) }
     {
         Machine {
             mbufs,
@@ -115,7 +115,7 @@ impl Machine {
             rings,
             outboxes,
             calls: 0,
-            steps: Calls::new(),
+            steps: GhostCount::new(),
             cuts: 0,
             jumps: 0,
         }
@@ -137,6 +137,15 @@ impl Machine {
         self.mbufs.available(pool)
     }
 
+    // How many buffers of a pool the bytes need.
+    #[inline(always)]
+    pub(crate) fn needed(&self, pool: u32, len: usize) -> usize
+        requires { min_port_room ≤ room_at self.now.pools pool }
+        ensures { result ≡ needed self.now.pools pool len }
+    {
+        self.mbufs.needed(pool, len)
+    }
+
     // Receives bytes into the first packet register, and puts the port's number into the first number register. Answers false where the call is
     // refused.
     #[inline(always)]
@@ -150,8 +159,8 @@ impl Machine {
     ) -> bool
         requires idle { AllByRecursion (λ o. o ≡ None) self.old.state.packets }
         requires pools { self.old.pools ≡ env.now.pools }
-        requires has_room { least_port_room ≤ room_at env.now.pools pool }
-        requires fits { needed env.now.pools pool (length bytes.now) ≤ most_segments }
+        requires has_room { min_port_room ≤ room_at env.now.pools pool }
+        requires fits { needed env.now.pools pool (length bytes.now) ≤ max_segments }
         requires few { self.old.state.world.calls + 1 < 2 ^ 64 }
         ensures denied { not result ≡ is_denied (setting_of env.now [] pattern.now) (between self.old.state.world) pool
             (needed env.now.pools pool (length bytes.now)) }
@@ -202,7 +211,7 @@ impl Machine {
         self.registers[usize::from(p.number())] = Register::empty();
     }
 
-    // Moves a packet to the end of a transmit list or a ring. Answers false where that is full.
+    // Moves a packet to the end of a transmit list or a ring. Returns false if it is full.
     #[inline(always)]
     pub(crate) fn move_to(&mut self, p: PacketRegister, place: Place) -> bool
         requires holds { (k : Packet) × Holds self.old.state p k }
@@ -390,7 +399,7 @@ impl Machine {
         }
     }
 
-    // Takes the first packet of a transmit list out, which must have one, writes its record and frees it, also where the writer fails.
+    // Removes the first packet of a transmit list, which must have one, writes its record and frees it, also if the writer fails.
     #[inline(always)]
     fn put_first<W: Sink>(
         &mut self,
@@ -425,7 +434,7 @@ impl Machine {
         }
     }
 
-    // Frees what a transmit list has left after a failure. It is not inlined, so that a drain has the code that frees a packet only once.
+    // Frees what a transmit list has left after a failure. Not inlined, so a drain has the code that frees a packet only once.
     #[cold]
     #[inline(never)]
     fn drop_rest(&mut self, port: u8)
@@ -468,7 +477,7 @@ impl Machine {
         Ok(count)
     }
 
-    // Takes the machine apart, where no packet is left.
+    // Takes the machine apart. No packet may be left.
     pub(crate) fn into_parts(self) -> (Mbufs, Queues, Lists)
         requires idle { AllByRecursion (λ o. o ≡ None) self.state.packets }
         requires rings { AllByRecursion (λ packets. packets ≡ []) self.state.world.rings }

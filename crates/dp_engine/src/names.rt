@@ -6,7 +6,7 @@ ghost use Rattle.dp_engine.specs.Names.{numbered, pool_name, ring_name};
 
 /// Whether a ring is the transmit list of a port.
 #[derive(Clone, Copy, Debug, PartialEq, Eq)]
-pub(crate) enum Kind {
+pub(crate) enum ListKind {
     Port,
     Ring,
 }
@@ -46,13 +46,13 @@ fn loose_name(k: usize) -> &'static str
 }
 
 /// The name of the zone of the `k`-th ring of a kind.
-pub(crate) fn ring_name(kind: Kind, k: usize) -> &'static str
+pub(crate) fn ring_name(kind: ListKind, k: usize) -> &'static str
     requires { k < 8 }
     ensures { result.now ≡ ring_name kind k }
 {
     match kind {
-        Kind::Port => port_name(k),
-        Kind::Ring => loose_name(k),
+        ListKind::Port => port_name(k),
+        ListKind::Ring => loose_name(k),
     }
 }
 

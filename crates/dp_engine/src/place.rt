@@ -1,4 +1,4 @@
-//! Where packets wait.
+//! The two kinds of places where packets wait.
 
 /// A transmit list, by its port, or a ring, by its number.
 #[derive(Clone, Copy)]

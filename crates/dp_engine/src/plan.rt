@@ -90,7 +90,7 @@ impl<K: Known> Plan<K> {
         self.pattern = pattern;
     }
 
-    // The environment. Its contract says what holds of every plan.
+    // The environment. The contract of this call says what holds of every plan.
     pub(crate) fn env(&self) -> &Env
         ensures same { result.now ≡ self.now.setting.env }
         ensures pipeline { IsPipeline self.now.setting self.now.nodes }

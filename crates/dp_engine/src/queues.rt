@@ -1,4 +1,4 @@
-//! Rings by their numbers.
+//! Rings by number, with the lowest one that has an entry.
 
 ghost use Rattle.std.specs.Prelude.{◌≡◌, ◌<◌, ◌≤◌, ◌∷◌, [], length, nat_lt, if◌then◌else◌, slice_get, slice_set, true, IfSome, IfNone};
 ghost use Rattle.std.specs.List.{position, position_or_len};
@@ -9,10 +9,10 @@ use crate::lists::Lists;
 use dp_ring::Ring;
 use std::marker::Model;
 
-/// `Lists` that keep track of the first one that has an entry.
+/// `Lists` that track the lowest ring that has an entry.
 pub struct Queues {
     rings: Lists,
-    // The least number of a ring that has an entry; the number of rings where none has.
+    // The least number of a ring that has an entry; the number of rings if none has.
     first: u8,
 }
 
@@ -29,7 +29,7 @@ impl Model for Queues {
     ghost invariant = { λ q. q.first ≡ position_or_len is_waiting q.rings };
 }
 
-// The least number of a ring that has an entry; the number of rings where none has. No ring below `from` has one.
+// The least number of a ring that has an entry; the number of rings if none has. No ring below `from` has one.
 fn first_from(rings: &Lists, from: u8) -> u8
     requires { from ≤ position_or_len is_waiting rings.now }
     ensures { result ≡ position_or_len is_waiting rings.now }
@@ -44,7 +44,7 @@ fn first_from(rings: &Lists, from: u8) -> u8
 }
 
 impl Queues {
-    /// Takes these rings over, by slot.
+    /// Takes ownership of these rings, by slot.
     pub fn over(rings: [Option<Ring>; 8]) -> Queues
         requires { RingsFirst rings }
         ensures { result ≡ rings_in rings }
@@ -71,7 +71,7 @@ impl Queues {
         self.rings.count(k)
     }
 
-    /// Appends an entry to a ring. Answers false where that is full.
+    /// Appends an entry to a ring. Returns false if the ring is full.
     pub fn push(&mut self, k: u8, entry: u32) -> bool
         requires { k < length self.old }
         ensures taken { result ≡ nat_lt 0 (room_in (ring_at self.old k)) }
@@ -85,7 +85,7 @@ impl Queues {
         is_taken
     }
 
-    /// Takes the first entry of a ring out, if there is one.
+    /// Removes and returns the first entry of a ring, if there is one.
     pub fn pop(&mut self, k: u8) -> Option<u32>
         requires { k < length self.old }
         ensures first { result ≡ slice_get (ring_at self.old k).entries 0 }
@@ -99,7 +99,7 @@ impl Queues {
         entry
     }
 
-    /// The least number of a ring that has an entry, if one has.
+    /// The lowest number of a ring that has an entry, if one has.
     pub fn first_waiting(&self) -> Option<u8>
         ensures value { result ≡ position is_waiting self.now }
         ensures bound { IfSome result (λ k. k < length self.now) }
@@ -112,7 +112,7 @@ impl Queues {
         }
     }
 
-    /// Hands the rings back, each in the slot of its number.
+    /// Returns the rings, each in the slot of its number.
     pub fn into_rings(self) -> [Option<Ring>; 8]
         ensures same { rings_in result ≡ self }
         ensures first { RingsFirst result }

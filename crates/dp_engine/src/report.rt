@@ -63,7 +63,7 @@ pub(crate) struct Tallies {
     pub sent: u64,
 }
 
-/// Nothing counted yet.
+/// Counts that are all zero.
 pub(crate) const NO_TALLIES: Tallies = Tallies {
     received: 0,
     nobuf: 0,

@@ -1,4 +1,4 @@
-//! Looks routes up for a node run.
+//! Looks up routes for a node run.
 ghost use Rattle.std.specs.Prelude.{◌≡◌, ◌%◌, ◌^◌, ◌<◌, Some, length, option_map, slice_get};
 ghost use Rattle.dp_model.specs.Prefixes.{hop_for};
 ghost use Rattle.dp_engine.specs.Steps.{routes_of};

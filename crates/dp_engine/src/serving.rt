@@ -1,12 +1,10 @@
 //! Runs the parts of a turn: a record arrives at a port, and then packets in rings are served.
 ghost use Rattle.std.specs.Prelude.{◌≡◌, ℕ, ◌+◌, ◌*◌, ◌^◌, ◌<◌, ◌≤◌, Bool, List, length, IfSome};
 ghost use Rattle.dp_pcap.specs.declared.format.TheConstants.{MAX_RECORD};
-ghost use Rattle.dp_model.specs.Limits.{least_port_room, most_ring_runs};
-ghost use Rattle.dp_model.specs.Environments.{room_at};
-ghost use Rattle.dp_model.specs.Packets.{needed as segments_needed};
-ghost use Rattle.dp_model.specs.Runs.{Serves, Took, runs_of};
+ghost use Rattle.dp_model.specs.Limits.{max_ring_runs};
+ghost use Rattle.dp_model.specs.Runs.{Serves, Consumed, runs_of};
 ghost use Rattle.dp_model.specs.Safety.{IsPipeline, KeepsSafe};
-ghost use Rattle.dp_engine.specs.Outcomes.{outcome_of, most_steps};
+ghost use Rattle.dp_engine.specs.Outcomes.{outcome_of, max_steps};
 ghost use Rattle.dp_engine.specs.Tallies.{packet_count};
 ghost use Rattle.dp_engine.specs.Serving.{ArrivesAt, ServesOne, Rests, WatchesArrival, WatchesOne, WatchesServing};
 
@@ -17,23 +15,9 @@ use crate::plan::Plan;
 use crate::run::NodeRun;
 use crate::view::View;
 use crate::watch::Watch;
-use dp_model::{DEFAULT_HEADROOM, Entry, PoolSpec};
+use dp_model::Entry;
 
-// How many segments the bytes need in a pool: data rooms without their headroom, and one where there are no bytes.
-fn needed(pools: &[PoolSpec], pool: u32, len: usize) -> usize
-    requires room { least_port_room ≤ room_at pools.now pool }
-    requires len { len ≤ MAX_RECORD }
-    ensures { result ≡ segments_needed pools.now pool len }
-{
-    let full = pools[pool as usize].room as usize - usize::from(DEFAULT_HEADROOM);
-    // It divides only where one segment is not enough.
-    if len <= full {
-        return 1;
-    }
-    1usize.max((len + (full - 1)) / full)
-}
-
-// The most node runs of a turn on packets in rings.
+// The maximum number of node runs of a turn on packets in rings.
 const MAX_RING_RUNS: u8 = 32;
 
 const NO_RUN: NodeRun = NodeRun { steps: 0, cuts: 0 };
@@ -49,14 +33,14 @@ pub(crate) fn arrive<K: Known, W: Watch>(
     requires exists { port < length plan.now.setting.env.ports }
     requires size { length bytes.now ≤ MAX_RECORD }
     requires rests { Rests plan.now m.old }
-    requires few { m.old.state.world.calls + most_steps + 1 < 2 ^ 64 }
+    requires few { m.old.state.world.calls + max_steps + 1 < 2 ^ 64 }
     requires few_cuts { m.old.state.world.cuts + 1 < 2 ^ 64 }
     ensures arrives { (answers : List Bool) × ArrivesAt plan.now port bytes.now m.old.state.world (outcome_of result.0) answers m.new.state.world }
-    ensures took { Took m.old.state.world m.new.state.world result.1.steps result.1.cuts }
-    ensures few_steps { result.1.steps ≤ runs_of (outcome_of result.0) * most_steps }
+    ensures took { Consumed m.old.state.world m.new.state.world result.1.steps result.1.cuts }
+    ensures few_steps { result.1.steps ≤ runs_of (outcome_of result.0) * max_steps }
     ensures few_cuts { result.1.cuts ≤ 1 }
-    // One call for the record, and at most one for each step.
-    ensures calls { m.new.state.world.calls ≤ m.old.state.world.calls + most_steps + 1 }
+    // There is one call for the record, and at most one for each step.
+    ensures calls { m.new.state.world.calls ≤ m.old.state.world.calls + max_steps + 1 }
     ensures packets { packet_count m.new.state + m.old.state.world.calls ≤ packet_count m.old.state + m.new.state.world.calls }
     ensures rests { Rests plan.now m.new }
     ensures frames { m.new.frames ≡ m.old.frames }
@@ -66,7 +50,7 @@ pub(crate) fn arrive<K: Known, W: Watch>(
 {
     let env = plan.env();
     let spec = env.ports()[usize::from(port)];
-    if needed(env.pools(), spec.pool, bytes.len()) > spec.segs as usize {
+    if m.needed(spec.pool, bytes.len()) > spec.segs as usize {
         return (Outcome::Oversize, NO_RUN);
     }
     if !m.receive(env, plan.pattern(), spec.pool, bytes, port) {
@@ -83,11 +67,11 @@ pub(crate) fn arrive<K: Known, W: Watch>(
 // Runs the node of the first ring that has a packet on its front packet, if there is one.
 fn serve_one<K: Known, W: Watch>(plan: &Plan<K>, m: &mut Machine, watch: &mut W) -> Option<NodeRun>
     requires rests { Rests plan.now m.old }
-    requires few { m.old.state.world.calls + most_steps < 2 ^ 64 }
+    requires few { m.old.state.world.calls + max_steps < 2 ^ 64 }
     requires few_cuts { m.old.state.world.cuts + 1 < 2 ^ 64 }
     ensures serves { ServesOne plan.now m.old.state.world result m.new.state.world }
-    ensures few_steps { IfSome result (λ r. (r.steps ≤ most_steps) × (r.cuts ≤ 1)) }
-    ensures calls { m.new.state.world.calls ≤ m.old.state.world.calls + most_steps }
+    ensures few_steps { IfSome result (λ r. (r.steps ≤ max_steps) × (r.cuts ≤ 1)) }
+    ensures calls { m.new.state.world.calls ≤ m.old.state.world.calls + max_steps }
     ensures packets { packet_count m.new.state + m.old.state.world.calls ≤ packet_count m.old.state + m.new.state.world.calls }
     ensures rests { Rests plan.now m.new }
     ensures frames { m.new.frames ≡ m.old.frames }
@@ -114,15 +98,15 @@ pub(crate) struct Served {
 // Up to 32 node runs, each on the front packet of the first ring that has one.
 pub(crate) fn serve<K: Known, W: Watch>(plan: &Plan<K>, m: &mut Machine, watch: &mut W) -> Served
     requires rests { Rests plan.now m.old }
-    requires few { m.old.state.world.calls + most_ring_runs * most_steps < 2 ^ 64 }
-    requires few_cuts { m.old.state.world.cuts + most_ring_runs < 2 ^ 64 }
-    ensures serves { (answers : List Bool) × Serves plan.now.setting plan.now.nodes.rings most_ring_runs m.old.state.world
+    requires few { m.old.state.world.calls + max_ring_runs * max_steps < 2 ^ 64 }
+    requires few_cuts { m.old.state.world.cuts + max_ring_runs < 2 ^ 64 }
+    ensures serves { (answers : List Bool) × Serves plan.now.setting plan.now.nodes.rings max_ring_runs m.old.state.world
         answers result.runs m.new.state.world }
-    ensures took { Took m.old.state.world m.new.state.world result.steps result.cuts }
-    ensures few_runs { result.runs ≤ most_ring_runs }
-    ensures few_steps { result.steps ≤ result.runs * most_steps }
-    ensures few_cuts { result.cuts ≤ most_ring_runs }
-    ensures calls { m.new.state.world.calls ≤ m.old.state.world.calls + most_ring_runs * most_steps }
+    ensures took { Consumed m.old.state.world m.new.state.world result.steps result.cuts }
+    ensures few_runs { result.runs ≤ max_ring_runs }
+    ensures few_steps { result.steps ≤ result.runs * max_steps }
+    ensures few_cuts { result.cuts ≤ max_ring_runs }
+    ensures calls { m.new.state.world.calls ≤ m.old.state.world.calls + max_ring_runs * max_steps }
     ensures packets { packet_count m.new.state + m.old.state.world.calls ≤ packet_count m.old.state + m.new.state.world.calls }
     ensures rests { Rests plan.now m.new }
     ensures frames { m.new.frames ≡ m.old.frames }

@@ -11,13 +11,13 @@ pub enum Way {
     To(u16),
     /// Out of the node run, which ends.
     Out,
-    /// Nowhere: it is the first backward jump beyond the budget, so the node run is cut.
+    /// Nowhere: its jump is the first backward one beyond the budget, so the node run is cut.
     Cut,
 }
 
 /// Watches node runs, instruction by instruction.
 ///
-/// In a contract a watcher has what it makes of each event that it is shown.
+/// Contracts see how each event that a watcher is shown changes it.
 pub trait Watch {
     ghost use Rattle.std.specs.Prelude.{◌<◌};
     ghost use Rattle.dp_lang.specs.declared.program.TheConstants.{MAX_INSTRS};
@@ -31,7 +31,7 @@ pub trait Watch {
         requires { IsOneOfEight node }
         ensures { sees self.old (Began node view.entry.state) self.new };
 
-    /// The instruction at this label ran and led that way. The view is of the machine after it; where the node run is cut, before its packets are
+    /// The instruction at this label ran and led that way. The view is of the machine after it; if the node run is cut, before its packets are
     /// freed.
     fn see(&mut self, label: u16, way: Way, view: View<'_>)
         requires { label < MAX_INSTRS }

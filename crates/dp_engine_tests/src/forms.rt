@@ -49,7 +49,7 @@ fn buffers_serve_again(rt: HostRuntime) -> Result<(), Fail> {
     Ok(())
 }
 
-// Sends the clone, or the packet without its first byte where there is none.
+// Sends the clone, or the packet without its first byte if there is none.
 const CLONE_OR_CUT: &str =
     "clone p1,p0,0,no\nfree p0\ntx p1,r0,full\nexit\nfull: free p1\nexit\nno: iflen p0,1,drop\nadj p0,1\ntx p0,r0,drop\nexit\ndrop: free p0\nexit\n";
 
@@ -94,10 +94,10 @@ fn new_bytes_are_zero(rt: HostRuntime) -> Result<(), Fail> {
     let ran = run(&rt, &env, &[front], &[&RECORD[..7], &RECORD[..3]])?;
     assert!(rt; ran.output == written(&rt, &[&[0, 0, 0, 0, 0, 0, 4, 0xf5, 0xf6]])?);
     assert!(rt; says(&ran.report, 2, 1, 64, 2));
-    let behind =
+    let beyond =
         "iflast p0,2,no\ntrim p0,2\niftail p0,3,no\nappend p0,3\nifhead p0,129,more\nfree p0\nexit\n\
          more: ifhead p0,128,no\ntx p0,r0,no\nexit\nno: free p0\nexit\n";
-    let ran = run(&rt, &env, &[behind], &[&RECORD[..5], &RECORD[..1]])?;
+    let ran = run(&rt, &env, &[beyond], &[&RECORD[..5], &RECORD[..1]])?;
     assert!(rt; ran.output == written(&rt, &[&[0xf0, 0xf1, 2, 0, 0, 0]])?);
     assert!(rt; says(&ran.report, 2, 1, 64, 2));
     Ok(())

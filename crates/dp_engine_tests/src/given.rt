@@ -65,7 +65,7 @@ pub fn checked(rt: &HostRuntime, text: &str, env: &Env, entry: Entry) -> Result<
     }
 }
 
-// The entry of the program at an index, where the ports come before the rings.
+// The entry of the program at an index: the ports come before the rings.
 fn entry_of(ports: usize, k: usize) -> Result<Entry, Fail>
     ensures port { IfOk result (λ entry. k < ports → entry ≡ Entry.Port k) }
     ensures ring { IfOk result (λ entry. ports ≤ k → entry ≡ Entry.Ring (k - ports)) }

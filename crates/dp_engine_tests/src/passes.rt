@@ -43,7 +43,7 @@ fn passed(
     Some(engine.pass(port, frame, time, records, bytes))
 }
 
-// A record of a batch, with its bytes where they lie within it.
+// A record of a batch, with its bytes if they lie within it.
 fn shown<'a>(records: &[SentRecord], bytes: &'a [u8], k: usize) -> (u64, u32, Option<&'a [u8]>) {
     match records.get(k) {
         Some(record) => {

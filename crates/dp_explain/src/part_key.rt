@@ -9,11 +9,11 @@ use toml::Table;
 /// What is wrong with a key.
 #[derive(Clone, Copy, Debug, PartialEq, Eq)]
 pub enum KeyError<'a> {
-    /// It is missing, and this is wanted.
+    /// It is missing, and its value must be this.
     Missing(Wanted),
     /// There is no such key; the nearest known one, if there is one.
     Unknown(Option<&'a str>),
-    /// It does not hold what is wanted.
+    /// Its value is not what it must be.
     Unmet(Wanted),
 }
 

@@ -15,7 +15,7 @@ pub struct TextLine<'a> {
 /// The name in the header of an array's table, as `[[port]]`.
 fn array_header(line: &str) -> Option<&str> {
     let rest = line.strip_prefix("[[")?;
-    let (name, _behind) = rest.split_once("]]")?;
+    let (name, _after) = rest.split_once("]]")?;
     Some(name.trim())
 }
 

@@ -172,7 +172,7 @@ fn write_route<W: Write>(
     }
 }
 
-/// Writes where a text stops being TOML.
+/// Writes the line at which a text is no longer TOML.
 fn write_not_toml<W: Write>(
     to: &mut W,
     name: &str,
@@ -194,7 +194,7 @@ fn line_of_offset(text: &str, offset: usize) -> Option<TextLine<'_>> {
     line_of_number(text, number.saturating_add(1))
 }
 
-/// Writes what is wrong with a pipeline file's text that was refused with this error: the line and a cure. Writes nothing where the error
+/// Writes what is wrong with a pipeline file's text that was refused with this error: the line and a cure. Writes nothing if the error
 /// is not in the text alone, or memory runs out.
 ///
 /// # Errors

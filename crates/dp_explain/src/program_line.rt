@@ -3,23 +3,26 @@
 use crate::nearest::Nearest;
 use crate::part_lines::line_of_number;
 use crate::pipeline_file::write_place;
-use dp_lang::{Cause, Fault, Form, Kind, MAX_INSTRS, all_forms, argument_of};
+use dp_lang::{Cause, Fault, Form, MAX_INSTRS, OperandKind, all_forms, argument_of};
 use std::fmt;
 use std::io::{self, Write};
 
 /// What an operand of a kind is, in words.
 #[derive(Drop)]
-struct KindWords(Kind);
+struct KindWords(OperandKind);
 
 impl fmt::Display for KindWords {
     fn fmt<W: fmt::Write>(&self, f: &mut fmt::Formatter<W>) -> fmt::Result {
         match self.0 {
-            Kind::Packet => write!(f, "a packet register, p0 to p7"),
-            Kind::Register => write!(f, "a number register, r0 to r7"),
-            Kind::Number { least, most } => write!(f, "a number from {least} to {most}"),
-            Kind::Width => write!(f, "a width in bytes: 1, 2, 4 or 8"),
-            Kind::RegisterOrConstant => write!(f, "a number register, r0 to r7, or a number"),
-            Kind::Label => write!(
+            OperandKind::Packet => write!(f, "a packet register, p0 to p7"),
+            OperandKind::Register => write!(f, "a number register, r0 to r7"),
+            OperandKind::Number { least, most } => write!(f, "a number from {least} to {most}"),
+            OperandKind::Width => write!(f, "a width in bytes: 1, 2, 4 or 8"),
+            OperandKind::RegisterOrConstant => write!(
+                f,
+                "a number register, r0 to r7, or a number"
+            ),
+            OperandKind::Label => write!(
                 f,
                 "the name of a label: a letter or _, then letters, digits or _, at most 31 in all"
             ),
@@ -28,14 +31,14 @@ impl fmt::Display for KindWords {
 }
 
 /// A kind of operand, as usage shows it.
-fn short(kind: Kind) -> &'static str {
+fn short(kind: OperandKind) -> &'static str {
     match kind {
-        Kind::Packet => "PACKET",
-        Kind::Register => "REGISTER",
-        Kind::Number { .. } => "NUMBER",
-        Kind::Width => "WIDTH",
-        Kind::RegisterOrConstant => "REGISTER-OR-NUMBER",
-        Kind::Label => "LABEL",
+        OperandKind::Packet => "PACKET",
+        OperandKind::Register => "REGISTER",
+        OperandKind::Number { .. } => "NUMBER",
+        OperandKind::Width => "WIDTH",
+        OperandKind::RegisterOrConstant => "REGISTER-OR-NUMBER",
+        OperandKind::Label => "LABEL",
     }
 }
 
@@ -94,7 +97,7 @@ fn nearest_word(word: &str) -> Option<&str> {
 #[derive(Drop)]
 struct BadOperand<'a> {
     operand: &'a str,
-    kind: Kind,
+    kind: OperandKind,
 }
 
 impl fmt::Display for BadOperand<'_> {
@@ -106,7 +109,11 @@ impl fmt::Display for BadOperand<'_> {
 }
 
 /// The first operand of a list that has this fault.
-fn bad_operand<'a>(kinds: &[Kind], operands: &'a str, cause: Cause) -> Option<BadOperand<'a>> {
+fn bad_operand<'a>(
+    kinds: &[OperandKind],
+    operands: &'a str,
+    cause: Cause,
+) -> Option<BadOperand<'a>> {
     for (kind, operand) in kinds.iter().zip(operands.split(',')) {
         let operand = operand.trim();
         if let Err(found) = argument_of(*kind, operand.as_bytes())
@@ -126,7 +133,7 @@ fn bad_label(line: &str) -> Option<&str> {
     let (labels, _instruction) = before_comment(line).rsplit_once(':')?;
     for label in labels.split(':') {
         let label = label.trim();
-        if argument_of(Kind::Label, label.as_bytes()).is_err() {
+        if argument_of(OperandKind::Label, label.as_bytes()).is_err() {
             return Some(label);
         }
     }
@@ -216,10 +223,7 @@ impl LineHelp<'_> {
     /// Writes the column of such a character.
     fn write_strange<W: fmt::Write>(&self, f: &mut fmt::Formatter<W>) -> fmt::Result {
         match strange_place(self.line) {
-            Some(place) => write!(
-                f,
-                "character {place} is no ASCII character that can be printed"
-            ),
+            Some(place) => write!(f, "character {place} is not a printable ASCII character"),
             None => write!(f, "a program is printable ASCII, blanks, tabs and newlines"),
         }
     }
@@ -262,7 +266,7 @@ impl LineHelp<'_> {
 
     /// Writes which label is not a name.
     fn write_label<W: fmt::Write>(&self, f: &mut fmt::Formatter<W>) -> fmt::Result {
-        let kind = KindWords(Kind::Label);
+        let kind = KindWords(OperandKind::Label);
         match bad_label(self.line) {
             Some(label) => write!(f, "'{label}' has to be {kind}"),
             None => self.write_usage(f),

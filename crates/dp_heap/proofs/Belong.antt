@@ -1,7 +1,7 @@
 -- How many elements begin at an offset and belong to a list.
 use Rattle.std.proofs.Common.{◌≡◌, ℕ, suc, ◌+◌, ◌<◌, ◌≤◌, Bool, true, false, cond, eqb, leb, eqb-true, ◌&&◌, List, [], ◌∷◌, ◌++◌, refl, sym, ap, ◌∙◌, arith}
 use Rattle.std.proofs.lemmas.Bool.{eq-eqb, and_parts, and_from, cond_both, true≢false}
-use Rattle.dp_heap.proofs.ByTest.{by_test}
+use Rattle.dp_region.specs.Laws.{by_test}
 use Rattle.dp_heap.specs.declared.elements.Element.{Element}
 use Rattle.dp_heap.specs.Elements.{is_free, end_of, sum_of}
 use Rattle.dp_heap.specs.Laid.{Laid}

@@ -5,8 +5,8 @@ use Rattle.std.specs.Prelude.{◌⊎◌, slice_index}
 use mathlib.Core.Logic.{⊎_elim}
 use Rattle.std.proofs.lemmas.Bool.{eq-eqb, true≢false}
 use Rattle.std.proofs.lemmas.List.{get_or-set_same, get_or-set_other, length-set}
-use Rattle.dp_heap.proofs.ByTest.{by_test}
 use Rattle.dp_region.specs.Region.{RegionView, number_at}
+use Rattle.dp_region.specs.Laws.{by_test}
 use Rattle.dp_heap.specs.declared.elements.Element.{Element}
 use Rattle.dp_heap.specs.Elements.{is_free}
 use Rattle.dp_heap.specs.Laid.{elements_in, IsLaid}

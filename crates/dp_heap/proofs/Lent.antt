@@ -2,15 +2,14 @@
 use Rattle.std.proofs.Common.{◌≡◌, ℕ, ◌+◌, ◌-◌, ◌<◌, ◌≤◌, Bool, true, false, cond, ◌||◌, List, [], ◌∷◌, ◌++◌, refl, sym, ap, subst, ◌∙◌, arith, inr}
 use Rattle.std.proofs.lemmas.Bool.{lt-ltb, le-ltb, true≢false}
 use Rattle.dp_region.specs.Spans.{Span, IsUnlent, is_span, listed, with_span, without_span}
-use Rattle.dp_region.specs.Laws.{is_span-true}
-use Rattle.dp_heap.proofs.ByTest.{by_test}
+use Rattle.dp_region.specs.Laws.{is_span-true, by_test}
 use Rattle.dp_heap.specs.declared.elements.Element.{Element}
 use Rattle.dp_heap.specs.declared.elements.State.{State}
 use Rattle.dp_heap.specs.declared.elements.State.TheVariants.{Free}
 use Rattle.dp_heap.specs.Elements.{is_free, end_of, data_of, freed}
 use Rattle.dp_heap.specs.Edits.{marked}
 use Rattle.dp_heap.specs.Laid.{Laid, LendsOne, Lends}
-use Rattle.dp_heap.proofs.Laid.{first_offset, laid_bound, laid_split, one_unlent, lent_above}
+use Rattle.dp_heap.proofs.Laid.{first_offset, laid_bound, laid_split, one_unlent, lent_above, free_lends}
 
 -- what is lent does not depend on where e is
 one_map : (t : Bool) (x : Element) (P Q : List Span → Type 0) (ls : List Span) → ((zs : List Span) → P zs → Q zs) → LendsOne t x P ls → LendsOne t x Q ls
@@ -23,10 +22,6 @@ pub lends_swap : (before : List Element) (e : Element) (after ys : List Element)
 lends_swap [] e after ys ls f o = f ls o
 lends_swap (x ∷ before) e after ys ls f o = one_map (is_free x) x (Lends (before ++ e ∷ after)) (Lends (before ++ ys)) ls
     (λ zs r. lends_swap before e after ys zs f r) o
-
-pub free_lends : (t : Bool) (e : Element) (rest : List Span → Type 0) (ls : List Span) → t ≡ true → LendsOne t e rest ls → rest ls
-free_lends true e rest ls h o = o
-free_lends false e rest ls h o = absurd (true≢false (sym h))
 
 pub free_is : (e : Element) → e.state ≡ Free → is_free e ≡ true
 free_is e h = ap (λ (s : State). is_free (record e { state = s })) h

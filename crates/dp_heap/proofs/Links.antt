@@ -4,8 +4,7 @@ use Rattle.std.proofs.Common.{inl, inr}
 use Rattle.std.specs.Prelude.{◌⊎◌}
 use mathlib.Core.Logic.{⊎_elim}
 use Rattle.std.proofs.lemmas.Bool.{cond_both, ltb-true, ltb-false, lt-ltb, eq-eqb, true≢false}
-use Rattle.dp_region.specs.Laws.{length-with_number, number_at-same, number_at-other}
-use Rattle.dp_heap.proofs.ByTest.{by_test}
+use Rattle.dp_region.specs.Laws.{length-with_number, number_at-same, number_at-other, by_test}
 use Rattle.dp_region.specs.Region.{number_at, with_number}
 use Rattle.dp_heap.specs.Lists.{none, with_link, Linked, times}
 use Rattle.dp_heap.proofs.Belong.{bit, same_one, times-append}

@@ -3,9 +3,9 @@ use Rattle.std.proofs.Common.{◌≡◌, ℕ, ◌+◌, ◌%◌, ◌^◌, ◌<◌
 use Rattle.std.specs.Prelude.{◌⊎◌, slice_index}
 use mathlib.Core.Logic.{⊎_elim}
 use Rattle.std.proofs.lemmas.Bool.{ltb-true, ltb-false}
-use Rattle.dp_heap.proofs.ByTest.{by_test}
 use Rattle.dp_region.specs.Spans.{IsUnlent}
 use Rattle.dp_region.specs.Region.{RegionView, IsRegionSize, number_at}
+use Rattle.dp_region.specs.Laws.{by_test}
 use Rattle.dp_heap.specs.declared.elements.Element.{Element}
 use Rattle.dp_heap.specs.Elements.{end_of}
 use Rattle.dp_heap.specs.Laid.{elements_in, Laid, Lends, Kept, IsLaid}

@@ -2,8 +2,8 @@
 use Rattle.std.proofs.Common.{◌≡◌, ℕ, ◌+◌, ◌<◌, ◌≤◌, false, eqb, ltb, List, [], ◌∷◌, ◌++◌, length, refl, sym, ap, subst, ◌∙◌, arith, inl, inr}
 use Rattle.std.specs.Prelude.{◌≢◌, ◌-◌, slice_index, not}
 use Rattle.std.proofs.lemmas.Bool.{ltb-true, ltb-false, true≢false, and_parts, not-true}
-use Rattle.dp_heap.proofs.ByTest.{by_test}
 use Rattle.dp_region.specs.Region.{RegionView, number_at}
+use Rattle.dp_region.specs.Laws.{by_test}
 use Rattle.dp_heap.specs.declared.elements.Element.{Element}
 use Rattle.dp_heap.specs.Elements.{is_free, end_of, data_of, freed, both, joined}
 use Rattle.dp_heap.specs.Edits.{onto, lower, upper, Emptied}

@@ -4,8 +4,8 @@ use Rattle.std.proofs.Common.{◌∙◌, arith}
 use Rattle.std.specs.Prelude.{slice_index}
 use Rattle.std.proofs.lemmas.Bool.{cond_both, eq-eqb, ltb-true, ltb-false, leb-false, lt-leb, true≢false, false_from_ne_true}
 use Rattle.std.proofs.lemmas.List.{length-append}
-use Rattle.dp_heap.proofs.ByTest.{by_test}
 use Rattle.dp_region.specs.Region.{RegionView, number_at}
+use Rattle.dp_region.specs.Laws.{by_test}
 use Rattle.dp_heap.specs.declared.elements.Element.{Element}
 use Rattle.dp_heap.specs.declared.elements.State.TheVariants.{Free}
 use Rattle.dp_heap.specs.Elements.{end_of, CanHold, NothingFits}

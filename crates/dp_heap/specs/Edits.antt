@@ -1,4 +1,4 @@
--- Internal, no public contract names it: what each step inside the heap does to the list of elements.
+-- Internal, no public contract names it: the effect of each step inside the heap on the list of elements.
 use Rattle.std.specs.Prelude.{◌≡◌, ℕ, ◌-◌, Bool, true, false, ◌&&◌, List, [], ◌∷◌, ◌++◌, ◌==◌, nat_lt, if◌then◌else◌, ⊤}
 use Rattle.dp_heap.specs.declared.elements.Element.{Element}
 use Rattle.dp_heap.specs.declared.elements.State.TheVariants.{Free, Busy}
@@ -8,7 +8,7 @@ use Rattle.dp_heap.specs.Elements.{header_len, slack, is_busy, end_of, data_of, 
 abbrev pub IsIn : Element → List Element → Type 0
 IsIn e es = (before : List Element) × (after : List Element) × (es ≡ before ++ e ∷ after)
 
--- wherever e is in old, new has ps in its place
+-- new is old with ps in the place of e, wherever e is
 abbrev pub Replaces : Element → List Element → List Element → List Element → Type 0
 Replaces e ps old new = (before after : List Element) → old ≡ before ++ e ∷ after → new ≡ before ++ (ps ++ after)
 
@@ -23,7 +23,7 @@ upper e mid = record { offset = mid; size = end_of e - mid; state = Free; pad = 
 abbrev pub marked : Element → ℕ → Element
 marked e d = record { offset = e.offset; size = e.size; state = Busy; pad = d - header_len - e.offset }
 
--- e without the bytes from `end` on, where those are enough for an element, and without those before `start`
+-- e without the bytes from `end`, if those are enough for an element, and likewise without those before `start`
 abbrev pub below : Element → ℕ → Element
 below e end = if nat_lt slack (end_of e - end) then lower e end else e
 

@@ -22,12 +22,12 @@ class_of n = if nat_le n 256 then 0 else if nat_le n 1024 then 1 else if nat_le 
 abbrev pub with_link : List ℕ → ℕ → ℕ → ℕ → List ℕ
 with_link xs k p offset = if nat_lt p (length xs) then with_number xs (p + k) 4 offset else xs
 
--- ps are linked in both directions from `head` on, after `before`
+-- ps are linked in both directions, starting at `head`, after `before`
 abbrev pub Linked : List ℕ → ℕ → ℕ → List ℕ → Type 0
 Linked xs before head [] = head ≡ none
 Linked xs before head (p ∷ ps) = (head ≡ p) × (number_at xs (p + 20) 4 ≡ before) × Linked xs p (number_at xs (p + 16) 4) ps
 
--- how often p is in the list
+-- the number of times that p is in the list
 abbrev pub times : ℕ → List ℕ → ℕ
 times p [] = 0
 times p (q ∷ ps) = (if q == p then 1 else 0) + times p ps

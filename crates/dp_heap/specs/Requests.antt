@@ -1,4 +1,4 @@
--- What a request for a block does.
+-- The result of a request for a block.
 use Rattle.std.specs.Prelude.{◌≡◌, ℕ, ◌+◌, ◌<◌, List, Result, IfOk, MatchResult}
 use Rattle.dp_region.specs.Region.{BlockView}
 use Rattle.dp_heap.specs.declared.error.HeapError.{HeapError}

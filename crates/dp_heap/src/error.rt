@@ -4,7 +4,7 @@ ghost use Rattle.dp_heap.specs.Refusals.{number_of};
 
 use thiserror::Error;
 
-/// Why `malloc` and `zmalloc` refuse a request. Of several causes the first one is returned.
+/// Why `malloc` and `zmalloc` refuse a request. If several causes apply, the first is returned.
 #[derive(Clone, Copy, Debug, PartialEq, Eq, Error)]
 pub enum HeapError {
     /// The requested size is 0.

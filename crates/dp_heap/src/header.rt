@@ -1,6 +1,6 @@
 //! Reads and writes the headers of elements in the region. `specs/Laid.antt` lists the words of a header.
 ghost use Rattle.std.specs.Prelude.{◌≡◌, ◌+◌, ◌-◌, ◌<◌, ◌≤◌, length};
-ghost use Rattle.dp_region.specs.Region.{IsFree, largest_region, number_at};
+ghost use Rattle.dp_region.specs.Region.{IsFree, max_region, number_at};
 ghost use Rattle.dp_heap.specs.Laid.{word_of, element_at, with_header, with_back, with_pad};
 
 use crate::elements::{Element, State};
@@ -13,12 +13,12 @@ const PAD: u32 = 8;
 
 pub(crate) const BACK: u32 = 12;
 
-// How far before a block's data the distance back lies: the word at `PAD` of the PAD header.
+// How many bytes before a block's data the distance back lies: the word at `PAD` of the PAD header.
 const BEFORE_DATA: u32 = 56;
 
 // Reads the element whose header lies at `offset`.
 pub(crate) fn read_header(region: &Region, offset: u32) -> Element
-    requires { IsFree region.now offset 12 × (length region.now.bytes ≤ largest_region) }
+    requires { IsFree region.now offset 12 × (length region.now.bytes ≤ max_region) }
     ensures { result ≡ element_at region.now.bytes offset }
 {
     let state = if region.load_u32(offset + STATE) == 0 {
@@ -34,9 +34,9 @@ pub(crate) fn read_header(region: &Region, offset: u32) -> Element
     }
 }
 
-// Writes a header at `offset`, but for the size of the element below.
+// Writes a header at `offset`, except for the size of the element below.
 pub(crate) fn write_header(region: &mut Region, offset: u32, size: u32, state: State, pad: u32)
-    requires { IsFree region.old offset 12 × (length region.old.bytes ≤ largest_region) }
+    requires { IsFree region.old offset 12 × (length region.old.bytes ≤ max_region) }
     ensures { region.new ≡ record region.old { bytes = with_header region.old.bytes offset size (word_of state) pad } }
 {
     let word = match state {
@@ -50,7 +50,7 @@ pub(crate) fn write_header(region: &mut Region, offset: u32, size: u32, state: S
 
 // Writes `size` as the size of the element below into the header at `offset`, unless `offset` is the end of the region.
 pub(crate) fn write_back(region: &mut Region, offset: u32, size: u32)
-    requires { (offset < length region.old.bytes → IsFree region.old offset 16) × (length region.old.bytes ≤ largest_region) }
+    requires { (offset < length region.old.bytes → IsFree region.old offset 16) × (length region.old.bytes ≤ max_region) }
     ensures { region.new ≡ record region.old { bytes = with_back region.old.bytes offset size } }
 {
     if offset < region.size() {

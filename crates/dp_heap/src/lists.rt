@@ -1,6 +1,6 @@
 //! The free elements in five lists, by size. Two words of each header link them: `specs/Lists.antt`.
 ghost use Rattle.std.specs.Prelude.{◌≡◌, ℕ, ◌+◌, ◌^◌, ◌<◌, ◌≤◌, List, [], ◌∷◌, length, replicate, slice_index, MatchOption};
-ghost use Rattle.dp_region.specs.Region.{IsFree, cache_line, largest_region, number_at};
+ghost use Rattle.dp_region.specs.Region.{IsFree, cache_line, max_region, number_at};
 ghost use Rattle.dp_heap.specs.Elements.{header_len, CanHold, NothingFits, IsHighest};
 ghost use Rattle.dp_heap.specs.Edits.{IsIn};
 ghost use Rattle.dp_heap.specs.Laid.{element_at, elements_in, IsLaid};
@@ -73,7 +73,7 @@ impl Lists {
         }
     }
 
-    // Finds a free element that has room for a block, and the highest offset for the block in it. The lists are searched from the one of `len` up.
+    // Finds a free element with room for a block, and the highest offset for the block in it. The search goes up from the list for `len`.
     pub(crate) fn find(&self, region: &Region, len: u64, align: u64) -> Option<(Element, u32)>
         requires laid { IsLaid region.now × Listed region.now.bytes self.now.heads (elements_in region.now.bytes) [] }
         requires align { (cache_line ≤ align) × (align < 2 ^ 32) × (len < 2 ^ 33) }
@@ -119,7 +119,7 @@ impl Lists {
 // The highest offset for a block's data in `e`, if it has room.
 fn highest(e: &Element, len: u64, align: u64) -> Option<u32>
     requires align { (cache_line ≤ align) × (align < 2 ^ 32) }
-    requires bounds { (len < 2 ^ 33) × (e.now.offset + e.now.size ≤ largest_region) × (e.now.state ≡ State.Free) }
+    requires bounds { (len < 2 ^ 33) × (e.now.offset + e.now.size ≤ max_region) × (e.now.state ≡ State.Free) }
     ensures { MatchOption result ((d : ℕ) → ¬ CanHold e.now len align d) (λ d. IsHighest e.now len align d) }
 {
     let end = u64::from(e.offset + e.size);
@@ -152,7 +152,7 @@ fn class_of(size: u64) -> usize
 
 // Writes `offset` into the word `word` of the header at `at`, unless `at` is `NONE`.
 fn write_link(region: &mut Region, word: u32, at: u32, offset: u32)
-    requires { (at < length region.old.bytes → IsFree region.old at header_len) × (word ≤ 60) × (length region.old.bytes ≤ largest_region) }
+    requires { (at < length region.old.bytes → IsFree region.old at header_len) × (word ≤ 60) × (length region.old.bytes ≤ max_region) }
     ensures { region.new ≡ record region.old { bytes = with_link region.old.bytes word at offset } }
 {
     if at < region.size() {

@@ -1,4 +1,4 @@
-//! Splits, marks and joins elements in a region. Each contract speaks of the list of elements, wherever in it the element is.
+//! Splits, marks and joins elements in a region. Each contract is about the list of elements, wherever the element is in it.
 ghost use Rattle.std.specs.Prelude.{◌≡◌, ◌+◌, ◌-◌, ◌%◌, ◌<◌, ◌≤◌, List, [], ◌∷◌, ◌++◌, length};
 ghost use Rattle.dp_region.specs.Region.{cache_line};
 ghost use Rattle.dp_heap.specs.Elements.{header_len, joined, end_of, both, spare, pieces};
@@ -12,7 +12,7 @@ use crate::header::{BACK, read_header, read_pad, write_back, write_header, write
 use crate::lists::Lists;
 use dp_region::{Block, Region};
 
-// The largest rest that stays part of an element: a header and a cache line. DPDK likewise splits only where more than a header and its least data
+// The largest rest that stays part of an element: a header and a cache line. DPDK, too, splits only if more than a header and its least data
 // are left.
 const SLACK: u32 = 128;
 
@@ -64,7 +64,7 @@ fn mark(region: &mut Region, e: &Element, at: u32, len: u32) -> Block
     region.lend(at, len)
 }
 
-// Cuts what lies from `end` on off `e`, a free element in no list, where that is more than the slack, and lists it.
+// Splits off the part of `e`, a free element in no list, after `end`, if it is larger than the slack, and lists it.
 fn trim_end(region: &mut Region, lists: &mut Lists, e: Element, end: u32) -> Element
     requires off { IsOff region.old lists.old.heads e }
     requires inside { (e.offset + header_len ≤ end) × (end ≤ end_of e) × (end % cache_line ≡ 0) }
@@ -81,7 +81,7 @@ fn trim_end(region: &mut Region, lists: &mut Lists, e: Element, end: u32) -> Ele
     rest
 }
 
-// Cuts what lies before `start` off `e`, a free element in no list, where that is more than the slack, and lists it.
+// Splits off the part of `e`, a free element in no list, before `start`, if it is larger than the slack, and lists it.
 fn trim_start(region: &mut Region, lists: &mut Lists, e: Element, start: u32) -> Element
     requires off { IsOff region.old lists.old.heads e }
     requires inside { (e.offset ≤ start) × (start + header_len ≤ end_of e) × (start % cache_line ≡ 0) }
@@ -156,7 +156,7 @@ fn join(region: &mut Region, x: Element, y: Element) -> Element
     Element { size, pad: 0, ..x }
 }
 
-// Joins `e`, a free element in no list, with the element above it where that is free.
+// Joins `e`, a free element in no list, with the element above it, if that one is free.
 pub(crate) fn join_above(region: &mut Region, lists: &mut Lists, e: Element) -> Element
     requires { IsOff region.old lists.old.heads e }
     ensures home { region.new.home ≡ region.old.home }
@@ -178,7 +178,7 @@ pub(crate) fn join_above(region: &mut Region, lists: &mut Lists, e: Element) -> 
     }
 }
 
-// Joins `e`, a free element in no list, with the element below it where that is free.
+// Joins `e`, a free element in no list, with the element below it, if that one is free.
 pub(crate) fn join_below(region: &mut Region, lists: &mut Lists, e: Element) -> Element
     requires { IsOff region.old lists.old.heads e }
     ensures home { region.new.home ≡ region.old.home }

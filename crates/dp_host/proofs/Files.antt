@@ -1,5 +1,5 @@
 -- Taking files from a buffer, one after the other.
-use Rattle.std.proofs.Common.{◌≡◌, ℕ, List, [], ◌∷◌, ◌++◌, sym, subst, append_assoc, arith, length, refl}
+use Rattle.std.proofs.Common.{◌≡◌, ℕ, List, [], ◌∷◌, ◌++◌, sym, subst, append_assoc}
 use Rattle.std.specs.Prelude.{Result, Ok, Err, is_err, is_ok, false, if◌then◌else◌}
 use Rattle.dp_pipe.specs.declared.listed.NamedBytes.{NamedBytes}
 use Rattle.dp_host.specs.Packing.{BeginsWith, AreFiles}
@@ -17,7 +17,3 @@ taken_more packed rest after files file begins taken later are =
 pub pushed : {A E : Type 0} (r : Result A E) (xs ys zs : List NamedBytes) → false ≡ is_err r → zs ≡ (if is_ok r then xs else ys) → zs ≡ xs
 pushed (Ok x) xs ys zs e is = is
 pushed (Err x) xs ys zs e is = cc
-
-pub no_more : (rest : List ℕ) → length rest ≡ 0 → rest ≡ []
-no_more [] e = refl
-no_more (x ∷ rest) e = absurd (omega (arith, e))

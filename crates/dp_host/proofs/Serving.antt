@@ -1,26 +1,23 @@
 -- What an engine has served is a run of its pipeline, pass by pass, and the promise holds of such runs.
-use Rattle.std.proofs.Common.{◌≡◌, ℕ, ◌+◌, ◌-◌, ◌<◌, ◌≤◌, ◌⊎◌, inl, inr, Bool, List, [], ◌∷◌, ◌++◌, length, map, replicate, Some, None, refl, sym, ◌∙◌, ap}
+use Rattle.std.proofs.Common.{◌≡◌, ℕ, ◌+◌, ◌-◌, ◌≤◌, Bool, List, [], ◌∷◌, ◌++◌, length, map, replicate, None, refl, sym, ◌∙◌, ap}
 use Rattle.std.proofs.Common.{subst, arith, length-append}
-use Rattle.std.specs.Prelude.{slice_get, true}
+use Rattle.std.specs.Prelude.{true}
 use Rattle.std.specs.List.{fold}
-use Rattle.std.proofs.lemmas.Bool.{cases_lt}
 use Rattle.std.proofs.lemmas.List.{map-append}
 use Rattle.std.proofs.lemmas.List.Sums.{fold-append}
 use Rattle.dp_model.specs.declared.env.PoolSpec.{PoolSpec}
 use Rattle.dp_model.specs.Buffers.{Number, Buffers}
-use Rattle.dp_model.specs.Environments.{Environment, fault_of, count_at}
+use Rattle.dp_model.specs.Environments.{fault_of, count_at}
 use Rattle.dp_model.specs.Machine.{Setting, World, live}
 use Rattle.dp_model.specs.Meaning.{TablesFit}
 use Rattle.dp_model.specs.Packets.{Packet, available, is_free, packet_bytes}
-use Rattle.dp_model.specs.Rules.{Question}
-use Rattle.dp_model.specs.Runs.{Arrival, Nodes, Run, Shown, WholeRun, between, drained, joined, left_in_rings, records_at, with_empty_outboxes}
+use Rattle.dp_model.specs.Runs.{Arrival, Nodes, Run, Observed, WholeRun, between, drained, joined, left_in_rings, records_at, with_empty_outboxes}
 use Rattle.dp_model.specs.Runs.{with_empty_rings}
 use Rattle.dp_model.specs.Safety.{IsPipeline, KeepsRunsSafe}
 use Rattle.dp_model.specs.Starts.{IsStart}
 use Rattle.dp_model.specs.CopyMachine.{Captures}
 use Rattle.dp_model.specs.Laws.Limits.{numbers_known, numbers_pass}
 use Rattle.dp_model.specs.Laws.Runs.{run_push, safe_never_stuck}
-use Rattle.dp_check.specs.Faults.{IsChecked}
 use Rattle.dp_engine.specs.Batches as batches
 use Rattle.dp_engine.specs.Batches.{Frame, Holds, Passes, frame_of, frames_in, all_drained}
 use Rattle.dp_engine.specs.declared.batch.BatchSize.{BatchSize}
@@ -29,9 +26,9 @@ use Rattle.dp_engine.specs.declared.engine.Turn.{Turn}
 use Rattle.dp_engine.specs.Engines.{EngineState}
 use Rattle.dp_engine.specs.Laws.{plan_of}
 use Rattle.dp_engine.specs.Outcomes.{outcome_of}
-use Rattle.dp_engine.specs.Schemes.{AreNodes}
-use Rattle.dp_pipe.specs.Pipelines.{Plan, IsPlan, HasNodes}
+use Rattle.dp_pipe.specs.Pipelines.{Plan, IsPlan}
 use Rattle.dp_pipe.specs.Running.{IsFirst, setting_in, programs_in}
+use Rattle.dp_pipe.specs.Laws.{are_nodes, all_checked}
 use Rattle.dp_host.specs.Calls.{Call, HasServed, Promised, arrival_of, arrivals_of, captures_of, frames_from, sent_in, timed}
 
 -- ---- what is sent
@@ -84,7 +81,7 @@ served_more p calls old new port frame turn time records bytes filled pass was =
     let mid = pass.mid in
     let t = pass.turn_is in
     let (answers, turned) = t.turn in
-    let shown : Shown ℕ = record { answers = was.answers; outcomes = was.outcomes; captures = captures_of (length p.env.ports) calls } in
+    let shown : Observed ℕ = record { answers = was.answers; outcomes = was.outcomes; captures = captures_of (length p.env.ports) calls } in
     let same : mid.setting ≡ old.setting = ap (λ (e : EngineState). e.setting) t.rest in
     let long : length mid.world.outboxes ≡ length old.setting.env.ports = t.lists ∙ ap (λ (s : Setting). length s.env.ports) same in
     let pushed = run_push old.setting old.nodes (arrivals_of calls) (arrival_of c) was.first.world old.world mid.world shown (outcome_of turn.outcome) turn.runs
@@ -95,10 +92,10 @@ served_more p calls old new port frame turn time records bytes filled pass was =
     let captures : joined (captures_of (length p.env.ports) calls) (records_at time mid.world) ≡ captures_of (length p.env.ports) (calls ++ c ∷ []) =
     ap (joined (captures_of (length p.env.ports) calls)) (sym (timed_is c mid.world refl)) ∙ sym (captures_push (length p.env.ports) calls c) in
     let arrivals : arrivals_of calls ++ arrival_of c ∷ [] ≡ arrivals_of (calls ++ c ∷ []) = sym (map-append arrival_of calls (c ∷ [])) in
-    let with_captures : List (List (ℕ × List ℕ)) → Shown ℕ =
+    let with_captures : List (List (ℕ × List ℕ)) → Observed ℕ =
     λ l. record { answers = was.answers ++ answers; outcomes = was.outcomes ++ outcome_of turn.outcome ∷ []; captures = l } in
-    let more : Shown ℕ = with_captures (joined (captures_of (length p.env.ports) calls) (records_at time mid.world)) in
-    let now : Shown ℕ → Type 0 = λ s. Run new.setting new.nodes (arrivals_of (calls ++ c ∷ [])) was.first.world s new.world in
+    let more : Observed ℕ = with_captures (joined (captures_of (length p.env.ports) calls) (records_at time mid.world)) in
+    let now : Observed ℕ → Type 0 = λ s. Run new.setting new.nodes (arrivals_of (calls ++ c ∷ [])) was.first.world s new.world in
     record {
       plan = was.plan;
       first = was.first;
@@ -131,34 +128,20 @@ few p plan = let known = numbers_known p.env (numbers_pass p.env plan.limits) in
 pub record AreLaws : Type 0 where
   pub safe : (c : Setting) (nodes : Nodes) (arrivals : List (Arrival ℕ)) (w : World) → TablesFit c → IsPipeline c nodes → IsStart c.env w
       → KeepsRunsSafe c nodes arrivals w
-  pub copies : (c : Setting) (nodes : Nodes) (arrivals : List (Arrival ℕ)) (w w' : World) (shown : Shown ℕ)
+  pub copies : (c : Setting) (nodes : Nodes) (arrivals : List (Arrival ℕ)) (w w' : World) (shown : Observed ℕ)
       → fault_of c.env ≡ None → IsStart c.env w → Run c nodes arrivals w shown w'
       → Captures c.env c.tables nodes arrivals shown.answers shown.captures w'.cuts
-  pub nothing : (c : Setting) (nodes : Nodes) (arrivals : List (Arrival ℕ)) (w w' : World) (shown : Shown ℕ) (left : List ℕ) →
+  pub nothing : (c : Setting) (nodes : Nodes) (arrivals : List (Arrival ℕ)) (w w' : World) (shown : Observed ℕ) (left : List ℕ) →
       IsStart c.env w → WholeRun c nodes arrivals w shown left w' → live (between w') ≡ []
   pub free : (pools : List PoolSpec) (w : World) (pool : ℕ) (b : Number) → live (between w) ≡ [] →
       (is_free (live (between w)) b ≡ true) × (available pools (live (between w)) pool ≡ count_at pools pool)
-
-are_nodes : (env : Environment) (nodes : List Question) → HasNodes env nodes → AreNodes env nodes
-are_nodes env nodes h = record {
-  many = h.count;
-  ports = λ k q l at. ((h.ports k q l at).env_is, (h.ports k q l at).entry_is);
-  rings = λ k q at. ((h.rings k q at).env_is, (h.rings k q at).entry_is);
-}
-
-all_checked : (env : Environment) (nodes : List Question) → HasNodes env nodes → (k : ℕ) (q : Question) → slice_get nodes k ≡ Some q → IsChecked q
-all_checked env nodes h k q at = go (cases_lt k (length env.ports))
-  where
-    go : (k < length env.ports) ⊎ (length env.ports ≤ k) → IsChecked q
-    go (inl less) = (h.ports k q less at).checked
-    go (inr most) = (h.rings (k - length env.ports) q (ap (slice_get nodes) (omega (arith, most)) ∙ at)).checked
 
 pub promised : (p : Plan) (calls : List Call) (e : EngineState) → AreLaws → HasServed p calls e → Promised p calls e
 promised p calls e laws was =
     let s = setting_in p [] in
     let ready = plan_of p.env p.tables p.nodes [] was.plan.limits (are_nodes p.env p.nodes was.plan.nodes) was.plan.tables
     (all_checked p.env p.nodes was.plan.nodes) was.plan.hops in
-    let shown : Shown ℕ = record { answers = was.answers; outcomes = was.outcomes; captures = captures_of (length p.env.ports) calls } in
+    let shown : Observed ℕ = record { answers = was.answers; outcomes = was.outcomes; captures = captures_of (length p.env.ports) calls } in
     let run : Run s (programs_in p) (arrivals_of calls) was.first.world shown e.world =
     subst (λ (c : Setting). Run c (programs_in p) (arrivals_of calls) was.first.world shown e.world) (was.setting ∙ was.is_first.setting)
     (subst (λ (n : Nodes). Run e.setting n (arrivals_of calls) was.first.world shown e.world) (was.nodes ∙ was.is_first.nodes) was.run) in

@@ -1,4 +1,4 @@
--- The calls of a caller, and that they are a run of the pipeline.
+-- The calls of a C caller, and the promise that they are a run of the pipeline.
 use Rattle.std.specs.Prelude.{◌≡◌, ℕ, ◌+◌, Bool, true, List, [], ◌∷◌, ◌++◌, length, map, replicate}
 use Rattle.std.specs.List.{fold}
 use Rattle.dp_model.specs.Buffers.{Number}
@@ -34,7 +34,7 @@ arrivals_of calls = map arrival_of calls
 abbrev pub sent_in : World → List (List (List ℕ))
 sent_in w = map (drained w.buffers) w.outboxes
 
--- the same in the order of a batch: port by port, first packet first
+-- the same bytes in the order of a batch: port by port, first packet first
 abbrev pub frames_from : ℕ → List (List (List ℕ)) → List Frame
 frames_from port [] = []
 frames_from port (list ∷ lists) = map (λ bytes. (port, bytes)) list ++ frames_from (port + 1) lists
@@ -43,7 +43,7 @@ frames_from port (list ∷ lists) = map (λ bytes. (port, bytes)) list ++ frames
 abbrev pub timed : Call → List (List (ℕ × List ℕ))
 timed c = map (map (λ bytes. (c.time, bytes))) c.sent
 
--- what calls handed out for each port, one call after the other
+-- what calls handed out for each port, in the order of the calls
 abbrev pub captures_of : ℕ → List Call → List (List (ℕ × List ℕ))
 captures_of ports calls = fold (λ captures c. joined captures (timed c)) (replicate ports []) calls
 

@@ -1,4 +1,4 @@
--- What the calls of a host do, and what they return.
+-- The effects and the results of the calls of a C host.
 use Rattle.std.specs.Prelude.{◌≡◌, ℕ, ◌<◌, ◌≤◌, ◌⊎◌, List, [], ◌∷◌, ◌++◌, length, take, Option, Some, None, slice_get}
 use Rattle.dp_pcap.specs.declared.format.TheConstants.{MAX_RECORD}
 use Rattle.dp_model.specs.declared.env.PoolSpec.{PoolSpec}
@@ -11,8 +11,8 @@ use Rattle.dp_engine.specs.declared.engine.Turn.{Turn}
 use Rattle.dp_engine.specs.declared.engine.Outcome.{Outcome}
 use Rattle.dp_engine.specs.declared.engine.Outcome.TheVariants.{Got, NoBuffer, Oversize}
 use Rattle.dp_engine.specs.declared.report.Tallies.{Tallies}
-use Rattle.dp_engine.specs.Batches.{Holds, Passes, largest_batch}
-use Rattle.dp_engine.specs.Engines.{EngineState, most_turns}
+use Rattle.dp_engine.specs.Batches.{Holds, Passes, max_batch}
+use Rattle.dp_engine.specs.Engines.{EngineState, max_turns}
 use Rattle.dp_engine.specs.Shapes.{AreWaiting}
 use Rattle.dp_pipe.specs.declared.nodes.How.TheVariants.{Given}
 use Rattle.dp_pipe.specs.declared.listed.NamedBytes.{NamedBytes}
@@ -63,13 +63,13 @@ Opens text packed None missing cause = (missing ≡ refusal.NotOpen) × (0 < cau
 
 -- ---- a pass
 
--- why an engine refuses a pass with that many bytes, into a batch with room for that many records and bytes
+-- why an engine refuses a pass with this many bytes, into a batch with room for this many records and bytes
 abbrev pub RefusesPass : EngineState → ℕ → ℕ → ℕ → ℕ → Refusal → Type 0
 RefusesPass e port size records bytes refusal.NoPort = length e.setting.env.ports ≤ port
 RefusesPass e port size records bytes refusal.TooLong = MAX_RECORD < size
-RefusesPass e port size records bytes refusal.NoTurns = most_turns ≤ e.turns
+RefusesPass e port size records bytes refusal.NoTurns = max_turns ≤ e.turns
 RefusesPass e port size records bytes refusal.BatchTooSmall =
-    (records < (largest_batch e.setting.env).records) ⊎ (bytes < (largest_batch e.setting.env).bytes)
+    (records < (max_batch e.setting.env).records) ⊎ (bytes < (max_batch e.setting.env).bytes)
 RefusesPass e port size records bytes other = ⊥
 
 abbrev pub size_of : Room → BatchSize
@@ -79,7 +79,7 @@ abbrev pub nothing : Room
 nothing = record { records = 0; bytes = 0 }
 
 -- A pass of an engine that returned a number below 16, the outcome of its turn. The batch has what was sent, port by port. Whatever calls the engine
--- had served, it has now served this one too.
+-- had served before, it has now served this one too.
 pub record Passed (old new : EngineState) (port time : ℕ) (frame : List ℕ) (records : List SentRecord) (bytes : List ℕ) (filled : Room) (n : ℕ) : Type
     0 where
   pub turn : Turn
@@ -140,7 +140,7 @@ NoRing ring e = length e.setting.env.rings ≤ ring
 
 -- the size that a batch needs
 abbrev pub IsRoom : EngineState → Room → Type 0
-IsRoom e room = size_of room ≡ largest_batch e.setting.env
+IsRoom e room = size_of room ≡ max_batch e.setting.env
 
 -- ---- the end
 

@@ -16,7 +16,7 @@ pub record BeginsWith (bytes : List ℕ) (file : NamedBytes) (more : List ℕ) :
   pub bytes_length : first_number (drop 4 head) ≡ length file.bytes.now
   pub spelled : bytes ≡ head ++ (file.name.now ++ (file.bytes.now ++ more))
 
--- the bytes are these files, one after the other
+-- the bytes are these files, in order
 abbrev pub AreFiles : List ℕ → List NamedBytes → Type 0
 AreFiles bytes [] = bytes ≡ []
 AreFiles bytes (file ∷ files) = (more : List ℕ) × BeginsWith bytes file more × AreFiles more files

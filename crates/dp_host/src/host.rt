@@ -1,4 +1,4 @@
-//! What a caller's memory holds: an open engine, or none, with the reason.
+//! The contents of a caller's memory: an open engine, or none, with the reason.
 
 ghost use Rattle.std.specs.Prelude.{◌≡◌, ◌<◌, ◌≤◌, [], length, IfOk};
 ghost use Rattle.dp_pipe.specs.Pipelines.{IsPlan};
@@ -16,7 +16,7 @@ use dp_model::{runs_keep_safe, whole_runs_end_with_whole_pools};
 use dp_pipe::{How, Listed, PipeError, Pipeline, RunCause, engine_of, load};
 use std::alloc::Global;
 
-/// An open engine, or the refusal that calls return while there is none; and why the pipeline was not loaded, if it was not.
+/// An open engine, or the refusal that calls return when there is none; and why the pipeline was not loaded, if it was not.
 pub struct Host {
     pub(crate) running: Option<Running>,
     pub(crate) missing: Refusal,
@@ -109,7 +109,7 @@ fn reason_for(alloc: Global, fault: Fault) -> Reason
     }
 }
 
-/// Opens the engine of a pipeline's text and its files, or none.
+/// Opens the engine of a pipeline's text and its files, or keeps the reason why not.
 pub(crate) fn opened(alloc: Global, toml: &[u8], packed: &[u8]) -> Host
     ensures { Opens toml.now packed.now result.running result.missing result.reason.cause }
 {
@@ -138,7 +138,7 @@ fn outcome_number(outcome: Outcome) -> u32
     }
 }
 
-// What was sent, in the form that a caller sees.
+// The size of what was sent, as the C caller sees it.
 fn room_of(pass: Pass) -> Room
     ensures { result ≡ record { records = pass.sent.records; bytes = pass.sent.bytes } }
 {
@@ -148,7 +148,7 @@ fn room_of(pass: Pass) -> Room
     }
 }
 
-/// Takes a pass; returns a number.
+/// Takes a pass; returns the number of its outcome or of a refusal.
 pub(crate) fn passed(
     host: &mut Host,
     port: u32,

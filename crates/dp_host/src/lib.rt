@@ -1,5 +1,5 @@
-//! The engine for a caller in C, in memory of the caller's: as many bytes as `dpv_size` returns. `dpv_begin` makes an engine there, and the
-//! other calls take that memory, one call at a time. `include/dpv.h` declares these functions.
+//! The engine for a caller in C, in the caller's own memory, of `dpv_size` bytes. `dpv_begin` makes an engine there, and the other calls
+//! take that memory, one call at a time. `include/dpv.h` declares these functions.
 //!
 //! Who owns what: the memory is the caller's; the engine in it owns its region until `dpv_close`. Frames and batches are the caller's, and no
 //! call keeps a pointer to them.
@@ -27,13 +27,13 @@ use crate::numbers::{PoolStats, PortStats, Reason, RingStats, Room, Totals};
 use dp_engine::SentRecord;
 use std::alloc::Global;
 
-/// The bytes that an engine takes in its caller's memory, besides its region. They begin at a multiple of 16.
+/// Returns the number of bytes that an engine takes in its caller's memory, besides its region. They begin at a multiple of 16.
 #[unsafe(no_mangle)]
 pub extern "C" fn dpv_size() -> usize {
     std::mem::size_of::<Host>()
 }
 
-/// Makes the engine of a pipeline's text and its packed files, or none; then `dpv_why` has the reason.
+/// Makes the engine of a pipeline's text and its packed files, or none; then `dpv_why` returns the reason.
 #[unsafe(no_mangle)]
 pub unsafe extern "C" fn dpv_begin(alloc: Global, at: *mut u8, toml: &[u8], packed: &[u8])
     requires* { sem 𝓛 (room_at the_row at) }
@@ -42,8 +42,8 @@ pub unsafe extern "C" fn dpv_begin(alloc: Global, at: *mut u8, toml: &[u8], pack
     (at as *mut Host).write(host::opened(alloc, toml, packed))
 }
 
-/// Takes a frame that came to a port at a time, and hands out all that the ports send for it: `records` says where each record's bytes are in
-/// `bytes`. Returns 0 where the frame was received, 1 where too few buffers were free, 2 where it is too large for its port, or the number of a
+/// Takes a frame that came to a port at a time, and hands out all that the ports send for it: `records` says where in `bytes` each record
+/// is. Returns 0 if the frame was received, 1 if too few buffers were free, 2 if it is too large for its port, or the number of a
 /// refusal.
 #[unsafe(no_mangle)]
 pub unsafe extern "C" fn dpv_pass_into(
@@ -83,7 +83,7 @@ pub unsafe extern "C" fn dpv_batch_size(at: *mut u8, size: &mut Room) -> u32
     host::batch_size(&mut *(at as *mut Host), size)
 }
 
-/// Sets `reason` to why the pipeline was not loaded; cause 0 where it was. Returns 0.
+/// Sets `reason` to why the pipeline was not loaded; cause 0 if it was. Returns 0.
 #[unsafe(no_mangle)]
 pub unsafe extern "C" fn dpv_why(at: *mut u8, reason: &mut Reason) -> u32
     ghost h: { Host }
@@ -126,7 +126,7 @@ pub unsafe extern "C" fn dpv_ring(at: *mut u8, which: u32, out: &mut RingStats) 
     host::ring_stats(&mut *(at as *mut Host), which, out)
 }
 
-/// Ends the engine: frees every buffer, and the region. Returns 0, or the number of a refusal.
+/// Ends the engine: frees every buffer and the region. Returns 0, or the number of a refusal.
 #[unsafe(no_mangle)]
 pub unsafe extern "C" fn dpv_close(at: *mut u8, totals: &mut Totals) -> u32
     ghost h: { Host }

@@ -1,6 +1,6 @@
 //! What a caller in C gets, as structs of numbers. `dpv.h` has the same structs.
 
-/// The most bytes of a reason's text.
+/// The maximum size of a reason's text, in bytes.
 pub const MAX_REASON: usize = 128;
 
 /// The size of a batch: how large one must be, or how much of one is filled.
@@ -17,7 +17,7 @@ pub struct Room {
 #[repr(C)]
 #[derive(Drop)]
 pub struct Reason {
-    /// The number of the cause, or 0 where the pipeline was loaded.
+    /// The number of the cause, or 0 if the pipeline was loaded.
     pub cause: u32,
     /// The length of the text.
     pub length: u32,

@@ -1,4 +1,4 @@
-//! Reads files from one buffer: for each the lengths of its name and of its bytes, four bytes each, little-endian; then the name and the bytes.
+//! Reads files packed in one buffer: for each the lengths of name and bytes, four bytes each, little-endian; then the name and the bytes.
 
 ghost use Rattle.std.specs.Prelude.{◌≡◌, ◌≤◌, length, IfSome};
 ghost use Rattle.dp_host.specs.Packing.{AreFiles, BeginsWith, first_number};
@@ -6,7 +6,7 @@ ghost use Rattle.dp_host.specs.Packing.{AreFiles, BeginsWith, first_number};
 use dp_pipe::NamedBytes;
 use std::alloc::Global;
 
-/// The most files in a buffer.
+/// The maximum number of files in a buffer.
 pub const MAX_FILES: u32 = 64;
 
 // The little-endian number in the first four bytes.
@@ -17,7 +17,7 @@ fn number_in(bytes: &[u8]) -> u32
     u32::from_le_bytes([bytes[0], bytes[1], bytes[2], bytes[3]])
 }
 
-// The first file, and the bytes after it.
+// Splits off the first file; returns it and the bytes after it.
 fn front(packed: &[u8]) -> Option<(NamedBytes<'_>, &[u8])>
     ensures { IfSome result (λ r. BeginsWith packed.now r.0 r.1.now) }
 {
@@ -38,7 +38,7 @@ fn front(packed: &[u8]) -> Option<(NamedBytes<'_>, &[u8])>
     }
 }
 
-/// The files of a buffer; none where it is not packed like that, or memory is refused.
+/// Reads the files of a buffer; none if it is not packed in this way, or memory is refused.
 pub fn files_in(alloc: Global, packed: &[u8]) -> Option<Vec<NamedBytes<'_>>>
     ensures { IfSome result (λ files. AreFiles packed.now files.items) }
 {

@@ -1,7 +1,7 @@
 //! An open engine, with a test for each condition of its calls.
 
 ghost use Rattle.std.specs.Prelude.{◌≡◌, ◌+◌, ◌<◌, ◌≤◌, length, None, IfOk, IfErr, IfSome, IfNone};
-ghost use Rattle.dp_engine.specs.Batches.{Passes, largest_batch};
+ghost use Rattle.dp_engine.specs.Batches.{Passes, max_batch};
 ghost use Rattle.dp_engine.specs.Engines.{flushed};
 ghost use Rattle.dp_engine.specs.Reports.{IsReport, IsWhole};
 ghost use Rattle.dp_engine.specs.Shapes.{AreWaiting};
@@ -12,7 +12,7 @@ use dp_engine::{BatchSize, Engine, Pass, Report, SentRecord};
 use dp_pcap::MAX_RECORD;
 use std::marker::Model;
 
-/// The most turns of an engine: 2^40.
+/// The maximum number of turns of an engine: 2^40.
 pub const MAX_TURNS: u64 = 1_099_511_627_776;
 
 /// An engine, its numbers of ports and rings, and the size that a batch needs.
@@ -25,7 +25,7 @@ pub struct Running {
 
 impl Model for Running {
     ghost use Rattle.std.specs.Prelude.{◌≡◌, ◌≤◌, length};
-    ghost use Rattle.dp_engine.specs.Batches.{largest_batch};
+    ghost use Rattle.dp_engine.specs.Batches.{max_batch};
     ghost use Rattle.dp_engine.specs.Engines.{EngineState};
 
     ghost Value = { EngineState };
@@ -34,11 +34,11 @@ impl Model for Running {
 
     ghost invariant = { λ r. (r.ports ≡ length r.engine.setting.env.ports) × (r.ports ≤ 8)
         × (r.rings ≡ length r.engine.setting.env.rings) × (r.rings ≤ 8)
-        × (r.room ≡ largest_batch r.engine.setting.env) };
+        × (r.room ≡ max_batch r.engine.setting.env) };
 }
 
 impl Running {
-    /// An engine with that many ports and rings.
+    /// Wraps an engine with this many ports and rings.
     pub fn of(engine: Engine, ports: u32, rings: u32) -> Running
         requires ports { ports ≡ length engine.setting.env.ports }
         requires few_ports { ports ≤ 8 }
@@ -57,7 +57,7 @@ impl Running {
 
     /// The size that a batch needs.
     pub fn room(&self) -> BatchSize
-        ensures { result ≡ largest_batch self.now.setting.env }
+        ensures { result ≡ max_batch self.now.setting.env }
     {
         self.room
     }

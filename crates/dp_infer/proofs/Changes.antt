@@ -13,11 +13,11 @@ use Rattle.dp_model.specs.Groups.{are_groups, belongs, size, least, share_left, 
 use Rattle.std.proofs.lemmas.Option.{same_Some}
 use Rattle.dp_model.specs.Laws.Groups.{group_at_is, group_at_belongs, group_at_none, dissolved_out, dissolved_stays, groups_of_row, least_belongs, unnamed}
 use Rattle.dp_model.specs.Laws.Groups.{fact_at, changed_is, belongs_at, belongs_there, belongs_set, belongs_other, belongs_in, belongs_out, in_one, size_same}
-use Rattle.dp_model.specs.Laws.Groups.{other_group, sole_no_group, loose_no_group, left_name}
+use Rattle.dp_model.specs.Laws.Groups.{other_group, sole_no_group, loose_no_group, left_name, chained_no_group, reshared_at}
 use Rattle.dp_infer.proofs.Stronger.{StrongerFact, AtMost, zip_length, StrongerHolding, StrongerOption, Stronger}
 use Rattle.dp_model.specs.declared.row.Holding.{Holding}
-use Rattle.dp_model.specs.Rows.{is_empty, shared, twin, twin_share, joins, holding, held, held_at, with_fact, emptied, changed, owns_head}
-use Rattle.dp_model.specs.Rows.{chained_share, entails_share, after_chain, group_at, with_shares, renamed, dissolved, after_free, after_leave, after_chained}
+use Rattle.dp_model.specs.Rows.{is_empty, shared, twin, twin_share, joins, holding, held, held_at, with_fact, emptied, changed}
+use Rattle.dp_model.specs.Rows.{entails_share, after_chain, group_at, with_shares, renamed, dissolved, after_free, after_leave, after_chained}
 use Rattle.dp_model.specs.Rows.{after_clone, if_single, is_fact_of_row, is_well_formed_row}
 use Rattle.dp_model.specs.Rules.{is_empty_at}
 use Rattle.dp_model.specs.Laws.Lists.{get_set_other}
@@ -201,14 +201,6 @@ leave_keeps' a b p s = emptied_keeps (dissolved a p) (dissolved b p) p (dissolve
 
 -- ---- chaining two packets
 
-chained_apart : (a b g : ℕ) → (chained_share a b == share_of_group g) ≡ false
-chained_apart a b g = ne_eqb (chained_share a b) (8 + g) (λ e. absurd (omega (arith, e, most ((a == 2) && (b == 2)) (owns_head a))))
-  where
-    most : (x y : Bool) → cond x 2 (cond y 1 0) ≤ 2
-    most true y = omega arith
-    most false true = omega arith
-    most false false = omega arith
-
 chain_go : (a b : Row) (p q : ℕ) (x y : Option Holding) → Stronger a b → ((g : ℕ) → belongs a.facts g p ≡ false) → ((g : ℕ) → belongs b.facts g p ≡ false) →
     StrongerOption x y
     → Stronger (option_map_or (λ t. emptied (changed a p (λ h. after_chain h t)) q) x a)
@@ -226,9 +218,9 @@ chain_go a b p q (Some x) (Some y) s out out' o =
       segs = omega (arith, m.segs, o.segs);
     })
     (keeps_moved a.facts (changed a p (λ h. after_chain h x)).facts b.facts (changed b p (λ h. after_chain h y)).facts
-    (changed_belongs a p (λ h. after_chain h x) (λ h e g. chained_apart h.share x.share g
+    (changed_belongs a p (λ h. after_chain h x) (λ h e g. chained_no_group h.share x.share g
     ∙ sym (sym (belongs_at a.facts g p (held h) (fact_at a p h e)) ∙ out g)))
-    (changed_belongs b p (λ h. after_chain h y) (λ h e g. chained_apart h.share y.share g
+    (changed_belongs b p (λ h. after_chain h y) (λ h e g. chained_no_group h.share y.share g
     ∙ sym (sym (belongs_at b.facts g p (held h) (fact_at b p h e)) ∙ out' g)))
     s.groups))
 chain_go a b p q None (Some y) s out out' o = absurd o
@@ -490,15 +482,6 @@ reshared_empty : (facts : List Fact) (g n p : ℕ) → slice_get facts p ≡ Som
 reshared_empty [] g n p e = e
 reshared_empty (f ∷ facts) g n zero e = ap (λ x. Some (reshared_fact g n x)) (same_Some f Empty e)
 reshared_empty (f ∷ facts) g n (suc p) e = reshared_empty facts g n p e
-
--- all of the source's group get another share
-reshared_at : (facts : List Fact) (g n q : ℕ) (h : Holding) → slice_get facts q ≡ Some (held h) → (h.share == share_of_group g) ≡ true →
-    slice_get (reshared g n facts) q ≡ Some (held (shared n h))
-reshared_at [] g n q h e inside = cc
-reshared_at (f ∷ facts) g n zero h e inside =
-    let is : f ≡ held h = same_Some f (held h) e in
-    ap (λ x. Some (reshared_fact g n x)) is ∙ ap (λ b. Some (held (shared (cond b n h.share) h))) inside
-reshared_at (f ∷ facts) g n (suc q) h e inside = reshared_at facts g n q h e inside
 
 -- ---- names
 

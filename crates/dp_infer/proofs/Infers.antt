@@ -15,18 +15,19 @@ use Rattle.dp_model.specs.Environments.{Environment}
 use Rattle.dp_model.specs.Jumps.{IsForward}
 use Rattle.dp_model.specs.Rows.{entails, leads, entry_row, is_well_formed_row}
 use Rattle.dp_model.specs.Rules.{Question, row_passes, holds, holds_at, uses, indices_exist, later_rules, IsAccepted, IsRefused}
+use Rattle.dp_model.specs.Laws.Lists.{all_at, get_set_same}
 use Rattle.dp_cert.specs.Spelling.{Certificate, certificate_of}
 use Rattle.dp_check.specs.Faults.{question, IsRefusedWith}
 use Rattle.dp_infer.specs.Joins.{joined, dead_row, begun, found_rows}
 use Rattle.dp_infer.specs.Inference.{Certifies, HasNone, SaysMost, IsWithout}
-use Rattle.dp_infer.specs.Settling.{IsNotEnough, AreLast}
+use Rattle.dp_infer.specs.Widening.{IsNotEnough, AreLast}
 use Rattle.dp_infer.specs.declared.inferring.InferError.{InferError}
 use Rattle.dp_infer.proofs.Stronger.{both_are}
 use Rattle.dp_infer.proofs.Changes.{AreWellFormed}
 use Rattle.dp_infer.proofs.PacketTests.{all_held_keeps}
 use Rattle.dp_infer.proofs.RowsAfter.{targets_keep, bytes_keep, share_keeps, segments_keep, leave_keeps, end_keeps}
 use Rattle.dp_infer.proofs.JoinLaws.{rows_join, joined_well_formed}
-use Rattle.dp_infer.proofs.RowLists.{all_at, all_set, set_here, passes_at, passes, fits_from}
+use Rattle.dp_infer.proofs.RowLists.{all_set, passes_at, passes, fits_from}
 use Rattle.dp_infer.proofs.Reach.{Fit, fit_set}
 use Rattle.dp_infer.proofs.Passing.{spread_long}
 use Rattle.dp_infer.proofs.Accepted.{second_rule, is_accepted, all_from}
@@ -63,7 +64,7 @@ begun_go q (Some row) fits some is e =
     let j = rows_join row row u s s (fits_from u (all_at is_well_formed_row q.rows 0 u fits at_u)) in
     let m = joined row row in
     let rows = set (replicate n dead_row) 0 m in
-    let here : row_passes rows 0 (entails row) ≡ true = passes rows 0 row m (set_here (replicate n dead_row) 0 m dead_row (first_dead n some)) j.left in
+    let here : row_passes rows 0 (entails row) ≡ true = passes rows 0 row m (get_set_same (replicate n dead_row) 0 m dead_row (first_dead n some)) j.left in
     record {
       long = length-set (replicate n dead_row) 0 m ∙ dead_long n;
       well_formed = all_set is_well_formed_row (replicate n dead_row) 0 m (dead_well_formed n) (joined_well_formed row row);

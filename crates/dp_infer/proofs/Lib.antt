@@ -11,5 +11,5 @@ pub mod Sharing
 pub mod Spread
 pub mod Infers
 pub mod Passing
-pub mod Settled
+pub mod Widened
 pub mod LawAnswers

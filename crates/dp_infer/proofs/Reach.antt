@@ -10,11 +10,12 @@ use Rattle.dp_model.specs.declared.row.Row.{Row}
 use Rattle.dp_model.specs.declared.row.Lead.{Lead}
 use Rattle.dp_model.specs.Rows.{entails, is_well_formed_row}
 use Rattle.dp_model.specs.Rules.{Question, row_passes}
+use Rattle.dp_model.specs.Laws.Lists.{get_within, all_at, get_set_same}
 use Rattle.dp_infer.specs.Joins.{joined, met, reached, passed_on}
 use Rattle.dp_infer.proofs.Stronger.{Stronger, stronger, row_test, further, both_are}
 use Rattle.dp_infer.proofs.Changes.{AreWellFormed}
 use Rattle.dp_infer.proofs.JoinLaws.{rows_join, met_well_formed}
-use Rattle.dp_infer.proofs.RowLists.{set_cases, set_before, set_here, all_set, all_at, there_is, passes_at, passes, fits_from}
+use Rattle.dp_infer.proofs.RowLists.{set_cases, set_before, all_set, passes_at, passes, fits_from}
 
 -- each live row says all that the certificate's does
 pub record Fit (q : Question) (rows : List Row) : Type 0 where
@@ -102,7 +103,7 @@ pub reach_step : (q : Question) (label : ℕ) (rows : List Row) (lead : Lead) �
     → row_passes q.rows lead.to (entails lead.row) ≡ true
     → Step q label rows (reached label rows lead) × (row_passes (reached label rows lead) lead.to (entails lead.row) ≡ true)
 reach_step q label rows lead fits fit lt within e =
-    let (there, at) = there_is rows lead.to within in
+    let (there, at) = get_within rows lead.to within in
     let (u, at_u, new) = passes_at q.rows lead.to lead.row e in
     let u_fits : AreWellFormed u = fits_from u (all_at is_well_formed_row q.rows lead.to u fits at_u) in
     let m = met there lead.row in
@@ -118,7 +119,7 @@ reach_step q label rows lead fits fit lt within e =
       grows = λ k row h. grow_set rows lead.to k m there row at j.up h;
       same = λ k le. set_before rows lead.to k m (omega arith);
     } in
-    let now : row_passes rows' lead.to (entails lead.row) ≡ true = passes rows' lead.to lead.row m (set_here rows lead.to m there at) j.here in
+    let now : row_passes rows' lead.to (entails lead.row) ≡ true = passes rows' lead.to lead.row m (get_set_same rows lead.to m there at) j.here in
     let P : List Row → Type 0 = λ r. Step q label rows r × (row_passes r lead.to (entails lead.row) ≡ true) in
     subst P (sym (reached_is label rows lead there lt at)) (step, now)
 

@@ -1,5 +1,5 @@
 -- Lists of rows.
-use Rattle.std.proofs.Common.{◌≡◌, ℕ, zero, suc, ◌<◌, Bool, true, List, [], ◌∷◌, length, set, Some, refl, ap, ◌⊎◌, inl, inr, arith}
+use Rattle.std.proofs.Common.{◌≡◌, ℕ, zero, suc, ◌<◌, Bool, true, List, [], ◌∷◌, set, Some, refl, ap, ◌⊎◌, inl, inr, arith}
 use Rattle.std.specs.Prelude.{slice_get}
 use Rattle.std.specs.List.{list_all}
 use Rattle.std.proofs.lemmas.Bool.{and_parts}
@@ -29,25 +29,10 @@ set_before (z ∷ zs) zero k x lt = absurd (omega arith)
 set_before (z ∷ zs) (suc i) zero x lt = refl
 set_before (z ∷ zs) (suc i) (suc k) x lt = set_before zs i k x (omega arith)
 
-pub set_here : {A : Type 0} (xs : List A) (i : ℕ) (x y : A) → slice_get xs i ≡ Some y → slice_get (set xs i x) i ≡ Some x
-set_here [] i x y e = absurd cc
-set_here (z ∷ zs) zero x y e = refl
-set_here (z ∷ zs) (suc i) x y e = set_here zs i x y e
-
 pub all_set : {A : Type 0} (test : A → Bool) (xs : List A) (i : ℕ) (x : A) → list_all test xs ≡ true → test x ≡ true → list_all test (set xs i x) ≡ true
 all_set test [] i x e h = refl
 all_set test (z ∷ zs) zero x e h = both_are h (and_parts (test z) (list_all test zs) e).1
 all_set test (z ∷ zs) (suc i) x e h = let (here, rest) = and_parts (test z) (list_all test zs) e in both_are here (all_set test zs i x rest h)
-
-pub all_at : {A : Type 0} (test : A → Bool) (xs : List A) (i : ℕ) (x : A) → list_all test xs ≡ true → slice_get xs i ≡ Some x → test x ≡ true
-all_at test [] i x e g = absurd cc
-all_at test (z ∷ zs) zero x e g = let here = (and_parts (test z) (list_all test zs) e).0 in cc
-all_at test (z ∷ zs) (suc i) x e g = all_at test zs i x (and_parts (test z) (list_all test zs) e).1 g
-
-pub there_is : {A : Type 0} (xs : List A) (i : ℕ) → i < length xs → (x : A) × (slice_get xs i ≡ Some x)
-there_is [] i lt = absurd (omega arith)
-there_is (x ∷ xs) zero lt = (x, refl)
-there_is (x ∷ xs) (suc i) lt = there_is xs i (omega arith)
 
 -- a row that passes exists
 pub passes_at : (rows : List Row) (k : ℕ) (row : Row) → row_passes rows k (entails row) ≡ true → (u : Row) × (slice_get rows k ≡ Some u) × Stronger row u

@@ -16,7 +16,7 @@ use Rattle.dp_model.specs.Jumps.{label_of}
 use Rattle.dp_model.specs.Rows.{holding, bound, with_fact, with_bound, changed, after_clone, after_prepend, after_adj, after_append, after_trim}
 use Rattle.dp_model.specs.Rows.{after_alloc, onward, fork, leads, after_free, after_leave, after_chained, fact_of_ring, owns_head}
 use Rattle.dp_model.specs.Rules.{holds_with, targets_fit, bytes_fit, share_fits, segments_fit, may_leave, may_end}
-use Rattle.dp_model.specs.Laws.Calculations.{Calculation, Sets, Jumps, Goes, Finds, Handles_packets, calculates, calculation_of}
+use Rattle.dp_model.specs.Laws.Calculations.{Calculation, Sets, Jumps, GoesTo, Finds, Handles_packets, calculates, calculation_of}
 use Rattle.dp_model.specs.Laws.Groups.{sole_no_group}
 use Rattle.dp_infer.proofs.Stronger.{StrongerHolding, Stronger, holding_same, both_are}
 use Rattle.dp_infer.proofs.Registers.{bound_at, bound_set, fact_set}
@@ -165,7 +165,7 @@ module _ (env : Environment) (label : ℕ) (i : Instr) where
   counts (Jumps r x l test top names does to within grows plain) is = Forks l (λ row. row)
       (λ row. with_bound row r (top (bound row (Register r)) (bound row x))) names (to env label) (λ a b s fits fits' target. s)
       (λ a b s fits fits' target. bound_set a b r _ _ s (grows _ _ _ _ (bound_at a b (Register r) s) (bound_at a b x s)))
-  counts (Goes l names does to plain) is = To l names (to env label)
+  counts (GoesTo l names does to plain) is = To l names (to env label)
   counts (Finds r table x l names does to there plain) is = Forks l (λ row. with_bound row r 16777215) (λ row. row) names (to env label)
       (λ a b s fits fits' target. bound_set a b r 16777215 16777215 s (omega arith)) (λ a b s fits fits' target. s)
   counts (Handles_packets none) is = cc is

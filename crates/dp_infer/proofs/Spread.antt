@@ -12,11 +12,12 @@ use Rattle.dp_model.specs.declared.instr.Instr.{Instr}
 use Rattle.dp_model.specs.Jumps.{IsForward}
 use Rattle.dp_model.specs.Rows.{entails, leads, entry_row, is_well_formed_row}
 use Rattle.dp_model.specs.Rules.{Question, row_passes, holds_at, holds_if_live, indices_exist, later_rules, IsAccepted}
+use Rattle.dp_model.specs.Laws.Lists.{get_within, all_at}
 use Rattle.dp_infer.specs.Joins.{passed_on, passed_from, spread}
 use Rattle.dp_infer.proofs.Stronger.{Stronger, further, both_are}
 use Rattle.dp_infer.proofs.Changes.{AreWellFormed}
 use Rattle.dp_infer.proofs.RowsAfter.{StrongerLead, leads_keep, labels_keep, forward_leads}
-use Rattle.dp_infer.proofs.RowLists.{all_at, there_is, passes_at, passes, fits_from}
+use Rattle.dp_infer.proofs.RowLists.{passes_at, passes, fits_from}
 use Rattle.dp_infer.proofs.Reach.{Fit, Grows, Step, no_step, leads_grow, pass_step, passed_well_formed}
 use Rattle.dp_infer.proofs.Accepted.{each_rule, all_from}
 
@@ -109,7 +110,7 @@ one_label : (q : Question) (label : ℕ) (i : Instr) (rows : List Row) → IsFor
     slice_get q.program label ≡ Some i → Sound q rows label → Sound q (passed_from q.env label i rows) (label + 1)
 one_label q label i rows forward accepted cert_fits at_i so =
     let within : label < length rows = omega (arith, so.long, slice_get_within q.program label i at_i) in
-    let (row, at_row) = there_is rows label within in
+    let (row, at_row) = get_within rows label within in
     go row at_row row.live refl
   where
     go : (row : Row) → slice_get rows label ≡ Some row → (b : Bool) → row.live ≡ b → Sound q (passed_from q.env label i rows) (label + 1)

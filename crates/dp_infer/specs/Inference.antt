@@ -26,7 +26,7 @@ SaysMost program env entry found = IsForward program → (rows : List Row) → C
 abbrev pub HasNone : List Instr → Environment → Entry → Type 0
 HasNone program env entry = IsForward program → (rows : List Row) → ¬ Certifies program env entry rows
 
--- Rows of a certificate, one for each instruction, with which the program is refused: at the least failing label, by the first rule that fails there.
+-- Rows of a certificate, one for each instruction, with which the program is refused: at the lowest failing label, by its first failing rule.
 pub record AreRefused (program : List Instr) (env : Environment) (entry : Entry) (rows : List Row) (label rule : ℕ) : Type 0 where
   pub long : length rows ≡ length program
   pub well_formed : IsTrue (list_all is_well_formed_row rows)

@@ -10,7 +10,7 @@ use Rattle.dp_model.specs.declared.instr.Instr.{Instr}
 use Rattle.dp_model.specs.Environments.{Environment}
 use Rattle.dp_model.specs.declared.env.Entry.{Entry}
 use Rattle.dp_model.specs.Groups.{group_of, is_group, same_registers, reshared_fact}
-use Rattle.dp_model.specs.Limits.{most_segments}
+use Rattle.dp_model.specs.Limits.{max_segments}
 use Rattle.dp_model.specs.Rows.{owns_head, entry_row, leads}
 
 -- whether a fact of a row may have the share
@@ -21,13 +21,13 @@ is_share share = nat_le share 2 || (nat_le 8 share && nat_le share 15)
 abbrev pub joined_share : ℕ → ℕ → ℕ
 joined_share a b = if (a == b) && is_share a then a else if owns_head a && owns_head b then 1 else 0
 
--- What both facts say: the lesser of each measure, the greater number of segments, in the ranges of facts. Where exactly one is empty the result has
--- no meaning.
+-- What both facts say: the lesser of each measure, the greater number of segments, in the ranges of facts. If exactly one is empty the result has no
+-- meaning.
 abbrev pub joined_fact : Fact → Fact → Fact
 joined_fact Empty other = Empty
 joined_fact (Held share head tail first last segs) Empty = Empty
 joined_fact (Held share head tail first last segs) (Held s h t f l n) =
-    Held (joined_share share s) (min head h) (min tail t) (min first f) (min last l) (min most_segments (max 1 (max segs n)))
+    Held (joined_share share s) (min head h) (min tail t) (min first f) (min last l) (min max_segments (max 1 (max segs n)))
 
 -- combines two lists index by index
 abbrev pub paired : {A : Type 0} → (A → A → A) → List A → List A → List A
@@ -35,7 +35,7 @@ paired f [] ys = []
 paired f (x ∷ xs) [] = []
 paired f (x ∷ xs) (y ∷ ys) = f x y ∷ paired f xs ys
 
--- what both rows say of a register: loose where its group does not have the same registers in both
+-- what both rows say of a register: loose if its group does not have the same registers in both
 abbrev pub common_fact : List Fact → List Fact → Fact → Fact
 common_fact facts others fact =
     option_map_or (λ g. if is_group facts g && same_registers facts others g then fact else reshared_fact g 0 fact) (group_of fact) fact
@@ -68,7 +68,7 @@ passed_on label rows (lead ∷ leads) = passed_on label (reached label rows lead
 abbrev pub dead_row : Row
 dead_row = record { live = false; facts = replicate 8 Empty; bounds = replicate 8 0 }
 
--- the rows of n labels at the start: what is known at the entry, if it exists, and nothing else
+-- the rows of n labels at the start: what is known at the entry, if the entry exists, and nothing else
 abbrev pub begun : Option Row → ℕ → List Row
 begun entry n = option_map_or (λ row. slice_set (replicate n dead_row) 0 (joined row row)) entry (replicate n dead_row)
 

@@ -6,7 +6,7 @@ use Rattle.dp_model.specs.declared.row.Lead.{Lead}
 use Rattle.dp_model.specs.Rows.{entails}
 use Rattle.dp_infer.specs.Joins.{joined}
 
--- to the same label, with a row that entails the other
+-- both lead to the same label, the first with a row that entails the other's
 abbrev pub LeadEntails : Lead → Lead → Type 0
 LeadEntails x y = (x.to ≡ y.to) × IsTrue (entails x.row y.row)
 

@@ -1,4 +1,4 @@
 pub mod Joins
-pub mod Settling
+pub mod Widening
 pub mod Inference
 pub mod Laws

@@ -8,11 +8,11 @@ ghost use Rattle.dp_lang.specs.declared.program.TheConstants.{MAX_INSTRS};
 ghost use Rattle.dp_cert.specs.Spelling.{version_for, certificate_of};
 ghost use Rattle.dp_check.specs.Faults.{question, IsChecked};
 ghost use Rattle.dp_infer.specs.Joins as spec;
-ghost use Rattle.dp_infer.specs.Settling.{settled, IsNotEnough, AreLast, IsOfLast};
+ghost use Rattle.dp_infer.specs.Widening.{widened_to_end, IsNotEnough, AreLast, IsOfLast};
 ghost use Rattle.dp_infer.specs.Inference.{Certifies, HasNone, SaysMost, AreRefused, AreTried, IsWithout};
 
 use crate::join::{joined, pass_on};
-use crate::widening::settle;
+use crate::widening::widen;
 use dp_cert::Cert;
 use dp_check::{Checked, Refused, check, fault_of, leads_of};
 use dp_lang::Program;
@@ -26,8 +26,8 @@ pub enum InferError {
     /// The allocator refused the memory for the rows.
     #[error("out of memory")]
     Memory,
-    /// No certificate is found. With the last one that was tried, the rule with this number, 2 to 11, is the first that fails at the label, the least
-    /// failing one, from 0. A forward program is then accepted with no certificate.
+    /// No certificate is found. With the last one that was tried, the label, from 0, is the lowest that fails, and the rule with this number, 2 to
+    /// 11, is the first that fails there. A forward program is then accepted with no certificate.
     #[error("not inferred at {label} by J{rule}")]
     NoCert { label: u16, rule: u8 },
 }
@@ -53,7 +53,7 @@ fn dead_row() -> Row
     }
 }
 
-/// `n` rows, of which only the first says anything: what is known at the entry.
+/// Makes `n` rows. The first says what is known at the entry, the others say nothing.
 fn begun(alloc: Global, entry: Option<Row>, n: usize) -> Result<Vec<Row>, AllocError>
     requires { 0 < n }
     ensures { IfOk result (λ v. v.items ≡ spec.begun entry n) }
@@ -65,7 +65,7 @@ fn begun(alloc: Global, entry: Option<Row>, n: usize) -> Result<Vec<Row>, AllocE
     Ok(rows)
 }
 
-/// Passes a label's row on to its successors.
+/// Joins what is known after a label into the rows of its successors.
 #[tactic(auto, using(crate::proofs::Passing::not_passed, crate::proofs::Passing::stays_well_formed))]
 fn pass_from(rows: &mut [Row], env: &Env, label: u16, instr: &Instr)
     requires in_range { label < length rows.old }
@@ -81,7 +81,7 @@ fn pass_from(rows: &mut [Row], env: &Env, label: u16, instr: &Instr)
     }
 }
 
-/// Passes rows on, label by label in order.
+/// Joins rows into those of successors, label by label in order.
 fn spread(program: &[Instr], env: &Env, rows: &mut [Row])
     requires same_length { length rows.old ≡ length program.now }
     requires at_most { length program.now ≤ MAX_INSTRS }
@@ -123,7 +123,7 @@ fn found(alloc: Global, program: &Program, env: &Env, entry: Entry) -> Result<Ce
 }
 
 /// The rows of a program with loops, weakened pass by pass.
-fn settled_rows(
+fn widened_rows(
     alloc: Global,
     program: &Program,
     env: &Env,
@@ -132,14 +132,14 @@ fn settled_rows(
     ensures long { IfOk result (λ cert. length cert.rows ≡ length program.now) }
     ensures well_formed { IfOk result (λ cert. IsTrue (list_all is_well_formed_row cert.rows)) }
     ensures is { IfOk result (λ cert. cert ≡ certificate_of cert.rows) }
-    ensures settled { IfOk result (λ cert. cert.rows ≡ settled program.now env.now (spec.found_rows program.now env.now entry)) }
+    ensures widened_to_end { IfOk result (λ cert. cert.rows ≡ widened_to_end program.now env.now (spec.found_rows program.now env.now entry)) }
 {
     let mut rows = found_rows(alloc, program.instrs(), env, entry)?;
-    settle(&mut rows, program.instrs(), env);
+    widen(&mut rows, program.instrs(), env);
     Ok(Cert::new(rows))
 }
 
-/// The certificate with which inference ends; and, where the program is refused with it, the least failing label and its first failing rule.
+/// Infers the last certificate; and, if the program is refused with it, finds the lowest failing label and its first failing rule.
 fn last_tried(
     alloc: Global,
     program: &Program,
@@ -157,9 +157,9 @@ fn last_tried(
     match fault_of(program, &cert, env, entry) {
         None => Ok((cert, None)),
         Some(_) => {
-            let settled = settled_rows(alloc, program, env, entry)?;
-            let fault = fault_of(program, &settled, env, entry);
-            Ok((settled, fault))
+            let widened_to_end = widened_rows(alloc, program, env, entry)?;
+            let fault = fault_of(program, &widened_to_end, env, entry);
+            Ok((widened_to_end, fault))
         }
     }
 }
@@ -187,17 +187,17 @@ fn inferred(alloc: Global, program: &Program, env: &Env, entry: Entry) -> Result
 /// instruction, each row is as strong as possible, and each instruction is looked at once. In a program with loops, rows are weakened pass by
 /// pass until they are stable, in at most 4,096 passes.
 ///
-/// # Errors
-/// `InferError::Memory` where the allocator refuses the memory for the rows, else `InferError::NoCert` where no certificate is found.
-/// A forward program is then accepted with none; and where the environment does not have the entry, no program is.
+/// # Errors `InferError::Memory` if the allocator refuses the memory for the rows, else `InferError::NoCert` if no
+/// certificate is found. A forward program is then accepted with none; and if the environment does not have the entry, no
+/// program is.
 pub fn infer(alloc: Global, program: &Program, env: &Env, entry: Entry) -> Result<Cert, InferError>
     // The program is accepted with it.
     ensures accepted { IfOk result (λ cert. Certifies program.now env.now entry cert.rows) }
     // No certificate of a forward program says more.
     ensures most { IfOk result (λ cert. SaysMost program.now env.now entry cert.rows) }
-    // It has version 1 exactly where no row has a group.
+    // It has version 1 exactly if no row has a group.
     ensures version { IfOk result (λ cert. cert.version ≡ version_for cert.rows) }
-    // Unless memory runs out, a forward program has no certificate where none is returned, and the program is refused at that label by that rule with
+    // Unless memory runs out, a forward program has no certificate if none is returned, and the program is refused at that label by that rule with
     // one that was tried.
     ensures none { IfErr result (λ e. IsWithout program.now env.now entry e) }
 {
@@ -205,7 +205,7 @@ pub fn infer(alloc: Global, program: &Program, env: &Env, entry: Entry) -> Resul
 }
 
 /// A program with loops, checked with the rows that are found.
-fn settled_checked(
+fn widened_checked(
     alloc: Global,
     program: Program,
     env: &Env,
@@ -219,7 +219,7 @@ fn settled_checked(
     ensures last { IfOk result (λ q. AreLast program env.now entry q.rows) }
     ensures of_last { IfErr result (λ e. IsOfLast program env.now entry e) }
 {
-    let cert = settled_rows(alloc, &program, env, entry)?;
+    let cert = widened_rows(alloc, &program, env, entry)?;
     match check(program, cert, env, entry) {
         Ok(checked) => Ok(checked),
         Err(refused) => Err(InferError::NoCert {
@@ -248,7 +248,7 @@ fn inferred_checked(
         Ok(checked) => Ok(checked),
         Err(refused) => {
             let Refused { program, .. } = refused;
-            settled_checked(alloc, program, env, entry)
+            widened_checked(alloc, program, env, entry)
         }
     }
 }
@@ -263,13 +263,13 @@ pub fn infer_checked(
     env: &Env,
     entry: Entry,
 ) -> Result<Checked, InferError>
-    // It is the program with a certificate, of version 1 exactly where no row has a group.
+    // It is the program with a certificate, of version 1 exactly if no row has a group.
     ensures same { IfOk result (λ q. q ≡ question program (certificate_of q.rows) env.now entry) }
     // No rule fails.
     ensures checked { IfOk result (λ q. IsChecked q) }
     // No certificate of a forward program says more.
     ensures most { IfOk result (λ q. SaysMost program env.now entry q.rows) }
-    // Unless memory runs out, a forward program has no certificate where none is found, and the program is refused at that label by that rule with
+    // Unless memory runs out, a forward program has no certificate if none is found, and the program is refused at that label by that rule with
     // one that was tried.
     ensures none { IfErr result (λ e. IsWithout program env.now entry e) }
 {
@@ -292,7 +292,7 @@ fn last_cert(alloc: Global, program: &Program, env: &Env, entry: Entry) -> Resul
 /// say why the program is refused with it.
 ///
 /// # Errors
-/// `AllocError` where the allocator refuses the memory for the rows.
+/// `AllocError` if the allocator refuses the memory for the rows.
 pub fn attempt(
     alloc: Global,
     program: &Program,
@@ -305,7 +305,7 @@ pub fn attempt(
     ensures tried { IfOk result (λ cert. AreTried program.now env.now entry cert.rows) }
     // No certificate of a forward program says more.
     ensures most { IfOk result (λ cert. SaysMost program.now env.now entry cert.rows) }
-    // It has version 1 exactly where no row has a group.
+    // It has version 1 exactly if no row has a group.
     ensures version { IfOk result (λ cert. cert.version ≡ version_for cert.rows) }
 {
     last_cert(alloc, program, env, entry)

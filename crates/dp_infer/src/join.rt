@@ -1,4 +1,4 @@
-//! Joins what is known where control comes from several places.
+//! Joins what is known at a label that control reaches from several places.
 
 ghost use Rattle.std.specs.Prelude.{◌≡◌, max};
 ghost use Rattle.dp_model.specs.Rows.{held, owns_head};
@@ -67,7 +67,7 @@ fn paired_facts(facts: &[Fact; 8], others: &[Fact; 8]) -> [Fact; 8]
     joined
 }
 
-/// What both rows say of a register: loose where its group does not have the same registers in both.
+/// What both rows say of a register: loose if its group does not have the same registers in both.
 fn common_fact(row: &Row, other: &Row, fact: Fact) -> Fact
     ensures { result ≡ spec.common_fact row.now.facts other.now.facts fact }
 {

@@ -14,13 +14,13 @@ pub fn rows_have_a_least_common_row()
     ensures { (a b upper : Row) → IsTrue (is_well_formed_row upper) → IsTrue (entails a upper) → IsTrue (entails b upper) → HaveLeastRow a b upper }
 {}
 
-/// The row after an instruction keeps entailment, where the instruction's target is empty.
+/// The row after an instruction keeps entailment, if the instruction's target is empty.
 pub fn rows_after_keep_entailment()
     ensures { (env : Environment) (label : ℕ) (i : Instr) (a b : Row) → IsTrue (is_well_formed_row a) → IsTrue (is_well_formed_row b) → IsTrue (entails a b)
         → IsTrue (targets_fit b i) → LeadsEntail (leads env label a i) (leads env label b i) }
 {}
 
-/// A rule that holds of a row holds of every row that entails it, where the instruction's target is empty.
+/// A rule that holds of a row holds of every row that entails it, if the instruction's target is empty.
 pub fn rules_hold_of_entailing_rows()
     ensures { (q : Question) (label : ℕ) (i : Instr) (a b : Row) (rule : Rule) → IsTrue (is_well_formed_row a) → IsTrue (is_well_formed_row b) →
         IsTrue (entails a b)

@@ -10,7 +10,7 @@ ghost use Rattle.dp_model.specs.Rows.{is_well_formed_row};
 ghost use Rattle.dp_lang.specs.declared.program.TheConstants.{MAX_INSTRS};
 ghost use Rattle.dp_check.specs.Leads.{listed};
 ghost use Rattle.dp_infer.specs.Joins.{paired};
-ghost use Rattle.dp_infer.specs.Settling as spec;
+ghost use Rattle.dp_infer.specs.Widening as spec;
 
 use crate::join::{joined, met};
 use dp_check::{Leads, leads_of};
@@ -19,7 +19,7 @@ use dp_model::{Env, Fact, Holding, Instr, Lead, MAX_SEGMENTS, Operand, Row};
 /// The number of passes that go from constant to constant.
 const SLOW_PASSES: u32 = 64;
 
-/// The most passes.
+/// The maximum number of passes.
 const MAX_PASSES: u32 = 4096;
 
 /// The bound that a constant of an instruction (set, test, mask) puts on a number, or 0.
@@ -222,7 +222,7 @@ fn reach_again(rows: &mut [Row], program: &[Instr], label: u16, lead: &Lead, slo
     differ(&row, &there)
 }
 
-/// Passes a label's row on to its successors; returns whether a row changed.
+/// Joins what is known after a label into the rows of its successors; returns whether a row changed.
 fn pass_again(rows: &mut [Row], program: &[Instr], env: &Env, label: u16, slow: bool) -> bool
     requires in_range { label < length rows.old }
     requires same_length { length rows.old ≡ length program.now }
@@ -251,7 +251,7 @@ fn pass_again(rows: &mut [Row], program: &[Instr], env: &Env, label: u16, slow: 
     }
 }
 
-/// Passes rows on, label by label in order; returns whether a row changed.
+/// Joins rows into those of successors, label by label in order; returns whether a row changed.
 fn spread_again(rows: &mut [Row], program: &[Instr], env: &Env, slow: bool) -> bool
     requires same_length { length rows.old ≡ length program.now }
     requires at_most { length program.now ≤ MAX_INSTRS }
@@ -270,11 +270,11 @@ fn spread_again(rows: &mut [Row], program: &[Instr], env: &Env, slow: bool) -> b
 }
 
 /// Widens rows, pass by pass, until a pass changes none, or [`MAX_PASSES`] are made. Whether they suffice then is left open.
-pub(crate) fn settle(rows: &mut [Row], program: &[Instr], env: &Env)
+pub(crate) fn widen(rows: &mut [Row], program: &[Instr], env: &Env)
     requires same_length { length rows.old ≡ length program.now }
     requires at_most { length program.now ≤ MAX_INSTRS }
     requires well_formed { IsTrue (list_all is_well_formed_row rows.old) }
-    ensures settled { rows.new ≡ spec.settled program.now env.now rows.old }
+    ensures widened_to_end { rows.new ≡ spec.widened_to_end program.now env.now rows.old }
     ensures long { length rows.new ≡ length rows.old }
     ensures well_formed { IsTrue (list_all is_well_formed_row rows.new) }
 {

@@ -10,8 +10,9 @@ use Rattle.dp_counts.specs.declared.source.NodeSource.{NodeSource}
 use Rattle.dp_counts.specs.declared.sums.Total.TheVariants.{Hits, Misses, Full}
 use Rattle.dp_counts.specs.Counting.{Tally}
 use Rattle.dp_counts.specs.Sums.{total_of}
+use Rattle.dp_counts.specs.Sources.{each_from}
 use Rattle.dp_json.specs.Instructions.{instructions_data}
-use Rattle.dp_json.specs.Lists.{each_below, each_from}
+use Rattle.dp_json.specs.Lists.{each_below}
 use Rattle.dp_json.specs.Numbers.{number_data}
 use Rattle.dp_json.specs.Texts.{node_text}
 

@@ -4,33 +4,33 @@ use Rattle.serde_json.specs.Data.{Data, null, number, unsigned, string, array, o
 use Rattle.serde_json.specs.View.{items_of}
 use Rattle.serde_json.specs.Written.{IsInOrder, compact_text, has_float}
 use Rattle.dp_engine.specs.declared.report.Report.{Report}
+use Rattle.dp_counts.specs.Sources.{each_from}
 use Rattle.dp_json.specs.declared.document.FaultText.{FaultText}
-use Rattle.dp_json.specs.Lists.{each_from}
 use Rattle.dp_json.specs.Numbers.{number_data}
 use Rattle.dp_json.specs.Reports.{pool_data, port_data, ring_data}
 
 -- a fault: its line and its status
-pub record Told : Type 0 where
+pub record FaultView : Type 0 where
   pub text : List ℕ
   pub status : ℕ
 
-abbrev pub told_of : FaultText → Told
-told_of f = record { text = f.text.now; status = f.status }
+abbrev pub fault_view : FaultText → FaultView
+fault_view f = record { text = f.text.now; status = f.status }
 
-abbrev pub fault_value : Told → Data
+abbrev pub fault_value : FaultView → Data
 fault_value f =
     object (member (codes "status") (number (unsigned f.status)) (member (codes "text") (string f.text) no_members))
 
-abbrev pub fault_data : Option Told → Data
+abbrev pub fault_data : Option FaultView → Data
 fault_data None = null
 fault_data (Some f) = fault_value f
 
 -- of a command that ended before its work
-abbrev pub fault_document : Told → Data
+abbrev pub fault_document : FaultView → Data
 fault_document f = object (member (codes "fault") (fault_value f) no_members)
 
 -- of `dpv check` and `dpv explain`
-abbrev pub verdicts_document : Items → Option Told → Data
+abbrev pub verdicts_document : Items → Option FaultView → Data
 verdicts_document nodes fault =
     object (member (codes "fault") (fault_data fault) (member (codes "nodes") (array nodes) no_members))
 
@@ -48,7 +48,7 @@ with_counts None ms = ms
 with_counts (Some counts) ms = put (codes "counts") counts ms
 
 -- of a run
-unfoldable pub run_document : Report → Option Data → Option Told → Data
+unfoldable pub run_document : Report → Option Data → Option FaultView → Data
 run_document r counts fault = object (put (codes "fault") (fault_data fault) (with_counts counts (with_report r no_members)))
 
 -- A text is that of a document: its items and members, each once and in order, with each integer in decimal. Where the document has no float, it is

@@ -1,6 +1,7 @@
 pub mod Counts
 pub mod Documents
 pub mod Instructions
+pub mod Laws
 pub mod Lists
 pub mod Numbers
 pub mod Reports

@@ -9,7 +9,7 @@ use Rattle.dp_model.specs.declared.env.Entry.{Entry}
 use Rattle.dp_model.specs.declared.env.Entry.TheVariants.{Port, Ring}
 use Rattle.dp_lang.specs.Lines.{trim, is_hash}
 
--- a text of these bytes; what is no UTF-8 is replaced
+-- a text of these bytes; what is not UTF-8 is replaced
 unfoldable pub text_data : List ℕ → Data
 text_data bytes = string (utf8_lossy bytes)
 

@@ -1,10 +1,11 @@
-//! The counts of a run.
+//! The counts of a run, as parts of a document.
 
 ghost use Rattle.std.specs.Prelude.{◌≡◌, ◌≤◌, IfOk, length, map, take};
 ghost use Rattle.serde_json.specs.Data.{array};
 ghost use Rattle.serde_json.specs.View.{items_of, view};
 ghost use Rattle.dp_json.specs.Counts as spec;
-ghost use Rattle.dp_json.specs.Lists.{each_below, each_from};
+ghost use Rattle.dp_counts.specs.Sources.{each_from};
+ghost use Rattle.dp_json.specs.Lists.{each_below};
 
 use crate::numbers::number;
 use crate::steps::instructions;
@@ -35,7 +36,7 @@ fn programs(alloc: Global, counts: &Counts, sources: &[NodeSource<'_>]) -> Resul
     Ok(Value::Array(values))
 }
 
-/// How many lookups in a table found a hop, and how many found none.
+/// The numbers of lookups in a table that found a hop, and that found none.
 #[tactic(auto, unfolding(crate::specs::Counts::table_data))]
 fn table(
     alloc: Global,
@@ -67,7 +68,7 @@ fn tables(
     Ok(Value::Array(values))
 }
 
-/// The most packets that waited in a ring, how many it takes, and how often it was full.
+/// The most packets that waited in a ring, its capacity, and how often it was full.
 #[tactic(auto, unfolding(crate::specs::Counts::ring_data))]
 fn ring(
     alloc: Global,
@@ -113,7 +114,7 @@ fn first_rings(rings: &[RingSpec]) -> &[RingSpec]
     if rings.len() > 8 { &rings[..8] } else { rings }
 }
 
-/// How many buffers of a pool were free at least, and how many it has.
+/// The least number of free buffers of a pool, and how many it has.
 #[tactic(auto, unfolding(crate::specs::Counts::pool_data))]
 fn pool(alloc: Global, pool: u64, free: u32, own: PoolSpec) -> Result<Value, AllocError>
     ensures { IfOk result (λ v. view v ≡ spec.pool_data pool free own) }
@@ -148,7 +149,7 @@ fn first_pools(pools: &[PoolSpec]) -> &[PoolSpec]
 ///
 /// # Errors
 ///
-/// `AllocError` where memory is refused.
+/// `AllocError` if memory is refused.
 #[tactic(auto, unfolding(crate::specs::Counts::counts_data))]
 pub fn counts_of(
     alloc: Global,

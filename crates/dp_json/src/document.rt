@@ -2,7 +2,7 @@
 
 ghost use Rattle.std.specs.Prelude.{◌≡◌, IfOk, OnOk, option_map, string_bytes};
 ghost use Rattle.serde_json.specs.View.{items_view, members_view, view};
-ghost use Rattle.dp_json.specs.Documents.{told_of};
+ghost use Rattle.dp_json.specs.Documents.{fault_view};
 ghost use Rattle.dp_json.specs.Documents as spec;
 
 use crate::numbers::number;
@@ -22,14 +22,14 @@ pub struct FaultText<'a> {
 
 /// A fault.
 fn fault_value(alloc: Global, fault: FaultText<'_>) -> Result<Value, AllocError>
-    ensures { IfOk result (λ v. view v ≡ spec.fault_value (told_of fault.entry)) }
+    ensures { IfOk result (λ v. view v ≡ spec.fault_value (fault_view fault.entry)) }
 {
     json!(in alloc; {"text": fault.text, "status": fault.status})
 }
 
 /// A fault, if there is one; else `null`.
 fn fault_or_null(alloc: Global, fault: Option<FaultText<'_>>) -> Result<Value, AllocError>
-    ensures { IfOk result (λ v. view v ≡ spec.fault_data (option_map told_of fault.entry)) }
+    ensures { IfOk result (λ v. view v ≡ spec.fault_data (option_map fault_view fault.entry)) }
 {
     match fault {
         Some(fault) => fault_value(alloc, fault),
@@ -37,13 +37,13 @@ fn fault_or_null(alloc: Global, fault: Option<FaultText<'_>>) -> Result<Value, A
     }
 }
 
-/// The document of a command that ended with a fault before its work.
+/// The document of a command that a fault ended before its work began.
 ///
 /// # Errors
 ///
-/// `AllocError` where memory is refused.
+/// `AllocError` if memory is refused.
 pub fn fault_document(alloc: Global, fault: FaultText<'_>) -> Result<Value, AllocError>
-    ensures { IfOk result (λ v. view v ≡ spec.fault_document (told_of fault.entry)) }
+    ensures { IfOk result (λ v. view v ≡ spec.fault_document (fault_view fault.entry)) }
 {
     let fault = fault_value(alloc, fault)?;
     json!(in alloc; {"fault": fault})
@@ -53,13 +53,13 @@ pub fn fault_document(alloc: Global, fault: FaultText<'_>) -> Result<Value, Allo
 ///
 /// # Errors
 ///
-/// `AllocError` where memory is refused.
+/// `AllocError` if memory is refused.
 pub fn verdicts_document(
     alloc: Global,
     nodes: Vec<Value>,
     fault: Option<FaultText<'_>>,
 ) -> Result<Value, AllocError>
-    ensures { IfOk result (λ v. view v ≡ spec.verdicts_document (items_view nodes.items) (option_map told_of fault.entry)) }
+    ensures { IfOk result (λ v. view v ≡ spec.verdicts_document (items_view nodes.items) (option_map fault_view fault.entry)) }
 {
     let fault = fault_or_null(alloc, fault)?;
     let nodes = Value::Array(nodes);
@@ -102,7 +102,7 @@ fn put_counts(
 ///
 /// # Errors
 ///
-/// `AllocError` where memory is refused.
+/// `AllocError` if memory is refused.
 #[tactic(auto, unfolding(crate::specs::Documents::run_document))]
 pub fn run_document(
     alloc: Global,
@@ -110,7 +110,7 @@ pub fn run_document(
     counts: Option<Value>,
     fault: Option<FaultText<'_>>,
 ) -> Result<Value, AllocError>
-    ensures { IfOk result (λ v. view v ≡ spec.run_document report.now (option_map view counts) (option_map told_of fault.entry)) }
+    ensures { IfOk result (λ v. view v ≡ spec.run_document report.now (option_map view counts) (option_map fault_view fault.entry)) }
 {
     let mut map = Map::new(alloc);
     put_report(alloc, &mut map, report)?;
@@ -123,7 +123,7 @@ pub fn run_document(
 ///
 /// # Errors
 ///
-/// `AllocError` where memory is refused.
+/// `AllocError` if memory is refused.
 pub fn line_of(alloc: Global, document: &Value) -> Result<String, AllocError>
     ensures { IfOk result (λ text. spec.IsTextOf (string_bytes text) (view document.now)) }
 {

@@ -4,7 +4,7 @@
 //! value. docs/reference/json.md lists the fields. A number above 2^53 is a string of its digits, since many readers of JSON keep numbers as floats
 //! of 64 bits.
 //!
-//! `json!` sorts the members of an object. Here they are written from the last to the first, so that each is put before the others, and the proof
+//! `json!` sorts the members of an object. Here they are written from the last to the first, so each is inserted before the others, and the proof
 //! compares one name for each.
 #![tactic(auto)]
 

@@ -1,4 +1,4 @@
-//! Numbers.
+//! Numbers in documents.
 
 ghost use Rattle.std.specs.Prelude.{◌≡◌, IfOk};
 ghost use Rattle.serde_json.specs.View.{view};
@@ -10,11 +10,11 @@ use std::alloc::{AllocError, Global};
 /// The largest number that is printed as one, 2^53: a float of 64 bits holds each number up to it.
 pub const MAX_NUMBER: u64 = 9_007_199_254_740_992;
 
-/// A number: as a number up to 2^53, and beyond that as a string of its digits.
+/// Makes the value of a number: a number up to 2^53, and beyond that a string of its digits.
 ///
 /// # Errors
 ///
-/// `AllocError` where memory is refused.
+/// `AllocError` if memory is refused.
 #[tactic(auto, unfolding(crate::specs::Numbers::number_data))]
 pub fn number(alloc: Global, n: u64) -> Result<Value, AllocError>
     ensures { IfOk result (λ v. view v ≡ number_data n) }

@@ -1,9 +1,9 @@
-//! The report of a run.
+//! The report of a run, as parts of a document.
 
 ghost use Rattle.std.specs.Prelude.{◌≡◌, IfOk, map};
 ghost use Rattle.serde_json.specs.Data.{array, string};
 ghost use Rattle.serde_json.specs.View.{items_of, view};
-ghost use Rattle.dp_json.specs.Lists.{each_from};
+ghost use Rattle.dp_counts.specs.Sources.{each_from};
 ghost use Rattle.dp_json.specs.Reports as spec;
 
 use crate::numbers::number;
@@ -22,7 +22,7 @@ fn state_word(state: InputState) -> &'static str
     }
 }
 
-/// The byte at which the record begins that is cut short; `null` where there is none.
+/// The offset of the record that is cut short; `null` if there is none.
 fn cut_at(alloc: Global, state: InputState) -> Result<Value, AllocError>
     ensures { IfOk result (λ v. view v ≡ spec.cut_at state) }
 {

@@ -13,7 +13,7 @@ use dp_model::Entry;
 use serde_json::{Value, json};
 use std::alloc::{AllocError, Global};
 
-/// How often the jump of an instruction was taken; `null` where it has none.
+/// How often the jump of an instruction was taken; `null` if it has none.
 fn taken(alloc: Global, role: Role, counts: StepCounts) -> Result<Value, AllocError>
     ensures { IfOk result (λ v. view v ≡ spec.taken_data role counts) }
 {
@@ -23,7 +23,7 @@ fn taken(alloc: Global, role: Role, counts: StepCounts) -> Result<Value, AllocEr
     }
 }
 
-/// What ends at an instruction; `null` where it is neither `free` nor `exit`.
+/// What ends at an instruction; `null` if it is neither `free` nor `exit`.
 fn ends(alloc: Global, role: Role) -> Result<Value, AllocError>
     ensures { IfOk result (λ v. view v ≡ spec.ends_data role) }
 {

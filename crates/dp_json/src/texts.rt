@@ -1,4 +1,4 @@
-//! Texts.
+//! Texts in documents.
 
 ghost use Rattle.std.specs.Prelude.{◌≡◌, IfOk, option_map, position};
 ghost use Rattle.std.specs.List.{before_first};
@@ -11,7 +11,7 @@ use dp_model::Entry;
 use serde_json::Value;
 use std::alloc::{AllocError, Global};
 
-/// A text of these bytes. What is no UTF-8 is replaced by U+FFFD.
+/// A text of these bytes. What is not UTF-8 is replaced by U+FFFD.
 #[tactic(auto, unfolding(crate::specs::Texts::text_data))]
 pub fn text(alloc: Global, bytes: &[u8]) -> Result<Value, AllocError>
     ensures { IfOk result (λ v. view v ≡ spec.text_data bytes.now) }
@@ -38,7 +38,7 @@ fn is_blank(b: u8) -> bool
     matches!(b, b' ' | b'\t' | b'\r')
 }
 
-/// Cuts off the blanks at the front.
+/// Removes the blanks at the front.
 fn trim_start(bytes: &[u8]) -> &[u8]
     ensures { result.now ≡ lines.trim_start bytes.now }
 {
@@ -51,7 +51,7 @@ fn trim_start(bytes: &[u8]) -> &[u8]
     rest
 }
 
-/// Cuts off the blanks at the end.
+/// Removes the blanks at the end.
 fn trim_end(bytes: &[u8]) -> &[u8]
     ensures { result.now ≡ lines.trim_end bytes.now }
 {
@@ -64,7 +64,7 @@ fn trim_end(bytes: &[u8]) -> &[u8]
     rest
 }
 
-/// Cuts off the blanks at the front and at the end.
+/// Removes the blanks at the front and at the end.
 fn trim(bytes: &[u8]) -> &[u8]
     ensures { result.now ≡ lines.trim bytes.now }
 {
@@ -105,7 +105,7 @@ fn comment_of(line: &[u8]) -> Option<&[u8]>
     }
 }
 
-/// The comment of a line, as a text; `null` where it has none.
+/// The comment of a line, as a text; `null` if it has none.
 #[tactic(auto, unfolding(crate::specs::Texts::comment_data))]
 pub fn comment(alloc: Global, line: &[u8]) -> Result<Value, AllocError>
     ensures { IfOk result (λ v. view v ≡ spec.comment_data line.now) }

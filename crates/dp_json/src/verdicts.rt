@@ -1,4 +1,4 @@
-//! The verdicts on programs.
+//! The verdicts on programs, as parts of a document.
 
 ghost use Rattle.std.specs.Prelude.{◌≡◌, ◌==◌, IfOk, OnOk, map};
 ghost use Rattle.std.specs.List.{slice_split};
@@ -52,7 +52,7 @@ pub struct Explanation<'a> {
 ///
 /// # Errors
 ///
-/// `AllocError` where memory is refused.
+/// `AllocError` if memory is refused.
 #[tactic(auto, unfolding(crate::specs::Verdicts::accepted_data))]
 pub fn accepted(alloc: Global, node: Entry) -> Result<Value, AllocError>
     ensures { IfOk result (λ v. view v ≡ spec.accepted_data node) }
@@ -61,7 +61,7 @@ pub fn accepted(alloc: Global, node: Entry) -> Result<Value, AllocError>
     json!(in alloc; {"verdict": "accepted", "node": name})
 }
 
-/// The verdict on a program that is refused: `refused`, or `not inferred` where no certificate was given.
+/// The verdict on a program that is refused: `refused`, or `not inferred` if no certificate was given.
 fn verdict_word(given: bool) -> &'static str
     ensures { result.now ≡ spec.verdict_word given }
 {
@@ -80,7 +80,7 @@ fn rule_name(alloc: Global, rule: u8) -> Result<Value, AllocError>
 ///
 /// # Errors
 ///
-/// `AllocError` where memory is refused.
+/// `AllocError` if memory is refused.
 #[tactic(auto, unfolding(crate::specs::Verdicts::refused_data))]
 pub fn refused(alloc: Global, refusal: Refusal) -> Result<Value, AllocError>
     ensures { IfOk result (λ v. view v ≡ spec.refused_data refusal) }
@@ -203,7 +203,7 @@ fn put_words(
 ///
 /// # Errors
 ///
-/// `AllocError` where memory is refused.
+/// `AllocError` if memory is refused.
 #[tactic(auto, unfolding(crate::specs::Verdicts::explained_data))]
 pub fn explained(alloc: Global, explanation: &Explanation<'_>) -> Result<Value, AllocError>
     ensures { IfOk result (λ v. view v ≡ spec.explained_data explanation.now) }

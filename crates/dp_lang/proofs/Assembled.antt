@@ -5,12 +5,13 @@ use Rattle.std.specs.Prelude.{IfSome, IfOk, ◌&&◌, nat_lt}
 use Rattle.std.specs.List.{list_all}
 use Rattle.std.specs.FinMap.{get}
 use Rattle.std.proofs.lemmas.List.{length-map}
+use Rattle.std.proofs.lemmas.Bool.{and_from}
 use Rattle.dp_model.specs.declared.instr.Instr.{Instr}
 use Rattle.dp_lang.specs.declared.cause.Fault.{Fault}
 use Rattle.dp_lang.specs.declared.form.Form.{Form}
-use Rattle.dp_lang.specs.declared.form.Kind.{Kind}
-use Rattle.dp_lang.specs.declared.form.Kind.TheVariants as kinds
-use Rattle.dp_lang.specs.declared.source.Source as sources
+use Rattle.dp_lang.specs.declared.form.OperandKind.{OperandKind}
+use Rattle.dp_lang.specs.declared.form.OperandKind.TheVariants as kinds
+use Rattle.dp_lang.specs.declared.source.ProgramSource as sources
 use Rattle.dp_lang.specs.declared.statement.Statement as statements
 use Rattle.dp_lang.specs.Arguments.{Argument, packet, register, constant, label}
 use Rattle.dp_lang.specs.Forms.{kinds_of, Statement, spelled}
@@ -19,7 +20,7 @@ use Rattle.dp_lang.specs.Programs.{IsProgram, is_in_range, leads_below}
 use Rattle.dp_lang.specs.Reading.{below, target_in, as_label, resolved, onto_resolved, all_resolved, statement_with, all_statements, ◌>>=◌}
 use Rattle.dp_lang.specs.Sources as view
 use Rattle.dp_lang.specs.Views.{argument}
-use Rattle.dp_lang.proofs.Bytes.{and_true, and_left, and_right}
+use Rattle.dp_lang.proofs.Bytes.{and_left, and_right}
 use Rattle.dp_lang.proofs.InstrLabels.{is_below, operands_below}
 
 abbrev fits : Statement ℕ → Bool
@@ -30,34 +31,34 @@ is_placed count s = list_all (is_below count) s.arguments
 
 -- ---- one operand
 
-same_packet : (k : Kind) (p : ℕ) → is_of {L = List ℕ} k (packet p) ≡ is_of {L = ℕ} k (packet p)
+same_packet : (k : OperandKind) (p : ℕ) → is_of {L = List ℕ} k (packet p) ≡ is_of {L = ℕ} k (packet p)
 same_packet kinds.Packet p = refl
 same_packet _ p = refl
 
-same_register : (k : Kind) (p : ℕ) → is_of {L = List ℕ} k (register p) ≡ is_of {L = ℕ} k (register p)
+same_register : (k : OperandKind) (p : ℕ) → is_of {L = List ℕ} k (register p) ≡ is_of {L = ℕ} k (register p)
 same_register kinds.Packet p = refl
 same_register _ p = refl
 
-same_constant : (k : Kind) (p : ℕ) → is_of {L = List ℕ} k (constant p) ≡ is_of {L = ℕ} k (constant p)
+same_constant : (k : OperandKind) (p : ℕ) → is_of {L = List ℕ} k (constant p) ≡ is_of {L = ℕ} k (constant p)
 same_constant kinds.Packet p = refl
 same_constant _ p = refl
 
-same_label : (k : Kind) (name : List ℕ) (l : ℕ) → is_of {L = List ℕ} k (label name) ≡ is_of {L = ℕ} k (label l)
+same_label : (k : OperandKind) (name : List ℕ) (l : ℕ) → is_of {L = List ℕ} k (label name) ≡ is_of {L = ℕ} k (label l)
 same_label kinds.Packet name l = refl
 same_label _ name l = refl
 
 abbrev Bound : (List ℕ → Option ℕ) → ℕ → Type 0
 Bound target count = (name : List ℕ) (l : ℕ) → target name ≡ Some l → nat_lt l count ≡ true
 
-abbrev Good : ℕ → Kind → Argument ℕ → Type 0
+abbrev Good : ℕ → OperandKind → Argument ℕ → Type 0
 Good count k a = (is_of k a ≡ true) × (is_below count a ≡ true)
 
-label_good : (count : ℕ) (k : Kind) (name : List ℕ) (o : Option ℕ) → ((l : ℕ) → o ≡ Some l → nat_lt l count ≡ true) → is_of k (label name) ≡ true →
+label_good : (count : ℕ) (k : OperandKind) (name : List ℕ) (o : Option ℕ) → ((l : ℕ) → o ≡ Some l → nat_lt l count ≡ true) → is_of k (label name) ≡ true →
     IfSome (as_label o) (Good count k)
 label_good count k name None bound h = tt
 label_good count k name (Some l) bound h = (sym (same_label k name l) ∙ h, bound l refl)
 
-argument_good : (target : List ℕ → Option ℕ) (count : ℕ) → Bound target count → (k : Kind) (a : Argument (List ℕ)) → is_of k a ≡ true →
+argument_good : (target : List ℕ → Option ℕ) (count : ℕ) → Bound target count → (k : OperandKind) (a : Argument (List ℕ)) → is_of k a ≡ true →
     IfSome (resolved target a) (Good count k)
 argument_good target count bound k (packet p) h = (sym (same_packet k p) ∙ h, refl)
 argument_good target count bound k (register r) h = (sym (same_register k r) ∙ h, refl)
@@ -66,19 +67,20 @@ argument_good target count bound k (label name) h = label_good count k name (tar
 
 -- ---- the operands of a statement
 
-abbrev AllGood : ℕ → List Kind → List (Argument ℕ) → Type 0
+abbrev AllGood : ℕ → List OperandKind → List (Argument ℕ) → Type 0
 AllGood count ks as' = (all_of ks as' ≡ true) × (list_all (is_below count) as' ≡ true)
 
-onto_good : (count : ℕ) (k : Kind) (ks : List Kind) (a : Option (Argument ℕ)) (as' : Option (List (Argument ℕ))) → IfSome a (Good count k) →
+onto_good : (count : ℕ) (k : OperandKind) (ks : List OperandKind) (a : Option (Argument ℕ)) (as' : Option (List (Argument ℕ))) → IfSome a (Good count k) →
     IfSome as' (AllGood count ks) → IfSome (onto_resolved a as') (AllGood count (k ∷ ks))
 onto_good count k ks (Some a) (Some as') h t = (
-  and_true (is_of k a) (all_of ks as') h.0 t.0,
-  and_true (is_below count a) (list_all (is_below count) as') h.1 t.1,
+  and_from (is_of k a) (all_of ks as') h.0 t.0,
+  and_from (is_below count a) (list_all (is_below count) as') h.1 t.1,
 )
 onto_good count k ks (Some a) None h t = tt
 onto_good count k ks None as' h t = tt
 
-arguments_good : (target : List ℕ → Option ℕ) (count : ℕ) → Bound target count → (ks : List Kind) (as' : List (Argument (List ℕ))) → all_of ks as' ≡ true →
+arguments_good : (target : List ℕ → Option ℕ) (count : ℕ) → Bound target count → (ks : List OperandKind) (as' : List (Argument (List ℕ))) → all_of ks as' ≡
+    true →
     IfSome (all_resolved target as') (AllGood count ks)
 arguments_good target count bound [] [] h = (refl, refl)
 arguments_good target count bound [] (a ∷ as') h = absurd cc
@@ -100,8 +102,8 @@ statement_good : (count : ℕ) (line : ℕ) (form : Form) (as' : Option (List (A
 statement_good count line form None n rest h t = tt
 statement_good count line form (Some as') n (Err e) h t = tt
 statement_good count line form (Some as') n (Ok ss) h t = record {
-  fit = and_true (all_of (kinds_of form) as') (list_all fits ss) h.0 t.fit;
-  placed = and_true (list_all (is_below count) as') (list_all (is_placed count) ss) h.1 t.placed;
+  fit = and_from (all_of (kinds_of form) as') (list_all fits ss) h.0 t.fit;
+  placed = and_from (list_all (is_below count) as') (list_all (is_placed count) ss) h.1 t.placed;
   as_many = ap suc t.as_many;
 }
 
@@ -124,7 +126,7 @@ target_bound n (Some m) l h = below_bound (nat_lt m n) m l n refl h
 
 all_lead : (count : ℕ) (is : List Instr) → list_all (is_placed count) (map spelled is) ≡ true → list_all (leads_below count) is ≡ true
 all_lead count [] h = refl
-all_lead count (i ∷ is) h = and_true (leads_below count i) (list_all (leads_below count) is)
+all_lead count (i ∷ is) h = and_from (leads_below count i) (list_all (leads_below count) is)
     (sym (operands_below count i) ∙ and_left (is_placed count (spelled i)) (list_all (is_placed count) (map spelled is)) h)
     (all_lead count is (and_right (is_placed count (spelled i)) (list_all (is_placed count) (map spelled is)) h))
 
@@ -132,7 +134,7 @@ all_in_range : (is : List Instr) → list_all fits (map spelled is) ≡ list_all
 all_in_range [] = refl
 all_in_range (i ∷ is) = ap (λ b. is_in_range i && b) (all_in_range is)
 
-pub is_program : (s : sources.Source) (is : List Instr) → all_statements (target_in (view.source s)) (map view.with_line s.statements.items)
+pub is_program : (s : sources.ProgramSource) (is : List Instr) → all_statements (target_in (view.source s)) (map view.with_line s.statements.items)
     ≡ Ok (map spelled is) → 1 ≤ length is → IsProgram is
 is_program s is read some =
     let n = length (map view.with_line s.statements.items) in

@@ -9,8 +9,8 @@ use Rattle.dp_lang.specs.Fields.{less, packet_in, register_in, number_in, width_
 use Rattle.dp_lang.specs.Fields.{fielded_statement}
 use Rattle.dp_lang.specs.declared.argument.Named.{Named}
 use Rattle.dp_lang.specs.declared.argument.Named.TheVariants.{Packet, Register, Constant, Name}
-use Rattle.dp_lang.specs.declared.form.Kind.{Kind}
-use Rattle.dp_lang.specs.declared.form.Kind.TheVariants as kinds
+use Rattle.dp_lang.specs.declared.form.OperandKind.{OperandKind}
+use Rattle.dp_lang.specs.declared.form.OperandKind.TheVariants as kinds
 use Rattle.dp_lang.specs.declared.form.Form.{Form}
 use Rattle.dp_lang.specs.declared.form.Form.TheVariants as forms
 use Rattle.dp_lang.specs.Forms.{kinds_of, either}
@@ -71,11 +71,11 @@ label_back l _ h = absurd cc
 
 -- ---- the label comes last
 
-abbrev is_plain : Kind → Bool
+abbrev is_plain : OperandKind → Bool
 is_plain kinds.Label = false
 is_plain k = true
 
-abbrev label_last : List Kind → Bool
+abbrev label_last : List OperandKind → Bool
 label_last [] = true
 label_last (k ∷ []) = true
 label_last (k ∷ j ∷ ks) = is_plain k && label_last (j ∷ ks)
@@ -92,11 +92,11 @@ onto_each : (x : Argument ℕ) (f : ℕ → List (Argument ℕ)) (o : Option ℕ
 onto_each x f None = refl
 onto_each x f (Some l) = refl
 
-no_label : (k : Kind) (name : List ℕ) → is_plain k ≡ true → is_of k (label name) ≡ false
+no_label : (k : OperandKind) (name : List ℕ) → is_plain k ≡ true → is_of k (label name) ≡ false
 no_label kinds.Label name h = absurd cc
 no_label _ name h = refl
 
-pub labels_resolved : (target : List ℕ → Option ℕ) (ks : List Kind) (as' : List Named) → all_of ks (map argument as') ≡ true → label_last ks ≡ true
+pub labels_resolved : (target : List ℕ → Option ℕ) (ks : List OperandKind) (as' : List Named) → all_of ks (map argument as') ≡ true → label_last ks ≡ true
     → all_resolved target (map argument as') ≡ option_map (λ l. map (numbered l) as') (label_in target as')
 labels_resolved target [] [] h e = refl
 labels_resolved target [] (a ∷ as') h e = absurd cc
@@ -130,7 +130,7 @@ labels_resolved target (k ∷ j ∷ ks) (Name name ∷ as') h e =
 abbrev at : List Named → ℕ → Named
 at as' n = slice_index_or as' n none
 
-operand_back_of : (l : ℕ) (k : Kind) (a : Named) → is_of k (argument a) ≡ true → fielded l k a ≡ numbered l a
+operand_back_of : (l : ℕ) (k : OperandKind) (a : Named) → is_of k (argument a) ≡ true → fielded l k a ≡ numbered l a
 operand_back_of l kinds.Packet a h = packet_back l a h
 operand_back_of l kinds.Register a h = register_back l a h
 operand_back_of l (kinds.Number least most) a h = number_back least most l a h
@@ -138,7 +138,7 @@ operand_back_of l kinds.Width a h = width_back l a h
 operand_back_of l kinds.RegisterOrConstant a h = operand_back l a h
 operand_back_of l kinds.Label a h = label_back l a h
 
-all_back : (l : ℕ) (ks : List Kind) (as' : List Named) → all_of ks (map argument as') ≡ true → all_fielded l ks (at as') ≡ map (numbered l) as'
+all_back : (l : ℕ) (ks : List OperandKind) (as' : List Named) → all_of ks (map argument as') ≡ true → all_fielded l ks (at as') ≡ map (numbered l) as'
 all_back l [] [] h = refl
 all_back l [] (a ∷ as') h = absurd cc
 all_back l (k ∷ ks) [] h = absurd cc

@@ -3,13 +3,11 @@ use Rattle.std.proofs.Common.{◌≡◌, ℕ, Bool, true, false, not, List, [], 
 use Rattle.std.specs.Prelude.{◌&&◌, ◌||◌, ◌==◌, nat_le}
 use Rattle.std.specs.List.{list_all}
 use Rattle.std.proofs.lemmas.Bool.Decides.{nat_tests}
+use Rattle.std.proofs.lemmas.Bool.{and_from}
 use Rattle.dp_lang.specs.Lines.{is_blank, is_text, is_newline, is_hash, is_colon, is_comma}
 use Rattle.dp_lang.specs.Kinds.{is_letter_or_digit}
 
 -- ---- tests
-
-pub and_true : (a b : Bool) → a ≡ true → b ≡ true → (a && b) ≡ true
-and_true a b h k = rw (h, k) refl
 
 pub and_left : (a b : Bool) → (a && b) ≡ true → a ≡ true
 and_left true b h = refl
@@ -21,12 +19,12 @@ and_right false b h = absurd cc
 
 pub all_implies : (p q : ℕ → Bool) → ((b : ℕ) → p b ≡ true → q b ≡ true) → (s : List ℕ) → list_all p s ≡ true → list_all q s ≡ true
 all_implies p q imp [] h = refl
-all_implies p q imp (b ∷ s) h = and_true (q b) (list_all q s) (imp b (and_left (p b) (list_all p s) h))
+all_implies p q imp (b ∷ s) h = and_from (q b) (list_all q s) (imp b (and_left (p b) (list_all p s) h))
     (all_implies p q imp s (and_right (p b) (list_all p s) h))
 
 pub all_append : (p : ℕ → Bool) (s t : List ℕ) → list_all p s ≡ true → list_all p t ≡ true → list_all p (s ++ t) ≡ true
 all_append p [] t h k = k
-all_append p (b ∷ s) t h k = and_true (p b) (list_all p (s ++ t)) (and_left (p b) (list_all p s) h) (all_append p s t (and_right (p b) (list_all p s) h) k)
+all_append p (b ∷ s) t h k = and_from (p b) (list_all p (s ++ t)) (and_left (p b) (list_all p s) h) (all_append p s t (and_right (p b) (list_all p s) h) k)
 
 -- no byte passes
 abbrev pub Free : (ℕ → Bool) → List ℕ → Type 0

@@ -1,28 +1,26 @@
 -- A printed number reads as that number.
-use Rattle.std.proofs.Common.{◌≡◌, ℕ, ◌+◌, ◌-◌, ◌*◌, ◌^◌, ◌<◌, ◌≤◌, Bool, true, false, List, [], ◌∷◌, length, Some, None, refl, ap, ◌∙◌, eq-eqb, arith}
-use Rattle.std.specs.Prelude.{◌&&◌, ◌==◌, nat_le, nat_eq}
+use Rattle.std.proofs.Common.{◌≡◌, ℕ, ◌+◌, ◌-◌, ◌*◌, ◌^◌, ◌<◌, ◌≤◌, true, false, List, [], ◌∷◌, length, Some, None, refl, ap, ◌∙◌, eq-eqb, arith}
+use Rattle.std.specs.Prelude.{◌==◌, nat_le, nat_eq}
 use Rattle.std.specs.List.{list_all, starts_with}
 use Rattle.std.specs.Char.{digit_value}
 use Rattle.std.specs.Fmt.{decimal}
 use Rattle.std.specs.Str.Parse.{AllDigits, digits_value, digits_value_after}
 use Rattle.std.proofs.lemmas.Bool.Decides.{nat_tests}
-use Rattle.std.proofs.lemmas.Bool.{lt-ltb, leb-true, le-leb}
-use Rattle.std.proofs.lemmas.Fmt.{decimal_digit, decimal_is_IsNumeral, decimal_nonempty, length-decimal-le}
+use Rattle.std.proofs.lemmas.Bool.{lt-ltb, leb-true, le-leb, and_from}
+use Rattle.std.proofs.lemmas.Fmt.{decimal_digit, decimal_is_IsNumeral, length-decimal-le}
+use Rattle.std.proofs.Math.Bool.{and-false}
 use Rattle.dp_lang.specs.Kinds.{digits_after, numeral, number_in, register_in}
-use Rattle.dp_lang.proofs.Bytes.{is_digit, and_true, and_left, and_right}
+use Rattle.dp_lang.proofs.Bytes.{is_digit, and_left, and_right}
 
 value_digit : (c : ℕ) → digit_value c < 10 → is_digit c ≡ true
 value_digit c h = grind (arith, nat_tests)
 
 are_digits : (ds : List ℕ) → AllDigits 10 ds → list_all is_digit ds ≡ true
 are_digits [] h = refl
-are_digits (c ∷ cs) h = and_true (is_digit c) (list_all is_digit cs) (value_digit c h.0) (are_digits cs h.1)
+are_digits (c ∷ cs) h = and_from (is_digit c) (list_all is_digit cs) (value_digit c h.0) (are_digits cs h.1)
 
 pub decimal_digits : (n : ℕ) → n < 2 ^ 64 → list_all is_digit (decimal n) ≡ true
 decimal_digits n h = are_digits (decimal n) (decimal_is_IsNumeral n h).0.1
-
-pub decimal_some : (n : ℕ) → n < 2 ^ 64 → 0 < length (decimal n)
-decimal_some n h = decimal_nonempty n h
 
 pub decimal_short : (n : ℕ) → n < 2 ^ 64 → length (decimal n) ≤ 20
 decimal_short n h = length-decimal-le 20 n (omega arith) (omega arith) h
@@ -35,10 +33,6 @@ numeral_digits : (ds : List ℕ) → 0 < length ds → AllDigits 10 ds → numer
 numeral_digits [] l h = absurd (omega arith)
 numeral_digits (c ∷ cs) l h = after_digits 0 (c ∷ cs) h
 
-and_false : (b : Bool) → (b && false) ≡ false
-and_false true = refl
-and_false false = refl
-
 no_x : (d : ℕ) → is_digit d ≡ true → nat_eq 120 d ≡ false
 no_x d h = grind (arith, nat_tests)
 
@@ -48,9 +42,9 @@ no_letter letter c l h = grind (arith, nat_tests)
 -- decimal digits do not begin like a hex number
 no_hex : (ds : List ℕ) → list_all is_digit ds ≡ true → starts_with nat_eq ds (48 ∷ 120 ∷ []) ≡ false
 no_hex [] h = refl
-no_hex (c ∷ []) h = and_false (nat_eq 48 c)
+no_hex (c ∷ []) h = and-false (nat_eq 48 c)
 no_hex (c ∷ d ∷ ds) h = rw (no_x d (and_left (is_digit d) (list_all is_digit ds) (and_right (is_digit c) (list_all is_digit (d ∷ ds)) h)))
-    (and_false (nat_eq 48 c))
+    (and-false (nat_eq 48 c))
 
 pub number_decimal : (n : ℕ) → n < 2 ^ 64 → number_in (decimal n) ≡ Some n
 unfolding number_in

@@ -1,8 +1,9 @@
 -- The labels among the operands of an instruction: the one that it names, or none.
-use Rattle.std.proofs.Common.{◌≡◌, ℕ, Bool, true, false, List, [], ◌∷◌, ◌++◌, Option, Some, None, refl, ap, ◌∙◌}
+use Rattle.std.proofs.Common.{◌≡◌, ℕ, Bool, true, List, [], ◌∷◌, ◌++◌, Option, Some, None, refl, ap, ◌∙◌}
 use Rattle.std.specs.Prelude.{◌&&◌, nat_lt}
 use Rattle.std.specs.List.{list_all}
 use Rattle.std.specs.Option.{option_map_or}
+use Rattle.std.proofs.Math.Bool.{and-true}
 use Rattle.dp_model.specs.declared.instr.Instr.{Instr}
 use Rattle.dp_model.specs.declared.instr.Instr.TheVariants as instr
 use Rattle.dp_model.specs.declared.registers.Operand.{Operand}
@@ -52,13 +53,9 @@ labels_below count (register r ∷ as') = labels_below count as'
 labels_below count (constant n ∷ as') = labels_below count as'
 labels_below count (label l ∷ as') = ap (λ b. nat_lt l count && b) (labels_below count as')
 
-and_nothing : (b : Bool) → (b && true) ≡ b
-and_nothing true = refl
-and_nothing false = refl
-
 one_below : (count : ℕ) (o : Option ℕ) → list_all (λ l. nat_lt l count) (if_any o) ≡ option_map_or (λ to. nat_lt to count) o true
 one_below count None = refl
-one_below count (Some l) = and_nothing (nat_lt l count)
+one_below count (Some l) = and-true (nat_lt l count)
 
 -- no operand of an instruction is a label but its own
 pub operands_below : (count : ℕ) (i : Instr) → list_all (is_below count) (spelled i).arguments ≡ leads_below count i

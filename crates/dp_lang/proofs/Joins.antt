@@ -5,14 +5,14 @@ use Rattle.dp_lang.specs.Arguments.{Argument}
 use Rattle.dp_lang.specs.Printing.{argument_text, arguments_text}
 
 -- the first after this separator, the others after a comma
-abbrev pub behind : List ℕ → List (Argument ℕ) → List ℕ
-behind before [] = []
-behind before (a ∷ as') = before ++ (argument_text a ++ behind (44 ∷ []) as')
+abbrev pub beyond : List ℕ → List (Argument ℕ) → List ℕ
+beyond before [] = []
+beyond before (a ∷ as') = before ++ (argument_text a ++ beyond (44 ∷ []) as')
 
-pub joined : (a : Argument ℕ) (as' : List (Argument ℕ)) → join_with_byte 44 (map argument_text (a ∷ as')) ≡ argument_text a ++ behind (44 ∷ []) as'
+pub joined : (a : Argument ℕ) (as' : List (Argument ℕ)) → join_with_byte 44 (map argument_text (a ∷ as')) ≡ argument_text a ++ beyond (44 ∷ []) as'
 joined a [] = sym (append-nil (argument_text a))
 joined a (b ∷ bs) = ap (λ t. argument_text a ++ (44 ∷ t)) (joined b bs)
 
-pub arguments_text-behind : (as' : List (Argument ℕ)) → arguments_text as' ≡ behind (32 ∷ []) as'
-arguments_text-behind [] = refl
-arguments_text-behind (a ∷ as') = ap (λ t. 32 ∷ t) (joined a as')
+pub arguments_text-beyond : (as' : List (Argument ℕ)) → arguments_text as' ≡ beyond (32 ∷ []) as'
+arguments_text-beyond [] = refl
+arguments_text-beyond (a ∷ as') = ap (λ t. 32 ∷ t) (joined a as')

@@ -9,11 +9,11 @@ use Rattle.dp_lang.specs.Forms.{word_of, kinds_of}
 use Rattle.dp_lang.specs.Kinds.{all_of}
 use Rattle.dp_lang.specs.Lines.{is_text, is_hash, is_colon, trim, pieces}
 use Rattle.dp_lang.specs.Printing.{argument_text, arguments_text, label_name}
-use Rattle.dp_lang.specs.Reading.{Source, statement_of, line_of}
+use Rattle.dp_lang.specs.Reading.{ProgramSource, statement_of, line_of}
 use Rattle.dp_lang.proofs.Bytes.{Free, is_plain, is_ink, plain_ink, plain_colon, plain_hash, plain_text, ink_hash, ink_colon, ink_text, all_implies}
 use Rattle.dp_lang.proofs.Bytes.{all_append, and_left, and_right}
 use Rattle.dp_lang.proofs.LineCuts.{split_at, split_none, before_none, begins, ends, free_begins, free_ends, ends_append, trim_none, trim_start_none}
-use Rattle.dp_lang.proofs.Joins.{behind, arguments_text-behind}
+use Rattle.dp_lang.proofs.Joins.{beyond, arguments_text-beyond}
 use Rattle.dp_lang.proofs.Operands.{named, is_small, argument_plain, name_label, plain_digits}
 use Rattle.dp_lang.proofs.StatementTexts.{word_plain, word_some, argument_some, free_blank, free_word, statement_read}
 
@@ -26,25 +26,25 @@ begins_append (b ∷ s) t h = h
 ink : (s : List ℕ) → list_all is_plain s ≡ true → list_all is_ink s ≡ true
 ink s h = all_implies is_plain is_ink plain_ink s h
 
-behind_ink : (before : List ℕ) (as' : List (Argument ℕ)) → list_all is_ink before ≡ true → list_all is_small as' ≡ true → list_all is_ink (behind before as')
+after_ink : (before : List ℕ) (as' : List (Argument ℕ)) → list_all is_ink before ≡ true → list_all is_small as' ≡ true → list_all is_ink (beyond before as')
     ≡ true
-behind_ink before [] h s = refl
-behind_ink before (a ∷ as') h s =
-    all_append is_ink before (argument_text a ++ behind (44 ∷ []) as') h
-    (all_append is_ink (argument_text a) (behind (44 ∷ []) as') (ink (argument_text a) (argument_plain a (and_left (is_small a) (list_all is_small as') s)))
-    (behind_ink (44 ∷ []) as' refl (and_right (is_small a) (list_all is_small as') s)))
+after_ink before [] h s = refl
+after_ink before (a ∷ as') h s =
+    all_append is_ink before (argument_text a ++ beyond (44 ∷ []) as') h
+    (all_append is_ink (argument_text a) (beyond (44 ∷ []) as') (ink (argument_text a) (argument_plain a (and_left (is_small a) (list_all is_small as') s)))
+    (after_ink (44 ∷ []) as' refl (and_right (is_small a) (list_all is_small as') s)))
 
-behind_ends : (before : List ℕ) (a : Argument ℕ) (as' : List (Argument ℕ)) → list_all is_small (a ∷ as') ≡ true → ends (behind before (a ∷ as')) ≡ true
-behind_ends before a [] s =
+after_ends : (before : List ℕ) (a : Argument ℕ) (as' : List (Argument ℕ)) → list_all is_small (a ∷ as') ≡ true → ends (beyond before (a ∷ as')) ≡ true
+after_ends before a [] s =
     let small : is_small a ≡ true = and_left (is_small a) true s in
     ends_append before (argument_text a ++ []) (ap ends (append-nil (argument_text a))
     ∙ free_ends (argument_text a) (argument_some a small) (free_blank a small))
-behind_ends before a (b ∷ bs) s =
-    ends_append before (argument_text a ++ behind (44 ∷ []) (b ∷ bs)) (ends_append (argument_text a) (behind (44 ∷ []) (b ∷ bs))
-    (behind_ends (44 ∷ []) b bs (and_right (is_small a) (list_all is_small (b ∷ bs)) s)))
+after_ends before a (b ∷ bs) s =
+    ends_append before (argument_text a ++ beyond (44 ∷ []) (b ∷ bs)) (ends_append (argument_text a) (beyond (44 ∷ []) (b ∷ bs))
+    (after_ends (44 ∷ []) b bs (and_right (is_small a) (list_all is_small (b ∷ bs)) s)))
 
 arguments_ink : (as' : List (Argument ℕ)) → list_all is_small as' ≡ true → list_all is_ink (arguments_text as') ≡ true
-arguments_ink as' s = ap (list_all is_ink) (arguments_text-behind as') ∙ behind_ink (32 ∷ []) as' refl s
+arguments_ink as' s = ap (list_all is_ink) (arguments_text-beyond as') ∙ after_ink (32 ∷ []) as' refl s
 
 pub text_ink : (f : Form) (as' : List (Argument ℕ)) → list_all is_small as' ≡ true → list_all is_ink (word_of f ++ arguments_text as') ≡ true
 text_ink f as' s = all_append is_ink (word_of f) (arguments_text as') (ink (word_of f) (word_plain f)) (arguments_ink as' s)
@@ -54,8 +54,8 @@ text_begins f t = begins_append (word_of f) t (free_begins (word_of f) (word_som
 
 text_ends : (f : Form) (as' : List (Argument ℕ)) → list_all is_small as' ≡ true → ends (word_of f ++ arguments_text as') ≡ true
 text_ends f [] s = ap ends (append-nil (word_of f)) ∙ free_ends (word_of f) (word_some f) (free_word f)
-text_ends f (a ∷ as') s = ap (λ r. ends (word_of f ++ r)) (arguments_text-behind (a ∷ as'))
-    ∙ ends_append (word_of f) (behind (32 ∷ []) (a ∷ as')) (behind_ends (32 ∷ []) a as' s)
+text_ends f (a ∷ as') s = ap (λ r. ends (word_of f ++ r)) (arguments_text-beyond (a ∷ as'))
+    ∙ ends_append (word_of f) (beyond (32 ∷ []) (a ∷ as')) (after_ends (32 ∷ []) a as' s)
 
 -- a text without comments and without blanks around it is cut only at its colons
 one_piece : (t : List ℕ) → Free is_hash t → begins t ≡ true → ends t ≡ true → pieces t ≡ slice_split is_colon t
@@ -63,7 +63,7 @@ one_piece t h b e = ap (λ r. slice_split is_colon (trim r)) (before_none is_has
 
 -- ---- an instruction's line
 
-pub line_statement : (line : ℕ) (source : Source) (f : Form) (as' : List (Argument ℕ)) → all_of (kinds_of f) as' ≡ true → list_all is_small as' ≡ true →
+pub line_statement : (line : ℕ) (source : ProgramSource) (f : Form) (as' : List (Argument ℕ)) → all_of (kinds_of f) as' ≡ true → list_all is_small as' ≡ true →
     length source.statements < 1024
     → line_of line source (word_of f ++ arguments_text as') ≡ Ok (record {
       labels = source.labels;
@@ -82,7 +82,7 @@ line_statement line source f as' h s few =
 
 -- ---- a label's line
 
-pub line_label : (line : ℕ) (source : Source) (n : ℕ) → n < 2 ^ 64 → contains_key source.labels (label_name n) ≡ false
+pub line_label : (line : ℕ) (source : ProgramSource) (n : ℕ) → n < 2 ^ 64 → contains_key source.labels (label_name n) ≡ false
     → line_of line source (label_name n ++ 58 ∷ []) ≡ Ok (record {
       labels = insert source.labels (label_name n) (length source.statements);
       statements = source.statements;
@@ -100,6 +100,6 @@ line_label line source n small new =
 
 -- ---- an empty line
 
-pub line_empty : (line : ℕ) (source : Source) → line_of line source [] ≡ Ok source
+pub line_empty : (line : ℕ) (source : ProgramSource) → line_of line source [] ≡ Ok source
 unfolding line_of statement_of
 line_empty line source = refl

@@ -7,12 +7,13 @@ use Rattle.std.specs.List.{list_all}
 use Rattle.std.proofs.lemmas.List.{length-map, get_or-map, take-map}
 use Rattle.dp_lang.specs.declared.cause.Cause.{Cause}
 use Rattle.dp_lang.specs.Causes.{number_of, least, or_less}
-use Rattle.dp_lang.specs.declared.form.Kind.{Kind}
+use Rattle.dp_lang.specs.declared.form.OperandKind.{OperandKind}
 use Rattle.dp_lang.specs.Lines.{trim, trim_start, is_text, pieces, labels_in, instruction_in}
 use Rattle.dp_lang.specs.Kinds.{argument_of}
 use Rattle.dp_lang.specs.Forms.{Statement}
 use Rattle.std.specs.FinMap.{insert}
-use Rattle.dp_lang.specs.Reading.{Named, both, ◌>>=◌, onto, second, each_argument, Labels, label_test, labels_after, Source, statement_of, with_statement}
+use Rattle.dp_lang.specs.Reading.{Named, both, ◌>>=◌, onto, second, each_argument, Labels, label_test, labels_after, ProgramSource, statement_of}
+use Rattle.dp_lang.specs.Reading.{with_statement}
 use Rattle.dp_lang.specs.Reading.{line_of}
 
 -- ---- the lesser of causes
@@ -86,7 +87,8 @@ label_fault_more (Some d) c (Ok ls) total h = h
 label_fault_more (Some d) c (Err e) total h = sym (ap (λ (x : Cause). Err x) (least_assoc d c e)) ∙ h
 
 -- the step at index i of a loop over kinds and parts
-each_step : (ks : List Kind) (ps : List (Bor (List ℕ))) (i : ℕ) (k : Kind) (p : Bor (List ℕ)) (r : Result Named Cause) → i < length ks → i < length ps
+each_step : (ks : List OperandKind) (ps : List (Bor (List ℕ))) (i : ℕ) (k : OperandKind) (p : Bor (List ℕ)) (r : Result Named Cause) → i < length ks → i <
+    length ps
     → argument_of (get_or ks i k) (trim (get_or ps i p).now) ≡ r
     → each_argument (drop i ks) (map (λ part. part.now) (drop i ps)) ≡ both r (each_argument (drop (i + 1) ks) (map (λ part. part.now) (drop (i + 1) ps))) >>=
     onto
@@ -95,7 +97,8 @@ each_step ks ps i k p r lt lt2 g =
     let b : drop i ps ≡ get_or ps i p ∷ drop (i + 1) ps = rw add-one (drop-cons ps i p lt2) in
     rw (a, b, g) refl
 
-pub ok_goes_on : (ks : List Kind) (ps : List (Bor (List ℕ))) (i : ℕ) (k : Kind) (p : Bor (List ℕ)) (fault : Option Cause) (front : List Named) (o : Named)
+pub ok_goes_on : (ks : List OperandKind) (ps : List (Bor (List ℕ))) (i : ℕ) (k : OperandKind) (p : Bor (List ℕ)) (fault : Option Cause) (front : List Named)
+    (o : Named)
     (total : Result (List Named) Cause)
     → i < length ks → i < length ps → argument_of (get_or ks i k) (trim (get_or ps i p).now) ≡ Ok o
     → noting fault (prepend front (each_argument (drop i ks) (map (λ part. part.now) (drop i ps)))) ≡ total
@@ -104,7 +107,8 @@ ok_goes_on ks ps i k p fault front o total lt lt2 g so_far =
     argument_more fault front o (each_argument (drop (i + 1) ks) (map (λ part. part.now) (drop (i + 1) ps))) total
     (ap (λ (r : Result (List Named) Cause). noting fault (prepend front r)) (sym (each_step ks ps i k p (Ok o) lt lt2 g)) ∙ so_far)
 
-pub err_goes_on : (ks : List Kind) (ps : List (Bor (List ℕ))) (i : ℕ) (k : Kind) (p : Bor (List ℕ)) (fault : Option Cause) (front : List Named) (c : Cause)
+pub err_goes_on : (ks : List OperandKind) (ps : List (Bor (List ℕ))) (i : ℕ) (k : OperandKind) (p : Bor (List ℕ)) (fault : Option Cause) (front : List Named)
+    (c : Cause)
     (total : Result (List Named) Cause)
     → i < length ks → i < length ps → argument_of (get_or ks i k) (trim (get_or ps i p).now) ≡ Err c
     → noting fault (prepend front (each_argument (drop i ks) (map (λ part. part.now) (drop i ps)))) ≡ total
@@ -159,7 +163,7 @@ labels_are ps = rw (length-map ps (λ (part : Bor (List ℕ)). part.now), take-m
     map_map (q ∷ qs) = rw (map_map qs) refl
 
 -- what a line has, by the pieces of its text
-pub line_is : (line : ℕ) (source : Source) (text : List ℕ) (ps : List (Bor (List ℕ))) (d : Bor (List ℕ)) (s : Result (Option (Statement (List ℕ))) Cause)
+pub line_is : (line : ℕ) (source : ProgramSource) (text : List ℕ) (ps : List (Bor (List ℕ))) (d : Bor (List ℕ)) (s : Result (Option (Statement (List ℕ))) Cause)
     (ls : Result Labels Cause)
     → list_all is_text text ≡ true → map (λ part. part.now) ps ≡ pieces text → 0 < length ps
     → statement_of (trim_start (get_or ps (length ps - 1) d).now) ≡ s

@@ -3,13 +3,13 @@ use Rattle.std.proofs.Common.{◌≡◌, ℕ, ◌^◌, ◌<◌, ◌≤◌, Bool,
 use Rattle.std.specs.Prelude.{nat_le}
 use Rattle.std.specs.List.{list_all}
 use Rattle.std.specs.Fmt.{decimal}
-use Rattle.std.proofs.lemmas.Bool.{leb-true, le-leb}
-use Rattle.dp_lang.specs.declared.form.Kind.{Kind}
-use Rattle.dp_lang.specs.declared.form.Kind.TheVariants as kinds
+use Rattle.std.proofs.lemmas.Bool.{leb-true, le-leb, and_from}
+use Rattle.dp_lang.specs.declared.form.OperandKind.{OperandKind}
+use Rattle.dp_lang.specs.declared.form.OperandKind.TheVariants as kinds
 use Rattle.dp_lang.specs.Arguments.{Argument, packet, register, constant, label}
 use Rattle.dp_lang.specs.Kinds.{argument_of, number_where, is_within, is_width, is_name, is_of, number_in, is_letter_or_digit}
 use Rattle.dp_lang.specs.Printing.{argument_text, label_name}
-use Rattle.dp_lang.proofs.Bytes.{is_digit, is_plain, digit_plain, digit_letter, all_implies, and_true}
+use Rattle.dp_lang.proofs.Bytes.{is_digit, is_plain, digit_plain, digit_letter, all_implies}
 use Rattle.dp_lang.proofs.Digits.{decimal_digits, decimal_short, number_decimal, no_register, register_decimal}
 
 -- an operand with the printed name of its label
@@ -46,12 +46,12 @@ pub name_label : (l : ℕ) → l < 2 ^ 64 → is_name (label_name l) ≡ true
 name_label l h =
     let letters : list_all is_letter_or_digit (decimal l) ≡ true = all_implies is_digit is_letter_or_digit digit_letter (decimal l) (decimal_digits l h) in
     let short : nat_le (length (label_name l)) 31 ≡ true = le-leb (length (label_name l)) 31 (omega (arith, decimal_short l h)) in
-    and_true (list_all is_letter_or_digit (decimal l)) (nat_le (length (label_name l)) 31) letters short
+    and_from (list_all is_letter_or_digit (decimal l)) (nat_le (length (label_name l)) 31) letters short
 
 number_read : (test : ℕ → Bool) (n : ℕ) → n < 2 ^ 64 → test n ≡ true → number_where test (number_in (decimal n)) ≡ Ok (constant n)
 number_read test n small h = rw (number_decimal n small, h) refl
 
-pub argument_read : (k : Kind) (a : Argument ℕ) → is_of k a ≡ true → is_small a ≡ true → argument_of k (argument_text a) ≡ Ok (named a)
+pub argument_read : (k : OperandKind) (a : Argument ℕ) → is_of k a ≡ true → is_small a ≡ true → argument_of k (argument_text a) ≡ Ok (named a)
 unfolding argument_of
 argument_read kinds.Packet (packet p) h s = rw (register_decimal 112 p s) refl
 argument_read kinds.Register (register r) h s = rw (register_decimal 114 r s) refl

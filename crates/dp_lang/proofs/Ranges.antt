@@ -2,22 +2,22 @@
 use Rattle.std.proofs.Common.{◌≡◌, ℕ, ◌≤◌, Bool, true, List, [], ◌∷◌, refl, ◌∙◌, arith}
 use Rattle.std.specs.Prelude.{nat_le, nat_lt}
 use Rattle.std.specs.List.{list_all}
-use Rattle.std.proofs.lemmas.Bool.{leb-true, le-leb, ltb-true}
+use Rattle.std.proofs.lemmas.Bool.{leb-true, le-leb, ltb-true, and_from}
 use Rattle.std.proofs.lemmas.Bool.Decides.{nat_tests}
 use Rattle.dp_model.specs.declared.instr.Instr.{Instr}
 use Rattle.dp_lang.specs.declared.form.Form.{Form}
 use Rattle.dp_lang.specs.declared.form.Form.TheVariants.{Alloc}
-use Rattle.dp_lang.specs.declared.form.Kind.{Kind}
-use Rattle.dp_lang.specs.declared.form.Kind.TheVariants as kinds
+use Rattle.dp_lang.specs.declared.form.OperandKind.{OperandKind}
+use Rattle.dp_lang.specs.declared.form.OperandKind.TheVariants as kinds
 use Rattle.dp_lang.specs.Arguments.{Argument, packet, register, constant, label}
 use Rattle.dp_lang.specs.Forms.{kinds_of, spelled}
 use Rattle.dp_lang.specs.Kinds.{is_of, all_of, is_width}
 use Rattle.dp_lang.specs.Programs.{is_in_range, leads_below}
-use Rattle.dp_lang.proofs.Bytes.{and_true, and_left, and_right}
+use Rattle.dp_lang.proofs.Bytes.{and_left, and_right}
 use Rattle.dp_lang.proofs.InstrLabels.{is_below, operands_below}
 use Rattle.dp_lang.proofs.Operands.{is_small}
 
-is_short : Kind → Bool
+is_short : OperandKind → Bool
 is_short (kinds.Number least most) = nat_le most 18446744073709551615
 is_short _ = true
 
@@ -35,7 +35,8 @@ width_short n h = grind (arith, nat_tests)
 label_short : (l count : ℕ) → count ≤ 1024 → nat_lt l count ≡ true → nat_le l 18446744073709551615 ≡ true
 label_short l count few h = le-leb l 18446744073709551615 (omega (arith, ltb-true l count h))
 
-argument_small : (count : ℕ) → count ≤ 1024 → (k : Kind) (a : Argument ℕ) → is_of k a ≡ true → is_short k ≡ true → is_below count a ≡ true → is_small a ≡ true
+argument_small : (count : ℕ) → count ≤ 1024 → (k : OperandKind) (a : Argument ℕ) → is_of k a ≡ true → is_short k ≡ true → is_below count a ≡ true → is_small a
+    ≡ true
 unfolding is_short
 argument_small count few kinds.Packet (packet p) h s b = h
 argument_small count few kinds.Register (register r) h s b = h
@@ -46,13 +47,13 @@ argument_small count few kinds.RegisterOrConstant (constant n) h s b = and_right
 argument_small count few kinds.Label (label l) h s b = label_short l count few b
 argument_small count few _ _ h s b = absurd cc
 
-all_small : (count : ℕ) → count ≤ 1024 → (ks : List Kind) (as' : List (Argument ℕ)) → all_of ks as' ≡ true → list_all is_short ks ≡ true →
+all_small : (count : ℕ) → count ≤ 1024 → (ks : List OperandKind) (as' : List (Argument ℕ)) → all_of ks as' ≡ true → list_all is_short ks ≡ true →
     list_all (is_below count) as' ≡ true → list_all is_small as' ≡ true
 all_small count few [] [] h s b = refl
 all_small count few [] (a ∷ as') h s b = absurd cc
 all_small count few (k ∷ ks) [] h s b = absurd cc
 all_small count few (k ∷ ks) (a ∷ as') h s b =
-    and_true (is_small a) (list_all is_small as')
+    and_from (is_small a) (list_all is_small as')
     (argument_small count few k a (and_left (is_of k a) (all_of ks as') h) (and_left (is_short k) (list_all is_short ks) s)
     (and_left (is_below count a) (list_all (is_below count) as') b))
     (all_small count few ks as' (and_right (is_of k a) (all_of ks as') h) (and_right (is_short k) (list_all is_short ks) s)

@@ -1,8 +1,9 @@
 -- The names of printed labels resolve to their numbers.
-use Rattle.std.proofs.Common.{◌≡◌, ℕ, Bool, true, false, List, [], ◌∷◌, map, Option, Some, None, Ok, refl, sym, ap, subst, ◌∙◌, eq-eqb}
-use Rattle.std.specs.Prelude.{◌||◌, ◌==◌, nat_lt}
+use Rattle.std.proofs.Common.{◌≡◌, ℕ, true, false, List, [], ◌∷◌, map, Option, Some, None, Ok, refl, sym, ap, subst, ◌∙◌, eq-eqb}
+use Rattle.std.specs.Prelude.{◌==◌, nat_lt}
 use Rattle.std.specs.List.{list_all, list_any}
 use Rattle.std.specs.Option.{option_map_or}
+use Rattle.std.proofs.lemmas.Bool.{or_left, or_right}
 use Rattle.dp_model.specs.declared.instr.Instr.{Instr}
 use Rattle.dp_model.specs.Jumps.{label_of}
 use Rattle.dp_lang.specs.Arguments.{Argument, packet, register, constant, label}
@@ -58,13 +59,6 @@ statements_resolve target (s ∷ ss) (i ∷ is) e h =
     let others : map (λ s. s.1) ss ≡ map with_names is = cc in
     rw (first, resolves target i h.0, statements_resolve target ss is others h.1) refl
 
-or_true : (a b : Bool) → a ≡ true → (a || b) ≡ true
-or_true a b h = rw h refl
-
-or_more : (a b : Bool) → b ≡ true → (a || b) ≡ true
-or_more true b h = refl
-or_more false b h = h
-
 -- each label that some instruction names is found
 pub all_find : (target : List ℕ → Option ℕ) (program : List Instr) (count : ℕ) →
     ((l : ℕ) → is_named program l ≡ true → nat_lt l count ≡ true → target (label_name l) ≡ Some l)
@@ -72,8 +66,8 @@ pub all_find : (target : List ℕ → Option ℕ) (program : List Instr) (count 
 all_find target program count found [] within b = tt
 all_find target program count found (i ∷ is) within b = (
   (λ l e. found l
-      (within l (or_true (names l i) (list_any (names l) is) (ap (λ o. option_map_or (λ k. k == l) o false) e ∙ eq-eqb l l refl)))
+      (within l (or_left (names l i) (list_any (names l) is) (ap (λ o. option_map_or (λ k. k == l) o false) e ∙ eq-eqb l l refl)))
       (sym (ap (λ o. option_map_or (λ to. nat_lt to count) o true) e) ∙ and_left (leads_below count i) (list_all (leads_below count) is) b)),
-  all_find target program count found is (λ l h. within l (or_more (names l i) (list_any (names l) is) h))
+  all_find target program count found is (λ l h. within l (or_right (names l i) (list_any (names l) is) h))
       (and_right (leads_below count i) (list_all (leads_below count) is) b),
 )

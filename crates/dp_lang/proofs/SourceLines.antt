@@ -4,7 +4,7 @@ use Rattle.std.specs.Prelude.{ℕ, Result}
 use Rattle.std.specs.List.{slice_split}
 use Rattle.dp_lang.specs.declared.cause.Fault.{Fault}
 use Rattle.dp_lang.specs.declared.statement.Statement.{Statement}
-use Rattle.dp_lang.specs.declared.source.Source.{Source}
+use Rattle.dp_lang.specs.declared.source.ProgramSource.{ProgramSource}
 use Rattle.dp_lang.specs.Lines.{is_newline}
 use Rattle.dp_lang.specs.Reading as reading
 use Rattle.dp_lang.specs.Reading.{◌>>=◌, lines_of, nothing}
@@ -15,10 +15,10 @@ firsts : (statements : List Statement) → map (λ s. s.0) (map view.with_line s
 firsts [] = refl
 firsts (s ∷ statements) = ap (λ lines. s.line ∷ lines) (firsts statements)
 
-pub lines_are : (text : List ℕ) (parts : List (List ℕ)) (source : Source) (lines : List ℕ) → parts ≡ slice_split is_newline text
+pub lines_are : (text : List ℕ) (parts : List (List ℕ)) (source : ProgramSource) (lines : List ℕ) → parts ≡ slice_split is_newline text
     → lines_of 1 nothing parts ≡ Ok (view.source source) → lines ≡ map (λ s. s.line) source.statements.items → source_lines text ≡ Ok lines
 lines_are text parts source lines e f g =
     let read : lines_of 1 nothing (slice_split is_newline text) ≡ Ok (view.source source) =
     subst (λ (p : List (List ℕ)). lines_of 1 nothing p ≡ Ok (view.source source)) e f in
-    let then_lines : Result reading.Source Fault → Result (List ℕ) Fault = λ r. r >>= (λ source. Ok (map (λ s. s.0) source.statements)) in
+    let then_lines : Result reading.ProgramSource Fault → Result (List ℕ) Fault = λ r. r >>= (λ source. Ok (map (λ s. s.0) source.statements)) in
     ap then_lines read ∙ ap Ok (firsts source.statements.items ∙ sym g)

@@ -4,9 +4,10 @@ use Rattle.std.proofs.Common.{length-append, arith}
 use Rattle.std.specs.Prelude.{◌&&◌}
 use Rattle.std.specs.List.{list_all, slice_split, after_first}
 use Rattle.std.proofs.lemmas.List.{length-map}
+use Rattle.std.proofs.lemmas.Fmt.{decimal_nonempty}
 use Rattle.dp_lang.specs.declared.form.Form.{Form}
 use Rattle.dp_lang.specs.declared.form.Form.TheVariants.{Alloc}
-use Rattle.dp_lang.specs.declared.form.Kind.{Kind}
+use Rattle.dp_lang.specs.declared.form.OperandKind.{OperandKind}
 use Rattle.dp_lang.specs.Arguments.{Argument, packet, register, constant, label}
 use Rattle.dp_lang.specs.Forms.{word_of, kinds_of, form_of, Statement}
 use Rattle.dp_lang.specs.Kinds.{is_of, all_of}
@@ -15,8 +16,7 @@ use Rattle.dp_lang.specs.Printing.{argument_text, arguments_text}
 use Rattle.dp_lang.specs.Reading.{each_argument, arguments_of, with_form, statement_of}
 use Rattle.dp_lang.proofs.Bytes.{Free, is_plain, plain_blank, plain_comma, all_implies, and_left, and_right}
 use Rattle.dp_lang.proofs.LineCuts.{split_at, split_none, before_at, before_none, after_at, after_none, begins, free_begins, free_ends, trim_none}
-use Rattle.dp_lang.proofs.Digits.{decimal_some}
-use Rattle.dp_lang.proofs.Joins.{behind, arguments_text-behind}
+use Rattle.dp_lang.proofs.Joins.{beyond, arguments_text-beyond}
 use Rattle.dp_lang.proofs.Operands.{named, is_small, fits_64, argument_plain, argument_read}
 
 -- ---- words
@@ -39,7 +39,7 @@ form_of_word _ = refl
 pub argument_some : (a : Argument ℕ) → is_small a ≡ true → 0 < length (argument_text a)
 argument_some (packet p) h = omega arith
 argument_some (register r) h = omega arith
-argument_some (constant n) h = decimal_some n (fits_64 n h)
+argument_some (constant n) h = decimal_nonempty n (fits_64 n h)
 argument_some (label l) h = omega arith
 
 pub free_blank : (a : Argument ℕ) → is_small a ≡ true → Free is_blank (argument_text a)
@@ -52,13 +52,13 @@ trimmed : (a : Argument ℕ) → is_small a ≡ true → trim (argument_text a) 
 trimmed a h = trim_none (argument_text a) (free_begins (argument_text a) (argument_some a h) (free_blank a h))
     (free_ends (argument_text a) (argument_some a h) (free_blank a h))
 
-as_many : (ks : List Kind) (as' : List (Argument ℕ)) → all_of ks as' ≡ true → length ks ≡ length as'
+as_many : (ks : List OperandKind) (as' : List (Argument ℕ)) → all_of ks as' ≡ true → length ks ≡ length as'
 as_many [] [] h = refl
 as_many [] (a ∷ as') h = absurd cc
 as_many (k ∷ ks) [] h = absurd cc
 as_many (k ∷ ks) (a ∷ as') h = ap suc (as_many ks as' (and_right (is_of k a) (all_of ks as') h))
 
-each_read : (ks : List Kind) (as' : List (Argument ℕ)) → all_of ks as' ≡ true → list_all is_small as' ≡ true → each_argument ks (map argument_text as')
+each_read : (ks : List OperandKind) (as' : List (Argument ℕ)) → all_of ks as' ≡ true → list_all is_small as' ≡ true → each_argument ks (map argument_text as')
     ≡ Ok (map named as')
 each_read [] [] h s = refl
 each_read [] (a ∷ as') h s = absurd cc
@@ -71,17 +71,18 @@ each_read (k ∷ ks) (a ∷ as') h s =
       each_read ks as' (and_right (is_of k a) (all_of ks as') h) (and_right (is_small a) (list_all is_small as') s),
     ) refl
 
-arguments_read : (ks : List Kind) (as' : List (Argument ℕ)) → all_of ks as' ≡ true → list_all is_small as' ≡ true → arguments_of ks (map argument_text as')
+arguments_read : (ks : List OperandKind) (as' : List (Argument ℕ)) → all_of ks as' ≡ true → list_all is_small as' ≡ true → arguments_of ks
+    (map argument_text as')
     ≡ Ok (map named as')
 arguments_read ks as' h s = rw (eq-eqb (length ks) (length (map argument_text as')) (as_many ks as' h ∙ sym (length-map as' argument_text)))
     (each_read ks as' h s)
 
 -- operands after commas are split at these
-parts : (a : Argument ℕ) (as' : List (Argument ℕ)) → list_all is_small (a ∷ as') ≡ true → slice_split is_comma (argument_text a ++ behind (44 ∷ []) as')
+parts : (a : Argument ℕ) (as' : List (Argument ℕ)) → list_all is_small (a ∷ as') ≡ true → slice_split is_comma (argument_text a ++ beyond (44 ∷ []) as')
     ≡ map argument_text (a ∷ as')
 parts a [] s = ap (slice_split is_comma) (append-nil (argument_text a)) ∙ split_none is_comma (argument_text a) (free_comma a (and_left (is_small a) true s))
 parts a (b ∷ bs) s =
-    split_at is_comma (argument_text a) 44 (argument_text b ++ behind (44 ∷ []) bs) (free_comma a (and_left (is_small a) (list_all is_small (b ∷ bs)) s)) refl
+    split_at is_comma (argument_text a) 44 (argument_text b ++ beyond (44 ∷ []) bs) (free_comma a (and_left (is_small a) (list_all is_small (b ∷ bs)) s)) refl
     ∙ ap (λ ps. argument_text a ∷ ps) (parts b bs (and_right (is_small a) (list_all is_small (b ∷ bs)) s))
 
 not_blank : (s t : List ℕ) → begins s ≡ true → list_all is_blank (s ++ t) ≡ false
@@ -92,11 +93,11 @@ not_blank (b ∷ s) t h = blank_first (is_blank b) (list_all is_blank (s ++ t)) 
     blank_first true c h = absurd cc
     blank_first false c h = refl
 
-operands_read : (a : Argument ℕ) (as' : List (Argument ℕ)) → list_all is_small (a ∷ as') ≡ true → operands_in (argument_text a ++ behind (44 ∷ []) as')
+operands_read : (a : Argument ℕ) (as' : List (Argument ℕ)) → list_all is_small (a ∷ as') ≡ true → operands_in (argument_text a ++ beyond (44 ∷ []) as')
     ≡ map argument_text (a ∷ as')
 operands_read a as' s =
     let small : is_small a ≡ true = and_left (is_small a) (list_all is_small as') s in
-    rw (not_blank (argument_text a) (behind (44 ∷ []) as') (free_begins (argument_text a) (argument_some a small) (free_blank a small))) (parts a as' s)
+    rw (not_blank (argument_text a) (beyond (44 ∷ []) as') (free_begins (argument_text a) (argument_some a small) (free_blank a small))) (parts a as' s)
 
 -- ---- instructions
 
@@ -124,9 +125,9 @@ statement_read f [] h s =
     ∙ form_read f [] (operands_in (after_first is_blank (word_of f))) (word_in (word_of f)) h s
     (ap operands_in (after_none is_blank (word_of f) (free_word f))) (before_none is_blank (word_of f) (free_word f))
 statement_read f (a ∷ as') h s =
-    let rest = argument_text a ++ behind (44 ∷ []) as' in
+    let rest = argument_text a ++ beyond (44 ∷ []) as' in
     let t = word_of f ++ 32 ∷ rest in
-    ap (λ r. statement_of (word_of f ++ r)) (arguments_text-behind (a ∷ as'))
+    ap (λ r. statement_of (word_of f ++ r)) (arguments_text-beyond (a ∷ as'))
     ∙ statement_cons t (omega (arith, length-append (word_of f) (32 ∷ rest)))
     ∙ form_read f (a ∷ as') (operands_in (after_first is_blank t)) (word_in t) h s
     (ap operands_in (after_at is_blank (word_of f) 32 rest (free_word f) refl) ∙ operands_read a as' s)

@@ -14,7 +14,7 @@ number_of LabelTwice = 7
 number_of LabelUnknown = 8
 number_of Size = 9
 
--- the name that is printed
+-- the name of a cause, as it is printed
 abbrev pub name_of : Cause → List ℕ
 name_of BadByte = codes "BadByte"
 name_of BadWord = codes "BadWord"

@@ -1,5 +1,5 @@
 -- Internal, no public contract names it: the fields of an instruction, read from the operands of a text, whatever these are. An operand of another
--- kind counts as 0; where the operands are of the form's kinds, the instruction has them.
+-- kind counts as 0; if the operands are of the form's kinds, the instruction has them.
 use Rattle.std.specs.Prelude.{ℕ, suc, ◌==◌, nat_lt, List, [], ◌∷◌, Option, Some, slice_index_or, if◌then◌else◌}
 use Rattle.dp_model.specs.Arithmetic.{bytes_in}
 use Rattle.dp_model.specs.declared.registers.Operand.{Operand}
@@ -10,8 +10,8 @@ use Rattle.dp_lang.specs.Arguments.{Argument, packet, register, constant, label}
 use Rattle.dp_lang.specs.declared.argument.Named.{Named}
 use Rattle.dp_lang.specs.declared.argument.Named.TheVariants.{Packet, Register, Constant, Name}
 use Rattle.dp_lang.specs.declared.form.Form.{Form}
-use Rattle.dp_lang.specs.declared.form.Kind.{Kind}
-use Rattle.dp_lang.specs.declared.form.Kind.TheVariants as kinds
+use Rattle.dp_lang.specs.declared.form.OperandKind.{OperandKind}
+use Rattle.dp_lang.specs.declared.form.OperandKind.TheVariants as kinds
 use Rattle.dp_lang.specs.declared.form.TheConstants.{MAX_COUNT}
 use Rattle.dp_lang.specs.Forms.{Statement, kinds_of, either}
 
@@ -52,7 +52,7 @@ operand_in a = operand.Constant (number_in a)
 abbrev pub none : Named
 none = Constant 0
 
--- the label that an operand names; 0 where none does
+-- the label that an operand names; 0 if none does
 abbrev pub label_in : (List ℕ → Option ℕ) → List Named → Option ℕ
 label_in target [] = Some 0
 label_in target (Name name ∷ more) = target name.now
@@ -63,7 +63,7 @@ abbrev pub fitted : ℕ → ℕ → ℕ
 fitted most n = if nat_lt most 256 then less 256 n else (if nat_lt most 65536 then less 65536 n else n)
 
 -- a field as an operand again, with this number for a label
-abbrev pub fielded : ℕ → Kind → Named → Argument ℕ
+abbrev pub fielded : ℕ → OperandKind → Named → Argument ℕ
 fielded l kinds.Packet a = packet (packet_in a)
 fielded l kinds.Register a = register (register_in a)
 fielded l (kinds.Number least most) a = constant (fitted most (number_in a))
@@ -72,7 +72,7 @@ fielded l kinds.RegisterOrConstant a = either (operand_in a)
 fielded l kinds.Label a = label l
 
 -- the same of each of these kinds
-abbrev pub all_fielded : ℕ → List Kind → (ℕ → Named) → List (Argument ℕ)
+abbrev pub all_fielded : ℕ → List OperandKind → (ℕ → Named) → List (Argument ℕ)
 all_fielded l [] given = []
 all_fielded l (k ∷ ks) given = fielded l k (given 0) ∷ all_fielded l ks (λ n. given (suc n))
 

@@ -22,11 +22,11 @@ is_colon b = b == 58
 abbrev pub is_comma : ℕ → Bool
 is_comma b = b == 44
 
--- without the blanks at the front
+-- a text without the blanks at the front
 abbrev pub trim_start : List ℕ → List ℕ
 trim_start s = drop (prefix_len is_blank s) s
 
--- without the blanks at the end
+-- a text without the blanks at the end
 abbrev pub trim_end : List ℕ → List ℕ
 trim_end s = take (length s - suffix_len is_blank s) s
 
@@ -49,6 +49,6 @@ instruction_in ps = trim_start (slice_index_or ps (length ps - 1) [])
 abbrev pub word_in : List ℕ → List ℕ
 word_in instruction = before_first is_blank instruction
 
--- what follows the word is cut at each comma; there are no operands where only blanks follow
+-- what follows the word is cut at each comma; there are no operands if only blanks follow
 abbrev pub operands_in : List ℕ → List (List ℕ)
 operands_in rest = if list_all is_blank rest then [] else slice_split is_comma rest

@@ -1,4 +1,4 @@
--- How a text is read: as one program, or a line and a cause.
+-- How a text is read: as one program, or as a fault: a line and a cause.
 use Rattle.std.specs.Prelude.{◌≡◌, ℕ, ◌+◌, ◌==◌, nat_lt, List, [], ◌∷◌, ◌++◌, length, map, Option, Some, None, Result, Ok, Err, if◌then◌else◌}
 use Rattle.std.specs.List.{slice_split, list_all, after_first}
 use Rattle.std.specs.Ordering.{nat_cmp}
@@ -11,7 +11,7 @@ use Rattle.dp_lang.specs.declared.cause.Fault.{Fault}
 use Rattle.dp_lang.specs.declared.cause.AsmError.{AsmError}
 use Rattle.dp_lang.specs.declared.cause.AsmError.TheVariants as errors
 use Rattle.dp_lang.specs.Arguments.{Argument, packet, register, constant, label}
-use Rattle.dp_lang.specs.declared.form.Kind.{Kind}
+use Rattle.dp_lang.specs.declared.form.OperandKind.{OperandKind}
 use Rattle.dp_lang.specs.declared.form.Form.{Form}
 use Rattle.dp_lang.specs.declared.program.TheConstants.{MAX_INSTRS}
 use Rattle.dp_lang.specs.Causes.{least}
@@ -41,13 +41,13 @@ abbrev pub onto : Named × List Named → Result (List Named) Cause
 onto pair = Ok (pair.0 ∷ pair.1)
 
 -- an operand of each kind, without the blanks around it
-abbrev pub each_argument : List Kind → List (List ℕ) → Result (List Named) Cause
+abbrev pub each_argument : List OperandKind → List (List ℕ) → Result (List Named) Cause
 each_argument [] parts = Ok []
 each_argument (kind ∷ kinds) [] = Ok []
 each_argument (kind ∷ kinds) (part ∷ parts) = both (argument_of kind (trim part)) (each_argument kinds parts) >>= onto
 
--- as many operands as there are kinds
-abbrev pub arguments_of : List Kind → List (List ℕ) → Result (List Named) Cause
+-- the operands, if they are as many as the kinds
+abbrev pub arguments_of : List OperandKind → List (List ℕ) → Result (List Named) Cause
 arguments_of kinds parts = if length kinds == length parts then each_argument kinds parts else Err BadOperands
 
 abbrev pub with_form : List (List ℕ) → Option Form → Result (Option (Statement (List ℕ))) Cause
@@ -79,19 +79,19 @@ labels_after number labels (name ∷ more) = both (label_test labels name) (labe
 
 -- ---- lines
 
--- what the lines so far have: the labels, and each statement with its line
-pub record Source : Type 0 where
+-- the contents of the lines so far: the labels, and each statement with its line
+pub record ProgramSource : Type 0 where
   pub labels : Labels
   pub statements : List (ℕ × Statement (List ℕ))
 
 -- at most as many instructions as a program may have
-abbrev pub with_statement : ℕ → Source → Option (Statement (List ℕ)) → Labels → Result Source Cause
+abbrev pub with_statement : ℕ → ProgramSource → Option (Statement (List ℕ)) → Labels → Result ProgramSource Cause
 with_statement line source None labels = Ok (record { labels = labels; statements = source.statements })
 with_statement line source (Some s) labels = if nat_lt (length source.statements) MAX_INSTRS
     then Ok (record { labels = labels; statements = source.statements ++ (line, s) ∷ [] }) else Err Size
 
 -- what one more line adds, or its least cause
-unfoldable pub line_of : ℕ → Source → List ℕ → Result Source Cause
+unfoldable pub line_of : ℕ → ProgramSource → List ℕ → Result ProgramSource Cause
 line_of line source text =
     if list_all is_text text then
     (both (statement_of (instruction_in (pieces text))) (labels_after (length source.statements) source.labels (labels_in (pieces text)))
@@ -102,8 +102,8 @@ abbrev pub at_line : {A : Type 0} → ℕ → Result A Cause → Result A Fault
 at_line line (Ok a) = Ok a
 at_line line (Err cause) = Err (record { line = line; cause = cause })
 
--- the first line with a fault counts
-abbrev pub lines_of : ℕ → Source → List (List ℕ) → Result Source Fault
+-- the first line with a fault is reported
+abbrev pub lines_of : ℕ → ProgramSource → List (List ℕ) → Result ProgramSource Fault
 lines_of line source [] = Ok source
 lines_of line source (text ∷ texts) = at_line line (line_of line source text) >>= λ next. lines_of (line + 1) next texts
 
@@ -114,7 +114,7 @@ abbrev pub below : ℕ → Option ℕ → Option ℕ
 below count None = None
 below count (Some number) = if nat_lt number count then Some number else None
 
-abbrev pub target_in : Source → List ℕ → Option ℕ
+abbrev pub target_in : ProgramSource → List ℕ → Option ℕ
 target_in source name = below (length source.statements) (get source.labels name)
 
 abbrev pub as_label : Option ℕ → Option (Argument ℕ)
@@ -140,21 +140,21 @@ abbrev pub statement_with : ℕ → Form → Option (List (Argument ℕ)) → Re
 statement_with line form None = Err (record { line = line; cause = LabelUnknown })
 statement_with line form (Some arguments) = Ok (record { form = form; arguments = arguments })
 
--- the first line that uses an unknown label counts
+-- the first line that uses an unknown label is reported
 abbrev pub all_statements : (List ℕ → Option ℕ) → List (ℕ × Statement (List ℕ)) → Result (List (Statement ℕ)) Fault
 all_statements target [] = Ok []
 all_statements target (s ∷ more) =
     statement_with s.0 s.1.form (all_resolved target s.1.arguments) >>= λ first.
     all_statements target more >>= λ others. Ok (first ∷ others)
 
--- a text without instructions is no program
+-- a text without instructions is not a program
 abbrev pub not_empty : List (Statement ℕ) → Result (List (Statement ℕ)) Fault
 not_empty [] = Err (record { line = 0; cause = Size })
 not_empty (s ∷ more) = Ok (s ∷ more)
 
 -- ---- the whole text
 
-abbrev pub nothing : Source
+abbrev pub nothing : ProgramSource
 nothing = record { labels = empty; statements = [] }
 
 -- the spelled instructions of a text, or its first fault
@@ -167,7 +167,7 @@ program_of text =
 abbrev pub Reads : List ℕ → List Instr → Type 0
 Reads text program = program_of text ≡ Ok (map spelled program)
 
--- why the text is no program: its first fault, or lack of memory, which can come with any text
+-- why the text is not a program: its first fault, or lack of memory, which can happen with any text
 abbrev pub Fails : List ℕ → AsmError → Type 0
 Fails text errors.Memory = Unit {0}
 Fails text (errors.Fault fault) = program_of text ≡ Err fault

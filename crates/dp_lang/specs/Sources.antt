@@ -1,7 +1,7 @@
 -- Internal, no public contract names it: the values of the assembler's statements and labels.
 use Rattle.std.specs.Prelude.{ℕ, List, Option, Some, None, map}
 use Rattle.dp_lang.specs.declared.statement.Statement.{Statement}
-use Rattle.dp_lang.specs.declared.source.Source.{Source}
+use Rattle.dp_lang.specs.declared.source.ProgramSource.{ProgramSource}
 use Rattle.dp_lang.specs.Forms as forms
 use Rattle.dp_lang.specs.Reading as reading
 use Rattle.dp_lang.specs.Views.{argument}
@@ -16,5 +16,5 @@ some_statement (Some s) = Some (statement s)
 abbrev pub with_line : Statement → ℕ × forms.Statement (List ℕ)
 with_line s = (s.line, statement s)
 
-abbrev pub source : Source → reading.Source
+abbrev pub source : ProgramSource → reading.ProgramSource
 source s = record { labels = s.labels; statements = map with_line s.statements.items }

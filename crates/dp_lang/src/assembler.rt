@@ -11,14 +11,17 @@ use crate::lines;
 use crate::program::Program;
 use crate::reader::add_line;
 use crate::resolve::instrs_of;
-use crate::source::Source;
+use crate::source::ProgramSource;
 use std::alloc::Global;
 
 /// Reads all lines, or returns the first line with a fault.
-pub(crate) fn read_lines<'a>(alloc: Global, lines: &[&'a [u8]]) -> Result<Source<'a>, AsmError>
+pub(crate) fn read_lines<'a>(
+    alloc: Global,
+    lines: &[&'a [u8]],
+) -> Result<ProgramSource<'a>, AsmError>
     ensures { Gives view.source result (lines_of 1 nothing (map (λ line. line.now) lines.now)) }
 {
-    let mut source = Source {
+    let mut source = ProgramSource {
         labels: Labels::new(alloc),
         statements: Vec::new(alloc),
     };
@@ -33,7 +36,7 @@ pub(crate) fn read_lines<'a>(alloc: Global, lines: &[&'a [u8]]) -> Result<Source
 ///
 /// # Errors
 ///
-/// `AsmError::Fault` exactly where the text is no program, and `AsmError::Memory` where a list could not grow.
+/// `AsmError::Fault` exactly if the text is not a program, and `AsmError::Memory` if a list could not grow.
 #[tactic(auto, unfolding(crate::specs::Reading::program_of))]
 pub fn assemble(alloc: Global, text: &[u8]) -> Result<Program, AsmError>
     ensures program { IfOk result (Reads text.now) }

@@ -1,4 +1,4 @@
-//! Why a text is no program: causes, faults and errors.
+//! Why a text is not a program: causes, faults and errors.
 
 ghost use Rattle.std.specs.Prelude.{◌≡◌};
 ghost use Rattle.dp_lang.specs.Causes.{number_of, least};
@@ -11,9 +11,9 @@ use thiserror::Error;
 /// What is wrong with a line.
 #[derive(Clone, Copy, Debug, PartialEq, Eq)]
 pub enum Cause {
-    /// A byte that no text may have: anything but tab, newline, carriage return and 32 to 126. Comments count.
+    /// A byte that no text may have: any but tab, newline, carriage return and 32 to 126. Bytes of comments count too.
     BadByte = 1,
-    /// The word of no instruction.
+    /// A word that no instruction has.
     BadWord,
     /// Too few or too many operands.
     BadOperands,
@@ -76,7 +76,7 @@ impl fmt::Display for Cause {
 /// The first fault of a text.
 #[derive(Clone, Copy, Debug, PartialEq, Eq)]
 pub struct Fault {
-    /// The line, from 1; 0 stands for the whole text.
+    /// The line, from 1; 0 means the whole text.
     pub line: usize,
     pub cause: Cause,
 }
@@ -154,7 +154,7 @@ pub enum AsmError {
     /// A list could not grow.
     #[error("out of memory")]
     Memory,
-    /// The text is no program.
+    /// The text is not a program.
     #[error("{0}")]
     Fault(Fault),
 }

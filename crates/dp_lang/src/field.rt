@@ -1,4 +1,4 @@
-//! Reads a field of an instruction from an operand of a text, whatever kind that is.
+//! Reads a field of an instruction from an operand of a text, whatever the operand's kind.
 
 ghost use Rattle.std.specs.Prelude.{◌≡◌, slice_index_or};
 ghost use Rattle.dp_lang.specs.Fields as spec;
@@ -7,7 +7,7 @@ use crate::argument::Named;
 use crate::form::MAX_COUNT;
 use dp_model::{NumberRegister, Operand, PacketRegister, Width};
 
-/// The `k`-th operand, or `Constant(0)` where there are fewer.
+/// The `k`-th operand, or `Constant(0)` if there are fewer.
 pub fn operand_at<'a>(arguments: &[Named<'a>], k: usize) -> Named<'a>
     ensures { result ≡ slice_index_or arguments.now k spec.none }
 {
@@ -17,7 +17,7 @@ pub fn operand_at<'a>(arguments: &[Named<'a>], k: usize) -> Named<'a>
     }
 }
 
-/// The packet register in an operand; p0 where it is none.
+/// The packet register in an operand; p0 if it is not one.
 pub fn packet_in(given: Named) -> PacketRegister
     ensures { result ≡ spec.packet_in given.entry }
 {
@@ -27,7 +27,7 @@ pub fn packet_in(given: Named) -> PacketRegister
     }
 }
 
-/// The number register in an operand; r0 where it is none.
+/// The number register in an operand; r0 if it is not one.
 pub fn register_in(given: Named) -> NumberRegister
     ensures { result ≡ spec.register_in given.entry }
 {
@@ -37,7 +37,7 @@ pub fn register_in(given: Named) -> NumberRegister
     }
 }
 
-/// The number in an operand; 0 where it is none.
+/// The number in an operand; 0 if it is not one.
 pub fn number_in(given: Named) -> u64
     ensures { result ≡ spec.number_in given.entry }
 {
@@ -47,7 +47,7 @@ pub fn number_in(given: Named) -> u64
     }
 }
 
-/// The number in an operand; 0 where it does not fit into one byte.
+/// The number in an operand; 0 if it does not fit into one byte.
 pub fn byte_in(given: Named) -> u8
     ensures { result ≡ spec.byte_in given.entry }
 {
@@ -55,7 +55,7 @@ pub fn byte_in(given: Named) -> u8
     if n < 256 { n as u8 } else { 0 }
 }
 
-/// The count or the offset in an operand; 0 where it is none.
+/// The count or the offset in an operand; 0 if it is not one.
 pub fn count_in(given: Named) -> u16
     ensures { result ≡ spec.count_in given.entry }
 {
@@ -63,7 +63,7 @@ pub fn count_in(given: Named) -> u16
     if n <= MAX_COUNT { n as u16 } else { 0 }
 }
 
-/// The width in an operand; eight bytes where it is none.
+/// The width in an operand; eight bytes if it is not one.
 pub fn width_in(given: Named) -> Width
     ensures { result ≡ spec.width_in given.entry }
 {
@@ -75,7 +75,7 @@ pub fn width_in(given: Named) -> Width
     }
 }
 
-/// The number register or the constant in an operand; the constant 0 where it is neither.
+/// The number register or the constant in an operand; the constant 0 if it is neither.
 pub fn operand_in(given: Named) -> Operand
     ensures { result ≡ spec.operand_in given.entry }
 {

@@ -15,7 +15,7 @@ use dp_model::Instr;
 
 /// The kind of an operand.
 #[derive(Clone, Copy)]
-pub enum Kind {
+pub enum OperandKind {
     /// A packet register.
     Packet,
     /// A number register.
@@ -34,31 +34,31 @@ pub enum Kind {
 pub const MAX_COUNT: u64 = 65_535;
 
 /// A count of bytes, or an offset in a packet.
-pub(crate) const COUNT: Kind = Kind::Number {
+pub(crate) const COUNT: OperandKind = OperandKind::Number {
     least: 0,
     most: MAX_COUNT,
 };
 
 /// Any number of 64 bits.
-pub(crate) const CONSTANT: Kind = Kind::Number {
+pub(crate) const CONSTANT: OperandKind = OperandKind::Number {
     least: 0,
     most: u64::MAX,
 };
 
 /// The index of a pool.
-pub(crate) const POOL: Kind = Kind::Number { least: 0, most: 7 };
+pub(crate) const POOL: OperandKind = OperandKind::Number { least: 0, most: 7 };
 
 /// The index of a table of routes.
-pub(crate) const TABLE: Kind = Kind::Number { least: 0, most: 3 };
+pub(crate) const TABLE: OperandKind = OperandKind::Number { least: 0, most: 3 };
 
 /// The index of a ring.
-pub(crate) const RING: Kind = Kind::Number { least: 0, most: 7 };
+pub(crate) const RING: OperandKind = OperandKind::Number { least: 0, most: 7 };
 
 /// How many bits to shift by.
-pub(crate) const SHIFT: Kind = Kind::Number { least: 0, most: 63 };
+pub(crate) const SHIFT: OperandKind = OperandKind::Number { least: 0, most: 63 };
 
 /// Any number of 64 bits but 0.
-pub(crate) const POSITIVE: Kind = Kind::Number {
+pub(crate) const POSITIVE: OperandKind = OperandKind::Number {
     least: 1,
     most: u64::MAX,
 };
@@ -155,8 +155,8 @@ macro_rules! word {
 
 /// Expands to the kind of a field.
 macro_rules! kind {
-    (Target) => { Kind::Packet };
-    ($kind:ident) => { Kind::$kind };
+    (Target) => { OperandKind::Packet };
+    ($kind:ident) => { OperandKind::$kind };
     ($kind:ident $range:ident) => { $range };
 }
 
@@ -236,7 +236,7 @@ impl Form {
     }
 
     /// The kinds of its operands, in order.
-    pub fn kinds(self) -> &'static [Kind]
+    pub fn kinds(self) -> &'static [OperandKind]
         ensures { result.now ≡ kinds_of self }
     {
         forms!(kinds self)

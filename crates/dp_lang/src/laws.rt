@@ -7,7 +7,7 @@ ghost use Rattle.dp_lang.specs.Printing.{printed};
 ghost use Rattle.dp_lang.specs.Programs.{IsProgram};
 ghost use Rattle.dp_lang.specs.Reading.{Reads};
 
-/// A law: the ranges of operands, and the most instructions of a program, are these numbers.
+/// A law: the ranges of operands, and the maximum number of instructions of a program, are these numbers.
 pub fn has_its_ranges()
     ensures { HasRanges }
 {}

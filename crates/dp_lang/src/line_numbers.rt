@@ -21,8 +21,8 @@ fn lines_of(alloc: Global, statements: &[Statement<'_>]) -> Result<Vec<usize>, A
 ///
 /// # Errors
 ///
-/// `AsmError::Fault` where a line by itself has a fault, the one that `assemble` returns; labels are not looked up. `AsmError::Memory`
-/// where a list could not grow.
+/// `AsmError::Fault` if a line by itself has a fault, the one that `assemble` returns; labels are not looked up. `AsmError::Memory`
+/// if a list could not grow.
 pub fn source_lines(alloc: Global, text: &[u8]) -> Result<Vec<usize>, AsmError>
     ensures { Gives (λ lines. lines.items) result (spec.source_lines text.now) }
 {

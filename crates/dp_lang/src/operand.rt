@@ -9,7 +9,7 @@ ghost use Rattle.dp_lang.specs.Views.{argument, Shows};
 
 use crate::argument::Named;
 use crate::cause::Cause;
-use crate::form::Kind;
+use crate::form::OperandKind;
 
 /// Reads a register: its letter, and a digit from 0 to 7.
 #[tactic(auto, unfolding(crate::specs::Kinds::register_in))]
@@ -98,19 +98,25 @@ fn width(part: &[u8]) -> Result<u64, Cause>
 
 /// Reads a part of a text as an operand of a kind.
 #[tactic(auto, unfolding(crate::specs::Kinds::argument_of))]
-pub fn argument_of<'a>(kind: Kind, part: &'a [u8]) -> Result<Named<'a>, Cause>
+pub fn argument_of<'a>(kind: OperandKind, part: &'a [u8]) -> Result<Named<'a>, Cause>
     ensures { Shows argument result (spec.argument_of kind part.now) }
 {
     match kind {
-        Kind::Packet => Ok(Named::Packet(register_in(b'p', part).ok_or(Cause::BadRegister)?)),
-        Kind::Register => Ok(Named::Register(register_in(b'r', part).ok_or(Cause::BadRegister)?)),
-        Kind::Number { least, most } => Ok(Named::Constant(number_within(least, most, part)?)),
-        Kind::Width => Ok(Named::Constant(width(part)?)),
-        Kind::RegisterOrConstant => match register_in(b'r', part) {
+        OperandKind::Packet => Ok(Named::Packet(register_in(b'p', part).ok_or(
+            Cause::BadRegister,
+        )?)),
+        OperandKind::Register => Ok(Named::Register(register_in(b'r', part).ok_or(
+            Cause::BadRegister,
+        )?)),
+        OperandKind::Number { least, most } => Ok(Named::Constant(number_within(
+            least, most, part,
+        )?)),
+        OperandKind::Width => Ok(Named::Constant(width(part)?)),
+        OperandKind::RegisterOrConstant => match register_in(b'r', part) {
             Some(index) => Ok(Named::Register(index)),
             None => Ok(Named::Constant(number_within(0, u64::MAX, part)?)),
         },
-        Kind::Label if is_name(part) => Ok(Named::Name(part)),
-        Kind::Label => Err(Cause::BadLabel),
+        OperandKind::Label if is_name(part) => Ok(Named::Name(part)),
+        OperandKind::Label => Err(Cause::BadLabel),
     }
 }

@@ -97,11 +97,11 @@ fn push_label(out: &mut String, number: usize, is_named: bool) -> Result<(), All
     Ok(())
 }
 
-/// Returns the text of a program: one instruction on each line, after a line with its label where some instruction names it.
+/// Returns the text of a program: one instruction on each line, after a line with its label if some instruction names it.
 ///
 /// # Errors
 ///
-/// `AllocError` where the text could not grow.
+/// `AllocError` if the text could not grow.
 pub fn print(alloc: Global, program: &Program) -> Result<String, AllocError>
     ensures { IfOk result (λ text. string_bytes text ≡ spec.printed program.now) }
 {

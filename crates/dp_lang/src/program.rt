@@ -6,7 +6,7 @@ ghost use Rattle.dp_lang.specs.Programs.{IsProgram};
 use dp_model::Instr;
 use std::marker::Model;
 
-/// The most instructions of a program.
+/// The maximum number of instructions of a program.
 pub const MAX_INSTRS: usize = 1_024;
 
 /// A node program: 1 to [`MAX_INSTRS`] instructions with operands in their ranges, and labels that are numbers of its instructions.

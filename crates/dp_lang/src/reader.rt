@@ -14,12 +14,12 @@ ghost use Rattle.dp_lang.specs.Sources as view;
 
 use crate::argument::Named;
 use crate::cause::{Cause, LineError};
-use crate::form::{Form, Kind};
+use crate::form::{Form, OperandKind};
 use crate::labels::Labels;
 use crate::lines;
 use crate::operand::{argument_of, is_name};
 use crate::program::MAX_INSTRS;
-use crate::source::Source;
+use crate::source::ProgramSource;
 use crate::statement::Statement;
 use std::alloc::Global;
 
@@ -36,7 +36,7 @@ fn or_less(before: Option<Cause>, cause: Cause) -> Cause
 /// Reads an operand for each kind, or finds the least cause among the parts.
 fn each_argument<'a>(
     alloc: Global,
-    kinds: &[Kind],
+    kinds: &[OperandKind],
     parts: &[&'a [u8]],
 ) -> Result<Vec<Named<'a>>, LineError>
     requires { length kinds.now ≡ length parts.now }
@@ -58,7 +58,7 @@ fn each_argument<'a>(
 
 fn arguments_of<'a>(
     alloc: Global,
-    kinds: &[Kind],
+    kinds: &[OperandKind],
     parts: &[&'a [u8]],
 ) -> Result<Vec<Named<'a>>, LineError>
     ensures read { ReadsAs (λ v. map argument v.items) result (arguments_of kinds.now (map (λ part. part.now) parts.now)) }
@@ -151,7 +151,7 @@ fn merged<'a>(
 /// Reads a line that is cut at its colons: adds its labels, and returns its statement.
 fn read_pieces<'a>(
     alloc: Global,
-    source: &mut Source<'a>,
+    source: &mut ProgramSource<'a>,
     line: usize,
     pieces: &[&'a [u8]],
 ) -> Result<Option<Statement<'a>>, LineError>
@@ -169,11 +169,11 @@ fn read_pieces<'a>(
     merged(statement, labels)
 }
 
-/// Reads a line and adds what it has.
+/// Reads a line, and adds its labels and its statement.
 #[tactic(auto, unfolding(crate::specs::Reading::line_of))]
 pub fn add_line<'a>(
     alloc: Global,
-    source: &mut Source<'a>,
+    source: &mut ProgramSource<'a>,
     line: usize,
     text: &'a [u8],
 ) -> Result<(), LineError>

@@ -10,13 +10,13 @@ ghost use Rattle.dp_lang.specs.Sources as view;
 use crate::argument::Named;
 use crate::cause::{AsmError, Cause, Fault};
 use crate::form::built;
-use crate::source::Source;
+use crate::source::ProgramSource;
 use crate::statement::Statement;
 use dp_model::Instr;
 use std::alloc::Global;
 
 /// The number of the instruction that a label names, if one follows it.
-fn target<'a>(source: &Source<'a>, name: &'a [u8]) -> Option<u16>
+fn target<'a>(source: &ProgramSource<'a>, name: &'a [u8]) -> Option<u16>
     ensures { result ≡ target_in (view.source source.now) name.now }
 {
     let number = source.labels.get(name)?;
@@ -27,8 +27,8 @@ fn target<'a>(source: &Source<'a>, name: &'a [u8]) -> Option<u16>
     }
 }
 
-/// The number of the label among the operands; 0 where there is none.
-fn label_in<'a>(source: &Source<'a>, arguments: &[Named<'a>]) -> Option<u16>
+/// The number of the label among the operands; 0 if there is none.
+fn label_in<'a>(source: &ProgramSource<'a>, arguments: &[Named<'a>]) -> Option<u16>
     ensures { result ≡ label_in (target_in (view.source source.now)) arguments.now }
 {
     for argument in arguments {
@@ -40,7 +40,7 @@ fn label_in<'a>(source: &Source<'a>, arguments: &[Named<'a>]) -> Option<u16>
 }
 
 /// Makes the instruction of a statement, if its label is known.
-pub fn instr_of<'a>(source: &Source<'a>, statement: &Statement<'a>) -> Option<Instr>
+pub fn instr_of<'a>(source: &ProgramSource<'a>, statement: &Statement<'a>) -> Option<Instr>
     ensures form { IfSome result (λ i. (spelled i).form ≡ statement.now.form) }
     ensures arguments { option_map (λ i. (spelled i).arguments) result
         ≡ all_resolved (target_in (view.source source.now)) (map argument statement.now.arguments.items) }
@@ -51,7 +51,7 @@ pub fn instr_of<'a>(source: &Source<'a>, statement: &Statement<'a>) -> Option<In
 }
 
 /// Makes the instructions of all statements, or returns the first line with an unknown label.
-pub fn instrs_of(alloc: Global, source: &Source) -> Result<Vec<Instr>, AsmError>
+pub fn instrs_of(alloc: Global, source: &ProgramSource) -> Result<Vec<Instr>, AsmError>
     ensures { Gives (λ v. map spelled v.items) result
         (all_statements (target_in (view.source source.now)) (view.source source.now).statements) }
 {

@@ -5,10 +5,10 @@ use Rattle.dp_lpm.specs.declared.rule.Rule.{Rule}
 use Rattle.dp_lpm.specs.declared.ruled_table.RuledTable.{RuledTable}
 use Rattle.dp_lpm.specs.Routes.{IsRoute, prefix_of, ChangesAt}
 use Rattle.dp_lpm.specs.Rules.{route_of, routes_of}
-use Rattle.dp_lpm.specs.Tables.{group_at, start_of, Settled}
+use Rattle.dp_lpm.specs.Tables.{group_at, start_of, Overwritten}
 use Rattle.dp_lpm.specs.Kept.{routes_in, Keeps, IsKept, first_of, TakesIn}
 use Rattle.dp_lpm.proofs.Ranges.{prefix_small, deep_first}
-use Rattle.dp_lpm.proofs.Answering.{settled_keeps}
+use Rattle.dp_lpm.proofs.Answering.{overwritten_keeps}
 
 -- the rule of an add
 abbrev pub rule_of : ℕ → ℕ → ℕ → Rule
@@ -30,10 +30,10 @@ added_group old new ip depth hop prefix is most takes deep =
     subst (λ i. (g : ℕ) × (group_at new.table i ≡ Some g)) first (takes.group deep)
 
 pub added_keeps : (old mid new : RuledTable) (ip depth hop prefix : ℕ) → prefix ≡ prefix_of ip depth → 1 ≤ depth → depth ≤ 32 →
-    TakesIn old mid (route_of (rule_of prefix depth hop)) → Settled (start_of ip depth) (2 ^ (32 - depth)) depth (Hop hop depth) mid.table new.table →
+    TakesIn old mid (route_of (rule_of prefix depth hop)) → Overwritten (start_of ip depth) (2 ^ (32 - depth)) depth (Hop hop depth) mid.table new.table →
     new.rules ≡ mid.rules → new.max_rules ≡ mid.max_rules → IsKept new
-added_keeps old mid new ip depth hop prefix is some most takes settled rules max =
+added_keeps old mid new ip depth hop prefix is some most takes overwritten rules max =
     subst (λ v. Keeps (routes_in new) (routes_of v.items) new) (sym rules)
-    (settled_keeps (routes_in old) (routes_in mid) mid new ip depth (Some (route_of (rule_of prefix depth hop))) takes.kept
+    (overwritten_keeps (routes_in old) (routes_in mid) mid new ip depth (Some (route_of (rule_of prefix depth hop))) takes.kept
     (subst (λ p. ChangesAt (routes_in old) (routes_in mid) p depth (Some (route_of (rule_of prefix depth hop)))) is takes.puts.changes)
-    some most settled rules max)
+    some most overwritten rules max)

@@ -6,7 +6,7 @@ use Rattle.dp_lpm.specs.declared.cell.Cell.{Cell}
 use Rattle.dp_lpm.specs.declared.table.Table.{Table}
 use Rattle.dp_lpm.specs.Cells.{at, entry_in, group_in}
 use Rattle.dp_lpm.specs.Tables.{IsTable, first_at, group_at, entry_for, Closed}
-use Rattle.dp_lpm.proofs.Settling.{at-set_same, at-set_other}
+use Rattle.dp_lpm.proofs.Overwriting.{at-set_same, at-set_other}
 use Rattle.dp_lpm.proofs.Entries.{entry_grouped, entry_plain, entry_same}
 use Rattle.dp_lpm.proofs.Groups.{index_set_other}
 

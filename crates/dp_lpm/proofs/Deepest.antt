@@ -1,9 +1,9 @@
 -- How a change of the routes of one prefix and depth changes the deepest routes.
-use Rattle.std.proofs.Common.{◌≡◌, ◌≢◌, ℕ, zero, suc, ◌-◌, ◌<◌, ◌≤◌, Bool, true, false, cond, ◌&&◌, List, [], ◌∷◌, Option, Some, None, refl, sym, ◌∙◌, ap}
+use Rattle.std.proofs.Common.{◌≡◌, ◌≢◌, ℕ, zero, suc, ◌-◌, ◌<◌, ◌≤◌, Bool, true, false, cond, List, [], ◌∷◌, Option, Some, None, refl, sym, ◌∙◌, ap}
 use Rattle.std.proofs.Common.{arith, ⊎_elim}
 use Rattle.std.specs.Prelude.{◌==◌, nat_le}
 use Rattle.std.specs.Option.{option_or}
-use Rattle.std.proofs.lemmas.Bool.{eqb-true, ne_eqb, le-leb, lt-leb, and_parts, cases_eq}
+use Rattle.std.proofs.lemmas.Bool.{eqb-true, ne_eqb, le-leb, lt-leb, and_parts, cases_eq, and_left, and_right}
 use Rattle.std.proofs.lemmas.Option.{same_Some}
 use Rattle.dp_model.specs.Prefixes.{Route}
 use Rattle.dp_lpm.specs.Cells.{depth_of}
@@ -39,13 +39,6 @@ depth_within (suc depth) routes ip =
         let e = ap (λ o. depth_of (entry_of o)) (within_suc depth routes ip ∙ ap (λ o. option_or o (deepest_within depth routes ip)) is) in
         omega (arith, e, (route_is routes (prefix_of ip (suc depth)) (suc depth) q is).0)
 
-and_false : (a b : Bool) → a ≡ false → (a && b) ≡ false
-and_false a b e = ap (λ x. x && b) e
-
-and_false' : (a b : Bool) → b ≡ false → (a && b) ≡ false
-and_false' true b e = e
-and_false' false b e = refl
-
 -- where the routes of the searched depths stay, so does the answer
 step_same : (old new : List Route) (ip depth : ℕ) → route_at new (prefix_of ip (suc depth)) (suc depth)
     ≡ route_at old (prefix_of ip (suc depth)) (suc depth) → deepest_within depth new ip ≡ deepest_within depth old ip → deepest_within (suc depth) new ip
@@ -60,7 +53,7 @@ module _ (old new : List Route) (prefix depth : ℕ) (route : Option Route) (cha
   shallow_same ip zero lt = within_zero new ip ∙ sym (within_zero old ip)
   shallow_same ip (suc n) lt =
       step_same old new ip n
-      (changes.others (prefix_of ip (suc n)) (suc n) (and_false (suc n == depth) (prefix_of ip (suc n) == prefix)
+      (changes.others (prefix_of ip (suc n)) (suc n) (and_left (suc n == depth) (prefix_of ip (suc n) == prefix)
       (ne_eqb (suc n) depth (λ e. absurd (omega (arith, e, lt))))))
       (shallow_same ip n (omega (arith, lt)))
 
@@ -70,9 +63,9 @@ module _ (old new : List Route) (prefix depth : ℕ) (route : Option Route) (cha
   outside_same ip (suc n) other =
       step_same old new ip n
       (changes.others (prefix_of ip (suc n)) (suc n) (⊎_elim
-      (λ (e : suc n ≡ depth). and_false' (suc n == depth) (prefix_of ip (suc n) == prefix)
+      (λ (e : suc n ≡ depth). and_right (suc n == depth) (prefix_of ip (suc n) == prefix)
       (ne_eqb (prefix_of ip (suc n)) prefix (λ f. other (ap (prefix_of ip) (sym e) ∙ f))))
-      (λ (e : suc n ≢ depth). and_false (suc n == depth) (prefix_of ip (suc n) == prefix) (ne_eqb (suc n) depth e))
+      (λ (e : suc n ≢ depth). and_left (suc n == depth) (prefix_of ip (suc n) == prefix) (ne_eqb (suc n) depth e))
       (cases_eq (suc n) depth)))
       (outside_same ip n other)
 
@@ -104,7 +97,7 @@ module _ (old new : List Route) (prefix depth : ℕ) (route : Option Route) (cha
           deepest_within (suc n) new ip ≡ cond (nat_le (depth_of (entry_of (deepest_within (suc n) old ip))) depth) (becomes ip)
           (deepest_within (suc n) old ip)
       above other o was before =
-          let same = changes.others (prefix_of ip (suc n)) (suc n) (and_false (suc n == depth) (prefix_of ip (suc n) == prefix) (ne_eqb (suc n) depth other)) in
+          let same = changes.others (prefix_of ip (suc n)) (suc n) (and_left (suc n == depth) (prefix_of ip (suc n) == prefix) (ne_eqb (suc n) depth other)) in
           let now : deepest_within (suc n) new ip ≡ option_or o (deepest_within n new ip) = within_suc n new ip
           ∙ ap (λ o. option_or o (deepest_within n new ip)) (same ∙ was) in
           let then : deepest_within (suc n) old ip ≡ option_or o (deepest_within n old ip) = within_suc n old ip

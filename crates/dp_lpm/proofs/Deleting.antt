@@ -14,13 +14,13 @@ use Rattle.dp_lpm.specs.Cells.{IsStorable}
 use Rattle.dp_lpm.specs.Faults.{delete_fault}
 use Rattle.dp_lpm.specs.Routes.{IsRoute, Drops, ChangesAt, prefix_of, is_at, route_at, deepest_within}
 use Rattle.dp_lpm.specs.Rules.{routes_of, entry_of, IsFound, IsMissing}
-use Rattle.dp_lpm.specs.Tables.{group_at, start_of, Settled, Closed}
+use Rattle.dp_lpm.specs.Tables.{group_at, start_of, Overwritten, Closed}
 use Rattle.dp_lpm.specs.Kept.{deep_count, routes_in, shown, Keeps, IsKept, TakesOut}
 use Rattle.dp_lpm.proofs.Within.{within_zero, within_suc, found_at, missing_at}
 use Rattle.dp_lpm.proofs.Ranges.{deep_first}
 use Rattle.dp_lpm.proofs.Counting.{found_counts}
 use Rattle.dp_lpm.proofs.Entries.{either_group}
-use Rattle.dp_lpm.proofs.Answering.{settled_keeps}
+use Rattle.dp_lpm.proofs.Answering.{overwritten_keeps}
 use Rattle.dp_lpm.proofs.Shrinking.{removed, removed_changes, left_shallow, left_here, left_others, dropped}
 
 -- ---- entries that four bytes can encode
@@ -81,18 +81,19 @@ module _ (old mid new : RuledTable) (index ip depth : ℕ) (to : Entry) (kept : 
     (some : 1 ≤ depth) (most : depth ≤ 32) (rules : mid.rules.items ≡ take index old.rules.items
     ++ drop (suc index) old.rules.items) (room : vec_capacity mid.rules ≡ vec_capacity old.rules) (max : mid.max_rules ≡ old.max_rules) (table : mid.table
     ≡ old.table) (next : to ≡ entry_of (deepest_within (depth - 1) (routes_in old) ip))
-    (settled : Settled (start_of ip depth) (2 ^ (32 - depth)) depth to mid.table new.table) (same_rules : new.rules ≡ mid.rules) (same_max : new.max_rules
+    (overwritten : Overwritten (start_of ip depth) (2 ^ (32 - depth)) depth to mid.table new.table) (same_rules : new.rules ≡ mid.rules)
+    (same_max : new.max_rules
     ≡ mid.max_rules) where
   pub now_left : new.rules.items ≡ take index old.rules.items ++ drop (suc index) old.rules.items
   now_left = ap (λ v. v.items) same_rules ∙ rules
 
   pub deleted : Keeps (routes_in new) (routes_in old) new
   deleted =
-      settled_keeps (routes_in old) (routes_in old) mid new ip depth None
+      overwritten_keeps (routes_in old) (routes_in old) mid new ip depth None
       (removed old index (prefix_of ip depth) depth found mid kept rules room max table)
       (subst (λ rs. ChangesAt (routes_in old) (routes_of rs) (prefix_of ip depth) depth None) (sym rules)
       (removed_changes old index (prefix_of ip depth) depth found))
-      some most (subst (λ e. Settled (start_of ip depth) (2 ^ (32 - depth)) depth e mid.table new.table) next settled) same_rules same_max
+      some most (subst (λ e. Overwritten (start_of ip depth) (2 ^ (32 - depth)) depth e mid.table new.table) next overwritten) same_rules same_max
 
   pub count_shallow : (i : ℕ) → depth ≤ 24 → deep_count (routes_in new) i ≡ deep_count (routes_in old) i
   count_shallow i shallow = ap (λ rs. deep_count (routes_of rs) i) now_left ∙ left_shallow old index (prefix_of ip depth) depth found i shallow
@@ -111,7 +112,8 @@ module _ (old mid new : RuledTable) (index ip depth : ℕ) (to : Entry) (kept : 
   pub taken_out : TakesOut old new ip depth
   taken_out = record {
     kept = deleted;
-    drops = dropped old index (prefix_of ip depth) depth found new now_left (same_max ∙ max) (ap length settled.counts ∙ ap (λ t. length t.counts.items) table);
+    drops = dropped old index (prefix_of ip depth) depth found new now_left (same_max ∙ max) (ap length overwritten.counts ∙ ap (λ t. length t.counts.items)
+        table);
     shallow = λ le i. count_shallow i le;
     here = count_here;
     others = λ deep i. count_others i deep;

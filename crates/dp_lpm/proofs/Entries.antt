@@ -7,7 +7,7 @@ use Rattle.dp_lpm.specs.declared.cell.Cell.{Cell}
 use Rattle.dp_lpm.specs.declared.cell.Entry.{Entry}
 use Rattle.dp_lpm.specs.declared.cell.Entry.TheVariants.{Empty, Hop, Group}
 use Rattle.dp_lpm.specs.declared.table.Table.{Table}
-use Rattle.dp_lpm.specs.Cells.{at, entry_in, group_in, settled, depth_of}
+use Rattle.dp_lpm.specs.Cells.{at, entry_in, group_in, overwritten, depth_of}
 use Rattle.dp_lpm.specs.Tables.{IsTable, first_at, group_at, entry_for}
 
 pub entry_grouped : (t : Table) (ip g : ℕ) → group_at t (ip / 256) ≡ Some g → entry_for t ip ≡ at t.cells.items (g * 256 + ip % 256)
@@ -30,8 +30,8 @@ entry_same old new ip first cells = either_group (group_at old (ip / 256))
     (λ g named. entry_grouped new ip g (ap group_in first ∙ named) ∙ (cells g named ∙ sym (entry_grouped old ip g named)))
 
 -- an entry that is overwritten with one that is no group is none itself
-pub settled_leaf : (depth : ℕ) (to e : Entry) → group_in to ≡ None → group_in e ≡ None → group_in (settled depth to e) ≡ None
-settled_leaf depth to e leaf other = go (nat_le (depth_of e) depth)
+pub overwritten_leaf : (depth : ℕ) (to e : Entry) → group_in to ≡ None → group_in e ≡ None → group_in (overwritten depth to e) ≡ None
+overwritten_leaf depth to e leaf other = go (nat_le (depth_of e) depth)
   where
     go : (b : Bool) → group_in (cond b to e) ≡ None
     go true = leaf

@@ -20,8 +20,8 @@ pub mod Ordering
 pub mod Ranges
 pub mod Removing
 pub mod Replacing
-pub mod Settling
-pub mod SettlingIn
+pub mod Overwriting
+pub mod OverwritingWithin
 pub mod Shrinking
 pub mod Splices
 pub mod Starting

@@ -74,9 +74,9 @@ missing_parts rules depth prefix index ordered lower other = record {
     above k le here = ⊎_elim
         (λ (e : k ≡ index). let same : rank_of (rule_at rules k) ≡ rank_of (rule_at rules index) = ap (λ n. rank_of (rule_at rules n)) e in
         omega (arith, same, lower.above k le here, other (omega (arith, e, here))))
-        (λ (behind : k ≢ index). omega (
+        (λ (beyond : k ≢ index). omega (
           arith,
           lower.above index (omega arith) (omega (arith, le, here)),
-          rises rules index k ordered (omega (arith, le, behind)) here,
+          rises rules index k ordered (omega (arith, le, beyond)) here,
         ))
         (cases_eq k index)

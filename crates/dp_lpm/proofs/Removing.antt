@@ -59,8 +59,8 @@ part_down old at n rules fits down = record {
     long : length rules ≡ length old
     long = down_length old at rules down
 
-    behind : (k : ℕ) → drop (at + k) rules ≡ drop (at + k) old
-    behind k = sym (drop-drop k at rules)
+    beyond : (k : ℕ) → drop (at + k) rules ≡ drop (at + k) old
+    beyond k = sym (drop-drop k at rules)
         ∙ (ap (drop k) (ap (drop at) down.is ∙ drop_at (take at (drop 1 old)) (drop at old) at (gone_length old at down.within))
         ∙ drop-drop k at old)
 
@@ -68,7 +68,7 @@ part_down old at n rules fits down = record {
     before = ap (take at) down.is ∙ take_at (take at (drop 1 old)) (drop at old) at (gone_length old at down.within)
 
     next : drop (at + 1) rules ≡ drop at (drop 1 old)
-    next = behind 1 ∙ (ap (λ i. drop i old) (omega arith) ∙ sym (drop-drop at 1 old))
+    next = beyond 1 ∙ (ap (λ i. drop i old) (omega arith) ∙ sym (drop-drop at 1 old))
 
     front : take (at + n) (paste rules at (drop (at + 1) rules) n) ≡ take (at + n) (drop 1 old)
     front = take-paste rules at (drop (at + 1) rules) n (omega (arith, fits, long)) (omega (arith, fits, long, length-drop (at + 1) rules))
@@ -77,7 +77,7 @@ part_down old at n rules fits down = record {
         ∙ sym (take-add at n (drop 1 old))))
 
     back : drop (at + n) (paste rules at (drop (at + 1) rules) n) ≡ drop (at + n) old
-    back = drop-paste rules at (drop (at + 1) rules) n (omega (arith, fits, long)) (omega (arith, fits, long, length-drop (at + 1) rules)) ∙ behind n
+    back = drop-paste rules at (drop (at + 1) rules) n (omega (arith, fits, long)) (omega (arith, fits, long, length-drop (at + 1) rules)) ∙ beyond n
 
 -- a part whose first rule is dropped, put back into its list
 pub part_put : (now : List Rule) (at n : ℕ) → at + n < length now
@@ -103,11 +103,11 @@ part_put now at n fits =
     size : length mid - 1 ≡ n
     size = omega (arith, fits, length-take (n + 1) rest, length-drop at now)
 
-    behind : drop 1 mid ≡ some
-    behind = ap (λ i. drop 1 (take i rest)) (omega arith) ∙ (drop-take 1 n rest ∙ ap (take n) (drop-drop 1 at now))
+    beyond : drop 1 mid ≡ some
+    beyond = ap (λ i. drop 1 (take i rest)) (omega arith) ∙ (drop-take 1 n rest ∙ ap (take n) (drop-drop 1 at now))
 
     moved : take (length mid - 1) (drop 1 mid) ≡ some
-    moved = ap (take (length mid - 1)) behind ∙ (ap (λ i. take i some) size ∙ take_all n some (omega (arith, length-take n (drop (at + 1) now))))
+    moved = ap (take (length mid - 1)) beyond ∙ (ap (λ i. take i some) size ∙ take_all n some (omega (arith, length-take n (drop (at + 1) now))))
 
     stays : drop (0 + (length mid - 1)) mid ≡ take 1 (drop n rest)
     stays = ap (λ i. drop i mid) (omega (arith, size)) ∙ drop-take n 1 rest

@@ -77,11 +77,11 @@ or_none (Some x) = refl
 -- where the lists before and after have no such rule, the one between has it
 pub here_at : (first middle last : List Rule) (prefix depth : ℕ) → Misses (rank depth prefix) first → Misses (rank depth prefix) last →
     route_at (routes_of (first ++ (middle ++ last))) prefix depth ≡ route_at (routes_of middle) prefix depth
-here_at first middle last prefix depth front behind =
+here_at first middle last prefix depth front beyond =
     three first middle last prefix depth
     ∙ (ap (λ o. option_or o (option_or (route_at (routes_of middle) prefix depth) (route_at (routes_of last) prefix depth)))
     (misses_none first prefix depth front)
-    ∙ (ap (option_or (route_at (routes_of middle) prefix depth)) (misses_none last prefix depth behind)
+    ∙ (ap (option_or (route_at (routes_of middle) prefix depth)) (misses_none last prefix depth beyond)
     ∙ or_none (route_at (routes_of middle) prefix depth)))
 
 -- a splice changes the routes at its prefix and depth

@@ -26,9 +26,9 @@ pub found_at : (rules : List Rule) (depth prefix index : ℕ) → IsFound rules 
 found_at rules depth prefix index found =
     let r = rule_at rules index in
     let front = all_below (take index rules) (rank depth prefix) found.parts.lower in
-    let behind = all_above (drop (suc index) rules) (rank depth prefix) found.parts.upper in
+    let beyond = all_above (drop (suc index) rules) (rank depth prefix) found.parts.upper in
     ap (λ rs. route_at (routes_of rs) prefix depth) (at_index rules index found.there)
-    ∙ (here_at (take index rules) (r ∷ []) (drop (suc index) rules) prefix depth front behind
+    ∙ (here_at (take index rules) (r ∷ []) (drop (suc index) rules) prefix depth front beyond
     ∙ (ap (λ b. cond (b && (r.prefix == prefix)) (Some (route_of r)) None) (eq-eqb r.depth depth found.depth_is)
     ∙ ap (λ b. cond b (Some (route_of r)) None) (eq-eqb r.prefix prefix found.prefix_is)))
 

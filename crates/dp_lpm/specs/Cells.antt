@@ -29,8 +29,8 @@ depth_of (Hop hop depth) = depth
 depth_of (Group g) = GROUP_DEPTH
 
 -- the entry after it is overwritten, if it is no deeper than that
-abbrev pub settled : ℕ → Entry → Entry → Entry
-settled depth to e = if nat_le (depth_of e) depth then to else e
+abbrev pub overwritten : ℕ → Entry → Entry → Entry
+overwritten depth to e = if nat_le (depth_of e) depth then to else e
 
 -- the group that an entry names
 abbrev pub group_in : Entry → Option ℕ

@@ -13,11 +13,11 @@ number_of RulesFull = 3
 number_of GroupsFull = 4
 number_of NoRule = 5
 
--- the route that an add puts in
+-- the route that an `add` inserts
 abbrev pub added : ℕ → ℕ → ℕ → Route
 added ip depth hop = record { prefix = prefix_of ip depth; depth = depth; hop = hop }
 
--- why a route is refused, where the table has none of its prefix and depth
+-- why a route is refused, if the table has none of its prefix and depth
 abbrev pub new_fault : RouteTable → Route → Option LpmError
 new_fault t route =
     if nat_le t.max_rules (length t.routes) then Some RulesFull

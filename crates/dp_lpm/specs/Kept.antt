@@ -1,4 +1,4 @@
--- What a table keeps: its entries and its groups follow from its rules.
+-- The invariant of a table: its entries and its groups follow from its rules.
 use Rattle.std.specs.Prelude.{◌≡◌, ◌≢◌, ℕ, ◌+◌, ◌-◌, ◌/◌, ◌^◌, ◌<◌, ◌≤◌, Bool, nat_lt, if◌then◌else◌, List, [], ◌∷◌, length, vec_capacity, Some, None}
 use Rattle.std.specs.Prelude.{slice_index}
 use Rattle.std.specs.List.{AllByRecursion}
@@ -40,7 +40,7 @@ pub record Keeps (answered counted : List Route) (s : RuledTable) : Type 0 where
   pub table : IsTable s.table
   -- each address has the entry of its deepest route
   pub answers : (ip : ℕ) → entry_for s.table ip ≡ entry_of (deepest_within MAX_DEPTH answered ip)
-  -- first bits have a group exactly where a deep route begins with them
+  -- first bits have a group exactly if a deep route begins with them
   pub grouped : (i g : ℕ) → group_at s.table i ≡ Some g → slice_index s.table.counts.items g ≡ deep_count counted i
   pub plain : (i : ℕ) → group_at s.table i ≡ None → deep_count counted i ≡ 0
   pub needed : used_count s.table.counts.items ≡ groups_needed counted

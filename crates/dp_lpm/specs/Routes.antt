@@ -23,26 +23,26 @@ is_at prefix depth route = (route.depth == depth) && (route.prefix == prefix)
 abbrev pub route_at : List Route → ℕ → ℕ → Option Route
 route_at routes prefix depth = find (is_at prefix depth) routes
 
--- one prefix and depth has this route, or none; those of all others stay
+-- one prefix and depth has this route, or none; the routes of all others do not change
 pub record ChangesAt (old new : List Route) (prefix depth : ℕ) (route : Option Route) : Type 0 where
   pub here : route_at new prefix depth ≡ route
   pub others : (p d : ℕ) → ((d == depth) && (p == prefix)) ≡ false → route_at new p d ≡ route_at old p d
 
--- the table has the route, in place of the one of its prefix and depth if there was one
+-- the table has the route, which replaces the one of its prefix and depth if there was one
 pub record Puts (old new : RouteTable) (route : Route) : Type 0 where
   pub changes : ChangesAt old.routes new.routes route.prefix route.depth (Some route)
   pub count : length new.routes ≡ length old.routes + (if is_some (route_at old.routes route.prefix route.depth) then 0 else 1)
   pub max_rules : new.max_rules ≡ old.max_rules
   pub groups : new.groups ≡ old.groups
 
--- the table has no route of this prefix and depth any more, and all others
+-- the table no longer has a route of this prefix and depth, and has all others
 pub record Drops (old new : RouteTable) (prefix depth : ℕ) : Type 0 where
   pub changes : ChangesAt old.routes new.routes prefix depth None
   pub count : length new.routes + 1 ≡ length old.routes
   pub max_rules : new.max_rules ≡ old.max_rules
   pub groups : new.groups ≡ old.groups
 
--- the deepest route for the address, of those no deeper than that
+-- the deepest route for the address among those no deeper than that
 unfoldable pub deepest_within : ℕ → List Route → ℕ → Option Route
 deepest_within zero routes ip = None
 deepest_within (suc depth) routes ip =
@@ -80,6 +80,6 @@ pub record IsTableOfRoutes (t : RouteTable) : Type 0 where
   pub few : length t.routes ≤ t.max_rules
   pub groups : groups_needed t.routes ≤ t.groups
 
--- no hop of the table is above the greatest
+-- no hop of the table is above the maximum
 abbrev pub HasSmallHops : RouteTable → Type 0
 HasSmallHops t = AllByRecursion (λ (route : Route). route.hop ≤ MAX_HOP) t.routes

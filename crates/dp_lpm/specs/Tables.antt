@@ -6,7 +6,7 @@ use Rattle.dp_lpm.specs.declared.limits.TheConstants.{ADDRESSES, FIRST_ENTRIES, 
 use Rattle.dp_lpm.specs.declared.cell.Entry.{Entry}
 use Rattle.dp_lpm.specs.declared.cell.Entry.TheVariants.{Empty}
 use Rattle.dp_lpm.specs.declared.table.Table.{Table}
-use Rattle.dp_lpm.specs.Cells.{at, group_in, settled}
+use Rattle.dp_lpm.specs.Cells.{at, group_in, overwritten}
 use Rattle.dp_lpm.specs.Routes.{prefix_of}
 
 -- the first-level entry of first bits; their group, if they have one
@@ -46,15 +46,15 @@ pub record IsEven (start size : ℕ) : Type 0 where
   pub whole : GROUP_ENTRIES ≤ size → (start % GROUP_ENTRIES ≡ 0) × (size % GROUP_ENTRIES ≡ 0)
 
 -- the entries of these addresses that are no deeper than that are overwritten
-pub record Settled (start size depth : ℕ) (to : Entry) (old new : Table) : Type 0 where
+pub record Overwritten (start size depth : ℕ) (to : Entry) (old new : Table) : Type 0 where
   pub table : IsTable new
-  pub inside : (ip : ℕ) → start ≤ ip → ip < start + size → entry_for new ip ≡ settled depth to (entry_for old ip)
+  pub inside : (ip : ℕ) → start ≤ ip → ip < start + size → entry_for new ip ≡ overwritten depth to (entry_for old ip)
   pub below : (ip : ℕ) → ip < start → entry_for new ip ≡ entry_for old ip
   pub above : (ip : ℕ) → start + size ≤ ip → entry_for new ip ≡ entry_for old ip
   pub groups : (i : ℕ) → group_at new i ≡ group_at old i
   pub counts : new.counts.items ≡ old.counts.items
 
--- the first bits have a group with one rule more, and no address has another entry
+-- the first bits have a group with one rule more, and no address's entry changes
 pub record Opened (first : ℕ) (old new : Table) : Type 0 where
   pub table : IsTable new
   pub same : (ip : ℕ) → entry_for new ip ≡ entry_for old ip
@@ -78,7 +78,7 @@ pub record CanClose (first : ℕ) (t : Table) : Type 0 where
   pub even : slice_index t.counts.items group ≡ 1 → (j : ℕ) → j < GROUP_ENTRIES →
       at t.cells.items (group * GROUP_ENTRIES + j) ≡ at t.cells.items (group * GROUP_ENTRIES)
 
--- the first bits' group has one rule fewer, and is free if it has none; no address has another entry
+-- the first bits' group has one rule fewer, and is free if it has none; no address's entry changes
 pub record Closed (first : ℕ) (old new : Table) : Type 0 where
   pub table : IsTable new
   pub same : (ip : ℕ) → entry_for new ip ≡ entry_for old ip

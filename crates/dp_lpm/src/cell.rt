@@ -1,7 +1,7 @@
 //! The entries of a table, of four bytes each.
 
 ghost use Rattle.std.specs.Prelude.{◌≡◌, ℕ, ◌/◌, ◌<◌, ◌≤◌, length, slice_index_or};
-ghost use Rattle.dp_lpm.specs.Cells.{entry_in, IsStorable, at, settled};
+ghost use Rattle.dp_lpm.specs.Cells.{entry_in, IsStorable, at, overwritten};
 
 use crate::limits::{FIRST_GROUP, GROUP_DEPTH, HOPS, MAX_DEPTH, MAX_GROUPS};
 
@@ -16,7 +16,7 @@ pub enum Entry {
     Group(u8),
 }
 
-/// An entry in four bytes: 0 where it is empty; else a hop or a group in the lower three bytes, and in the highest the depth, or 255 for a group.
+/// An entry in four bytes: 0 if it is empty; else a hop or a group in the lower three, and the depth, or 255 for a group, in the highest.
 #[derive(Clone, Copy, Debug)]
 pub struct Cell {
     pub bits: u32,
@@ -52,7 +52,7 @@ impl Cell {
         Entry::Group((self.bits % MAX_GROUPS) as u8)
     }
 
-    /// The depth of the entry's rule; 0 where it is empty, and at least 128 for a group.
+    /// The depth of the entry's rule; 0 if it is empty, and at least 128 for a group.
     pub fn depth(self) -> u8
         ensures { result ≡ self.bits / HOPS }
     {
@@ -61,12 +61,12 @@ impl Cell {
 }
 
 /// Overwrites the entries from `from` up to `end` that are no deeper than `depth`.
-pub fn settle(cells: &mut [Cell], from: usize, end: usize, depth: u8, to: Cell)
+pub fn overwrite_shallower(cells: &mut [Cell], from: usize, end: usize, depth: u8, to: Cell)
     requires order { from ≤ end }
     requires there { end ≤ length cells.old }
     requires depth { depth ≤ MAX_DEPTH }
     ensures len { length cells.new ≡ length cells.old }
-    ensures inside { (k : ℕ) → from ≤ k → k < end → at cells.new k ≡ settled depth (entry_in to) (at cells.old k) }
+    ensures inside { (k : ℕ) → from ≤ k → k < end → at cells.new k ≡ overwritten depth (entry_in to) (at cells.old k) }
     ensures below { (k : ℕ) → k < from → at cells.new k ≡ at cells.old k }
     ensures above { (k : ℕ) → end ≤ k → at cells.new k ≡ at cells.old k }
 {

@@ -1,4 +1,4 @@
-//! Why a table is not made, or refuses a rule.
+//! Why a table is not made, or refuses a call.
 
 use thiserror::Error;
 
@@ -19,7 +19,7 @@ pub enum LpmError {
     /// The table has as many rules as it was made for.
     #[error("no room for another rule")]
     RulesFull,
-    /// The rule is deeper than 24 bits, and its first 24 have no group and none is free.
+    /// The rule is deeper than 24 bits, its first 24 bits have no group, and no group is free.
     #[error("no group left")]
     GroupsFull,
     /// There is no rule of this prefix and depth.

@@ -15,13 +15,13 @@
 //!  0x0b0000  | empty          |                          0xff | hop 7, depth 25 |
 //! ```
 //!
-//! The first 24 bits of an address have a group exactly where a rule deeper than 24 bits begins with them. Each group counts these rules; when
-//! the last one is deleted the group is free, and the entry in TBL24 is again what all 256 then say. The rules are also kept in one
-//! list, ordered by depth and then by prefix, which `add` and `delete` search in at most 17 comparisons. `add` writes the entries of its prefix
-//! that are no deeper than the rule; `delete` gives them to the next shallower rule. No other entry is touched.
+//! The first 24 bits of an address have a group exactly if a rule deeper than 24 bits begins with them. Each group counts these rules; when the
+//! last one is deleted the group is free, and the entry in TBL24 is again the one that all 256 then have. The rules are also kept in one list,
+//! ordered by depth and then by prefix, which `add` and `delete` search in at most 17 comparisons. `add` writes the entries of its prefix that
+//! are no deeper than the rule; `delete` gives them to the next shallower rule. No other entry is touched.
 //!
-//! Who owns what: an `Lpm` owns its entries and rules. `Lpm::new` takes all memory, and no other call can be refused any. `Tables` takes up to
-//! four tables over for an engine, which reads them and never changes them.
+//! Who owns what: an `Lpm` owns its entries and rules. `Lpm::new` takes all memory; no other call allocates. `Tables` takes ownership of up to
+//! four tables for an engine, which reads them and never changes them.
 //!
 //! What to call: `add` and `delete` before the engine opens, `lookup` for an address. A refused call changes nothing.
 #![tactic(auto)]

@@ -11,23 +11,23 @@ pub const FIRST_ENTRIES: usize = 0x100_0000;
 /// The entries of a group, for the last 8 bits of an address (`RTE_LPM_TBL8_GROUP_NUM_ENTRIES`).
 pub const GROUP_ENTRIES: usize = 256;
 
-/// The most groups of a table: the lowest byte of an entry names one. DPDK leaves the number (`number_tbl8s` of
+/// The maximum number of groups of a table: the lowest byte of an entry names one. DPDK leaves the number (`number_tbl8s` of
 /// `rte_lpm_config`) to its caller.
 pub const MAX_GROUPS: u32 = 256;
 
-/// The most rules of a table. DPDK leaves the number (`max_rules` of `rte_lpm_config`) to its caller.
+/// The maximum number of rules of a table. DPDK leaves the number (`max_rules` of `rte_lpm_config`) to its caller.
 pub const MAX_RULES: u32 = 65_536;
 
 /// The depth of the deepest rule, in bits of the address (`RTE_LPM_MAX_DEPTH`).
 pub const MAX_DEPTH: u8 = 32;
 
-/// The number of hops: an entry has 24 bits for one (`next_hop` of `rte_lpm_tbl_entry`), with its depth above them.
+/// The number of different hops: an entry has 24 bits for one (`next_hop` of `rte_lpm_tbl_entry`), with its depth above them.
 pub const HOPS: u32 = 0x100_0000;
 
 /// The greatest hop.
 pub const MAX_HOP: u32 = HOPS - 1;
 
-/// From this number on four bytes name a group: one test sees their highest bit.
+/// The least four-byte entry that names a group: its highest bit is set, so one test decides.
 pub const FIRST_GROUP: u32 = 0x8000_0000;
 
 /// The depth in an entry that names a group, above the depths of all rules.
@@ -36,7 +36,7 @@ pub const GROUP_DEPTH: u32 = 255;
 /// The number of addresses.
 pub const ADDRESSES: u64 = 0x1_0000_0000;
 
-/// The most tables of a `Tables`.
+/// The maximum number of tables of a `Tables`.
 pub const MAX_TABLES: usize = 4;
 
 /// A law: the sizes of tables are these numbers.

@@ -34,7 +34,7 @@ impl Lpm {
     ghost use Rattle.dp_lpm.specs.Kept.{IsKept, shown};
 
     /// Makes a table without rules, for at most `max_rules` rules (at most `MAX_RULES`) and at most `groups` prefixes of 24 bits with rules
-    /// deeper than 24 (at most `MAX_GROUPS`). Answers `Memory` where the allocator refuses.
+    /// deeper than 24 (at most `MAX_GROUPS`). Returns `Memory` if the allocator refuses.
     pub fn new(alloc: Global, max_rules: u32, groups: u32) -> Result<Lpm, Memory>
         requires rules { max_rules ≤ MAX_RULES }
         requires groups { groups ≤ MAX_GROUPS }
@@ -47,7 +47,7 @@ impl Lpm {
         })
     }
 
-    /// Adds a rule, or gives the rule of this prefix and depth another hop. Bits of `ip` below the depth are ignored.
+    /// Adds a rule, or replaces the hop of the rule of this prefix and depth. Bits of `ip` below the depth are ignored.
     ///
     /// # Errors
     ///
@@ -68,7 +68,7 @@ impl Lpm {
     ///
     /// # Errors
     ///
-    /// `BadDepth` where the depth is not 1 to 32, else `NoRule` where there is no such rule. Nothing changes then.
+    /// `BadDepth` if the depth is not 1 to 32, else `NoRule` if there is no such rule. Nothing changes then.
     pub fn delete(&mut self, ip: u32, depth: u8) -> Result<(), LpmError>
         ensures drops { OnOk result (Drops self.old self.new (prefix_of ip depth) depth) }
         ensures ok { OnOk result (delete_fault self.old ip depth ≡ None) }

@@ -8,7 +8,7 @@ ghost use Rattle.dp_lpm.specs.Routes.{prefix_of, deepest_within};
 use crate::cell::Entry;
 use crate::limits::MAX_DEPTH;
 
-/// How many rules are moved down at once: `memmove` is slow on a long run that moves down by a few bytes.
+/// The number of rules that are moved down at once: `memmove` is slow on a long run that moves down by a few bytes.
 const PART: usize = 512;
 
 /// Addresses that begin with the first `depth` bits of `prefix` go to `hop`.
@@ -56,7 +56,7 @@ pub fn search(rules: &[Rule], depth: u8, prefix: u32) -> Result<usize, usize>
     Err(index)
 }
 
-/// The entry of the deepest rule for an address, of those no deeper than `depth`.
+/// The entry of the deepest rule for an address among those no deeper than `depth`.
 pub fn entry_within(rules: &[Rule], ip: u32, depth: u8) -> Entry
     requires order { IsOrdered rules.now }
     requires most { depth ≤ MAX_DEPTH }
@@ -105,8 +105,8 @@ fn move_down(rules: &mut [Rule])
     rules.copy_within(1.., 0);
 }
 
-/// Does the same part by part.
-fn let_first_go(rules: &mut [Rule])
+/// Drops the first rule, as above, moving the others part by part.
+fn drop_first_rule(rules: &mut [Rule])
     requires { 0 < length rules.old }
     ensures len { length rules.new ≡ length rules.old }
     ensures front { take (length rules.old - 1) rules.new ≡ drop 1 rules.old }
@@ -126,6 +126,6 @@ pub fn remove(rules: &mut Vec<Rule>, index: usize)
     ensures items { rules.new.items ≡ take index rules.old.items ++ drop (suc index) rules.old.items }
     ensures capacity { vec_capacity rules.new ≡ vec_capacity rules.old }
 {
-    let_first_go(&mut rules[index..]);
+    drop_first_rule(&mut rules[index..]);
     let _ = rules.pop();
 }

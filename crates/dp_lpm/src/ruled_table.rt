@@ -42,7 +42,7 @@ impl RuledTable {
     ghost use Rattle.dp_lpm.specs.Kept.{IsKept, TakesIn, TakesOut, routes_in, shown};
     ghost use Rattle.dp_lpm.specs.Routes.{IsRoute, IsTableOfRoutes, Puts, Drops, prefix_of};
     ghost use Rattle.dp_lpm.specs.Rules.{route_of, IsFound, IsMissing};
-    ghost use Rattle.dp_lpm.specs.Tables.{IsTable, group_at, start_of, Settled};
+    ghost use Rattle.dp_lpm.specs.Tables.{IsTable, group_at, start_of, Overwritten};
 
     /// A table without rules. It takes all its memory here.
     pub fn new(alloc: Global, max_rules: u32, groups: u32) -> Result<RuledTable, Memory>
@@ -85,19 +85,20 @@ impl RuledTable {
     }
 
     /// Overwrites the entries of a prefix that are no deeper than the rule.
-    fn settle(&mut self, ip: u32, depth: u8, to: Entry)
+    fn overwrite_shallower(&mut self, ip: u32, depth: u8, to: Entry)
         requires table { IsTable self.old.table }
         requires some { 1 ≤ depth }
         requires most { depth ≤ MAX_DEPTH }
         requires deep { FIRST_BITS < depth → (g : ℕ) × (group_at self.old.table (ip / GROUP_ENTRIES) ≡ Some g) }
         requires storable { IsStorable to }
         requires leaf { group_in to ≡ None }
-        ensures settled { Settled (start_of ip depth) (2 ^ (MAX_DEPTH - depth)) depth to self.old.table self.new.table }
+        ensures overwritten { Overwritten (start_of ip depth) (2 ^ (MAX_DEPTH - depth)) depth to self.old.table self.new.table }
         ensures rules { self.new.rules ≡ self.old.rules }
         ensures max_rules { self.new.max_rules ≡ self.old.max_rules }
     {
         let size = 1 << (MAX_DEPTH - depth);
-        self.table.settle(ip - ip % size, size, depth, Cell::of(to));
+        self.table
+            .overwrite_shallower(ip - ip % size, size, depth, Cell::of(to));
     }
 
     /// Inserts a rule at a known index, if there is room for it and for its group.
@@ -148,10 +149,10 @@ impl RuledTable {
     {
         let next = entry_within(&self.rules, ip, depth - 1);
         remove(&mut self.rules, index);
-        self.settle(ip, depth, next);
+        self.overwrite_shallower(ip, depth, next);
     }
 
-    /// Adds a rule, or gives the rule of this prefix and depth another hop.
+    /// Adds a rule, or replaces the hop of the rule of this prefix and depth.
     pub fn add(&mut self, ip: u32, depth: u8, hop: u32) -> Result<(), LpmError>
         requires { IsKept self.old }
         ensures kept { IsKept self.new }
@@ -169,7 +170,7 @@ impl RuledTable {
             depth,
             hop,
         })?;
-        self.settle(ip, depth, Entry::Hop { hop, depth });
+        self.overwrite_shallower(ip, depth, Entry::Hop { hop, depth });
         Ok(())
     }
 

@@ -1,9 +1,9 @@
-//! The entries for all addresses: one for each value of the first 24 bits, and groups of 256 where these are not enough.
+//! The entries for all addresses: one for each value of the first 24 bits, and groups of 256 where one is not enough.
 
 ghost use Rattle.std.specs.Prelude.{◌≡◌, ℕ, ◌+◌, ◌*◌, ◌/◌, ◌==◌, ◌<◌, ◌≤◌, length, slice_index, position, IfOk, MatchBool};
 ghost use Rattle.dp_lpm.specs.Cells.{entry_in, group_in};
 
-use crate::cell::{Cell, Entry, fill, settle};
+use crate::cell::{Cell, Entry, fill, overwrite_shallower};
 use crate::error::Memory;
 use crate::limits::{FIRST_ENTRIES, GROUP_ENTRIES, MAX_DEPTH, MAX_GROUPS, MAX_RULES};
 use std::alloc::Global;
@@ -33,7 +33,7 @@ impl MadeWith<Global> for Table {
 }
 
 impl Table {
-    ghost use Rattle.dp_lpm.specs.Tables.{IsTable, group_at, entry_for, IsEven, Settled, Opened, IsFull, CanClose, Closed, IsEmptyTable};
+    ghost use Rattle.dp_lpm.specs.Tables.{IsTable, group_at, entry_for, IsEven, Overwritten, Opened, IsFull, CanClose, Closed, IsEmptyTable};
 
     /// A table without rules, with this many groups. It takes all its memory here.
     pub fn new(alloc: Global, groups: u32) -> Result<Table, Memory>
@@ -70,37 +70,37 @@ impl Table {
         }
     }
 
-    /// Overwrites entries of the addresses with these first 24 bits, `count` of them from `low` on, that are no deeper than `depth`.
-    fn settle_in(&mut self, first: usize, low: usize, count: usize, depth: u8, to: Cell)
+    /// Overwrites `count` entries, from `low`, of the addresses with these first 24 bits, except those deeper than `depth`.
+    fn overwrite_within(&mut self, first: usize, low: usize, count: usize, depth: u8, to: Cell)
         requires table { IsTable self.old }
         requires there { first < FIRST_ENTRIES }
         requires order { low + count ≤ GROUP_ENTRIES }
         requires whole { group_at self.old first ≡ None → (low ≡ 0) × (count ≡ GROUP_ENTRIES) }
         requires depth { depth ≤ MAX_DEPTH }
         requires to { group_in (entry_in to) ≡ None }
-        ensures { Settled (first * GROUP_ENTRIES + low) count depth (entry_in to) self.old self.new }
+        ensures { Overwritten (first * GROUP_ENTRIES + low) count depth (entry_in to) self.old self.new }
     {
         match self.first[first].entry() {
             Entry::Group(group) => {
                 let from = usize::from(group) * GROUP_ENTRIES + low;
-                settle(&mut self.cells, from, from + count, depth, to);
+                overwrite_shallower(&mut self.cells, from, from + count, depth, to);
             }
-            _ => settle(&mut self.first, first, first + 1, depth, to),
+            _ => overwrite_shallower(&mut self.first, first, first + 1, depth, to),
         }
     }
 
-    /// Overwrites the entries of `size` addresses from `start` on that are no deeper than `depth`.
-    pub fn settle(&mut self, start: u32, size: u32, depth: u8, to: Cell)
+    /// Overwrites the entries of `size` addresses from `start`, except those deeper than `depth`.
+    pub fn overwrite_shallower(&mut self, start: u32, size: u32, depth: u8, to: Cell)
         requires table { IsTable self.old }
         requires range { IsEven start size }
         requires part { size < GROUP_ENTRIES → (g : ℕ) × (group_at self.old (start / GROUP_ENTRIES) ≡ Some g) }
         requires depth { depth ≤ MAX_DEPTH }
         requires to { group_in (entry_in to) ≡ None }
-        ensures { Settled start size depth (entry_in to) self.old self.new }
+        ensures { Overwritten start size depth (entry_in to) self.old self.new }
     {
         let first = start as usize / GROUP_ENTRIES;
         if (size as usize) < GROUP_ENTRIES {
-            self.settle_in(
+            self.overwrite_within(
                 first,
                 start as usize % GROUP_ENTRIES,
                 size as usize,
@@ -110,12 +110,12 @@ impl Table {
             return;
         }
         for k in 0..size as usize / GROUP_ENTRIES {
-            self.settle_in(first + k, 0, GROUP_ENTRIES, depth, to);
+            self.overwrite_within(first + k, 0, GROUP_ENTRIES, depth, to);
         }
     }
 
-    /// Counts one more rule in the group of these first 24 bits, which get a free group if they have none. No address gets another entry. Answers
-    /// `false` where no group is free.
+    /// Counts one more rule in the group of these first 24 bits, and gives them a free group if they have none. No address's entry changes.
+    /// Returns `false` if no group is free.
     pub fn open(&mut self, first: usize) -> bool
         requires table { IsTable self.old }
         requires there { first < FIRST_ENTRIES }
@@ -137,7 +137,7 @@ impl Table {
         true
     }
 
-    /// Counts one rule fewer in the group of these first 24 bits, and frees the group where none is left. No address gets another entry.
+    /// Counts one rule fewer in the group of these first 24 bits, and frees the group if none is left. No address's entry changes.
     pub fn close(&mut self, first: usize)
         requires table { IsTable self.old }
         requires can { CanClose first self.old }

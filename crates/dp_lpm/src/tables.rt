@@ -12,7 +12,7 @@ use arrayvec::ArrayVec;
 use std::alloc::Global;
 use std::marker::Model;
 
-/// At most [`MAX_TABLES`] tables, by number from 0. Their rules do not change any more.
+/// At most [`MAX_TABLES`] tables, by number from 0. Their rules no longer change.
 #[derive(Drop)]
 pub struct Tables {
     ruled: ArrayVec<RuledTable, MAX_TABLES, Global>,
@@ -32,7 +32,7 @@ impl Model for Tables {
 }
 
 impl Tables {
-    /// Takes these tables over, in order. It takes no memory.
+    /// Takes ownership of these tables, in order. It takes no memory.
     pub fn of(tables: Vec<Lpm>) -> Tables
         requires few { length tables.items ≤ MAX_TABLES }
         ensures same { result ≡ tables.items }
@@ -45,7 +45,7 @@ impl Tables {
         Tables { ruled }
     }
 
-    /// Looks an address up in a table: the hop of the deepest rule whose prefix it begins with, if there is one. The number must be that of a table.
+    /// Looks up an address in a table: the hop of the deepest rule whose prefix it begins with, if there is one. The table must exist.
     pub fn lookup(&self, table: u8, ip: u32) -> Option<u32>
         requires { table < length self.now }
         ensures value { option_map (λ (t : RouteTable). hop_for t.routes ip) (slice_get self.now table) ≡ Some result }

@@ -1,6 +1,7 @@
 -- `alloc`: a packet of one free number.
-use Rattle.std.proofs.Common.{◌≡◌, ℕ, zero, suc, ◌+◌, ◌<◌, List, [], ◌∷◌, length, Option, Some, None, refl, sym, ◌∙◌, ap, subst, arith, get_or, set}
+use Rattle.std.proofs.Common.{◌≡◌, ℕ, ◌+◌, ◌<◌, List, [], ◌∷◌, length, Option, Some, None, refl, sym, ◌∙◌, ap, subst, arith, set}
 use Rattle.std.specs.Prelude.{slice_get, slice_set, min}
+use Rattle.std.proofs.lemmas.Option.{slice_get-get_or}
 use Rattle.dp_model.specs.Environments.{room_at}
 use Rattle.dp_model.specs.Buffers.{Number, IsNumber}
 use Rattle.dp_model.specs.Packets.{Packet, available, direct, allocated, AreFresh}
@@ -14,11 +15,6 @@ use Rattle.dp_mbuf.proofs.Frames.{number_of, number_small}
 use Rattle.dp_mbuf.proofs.InHand.{nothing_at}
 use Rattle.dp_mbuf.proofs.Taking.{alone, fresh_header, free_from, available_is}
 use Rattle.dp_mbuf.proofs.Live.{settled, seen}
-
-pub get_there : {X : Type 0} (xs : List X) (i : ℕ) (d : X) → i < length xs → slice_get xs i ≡ Some (get_or xs i d)
-get_there [] i d h = absurd (omega arith)
-get_there (x ∷ xs) zero d h = refl
-get_there (x ∷ xs) (suc i) d h = get_there xs i d (omega arith)
 
 pub pool_there : (ps : List PoolView) (v : Store) (pool : ℕ) → shown ps ≡ v → pool < length v.pools → pool < length ps
 pool_there ps v pool e h =
@@ -51,7 +47,7 @@ alloc_some ps ps1 ps' v pool n o r e sound h ep t done eo er =
       d.0,
       subst (λ x. Allocates v pool (shown ps') (Some x)) (sym er) (
         omega (arith, in_pool, one),
-        ap (λ s. slice_get s.slots (handle n)) (sym e) ∙ (get_there slots (handle n) None there ∙ ap Some whole.1),
+        ap (λ s. slice_get s.slots (handle n)) (sym e) ∙ (slice_get-get_or slots (handle n) None there ∙ ap Some whole.1),
         n ∷ [],
         v.buffers,
         subst (λ s. AreFresh s.pools (segments_of s) pool 1 (n ∷ [])) e

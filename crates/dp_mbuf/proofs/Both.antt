@@ -17,7 +17,7 @@ use Rattle.dp_mbuf.proofs.PoolLemmas.{Small}
 use Rattle.dp_mbuf.proofs.ObjectLemmas.{object_pool, object_long, slot_is, room_written, room_is}
 use Rattle.dp_mbuf.proofs.ObjectCalls.{are, listed, front_done, room_done}
 use Rattle.dp_mbuf.proofs.HeaderFields.{header_done, header_set}
-use Rattle.dp_mbuf.proofs.Hooking.{written_again}
+use Rattle.dp_mbuf.proofs.SettingFirst.{written_again}
 use Rattle.dp_mbuf.proofs.Frames.{number_small}
 use Rattle.dp_mbuf.proofs.InHand.{object_after}
 use Rattle.dp_mbuf.proofs.Taking.{fresh_header, small_header, taken_object}
@@ -71,7 +71,7 @@ module _ (pools : List (Option PoolView)) (ps : List PoolView) (e : present pool
 pub record Alone (ps : List PoolView) (n : Number) (bytes : List ℕ) (ps' : List PoolView) : Type 0 where
   pub before : List PoolView
   pub filled : FilledBy ps n bytes before
-  pub hooked : HeaderSet before n (record (header_at before n) { segs = 1; last = n }) ps'
+  pub first_set : HeaderSet before n (record (header_at before n) { segs = 1; last = n }) ps'
 
 alone_is : (ps ps1 ps' : List PoolView) (n : Number) (bytes : List ℕ) → Taken ps n ps1 → Small bytes → 128 + length bytes ≤ room_at (specs_of ps1) n.pool →
     BothWritten ps1 n (fresh_header n 1 128 (length bytes)) 128 bytes ps' → Alone ps n bytes ps'
@@ -97,7 +97,7 @@ alone_is ps ps1 ps' n bytes t small fits b =
     record {
       before = end;
       filled = record { first = ps1; second = mid; taken = t; header = first; bytes_in = second };
-      hooked = record {
+      first_set = record {
         are = b.bytes_in.are;
         specs = b.bytes_in.specs ∙ (b.header.specs ∙ (sym first.specs ∙ sym second.specs));
         zones = b.bytes_in.zones ∙ (b.header.zones ∙ (sym first.zones ∙ sym second.zones));
@@ -141,4 +141,4 @@ module _ (ps : List PoolView) (v : Store) (pool : ℕ) (bytes : List ℕ) (e : s
       let c = receiving_start v pool full bytes k.room k.some ps a.before n (drop full bytes) k.whole k.there ep k.specs k.buffers k.in_pool filled refl in
       let ins = subst (λ j. count_in ps1 j + 1 ≡ count_in ps j) ep t.ins in
       let there = k.in_pool in
-      receive_done v pool full bytes ps a.before n n (drop full bytes) 1 1 c k one (omega (arith, need)) refl ps' r (omega (arith, ins, there)) er a.hooked
+      receive_done v pool full bytes ps a.before n n (drop full bytes) 1 1 c k one (omega (arith, need)) refl ps' r (omega (arith, ins, there)) er a.first_set

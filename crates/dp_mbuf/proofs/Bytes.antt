@@ -1,15 +1,15 @@
 -- Reading and writing bytes of a live packet.
-use Rattle.std.proofs.Common.{◌≡◌, ℕ, zero, suc, ◌+◌, ◌-◌, ◌≤◌, List, [], ◌∷◌, ◌++◌, length, take, drop, Some, None, sym, ◌∙◌, ap, subst, arith, get_or}
+use Rattle.std.proofs.Common.{◌≡◌, ℕ, ◌+◌, ◌-◌, ◌≤◌, List, [], ◌∷◌, ◌++◌, length, take, drop, Some, None, sym, ◌∙◌, ap, subst, arith, get_or}
 use Rattle.std.proofs.Common.{set}
-use Rattle.std.specs.Prelude.{slice_get, slice_set, slice_range, replicate}
-use Rattle.std.proofs.lemmas.Option.{same_Some}
+use Rattle.std.specs.Prelude.{slice_set, slice_range, replicate}
 use Rattle.std.proofs.lemmas.List.{length-drop, take_all}
 use Rattle.dp_model.specs.Arithmetic.{big_endian, spelled}
 use Rattle.dp_model.specs.Environments.{room_at}
 use Rattle.dp_model.specs.Buffers.{IsNumber, bytes_of, written}
-use Rattle.dp_model.specs.Packets.{Segment, Packet, headroom, tailroom, first_len, room_behind, at_front, at_end, more_before, more_behind, zeroed_before}
-use Rattle.dp_model.specs.Packets.{zeroed_behind, stored, loaded}
+use Rattle.dp_model.specs.Packets.{Segment, Packet, headroom, tailroom, first_len, room_after, at_front, at_end, more_before, more_after, zeroed_before}
+use Rattle.dp_model.specs.Packets.{zeroed_after, stored, loaded}
 use Rattle.dp_model.specs.Stores.{Store, Has, HasSome, IsLive, Of, Becomes}
+use Rattle.dp_model.specs.Laws.Lists.{set_itself}
 use Rattle.dp_mbuf.specs.declared.header.Header.{Header}
 use Rattle.dp_pool.specs.Pools.{PoolView}
 use Rattle.dp_mbuf.specs.Objects.{header_at, specs_of, buffers_of, HasObject, HeaderSet, RoomWritten}
@@ -17,11 +17,6 @@ use Rattle.dp_mbuf.specs.Mbufs.{numbered, segment_at, slots_of, shown, Sound}
 use Rattle.dp_mbuf.proofs.Edits.{bytes_whole}
 use Rattle.dp_mbuf.proofs.Frames.{object_of}
 use Rattle.dp_mbuf.proofs.Live.{opened, first_of, last_at, settled, seen, moved, front_edited, end_edited, at_end_is, zeroed_is, tailroom_is}
-
-pub set_same : {X : Type 0} (xs : List X) (i : ℕ) (x : X) → slice_get xs i ≡ Some x → set xs i x ≡ xs
-set_same [] i x e = cc
-set_same (y ∷ xs) zero x e = ap (λ z. z ∷ xs) (sym (same_Some y x e))
-set_same (y ∷ xs) (suc i) x e = ap (λ r. y ∷ r) (set_same xs i x e)
 
 pub rest_long : (xs : List ℕ) (p w : ℕ) → p + w ≤ length xs → w ≤ length (take (length xs - p) (drop p xs))
 rest_long xs p w h =
@@ -107,7 +102,7 @@ module _ (ps : List PoolView) (v : Store) (h : ℕ) (e : shown ps ≡ v) (sound 
             ∙ (ap (λ y. written (buffers_of ps) f.seg.buffer (f.seg.offset + mbuf) y) eb
             ∙ (ap (λ s. written s.buffers f.seg.buffer (f.seg.offset + mbuf) (big_endian w n)) e
             ∙ ap (λ j. stored mbuf w n j v.buffers) (sym f.is))))))
-            (d.1 ∙ (ap (λ s. s.slots) e ∙ sym (set_same v.slots h (Some k) has))),
+            (d.1 ∙ (ap (λ s. s.slots) e ∙ sym (set_itself v.slots h (Some k) has))),
       )
 
   -- ---- bytes at the front
@@ -189,12 +184,12 @@ module _ (ps : List PoolView) (v : Store) (h : ℕ) (e : shown ps ≡ v) (sound 
         number = l.lies.number;
       }
 
-  pub behind_last : (x : Header) (n : ℕ) → x ≡ header_at ps (header_at ps (numbered h)).last → (r : HasSome v h (λ k. n ≤ tailroom v.pools k)) →
+  pub after_last : (x : Header) (n : ℕ) → x ≡ header_at ps (header_at ps (numbered h)).last → (r : HasSome v h (λ k. n ≤ tailroom v.pools k)) →
       (x.offset + x.len + n ≤ room_at (specs_of ps) x.buffer.pool) × HasObject ps x.buffer × (room_at (specs_of ps) x.buffer.pool ≤ 4096)
-  behind_last x n ex r =
+  after_last x n ex r =
       let l = last_part x r.0 ex r.1 in
       let fit = r.2 in
-      let t : tailroom v.pools r.0 ≡ room_behind (specs_of ps) l.seg =
+      let t : tailroom v.pools r.0 ≡ room_after (specs_of ps) l.seg =
       ap (λ s. tailroom s.pools r.0) (sym e) ∙ (ap (tailroom (specs_of ps)) l.is ∙ tailroom_is l.seg (specs_of ps) l.before) in
       let b = ap (λ y. room_at (specs_of ps) y.pool) l.buffer in
       let o = l.offset in
@@ -205,28 +200,28 @@ module _ (ps : List PoolView) (v : Store) (h : ℕ) (e : shown ps ≡ v) (sound 
   pub appended_done : (ps1 ps' : List PoolView) (x : Header) (n at : ℕ) → x ≡ header_at ps (header_at ps (numbered h)).last → IsLive v h →
       x.offset + x.len + n ≤ room_at (specs_of ps) x.buffer.pool → at ≡ x.offset + x.len →
       HeaderSet ps (header_at ps (numbered h)).last (moved (header_at ps (header_at ps (numbered h)).last) x.offset (x.len + n)) ps1 →
-      RoomWritten ps1 x.buffer at (replicate n 0) ps' → Sound ps' × Becomes v (shown ps') h (at_end (more_behind n)) (zeroed_behind n)
+      RoomWritten ps1 x.buffer at (replicate n 0) ps' → Sound ps' × Becomes v (shown ps') h (at_end (more_after n)) (zeroed_after n)
   appended_done ps1 ps' x n at ex live fit ea done room =
-      let all : (k : Packet) → Has v h k → Sound ps' × (slots_of ps' ≡ set (slots_of ps) h (Some (at_end (more_behind n) k))) =
+      let all : (k : Packet) → Has v h k → Sound ps' × (slots_of ps' ≡ set (slots_of ps) h (Some (at_end (more_after n) k))) =
       λ k has. let l = last_part x k ex has in
       let of = l.offset in
       let len = l.len in
       let b = ap (λ y. room_at (specs_of ps) y.pool) l.buffer in
       let set' : HeaderSet ps l.seg.mbuf (moved (header_at ps l.seg.mbuf) x.offset (x.len + n)) ps1 =
       subst (λ m. HeaderSet ps m (moved (header_at ps m) x.offset (x.len + n)) ps1) l.mbuf done in
-      let r = end_edited ps ps1 h l.before l.seg (more_behind n) x.offset (x.len + n) sound l.slot l.header set'
+      let r = end_edited ps ps1 h l.before l.seg (more_after n) x.offset (x.len + n) sound l.slot l.header set'
       (ap (λ y. record l.seg { offset = y; len = l.seg.len + n }) (sym of) ∙ ap (λ y. record l.seg { offset = x.offset; len = y + n }) (sym len))
       (record { fits = omega (arith, fit, of, len, b); number = l.number }) in
       let d = settled ps' (slots_of ps1) (bytes_whole ps1 ps' [] (slots_of ps1) x.buffer at (replicate n 0) r.0 room) in
-      (d.0, d.1 ∙ (r.1 ∙ ap (λ j. set (slots_of ps) h (Some j)) (sym (ap (at_end (more_behind n)) l.is ∙ at_end_is l.seg (more_behind n) l.before)))) in (
+      (d.0, d.1 ∙ (r.1 ∙ ap (λ j. set (slots_of ps) h (Some j)) (sym (ap (at_end (more_after n)) l.is ∙ at_end_is l.seg (more_after n) l.before)))) in (
         (all live.0 live.1).0,
         λ k has. let l = last_part x k ex has in
-            seen ps ps' v (zeroed_behind n k v.buffers) (slice_set v.slots h (Some (at_end (more_behind n) k))) e (room.specs ∙ done.specs)
+            seen ps ps' v (zeroed_after n k v.buffers) (slice_set v.slots h (Some (at_end (more_after n) k))) e (room.specs ∙ done.specs)
             (room.buffers
             ∙ (ap (λ s. written s x.buffer at (replicate n 0)) done.buffers
             ∙ (ap (λ y. written (buffers_of ps) y at (replicate n 0)) l.buffer
             ∙ (ap (λ y. written (buffers_of ps) l.seg.buffer y (replicate n 0)) (ea ∙ (ap (λ y. y + x.len) l.offset ∙ ap (λ y. l.seg.offset + y) l.len))
             ∙ (ap (λ s. written s.buffers l.seg.buffer (l.seg.offset + l.seg.len) (replicate n 0)) e
-            ∙ sym (ap (λ j. zeroed_behind n j v.buffers) l.is ∙ zeroed_is l.seg n l.before v.buffers))))))
-            ((all k has).1 ∙ ap (λ s. set s.slots h (Some (at_end (more_behind n) k))) e),
+            ∙ sym (ap (λ j. zeroed_after n j v.buffers) l.is ∙ zeroed_is l.seg n l.before v.buffers))))))
+            ((all k has).1 ∙ ap (λ s. set s.slots h (Some (at_end (more_after n) k))) e),
       )

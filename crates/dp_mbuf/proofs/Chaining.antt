@@ -14,7 +14,7 @@ use Rattle.dp_mbuf.proofs.ObjectLemmas.{same_or}
 use Rattle.dp_mbuf.proofs.Counting.{mbufs-append, all_front}
 use Rattle.dp_mbuf.proofs.Links.{alike, last_in, linked_kept, linked_join}
 use Rattle.dp_mbuf.proofs.Frames.{handle_back, object_of}
-use Rattle.dp_mbuf.proofs.Edits.{all_at, unhooked, unhooked_from, relinked, hooked, linkage_same}
+use Rattle.dp_mbuf.proofs.Edits.{all_at, first_cleared, firsts_cleared_from, relinked, first_set, linkage_same}
 use Rattle.dp_mbuf.proofs.Live.{opened, has_same, settled, seen}
 
 pub last_of_links : (h : Number → Header) (n : Number) (k : Packet) → 1 ≤ length k → Linked h n k → 1 ≤ mbufs k (last_mbuf n k)
@@ -51,11 +51,11 @@ joined ps ps' k t slots n m w some lk lt done =
     )
 
 -- two packets whose first headers are cleared, the second packet's first mbuf, and the headers before
-pub record Heads (ps ps1 ps2 : List PoolView) (h t : ℕ) (front behind : Header) : Type 0 where
+pub record Heads (ps ps1 ps2 : List PoolView) (h t : ℕ) (front beyond : Header) : Type 0 where
   pub tail_out : HeaderSet ps (numbered t) (record (header_at ps (numbered t)) { segs = 0 }) ps1
   pub head_out : HeaderSet ps1 (numbered h) (record (header_at ps1 (numbered h)) { segs = 0 }) ps2
   pub head_was : front ≡ header_at ps1 (numbered h)
-  pub tail_was : behind ≡ header_at ps (numbered t)
+  pub tail_was : beyond ≡ header_at ps (numbered t)
 
 module _ (ps : List PoolView) (v : Store) (h t : ℕ) (e : shown ps ≡ v) (sound : Sound ps) (two : h ≢ t)
     (few : HasSome v h (λ k. HasSome v t (λ j. length k + length j ≤ 64))) where
@@ -68,7 +68,7 @@ module _ (ps : List PoolView) (v : Store) (h t : ℕ) (e : shown ps ≡ v) (soun
   pub tail_gone : (ps1 : List PoolView) → HeaderSet ps (numbered t) (record (header_at ps (numbered t)) { segs = 0 }) ps1 →
       Whole ps1 few.2.0 (set (slots_of ps) t None) × Linked (header_at ps1) (numbered t) few.2.0 × Stands ps (numbered t) few.2.0
   tail_gone ps1 done =
-      unhooked ps ps1 (slots_of ps) t j (record (header_at ps (numbered t)) { segs = 0 }) sound (opened ps v t j e sound few.2.1).slot done refl refl
+      first_cleared ps ps1 (slots_of ps) t j (record (header_at ps (numbered t)) { segs = 0 }) sound (opened ps v t j e sound few.2.1).slot done refl refl
       (record { offset = refl; len = refl; next = refl; buffer = refl })
 
   pub head_gone : (ps1 ps2 : List PoolView) → HeaderSet ps (numbered t) (record (header_at ps (numbered t)) { segs = 0 }) ps1 →
@@ -77,7 +77,7 @@ module _ (ps : List PoolView) (v : Store) (h t : ℕ) (e : shown ps ≡ v) (soun
   head_gone ps1 ps2 d1 d2 =
       let a = tail_gone ps1 d1 in
       let x : Header = record (header_at ps1 (numbered h)) { segs = 0 } in
-      let b = unhooked_from ps1 ps2 j (set (slots_of ps) t None) h k x a.0 (get_or-set_other (slots_of ps) t h None None two
+      let b = firsts_cleared_from ps1 ps2 j (set (slots_of ps) t None) h k x a.0 (get_or-set_other (slots_of ps) t h None None two
       ∙ (opened ps v h k e sound few.1).slot) d2 refl refl (record { offset = refl; len = refl; next = refl; buffer = refl }) in (
         b.0,
         b.1,
@@ -86,8 +86,8 @@ module _ (ps : List PoolView) (v : Store) (h t : ℕ) (e : shown ps ≡ v) (soun
         b.2,
       )
 
-  pub last_there : (ps1 ps2 : List PoolView) (front behind : Header) → Heads ps ps1 ps2 h t front behind → HasObject ps2 front.last
-  last_there ps1 ps2 front behind g =
+  pub last_there : (ps1 ps2 : List PoolView) (front beyond : Header) → Heads ps ps1 ps2 h t front beyond → HasObject ps2 front.last
+  last_there ps1 ps2 front beyond g =
       let b = head_gone ps1 ps2 g.tail_out g.head_out in
       let slots2 : List (Option Packet) = set (set (slots_of ps) t None) h None in
       let n : Number = last_mbuf (numbered h) k in
@@ -96,21 +96,21 @@ module _ (ps : List PoolView) (v : Store) (h t : ℕ) (e : shown ps ≡ v) (soun
       (object_of ps2 n (all_at (IsNumber (specs_of ps2)) (k ++ j) n (all_front (λ s. IsNumber (specs_of ps2) s.mbuf) (k
       ++ j) (segments_held slots2) b.0.counted.numbers) (omega (arith, in_k, mbufs-append k j n))))
 
-  pub segs_fit : (ps1 ps2 : List PoolView) (front behind : Header) → Heads ps ps1 ps2 h t front behind → front.segs + behind.segs ≤ 64
-  segs_fit ps1 ps2 front behind g =
+  pub segs_fit : (ps1 ps2 : List PoolView) (front beyond : Header) → Heads ps ps1 ps2 h t front beyond → front.segs + beyond.segs ≤ 64
+  segs_fit ps1 ps2 front beyond g =
       let a = (tail_gone ps1 g.tail_out).2.segs in
       let b = (head_gone ps1 ps2 g.tail_out g.head_out).3.segs in
       omega (arith, a, b, few.2.2, ap (λ x. x.segs) g.head_was, ap (λ x. x.segs) g.tail_was)
 
-  pub chained : (ps1 ps2 ps3 ps4 : List PoolView) (front behind : Header) → Heads ps ps1 ps2 h t front behind →
+  pub chained : (ps1 ps2 ps3 ps4 : List PoolView) (front beyond : Header) → Heads ps ps1 ps2 h t front beyond →
       HeaderSet ps2 front.last (record (header_at ps2 front.last) { next = numbered t }) ps3 →
-      HeaderSet ps3 (numbered h) (record (header_at ps3 (numbered h)) { segs = front.segs + behind.segs; last = behind.last }) ps4 →
+      HeaderSet ps3 (numbered h) (record (header_at ps3 (numbered h)) { segs = front.segs + beyond.segs; last = beyond.last }) ps4 →
       Sound ps4 × Chains v h t (shown ps4)
-  chained ps1 ps2 ps3 ps4 front behind g d3 d4 =
+  chained ps1 ps2 ps3 ps4 front beyond g d3 d4 =
       let d1 = g.tail_out in
       let d2 = g.head_out in
-      let segs : ℕ = front.segs + behind.segs in
-      let last : Number = behind.last in
+      let segs : ℕ = front.segs + beyond.segs in
+      let last : Number = beyond.last in
       let es : segs ≡ (header_at ps1 (numbered h)).segs + (header_at ps (numbered t)).segs =
       omega (arith, ap (λ x. x.segs) g.head_was, ap (λ x. x.segs) g.tail_was) in
       let a = tail_gone ps1 d1 in
@@ -125,7 +125,7 @@ module _ (ps : List PoolView) (v : Store) (h t : ℕ) (e : shown ps ≡ v) (soun
       let n1 = sk.segs in
       let n2 = sj.segs in
       let some = sk.some in
-      let d = hooked ps3 ps4 slots2 (numbered h) (k ++ j) (record (header_at ps3 (numbered h)) { segs = segs; last = last }) c.0 c.1
+      let d = first_set ps3 ps4 slots2 (numbered h) (k ++ j) (record (header_at ps3 (numbered h)) { segs = segs; last = last }) c.0 c.1
       (omega (arith, some, length-append k j)) (omega (arith, few', length-append k j)) d4
       (omega (arith, es, n1, n2, length-append k j))
       (ap (λ x. x.last) g.tail_was ∙ (sj.last ∙ sym (last_join (numbered h) (numbered t) k j (header_at ps1) sj.some a.1)))

@@ -4,27 +4,28 @@ use Rattle.std.proofs.Common.{◌∙◌, ap, subst, arith, inr, ⊎_elim, get_or
 use Rattle.std.specs.Prelude.{count_by, slice_set}
 use Rattle.std.specs.List.{AllByRecursion}
 use Rattle.std.proofs.lemmas.List.{length-append}
+use Rattle.std.proofs.lemmas.Option.{slice_get-get_or, get_or_from_slice_get}
 use Rattle.dp_model.specs.Buffers.{Number, same_number, IsNumber, AreDistinct}
 use Rattle.dp_model.specs.Packets.{Segment, Packet, refs, Lies, cloned, is_free, available, IsFresh}
 use Rattle.dp_model.specs.Machine.{segments_held}
 use Rattle.dp_model.specs.Stores.{Store, Has, segments_of, Gives}
+use Rattle.dp_model.specs.Laws.References.{refs-append}
 use Rattle.dp_mbuf.specs.declared.header.Header.{Header}
 use Rattle.dp_pool.specs.Pools.{PoolView}
 use Rattle.dp_mbuf.specs.Objects.{header_at, is_out, count_in, specs_of, buffers_of, HasObject, HeaderSet}
 use Rattle.dp_mbuf.specs.Steps.{Linkage, Alike, CanClone, Cloned, cloned_header}
 use Rattle.dp_mbuf.specs.Mbufs.{handle, numbered, segment_at, shown, mbufs, Linked, last_mbuf, StandsAt, Whole, Sound}
 use Rattle.dp_mbuf.proofs.ObjectLemmas.{same_or, length_specs}
-use Rattle.dp_mbuf.proofs.Counting.{AllOf, count-append, count-cons, mbufs-append, mbufs-cons, mbufs_first, refs-append, refs-cons, refs_first, refs_le}
+use Rattle.dp_mbuf.proofs.Counting.{AllOf, count-append, count-cons, mbufs-append, mbufs-cons, mbufs_first, refs-cons, refs_first, refs_le}
 use Rattle.dp_mbuf.proofs.Counting.{each_count, all_join, all_front, all_rest, all_slot, slot_among, count_of}
 use Rattle.dp_mbuf.proofs.Links.{alike, first_in, first_mbuf, linked_kept, segment_eq}
 use Rattle.dp_mbuf.proofs.Frames.{object_of, number_of, number_small, positive, counted_same}
-use Rattle.dp_mbuf.proofs.Edits.{all_at, hooked}
+use Rattle.dp_mbuf.proofs.Edits.{all_at, first_set}
 use Rattle.dp_mbuf.proofs.InHand.{grown, nothing_at, zero_at, turned}
 use Rattle.dp_mbuf.proofs.Taking.{free_from}
 use Rattle.dp_mbuf.proofs.Chaining.{joined, last_of_links}
-use Rattle.dp_mbuf.proofs.PoolLemmas.{get_some}
 use Rattle.dp_mbuf.proofs.Live.{opened, settled, store_eq, last_mbuf_is}
-use Rattle.dp_mbuf.proofs.Allocs.{get_there, free_in, pool_there}
+use Rattle.dp_mbuf.proofs.Allocs.{free_in, pool_there}
 
 -- ---- the segments in hand in another order
 
@@ -277,7 +278,7 @@ source_at ps hand v h p from i w has b l =
     let s : Segment = d.0 in
     let rest : Packet = d.1 in
     let links : Linked (header_at ps) from (s ∷ rest) = subst (Linked (header_at ps) from) d.2 l in
-    let slot : get_or v.slots h None ≡ Some p = get_some v.slots h (Some p) None has in
+    let slot : get_or v.slots h None ≡ Some p = get_or_from_slice_get v.slots h (Some p) None has in
     let in_slot : (f : Segment → Bool) → count_by f (s ∷ rest) ≤ count_by f (segments_held v.slots) =
     λ f. let a = slot_among f v.slots h in
     let c = ap (count_of f) slot in
@@ -513,7 +514,7 @@ module _ (start : List PoolView) (v : Store) (h : ℕ) (p : Packet) (pool segs :
         let b = c.below in
         let some = c.some in
         let l : length (cloned c.numbers p) ≡ i = length_cloned c.numbers p (omega (arith, n, b)) ∙ n in
-        let k = hooked ps ps' v.slots first (cloned c.numbers p) (record (header_at ps first) { segs = segs; last = last }) c.whole c.links
+        let k = first_set ps ps' v.slots first (cloned c.numbers p) (record (header_at ps first) { segs = segs; last = last }) c.whole c.links
         (omega (arith, l, some)) (omega (arith, l, b, few)) done (omega (arith, o.segs_are, l, b, all)) c.last_is refl
         (record { offset = refl; len = refl; next = refl; buffer = refl }) in
         let d = settled ps' (set v.slots (handle first) (Some (cloned c.numbers p))) k.0 in
@@ -524,7 +525,7 @@ module _ (start : List PoolView) (v : Store) (h : ℕ) (p : Packet) (pool segs :
           d.0,
           subst (λ x. Gives v pool (length p) (λ ns. cloned ns p) (λ ns old new. new ≡ old) (shown ps') (Some x)) (sym er) (
             o.enough,
-            get_there v.slots (handle first) None there ∙ ap Some k.1,
+            slice_get-get_or v.slots (handle first) None there ∙ ap Some k.1,
             c.numbers,
             v.buffers,
             record {

@@ -111,9 +111,6 @@ indirects-cons s ys m = count-cons (λ s. same_number s.mbuf m && not (same_numb
 pub mbufs-append : (xs ys : List Segment) (m : Number) → mbufs (xs ++ ys) m ≡ mbufs xs m + mbufs ys m
 mbufs-append xs ys m = count-append (λ s. same_number s.mbuf m) xs ys
 
-pub refs-append : (xs ys : List Segment) (m : Number) → refs (xs ++ ys) m ≡ refs xs m + refs ys m
-refs-append xs ys m = count-append (λ s. same_number s.buffer m) xs ys
-
 pub one_at : (n : Number) → one_if (same_number n n) ≡ 1
 one_at n = let one : ℕ = 1 in ap (λ b. cond b one 0) (same_number_refl n)
 

@@ -71,10 +71,10 @@ all_taken P hand slots h k e all =
     (all_join P k hand (subst (AllOf P) e (all_slot P slots h rest)) (all_front P hand (segments_held slots) all))
     (all_set P slots h None tt rest)
 
-pub unhooked_from : (ps ps' : List PoolView) (hand : Packet) (slots : List (Option Packet)) (h : ℕ) (k : Packet) (x : Header) → Whole ps hand slots →
+pub firsts_cleared_from : (ps ps' : List PoolView) (hand : Packet) (slots : List (Option Packet)) (h : ℕ) (k : Packet) (x : Header) → Whole ps hand slots →
     get_or slots h None ≡ Some k → HeaderSet ps (numbered h) x ps' → x.segs ≡ 0 → x.refs ≡ (header_at ps (numbered h)).refs →
     Linkage x (header_at ps (numbered h)) → Whole ps' (k ++ hand) (set slots h None) × Linked (header_at ps') (numbered h) k × Stands ps (numbered h) k
-unhooked_from ps ps' hand slots h k x w e done segs kept link =
+firsts_cleared_from ps ps' hand slots h k x w e done segs kept link =
     let b = slot_there slots h k e in
     let n : Number = numbered h in
     let s : Stands ps n k = subst (StandsAt ps n) e (w.shows.each h) in
@@ -117,11 +117,12 @@ unhooked_from ps ps' hand slots h k x w e done segs kept link =
     and_false true = refl
     and_false false = refl
 
-pub unhooked : (ps ps' : List PoolView) (slots : List (Option Packet)) (h : ℕ) (k : Packet) (x : Header) → Whole ps [] slots → get_or slots h None ≡ Some k →
+pub first_cleared : (ps ps' : List PoolView) (slots : List (Option Packet)) (h : ℕ) (k : Packet) (x : Header) → Whole ps [] slots → get_or slots h None ≡ Some
+    k →
     HeaderSet ps (numbered h) x ps' → x.segs ≡ 0 → x.refs ≡ (header_at ps (numbered h)).refs → Linkage x (header_at ps (numbered h)) →
     Whole ps' k (set slots h None) × Linked (header_at ps') (numbered h) k × Stands ps (numbered h) k
-unhooked ps ps' slots h k x w e done segs kept link =
-    let u = unhooked_from ps ps' [] slots h k x w e done segs kept link in
+first_cleared ps ps' slots h k x w e done segs kept link =
+    let u = firsts_cleared_from ps ps' [] slots h k x w e done segs kept link in
     (subst (λ t. Whole ps' t (set slots h None)) (append-nil k) u.0, u.1, u.2)
 
 -- ---- setting the link of a segment in hand
@@ -151,10 +152,10 @@ relinked ps ps' hand slots m x w in_hand done kept segs =
 
 -- ---- putting the segments in hand into a slot
 
-pub hooked : (ps ps' : List PoolView) (slots : List (Option Packet)) (n : Number) (k : Packet) (x : Header) → Whole ps k slots → Linked (header_at ps) n k →
+pub first_set : (ps ps' : List PoolView) (slots : List (Option Packet)) (n : Number) (k : Packet) (x : Header) → Whole ps k slots → Linked (header_at ps) n k →
     1 ≤ length k → length k ≤ 64 → HeaderSet ps n x ps' → x.segs ≡ length k → x.last ≡ last_mbuf n k → x.refs ≡ (header_at ps n).refs →
     Linkage x (header_at ps n) → Whole ps' [] (set slots (handle n) (Some k)) × (get_or slots (handle n) None ≡ None) × (numbered (handle n) ≡ n)
-hooked ps ps' slots n k x w l some few done segs last kept link =
+first_set ps ps' slots n k x w l some few done segs last kept link =
     let in_k = first_in (header_at ps) n k some l in
     let one = w.counted.once n in
     let both = mbufs-append k (segments_held slots) n in

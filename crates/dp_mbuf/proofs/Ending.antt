@@ -3,13 +3,13 @@ use Rattle.std.proofs.Common.{◌≡◌, ℕ, ◌<◌, List, [], length, Option,
 use Rattle.std.proofs.lemmas.List.{get_or-set_same, set-set}
 use Rattle.dp_model.specs.Buffers.{Number, same_number}
 use Rattle.dp_model.specs.Stores.{Store, IsLive, with_slot}
-use Rattle.dp_model.specs.Laws.Stored.{same_number_refl}
+use Rattle.dp_model.specs.Laws.Stored.{same_number_refl, same_is}
 use Rattle.dp_pool.specs.Pools.{PoolView, with_written, put_back}
 use Rattle.dp_mbuf.specs.Headers.{then_word}
 use Rattle.dp_mbuf.specs.Objects.{present, pool_in, header_at, is_out, zones_of, HasObject, ArePools, ArePoolSlots, HeaderSet, Given, Ended, SlotBecomes}
 use Rattle.dp_mbuf.specs.Steps.{MbufBack, BufferLess, Released}
 use Rattle.dp_mbuf.specs.Mbufs.{numbered, shown, Sound}
-use Rattle.dp_mbuf.proofs.ObjectLemmas.{object_pool, object_long, slot_is, same_is, same_or}
+use Rattle.dp_mbuf.proofs.ObjectLemmas.{object_pool, object_long, slot_is, same_or}
 use Rattle.dp_mbuf.proofs.ObjectCalls.{are, listed, front_done, give_done}
 use Rattle.dp_mbuf.proofs.HeaderFields.{small_word, segs_done}
 use Rattle.dp_mbuf.proofs.Links.{alike}
@@ -37,7 +37,7 @@ module _ (pools : List (Option PoolView)) (ps : List PoolView) (e : present pool
       let g = give_done middle (present middle) refl f.0 n n.pool n.index d o refl refl (first.outs n ∙ out)
       (subst (λ v. SlotBecomes (λ p. put_back p n.index) v o) (sym (get_or-set_same pools n.pool (Some q) d below)) left) in
       subst (λ l. ArePoolSlots l × Ended ps n (present l)) (set-set pools n.pool (Some q) o)
-      (g.0, record { middle = present middle; unhooked = first; given = g.1 })
+      (g.0, record { middle = present middle; first_cleared = first; given = g.1 })
 
   pub end_done : (n : Number) (k i : ℕ) (d o : Option PoolView) → k ≡ n.pool → i ≡ n.index → HasObject ps n → is_out ps n ≡ true
       → SlotBecomes (λ p. put_back (with_written p i 0 (then_word 0 [])) i) (get_or pools k d) o
@@ -94,14 +94,14 @@ pub ended : (ps ps' : List PoolView) (v : Store) (h : ℕ) → shown ps ≡ v �
     Sound ps' × (shown ps' ≡ with_slot h None v)
 ended ps ps' v h e sound live d one refs own =
     let n : Number = numbered h in
-    let f = freeing_start ps d.middle v h e sound live d.unhooked in
-    let its : (header_at d.middle n).buffer ≡ n = ap (λ x. x.buffer) d.unhooked.here ∙ same_is (header_at ps n).buffer n own in
+    let f = freeing_start ps d.middle v h e sound live d.first_cleared in
+    let its : (header_at d.middle n).buffer ≡ n = ap (λ x. x.buffer) d.first_cleared.here ∙ same_is (header_at ps n).buffer n own in
     let r : Released d.middle n n ps' = record {
       middle = d.middle;
-      mbuf = stays d.middle n d.unhooked.are;
-      buffer = last_back d.middle ps' n d.given (ap (λ x. x.refs) d.unhooked.here ∙ refs);
+      mbuf = stays d.middle n d.first_cleared.are;
+      buffer = last_back d.middle ps' n d.given (ap (λ x. x.refs) d.first_cleared.here ∙ refs);
     } in
     freed_only d.middle n n (header_at ps n).segs v h f one its ps' r
 
 pub ended_zones : (ps ps' : List PoolView) (n : Number) → Ended ps n ps' → zones_of ps' ≡ zones_of ps
-ended_zones ps ps' n d = d.given.zones ∙ d.unhooked.zones
+ended_zones ps ps' n d = d.given.zones ∙ d.first_cleared.zones

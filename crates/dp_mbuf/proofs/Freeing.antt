@@ -7,7 +7,7 @@ use Rattle.dp_pool.specs.Pools.{PoolView}
 use Rattle.dp_mbuf.specs.Objects.{header_at, HeaderSet}
 use Rattle.dp_mbuf.specs.Steps.{CanRelease, Released}
 use Rattle.dp_mbuf.specs.Mbufs.{numbered, slots_of, shown, Linked, Whole, Sound, Freeing}
-use Rattle.dp_mbuf.proofs.Edits.{unhooked}
+use Rattle.dp_mbuf.proofs.Edits.{first_cleared}
 use Rattle.dp_mbuf.proofs.Live.{opened, settled, store_eq}
 use Rattle.dp_mbuf.proofs.InHand.{can_release, release_done}
 
@@ -15,7 +15,7 @@ pub freeing_start : (ps ps' : List PoolView) (v : Store) (h : ℕ) → shown ps 
     HeaderSet ps (numbered h) (record (header_at ps (numbered h)) { segs = 0 }) ps' → Freeing ps' (numbered h) 0 (header_at ps (numbered h)).segs v h
 freeing_start ps ps' v h e sound live done =
     let o = opened ps v h live.0 e sound live.1 in
-    let u = unhooked ps ps' (slots_of ps) h live.0 (record (header_at ps (numbered h)) { segs = 0 }) sound o.slot done refl refl
+    let u = first_cleared ps ps' (slots_of ps) h live.0 (record (header_at ps (numbered h)) { segs = 0 }) sound o.slot done refl refl
     (record { offset = refl; len = refl; next = refl; buffer = refl }) in
     record {
       rest = live.0;

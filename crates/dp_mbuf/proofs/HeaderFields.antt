@@ -33,8 +33,8 @@ module _ (old : List ℕ) (at : ℕ) (new : List ℕ) (fits : at + length new �
       get_or-append_right (take at old) (new ++ rest) at i 0 front (omega arith)
       ∙ (ap (λ j. get_or (new ++ rest) j 0) d ∙ get_or_append_left new rest 0 k b)
 
-  byte_behind : (k : ℕ) → at + length new ≤ k → get_or (overwritten old at new) k 0 ≡ get_or old k 0
-  byte_behind k b =
+  byte_after : (k : ℕ) → at + length new ≤ k → get_or (overwritten old at new) k 0 ≡ get_or old k 0
+  byte_after k b =
       let d : at + length new + (k - at - length new) ≡ k = omega arith in
       get_or-append_right (take at old) (new ++ rest) at k 0 front (omega arith)
       ∙ (get_or-append_right new rest (length new) (k - at) 0 refl (omega arith)
@@ -47,14 +47,14 @@ module _ (old : List ℕ) (at : ℕ) (new : List ℕ) (fits : at + length new �
   word_in a k e b =
       omega (arith, byte_in a k e (omega arith), byte_in (a + 1) (k + 1) (omega arith) (omega arith))
 
-  word_behind : (a : ℕ) → at + length new ≤ a → word (overwritten old at new) a ≡ word old a
-  word_behind a b = omega (arith, byte_behind a b, byte_behind (a + 1) (omega arith))
+  word_after : (a : ℕ) → at + length new ≤ a → word (overwritten old at new) a ≡ word old a
+  word_after a b = omega (arith, byte_after a b, byte_after (a + 1) (omega arith))
 
   mbuf_before : (a : ℕ) → a + 4 ≤ at → mbuf_number (overwritten old at new) a ≡ mbuf_number old a
   mbuf_before a b = number_path _ _ (word_before a (omega arith)) (word_before (a + 2) (omega arith))
 
-  mbuf_behind : (a : ℕ) → at + length new ≤ a → mbuf_number (overwritten old at new) a ≡ mbuf_number old a
-  mbuf_behind a b = number_path _ _ (word_behind a b) (word_behind (a + 2) (omega arith))
+  mbuf_after : (a : ℕ) → at + length new ≤ a → mbuf_number (overwritten old at new) a ≡ mbuf_number old a
+  mbuf_after a b = number_path _ _ (word_after a b) (word_after (a + 2) (omega arith))
 
 -- ---- two numbers, one after the other
 
@@ -109,10 +109,10 @@ words_written o at x y fits =
                       ∙ (ap (λ j. get_or b j 0) (sym d)
                       ∙ (sym (get_or-append_right a b 2 (k - at) 0 refl (omega (arith, m)))
                       ∙ sym (byte_in o at both fits_both k (k - at) (omega (arith, g)) (omega (arith, l, g)))))
-                  | inr behind ↦
-                      let f = ltb-false k (at + 4) behind in
-                      byte_behind mid (at + 2) b fits_b k (omega (arith, f))
-                      ∙ (byte_behind o at a fits_a k (omega (arith, f)) ∙ sym (byte_behind o at both fits_both k (omega (arith, f))))
+                  | inr beyond ↦
+                      let f = ltb-false k (at + 4) beyond in
+                      byte_after mid (at + 2) b fits_b k (omega (arith, f))
+                      ∙ (byte_after o at a fits_a k (omega (arith, f)) ∙ sym (byte_after o at both fits_both k (omega (arith, f))))
                 ]
           ]
     ])
@@ -135,9 +135,9 @@ module _ (o : List ℕ) (long : 128 ≤ length o) where
       let new : List ℕ = then_word x [] in
       let fits : 0 + length new ≤ length o = omega arith in
       header_eq _ _ (word_in o 0 new fits 0 0 refl (omega arith) ∙ word_back x)
-      (omega (arith, word_behind o 0 new fits 2 (omega arith), word_behind o 0 new fits 4 (omega arith))) (word_behind o 0 new fits 6 (omega arith))
-      (word_behind o 0 new fits 8 (omega arith)) (mbuf_behind o 0 new fits 10 (omega arith)) (mbuf_behind o 0 new fits 14 (omega arith))
-      (mbuf_behind o 0 new fits 18 (omega arith))
+      (omega (arith, word_after o 0 new fits 2 (omega arith), word_after o 0 new fits 4 (omega arith))) (word_after o 0 new fits 6 (omega arith))
+      (word_after o 0 new fits 8 (omega arith)) (mbuf_after o 0 new fits 10 (omega arith)) (mbuf_after o 0 new fits 14 (omega arith))
+      (mbuf_after o 0 new fits 18 (omega arith))
 
   refs_written : (x : ℕ) → header_of (overwritten o 2 (then_word (x % 65536) (then_word (x / 65536) []))) ≡ record (header_of o) { refs = x }
   unfolding header_of
@@ -150,9 +150,9 @@ module _ (o : List ℕ) (long : 128 ≤ length o) where
         word_in o 2 new fits 4 2 refl (omega arith),
         word_back (x % 65536),
         word_back (x / 65536),
-      )) (word_behind o 2 new fits 6 (omega arith))
-      (word_behind o 2 new fits 8 (omega arith)) (mbuf_behind o 2 new fits 10 (omega arith)) (mbuf_behind o 2 new fits 14 (omega arith))
-      (mbuf_behind o 2 new fits 18 (omega arith))
+      )) (word_after o 2 new fits 6 (omega arith))
+      (word_after o 2 new fits 8 (omega arith)) (mbuf_after o 2 new fits 10 (omega arith)) (mbuf_after o 2 new fits 14 (omega arith))
+      (mbuf_after o 2 new fits 18 (omega arith))
 
   bounds_written : (x y : ℕ) → header_of (overwritten o 6 (then_word x (then_word y []))) ≡ record (header_of o) { offset = x; len = y }
   unfolding header_of
@@ -164,8 +164,8 @@ module _ (o : List ℕ) (long : 128 ≤ length o) where
         word_before o 6 new fits 2 (omega arith),
         word_before o 6 new fits 4 (omega arith),
       )) (word_in o 6 new fits 6 0 refl (omega arith) ∙ word_back x) (word_in o 6 new fits 8 2 refl (omega arith)
-      ∙ word_back y) (mbuf_behind o 6 new fits 10 (omega arith)) (mbuf_behind o 6 new fits 14 (omega arith))
-      (mbuf_behind o 6 new fits 18 (omega arith))
+      ∙ word_back y) (mbuf_after o 6 new fits 10 (omega arith)) (mbuf_after o 6 new fits 14 (omega arith))
+      (mbuf_after o 6 new fits 18 (omega arith))
 
   next_written : (n : Number) → header_of (overwritten o 10 (then_word n.pool (then_word n.index []))) ≡ record (header_of o) { next = n }
   unfolding header_of
@@ -178,7 +178,7 @@ module _ (o : List ℕ) (long : 128 ≤ length o) where
         word_before o 10 new fits 4 (omega arith),
       )) (word_before o 10 new fits 6 (omega arith)) (word_before o 10 new fits 8 (omega arith))
       (number_path _ _ (word_in o 10 new fits 10 0 refl (omega arith)) (word_in o 10 new fits 12 2 refl (omega arith))
-      ∙ mbuf_back n) (mbuf_behind o 10 new fits 14 (omega arith)) (mbuf_behind o 10 new fits 18 (omega arith))
+      ∙ mbuf_back n) (mbuf_after o 10 new fits 14 (omega arith)) (mbuf_after o 10 new fits 18 (omega arith))
 
   last_written : (n : Number) → header_of (overwritten o 14 (then_word n.pool (then_word n.index []))) ≡ record (header_of o) { last = n }
   unfolding header_of
@@ -191,7 +191,7 @@ module _ (o : List ℕ) (long : 128 ≤ length o) where
         word_before o 14 new fits 4 (omega arith),
       )) (word_before o 14 new fits 6 (omega arith)) (word_before o 14 new fits 8 (omega arith))
       (mbuf_before o 14 new fits 10 (omega arith)) (number_path _ _ (word_in o 14 new fits 14 0 refl (omega arith))
-      (word_in o 14 new fits 16 2 refl (omega arith)) ∙ mbuf_back n) (mbuf_behind o 14 new fits 18 (omega arith))
+      (word_in o 14 new fits 16 2 refl (omega arith)) ∙ mbuf_back n) (mbuf_after o 14 new fits 18 (omega arith))
 
 -- ---- the header afterwards
 
@@ -237,9 +237,9 @@ header_set ps n h are object small =
     header_done ps _ n (object_long ps n are object) bytes h refl (front_set ps n 0 bytes are object small (omega arith) (omega (arith, size)))
 
 -- two fields written, one after the other
-pub hooked_twice : (ps middle ps' : List PoolView) (n : Number) (s : ℕ) (l : Number) → HeaderSet ps n (record (header_at ps n) { segs = s }) middle →
+pub first_set_twice : (ps middle ps' : List PoolView) (n : Number) (s : ℕ) (l : Number) → HeaderSet ps n (record (header_at ps n) { segs = s }) middle →
     HeaderSet middle n (record (header_at middle n) { last = l }) ps' → HeaderSet ps n (record (header_at ps n) { segs = s; last = l }) ps'
-hooked_twice ps middle ps' n s l a b =
+first_set_twice ps middle ps' n s l a b =
     let f : Header → Header = λ h. record h { last = l } in
     record {
       are = b.are;

@@ -11,7 +11,7 @@ pub mod Edits
 pub mod Live
 pub mod InHand
 pub mod Freeing
-pub mod Unhooking
+pub mod ClearingFirst
 pub mod Taking
 pub mod Bytes
 pub mod Allocs
@@ -22,7 +22,7 @@ pub mod Reading
 pub mod Filling
 pub mod Receiving
 pub mod Owned
-pub mod Hooking
+pub mod SettingFirst
 pub mod Both
 pub mod Ending
 pub mod Parting

@@ -4,18 +4,17 @@ use Rattle.std.proofs.Common.{⊎_elim, get_or, set}
 use Rattle.std.specs.Prelude.{slice_set, replicate}
 use Rattle.std.specs.List.{AllByRecursion}
 use Rattle.std.proofs.lemmas.Bool.{cases_lt}
-use Rattle.std.proofs.lemmas.Option.{same_Some}
+use Rattle.std.proofs.lemmas.Option.{same_Some, get_or_from_slice_get}
 use Rattle.dp_model.specs.declared.env.PoolSpec.{PoolSpec}
 use Rattle.dp_model.specs.Environments.{room_at}
 use Rattle.dp_model.specs.Buffers.{Number, same_number, IsNumber, Buffers, written}
-use Rattle.dp_model.specs.Packets.{Segment, Packet, Lies, headroom, tailroom, first_len, last_len, room_behind, at_front, at_end, less_before, less_behind}
-use Rattle.dp_model.specs.Packets.{zeroed_behind}
+use Rattle.dp_model.specs.Packets.{Segment, Packet, Lies, headroom, tailroom, first_len, last_len, room_after, at_front, at_end, less_before, less_after}
+use Rattle.dp_model.specs.Packets.{zeroed_after}
 use Rattle.dp_model.specs.Stores.{Store, Has, HasSome, IsLive, Of, Becomes, unwritten}
 use Rattle.dp_mbuf.specs.declared.header.Header.{Header}
 use Rattle.dp_pool.specs.Pools.{PoolView}
 use Rattle.dp_mbuf.specs.Objects.{header_at, specs_of, buffers_of, HasObject, ArePools, HeaderSet}
 use Rattle.dp_mbuf.specs.Mbufs.{MbufsView, numbered, segment_at, slots_of, shown, mbufs, Linked, last_mbuf, Stands, StandsAt, Whole, Sound}
-use Rattle.dp_mbuf.proofs.PoolLemmas.{get_some}
 use Rattle.dp_mbuf.proofs.ObjectLemmas.{object_pool, room_is}
 use Rattle.dp_mbuf.proofs.Counting.{AllOf, all_slot, all_rest, slot_among, count_of}
 use Rattle.dp_mbuf.proofs.Links.{first_in, linked_at}
@@ -76,7 +75,7 @@ rooms_small ps are j = ⊎_elim
 pub opened : (ps : List PoolView) (v : Store) (h : ℕ) (k : Packet) → shown ps ≡ v → Sound ps → Has v h k → Opened ps v h k
 opened ps v h k e sound has =
     let slot : get_or (slots_of ps) h None ≡ Some k =
-    ap (λ s. get_or s.slots h None) e ∙ get_some v.slots h (Some k) None has in
+    ap (λ s. get_or s.slots h None) e ∙ get_or_from_slice_get v.slots h (Some k) None has in
     let stands : Stands ps (numbered h) k = subst (StandsAt ps (numbered h)) slot (sound.shows.each h) in
     let numbers : AllByRecursion (λ s. IsNumber (specs_of ps) s.mbuf) k =
     subst (AllOf (λ s. IsNumber (specs_of ps) s.mbuf)) slot (all_slot (λ s. IsNumber (specs_of ps) s.mbuf) (slots_of ps) h sound.counted.numbers) in
@@ -135,7 +134,7 @@ module _ (s : Segment) where
   last_len_is (a ∷ []) = refl
   last_len_is (a ∷ b ∷ before) = last_len_is (b ∷ before)
 
-  pub tailroom_is : (pools : List PoolSpec) (before : Packet) → tailroom pools (before ++ s ∷ []) ≡ room_behind pools s
+  pub tailroom_is : (pools : List PoolSpec) (before : Packet) → tailroom pools (before ++ s ∷ []) ≡ room_after pools s
   tailroom_is pools [] = refl
   tailroom_is pools (a ∷ []) = refl
   tailroom_is pools (a ∷ b ∷ before) = tailroom_is pools (b ∷ before)
@@ -145,7 +144,7 @@ module _ (s : Segment) where
   at_end_is f (a ∷ []) = refl
   at_end_is f (a ∷ b ∷ before) = ap (λ r. a ∷ r) (at_end_is f (b ∷ before))
 
-  pub zeroed_is : (n : ℕ) (before : Packet) (buffers : Buffers) → zeroed_behind n (before ++ s ∷ []) buffers
+  pub zeroed_is : (n : ℕ) (before : Packet) (buffers : Buffers) → zeroed_after n (before ++ s ∷ []) buffers
       ≡ written buffers s.buffer (s.offset + s.len) (replicate n 0)
   zeroed_is n [] buffers = refl
   zeroed_is n (a ∷ []) buffers = refl
@@ -259,8 +258,8 @@ module _ (ps : List PoolView) (v : Store) (h : ℕ) (e : shown ps ≡ v) (sound 
   tailroom_is_left x room ex er k has =
       let l = last_at ps v h k (opened ps v h k e sound has) in
       let lift : (g : Header → ℕ) → g x ≡ g (header_at ps l.seg.mbuf) = λ g. ap g ex ∙ ap (λ m. g (header_at ps m)) l.mbuf in
-      let at : room_behind (specs_of ps) (segment_at (header_at ps) l.seg.mbuf) ≡ tailroom v.pools k =
-      ap (room_behind (specs_of ps)) l.header
+      let at : room_after (specs_of ps) (segment_at (header_at ps) l.seg.mbuf) ≡ tailroom v.pools k =
+      ap (room_after (specs_of ps)) l.header
       ∙ (sym (ap (tailroom (specs_of ps)) l.is ∙ tailroom_is l.seg (specs_of ps) l.before)
       ∙ ap (λ s. tailroom s.pools k) e) in
       let ro = er ∙ lift (λ y. room_at (specs_of ps) y.buffer.pool) in
@@ -311,9 +310,9 @@ module _ (ps : List PoolView) (v : Store) (h : ℕ) (e : shown ps ≡ v) (sound 
 
   pub trim_done : (ps' : List PoolView) (n : ℕ) → HasSome v h (λ k. n ≤ last_len k) →
       HeaderSet ps (header_at ps (numbered h)).last (record (header_at ps (header_at ps (numbered h)).last)
-      { len = (header_at ps (header_at ps (numbered h)).last).len - n }) ps' → Sound ps' × Becomes v (shown ps') h (at_end (less_behind n)) unwritten
+      { len = (header_at ps (header_at ps (numbered h)).last).len - n }) ps' → Sound ps' × Becomes v (shown ps') h (at_end (less_after n)) unwritten
   trim_done ps' n r done =
-      let all : (k : Packet) → Has v h k → Sound ps' × (slots_of ps' ≡ set (slots_of ps) h (Some (at_end (less_behind n) k))) =
+      let all : (k : Packet) → Has v h k → Sound ps' × (slots_of ps' ≡ set (slots_of ps) h (Some (at_end (less_after n) k))) =
       λ k has. let o = opened ps v h k e sound has in
       let l = last_at ps v h k o in
       let done' : HeaderSet ps l.seg.mbuf (moved (header_at ps l.seg.mbuf) (header_at ps l.seg.mbuf).offset ((header_at ps l.seg.mbuf).len - n)) ps' =
@@ -321,13 +320,13 @@ module _ (ps : List PoolView) (v : Store) (h : ℕ) (e : shown ps ≡ v) (sound 
       let off : (header_at ps l.seg.mbuf).offset ≡ l.seg.offset = ap (λ t. t.offset) l.header in
       let len : (header_at ps l.seg.mbuf).len ≡ l.seg.len = ap (λ t. t.len) l.header in
       let lies = l.lies.fits in
-      let d = end_edited ps ps' h l.before l.seg (less_behind n) (header_at ps l.seg.mbuf).offset ((header_at ps l.seg.mbuf).len - n) sound (o.slot
+      let d = end_edited ps ps' h l.before l.seg (less_after n) (header_at ps l.seg.mbuf).offset ((header_at ps l.seg.mbuf).len - n) sound (o.slot
       ∙ ap Some l.is) l.header done'
       (ap (λ x. record l.seg { offset = x; len = l.seg.len - n }) (sym off)
       ∙ ap (λ x. record l.seg { offset = (header_at ps l.seg.mbuf).offset; len = x - n }) (sym len))
       (record { fits = omega (arith, lies); number = l.lies.number }) in
-      (d.0, d.1 ∙ ap (λ j. set (slots_of ps) h (Some j)) (sym (ap (at_end (less_behind n)) l.is ∙ at_end_is l.seg (less_behind n) l.before))) in (
+      (d.0, d.1 ∙ ap (λ j. set (slots_of ps) h (Some j)) (sym (ap (at_end (less_after n)) l.is ∙ at_end_is l.seg (less_after n) l.before))) in (
         (all r.0 r.1).0,
-        λ k has. seen ps ps' v v.buffers (slice_set v.slots h (Some (at_end (less_behind n) k))) e done.specs (done.buffers ∙ ap (λ s. s.buffers) e)
-            ((all k has).1 ∙ ap (λ s. set s.slots h (Some (at_end (less_behind n) k))) e),
+        λ k has. seen ps ps' v v.buffers (slice_set v.slots h (Some (at_end (less_after n) k))) e done.specs (done.buffers ∙ ap (λ s. s.buffers) e)
+            ((all k has).1 ∙ ap (λ s. set s.slots h (Some (at_end (less_after n) k))) e),
       )

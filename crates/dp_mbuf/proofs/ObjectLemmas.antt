@@ -3,10 +3,10 @@ use Rattle.std.specs.List.{AllByRecursion}
 use Rattle.std.specs.Prelude.{is_some, IsTrue}
 use Rattle.std.proofs.Common.{◌≡◌, ◌≢◌, ◌⊎◌, ℕ, zero, suc, ◌+◌, ◌-◌, ◌*◌, ◌/◌, ◌%◌, ◌<◌, ◌≤◌, Bool, true, false, List, [], ◌∷◌, ◌++◌, length, take, drop}
 use Rattle.std.proofs.Common.{rules, Option, Some, None, refl, sym, ◌∙◌, ap, subst, arith, inl, inr, ⊎_elim, get_or, set, map}
-use Rattle.std.specs.Prelude.{count_by, not, slice_get, ◌&&◌}
-use Rattle.std.proofs.lemmas.Bool.{cases_eq, cases_Bool, eq-eqb, eqb-true, and_from}
+use Rattle.std.specs.Prelude.{count_by, not, slice_get}
+use Rattle.std.proofs.lemmas.Bool.{cases_eq, cases_Bool, eq-eqb, and_from}
 use Rattle.std.proofs.lemmas.List.{length-set, length-take-le, get_or-set_same, get_or-set_other, get_or_append_left, get_or-take, drop-drop, drop-take}
-use Rattle.std.proofs.lemmas.List.{drop-append-le}
+use Rattle.std.proofs.lemmas.List.{drop-append-le, length-map, map-set}
 use Rattle.std.proofs.Math.Seq.{drop-append-add}
 use Rattle.std.proofs.lemmas.Option.{same_Some}
 use Rattle.dp_model.specs.declared.env.PoolSpec.{PoolSpec}
@@ -17,21 +17,10 @@ use Rattle.dp_mbuf.specs.Headers.{header_of, header_bytes, word, mbuf_number}
 use Rattle.dp_pool.specs.Pools.{PoolView, object_in, with_written, got, put_back}
 use Rattle.dp_mbuf.specs.Objects.{present, no_pool, pool_in, header_at, header_with, is_out, count_in, spec_of, specs_of, rooms_of, buffers_of, zones_of}
 use Rattle.dp_mbuf.specs.Objects.{HasObject, HasRooms, PoolsFirst, ArePools, HeaderSet, RoomWritten, Taken, Given}
-use Rattle.dp_mbuf.proofs.PoolLemmas.{one_if, with_out, count_set, some_below, Small, pool_out, pool_written, map_set, length_map}
-use Rattle.dp_model.specs.Laws.Stored.{number_path, same_number_refl}
+use Rattle.dp_mbuf.proofs.PoolLemmas.{one_if, with_out, count_set, some_below, Small, pool_out, pool_written}
+use Rattle.dp_model.specs.Laws.Stored.{number_path, same_number_refl, same_is}
 
 -- ---- numbers
-
-and_left : (a b : Bool) → (a && b) ≡ true → a ≡ true
-and_left true b e = refl
-and_left false b e = cc
-
-and_right : (a b : Bool) → (a && b) ≡ true → b ≡ true
-and_right true b e = e
-and_right false b e = cc
-
-pub same_is : (n m : Number) → same_number n m ≡ true → n ≡ m
-same_is n m e = number_path n m (eqb-true n.pool m.pool (and_left _ _ e)) (eqb-true n.index m.index (and_right _ _ e))
 
 -- two numbers are the same or not
 pub same_or : (n m : Number) → (n ≡ m) ⊎ (same_number n m ≡ false)
@@ -190,7 +179,7 @@ count_is (p ∷ ps) zero = refl
 count_is (p ∷ ps) (suc k) = count_is ps k
 
 pub length_specs : (ps : List PoolView) → length (specs_of ps) ≡ length ps
-length_specs ps = length_map spec_of ps
+length_specs ps = length-map ps spec_of
 
 pub bytes_are : (ps : List PoolView) (n : Number) → bytes_of (buffers_of ps) n ≡ drop 128 (object_in (pool_in ps n.pool) n.index)
 bytes_are ps n =
@@ -320,8 +309,8 @@ room_written ps n at bytes are object small fits =
       specs = specs_written ps n are object (128 + at) bytes small fits;
       zones = zones_written ps n are object (128 + at) bytes small fits;
       buffers =
-          map_set rooms_of ps n.pool (with_written p n.index (128 + at) bytes)
-          ∙ (ap (λ r. set (buffers_of ps) n.pool r) (map_set (drop 128) p.objects n.index (overwritten old (128 + at) bytes))
+          map-set rooms_of ps n.pool (with_written p n.index (128 + at) bytes)
+          ∙ (ap (λ r. set (buffers_of ps) n.pool r) (map-set (drop 128) p.objects n.index (overwritten old (128 + at) bytes))
           ∙ (ap (λ o. set (buffers_of ps) n.pool (set (rooms_of p) n.index o)) (rest_written old at bytes fit)
           ∙ (ap (λ o. set (buffers_of ps) n.pool (set (rooms_of p) n.index (overwritten o at bytes))) (sym (bytes_are ps n))
           ∙ ap (λ r. set (buffers_of ps) n.pool (set r n.index (overwritten (bytes_of (buffers_of ps) n) at bytes)))

@@ -1,12 +1,12 @@
 -- The world of an `Mbufs` is well formed.
-use Rattle.std.proofs.Common.{◌≡◌, ℕ, zero, suc, ◌+◌, ◌<◌, ◌≤◌, Bool, true, false, cond, List, [], ◌∷◌, length, refl, sym, ◌∙◌, ap, subst, arith, ⊎_elim, map}
+use Rattle.std.proofs.Common.{◌≡◌, ℕ, zero, suc, ◌+◌, ◌<◌, ◌≤◌, Bool, true, cond, List, [], ◌∷◌, length, refl, sym, ◌∙◌, ap, subst, arith, ⊎_elim}
 use Rattle.std.specs.Prelude.{◌&&◌, not}
 use Rattle.std.specs.List.{AllByRecursion}
 use Rattle.std.proofs.lemmas.Bool.{cases_eq}
 use Rattle.std.proofs.lemmas.List.Sums.{sum_by-cons}
 use Rattle.dp_model.specs.declared.env.PoolSpec.{PoolSpec}
 use Rattle.dp_model.specs.Environments.{count_at}
-use Rattle.dp_model.specs.Buffers.{Number, same_number, IsNumber, AreDistinct}
+use Rattle.dp_model.specs.Buffers.{Number, same_number, IsNumber}
 use Rattle.dp_model.specs.Packets.{Segment, Packet, refs, AreOwned, IsWithin}
 use Rattle.dp_model.specs.Machine.{segments_held}
 use Rattle.dp_model.specs.Stores.{Store, Has, segments_of}
@@ -19,23 +19,7 @@ use Rattle.dp_mbuf.proofs.Counting.{mbufs-cons, mbufs_first, refs-cons, refs_le,
 use Rattle.dp_mbuf.proofs.Live.{opened}
 use Rattle.dp_mbuf.proofs.Receiving.{buffer_long, are_bytes}
 use Rattle.dp_model.specs.Laws.Stored.{same_number_refl}
-
-apart_from : (n : Number) (ss : List Segment) → mbufs ss n ≡ 0 → AllByRecursion (λ m. same_number n m ≡ false) (map (λ s. s.mbuf) ss)
-apart_from n [] z = tt
-apart_from n (s ∷ ss) z = (
-  ⊎_elim
-      (λ e. absurd (let y = ap (mbufs (s ∷ ss)) e in omega (arith, z, y, mbufs_first s ss)))
-      (λ d. d)
-      (same_or n s.mbuf),
-  apart_from n ss (omega (arith, z, mbufs-cons s ss n)),
-)
-
-distinct : (ss : List Segment) → ((n : Number) → mbufs ss n ≤ 1) → AreDistinct (map (λ s. s.mbuf) ss)
-distinct [] once = tt
-distinct (s ∷ ss) once = (
-  apart_from s.mbuf ss (let o = once s.mbuf in omega (arith, o, mbufs_first s ss)),
-  distinct ss (λ n. let o = once n in omega (arith, o, mbufs-cons s ss n)),
-)
+use Rattle.dp_model.specs.Laws.Counts.{distinct_mbufs}
 
 -- each segment, with its counts among all
 each_of : (P : Segment → Type 0) (all ss : List Segment) → ((s : Segment) → ((n : Number) → one_if (same_number s.buffer n) ≤ refs all n) →
@@ -74,7 +58,7 @@ owned ps v e sound =
     subst (λ s. AreOwned s.pools (segments_of s)) e
     (record {
       mbufs = sound.counted.numbers;
-      once = distinct (segments_held (slots_of ps)) sound.counted.once;
+      once = distinct_mbufs (segments_held (slots_of ps)) sound.counted.once;
       direct = directs (segments_held (slots_of ps)) sound.counted.direct;
     })
 

@@ -1,6 +1,6 @@
 -- Pools stay pools, and how they read after a write.
-use Rattle.std.proofs.Common.{◌≡◌, ℕ, zero, suc, ◌+◌, ◌<◌, ◌≤◌, Bool, cond, List, [], ◌∷◌, ◌++◌, length, take, drop, Some, refl, sym, ◌∙◌, ap, subst, arith}
-use Rattle.std.proofs.Common.{⊎_elim, get_or, set, map}
+use Rattle.std.proofs.Common.{◌≡◌, ℕ, zero, suc, ◌+◌, ◌<◌, ◌≤◌, Bool, cond, List, [], ◌∷◌, ◌++◌, length, take, drop, Some, sym, ◌∙◌, ap, subst, arith}
+use Rattle.std.proofs.Common.{⊎_elim, get_or, set}
 use Rattle.std.specs.Prelude.{count_by, not, slice_get, replicate}
 use Rattle.std.proofs.lemmas.Bool.{cases_eq}
 use Rattle.std.proofs.lemmas.List.{length-set, length-append, length-take-le, length-drop, get_or-set_same, get_or-set_other}
@@ -27,11 +27,6 @@ pub some_below : {X : Type 0} (xs : List X) (i : ℕ) (x : X) → slice_get xs i
 some_below [] i x h = cc
 some_below (y ∷ xs) zero x h = omega arith
 some_below (y ∷ xs) (suc i) x h = let q = some_below xs i x h in omega (arith, q)
-
-pub get_some : {X : Type 0} (xs : List X) (i : ℕ) (x d : X) → slice_get xs i ≡ Some x → get_or xs i d ≡ x
-get_some [] i x d e = cc
-get_some (y ∷ xs) zero x d e = same_Some y x e
-get_some (y ∷ xs) (suc i) x d e = get_some xs i x d e
 
 -- ---- bytes
 
@@ -115,12 +110,3 @@ pool_written p i at new h there fits small =
     }
 
 -- ---- lists
-
-pub length_map : {V W : Type 0} (f : V → W) (xs : List V) → length (map f xs) ≡ length xs
-length_map f [] = refl
-length_map f (x ∷ xs) = ap suc (length_map f xs)
-
-pub map_set : {V W : Type 0} (f : V → W) (xs : List V) (i : ℕ) (x : V) → map f (set xs i x) ≡ set (map f xs) i (f x)
-map_set f [] i x = refl
-map_set f (y ∷ xs) zero x = refl
-map_set f (y ∷ xs) (suc i) x = ap (λ r. f y ∷ r) (map_set f xs i x)

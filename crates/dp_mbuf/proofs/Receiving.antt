@@ -1,32 +1,34 @@
 -- Receiving a record, segment by segment.
 use Rattle.std.proofs.Math.Nat.{div-lt_iff_lt-mul}
-use Rattle.std.proofs.Common.{◌≡◌, ℕ, zero, suc, ◌+◌, ◌-◌, ◌/◌, ◌<◌, ◌≤◌, Bool, true, false, List, [], ◌∷◌, ◌++◌, length, take, drop, Option, Some, None}
+use Rattle.std.proofs.Common.{◌≡◌, ℕ, zero, suc, ◌+◌, ◌-◌, ◌/◌, ◌<◌, ◌≤◌, true, false, List, [], ◌∷◌, ◌++◌, length, take, drop, Option, Some, None}
 use Rattle.std.proofs.Common.{refl, sym, ◌∙◌, ap, subst, arith, ⊎_elim, set}
 use Rattle.std.specs.Prelude.{slice_set, min, max, ◌||◌}
 use Rattle.std.specs.List.{AllByRecursion, list_any}
-use Rattle.std.proofs.lemmas.Bool.{cases_lt}
+use Rattle.std.proofs.lemmas.Bool.{cases_lt, or_parts}
 use Rattle.std.proofs.lemmas.List.{length-append, length-take, length-drop, append_assoc, append-nil, take-append-drop, nil_from_length, get_or_past}
+use Rattle.std.proofs.lemmas.Option.{slice_get-get_or}
 use Rattle.dp_model.specs.Environments.{room_at, count_at}
 use Rattle.dp_model.specs.Buffers.{Number, same_number, IsNumber, AreDistinct, Buffers, AreBytes, bytes_of, written}
 use Rattle.dp_model.specs.Packets.{Segment, Packet, refs, direct, is_free, available, needed, received, packet_bytes, IsFresh}
 use Rattle.dp_model.specs.Machine.{segments_held}
 use Rattle.dp_model.specs.Stores.{Store, segments_of, ReceivesInto}
 use Rattle.dp_model.specs.Laws.Stored.{bytes_other}
+use Rattle.dp_model.specs.Laws.References.{refs-append}
 use Rattle.dp_pool.specs.Pools.{PoolView, object_in}
 use Rattle.dp_mbuf.specs.Objects.{header_at, count_in, pool_in, no_pool, specs_of, buffers_of, HasObject, ArePools, HeaderSet}
 use Rattle.dp_mbuf.specs.Steps.{Linkage, FilledBy, direct_header}
 use Rattle.dp_mbuf.specs.Mbufs.{handle, segment_at, shown, mbufs, Linked, last_mbuf, Whole, Sound}
 use Rattle.dp_mbuf.proofs.PoolLemmas.{Small, small_drop}
 use Rattle.dp_mbuf.proofs.ObjectLemmas.{same_or, bytes_are, room_is, object_pool, length_specs, count_is}
-use Rattle.dp_mbuf.proofs.Counting.{mbufs-append, mbufs-cons, mbufs_first, refs-append, all_join, all_front}
+use Rattle.dp_mbuf.proofs.Counting.{mbufs-append, mbufs-cons, mbufs_first, all_join, all_front}
 use Rattle.dp_mbuf.proofs.Links.{alike, first_in, linked_kept}
 use Rattle.dp_mbuf.proofs.Frames.{object_of, number_of, number_small}
-use Rattle.dp_mbuf.proofs.Edits.{all_at, hooked, bytes_whole}
+use Rattle.dp_mbuf.proofs.Edits.{all_at, first_set, bytes_whole}
 use Rattle.dp_mbuf.proofs.InHand.{nothing_at, turned}
 use Rattle.dp_mbuf.proofs.Taking.{grown_direct, free_from}
 use Rattle.dp_mbuf.proofs.Chaining.{joined, last_of_links}
 use Rattle.dp_mbuf.proofs.Live.{rooms_small, settled, store_eq, last_mbuf_is}
-use Rattle.dp_mbuf.proofs.Allocs.{get_there, free_in}
+use Rattle.dp_mbuf.proofs.Allocs.{free_in}
 use Rattle.dp_mbuf.proofs.Cloning.{reordered, without}
 use Rattle.dp_mbuf.proofs.Filling.{filled, left, left_more, filled_push, length_filled, Enough, needed_enough, left_end, received_is, bytes_stay, bytes_new}
 use Rattle.dp_mbuf.proofs.Filling.{packet_append}
@@ -89,10 +91,6 @@ pub record Receiving (ps : List PoolView) (v : Store) (pool full : ℕ) (bytes :
   pub spells : packet_bytes (buffers_of ps) (filled full numbers (length bytes)) ++ rest ≡ bytes
   pub rest_long : length rest ≡ left full (length bytes) i
   pub others : (b : Number) → list_any (same_number b) numbers ≡ false → bytes_of (buffers_of ps) b ≡ bytes_of v.buffers b
-
-or_parts : (a b : Bool) → (a || b) ≡ false → (a ≡ false) × (b ≡ false)
-or_parts true b e = absurd (cc)
-or_parts false b e = (refl, e)
 
 any_push : (b : Number) (numbers : List Number) (n : Number) → list_any (same_number b) (numbers ++ n ∷ []) ≡ false →
     (list_any (same_number b) numbers ≡ false) × (same_number b n ≡ false)
@@ -361,7 +359,7 @@ module _ (v : Store) (pool full : ℕ) (bytes : List ℕ) (ps0 ps : List PoolVie
       let is : made ≡ k = received_is (room_at v.pools pool) full c.numbers total before.is just in
       let none : rest ≡ [] =
       nil_from_length rest (c.rest_long ∙ (ap (left full total) (sym n) ∙ left_end full (length c.numbers) total just)) in
-      let h = hooked ps ps' v.slots first made (record (header_at ps first) { segs = need; last = last }) c.whole c.links (omega (arith, l, some))
+      let h = first_set ps ps' v.slots first made (record (header_at ps first) { segs = need; last = last }) c.whole c.links (omega (arith, l, some))
       (omega (arith, l, ei, is_need, few)) done (omega (arith, l, ei)) c.last_is refl
       (record { offset = refl; len = refl; next = refl; buffer = refl }) in
       let d = settled ps' (set v.slots (handle first) (Some made)) h.0 in
@@ -372,7 +370,7 @@ module _ (v : Store) (pool full : ℕ) (bytes : List ℕ) (ps0 ps : List PoolVie
         d.0,
         subst (λ x. ReceivesInto v pool bytes (shown ps') (Some x)) (sym er) (
           omega (arith, enough, is_need),
-          get_there v.slots (handle first) None there ∙ ap Some h.1,
+          slice_get-get_or v.slots (handle first) None there ∙ ap Some h.1,
           c.numbers,
           buffers_of ps,
           record {

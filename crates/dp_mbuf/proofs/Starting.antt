@@ -3,23 +3,24 @@ use Rattle.std.proofs.Common.{◌≡◌, ℕ, zero, suc, ◌+◌, ◌*◌, ◌<�
 use Rattle.std.proofs.Common.{arith, ⊎_elim, get_or}
 use Rattle.std.specs.Prelude.{replicate, slice_get, ◌&&◌, not, nat_eq, IsTrue, ◌↔◌, count_by}
 use Rattle.std.specs.List.{AllByRecursion, list_all}
-use Rattle.std.proofs.lemmas.Bool.{cases_lt, cases_Bool, eqb-true, eq-eqb, and_from}
+use Rattle.std.proofs.lemmas.Bool.{cases_lt, cases_Bool, eqb-true, eq-eqb, and_from, and_parts}
 use Rattle.std.proofs.lemmas.List.Sums.{sum_by-cons}
 use Rattle.std.proofs.lemmas.List.{length-replicate, get_or_past}
+use Rattle.std.proofs.lemmas.Option.{slice_get-get_or}
 use Rattle.dp_model.specs.Environments.{count_at}
 use Rattle.dp_model.specs.Buffers.{Number}
 use Rattle.dp_model.specs.Packets.{Packet, refs}
 use Rattle.dp_model.specs.Machine.{segments_held}
 use Rattle.dp_model.specs.Stores.{Store, IsLive}
 use Rattle.dp_pool.specs.Pools.{PoolView}
-use Rattle.dp_mbuf.specs.Objects.{header_at, is_out, specs_of, buffers_of, zones_of, present, pool_in, PoolsFirst, ArePools, Unhooked, AreAllIn, slot_whole}
+use Rattle.dp_mbuf.specs.Objects.{header_at, is_out, specs_of, buffers_of, zones_of, present, pool_in, PoolsFirst, ArePools, FirstsCleared, AreAllIn}
+use Rattle.dp_mbuf.specs.Objects.{slot_whole}
 use Rattle.dp_mbuf.specs.Mbufs.{numbered, is_positive, is_head, mbufs, slots_of, shown, MbufsView, viewed, StandsAt, Counted, Whole, Sound, AreReady, IsNew}
 use Rattle.dp_mbuf.specs.Mbufs.{HasNone, AreBack}
 use Rattle.dp_mbuf.proofs.PoolLemmas.{one_if}
 use Rattle.dp_mbuf.proofs.ObjectLemmas.{length_specs, count_is}
 use Rattle.dp_mbuf.proofs.Frames.{head_of}
 use Rattle.dp_mbuf.proofs.Live.{settled, opened}
-use Rattle.dp_mbuf.proofs.Allocs.{get_there}
 
 none_held : (n : ℕ) → segments_held (replicate n None) ≡ []
 none_held zero = refl
@@ -51,7 +52,7 @@ whole_new ps are all_in heads = record {
     none None n e = ap is_positive (heads n)
     none (Some k) n e = absurd (cc)
 
-pub new_is : (pools : List (Option PoolView)) (ps : List PoolView) → Unhooked (present pools) ps → AreReady pools → Sound ps × IsNew pools (viewed ps)
+pub new_is : (pools : List (Option PoolView)) (ps : List PoolView) → FirstsCleared (present pools) ps → AreReady pools → Sound ps × IsNew pools (viewed ps)
 new_is pools ps u ready =
     let d = settled ps (replicate (65536 * length ps) None) (whole_new ps u.are (λ n. u.outs n ∙ ready.all_in n) u.heads) in (
       d.0,
@@ -93,10 +94,6 @@ back_is ps v pools e sound none same first = record {
 }
 
 -- ---- whether all objects are in
-
-and_parts : (a b : Bool) → (a && b) ≡ true → (a ≡ true) × (b ≡ true)
-and_parts true b e = (refl, e)
-and_parts false b e = absurd (cc)
 
 count_few : (row : List Bool) → count_by not row ≤ length row
 count_few [] = omega arith
@@ -166,7 +163,7 @@ live_from_head ps v h e sound head =
     by None eo s = absurd (cc)
     by (Some k) eo s =
         let there = slot_in (slots_of ps) h k eo in
-        (k, ap (λ s. slice_get s.slots h) (sym e) ∙ (get_there (slots_of ps) h None there ∙ ap Some eo), tt)
+        (k, ap (λ s. slice_get s.slots h) (sym e) ∙ (slice_get-get_or (slots_of ps) h None there ∙ ap Some eo), tt)
       where
         slot_in : (slots : List (Option Packet)) (h : ℕ) (k : Packet) → get_or slots h None ≡ Some k → h < length slots
         slot_in slots h k x = ⊎_elim (λ b. b) (λ past. let n = get_or_past slots h None past in absurd (cc)) (cases_lt h (length slots))

@@ -19,7 +19,7 @@ use Rattle.dp_mbuf.proofs.HeaderFields.{header_set}
 use Rattle.dp_mbuf.proofs.Counting.{mbufs-cons, refs-cons, refs_first}
 use Rattle.dp_mbuf.proofs.Links.{alike}
 use Rattle.dp_mbuf.proofs.Frames.{object_of, number_of, number_small}
-use Rattle.dp_mbuf.proofs.Edits.{hooked}
+use Rattle.dp_mbuf.proofs.Edits.{first_set}
 use Rattle.dp_mbuf.proofs.InHand.{More, grown, nothing_at, zero_at}
 
 -- ---- taking a number and writing its header
@@ -126,7 +126,7 @@ alone ps ps1 ps' slots n o l w t done fits low =
     let first : HeaderSet ps1 n x mid = header_set ps1 n x t.are object sm in
     let whole : Whole mid (direct n o l ∷ []) slots = grown_direct ps ps1 mid [] slots n x o l w t first refl refl fits in
     let at : header_at mid n ≡ x = first.here in
-    hooked mid ps' slots n (direct n o l ∷ []) (fresh_header n 1 o l) whole
+    first_set mid ps' slots n (direct n o l ∷ []) (fresh_header n 1 o l) whole
     (ap (λ h. record { mbuf = n; buffer = h.buffer; offset = h.offset; len = h.len }) at, tt)
     (omega arith) (omega arith) (set_again ps1 mid ps' n x (fresh_header n 1 o l) first done) refl refl (sym (ap (λ h. h.refs) at))
     (record { offset = sym (ap (λ h. h.offset) at); len = sym (ap (λ h. h.len) at); next = sym (ap (λ h. h.next) at); buffer = sym (ap (λ h. h.buffer) at) })

@@ -30,8 +30,8 @@ abbrev pub then_word : ℕ → List ℕ → List ℕ
 then_word x rest = x % 256 ∷ x / 256 ∷ rest
 
 -- an object after the number of segments and the last mbuf are written into its header
-abbrev pub with_hook : List ℕ → ℕ → Number → List ℕ
-with_hook o segs last = overwritten (overwritten o SEGS (then_word segs [])) LAST (then_word last.pool (then_word last.index []))
+abbrev pub with_segs_and_last : List ℕ → ℕ → Number → List ℕ
+with_segs_and_last o segs last = overwritten (overwritten o SEGS (then_word segs [])) LAST (then_word last.pool (then_word last.index []))
 
 -- the bytes of a header
 abbrev pub header_bytes : Header → List ℕ
@@ -40,6 +40,6 @@ header_bytes h =
     (then_word h.offset (then_word h.len (then_word h.next.pool (then_word h.next.index
     (then_word h.last.pool (then_word h.last.index (then_word h.buffer.pool (then_word h.buffer.index []))))))))))
 
--- an object with a header's bytes over its first ones, and then other bytes from an offset on
+-- an object with a header's bytes over its first ones, and then other bytes at an offset
 abbrev pub with_both : List ℕ → List ℕ → ℕ → List ℕ → List ℕ
 with_both object header at bytes = overwritten (overwritten object 0 header) at bytes

@@ -20,7 +20,7 @@ handle n = n.pool * POOL_HANDLES + n.index
 abbrev pub numbered : ℕ → Number
 numbered h = record { pool = h / POOL_HANDLES; index = h % POOL_HANDLES }
 
--- whether there is one at all
+-- whether a number is above 0
 abbrev pub is_positive : ℕ → Bool
 is_positive zero = false
 is_positive (suc n) = true
@@ -29,7 +29,7 @@ is_positive (suc n) = true
 abbrev pub segment_at : (Number → Header) → Number → Segment
 segment_at h n = record { mbuf = n; buffer = (h n).buffer; offset = (h n).offset; len = (h n).len }
 
--- n segments along the links
+-- the n segments along the links
 abbrev pub walk : (Number → Header) → ℕ → Number → Packet
 walk h zero n = []
 walk h (suc k) n = segment_at h n ∷ walk h k (h n).next
@@ -41,7 +41,7 @@ is_head ps n = is_positive (header_at ps n).segs
 abbrev pub packet_at : List PoolView → Number → Option Packet
 packet_at ps n = if is_head ps n then Some (walk (header_at ps) (header_at ps n).segs n) else None
 
--- the packets of n handles from one on
+-- the packets of n consecutive handles, starting at one
 abbrev pub slots_from : List PoolView → ℕ → ℕ → List (Option Packet)
 slots_from ps h zero = []
 slots_from ps h (suc k) = packet_at ps (numbered h) ∷ slots_from ps (suc h) k
@@ -62,7 +62,7 @@ viewed ps = record { store = shown ps; zones = zones_of ps }
 
 -- ---- a packet in its headers
 
--- the segments are linked from n on
+-- the segments are linked, starting at n
 abbrev pub Linked : (Number → Header) → Number → Packet → Type 0
 Linked h n [] = Unit {0}
 Linked h n (s ∷ rest) = (segment_at h n ≡ s) × Linked h (h n).next rest
@@ -90,14 +90,14 @@ pub record Shows (ps : List PoolView) (slots : List (Option Packet)) : Type 0 wh
   pub many : length slots ≡ POOL_HANDLES * length ps
   pub each : (h : ℕ) → StandsAt ps (numbered h) (slice_index_or slots h None)
 
--- the links from n on reach a k-th mbuf, and each mbuf before it is an object
+-- the links from n reach a k-th mbuf, and each mbuf before it is an object
 abbrev pub HasWalk : List PoolView → Number → ℕ → Type 0
 HasWalk ps n k =
     (p : Packet) × Linked (header_at ps) n p × AllByRecursion (λ s. IsNumber (specs_of ps) s.mbuf) p × (k < length p)
 
 -- ---- the counts
 
--- how many segments have this number as their mbuf, and how many of them are indirect
+-- the number of segments that have this number as their mbuf, and how many of these are indirect
 abbrev pub mbufs : List Segment → Number → ℕ
 mbufs ss n = count_by (λ s. same_number s.mbuf n) ss
 
@@ -124,7 +124,7 @@ pub record Whole (ps : List PoolView) (hand : Packet) (slots : List (Option Pack
 abbrev pub Sound : List PoolView → Type 0
 Sound ps = Whole ps [] (slots_of ps)
 
--- how many mbufs the pools have together
+-- the number of mbufs of all pools together
 abbrev pub mbufs_in_all : List PoolSpec → ℕ
 mbufs_in_all pools = sum_by (λ p. p.count) pools
 

@@ -18,7 +18,7 @@ present [] = []
 present (None ∷ pools) = []
 present (Some p ∷ pools) = p ∷ present pools
 
--- stands for a missing pool
+-- a placeholder for a missing pool
 abbrev pub no_pool : PoolView
 no_pool = record {
   size = 0;
@@ -35,7 +35,7 @@ pool_in pools k = slice_index_or pools k no_pool
 abbrev pub header_at : List PoolView → Number → Header
 header_at pools n = header_of (object_in (pool_in pools n.pool) n.index)
 
--- the header after these bytes are written over the object's first ones, from an offset on
+-- the header after these bytes are written over the object's first ones, at an offset
 abbrev pub header_with : List PoolView → Number → ℕ → List ℕ → Header
 header_with pools n at bytes =
     header_of (overwritten (object_in (pool_in pools n.pool) n.index) at bytes)
@@ -120,7 +120,7 @@ pub record HeaderSet (pools : List PoolView) (n : Number) (h : Header) (pools' :
   pub here : header_at pools' n ≡ h
   pub others : (m : Number) → same_number n m ≡ false → header_at pools' m ≡ header_at pools m
 
--- bytes are written into n's data room from an offset on
+-- bytes are written into n's data room at an offset
 pub record RoomWritten (pools : List PoolView) (n : Number) (at : ℕ) (bytes : List ℕ) (pools' : List PoolView) : Type 0 where
   pub are : ArePools pools'
   pub specs : specs_of pools' ≡ specs_of pools
@@ -130,14 +130,14 @@ pub record RoomWritten (pools : List PoolView) (n : Number) (at : ℕ) (bytes : 
   pub ins : (k : ℕ) → count_in pools' k ≡ count_in pools k
   pub headers : (m : Number) → header_at pools' m ≡ header_at pools m
 
--- the header of n becomes h, and bytes are written into its data room from an offset on
+-- the header of n becomes h, and bytes are written into its data room at an offset
 pub record BothWritten (pools : List PoolView) (n : Number) (h : Header) (at : ℕ) (bytes : List ℕ) (pools' : List PoolView) : Type 0 where
   pub middle : List PoolView
   pub header : HeaderSet pools n h middle
   pub bytes_in : RoomWritten middle n at bytes pools'
 
--- no packet begins at any object any more
-pub record Unhooked (pools pools' : List PoolView) : Type 0 where
+-- afterwards no packet begins at any object
+pub record FirstsCleared (pools pools' : List PoolView) : Type 0 where
   pub are : ArePools pools'
   pub specs : specs_of pools' ≡ specs_of pools
   pub zones : zones_of pools' ≡ zones_of pools
@@ -171,7 +171,7 @@ pub record Given (pools : List PoolView) (n : Number) (pools' : List PoolView) :
 -- n's number of segments is cleared, and n is put back
 pub record Ended (pools : List PoolView) (n : Number) (pools' : List PoolView) : Type 0 where
   pub middle : List PoolView
-  pub unhooked : HeaderSet pools n (record (header_at pools n) { segs = 0 }) middle
+  pub first_cleared : HeaderSet pools n (record (header_at pools n) { segs = 0 }) middle
   pub given : Given middle n pools'
 
 -- ---- one slot for a pool
@@ -181,7 +181,7 @@ abbrev pub SlotHas : Option PoolView → Type 0
 SlotHas None = ⊥
 SlotHas (Some p) = HasRooms p
 
--- and these bytes lie in the object
+-- the slot has a pool of mbufs with this object, into which n bytes fit
 abbrev pub SlotFits : Option PoolView → ℕ → ℕ → Type 0
 SlotFits None i n = ⊥
 SlotFits (Some p) i n = HasRooms p × (i < length p.objects) × (n ≤ p.size)
@@ -196,12 +196,12 @@ abbrev pub slot_whole : Option PoolView → Bool
 slot_whole None = true
 slot_whole (Some p) = in_count p.out == length p.objects
 
--- and the object is out
+-- the slot has a pool, and this object of it is out
 abbrev pub SlotIsOut : Option PoolView → ℕ → Type 0
 SlotIsOut None i = ⊥
 SlotIsOut (Some p) i = slice_get p.out i ≡ Some true
 
--- what the slot's pool becomes
+-- the slot's pool p becomes f p
 abbrev pub SlotBecomes : (PoolView → PoolView) → Option PoolView → Option PoolView → Type 0
 SlotBecomes f None o = ⊥
 SlotBecomes f (Some p) o = o ≡ Some (f p)
@@ -212,8 +212,8 @@ SlotGives None result o = ⊥
 SlotGives (Some p) None o = (in_count p.out ≡ 0) × (o ≡ Some p)
 SlotGives (Some p) (Some i) o = (slice_get p.out i ≡ Some false) × (o ≡ Some (got p i))
 
--- no packet begins any more at the first n objects of a pool, which stays a pool of mbufs
-pub record UnhookedTo (n : ℕ) (p p' : PoolView) : Type 0 where
+-- afterwards no packet begins at the first n objects of a pool, which stays a pool of mbufs
+pub record FirstsClearedTo (n : ℕ) (p p' : PoolView) : Type 0 where
   pub rooms : HasRooms p'
   pub spec : spec_of p' ≡ spec_of p
   pub zones : p'.zones ≡ p.zones
@@ -221,8 +221,8 @@ pub record UnhookedTo (n : ℕ) (p p' : PoolView) : Type 0 where
   pub out : p'.out ≡ p.out
   pub heads : (i : ℕ) → i < n → (header_of (object_in p' i)).segs ≡ 0
 
--- and at no object of the slot's pool
-abbrev pub SlotUnhooked : Option PoolView → Option PoolView → Type 0
-SlotUnhooked None o = o ≡ None
-SlotUnhooked (Some p) None = ⊥
-SlotUnhooked (Some p) (Some p') = UnhookedTo (length p.objects) p p'
+-- afterwards no packet begins at any object of the slot's pool
+abbrev pub SlotFirstsCleared : Option PoolView → Option PoolView → Type 0
+SlotFirstsCleared None o = o ≡ None
+SlotFirstsCleared (Some p) None = ⊥
+SlotFirstsCleared (Some p) (Some p') = FirstsClearedTo (length p.objects) p p'

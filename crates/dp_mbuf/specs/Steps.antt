@@ -13,13 +13,13 @@ pub record Linkage (g h : Header) : Type 0 where
   pub next : g.next ≡ h.next
   pub buffer : g.buffer ≡ h.buffer
 
--- equal but for the references
+-- the two headers are equal, except for the references
 pub record Alike (g h : Header) : Type 0 where
   pub segs : g.segs ≡ h.segs
   pub last : g.last ≡ h.last
   pub link : Linkage g h
 
--- headers stay but for references, and no further object is out
+-- headers do not change, except for references, and no further object is out
 pub record Fewer (ps ps' : List PoolView) : Type 0 where
   pub are : ArePools ps'
   pub specs : specs_of ps' ≡ specs_of ps
@@ -36,7 +36,7 @@ pub record MbufBack (ps : List PoolView) (n b : Number) (ps' : List PoolView) : 
   pub here : same_number n b ≡ false → is_out ps' n ≡ false
   pub own : n ≡ b → is_out ps' n ≡ is_out ps n
 
--- a buffer with one reference is put back; any other has one reference less
+-- a buffer with one reference is put back; any other loses one reference
 pub record BufferLess (ps : List PoolView) (b : Number) (ps' : List PoolView) : Type 0 where
   pub fewer : Fewer ps ps'
   pub refs : (m : Number) → same_number b m ≡ false → (header_at ps' m).refs ≡ (header_at ps m).refs

@@ -1,4 +1,4 @@
-//! Numbers as bytes, the highest first.
+//! Reads and writes big-endian numbers.
 
 ghost use Rattle.std.specs.Prelude.{◌≡◌, ◌≤◌, ◌+◌, length, take};
 ghost use Rattle.dp_model.specs.Arithmetic.{bytes_in, spelled, big_endian};
@@ -7,7 +7,7 @@ ghost use Rattle.dp_model.specs.Buffers.{overwritten};
 use byteorder::{BigEndian, ByteOrder};
 use dp_model::Width;
 
-/// The big-endian number in the first `width` bytes.
+/// Reads the big-endian number in the first `width` bytes.
 pub(crate) fn read_number(bytes: &[u8], width: Width) -> u64
     requires { bytes_in width ≤ length bytes.now }
     ensures { result ≡ spelled (take (bytes_in width) bytes.now) }
@@ -31,8 +31,8 @@ fn bytes_of_number(n: u64) -> [u8; 8]
     bytes
 }
 
-/// Writes the low `width` bytes of a number, the highest first. Each width has a branch of its own, with a constant length, so that the compiler
-/// makes one store of it.
+/// Writes the low `width` bytes of a number, big-endian. Each width has its own branch, with a constant length, so the compiler makes one store
+/// of it.
 #[inline(always)]
 pub(crate) fn write_number(bytes: &mut [u8], at: usize, width: Width, n: u64)
     requires { at + bytes_in width ≤ length bytes.old }

@@ -2,7 +2,7 @@
 
 ghost use Rattle.std.specs.Prelude.{◌≡◌, ◌<◌, ◌≤◌, ◌+◌, ◌/◌, ◌%◌, [], length};
 ghost use Rattle.dp_model.specs.Buffers.{same_number, overwritten};
-ghost use Rattle.dp_mbuf.specs.Headers.{header_of, word, then_word, with_both, with_hook, header_bytes};
+ghost use Rattle.dp_mbuf.specs.Headers.{header_of, word, then_word, with_both, with_segs_and_last, header_bytes};
 
 use crate::limits::{BUFFER, FIELDS_SIZE, HEADER_SIZE, LAST, LEN, NEXT, OFFSET, REFS, SEGS, WORDS};
 use byteorder::{ByteOrder, LittleEndian};
@@ -26,7 +26,7 @@ impl Model for MbufNumber {
 }
 
 impl MbufNumber {
-    /// The number of this index in this pool.
+    /// Makes the number of an mbuf from its pool and its index.
     pub fn new(pool: u16, index: u16) -> MbufNumber
         ensures { result ≡ record { pool = pool; index = index } }
     {
@@ -55,8 +55,8 @@ impl MbufNumber {
     }
 }
 
-/// What an object's header holds. As an mbuf: its part of a buffer, and the next mbuf; as the first of a packet also the number of segments (0 in any
-/// other) and the last mbuf. As a buffer: how many segments refer to it.
+/// The contents of an object's header. As an mbuf: its part of a buffer, and the next mbuf; as the first of a packet also the number of segments (0
+/// in any other) and the last mbuf. As a buffer: how many segments refer to it.
 #[derive(Clone, Copy)]
 pub(crate) struct Header {
     pub segs: u16,
@@ -138,16 +138,16 @@ pub(crate) fn write_words(bytes: &mut [u8], at: usize, x: u16, y: u16)
 
 /// Writes the number of segments and the last mbuf of a packet into its first mbuf's object.
 #[inline(always)]
-pub(crate) fn write_hook(object: &mut [u8], segs: u16, last: MbufNumber)
+pub(crate) fn write_segs_and_last(object: &mut [u8], segs: u16, last: MbufNumber)
     requires { HEADER_SIZE ≤ length object.old }
-    ensures object { object.new ≡ with_hook object.old segs last }
+    ensures object { object.new ≡ with_segs_and_last object.old segs last }
     ensures small { (last.pool < WORDS) × (last.index < WORDS) }
 {
     write_word(object, SEGS, segs);
     write_words(object, LAST, last.pool(), last.index());
 }
 
-// Writes bytes over those from `at` on.
+// Overwrites bytes at offset `at`.
 #[inline(always)]
 fn write_bytes(object: &mut [u8], at: usize, bytes: &[u8])
     requires { at + length bytes.now ≤ length object.old }
@@ -156,7 +156,7 @@ fn write_bytes(object: &mut [u8], at: usize, bytes: &[u8])
     object[at..at + bytes.len()].copy_from_slice(bytes);
 }
 
-/// Writes the bytes of a header into an object, and then bytes from `at` on.
+/// Writes the bytes of a header into an object, and then bytes at offset `at`.
 #[inline(always)]
 pub(crate) fn write_both(object: &mut [u8], header: &[u8], at: usize, bytes: &[u8])
     requires header { length header.now ≤ length object.old }

@@ -26,18 +26,18 @@
 //!
 //! `segs` is the number of segments in a packet's first mbuf, and 0 in every other object: so a header shows whether a packet begins
 //! there. `last` is read in the first mbuf alone, and `next` in all but the last. `refs` counts the segments whose buffer this is; a
-//! segment is sole where that is 1.
+//! segment is sole if that is 1.
 //!
-//! Who owns what: an `Mbufs` owns its pools, and with them all bytes. A `Packet` is a plain number, 65,536 times the pool and the index of
-//! the first mbuf; whoever has it may call while the packet is live. `free` drops one reference of each buffer: an object goes back to its
-//! pool when no live segment has it as its mbuf or as its buffer, so B keeps 0:5 and 0:9 after A is freed.
+//! Who owns what: an `Mbufs` owns its pools, and with them all bytes. A `Packet` is a plain number, 65,536 times the pool plus the index of
+//! the first mbuf; its holder may call while the packet is live. `free` drops one reference of each buffer. An object returns to its pool
+//! when no live segment has it as its mbuf or its buffer, so B keeps 0:5 and 0:9 after A is freed.
 //!
 //! What to call: `alloc` or `receive` makes a packet, `clone_of` a clone, `prepend`, `adj`, `append`, `trim` and `chain` change one, `load` and
 //! `store` read and write its first segment, `free` ends it. `park` gives the number to keep in a ring, and `unpark` turns it back; neither
 //! changes anything.
 //!
-//! What not to do: no call tests what its contract asks for. `store` and `prepend` want the first segment sole, `append` the last; the
-//! program checker proves that for programs, so the calls need no branch. An `Mbufs` cannot be dropped: free every packet, then call
+//! What not to do: no call tests what its contract requires. `store` and `prepend` require a sole first segment, `append` a sole last one;
+//! the program checker makes sure of that, so the calls need no branch. An `Mbufs` cannot be dropped: free every packet, then call
 //! `into_pools`. It takes some 25 kB, since the pools hold their caches in place; do not move it on a hot path.
 //!
 //! `alloc`, `adj`, `trim`, `prepend`, `append`, `load`, `store`, `is_live`, `headroom`, `tailroom`, `first_len`, `last_len`, `segments` and

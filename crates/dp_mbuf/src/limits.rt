@@ -5,31 +5,31 @@ ghost use Rattle.dp_mbuf.specs.Limits.{HasNumbers};
 /// Bytes of an object before its data room: the header (`sizeof(struct rte_mbuf)`).
 pub const HEADER_SIZE: u32 = 128;
 
-/// Bytes left free before the data of a new packet, where the data room is that large (`RTE_PKTMBUF_HEADROOM`).
+/// Bytes left free before the data of a new packet, if the data room is that large (`RTE_PKTMBUF_HEADROOM`).
 pub const HEADROOM: u16 = 128;
 
-/// The most bytes of a data room.
+/// The maximum size of a data room, in bytes.
 pub const MAX_ROOM: u32 = 4096;
 
-/// The most bytes of an object: its header and its data room.
+/// The maximum size of an object in bytes: its header and its data room.
 pub const MAX_OBJECT_SIZE: u32 = HEADER_SIZE + MAX_ROOM;
 
-/// The most pools of an `Mbufs`.
+/// The maximum number of pools of an `Mbufs`.
 pub const MAX_POOLS: usize = 8;
 
-/// The most mbufs in all pools together. So no buffer has more references.
+/// The maximum number of mbufs in all pools together. So no buffer has more references.
 pub const MAX_MBUFS: u32 = 65_535;
 
-/// The most segments of a packet (`nb_segs`).
+/// The maximum number of segments of a packet (`nb_segs`).
 pub const MAX_SEGMENTS: u16 = 64;
 
-/// The most bytes of a packet (`pkt_len`): a full data room in each segment.
+/// The maximum size of a packet in bytes (`pkt_len`): a full data room in each segment.
 pub const MAX_LENGTH: u32 = MAX_SEGMENTS as u32 * MAX_ROOM;
 
 /// The number of handles for each pool: a handle is this times the pool plus the index of the first mbuf.
 pub const POOL_HANDLES: u32 = 65_536;
 
-/// How many numbers two bytes can hold.
+/// The number of values of two bytes.
 pub const WORDS: u32 = 65_536;
 
 /// Offset in a header, in bytes: the number of segments (`nb_segs`).

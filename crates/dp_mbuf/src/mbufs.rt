@@ -1,10 +1,10 @@
-//! The calls on packets.
+//! The calls on packets: make, change, clone and free them.
 
 ghost use Rattle.std.specs.Prelude.{◌≡◌, ◌≢◌, ℕ, ◌+◌, ◌*◌, ◌<◌, ◌≤◌, [], None, length, drop, slice_get, slice_range, IsTrue, ◌↔◌, IfSome, IfNone};
 ghost use Rattle.std.specs.Prelude.{List, Some, true, max, ◌-◌, ◌/◌};
 ghost use Rattle.std.specs.Prelude.{◌^◌};
 ghost use Rattle.dp_model.specs.Packets.{Segment, needed, refs, IsSole, segment_bytes, packet_bytes, headroom, tailroom, first_len, last_len, at_front};
-ghost use Rattle.dp_model.specs.Packets.{at_end, more_before, less_before, more_behind, less_behind, zeroed_before, zeroed_behind, available, loaded, stored};
+ghost use Rattle.dp_model.specs.Packets.{at_end, more_before, less_before, more_after, less_after, zeroed_before, zeroed_after, available, loaded, stored};
 ghost use Rattle.dp_model.specs.Packets.{IsHeadSole, IsTailSole};
 ghost use Rattle.dp_model.specs.Arithmetic.{bytes_in};
 ghost use Rattle.dp_model.specs.Buffers.{Number, same_number, bytes_of};
@@ -22,13 +22,14 @@ use crate::limits::{
 };
 use crate::objects::Objects;
 use crate::steps::{
-    behind, clone_segment, fill_segment, fresh_header, hook, release, release_only, relink, unhook,
+    beyond, clear_first, clone_segment, fill_segment, fresh_header, release, release_only, relink,
+    set_first,
 };
 use dp_model::{Packet, Width};
 use dp_pool::Pool;
 use std::marker::Model;
 
-/// Packets as chains of segments over the buffers of pools. `into_pools` ends it.
+/// The owner of pools, and of the packets in their buffers: chains of segments. `into_pools` ends it.
 pub struct Mbufs {
     objects: Objects,
 }
@@ -82,12 +83,17 @@ fn last_header(objects: &Objects, packet: &Packet) -> Header
     objects.header(first_header(objects, packet).last)
 }
 
-// How many parts of at most `full` bytes `len` bytes make; one where there are none.
+// The number of parts of at most `full` bytes that `len` bytes make; one if there are none.
 fn count_needed(len: usize, full: u16) -> usize
     requires { 1 ≤ full }
     ensures { result ≡ max 1 ((len + (full - 1)) / full) }
 {
-    len.div_ceil(usize::from(full)).max(1)
+    let full = usize::from(full);
+    // It divides only where one part is not enough.
+    if len <= full {
+        return 1;
+    }
+    len.div_ceil(full).max(1)
 }
 
 // The number of a packet's `k`-th mbuf.
@@ -102,7 +108,7 @@ fn mbuf_at(objects: &Objects, first: MbufNumber, k: u32) -> MbufNumber
     mbuf
 }
 
-// Releases `count` segments along the links, from `first` on.
+// Releases `count` segments along the links, starting at `first`.
 #[inline(never)]
 fn release_all(objects: &mut Objects, first: MbufNumber, count: u16)
     requires { (v : Store) × (h : ℕ) × Freeing objects.old first 0 count v h }
@@ -136,8 +142,8 @@ fn bytes_in_segment(objects: &Objects, header: Header) -> &[u8]
 }
 
 impl Mbufs {
-    /// Makes an `Mbufs` over these pools, without packets. The pools, at least one, fill the first slots. All their objects must be in, with at
-    /// least `HEADER_SIZE` bytes each, and there are at most `MAX_MBUFS` of them.
+    /// Makes an `Mbufs` over these pools, without packets. The pools, at least one, fill the first slots. They must have at most `MAX_MBUFS`
+    /// objects together, all in, with at least `HEADER_SIZE` bytes each.
     pub fn over(pools: [Option<Pool>; MAX_POOLS]) -> Mbufs
         requires { AreReady pools }
         ensures { IsNew pools result }
@@ -154,7 +160,7 @@ impl Mbufs {
         self.objects.are_all_in()
     }
 
-    /// Hands the pools back with all objects in. There must be no packet.
+    /// Returns the pools with all objects in. There must be no packet.
     pub fn into_pools(self) -> [Option<Pool>; MAX_POOLS]
         requires { HasNone self.store }
         ensures { AreBack self result }
@@ -163,7 +169,7 @@ impl Mbufs {
         objects.into_pools()
     }
 
-    /// Returns the number under which a packet can be kept, as in a ring. Its segments stay. Use the packet again after `unpark`.
+    /// Returns the number under which a packet can be kept, as in a ring. Its segments do not change. Use the packet again after `unpark`.
     pub fn park(&mut self, packet: Packet) -> u32
         requires { IsLive self.old.store packet }
         ensures number { result ≡ packet }
@@ -236,7 +242,7 @@ impl Mbufs {
         self.objects.room(tail.buffer.pool()) - tail.offset - tail.len
     }
 
-    /// Cuts `n` bytes off the front of the first segment, which has that many.
+    /// Removes `n` bytes from the front of the first segment, which must have that many.
     #[inline(always)]
     pub fn adj(&mut self, packet: &Packet, n: u16)
         requires { HasSome self.old.store packet.now (λ k. n ≤ first_len k) }
@@ -248,11 +254,11 @@ impl Mbufs {
             .set_bounds(first_number(packet), head.offset + n, head.len - n);
     }
 
-    /// Cuts `n` bytes off the end of the last segment, which has that many.
+    /// Removes `n` bytes from the end of the last segment, which must have that many.
     #[inline(always)]
     pub fn trim(&mut self, packet: &Packet, n: u16)
         requires { HasSome self.old.store packet.now (λ k. n ≤ last_len k) }
-        ensures packets { Becomes self.old.store self.new.store packet.now (at_end (less_behind n)) unwritten }
+        ensures packets { Becomes self.old.store self.new.store packet.now (at_end (less_after n)) unwritten }
         ensures zones { self.new.zones ≡ self.old.zones }
     {
         let last = first_header(&self.objects, packet).last;
@@ -268,7 +274,7 @@ impl Mbufs {
         ensures zones { self.new.zones ≡ self.old.zones }
     {
         let first = first_number(&packet);
-        let head = unhook(&mut self.objects, first);
+        let head = clear_first(&mut self.objects, first);
         let segs = head.segs;
         if segs == 1 {
             release_only(&mut self.objects, first, head.buffer, head.refs);
@@ -277,7 +283,7 @@ impl Mbufs {
         }
     }
 
-    /// Frees a packet: drops one reference of each segment's buffer. An object goes back to its pool when no live segment has it as its mbuf or as
+    /// Frees a packet: drops one reference of each segment's buffer. An object returns to its pool when no live segment has it as its mbuf or as
     /// its buffer.
     #[inline(always)]
     pub fn free(&mut self, packet: Packet)
@@ -302,7 +308,7 @@ impl Mbufs {
         self.objects.available(pool as u16)
     }
 
-    // Whether there is a pool of this number.
+    // Whether the pool exists.
     fn has_pool(&self, pool: u32) -> bool
         ensures { IsTrue result ↔ pool < length self.now.store.pools }
     {
@@ -321,7 +327,7 @@ impl Mbufs {
         }
     }
 
-    /// Allocates a packet of one empty segment, after a headroom of `HEADROOM` or of the whole data room if that is smaller. `None` exactly where no
+    /// Allocates a packet of one empty segment, after a headroom of `HEADROOM` or of the whole data room if that is smaller. `None` exactly if no
     /// buffer of the pool is free; then nothing changes.
     #[inline(always)]
     pub fn alloc(&mut self, pool: u32) -> Option<Packet>
@@ -378,7 +384,7 @@ impl Mbufs {
     #[inline(always)]
     pub fn append(&mut self, packet: &Packet, n: u16)
         requires { HasSome self.old.store packet.now (λ k. (n ≤ tailroom self.old.store.pools k) × IsTailSole (segments_of self.old.store) k) }
-        ensures packets { Becomes self.old.store self.new.store packet.now (at_end (more_behind n)) (zeroed_behind n) }
+        ensures packets { Becomes self.old.store self.new.store packet.now (at_end (more_after n)) (zeroed_after n) }
         ensures zones { self.new.zones ≡ self.old.zones }
     {
         let last = first_header(&self.objects, packet).last;
@@ -388,7 +394,7 @@ impl Mbufs {
         self.objects.zero(tail.buffer, end, u32::from(n));
     }
 
-    /// Appends the segments of `tail` to those of `head`, a different packet. Together they have at most `MAX_SEGMENTS`.
+    /// Appends the segments of `tail` to those of `head`, a different packet. Together they may have at most `MAX_SEGMENTS`.
     pub fn chain(&mut self, head: &Packet, tail: Packet)
         requires two { head.now ≢ tail }
         requires few { HasSome self.old.store head.now (λ k. HasSome self.old.store tail (λ t. length k + length t ≤ MAX_SEGMENTS)) }
@@ -396,19 +402,19 @@ impl Mbufs {
         ensures zones { self.new.zones ≡ self.old.zones }
     {
         let second = first_number(&tail);
-        let behind = unhook(&mut self.objects, second);
+        let beyond = clear_first(&mut self.objects, second);
         let first = first_number(head);
-        let front = unhook(&mut self.objects, first);
+        let front = clear_first(&mut self.objects, first);
         relink(&mut self.objects, front.last, second);
-        hook(
+        set_first(
             &mut self.objects,
             first,
-            front.segs + behind.segs,
-            behind.last,
+            front.segs + beyond.segs,
+            beyond.last,
         );
     }
 
-    /// Makes a clone: for each segment one indirect mbuf of the pool, with the same buffer, offset and length. `None` exactly where fewer are free;
+    /// Makes a clone: for each segment one indirect mbuf of the pool, with the same buffer, offset and length. `None` exactly if fewer are free;
     /// then nothing changes.
     pub fn clone_of(&mut self, packet: &Packet, pool: u32) -> Option<Packet>
         requires live { IsLive self.old.store packet.now }
@@ -429,7 +435,7 @@ impl Mbufs {
             last = mbuf;
             from = self.objects.header(from).next;
         }
-        hook(&mut self.objects, first, source.segs, last);
+        set_first(&mut self.objects, first, source.segs, last);
         Some(packet_of(first))
     }
 
@@ -532,18 +538,18 @@ impl Mbufs {
         }
         let first = fill_segment(&mut self.objects, pool as u16, full, bytes);
         let mut last = first;
-        let mut rest = behind(bytes, usize::from(full));
+        let mut rest = beyond(bytes, usize::from(full));
         for i in 1..need {
             let mbuf = fill_segment(&mut self.objects, pool as u16, full, rest);
             relink(&mut self.objects, last, mbuf);
             last = mbuf;
-            rest = behind(rest, usize::from(full));
+            rest = beyond(rest, usize::from(full));
         }
-        hook(&mut self.objects, first, need as u16, last);
+        set_first(&mut self.objects, first, need as u16, last);
         Some(packet_of(first))
     }
 
-    /// Makes a packet with these bytes: each segment at offset `HEADROOM`, all full but the last. `None` exactly where the pool has fewer free
+    /// Makes a packet with these bytes: each segment at offset `HEADROOM`, all full but the last. `None` exactly if the pool has fewer free
     /// buffers than `needed`; then nothing changes. The pool must have more room than `HEADROOM`, and the bytes need at most `MAX_SEGMENTS`
     /// segments.
     #[inline(always)]
@@ -561,6 +567,7 @@ impl Mbufs {
     }
 
     /// How many buffers of the pool a received packet of `len` bytes needs, at least 1. The pool must have more room than `HEADROOM`.
+    #[inline(always)]
     pub fn needed(&self, pool: u32, len: usize) -> usize
         requires { HEADROOM < room_at self.now.store.pools pool }
         ensures { result ≡ needed self.now.store.pools pool len }
@@ -569,8 +576,8 @@ impl Mbufs {
         count_needed(len, full)
     }
 
-    /// A law, what holds of every `Mbufs`: the world of its packets is well formed, segments lie within their buffers, no buffer has more references
-    /// than there are mbufs, at most 65,535, and a packet has 1 to 64 segments.
+    /// A law of every `Mbufs`: the world of its packets is well formed, segments lie within their buffers, no buffer has more references than there
+    /// are mbufs, at most 65,535, and a packet has 1 to 64 segments.
     pub fn is_well_formed(&self)
         ensures world { IsWellFormedStore self.now.store }
         ensures few { (b : Number) → refs (segments_of self.now.store) b ≤ mbufs_in_all self.now.store.pools }

@@ -1,4 +1,4 @@
-//! The objects of all pools, each a header and a data room.
+//! Reads and writes the objects of all pools, each a header and a data room.
 
 ghost use Rattle.std.specs.Prelude.{◌≡◌, ℕ, ◌<◌, ◌≤◌, ◌+◌, [], true, false, length, slice_index, replicate, MatchOption, IfSome};
 ghost use Rattle.std.specs.Prelude.{IsTrue, ◌↔◌, is_some};
@@ -7,15 +7,16 @@ ghost use Rattle.dp_model.specs.Arithmetic.{bytes_in, big_endian};
 ghost use Rattle.dp_model.specs.Buffers.{bytes_of};
 ghost use Rattle.dp_model.specs.Environments.{room_at};
 ghost use Rattle.dp_pool.specs.Pools.{object_in, with_object, with_written, put_back};
-ghost use Rattle.dp_mbuf.specs.Headers.{then_word, with_both, with_hook};
+ghost use Rattle.dp_mbuf.specs.Headers.{then_word, with_both, with_segs_and_last};
 ghost use Rattle.dp_mbuf.specs.Objects.{present, pool_in, header_at, header_with, is_out, count_in, specs_of, buffers_of, HasObject, HasRooms, HeadersFirst};
 ghost use Rattle.dp_mbuf.specs.Objects.{PoolsFirst, objects_in_all, HeaderSet, RoomWritten, Taken, Given, SlotHas, SlotFits, SlotIsOut};
-ghost use Rattle.dp_mbuf.specs.Objects.{SlotBecomes, SlotGives, slot_count, slot_whole, AreAllIn, BothWritten, Ended, Unhooked, UnhookedTo, SlotUnhooked};
+ghost use Rattle.dp_mbuf.specs.Objects.{SlotBecomes, SlotGives, slot_count, slot_whole, AreAllIn, BothWritten, Ended};
+ghost use Rattle.dp_mbuf.specs.Objects.{FirstsCleared, FirstsClearedTo, SlotFirstsCleared};
 
 use crate::big_endian::write_number;
 use crate::header::{
     Header, MbufNumber, bytes_of_header, bytes_of_refs, bytes_of_word, read_header, write_both,
-    write_hook, write_words,
+    write_segs_and_last, write_words,
 };
 use crate::limits::{HEADER_SIZE, MAX_MBUFS, MAX_POOLS, NEXT, OFFSET, REFS, SEGS, WORDS};
 use dp_model::Width;
@@ -78,13 +79,13 @@ fn write_words_in(slot: &mut Option<Pool>, index: u16, at: usize, x: u16, y: u16
 
 // Writes the number of segments and the last mbuf into an object of a slot's pool.
 #[inline(always)]
-fn write_hook_in(slot: &mut Option<Pool>, index: u16, segs: u16, last: MbufNumber)
+fn write_segs_and_last_in(slot: &mut Option<Pool>, index: u16, segs: u16, last: MbufNumber)
     requires { SlotFits slot.old index HEADER_SIZE }
-    ensures becomes { SlotBecomes (λ p. with_object p index (with_hook (object_in p index) segs last)) slot.old slot.new }
+    ensures becomes { SlotBecomes (λ p. with_object p index (with_segs_and_last (object_in p index) segs last)) slot.old slot.new }
     ensures small { (last.pool < WORDS) × (last.index < WORDS) }
 {
     if let Some(pool) = slot {
-        write_hook(pool.object_mut(u32::from(index)), segs, last);
+        write_segs_and_last(pool.object_mut(u32::from(index)), segs, last);
     }
 }
 
@@ -197,9 +198,9 @@ fn get_in(slot: &mut Option<Pool>) -> Option<u16>
 }
 
 // Marks each object of a pool: no packet begins there.
-fn unhook_objects(pool: &mut Pool)
+fn clear_firsts(pool: &mut Pool)
     requires { HEADER_SIZE ≤ pool.old.size }
-    ensures { UnhookedTo (length pool.old.objects) pool.old pool.new }
+    ensures { FirstsClearedTo (length pool.old.objects) pool.old pool.new }
 {
     for index in 0..pool.count() {
         pool.write(index, SEGS as u32, &bytes_of_word(0));
@@ -207,24 +208,24 @@ fn unhook_objects(pool: &mut Pool)
 }
 
 // Marks each object of a slot's pool: no packet begins there.
-fn unhook_slot(slot: &mut Option<Pool>)
+fn clear_firsts_in(slot: &mut Option<Pool>)
     requires { IfSome slot.old (λ p. HEADER_SIZE ≤ p.size) }
-    ensures { SlotUnhooked slot.old slot.new }
+    ensures { SlotFirstsCleared slot.old slot.new }
 {
     if let Some(pool) = slot {
-        unhook_objects(pool);
+        clear_firsts(pool);
     }
 }
 
 impl Objects {
-    /// Takes over these pools. No packet begins at any of their objects any more.
+    /// Takes ownership of these pools, and marks their objects: no packet begins at any of them.
     pub fn over(mut pools: [Option<Pool>; MAX_POOLS]) -> Objects
         requires first { HeadersFirst pools }
         requires objects { objects_in_all (present pools) ≤ MAX_MBUFS }
-        ensures { Unhooked (present pools) result }
+        ensures { FirstsCleared (present pools) result }
     {
         for slot in pools.iter_mut() {
-            unhook_slot(slot);
+            clear_firsts_in(slot);
         }
         Objects { pools }
     }
@@ -245,7 +246,7 @@ impl Objects {
         read_header(pool_at(&self.pools, n.pool()).object(u32::from(n.index())))
     }
 
-    /// The number of objects of a pool; 0 where there is no such pool.
+    /// The number of objects of a pool; 0 if there is no such pool.
     pub fn count(&self, pool: u16) -> u32
         ensures { result ≡ length (pool_in self.now pool).objects }
     {
@@ -374,15 +375,15 @@ impl Objects {
 
     /// Sets the number of segments and the last mbuf.
     #[inline(always)]
-    pub fn set_hook(&mut self, n: MbufNumber, segs: u16, last: MbufNumber)
+    pub fn set_segs_and_last(&mut self, n: MbufNumber, segs: u16, last: MbufNumber)
         requires { HasObject self.old n }
         ensures { HeaderSet self.old n (record (header_at self.old n) { segs = segs; last = last }) self.new }
     {
         let slot = &mut self.pools[usize::from(n.pool())];
-        write_hook_in(slot, n.index(), segs, last);
+        write_segs_and_last_in(slot, n.index(), segs, last);
     }
 
-    /// Writes a header, and bytes into the data room from an offset on.
+    /// Writes a header, and bytes into the data room at an offset.
     #[inline(always)]
     pub fn fill(&mut self, n: MbufNumber, h: Header, at: u32, bytes: &[u8])
         requires object { HasObject self.old n }
@@ -407,7 +408,7 @@ impl Objects {
         write_number_in(slot, n.index(), from, width, number);
     }
 
-    /// Writes zeros into a data room from an offset on.
+    /// Writes zeros into a data room at an offset.
     #[inline(always)]
     pub fn zero(&mut self, n: MbufNumber, at: u32, len: u32)
         requires object { HasObject self.old n }
@@ -419,7 +420,7 @@ impl Objects {
         zero_in(slot, n.index(), from, len as usize);
     }
 
-    /// Takes an object of a pool, or `None` where none is in.
+    /// Takes an object of a pool, or `None` if none is in.
     #[inline(always)]
     pub fn take(&mut self, pool: u16) -> Option<MbufNumber>
         requires { pool < length self.old }
@@ -448,7 +449,7 @@ impl Objects {
         end_in(&mut self.pools[usize::from(n.pool())], n.index());
     }
 
-    /// Hands the pools back.
+    /// Returns the pools.
     pub fn into_pools(self) -> [Option<Pool>; MAX_POOLS]
         ensures same { present result ≡ self }
         ensures first { PoolsFirst result }

@@ -11,7 +11,7 @@ use crate::objects::Objects;
 
 /// Clears the first mbuf's number of segments, so that no packet begins there, and returns the header that it had.
 #[inline(always)]
-pub(crate) fn unhook(objects: &mut Objects, n: MbufNumber) -> Header
+pub(crate) fn clear_first(objects: &mut Objects, n: MbufNumber) -> Header
     requires { HasObject objects.old n }
     ensures was { result ≡ header_at objects.old n }
     ensures now { HeaderSet objects.old n (record (header_at objects.old n) { segs = 0 }) objects.new }
@@ -23,11 +23,11 @@ pub(crate) fn unhook(objects: &mut Objects, n: MbufNumber) -> Header
 
 /// Makes an mbuf a packet's first: sets the number of segments and the last mbuf.
 #[inline(always)]
-pub(crate) fn hook(objects: &mut Objects, n: MbufNumber, segs: u16, last: MbufNumber)
+pub(crate) fn set_first(objects: &mut Objects, n: MbufNumber, segs: u16, last: MbufNumber)
     requires { HasObject objects.old n }
     ensures { HeaderSet objects.old n (record (header_at objects.old n) { segs = segs; last = last }) objects.new }
 {
-    objects.set_hook(n, segs, last);
+    objects.set_segs_and_last(n, segs, last);
 }
 
 /// Sets the next mbuf.
@@ -81,7 +81,7 @@ fn drop_reference(objects: &mut Objects, b: MbufNumber)
     drop_one_of(objects, b, refs);
 }
 
-/// Releases a segment of this buffer. `refs` is its number of references where the buffer is the segment's own.
+/// Releases a segment of this buffer. `refs` is its number of references if the buffer is the segment's own.
 #[inline(always)]
 pub(crate) fn release_only(objects: &mut Objects, n: MbufNumber, buffer: MbufNumber, refs: u32)
     requires can { CanRelease objects.old n buffer }
@@ -139,7 +139,7 @@ pub(crate) fn take_one(objects: &mut Objects, pool: u16) -> MbufNumber
     }
 }
 
-/// Takes an mbuf of a pool and makes its segment the same part of the same buffer as that of `from`, which may be indirect itself.
+/// Takes an mbuf of a pool, and makes its segment the same part of the same buffer as the segment of `from`, which may itself be indirect.
 #[inline(always)]
 pub(crate) fn clone_segment(objects: &mut Objects, from: MbufNumber, pool: u16) -> MbufNumber
     requires { CanClone objects.old from pool }
@@ -165,7 +165,7 @@ pub(crate) fn clone_segment(objects: &mut Objects, from: MbufNumber, pool: u16) 
 
 /// The bytes after the first `n`.
 #[inline(always)]
-pub(crate) fn behind(bytes: &[u8], n: usize) -> &[u8]
+pub(crate) fn beyond(bytes: &[u8], n: usize) -> &[u8]
     ensures { result.now ≡ drop n bytes.now }
 {
     if n < bytes.len() {

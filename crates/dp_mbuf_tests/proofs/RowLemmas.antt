@@ -1,11 +1,11 @@
 -- What the helpers' asserts say about packets.
 use Rattle.std.proofs.Common.{◌≡◌, ℕ, zero, suc, ◌+◌, ◌<◌, ◌≤◌, false, List, [], ◌∷◌, length, Option, Some, None, refl, sym, ◌∙◌, ap, subst, arith, get_or}
-use Rattle.std.specs.Prelude.{replicate, slice_get, slice_set}
-use Rattle.std.proofs.lemmas.Option.{none-some}
+use Rattle.std.specs.Prelude.{slice_get}
 use Rattle.dp_model.specs.Environments.{room_at}
 use Rattle.dp_model.specs.Buffers.{Number, Buffers, ChangesOnly}
-use Rattle.dp_model.specs.Packets.{Segment, Packet, refs, IsTailSole, IsHeadSole, allocated, needed, received, Filled, cloned}
+use Rattle.dp_model.specs.Packets.{Segment, Packet, refs, IsTailSole, allocated, needed, received, Filled, cloned}
 use Rattle.dp_model.specs.Stores.{Store, IsLive, with_slot, Gives, Allocates, ReceivesInto, Clones, Chains}
+use Rattle.dp_model.specs.Laws.Lists.{get_replicate}
 use Rattle.dp_region.specs.Ownership.{Home}
 use Rattle.dp_pool.specs.Pools.{PoolView}
 use Rattle.dp_mbuf.specs.Objects.{pool_in}
@@ -33,16 +33,7 @@ tail_sole live (s ∷ []) (suc last) r e f one = absurd (omega (arith, e))
 tail_sole live (s ∷ t ∷ k) zero r e f one = absurd (omega (arith, e))
 tail_sole live (s ∷ t ∷ k) (suc last) r e f one = tail_sole live (t ∷ k) last r (omega (arith, e)) f one
 
-pub head_sole : (live : List Segment) (k : Packet) (r : ℕ) → ((s : Segment) → slice_get k 0 ≡ Some s → r ≡ refs live s.buffer) → r ≡ 1 → IsHeadSole live k
-head_sole live [] r f one = tt
-head_sole live (s ∷ k) r f one = sym (f s refl) ∙ one
-
 -- ---- three pools
-
-none_out : (n i : ℕ) → get_or (replicate n false) i false ≡ false
-none_out zero i = refl
-none_out (suc n) zero = refl
-none_out (suc n) (suc i) = none_out n i
 
 abbrev pub three_of : PoolView → PoolView → PoolView → List (Option PoolView)
 three_of a b c = Some a ∷ Some b ∷ Some c ∷ None ∷ None ∷ None ∷ None ∷ None ∷ []
@@ -68,9 +59,9 @@ ready_three a b c m n o x y z ha hb hc ra rb rc few = record {
 }
   where
     at : (k i : ℕ) → get_or (pool_in (a ∷ b ∷ c ∷ []) k).out i false ≡ false
-    at zero i = ap (λ o. get_or o i false) ra.all_in ∙ none_out m i
-    at (suc zero) i = ap (λ o. get_or o i false) rb.all_in ∙ none_out n i
-    at (suc (suc zero)) i = ap (λ out. get_or out i false) rc.all_in ∙ none_out o i
+    at zero i = ap (λ o. get_or o i false) ra.all_in ∙ get_replicate m i false
+    at (suc zero) i = ap (λ o. get_or o i false) rb.all_in ∙ get_replicate n i false
+    at (suc (suc zero)) i = ap (λ out. get_or out i false) rc.all_in ∙ get_replicate o i false
     at (suc (suc (suc k))) i = refl
 
 pub new_over : (a b c : PoolView) (v : MbufsView) (m n x y : ℕ) (ha hb : Home) → IsReadyPool m x ha a → IsReadyPool n y hb b → 129 ≤ x → 129 ≤ y →
@@ -110,15 +101,6 @@ pub chain_kept : (s s' : Store) (h t : ℕ) → IsLive s h → IsLive s t → Ch
 chain_kept s s' h t live more c = ap (λ x. x.pools) (c live.0 live.1 more.0 more.1)
 
 -- ---- an allocated packet is live
-
-set_is_there : {X : Type 0} (xs : List X) (h : ℕ) (x o : X) → slice_get xs h ≡ Some o → slice_get (slice_set xs h x) h ≡ Some x
-set_is_there [] h x o is = absurd (none-some o is)
-set_is_there (y ∷ xs) zero x o is = refl
-set_is_there (y ∷ xs) (suc h) x o is = set_is_there xs h x o is
-
-pub alloc_live : (s s' : Store) (pool h : ℕ) → Allocates s pool s' (Some h) → IsLive s' h
-alloc_live s s' pool h g =
-    (allocated s.pools g.2, ap (λ (x : Store). slice_get x.slots h) g.6 ∙ set_is_there s.slots h (Some (allocated s.pools g.2)) None g.1, tt)
 
 pub live_kept : (s s' : Store) (h h' : ℕ) → s' ≡ s → h' ≡ h → IsLive s h → IsLive s' h'
 live_kept s s' h h' same e live = subst (λ t. IsLive t h') (sym same) (subst (IsLive s) (sym e) live)

@@ -22,7 +22,7 @@ pub record StaysOver (old new : MbufsView) : Type 0 where
 abbrev pub AreIn : Home → List PoolZones → Type 0
 AreIn home zones = AllByRecursion (λ z. z.home ≡ home) zones
 
--- so are those of the slot's pool, where it has one
+-- so are those of the slot's pool, if it has one
 abbrev pub SlotIn : Home → Option PoolView → Type 0
 SlotIn home None = Unit {0}
 SlotIn home (Some p) = p.zones.home ≡ home

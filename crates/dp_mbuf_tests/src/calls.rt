@@ -149,9 +149,9 @@ pub(crate) fn chain(rt: &impl Abort, m: &mut Mbufs, head: &Packet, tail: Packet)
     let same = head.number() == tail.number();
     assert!(rt; !same);
     let front = m.segments(head);
-    let behind = m.segments(&tail);
+    let beyond = m.segments(&tail);
     assert!(rt; front <= 64);
-    assert!(rt; behind <= 64 - front);
+    assert!(rt; beyond <= 64 - front);
     m.chain(head, tail);
 }
 

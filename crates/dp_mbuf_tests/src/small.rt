@@ -37,8 +37,8 @@ fn fill(rt: &impl Abort, alloc_of: Global, room: u32, head: u16, tail: u16)
     append(rt, m, &p, tail);
     assert!(rt; rooms(rt, m, &p) == (head, 0, tail, tail), "{room}");
     prepend(rt, m, &p, head);
-    let (front, behind, first, last) = rooms(rt, m, &p);
-    assert!(rt; (front, behind) == (0, 0) && first == last, "{room}");
+    let (front, beyond, first, last) = rooms(rt, m, &p);
+    assert!(rt; (front, beyond) == (0, 0) && first == last, "{room}");
     assert!(rt;
         u32::from(first) == room && segments(rt, m, &p) == 1,
         "{room}"

@@ -29,7 +29,7 @@ struct Walk {
     chains: u32,
 }
 
-// The result of a step: an error where a list of the test could not grow.
+// The result of a step: an error if a list of the test could not grow.
 type Grown = Result<(), AllocError>;
 
 // The pool of a packet's first mbuf.
@@ -57,7 +57,7 @@ fn pick_pool(seed: &mut u64) -> u32
     (next(seed) % 2) as u32
 }
 
-// A random number from 0 to `most`, where that is small.
+// A random number from 0 to `most`, if that is small.
 fn pick_up_to(seed: &mut u64, most: u16) -> u16
     ensures { result ≤ most }
 {
@@ -124,7 +124,7 @@ fn walk_free(rt: &impl Abort, m: &mut Mbufs, walk: &mut Walk)
     }
 }
 
-// Appends zeros, where the last buffer has one reference.
+// Appends zeros, if the last buffer has one reference.
 fn walk_append(rt: &impl Abort, m: &mut Mbufs, shadow: &mut Shadow, seed: &mut u64) -> Grown
     requires { IsOver m.old.store }
     ensures { StaysOver m.old m.new }
@@ -141,7 +141,7 @@ fn walk_append(rt: &impl Abort, m: &mut Mbufs, shadow: &mut Shadow, seed: &mut u
     Ok(())
 }
 
-// Prepends zeros, where the first buffer has one reference.
+// Prepends zeros, if the first buffer has one reference.
 fn walk_prepend(rt: &impl Abort, m: &mut Mbufs, shadow: &mut Shadow, seed: &mut u64) -> Grown
     requires { IsOver m.old.store }
     ensures { StaysOver m.old m.new }
@@ -182,7 +182,7 @@ fn walk_trim(rt: &impl Abort, m: &mut Mbufs, shadow: &mut Shadow, seed: &mut u64
     }
 }
 
-// Reads a byte of the first segment, and writes another where its buffer has one reference.
+// Reads a byte of the first segment, and writes another if its buffer has one reference.
 fn walk_store(rt: &impl Abort, m: &mut Mbufs, shadow: &mut Shadow, seed: &mut u64)
     requires { IsOver m.old.store }
     ensures { StaysOver m.old m.new }

@@ -10,7 +10,8 @@ use Rattle.dp_model.specs.Packets.{Packet}
 use Rattle.dp_model.specs.Jumps.{label_of}
 use Rattle.dp_model.specs.Machine.{Setting, World, State, Next, At, Ended, Move, Acts, Step, with_jump}
 use Rattle.dp_model.specs.Machine.{cut_off, budgeted, with_step}
-use Rattle.dp_model.specs.Runs.{Then, Goes, first_state, NodeRun, most_steps, TookAtMost, Outcome, Got, NoBuffer, Oversize, Arrives, Waiting, first_waiting}
+use Rattle.dp_model.specs.Runs.{Then, StepsTo, first_state, NodeRun, max_steps, ConsumedAtMost, Outcome, Got, NoBuffer, Oversize, Arrives, Waiting}
+use Rattle.dp_model.specs.Runs.{first_waiting}
 use Rattle.dp_model.specs.Runs.{Serves, Nodes, runs_of, Turn}
 use Rattle.dp_model.specs.Safety.{AreShort}
 use Rattle.dp_model.specs.Laws.Effects.{LeadsOn, did_of}
@@ -39,25 +40,25 @@ step_jumps c program label s m within st =
     subst (λ (m : Move). m.state.jumps ≤ 256) (sym st.is) (jumps_within label st.effect (omega (arith, same, within)))
 
 goes_jumps : (c : Setting) (program : List Instr) (n label : ℕ) (s : State) (answers : List Bool) (next : Next) (s' : State) → s.jumps ≤ 256 →
-    Goes c program n label s answers next s' → s'.jumps ≤ 256
+    StepsTo c program n label s answers next s' → s'.jumps ≤ 256
 goes_jumps c program zero label s answers next s' within (_, _, is) = subst (λ (x : State). x.jumps ≤ 256) (sym is) within
 goes_jumps c program (suc n) label s answers next s' within (m, later, st, are_answered, rest) =
     go m.next rest (step_jumps c program label s m within st) (λ l. goes_jumps c program n l m.state later next s')
   where
-    go : (x : Next) → Then x (λ l. Goes c program n l m.state later next s') ((next ≡ Ended) × (n ≡ 0) × (later ≡ []) × (s' ≡ m.state)) →
-        m.state.jumps ≤ 256 → ((l : ℕ) → m.state.jumps ≤ 256 → Goes c program n l m.state later next s' → s'.jumps ≤ 256) → s'.jumps ≤ 256
+    go : (x : Next) → Then x (λ l. StepsTo c program n l m.state later next s') ((next ≡ Ended) × (n ≡ 0) × (later ≡ []) × (s' ≡ m.state)) →
+        m.state.jumps ≤ 256 → ((l : ℕ) → m.state.jumps ≤ 256 → StepsTo c program n l m.state later next s' → s'.jumps ≤ 256) → s'.jumps ≤ 256
     go (At l) rest here on = on l here rest
     go Ended (_, _, _, is) here on = subst (λ (x : State). x.jumps ≤ 256) (sym is) here
 
 pub jumps_taken : (c : Setting) (program : List Instr) (k : Packet) (number n label : ℕ) (w : World) (answers : List Bool) (s : State) →
-    Goes c program n 0 (first_state k number w) answers (At label) s → (s.jumps ≤ 256) × (s.world.steps ≡ w.steps + n) × (s.world.cuts ≡ w.cuts)
+    StepsTo c program n 0 (first_state k number w) answers (At label) s → (s.jumps ≤ 256) × (s.world.steps ≡ w.steps + n) × (s.world.cuts ≡ w.cuts)
 jumps_taken c program k number n label w answers s goes =
     let counts = goes_counts c program n 0 (first_state k number w) answers (At label) s goes in
     (goes_jumps c program n 0 (first_state k number w) answers (At label) s (omega arith) goes, counts.steps, omega (arith, counts.cuts, counts.at_end))
 
 -- ---- node runs and turns
 pub short_run : (c : Setting) (program : List Instr) (n : ℕ) (k : Packet) (number : ℕ) (w : World) (answers : List Bool) (next : Next) (s : State) →
-    Goes c program n 0 (first_state k number w) answers next s → n ≤ most_steps program
+    StepsTo c program n 0 (first_state k number w) answers next s → n ≤ max_steps program
 short_run c program zero k number w answers next s goes = omega arith
 short_run c program (suc n) k number w answers next s (m, later, st, are_answered, rest) =
     omega (
@@ -72,7 +73,7 @@ short_run c program (suc n) k number w answers next s (m, later, st, are_answere
     )
 
 pub node_took : (c : Setting) (program : List Instr) (k : Packet) (number : ℕ) (w w' : World) (answers : List Bool) → NodeRun c program k number w answers w' →
-    TookAtMost w w' (most_steps program) 1
+    ConsumedAtMost w w' (max_steps program) 1
 node_took c program k number w w' answers (n, s, goes, is) =
     let counts = goes_counts c program n 0 (first_state k number w) answers Ended s goes in
     let steps : w'.steps ≡ s.world.steps = ap (λ (w : World). w.steps) is in
@@ -84,11 +85,11 @@ node_took c program k number w w' answers (n, s, goes, is) =
       counts.at_end,
     )
 
-none_took : (w w' : World) (limit : ℕ) → w'.steps ≡ w.steps → w'.cuts ≡ w.cuts → TookAtMost w w' limit 0
+none_took : (w w' : World) (limit : ℕ) → w'.steps ≡ w.steps → w'.cuts ≡ w.cuts → ConsumedAtMost w w' limit 0
 none_took w w' limit steps cuts = (0, 0, record { steps_are = omega (arith, steps); cuts_are = omega (arith, cuts) }, omega arith, omega arith)
 
 -- one after the other
-took_both : (w v w' : World) (a b x y : ℕ) → TookAtMost w v a b → TookAtMost v w' x y → TookAtMost w w' (a + x) (b + y)
+took_both : (w v w' : World) (a b x y : ℕ) → ConsumedAtMost w v a b → ConsumedAtMost v w' x y → ConsumedAtMost w w' (a + x) (b + y)
 took_both w v w' a b x y (steps, cuts, took, le, few) (steps', cuts', took', le', few') = (
   steps + steps',
   cuts + cuts',
@@ -100,12 +101,12 @@ took_both w v w' a b x y (steps, cuts, took, le, few) (steps', cuts', took', le'
   omega (arith, few, few'),
 )
 
-took_more : (w w' : World) (a x b : ℕ) → a ≤ x → TookAtMost w w' a b → TookAtMost w w' x b
+took_more : (w w' : World) (a x b : ℕ) → a ≤ x → ConsumedAtMost w w' a b → ConsumedAtMost w w' x b
 took_more w w' a x b more (steps, cuts, took, le, few) = (steps, cuts, took, omega (arith, le, more), few)
 
 arrives_took : (c : Setting) (nodes : Nodes) (most port : ℕ) (program : List Instr) (spec : PortSpec) (bytes : List ℕ) (w w' : World) (outcome : Outcome)
     (answers : List Bool) → AreShort most nodes.ports → slice_get nodes.ports port ≡ Some program → Arrives c program port spec bytes w outcome answers w' →
-    TookAtMost w w' (runs_of outcome * (257 * most)) (runs_of outcome)
+    ConsumedAtMost w w' (runs_of outcome * (257 * most)) (runs_of outcome)
 arrives_took c nodes most port program spec bytes w w' Oversize answers short is_program (_, _, is) =
     none_took w w' (0 * (257 * most)) (ap (λ (w : World). w.steps) is) (ap (λ (w : World). w.cuts) is)
 arrives_took c nodes most port program spec bytes w w' NoBuffer answers short is_program (_, _, _, is) =
@@ -115,9 +116,9 @@ arrives_took c nodes most port program spec bytes w w' Got answers short is_prog
     (steps, cuts, record { steps_are = took.steps_are; cuts_are = took.cuts_are }, omega (arith, le, short port program is_program), few)
 
 serves_took : (c : Setting) (nodes : Nodes) (most n : ℕ) (w w' : World) (answers : List Bool) (runs : ℕ) → AreShort most nodes.rings →
-    Serves c nodes.rings n w answers runs w' → (runs ≤ n) × TookAtMost w w' (runs * (257 * most)) runs
+    Serves c nodes.rings n w answers runs w' → (runs ≤ n) × ConsumedAtMost w w' (runs * (257 * most)) runs
 serves_took c nodes most zero w w' answers runs short (_, none, is) =
-    subst (λ r. (r ≤ 0) × TookAtMost w w' (r * (257 * most)) r) (sym none) (
+    subst (λ r. (r ≤ 0) × ConsumedAtMost w w' (r * (257 * most)) r) (sym none) (
       omega arith,
       none_took w w' (0 * (257 * most)) (ap (λ (w : World). w.steps) is) (ap (λ (w : World). w.cuts) is),
     )
@@ -129,9 +130,9 @@ serves_took c nodes most (suc n) w w' answers runs short serves = go (first_wait
         × NodeRun c program next.packet next.ring (record w { rings = next.rings }) now mid × Serves c nodes.rings n mid later more w'
         × (answers ≡ now ++ later)
         × (runs ≡ more + 1)) → ((mid : World) (answers : List Bool) (more : ℕ) → Serves c nodes.rings n mid answers more w' →
-        (more ≤ n) × TookAtMost mid w' (more * (257 * most)) more) → (runs ≤ suc n) × TookAtMost w w' (runs * (257 * most)) runs
+        (more ≤ n) × ConsumedAtMost mid w' (more * (257 * most)) more) → (runs ≤ suc n) × ConsumedAtMost w w' (runs * (257 * most)) runs
     go None e (_, none, is) on =
-        subst (λ r. (r ≤ suc n) × TookAtMost w w' (r * (257 * most)) r) (sym none) (
+        subst (λ r. (r ≤ suc n) × ConsumedAtMost w w' (r * (257 * most)) r) (sym none) (
           omega arith,
           none_took w w' (0 * (257 * most)) (ap (λ (w : World). w.steps) is) (ap (λ (w : World). w.cuts) is),
         )
@@ -139,14 +140,14 @@ serves_took c nodes most (suc n) w w' answers runs short serves = go (first_wait
         let one_more : runs ≡ 1 + more = omega (arith, count) in
         let (within, others) = on mid later more serves in
         let (steps, cuts, took, le, few) = node_took c program next.packet next.ring (record w { rings = next.rings }) mid now run in
-        let first : TookAtMost w mid (257 * most) 1 = (
+        let first : ConsumedAtMost w mid (257 * most) 1 = (
           steps,
           cuts,
           record { steps_are = took.steps_are; cuts_are = took.cuts_are },
           omega (arith, le, short next.ring program is_program),
           few,
         ) in
-        subst (λ r. (r ≤ suc n) × TookAtMost w w' (r * (257 * most)) r) (sym one_more) (
+        subst (λ r. (r ≤ suc n) × ConsumedAtMost w w' (r * (257 * most)) r) (sym one_more) (
           omega (arith, within),
           took_more w w' (257 * most + more * (257 * most)) ((1 + more) * (257 * most)) (1 + more) (omega arith)
               (took_both w mid w' (257 * most) 1 (more * (257 * most)) more first others),
@@ -154,11 +155,11 @@ serves_took c nodes most (suc n) w w' answers runs short serves = go (first_wait
 
 pub turn_took : (c : Setting) (nodes : Nodes) (port : ℕ) (bytes : List ℕ) (w w' : World) (outcome : Outcome) (runs : ℕ) (answers : List Bool) (most : ℕ) →
     AreShort most nodes.ports → AreShort most nodes.rings → Turn c nodes port bytes w outcome runs answers w' →
-    (runs ≤ 33) × TookAtMost w w' (runs * (257 * most)) runs
+    (runs ≤ 33) × ConsumedAtMost w w' (runs * (257 * most)) runs
 turn_took c nodes port bytes w w' outcome runs answers most ports rings t =
     let first = arrives_took c nodes most port t.program t.spec bytes w t.mid outcome t.now ports t.program_is t.arrives in
     let (within, others) = serves_took c nodes most 32 t.mid w' t.later t.more rings t.serves in
-    subst (λ r. (r ≤ 33) × TookAtMost w w' (r * (257 * most)) r) (sym t.runs_is) (
+    subst (λ r. (r ≤ 33) × ConsumedAtMost w w' (r * (257 * most)) r) (sym t.runs_is) (
       few_runs outcome t.more within,
       took_more w w' (runs_of outcome * (257 * most) + t.more * (257 * most)) ((runs_of outcome + t.more) * (257 * most)) (runs_of outcome + t.more)
           (joins outcome t.more) (took_both w t.mid w' (runs_of outcome * (257 * most)) (runs_of outcome) (t.more * (257 * most)) t.more first others),

@@ -8,7 +8,7 @@ use Rattle.dp_model.specs.declared.instr.Instr.{Instr}
 use Rattle.dp_model.specs.Environments.{room_at}
 use Rattle.dp_model.specs.Packets.{Packet, received}
 use Rattle.dp_model.specs.Machine.{Setting, World, Ended}
-use Rattle.dp_model.specs.Runs.{first_state, NodeRun, Goes, Outcome, Got, NoBuffer, Oversize, Arrives, Waiting, first_waiting, Serves, Nodes, Turn}
+use Rattle.dp_model.specs.Runs.{first_state, NodeRun, StepsTo, Outcome, Got, NoBuffer, Oversize, Arrives, Waiting, first_waiting, Serves, Nodes, Turn}
 use Rattle.dp_model.specs.Safety.{IsAtRest, Beginning, IsSafeBeginning, IsPipeline, AreShort}
 use Rattle.dp_model.specs.Laws.Steps.{goes_counts}
 use Rattle.dp_model.proofs.SafeTurns.{record_safe, receives_of, arrives_rest, waiting_safe}
@@ -25,7 +25,7 @@ pub node_calls : (c : Setting) (b : Beginning) (most : ℕ) (answers : List Bool
 node_calls c b most answers w' short safe (n, s, goes, is) =
     let counts = goes_counts c b.program n 0 (first_state b.packet b.number b.world) answers Ended s goes in
     let steps : n ≤ 257 * length safe.question.program = safe.safe.short n answers Ended s
-    (subst (λ p. Goes c p n 0 (first_state b.packet b.number b.world) answers Ended s) (sym safe.program_is) goes) in
+    (subst (λ p. StepsTo c p n 0 (first_state b.packet b.number b.world) answers Ended s) (sym safe.program_is) goes) in
     let same : length safe.question.program ≡ length b.program = ap length safe.program_is in
     let calls : w'.calls ≡ s.world.calls = ap (λ (w : World). w.calls) is in
     record { counted = omega (arith, calls, counts.calls); few = omega (arith, counts.few, steps, same, short) }

@@ -10,9 +10,8 @@ use Rattle.dp_model.specs.declared.env.PoolSpec.{PoolSpec}
 use Rattle.dp_model.specs.Environments.{room_at}
 use Rattle.dp_model.specs.Buffers.{Number, same_number, AreDistinct, IsNumber, Buffers, bytes_of, overwritten, written, ChangesOnly}
 use Rattle.dp_model.specs.Packets.{Segment, segment_bytes, packet_bytes, direct, needed, received, Filled, IsFresh, AreFresh}
-use Rattle.dp_model.specs.Laws.Stored.{bytes_other, bytes_same, written_each, length_overwritten}
-use Rattle.dp_model.specs.Laws.Lists.{all_join, all_take, all_drop}
-use Rattle.dp_model.specs.Laws.Counts.{same_number_sym}
+use Rattle.dp_model.specs.Laws.Stored.{bytes_other, bytes_same, write_changes}
+use Rattle.dp_model.specs.Laws.Lists.{all_take, all_drop}
 use Rattle.dp_model.specs.Laws.Within.{needed_holds}
 
 -- ---- one write
@@ -20,21 +19,6 @@ use Rattle.dp_model.specs.Laws.Within.{needed_holds}
 pub range_written : (old new : List ℕ) (offset : ℕ) → offset + length new ≤ length old
     → slice_range (overwritten old offset new) offset (offset + length new) ≡ new
 range_written old new offset fits = same_lists _ _ (search (rules, places)) (λ k d h. grind (arith, places))
-
--- a write within a buffer changes that buffer only
-pub write_changes : (old : Buffers) (n : Number) (offset : ℕ) (new : List ℕ) → offset + length new ≤ length (bytes_of old n) →
-    AllByRecursion (λ x. x < 256) new → ChangesOnly (n ∷ []) old (written old n offset new)
-write_changes old n offset new fits small =
-    let bytes = overwritten (bytes_of old n) offset new in
-    record {
-      others = λ b apart. bytes_other old n b bytes (same_number_sym n b ∙ (or_parts (same_number b n) false apart).0);
-      lengths = λ b. written_each (λ xs. length xs ≡ length (bytes_of old b)) old n b bytes refl (λ e. length_overwritten (bytes_of old n) new offset fits
-          ∙ ap (λ m. length (bytes_of old m)) e);
-      bytes = λ well b. written_each (AllByRecursion (λ x. x < 256)) old n b bytes (well b)
-          (λ e. all_join (λ x. x < 256) (take offset (bytes_of old n)) (new
-          ++ drop (offset + length new) (bytes_of old n)) (all_take offset (bytes_of old n) (well n))
-          (all_join (λ x. x < 256) new (drop (offset + length new) (bytes_of old n)) small (all_drop (offset + length new) (bytes_of old n) (well n))));
-    }
 
 -- changes of some buffers, then of one more
 changes_then : (n : Number) (ns : List Number) (old mid new : Buffers) → ChangesOnly ns old mid → ChangesOnly (n ∷ []) mid new → ChangesOnly (n ∷ ns) old new

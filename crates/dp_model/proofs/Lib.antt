@@ -1,5 +1,4 @@
 pub mod Agreement
-pub mod Available
 pub mod Begin
 pub mod Budget
 pub mod BudgetLaws

@@ -6,11 +6,11 @@ use Rattle.std.proofs.lemmas.Bool.{and_parts, not-true, or_parts}
 use Rattle.dp_model.specs.declared.env.PoolSpec.{PoolSpec}
 use Rattle.dp_model.specs.Buffers.{Number, same_number, IsNumber, AreDistinct}
 use Rattle.dp_model.specs.Packets.{Segment, Packet, refs, is_free, IsFresh, AreFresh, AreOwned, allocated, received, cloned, direct}
-use Rattle.dp_model.specs.Laws.Stored.{same_is}
+use Rattle.dp_model.specs.Laws.Stored.{same_is, same_number_sym}
 use Rattle.dp_model.specs.Laws.Cases.{one_if}
 use Rattle.dp_model.specs.Laws.References.{free_zero}
 use Rattle.dp_model.proofs.Counts.{tally_le}
-use Rattle.dp_model.specs.Laws.Counts.{tally-cons, has_mbuf, is_indirect_at, mbufs, indirects, same_number_sym, owned_of_counts, counts_of_owned}
+use Rattle.dp_model.specs.Laws.Counts.{tally-cons, has_mbuf, is_indirect_at, mbufs, indirects, owned_of_counts, counts_of_owned}
 
 -- ---- the counts
 

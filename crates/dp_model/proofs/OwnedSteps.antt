@@ -4,7 +4,7 @@ use Rattle.std.specs.Prelude.{slice_get}
 use Rattle.dp_model.specs.declared.instr.Instr.{Instr}
 use Rattle.dp_model.specs.Buffers.{Number, same_number}
 use Rattle.dp_model.specs.Packets.{Segment, Packet, AreFresh, AreOwned, allocated, cloned, at_front, at_end}
-use Rattle.dp_model.specs.Packets.{more_before, less_before, more_behind, less_behind}
+use Rattle.dp_model.specs.Packets.{more_before, less_before, more_after, less_after}
 use Rattle.dp_model.specs.Machine.{Setting, State, live, segments_held, Step, with_step, with_cut, without_packets, Move, Acts, Holds, IsEmpty}
 use Rattle.dp_model.specs.Machine.{with_packet, without_packet, with_ring, with_outbox}
 use Rattle.dp_model.specs.Laws.References.{refs_held, live_parts}
@@ -129,14 +129,14 @@ effect_owned c s m owned (Prepended p n k holds le sole is _) =
     by c m.state _ is (fewer_owned c.env.pools (live s) (live (with_packet p (at_front (more_before n) k) s))
     (front_fewer s p (more_before n) k (λ s. (refl, refl)) holds) owned)
 effect_owned c s m owned (Appended p n k holds le sole is _) =
-    by c m.state _ is (fewer_owned c.env.pools (live s) (live (with_packet p (at_end (more_behind n) k) s))
-    (end_fewer s p (more_behind n) k (λ s. (refl, refl)) holds) owned)
+    by c m.state _ is (fewer_owned c.env.pools (live s) (live (with_packet p (at_end (more_after n) k) s))
+    (end_fewer s p (more_after n) k (λ s. (refl, refl)) holds) owned)
 effect_owned c s m owned (Adjusted p n k holds le is _) =
     by c m.state _ is (fewer_owned c.env.pools (live s) (live (with_packet p (at_front (less_before n) k) s))
     (front_fewer s p (less_before n) k (λ s. (refl, refl)) holds) owned)
 effect_owned c s m owned (Trimmed p n k holds le is _) =
-    by c m.state _ is (fewer_owned c.env.pools (live s) (live (with_packet p (at_end (less_behind n) k) s))
-    (end_fewer s p (less_behind n) k (λ s. (refl, refl)) holds) owned)
+    by c m.state _ is (fewer_owned c.env.pools (live s) (live (with_packet p (at_end (less_after n) k) s))
+    (end_fewer s p (less_after n) k (λ s. (refl, refl)) holds) owned)
 effect_owned c s m owned (Chained p q k t hk ht apart few is _) =
     by c m.state _ is (fewer_owned c.env.pools (live s) (live (without_packet q (with_packet p (k ++ t) s))) (chain_fewer s p q k t apart hk ht) owned)
 effect_owned c s m owned (Stored p offset w n k holds le sole is _) = by c m.state _ is owned

@@ -6,10 +6,10 @@ use Rattle.std.proofs.lemmas.List.{length-map}
 use Rattle.dp_model.specs.declared.env.PoolSpec.{PoolSpec}
 use Rattle.dp_model.specs.declared.instr.Instr.{Instr}
 use Rattle.dp_model.specs.Buffers.{Number}
-use Rattle.dp_model.specs.Packets.{Segment, Packet, allocated, cloned, at_front, at_end, more_before, less_before, more_behind, less_behind}
+use Rattle.dp_model.specs.Packets.{Segment, Packet, allocated, cloned, at_front, at_end, more_before, less_before, more_after, less_after}
 use Rattle.dp_model.specs.Machine.{Setting, State, Next, At, Ended, Move, Acts, Holds, with_packet, without_packet, with_ring}
 use Rattle.dp_model.specs.Machine.{with_outbox, with_step, Step}
-use Rattle.dp_model.specs.Runs.{Then, Goes}
+use Rattle.dp_model.specs.Runs.{Then, StepsTo}
 use Rattle.dp_model.specs.Safety.{IsPacket, IsPacketOrNone, ArePackets}
 use Rattle.dp_model.specs.Laws.Effects.{Effect, Kept, Calculated, Refused, Allocated, Cloned, Freed, Prepended, Appended, Adjusted, Trimmed, Chained}
 use Rattle.dp_model.specs.Laws.Effects.{Stored, Sent}
@@ -101,11 +101,11 @@ effect_packets c s m are (Freed p k holds is _) = by m.state _ (without_packet p
 effect_packets c s m are (Prepended p n k holds le sole is _) =
     by m.state _ (with_packet p (at_front (more_before n) k) s) is refl refl refl (edited s p k _ are holds (length_front (more_before n) k))
 effect_packets c s m are (Appended p n k holds le sole is _) =
-    by m.state _ (with_packet p (at_end (more_behind n) k) s) is refl refl refl (edited s p k _ are holds (length_end (more_behind n) k))
+    by m.state _ (with_packet p (at_end (more_after n) k) s) is refl refl refl (edited s p k _ are holds (length_end (more_after n) k))
 effect_packets c s m are (Adjusted p n k holds le is _) =
     by m.state _ (with_packet p (at_front (less_before n) k) s) is refl refl refl (edited s p k _ are holds (length_front (less_before n) k))
 effect_packets c s m are (Trimmed p n k holds le is _) =
-    by m.state _ (with_packet p (at_end (less_behind n) k) s) is refl refl refl (edited s p k _ are holds (length_end (less_behind n) k))
+    by m.state _ (with_packet p (at_end (less_after n) k) s) is refl refl refl (edited s p k _ are holds (length_end (less_after n) k))
 effect_packets c s m are (Chained p q k t hk ht apart few is _) =
     by m.state _ (without_packet q (with_packet p (k ++ t) s)) is refl refl refl
     (set_packets (with_packet p (k ++ t) s) q None (set_packets s p (Some (k ++ t)) are
@@ -129,12 +129,13 @@ step_packets c program label s m are st =
 
 -- ---- a run
 pub goes_packets : (c : Setting) (program : List Instr) (n label : ℕ) (s : State) (answers : List Bool) (next : Next) (s' : State) → ArePackets s →
-    Goes c program n label s answers next s' → ArePackets s'
+    StepsTo c program n label s answers next s' → ArePackets s'
 goes_packets c program zero label s answers next s' are (_, _, is) = subst ArePackets (sym is) are
 goes_packets c program (suc n) label s answers next s' are (m, later, st, are_answered, rest) =
     go m.next rest (step_packets c program label s m are st) (λ l. goes_packets c program n l m.state later next s')
   where
-    go : (x : Next) → Then x (λ l. Goes c program n l m.state later next s') ((next ≡ Ended) × (n ≡ 0) × (later ≡ []) × (s' ≡ m.state)) → ArePackets m.state →
-        ((l : ℕ) → ArePackets m.state → Goes c program n l m.state later next s' → ArePackets s') → ArePackets s'
+    go : (x : Next) → Then x (λ l. StepsTo c program n l m.state later next s') ((next ≡ Ended) × (n ≡ 0) × (later ≡ []) × (s' ≡ m.state)) → ArePackets
+        m.state →
+        ((l : ℕ) → ArePackets m.state → StepsTo c program n l m.state later next s' → ArePackets s') → ArePackets s'
     go (At l) rest here on = on l here rest
     go Ended (_, _, _, is) here on = subst ArePackets (sym is) here

@@ -1,9 +1,10 @@
 -- How whole runs end: no packet is live, and the allocation calls are those that were answered.
-use Rattle.std.proofs.Common.{◌≡◌, ℕ, zero, suc, ◌+◌, Bool, true, List, [], ◌∷◌, ◌++◌, length, map, Option, Some, None, refl, sym, ◌∙◌, ap, subst, arith}
+use Rattle.std.proofs.Common.{◌≡◌, ℕ, zero, suc, ◌+◌, Bool, true, List, [], ◌∷◌, ◌++◌, length, map, Option, Some, None, sym, ◌∙◌, ap, subst, arith}
 use Rattle.std.proofs.Common.{length-append}
 use Rattle.std.specs.Prelude.{slice_get, MatchOption}
 use Rattle.std.specs.List.{AllByRecursion, AllZip}
 use Rattle.std.proofs.lemmas.List.{length-map}
+use Rattle.std.proofs.lemmas.Slice.Zip.{AllZip-long}
 use Rattle.dp_model.specs.declared.env.PoolSpec.{PoolSpec}
 use Rattle.dp_model.specs.declared.env.PortSpec.{PortSpec}
 use Rattle.dp_model.specs.declared.env.RingSpec.{RingSpec}
@@ -14,11 +15,11 @@ use Rattle.dp_model.specs.Packets.{Segment, Packet, Lies, is_free, available}
 use Rattle.dp_model.specs.Machine.{Setting, World, Ended, live, segments_listed}
 use Rattle.dp_model.specs.Meaning.{RingHolds, TablesFit}
 use Rattle.dp_model.specs.Runs.{first_state, NodeRun, between, Outcome, Got, NoBuffer, Oversize, Arrives, Waiting, first_waiting, Serves, Nodes, Turn}
-use Rattle.dp_model.specs.Runs.{Arrival, Shown, Run, WholeRun, with_empty_outboxes, with_empty_rings}
+use Rattle.dp_model.specs.Runs.{Arrival, Observed, Run, WholeRun, with_empty_outboxes, with_empty_rings}
 use Rattle.dp_model.specs.Laws.{AreChecked}
 use Rattle.dp_model.specs.Safety.{IsAtRest}
 use Rattle.dp_model.specs.Starts.{IsStart}
-use Rattle.dp_model.proofs.Available.{available_all}
+use Rattle.dp_model.specs.Laws.Available.{available_all}
 use Rattle.dp_model.proofs.Counts.{tally_live}
 use Rattle.dp_model.specs.Laws.Counts.{tally, fewer_owned, fewer_by}
 use Rattle.dp_model.specs.Laws.Steps.{goes_counts}
@@ -29,13 +30,13 @@ use Rattle.dp_model.specs.Laws.Waiting.{nothing_listed}
 
 -- ---- nothing is live
 
-run_outboxes : {T : Type 0} (c : Setting) (nodes : Nodes) (arrivals : List (Arrival T)) (w w' : World) (shown : Shown T) →
+run_outboxes : {T : Type 0} (c : Setting) (nodes : Nodes) (arrivals : List (Arrival T)) (w w' : World) (shown : Observed T) →
     segments_listed w.outboxes ≡ [] → Run c nodes arrivals w shown w' → segments_listed w'.outboxes ≡ []
 run_outboxes c nodes [] w w' shown none (_, is) = ap (λ (x : World). segments_listed x.outboxes) is ∙ none
 run_outboxes c nodes (a ∷ arrivals) w w' shown none (outcome, answers, runs, mid, rest, turn, run, _) =
     run_outboxes c nodes arrivals (with_empty_outboxes mid) w' rest (nothing_listed mid.outboxes) run
 
-pub ends_with_nothing : {T : Type 0} (c : Setting) (nodes : Nodes) (arrivals : List (Arrival T)) (w w' : World) (shown : Shown T) (left : List ℕ) →
+pub ends_with_nothing : {T : Type 0} (c : Setting) (nodes : Nodes) (arrivals : List (Arrival T)) (w w' : World) (shown : Observed T) (left : List ℕ) →
     IsStart c.env w → WholeRun c nodes arrivals w shown left w' → live (between w') ≡ []
 ends_with_nothing c nodes arrivals w w' shown left start whole =
     let none : segments_listed w.outboxes ≡ [] = ap segments_listed start.outboxes ∙ nothing_mapped c.env.ports in
@@ -51,17 +52,11 @@ nothing_is_free pools w pool b none =
 
 -- ---- the rings
 
-zip_length : {X Y : Type 0} (P : X → Y → Type 0) (xs : List X) (ys : List Y) → AllZip P xs ys → length ys ≡ length xs
-zip_length P [] [] all = refl
-zip_length P (x ∷ xs) (y ∷ ys) all = ap suc (zip_length P xs ys all.1)
-zip_length P [] (y ∷ ys) all = absurd all
-zip_length P (x ∷ xs) [] all = absurd all
-
-pub each_ring_counted : {T : Type 0} (c : Setting) (nodes : Nodes) (arrivals : List (Arrival T)) (w w' : World) (shown : Shown T) (left : List ℕ) →
+pub each_ring_counted : {T : Type 0} (c : Setting) (nodes : Nodes) (arrivals : List (Arrival T)) (w w' : World) (shown : Observed T) (left : List ℕ) →
     TablesFit c → AreChecked c nodes → IsStart c.env w → WholeRun c nodes arrivals w shown left w' → length left ≡ length c.env.rings
 each_ring_counted c nodes arrivals w w' shown left tables checked start whole =
     let ready = run_ready c nodes arrivals w whole.last shown checked (start_ready c w tables start) whole.run in
-    ap length whole.left_are ∙ (length-map whole.last.rings length ∙ zip_length (RingHolds c.env.pools (live (between whole.last))) c.env.rings
+    ap length whole.left_are ∙ (length-map whole.last.rings length ∙ AllZip-long (RingHolds c.env.pools (live (between whole.last))) c.env.rings
     whole.last.rings ready.world.rings)
 
 -- ---- allocation calls
@@ -119,14 +114,15 @@ turn_counts c nodes port bytes w w' outcome runs answers t =
       serves_counts c nodes.rings 32 t.mid w' t.later t.more t.serves,
     )
 
-run_counts : {T : Type 0} (c : Setting) (nodes : Nodes) (arrivals : List (Arrival T)) (w w' : World) (shown : Shown T) →
+run_counts : {T : Type 0} (c : Setting) (nodes : Nodes) (arrivals : List (Arrival T)) (w w' : World) (shown : Observed T) →
     Run c nodes arrivals w shown w' → w'.calls ≡ w.calls + length shown.answers
 run_counts {T} c nodes [] w w' shown (none, is) =
-    let no_call : length shown.answers ≡ 0 = ap (λ (s : Shown T). length s.answers) none in
+    let no_call : length shown.answers ≡ 0 = ap (λ (s : Observed T). length s.answers) none in
     let calls : w'.calls ≡ w.calls = ap (λ (x : World). x.calls) is in
     omega (arith, no_call, calls)
 run_counts {T} c nodes (a ∷ arrivals) w w' shown (outcome, answers, runs, mid, rest, turn, run, is) =
-    let long : length shown.answers ≡ length answers + length rest.answers = ap (λ (s : Shown T). length s.answers) is ∙ length-append answers rest.answers in
+    let long : length shown.answers ≡ length answers + length rest.answers = ap (λ (s : Observed T). length s.answers) is ∙ length-append answers rest.answers
+    in
     omega (
       arith,
       long,
@@ -134,7 +130,7 @@ run_counts {T} c nodes (a ∷ arrivals) w w' shown (outcome, answers, runs, mid,
       run_counts c nodes arrivals (with_empty_outboxes mid) w' rest run,
     )
 
-pub whole_counts : {T : Type 0} (c : Setting) (nodes : Nodes) (arrivals : List (Arrival T)) (w w' : World) (shown : Shown T) (left : List ℕ) →
+pub whole_counts : {T : Type 0} (c : Setting) (nodes : Nodes) (arrivals : List (Arrival T)) (w w' : World) (shown : Observed T) (left : List ℕ) →
     IsStart c.env w → WholeRun c nodes arrivals w shown left w' → w'.calls ≡ length shown.answers
 whole_counts c nodes arrivals w w' shown left start whole =
     let same : w'.calls ≡ whole.last.calls = ap (λ (x : World). x.calls) whole.is in

@@ -2,7 +2,7 @@
 use Rattle.std.proofs.Common.{◌≡◌, List, [], ◌∷◌, ◌++◌, length, replicate, refl, sym, ap, subst, arith}
 use Rattle.std.specs.List.{AllByRecursion}
 use Rattle.dp_model.specs.Machine.{Setting, World, live, segments_listed}
-use Rattle.dp_model.specs.Runs.{between, Nodes, Arrival, Shown, Run, records_at, with_empty_outboxes, joined}
+use Rattle.dp_model.specs.Runs.{between, Nodes, Arrival, Observed, Run, records_at, with_empty_outboxes, joined}
 use Rattle.dp_model.specs.Safety.{IsAtRest, Beginning, IsSafeBeginning, IsPipeline, CanArrive, IsOfRun, AreSafe}
 use Rattle.dp_model.specs.Laws.Lists.{get_within}
 use Rattle.dp_model.proofs.Counts.{tally_live}
@@ -27,7 +27,7 @@ drained_rest c w rest = record {
 }
 
 -- ---- runs
-pub run_rest : {T : Type 0} (c : Setting) (nodes : Nodes) (arrivals : List (Arrival T)) (w w' : World) (shown : Shown T) →
+pub run_rest : {T : Type 0} (c : Setting) (nodes : Nodes) (arrivals : List (Arrival T)) (w w' : World) (shown : Observed T) →
     IsPipeline c nodes → IsAtRest c w → Run c nodes arrivals w shown w' → IsAtRest c w'
 run_rest c nodes [] w w' shown checked rest (_, is) = subst (IsAtRest c) (sym is) rest
 run_rest c nodes (a ∷ arrivals) w w' shown checked rest (outcome, answers, runs, mid, others, turn, run, _) =
@@ -35,7 +35,7 @@ run_rest c nodes (a ∷ arrivals) w w' shown checked rest (outcome, answers, run
     (drained_rest c mid (turn_rest c nodes a.port a.bytes w mid outcome runs answers checked rest turn)) run
 
 pub run_exists : {T : Type 0} (c : Setting) (nodes : Nodes) (arrivals : List (Arrival T)) (w : World) → IsPipeline c nodes → IsAtRest c w →
-    AllByRecursion (CanArrive c) arrivals → (shown : Shown T) × (w' : World) × Run c nodes arrivals w shown w'
+    AllByRecursion (CanArrive c) arrivals → (shown : Observed T) × (w' : World) × Run c nodes arrivals w shown w'
 run_exists c nodes [] w pipeline rest can =
     (record { answers = []; outcomes = []; captures = replicate (length c.env.ports) [] }, w, (refl, refl))
 run_exists {T} c nodes (a ∷ arrivals) w pipeline rest can =
@@ -43,7 +43,7 @@ run_exists {T} c nodes (a ∷ arrivals) w pipeline rest can =
     let (outcome, runs, answers, mid, turn) = turn_exists c nodes a.port spec a.bytes w pipeline is_spec rest can.0.bytes in
     let after = drained_rest c mid (turn_rest c nodes a.port a.bytes w mid outcome runs answers pipeline rest turn) in
     let (others, w', run) = run_exists {T = T} c nodes arrivals (with_empty_outboxes mid) pipeline after can.1 in
-    let shown : Shown T = record {
+    let shown : Observed T = record {
       answers = answers ++ others.answers;
       outcomes = outcome ∷ others.outcomes;
       captures = joined (records_at a.time mid) others.captures;

@@ -1,4 +1,4 @@
--- When two environments are the same.
+-- The test for equal environments.
 use Rattle.std.specs.Prelude.{Bool, true, false, ◌&&◌, ◌==◌}
 use Rattle.std.specs.Cmp.Lexicographic.{pointwise}
 use Rattle.dp_model.specs.declared.row.Fact.{Fact}

@@ -25,7 +25,7 @@ abbrev pub is_in : ℕ → Fact → Bool
 is_in g Empty = false
 is_in g (Held share head tail first last segs) = share == share_of_group g
 
--- how many registers belong to it, and the least of them
+-- the number of registers in a group, and the least of them
 abbrev pub size : List Fact → ℕ → ℕ
 size facts g = count_by (is_in g) facts
 
@@ -38,7 +38,7 @@ least facts g = position (is_in g) facts
 abbrev pub is_group : List Fact → ℕ → Bool
 is_group facts g = nat_le 2 (size facts g) && option_map_or (λ p. p == g) (least facts g) false
 
--- each group to which a register belongs is one
+-- each group to which a register belongs is well formed
 abbrev pub are_groups : List Fact → Bool
 are_groups facts = list_all (λ fact. option_map_or (is_group facts) (group_of fact) true) facts
 
@@ -48,7 +48,7 @@ have_groups facts = list_any (λ fact. is_some (group_of fact)) facts
 
 -- ---- entailment
 
--- the test passes at each index of two lists of one length
+-- the test passes at each index of two lists of the same length
 abbrev pub at_each_index : {A B : Type 0} → (A → B → Bool) → List A → List B → Bool
 at_each_index test [] [] = true
 at_each_index test (x ∷ xs) (y ∷ ys) = test x y && at_each_index test xs ys
@@ -70,11 +70,11 @@ reshared_fact g share Empty = Empty
 reshared_fact g share (Held old head tail first last segs) =
     Held (if old == share_of_group g then share else old) head tail first last segs
 
--- all registers of the group get another share
+-- all registers of the group get a new share
 abbrev pub reshared : ℕ → ℕ → List Fact → List Fact
 reshared g share facts = map (reshared_fact g share) facts
 
--- the new share of the registers that remain of a group: a single one is sole, else the least of them names the group
+-- the new share of the registers that remain in a group: a single one is sole, else the least of them names the group
 abbrev pub share_left : List Fact → ℕ → ℕ
 share_left facts g = if size facts g == 1 then 2 else option_map_or share_of_group (least facts g) 0
 

@@ -6,7 +6,7 @@ use Rattle.dp_model.specs.declared.env.Entry.TheVariants.{Port, Ring}
 use Rattle.dp_model.specs.declared.env.PortSpec.{PortSpec}
 use Rattle.dp_model.specs.declared.instr.Instr.{Instr}
 use Rattle.dp_model.specs.declared.row.Row.{Row}
-use Rattle.dp_model.specs.Limits.{most_segments, most_ring_runs}
+use Rattle.dp_model.specs.Limits.{max_segments, max_ring_runs}
 use Rattle.dp_model.specs.Environments.{room_at, fault_of}
 use Rattle.dp_model.specs.Buffers.{Number, Buffers}
 use Rattle.dp_model.specs.Packets.{Packet, needed, received, Filled, AreFresh, AreOwned, IsWellFormed}
@@ -14,15 +14,15 @@ use Rattle.dp_model.specs.Rows.{entry_row}
 use Rattle.dp_model.specs.Rules.{Question, IsCertified}
 use Rattle.dp_model.specs.Machine.{Setting, World, State, live, Next, At, Move, Acts, IsLabel, Step, with_step, is_denied}
 use Rattle.dp_model.specs.Meaning.{RowHolds, RingHolds}
-use Rattle.dp_model.specs.Runs.{Goes, first_state, NodeRun, most_steps, NeverStuck, between, Outcome, Got, NoBuffer, Oversize, Arrives, Waiting}
-use Rattle.dp_model.specs.Runs.{first_waiting, Nodes, Turn, Arrival, Shown, Run}
+use Rattle.dp_model.specs.Runs.{StepsTo, first_state, NodeRun, max_steps, NeverStuck, between, Outcome, Got, NoBuffer, Oversize, Arrives, Waiting}
+use Rattle.dp_model.specs.Runs.{first_waiting, Nodes, Turn, Arrival, Observed, Run}
 use Rattle.dp_model.specs.Laws.{RowHoldsAt, Ready, Begins, AreChecked}
 
 -- ---- packets
 
 -- a packet has 1 to 64 segments
 abbrev pub IsPacket : Packet → Type 0
-IsPacket packet = (1 ≤ length packet) × (length packet ≤ most_segments)
+IsPacket packet = (1 ≤ length packet) × (length packet ≤ max_segments)
 
 -- a register holds a packet or nothing
 abbrev pub IsPacketOrNone : Option Packet → Type 0
@@ -63,11 +63,11 @@ pub record IsSafeRun (setting : Setting) (question : Question) (packet : Packet)
   -- it begins in the row of its entry
   pub begins : (row : Row) × (entry_row question.env question.entry ≡ Some row) × RowHolds setting.env row (first_state packet number w)
   -- at each label that it reaches it is safe, so it is never stuck
-  pub stays : (n label : ℕ) (answers : List Bool) (s : State) → Goes setting question.program n 0 (first_state packet number w) answers (At label) s →
+  pub stays : (n label : ℕ) (answers : List Bool) (s : State) → StepsTo setting question.program n 0 (first_state packet number w) answers (At label) s →
       IsSafeAt setting question label s
-  -- it takes at most `most_steps`
-  pub short : (n : ℕ) (answers : List Bool) (next : Next) (s : State) → Goes setting question.program n 0 (first_state packet number w) answers next s →
-      n ≤ most_steps question.program
+  -- it takes at most `max_steps`
+  pub short : (n : ℕ) (answers : List Bool) (next : Next) (s : State) → StepsTo setting question.program n 0 (first_state packet number w) answers next s →
+      n ≤ max_steps question.program
   -- it can end
   pub ends : (answers : List Bool) × (w' : World) × NodeRun setting question.program packet number w answers w'
   -- and then the next one can begin
@@ -83,7 +83,7 @@ pub record Beginning : Type 0 where
   pub number : ℕ
   pub world : World
 
--- a node run of this turn begins so: the record is small enough, its call is not refused, and the packet has its bytes
+-- a node run of this turn begins in this way: the record is small enough, its call is not refused, and the packet has its bytes
 pub record IsOfRecord (setting : Setting) (nodes : Nodes) (port : ℕ) (bytes : List ℕ) (w : World) (b : Beginning) : Type 0 where
   pub spec : PortSpec
   pub spec_is : slice_get setting.env.ports port ≡ Some spec
@@ -103,7 +103,7 @@ pub record IsOfRecord (setting : Setting) (nodes : Nodes) (port : ℕ) (bytes : 
     world = record w { buffers = buffers; calls = w.calls + 1 };
   }
 
--- n whole node runs on packets that wait in rings, one after the other
+-- n whole node runs, in sequence, on packets that wait in rings
 abbrev pub HasServed : Setting → List (List Instr) → ℕ → World → World → Type 0
 HasServed setting programs zero w w' = w' ≡ w
 HasServed setting programs (suc n) w w' =
@@ -117,7 +117,7 @@ pub record IsServed (setting : Setting) (programs : List (List Instr)) (n : ℕ)
   pub few : runs ≤ n
   pub why : (runs ≡ n) ⊎ (first_waiting w'.rings ≡ None)
 
--- a node run of this turn begins so: on the front packet of the first ring that has one, after fewer than 32 others
+-- a node run of this turn begins in this way: on the front packet of the first ring that has one, after fewer than 32 others
 pub record IsOfRing (setting : Setting) (nodes : Nodes) (port : ℕ) (bytes : List ℕ) (w : World) (b : Beginning) : Type 0 where
   pub spec : PortSpec
   pub spec_is : slice_get setting.env.ports port ≡ Some spec
@@ -128,7 +128,7 @@ pub record IsOfRing (setting : Setting) (nodes : Nodes) (port : ℕ) (bytes : Li
   pub mid : World
   pub arrives : Arrives setting own port spec bytes w outcome answers mid
   pub served : ℕ
-  pub few : served < most_ring_runs
+  pub few : served < max_ring_runs
   pub last : World
   pub has_served : HasServed setting nodes.rings served mid last
   pub next : Waiting Packet
@@ -137,7 +137,7 @@ pub record IsOfRing (setting : Setting) (nodes : Nodes) (port : ℕ) (bytes : Li
   pub program_is : slice_get nodes.rings next.ring ≡ Some program
   pub is : b ≡ record { entry = Ring next.ring; program = program; packet = next.packet; number = next.ring; world = record last { rings = next.rings } }
 
--- a node run of this turn begins so
+-- a node run of this turn begins in this way
 abbrev pub IsOfTurn : Setting → Nodes → ℕ → List ℕ → World → Beginning → Type 0
 IsOfTurn setting nodes port bytes w b = IsOfRecord setting nodes port bytes w b ⊎ IsOfRing setting nodes port bytes w b
 
@@ -179,14 +179,14 @@ pub record IsPipeline (setting : Setting) (nodes : Nodes) : Type 0 where
   pub ports : length nodes.ports ≡ length setting.env.ports
   pub rings : length nodes.rings ≡ length setting.env.rings
 
--- each of its instructions leads to one of them, or ends the node run
+-- each instruction of a program leads to one of its instructions, or ends the node run
 abbrev pub LeadsWithin : Setting → Beginning → Type 0
 LeadsWithin setting b =
     (n label : ℕ) (answers : List Bool) (s : State) (i : Instr) (m : Move) →
-    Goes setting b.program n 0 (first_state b.packet b.number b.world) answers (At label) s → slice_get b.program label ≡ Some i →
+    StepsTo setting b.program n 0 (first_state b.packet b.number b.world) answers (At label) s → slice_get b.program label ≡ Some i →
     Acts setting label (with_step s) i m → IsLabel b.program m.next
 
--- what holds of the node runs of every pipeline from a world at rest on, whatever records come
+-- what holds of the node runs of every pipeline that starts in a world at rest, whatever records come
 pub record KeepsSafe (setting : Setting) (nodes : Nodes) : Type 0 where
   -- those of a turn are safe
   pub turn_runs : (port : ℕ) (bytes : List ℕ) (w : World) (b : Beginning) → IsAtRest setting w → IsOfTurn setting nodes port bytes w b →
@@ -208,7 +208,7 @@ pub record KeepsSafe (setting : Setting) (nodes : Nodes) : Type 0 where
       slice_get nodes.ports port ≡ Some program →
       slice_get setting.env.ports port ≡ Some spec → IsAtRest setting w → Arrives setting program port spec bytes w outcome answers w' → IsAtRest setting w'
 
--- no program has more instructions than that
+-- no program has more instructions than this
 abbrev pub AreShort : ℕ → List (List Instr) → Type 0
 AreShort most programs = (i : ℕ) (program : List Instr) → slice_get programs i ≡ Some program → length program ≤ most
 
@@ -217,13 +217,13 @@ pub record CanArrive {T : Type 0} (setting : Setting) (a : Arrival T) : Type 0 w
   pub port : a.port < length setting.env.ports
   pub bytes : AllByRecursion (λ x. x < 256) a.bytes
 
--- a node run of this run begins so: in the turn of a record, after those before it
+-- a node run of this run begins in this way: in the turn of a record, after the turns before it
 pub record IsOfRun {T : Type 0} (setting : Setting) (nodes : Nodes) (arrivals : List (Arrival T)) (w : World) (b : Beginning) : Type 0 where
   pub before : List (Arrival T)
   pub arrival : Arrival T
   pub after : List (Arrival T)
   pub arrivals_are : arrivals ≡ before ++ (arrival ∷ after)
-  pub shown : Shown T
+  pub shown : Observed T
   pub last : World
   pub run : Run setting nodes before w shown last
   pub of_turn : IsOfTurn setting nodes arrival.port arrival.bytes last b
@@ -234,13 +234,13 @@ pub record AreSafe {T : Type 0} (setting : Setting) (nodes : Nodes) (arrivals : 
   -- all of them are safe
   pub runs : (b : Beginning) → IsOfRun setting nodes arrivals w b → IsSafeBeginning setting b
   -- there is such a run
-  pub exists : (shown : Shown T) × (w' : World) × Run setting nodes arrivals w shown w'
+  pub exists : (shown : Observed T) × (w' : World) × Run setting nodes arrivals w shown w'
   -- and after it the next record can come
-  pub rests : (shown : Shown T) (w' : World) → Run setting nodes arrivals w shown w' → IsAtRest setting w'
+  pub rests : (shown : Observed T) (w' : World) → Run setting nodes arrivals w shown w' → IsAtRest setting w'
 
 -- what holds of whole runs of every pipeline, whatever records come
 pub record KeepsRunsSafe {T : Type 0} (setting : Setting) (nodes : Nodes) (arrivals : List (Arrival T)) (w : World) : Type 0 where
   -- their node runs are safe
   pub runs : (b : Beginning) → IsOfRun setting nodes arrivals w b → IsSafeBeginning setting b
   -- and after such a run the next record can come
-  pub rests : (shown : Shown T) (w' : World) → Run setting nodes arrivals w shown w' → IsAtRest setting w'
+  pub rests : (shown : Observed T) (w' : World) → Run setting nodes arrivals w shown w' → IsAtRest setting w'

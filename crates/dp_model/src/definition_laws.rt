@@ -4,7 +4,7 @@ ghost use Rattle.std.specs.Prelude.{◌≡◌, ◌↔◌, ◌⊎◌, ℕ, ◌+�
 ghost use Rattle.dp_model.specs.Arithmetic.{all_ones, big_endian, spelled};
 ghost use Rattle.dp_model.specs.Buffers.{Number, Buffers, bytes_of};
 ghost use Rattle.dp_model.specs.Environments.{Environment, count_at, fault_of};
-ghost use Rattle.dp_model.specs.Limits.{most_buffers, most_ring_runs};
+ghost use Rattle.dp_model.specs.Limits.{max_buffers, max_ring_runs};
 ghost use Rattle.dp_model.specs.Machine.{Setting, State, World, At, Move, Acts, Step, live, without_packet, without_packets, jump_budget};
 ghost use Rattle.dp_model.specs.Jumps.{label_of};
 ghost use Rattle.dp_model.specs.Laws.{AreChecked};
@@ -13,8 +13,8 @@ ghost use Rattle.dp_model.specs.Packets.{Segment, Packet, refs, is_free, availab
 ghost use Rattle.dp_model.specs.Packets.{AreOwned, IsWellFormed};
 ghost use Rattle.dp_model.specs.Packets.{stored, loaded};
 ghost use Rattle.dp_model.specs.Prefixes.{Route, IsTable, LooksUp, hop_for};
-ghost use Rattle.dp_model.specs.Runs.{Goes, first_state, NodeRun, most_steps, TookAtMost, Receives, Serves, Nodes, Outcome, Turn, Arrival};
-ghost use Rattle.dp_model.specs.Runs.{Shown, WholeRun, between, with_empty_outboxes, with_empty_rings, of_port, interleaved};
+ghost use Rattle.dp_model.specs.Runs.{StepsTo, first_state, NodeRun, max_steps, ConsumedAtMost, Receives, Serves, Nodes, Outcome, Turn, Arrival};
+ghost use Rattle.dp_model.specs.Runs.{Observed, WholeRun, between, with_empty_outboxes, with_empty_rings, of_port, interleaved};
 ghost use Rattle.dp_model.specs.Safety.{ArePackets, IsAtRest, Beginning, IsOfRecord, IsServed, AreShort};
 ghost use Rattle.dp_model.specs.Starts.{IsStart};
 ghost use Rattle.dp_model.specs.declared.env.PoolSpec.{PoolSpec};
@@ -31,7 +31,7 @@ pub fn worlds_stay_well_formed()
     ensures drains { (c : Setting) (w : World) → IsAtRest c w → IsAtRest c (with_empty_outboxes w) }
     ensures starts { (c : Setting) (w : World) → TablesFit c → IsStart c.env w → IsAtRest c w }
     ensures few { (env : Environment) (segments : List Segment) (b : Number) →
-        fault_of env ≡ None → AreOwned env.pools segments → refs segments b ≤ most_buffers }
+        fault_of env ≡ None → AreOwned env.pools segments → refs segments b ≤ max_buffers }
 {}
 
 /// The two definitions of the longest prefix agree: the deepest route that matches has the hop that the search depth by depth finds.
@@ -65,13 +65,13 @@ pub fn runs_are_as_they_read<T>()
 /// Whole runs end as they should, for every list of programs, accepted or not: from a start on, no packet is left in a ring or a transmit list, each
 /// pool has all its buffers free, and the allocation calls are those that the run reports. What is left in the rings is counted for each ring.
 pub fn whole_runs_end_with_whole_pools<T>()
-    ensures nothing { (c : Setting) (nodes : Nodes) (arrivals : List (Arrival T)) (w w' : World) (shown : Shown T) (left : List ℕ) →
+    ensures nothing { (c : Setting) (nodes : Nodes) (arrivals : List (Arrival T)) (w w' : World) (shown : Observed T) (left : List ℕ) →
         IsStart c.env w → WholeRun c nodes arrivals w shown left w' → live (between w') ≡ [] }
     ensures free { (pools : List PoolSpec) (w : World) (pool : ℕ) (b : Number) → live (between w) ≡ [] →
         (is_free (live (between w)) b ≡ true) × (available pools (live (between w)) pool ≡ count_at pools pool) }
-    ensures rings { (c : Setting) (nodes : Nodes) (arrivals : List (Arrival T)) (w w' : World) (shown : Shown T) (left : List ℕ) →
+    ensures rings { (c : Setting) (nodes : Nodes) (arrivals : List (Arrival T)) (w w' : World) (shown : Observed T) (left : List ℕ) →
         TablesFit c → AreChecked c nodes → IsStart c.env w → WholeRun c nodes arrivals w shown left w' → length left ≡ length c.env.rings }
-    ensures calls { (c : Setting) (nodes : Nodes) (arrivals : List (Arrival T)) (w w' : World) (shown : Shown T) (left : List ℕ) →
+    ensures calls { (c : Setting) (nodes : Nodes) (arrivals : List (Arrival T)) (w w' : World) (shown : Observed T) (left : List ℕ) →
         IsStart c.env w → WholeRun c nodes arrivals w shown left w' → w'.calls ≡ length shown.answers }
     ensures rests { (c : Setting) (w : World) → IsAtRest c w → IsAtRest c (with_empty_rings w) }
 {}
@@ -86,10 +86,11 @@ pub fn budgets_are_as_they_read()
         without_packets s ≡ without_packet 7 (without_packet 6 (without_packet 5 (without_packet 4
         (without_packet 3 (without_packet 2 (without_packet 1 (without_packet 0 s))))))) }
     ensures taken { (c : Setting) (program : List Instr) (k : Packet) (number n label : ℕ) (w : World) (answers : List Bool) (s : State) →
-        Goes c program n 0 (first_state k number w) answers (At label) s → (s.jumps ≤ jump_budget) × (s.world.steps ≡ w.steps + n) × (s.world.cuts ≡ w.cuts) }
+        StepsTo c program n 0 (first_state k number w) answers (At label) s →
+        (s.jumps ≤ jump_budget) × (s.world.steps ≡ w.steps + n) × (s.world.cuts ≡ w.cuts) }
     ensures node_runs { (c : Setting) (program : List Instr) (k : Packet) (number : ℕ) (w w' : World) (answers : List Bool) →
-        NodeRun c program k number w answers w' → TookAtMost w w' (most_steps program) 1 }
+        NodeRun c program k number w answers w' → ConsumedAtMost w w' (max_steps program) 1 }
     ensures turns { (c : Setting) (nodes : Nodes) (port : ℕ) (bytes : List ℕ) (w w' : World) (outcome : Outcome) (runs : ℕ) (answers : List Bool) (most : ℕ) →
         AreShort most nodes.ports → AreShort most nodes.rings → Turn c nodes port bytes w outcome runs answers w' →
-        (runs ≤ most_ring_runs + 1) × TookAtMost w w' (runs * ((jump_budget + 1) * most)) runs }
+        (runs ≤ max_ring_runs + 1) × ConsumedAtMost w w' (runs * ((jump_budget + 1) * most)) runs }
 {}

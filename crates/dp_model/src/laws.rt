@@ -3,7 +3,7 @@
 ghost use Rattle.std.specs.Prelude.{◌≡◌, ◌+◌, ◌*◌, ◌<◌, ◌≤◌, ℕ, List, Bool, Some, length, slice_get};
 ghost use Rattle.std.specs.List.{AllByRecursion};
 ghost use Rattle.dp_model.specs.Laws.{Begins, IsSound, Ready, AreChecked};
-ghost use Rattle.dp_model.specs.Limits.{most_ring_runs};
+ghost use Rattle.dp_model.specs.Limits.{max_ring_runs};
 ghost use Rattle.dp_model.specs.Machine.{Setting, World, jump_budget};
 ghost use Rattle.dp_model.specs.Meaning.{TablesFit};
 ghost use Rattle.dp_model.specs.Packets.{Packet};
@@ -27,7 +27,7 @@ pub fn accepted_programs_are_safe<T>()
     ensures calls { (c : Setting) (nodes : Nodes) (most port : ℕ) (bytes : List ℕ) (w w' : World) (outcome : Outcome) (runs : ℕ) (answers : List Bool) →
         IsPipeline c nodes → AreShort most nodes.ports → AreShort most nodes.rings → IsAtRest c w →
         Turn c nodes port bytes w outcome runs answers w' →
-        (w'.calls ≡ w.calls + length answers) × (length answers ≤ 1 + (most_ring_runs + 1) * ((jump_budget + 1) * most)) }
+        (w'.calls ≡ w.calls + length answers) × (length answers ≤ 1 + (max_ring_runs + 1) * ((jump_budget + 1) * most)) }
     ensures runs { (c : Setting) (nodes : Nodes) (arrivals : List (Arrival T)) (w : World) →
         TablesFit c → IsPipeline c nodes → IsStart c.env w → AllByRecursion (CanArrive c) arrivals →
         AreSafe c nodes arrivals w }
@@ -46,8 +46,8 @@ pub fn turns_stay_ready()
         AreChecked c nodes → Ready c w → Turn c nodes port bytes w outcome runs answers w' → Ready c w' }
 {}
 
-/// The node runs of every pipeline are safe, whatever records come: those of each turn, and that on the packet that waits next. Each goes from
-/// instruction to instruction, and after every record the world is at rest again. An engine cites this form.
+/// The node runs of every pipeline are safe, whatever records come: those of each turn, and the one on the packet that waits next. Each goes
+/// from instruction to instruction, and after every record the world is at rest again. An engine cites this form.
 pub fn pipelines_keep_safe()
     ensures { (c : Setting) (nodes : Nodes) → IsPipeline c nodes → KeepsSafe c nodes }
 {}

@@ -1,9 +1,9 @@
 //! The limits and sizes that the definitions cite, as constants.
 
-/// The most buffers of a pool, and of all pools together: their indexes have 16 bits.
+/// The maximum number of buffers of a pool, and of all pools together: their indexes have 16 bits.
 pub const MAX_BUFFERS: u32 = 65_535;
 
-/// The most indexes in a pool's cache.
+/// The maximum number of indexes in a pool's cache.
 pub const MAX_CACHED: u32 = 512;
 
 /// The largest data room of a buffer, in bytes.
@@ -12,7 +12,7 @@ pub const MAX_ROOM: u32 = 4_096;
 /// The largest ring or transmit list.
 pub const MAX_RING: u32 = 65_536;
 
-/// The most segments of a packet.
+/// The maximum number of segments of a packet.
 pub const MAX_SEGMENTS: u8 = 64;
 
 /// The headroom of a new or received packet, in bytes.

@@ -4,7 +4,7 @@ ghost use Rattle.std.specs.Prelude.{◌≡◌};
 
 use std::marker::Model;
 
-/// The handle of a packet: a plain number. Who keeps packets (`Mbufs` of dp_mbuf) says which handles are live.
+/// The handle of a packet: a plain number. The store of packets (`Mbufs` of dp_mbuf) says which handles are live.
 #[derive(Clone, Copy, Debug, PartialEq, Eq)]
 pub struct Packet {
     number: u32,

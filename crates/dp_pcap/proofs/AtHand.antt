@@ -7,7 +7,7 @@ use Rattle.std.specs.Prelude.{IfSome, Ok}
 use Rattle.std.specs.Io.KnownBytes.{Consumes, prepend_known}
 use Rattle.dp_pcap.specs.declared.source.Next.TheVariants.{Record}
 use Rattle.dp_pcap.specs.declared.time.Time.{Time}
-use Rattle.dp_pcap.specs.Standing.{Standing}
+use Rattle.dp_pcap.specs.SourceState.{SourceState}
 use Rattle.dp_pcap.specs.Capture.{PacketRecord, IsHead}
 use Rattle.dp_pcap.specs.Source.{BeginsWith, WhereKnown, IsHeld, body_in, advanced, Continues}
 use Rattle.dp_pcap.proofs.History.{HasRead-more}
@@ -42,7 +42,7 @@ passes false false (Some ys) new held n fits drops =
     subst (λ (o : Option (List ℕ)). Consumes (Some (held ++ ys)) o (take n held)) (sym left) whole
 
 -- skipping a buffered record
-pub passed : (a b : Option (List ℕ)) (old new : Standing) (held : List ℕ) (time : Time) (len : ℕ) → IsHeld old held time len →
+pub passed : (a b : Option (List ℕ)) (old new : SourceState) (held : List ℕ) (time : Time) (len : ℕ) → IsHeld old held time len →
     Consumes a b (take (16 + len) held) → new ≡ advanced old len
     → WhereKnown a b (λ left rest. Continues old new left rest (body_in held len) (Ok (Record time len)))
 passed a b old new held time len h gone moved =

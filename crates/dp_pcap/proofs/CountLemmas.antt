@@ -5,7 +5,7 @@ use base.Logic.{ent, emp}
 use types.Logic.{Logic, sem}
 use mir.Val.{vstruct, vnil}
 use denote.Shadow.{makes_shadow}
-use Rattle.dp_pcap.specs.contracts.calls.Calls.{the_row}
+use Rattle.dp_pcap.specs.contracts.ghost_count.GhostCount.{the_row}
 
 -- so any number may be its value
 pub count_of_nothing : {M : Type 1} {𝓤 : Ura M} (𝓛 : Logic 𝓤) (n : ℕ) → ent 𝓤 (emp 𝓤) (sem 𝓛 (the_row.own_val (record { count = n }) (vstruct vnil ∷ [])))

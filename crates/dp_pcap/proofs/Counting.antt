@@ -8,7 +8,7 @@ use Rattle.dp_pcap.specs.declared.byte_order.Order.{Order}
 use Rattle.dp_pcap.specs.declared.byte_order.Order.TheVariants.{Little, Big}
 use Rattle.dp_pcap.specs.declared.time.Unit.{Unit as TimeUnit}
 use Rattle.dp_pcap.specs.Capture.{captured, number, IsHeader}
-use Rattle.dp_pcap.specs.Counting.{Counted, ArePieces, IsPart, IsBehind, none_left}
+use Rattle.dp_pcap.specs.Counting.{Counted, ArePieces, IsPart, IsAfter, none_left}
 use Rattle.std.proofs.Math.Seq.{take-add}
 
 -- ---- the order
@@ -47,8 +47,8 @@ one_more o (suc n) left head whole part before more are (inr (some, none, (h, bo
 
 -- all that is left
 pub completed : (o : Order) (pieces left : ℕ) (head before more : List ℕ) → length more ≡ left → 0 < left →
-    IsBehind (record { order = o; pieces = pieces; left = left; head = head }) before
-    → IsBehind (record { order = o; pieces = suc pieces; left = 0; head = head }) (before ++ more)
+    IsAfter (record { order = o; pieces = pieces; left = left; head = head }) before
+    → IsAfter (record { order = o; pieces = suc pieces; left = 0; head = head }) (before ++ more)
 completed o pieces left head before more size any b = record {
   whole = before ++ more;
   part = [];
@@ -60,11 +60,11 @@ completed o pieces left head before more size any b = record {
 -- the same with the numbers of a call
 pub completes : (o : Order) (pieces left pieces' left' n : ℕ) (head before bytes : List ℕ) → pieces' ≡ suc pieces → left' ≡ 0 → n ≡ left → n ≤ length bytes →
     0 < left
-    → IsBehind (record { order = o; pieces = pieces; left = left; head = head }) before →
-    IsBehind (record { order = o; pieces = pieces'; left = left'; head = head }) (before ++ take n bytes)
+    → IsAfter (record { order = o; pieces = pieces; left = left; head = head }) before →
+    IsAfter (record { order = o; pieces = pieces'; left = left'; head = head }) (before ++ take n bytes)
 completes o pieces left pieces' left' n head before bytes more none all within any b =
-    subst (λ m. IsBehind (record { order = o; pieces = m; left = left'; head = head }) (before ++ take n bytes)) (sym more)
-    (subst (λ m. IsBehind (record { order = o; pieces = suc pieces; left = m; head = head }) (before ++ take n bytes)) (sym none)
+    subst (λ m. IsAfter (record { order = o; pieces = m; left = left'; head = head }) (before ++ take n bytes)) (sym more)
+    (subst (λ m. IsAfter (record { order = o; pieces = suc pieces; left = m; head = head }) (before ++ take n bytes)) (sym none)
     (completed o pieces left head before (take n bytes) (omega (arith, all, within, length-take n bytes)) any b))
 
 -- ---- inside a record's head
@@ -89,8 +89,8 @@ part_begun o (suc n) left head part more full is_long any (inr (some, none, insi
 
 -- all of it, and bytes are to follow
 pub head_whole : (o : Order) (pieces left : ℕ) (head before more : List ℕ) → length head + length more ≡ 16 → left ≡ captured o (head ++ more) → 0 < left
-    → IsBehind (record { order = o; pieces = pieces; left = 0; head = head }) before →
-    IsBehind (record { order = o; pieces = pieces; left = left; head = [] }) (before ++ more)
+    → IsAfter (record { order = o; pieces = pieces; left = 0; head = head }) before →
+    IsAfter (record { order = o; pieces = pieces; left = left; head = [] }) (before ++ more)
 head_whole o pieces left head before more full is_long any b = record {
   whole = b.whole;
   part = b.part ++ more;
@@ -115,8 +115,8 @@ one_empty o (suc n) head whole part before more are (inr (some, none, inside)) s
 
 -- all of it, of a record without bytes
 pub head_alone : (o : Order) (pieces : ℕ) (head before more : List ℕ) → length head + length more ≡ 16 → 0 ≡ captured o (head ++ more)
-    → IsBehind (record { order = o; pieces = pieces; left = 0; head = head }) before →
-    IsBehind (record { order = o; pieces = suc pieces; left = 0; head = [] }) (before ++ more)
+    → IsAfter (record { order = o; pieces = pieces; left = 0; head = head }) before →
+    IsAfter (record { order = o; pieces = suc pieces; left = 0; head = [] }) (before ++ more)
 head_alone o pieces head before more full is_long b = record {
   whole = before ++ more;
   part = [];
@@ -142,8 +142,8 @@ one_record o (suc n) whole part before more are (inr (some, none, inside)) split
 
 -- its head and all of its bytes
 pub record_whole : (o : Order) (pieces : ℕ) (before more : List ℕ) → 16 ≤ length more → length (drop 16 more) ≡ captured o (take 16 more)
-    → IsBehind (record { order = o; pieces = pieces; left = 0; head = [] }) before →
-    IsBehind (record { order = o; pieces = suc pieces; left = 0; head = [] }) (before ++ more)
+    → IsAfter (record { order = o; pieces = pieces; left = 0; head = [] }) before →
+    IsAfter (record { order = o; pieces = suc pieces; left = 0; head = [] }) (before ++ more)
 record_whole o pieces before more full is_long b = record {
   whole = before ++ more;
   part = [];
@@ -155,41 +155,41 @@ record_whole o pieces before more full is_long b = record {
 -- the same with the numbers of a call
 pub record_passed : (o : Order) (pieces none came pieces' size : ℕ) (xs before bytes : List ℕ) → none ≡ 0 → came ≡ 0 → pieces' ≡ suc pieces →
     size ≤ length bytes
-    → size ≡ 16 + captured o (take 16 bytes) → IsBehind (record { order = o; pieces = pieces; left = none; head = take came xs }) before
-    → IsBehind (record { order = o; pieces = pieces'; left = none; head = take came xs }) (before ++ take size bytes)
+    → size ≡ 16 + captured o (take 16 bytes) → IsAfter (record { order = o; pieces = pieces; left = none; head = take came xs }) before
+    → IsAfter (record { order = o; pieces = pieces'; left = none; head = take came xs }) (before ++ take size bytes)
 record_passed o pieces none came pieces' size xs before bytes was begins more within is_long b =
     let front : take 16 (take size bytes) ≡ take 16 bytes = take-take 16 size bytes (omega (arith, is_long)) in
     let long : length (take size bytes) ≡ size = length-take-le size bytes within in
-    subst (λ n. IsBehind (record { order = o; pieces = pieces'; left = n; head = take came xs }) (before ++ take size bytes)) (sym was)
-    (subst (λ n. IsBehind (record { order = o; pieces = pieces'; left = 0; head = take n xs }) (before ++ take size bytes)) (sym begins)
-    (subst (λ n. IsBehind (record { order = o; pieces = n; left = 0; head = [] }) (before ++ take size bytes)) (sym more)
+    subst (λ n. IsAfter (record { order = o; pieces = pieces'; left = n; head = take came xs }) (before ++ take size bytes)) (sym was)
+    (subst (λ n. IsAfter (record { order = o; pieces = pieces'; left = 0; head = take n xs }) (before ++ take size bytes)) (sym begins)
+    (subst (λ n. IsAfter (record { order = o; pieces = n; left = 0; head = [] }) (before ++ take size bytes)) (sym more)
     (record_whole o pieces before (take size bytes) (omega (arith, long, is_long))
     (omega (arith, length-drop 16 (take size bytes), long, is_long, ap (captured o) front))
-    (subst (λ n. IsBehind (record { order = o; pieces = pieces; left = 0; head = take n xs }) before) begins
-    (subst (λ n. IsBehind (record { order = o; pieces = pieces; left = n; head = take came xs }) before) was b)))))
+    (subst (λ n. IsAfter (record { order = o; pieces = pieces; left = 0; head = take n xs }) before) begins
+    (subst (λ n. IsAfter (record { order = o; pieces = pieces; left = n; head = take came xs }) before) was b)))))
 
 -- one more of the whole records at the front of these bytes
 pub front_passed : (o : Order) (n at size : ℕ) (before bytes rest : List ℕ) → rest ≡ drop at bytes → at ≤ length bytes → size ≤ length rest →
-    size ≡ 16 + captured o (take 16 rest) → IsBehind (none_left o n) (before ++ take at bytes)
-    → IsBehind (none_left o (n + 1)) (before ++ take (at + size) bytes)
+    size ≡ 16 + captured o (take 16 rest) → IsAfter (none_left o n) (before ++ take at bytes)
+    → IsAfter (none_left o (n + 1)) (before ++ take (at + size) bytes)
 front_passed o n at size before bytes rest is there within is_long b =
-    subst (λ l. IsBehind (none_left o (n + 1)) l)
+    subst (λ l. IsAfter (none_left o (n + 1)) l)
     (append_assoc before (take at bytes) (take size rest) ∙ ap (λ l. before ++ l)
     (ap (λ r. take at bytes ++ take size r) is ∙ sym (take-add at size bytes)))
     (record_passed o n 0 0 (n + 1) size [] (before ++ take at bytes) rest refl refl (omega arith) within is_long b)
 
 -- n of them, with the numbers of a call
 pub fronts_passed : (o : Order) (pieces none came count pieces' size : ℕ) (xs before bytes : List ℕ) → none ≡ 0 → came ≡ 0 → pieces' ≡ pieces + count →
-    ((n : ℕ) (front : List ℕ) → IsBehind (none_left o n) front → IsBehind (none_left o (n + count)) (front ++ take size bytes))
-    → IsBehind (record { order = o; pieces = pieces; left = none; head = take came xs }) before
-    → IsBehind (record { order = o; pieces = pieces'; left = none; head = take came xs }) (before ++ take size bytes)
+    ((n : ℕ) (front : List ℕ) → IsAfter (none_left o n) front → IsAfter (none_left o (n + count)) (front ++ take size bytes))
+    → IsAfter (record { order = o; pieces = pieces; left = none; head = take came xs }) before
+    → IsAfter (record { order = o; pieces = pieces'; left = none; head = take came xs }) (before ++ take size bytes)
 fronts_passed o pieces none came count pieces' size xs before bytes was begins more all b =
-    subst (λ n. IsBehind (record { order = o; pieces = pieces'; left = n; head = take came xs }) (before ++ take size bytes)) (sym was)
-    (subst (λ n. IsBehind (record { order = o; pieces = pieces'; left = 0; head = take n xs }) (before ++ take size bytes)) (sym begins)
-    (subst (λ n. IsBehind (none_left o n) (before ++ take size bytes)) (sym more)
+    subst (λ n. IsAfter (record { order = o; pieces = pieces'; left = n; head = take came xs }) (before ++ take size bytes)) (sym was)
+    (subst (λ n. IsAfter (record { order = o; pieces = pieces'; left = 0; head = take n xs }) (before ++ take size bytes)) (sym begins)
+    (subst (λ n. IsAfter (none_left o n) (before ++ take size bytes)) (sym more)
     (all pieces before
-    (subst (λ n. IsBehind (record { order = o; pieces = pieces; left = 0; head = take n xs }) before) begins
-    (subst (λ n. IsBehind (record { order = o; pieces = pieces; left = n; head = take came xs }) before) was b)))))
+    (subst (λ n. IsAfter (record { order = o; pieces = pieces; left = 0; head = take n xs }) before) begins
+    (subst (λ n. IsAfter (record { order = o; pieces = pieces; left = n; head = take came xs }) before) was b)))))
 
 -- the bytes of a head that is now whole, of which those after the first `came` were written
 head_written : (came k n : ℕ) (xs ys bytes : List ℕ) → came + n ≡ 16 → n ≤ length bytes → came ≤ length xs → length (put_mid came k xs ys) ≡ 16 →
@@ -219,25 +219,25 @@ captured_size o came k n left xs ys bytes h = h.is_long ∙ ap (captured o) (hea
 -- with the numbers of a call: of a record without bytes
 pub head_ends : (o : Order) (pieces none came k n pieces' left : ℕ) (head' xs ys bytes before : List ℕ) → none ≡ 0 → pieces' ≡ suc pieces → left ≡ 0 →
     head' ≡ [] → IsHead o came k n left xs ys bytes
-    → IsBehind (record { order = o; pieces = pieces; left = none; head = take came xs }) before →
-    IsBehind (record { order = o; pieces = pieces'; left = left; head = head' }) (before ++ take n bytes)
+    → IsAfter (record { order = o; pieces = pieces; left = none; head = take came xs }) before →
+    IsAfter (record { order = o; pieces = pieces'; left = left; head = head' }) (before ++ take n bytes)
 head_ends o pieces none came k n pieces' left head' xs ys bytes before was more zero_left empty h b =
-    subst (λ m. IsBehind (record { order = o; pieces = m; left = left; head = head' }) (before ++ take n bytes)) (sym more)
-    (subst (λ m. IsBehind (record { order = o; pieces = suc pieces; left = m; head = head' }) (before ++ take n bytes)) (sym zero_left)
-    (subst (λ l. IsBehind (record { order = o; pieces = suc pieces; left = 0; head = l }) (before ++ take n bytes)) (sym empty)
+    subst (λ m. IsAfter (record { order = o; pieces = m; left = left; head = head' }) (before ++ take n bytes)) (sym more)
+    (subst (λ m. IsAfter (record { order = o; pieces = suc pieces; left = m; head = head' }) (before ++ take n bytes)) (sym zero_left)
+    (subst (λ l. IsAfter (record { order = o; pieces = suc pieces; left = 0; head = l }) (before ++ take n bytes)) (sym empty)
     (head_alone o pieces (take came xs) before (take n bytes) (head_size o came k n left xs ys bytes h)
     (sym zero_left ∙ captured_size o came k n left xs ys bytes h)
-    (subst (λ m. IsBehind (record { order = o; pieces = pieces; left = m; head = take came xs }) before) was b))))
+    (subst (λ m. IsAfter (record { order = o; pieces = pieces; left = m; head = take came xs }) before) was b))))
 
 -- and of one with bytes
 pub head_goes_on : (o : Order) (pieces none came k n left : ℕ) (head' xs ys bytes before : List ℕ) → none ≡ 0 → 0 < left → head' ≡ []
     → IsHead o came k n left xs ys bytes
-    → IsBehind (record { order = o; pieces = pieces; left = none; head = take came xs }) before →
-    IsBehind (record { order = o; pieces = pieces; left = left; head = head' }) (before ++ take n bytes)
+    → IsAfter (record { order = o; pieces = pieces; left = none; head = take came xs }) before →
+    IsAfter (record { order = o; pieces = pieces; left = left; head = head' }) (before ++ take n bytes)
 head_goes_on o pieces none came k n left head' xs ys bytes before was any empty h b =
-    subst (λ l. IsBehind (record { order = o; pieces = pieces; left = left; head = l }) (before ++ take n bytes)) (sym empty)
+    subst (λ l. IsAfter (record { order = o; pieces = pieces; left = left; head = l }) (before ++ take n bytes)) (sym empty)
     (head_whole o pieces left (take came xs) before (take n bytes) (head_size o came k n left xs ys bytes h) (captured_size o came k n left xs ys bytes h) any
-    (subst (λ m. IsBehind (record { order = o; pieces = pieces; left = m; head = take came xs }) before) was b))
+    (subst (λ m. IsAfter (record { order = o; pieces = pieces; left = m; head = take came xs }) before) was b))
 
 -- ---- piece by piece
 
@@ -246,4 +246,4 @@ pub record Passing (old new : Counted) (bytes : List ℕ) (at : ℕ) : Type 0 wh
   pub within : at ≤ length bytes
   pub order : new.order ≡ old.order
   pub pieces : new.pieces ≤ old.pieces + at
-  pub behind : old.pieces + length bytes < 2 ^ 64 → (before : List ℕ) → IsBehind old before → IsBehind new (before ++ take at bytes)
+  pub beyond : old.pieces + length bytes < 2 ^ 64 → (before : List ℕ) → IsAfter old before → IsAfter new (before ++ take at bytes)

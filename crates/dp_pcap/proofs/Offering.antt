@@ -10,9 +10,9 @@ rests_more piece from [] taken next is less = (ap (λ n. drop n piece) (sym is),
 rests_more piece from (o ∷ os) taken next (is, (n, low, more)) less = (is, (n, low, rests_more piece n os taken next more less))
 
 -- the rests of a rest are those of the piece
-rests_behind : (piece : List ℕ) (k from end : ℕ) (os : List (List ℕ)) → AreRests (drop k piece) from os end → AreRests piece (k + from) os (k + end)
-rests_behind piece k from end [] is = ap (λ n. k + n) is
-rests_behind piece k from end (o ∷ os) (is, (n, low, more)) = (is ∙ drop-drop from k piece, (k + n, omega (arith, low), rests_behind piece k n end os more))
+rests_after : (piece : List ℕ) (k from end : ℕ) (os : List (List ℕ)) → AreRests (drop k piece) from os end → AreRests piece (k + from) os (k + end)
+rests_after piece k from end [] is = ap (λ n. k + n) is
+rests_after piece k from end (o ∷ os) (is, (n, low, more)) = (is ∙ drop-drop from k piece, (k + n, omega (arith, low), rests_after piece k n end os more))
 
 pub more_offered : (old mid new : List (List ℕ)) (piece rest : List ℕ) (at n : ℕ) → (os : List (List ℕ)) × (mid ≡ old ++ os) × AreRests piece 0 os at →
     new ≡ mid ++ rest ∷ [] → rest ≡ drop at piece → 0 < n
@@ -26,10 +26,10 @@ more_offered old mid new piece rest at n (os, is, rests) one same some = (
 -- a piece was offered, of which some bytes were taken, and then the rest
 module _ (old mid new : List (List ℕ)) (piece rest : List ℕ) (n : ℕ) (first : mid ≡ old ++ piece ∷ []) (some : 0 < n) (within : n ≤ length piece) (same : rest
     ≡ drop n piece) where
-  behind : (os : List (List ℕ)) (end : ℕ) → AreRests rest 0 os end → AreRests piece 0 (piece ∷ os) (n + end)
-  behind os end rests =
+  beyond : (os : List (List ℕ)) (end : ℕ) → AreRests rest 0 os end → AreRests piece 0 (piece ∷ os) (n + end)
+  beyond os end rests =
       let none : n + 0 ≡ n = omega arith in
-      (refl, (n, some, subst (λ k. AreRests piece k os (n + end)) none (rests_behind piece n 0 end os (subst (λ r. AreRests r 0 os end) same rests))))
+      (refl, (n, some, subst (λ k. AreRests piece k os (n + end)) none (rests_after piece n 0 end os (subst (λ r. AreRests r 0 os end) same rests))))
 
   long : n + length rest ≡ length piece
   long = let count = ap length same in omega (arith, count, length-drop n piece, within)
@@ -38,7 +38,7 @@ module _ (old mid new : List (List ℕ)) (piece rest : List ℕ) (n : ℕ) (firs
   then_whole (os, is, rests) = (
     piece ∷ os,
     is ∙ (ap (λ l. l ++ os) first ∙ append_assoc old (piece ∷ []) os),
-    subst (AreRests piece 0 (piece ∷ os)) long (behind os (length rest) rests),
+    subst (AreRests piece 0 (piece ∷ os)) long (beyond os (length rest) rests),
   )
 
   pub then_part : OffersPart mid new rest → OffersPart old new piece
@@ -48,5 +48,5 @@ module _ (old mid new : List (List ℕ)) (piece rest : List ℕ) (n : ℕ) (firs
     is ∙ (ap (λ l. l ++ (os ++ drop taken rest ∷ [])) first ∙ (append_assoc old (piece ∷ []) (os ++ drop taken rest ∷ [])
         ∙ ap (λ r. old ++ (piece ∷ (os ++ r ∷ []))) (ap (drop taken) same ∙ drop-drop taken n piece))),
     omega (arith, less, long),
-    behind os taken rests,
+    beyond os taken rests,
   )

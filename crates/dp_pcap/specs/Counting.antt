@@ -12,7 +12,7 @@ pub record Counted : Type 0 where
   pub left : ℕ
   pub head : List ℕ
 
--- before the first byte
+-- the count before the first byte
 abbrev pub none_yet : Order → Counted
 none_yet order = record { order = order; pieces = 0; left = HEADER_SIZE; head = [] }
 
@@ -20,7 +20,7 @@ none_yet order = record { order = order; pieces = 0; left = HEADER_SIZE; head = 
 abbrev pub records_in : Counted → ℕ
 records_in c = c.pieces - 1
 
--- a head, and as many bytes after it as were captured
+-- a head, and after it the captured bytes
 abbrev pub IsRecord : Order → List ℕ → List ℕ → Type 0
 IsRecord order head body = (length head ≡ HEAD_SIZE) × (length body ≡ captured order head)
 
@@ -43,7 +43,7 @@ IsPart order (suc n) left head part =
     ((left ≡ 0) × (length head < HEAD_SIZE) × (part ≡ head)) ⊎ ((0 < left) × (head ≡ []) × IsInside order left part)
 
 -- the count after these bytes: the whole pieces, and a part of the next
-pub record IsBehind (c : Counted) (bytes : List ℕ) : Type 0 where
+pub record IsAfter (c : Counted) (bytes : List ℕ) : Type 0 where
   pub whole : List ℕ
   pub part : List ℕ
   pub split : bytes ≡ whole ++ part

@@ -1,20 +1,20 @@
 -- The health of a device, as contracts see it.
 use Rattle.std.specs.Prelude.{ℕ, ◌+◌, Bool, true, false}
 
--- whether it is broken, how many calls it had, and how many of them failed
+-- whether a device is broken, how many calls it had, and how many of them failed
 pub record State : Type 0 where
   pub is_broken : Bool
   pub calls : ℕ
   pub failures : ℕ
 
--- sound, and not called yet
+-- a device that is sound, and not called yet
 abbrev pub fresh : State
 fresh = record { is_broken = false; calls = 0; failures = 0 }
 
--- after one more call
+-- the device after one more call
 abbrev pub called : State → State
 called s = record s { calls = s.calls + 1 }
 
--- after that call failed
+-- the device after that call failed
 abbrev pub failed : State → State
 failed s = record s { is_broken = true; failures = s.failures + 1 }

@@ -11,16 +11,16 @@ AreRests piece taken (offer ∷ offers) end =
 abbrev pub OffersWhole : List (List ℕ) → List (List ℕ) → List ℕ → Type 0
 OffersWhole old new piece = (offers : List (List ℕ)) × (new ≡ old ++ offers) × AreRests piece 0 offers (length piece)
 
--- or by those of one of which a part was taken, and the rest was offered in vain
+-- the offers grew by those of a piece that was taken in part, whose rest was offered in vain
 abbrev pub OffersPart : List (List ℕ) → List (List ℕ) → List ℕ → Type 0
 OffersPart old new piece =
     (offers : List (List ℕ)) × (taken : ℕ) × (new ≡ old ++ (offers ++ drop taken piece ∷ [])) × (taken < length piece) × AreRests piece 0 offers taken
 
--- or by those of two pieces, of which a part was taken
+-- the offers grew by those of two pieces that were taken in part
 abbrev pub OffersPartOfTwo : List (List ℕ) → List (List ℕ) → List ℕ → List ℕ → Type 0
 OffersPartOfTwo old new first second =
     OffersPart old new first ⊎ ((between : List (List ℕ)) × OffersWhole old between first × OffersPart between new second)
 
--- two pieces that were taken whole
+-- the offers grew by those of two pieces that were taken whole
 abbrev pub OffersTwo : List (List ℕ) → List (List ℕ) → List ℕ → List ℕ → Type 0
 OffersTwo old new first second = (between : List (List ℕ)) × OffersWhole old between first × OffersWhole between new second

@@ -1,10 +1,10 @@
--- Internal: after bytes came in, went out or passed.
+-- Internal: the effect of reading, writing or counting bytes.
 use Rattle.std.specs.Prelude.{◌≡◌, ℕ, ◌+◌, ◌<◌, ◌≤◌, ◌↔◌, ◌^◌, List, ◌++◌, length, take, Option, Bool, false, Result}
 use Rattle.std.specs.Prelude.{OnOk, OnErr, IfOk, IsOk, IsErr, IsTrue, MatchResult}
 use Rattle.std.specs.Io.KnownBytes.{Appends, Consumes, IsAtEnd}
 use Rattle.dp_pcap.specs.declared.device.Failed.{Failed}
 use Rattle.dp_pcap.specs.declared.format.TheConstants.{HEAD_SIZE}
-use Rattle.dp_pcap.specs.Counting.{Counted, IsBehind}
+use Rattle.dp_pcap.specs.Counting.{Counted, IsAfter}
 use Rattle.dp_pcap.specs.Offering.{OffersWhole, OffersPart, OffersTwo, OffersPartOfTwo}
 use Rattle.dp_pcap.specs.Text.{AppendsPart}
 
@@ -39,7 +39,7 @@ pub record PutsWhole {W : Type 0} (contents : W → Option (List ℕ)) (offers :
   pub offered : OnOk answer (OffersWhole (offers old) (offers new) piece)
   pub offered_part : OnErr answer (OffersPart (offers old) (offers new) piece)
 
--- The same of a record's head and then its body.
+-- The same for a record's head and then its body.
 pub record PutsTwo {W : Type 0} (contents : W → Option (List ℕ)) (offers : W → List (List ℕ)) (is_broken : W → Bool) (calls failed_calls : W →
     ℕ) (old new : W) (head body : List ℕ) (answer : Result Unit Failed) : Type 0 where
   pub ok : OnOk answer (Appends (contents old) (contents new) (head ++ body))
@@ -57,4 +57,4 @@ pub record StepsBy (old new : Counted) (bytes : List ℕ) (count : ℕ) : Type 0
   pub most : count ≤ length bytes
   pub order : new.order ≡ old.order
   pub pieces : new.pieces ≤ old.pieces + count
-  pub behind : old.pieces + count < 2 ^ 64 → (before : List ℕ) → IsBehind old before → IsBehind new (before ++ take count bytes)
+  pub beyond : old.pieces + count < 2 ^ 64 → (before : List ℕ) → IsAfter old before → IsAfter new (before ++ take count bytes)

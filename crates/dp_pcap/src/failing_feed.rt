@@ -3,7 +3,7 @@ ghost use Rattle.std.specs.Prelude.{◌≡◌};
 
 use crate::{Failed, Feed, Health};
 
-/// Gives the first bytes of another [`Feed`], then fails.
+/// A feed that gives the first bytes of another [`Feed`], then fails.
 #[derive(Drop)]
 pub struct FailingFeed<F> {
     inner: F,
@@ -16,7 +16,7 @@ impl<F: Feed> FailingFeed<F> {
     ghost use Rattle.dp_pcap.specs.Health.{fresh};
     ghost use Rattle.dp_pcap.specs.Failing.{feed_inside, bytes_to_give, feed_health};
 
-    /// Gives the first `left` bytes of `inner`, then fails.
+    /// Makes a feed that gives the first `left` bytes of `inner`, then fails.
     pub fn new(inner: F, left: usize) -> FailingFeed<F>
         ensures inner { feed_inside result ≡ inner }
         ensures left { bytes_to_give result ≡ left }
@@ -29,7 +29,7 @@ impl<F: Feed> FailingFeed<F> {
         }
     }
 
-    /// Hands the inner feed back.
+    /// Returns the inner feed.
     pub fn into_inner(self) -> F
         ensures { result ≡ feed_inside self }
     {

@@ -3,11 +3,11 @@ ghost use Rattle.std.specs.Prelude.{◌≡◌, ◌<◌, []};
 
 use crate::{Failed, Health, Offers, Sink};
 
-/// Passes a few bytes in each call on to another [`Sink`], and fails after a number of them.
+/// A sink that passes a few bytes in each call to another [`Sink`], and fails after a number of them.
 #[derive(Drop)]
 pub struct FailingSink<S> {
     inner: S,
-    // The most bytes that one call passes on.
+    // The maximum number of bytes that one call passes on.
     most: usize,
     // How many bytes it still passes on.
     left: usize,
@@ -20,7 +20,7 @@ impl<S: Sink> FailingSink<S> {
     ghost use Rattle.dp_pcap.specs.Health.{fresh};
     ghost use Rattle.dp_pcap.specs.Failing.{sink_inside, bytes_a_call, bytes_to_take, sink_health, sink_offers};
 
-    /// Passes at most `most` bytes in each call on to `inner`, and fails after `left` bytes.
+    /// Makes a sink that passes at most `most` bytes in each call to `inner`, and fails after `left` bytes.
     pub fn new(inner: S, most: usize, left: usize) -> FailingSink<S>
         requires { 0 < most }
         ensures inner { sink_inside result ≡ inner }
@@ -38,7 +38,7 @@ impl<S: Sink> FailingSink<S> {
         }
     }
 
-    /// Hands the inner sink back.
+    /// Returns the inner sink.
     pub fn into_inner(self) -> S
         ensures { result ≡ sink_inside self }
     {

@@ -6,10 +6,10 @@ pub const HEADER_SIZE: usize = 24;
 /// The size of a record's head, in bytes. The record's own bytes follow it.
 pub const HEAD_SIZE: usize = 16;
 
-/// The most bytes of a record.
+/// The maximum size of a record, in bytes.
 pub const MAX_RECORD: usize = 262_144;
 
-/// The most records of a capture.
+/// The maximum number of records of a capture.
 pub const MAX_RECORDS: u32 = 16_777_216;
 
 /// The magic number of a capture in microseconds.

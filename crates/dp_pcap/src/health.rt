@@ -2,15 +2,15 @@
 ghost use Rattle.std.specs.Prelude.{◌≡◌, true, false};
 ghost use Rattle.dp_pcap.specs.Health.{fresh, called, failed};
 
-use crate::{Calls, Failed};
+use crate::{Failed, GhostCount};
 use std::marker::Model;
 
-/// Whether a device is broken and, for clauses only, how many calls it had and how many of them failed. When the program runs it is one `bool`.
+/// Whether a device is broken and, for clauses only, how many calls it had and how many of them failed. At run time it is one `bool`.
 #[derive(Drop)]
 pub struct Health {
     is_broken: bool,
-    calls: Calls,
-    failures: Calls,
+    calls: GhostCount,
+    failures: GhostCount,
 }
 
 impl Model for Health {
@@ -32,8 +32,8 @@ impl Health {
     {
         Health {
             is_broken: false,
-            calls: Calls::new(),
-            failures: Calls::new(),
+            calls: GhostCount::new(),
+            failures: GhostCount::new(),
         }
     }
 

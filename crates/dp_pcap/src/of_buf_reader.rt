@@ -15,7 +15,7 @@ impl<R: Read> OfBufReader<R> {
     ghost use Rattle.dp_pcap.specs.Health.{fresh};
     ghost use Rattle.dp_pcap.specs.OfStd.{buffered_reader, buffered_feed_health, buffered_feed_truncated};
 
-    /// Takes a reader over.
+    /// Wraps a reader.
     pub fn new(inner: BufReader<R>) -> OfBufReader<R>
         ensures inner { buffered_reader result ≡ inner }
         ensures health { buffered_feed_health result ≡ fresh }
@@ -40,7 +40,7 @@ impl<R: Read> OfBufReader<R> {
         &self.feed.inner
     }
 
-    /// Hands the reader back.
+    /// Returns the reader.
     pub fn into_inner(self) -> BufReader<R>
         ensures { result ≡ buffered_reader self }
     {

@@ -11,7 +11,7 @@ use std::io::{self, BufWriter, Write};
 #[derive(Drop)]
 pub struct OfBufWriter<W: Write + Drop> {
     sink: OfWrite<BufWriter<W>>,
-    // What it was offered. The inner sink is offered what fills the buffer.
+    // What this sink was offered. The inner sink is offered what fills the buffer.
     offers: Offers,
 }
 
@@ -19,7 +19,7 @@ impl<W: Write + Drop> OfBufWriter<W> {
     ghost use Rattle.dp_pcap.specs.Health.{fresh};
     ghost use Rattle.dp_pcap.specs.OfStd.{buffered_writer, buffered_sink_health, buffered_sink_offers};
 
-    /// Takes a writer over.
+    /// Wraps a writer.
     pub fn new(inner: BufWriter<W>) -> OfBufWriter<W>
         ensures inner { buffered_writer result ≡ inner }
         ensures health { buffered_sink_health result ≡ fresh }
@@ -38,7 +38,7 @@ impl<W: Write + Drop> OfBufWriter<W> {
         &self.sink.inner
     }
 
-    /// Writes out what the buffer holds, and flushes the writer inside. The device counts no call, and whether it is broken stays.
+    /// Writes out what the buffer holds, and flushes the inner writer. Counts no call, and does not change whether it is broken.
     ///
     /// # Errors
     ///
@@ -52,7 +52,7 @@ impl<W: Write + Drop> OfBufWriter<W> {
         self.sink.inner.flush()
     }
 
-    /// Hands the writer back, without flushing it.
+    /// Returns the writer, without flushing it.
     pub fn into_inner(self) -> BufWriter<W>
         ensures { result ≡ buffered_writer self }
     {
@@ -91,7 +91,7 @@ impl<W: Write + Drop> Sink for OfBufWriter<W> {
         ensures untouched { IsTrue (buffered_sink_health self.old).is_broken → buffered_writer self.new ≡ buffered_writer self.old }
     {
         self.offers = self.offers.and(bytes);
-        // The room is tested first, so that what fits cannot fail.
+        // The room is tested first, so a piece that fits cannot fail.
         let spare = self.sink.inner.capacity() - self.sink.inner.buffer().len();
         if bytes.len() < spare {
             self.sink.push(bytes)
@@ -120,7 +120,7 @@ impl<W: Write + Drop> Sink for OfBufWriter<W> {
     }
 }
 
-// Takes bytes for which the buffer has no room: as many as fill it, or all where it is full. So the inner writer gets whole buffers, and a file that
+// Takes bytes for which the buffer has no room: as many as fill it, or all if it is full. So the inner writer gets whole buffers, and a file that
 // is written from its start gets each at a multiple of its size.
 #[cold]
 #[inline(never)]

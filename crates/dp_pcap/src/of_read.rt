@@ -5,7 +5,7 @@ use crate::truncated::Truncated;
 use crate::{Failed, Feed, Health};
 use std::io::Read;
 
-/// A reader as a [`Feed`]. Its first error breaks it, also an interrupted read, and it is not called again.
+/// A reader as a [`Feed`]. Its first error breaks it, even an interrupted read, and it is not called again.
 #[derive(Drop)]
 pub struct OfRead<R> {
     pub(crate) inner: R,
@@ -18,7 +18,7 @@ impl<R: Read> OfRead<R> {
     ghost use Rattle.dp_pcap.specs.Health.{fresh};
     ghost use Rattle.dp_pcap.specs.OfStd.{reader_inside, feed_health, feed_truncated};
 
-    /// Takes a reader over.
+    /// Wraps a reader.
     pub fn new(inner: R) -> OfRead<R>
         ensures inner { reader_inside result ≡ inner }
         ensures health { feed_health result ≡ fresh }
@@ -38,7 +38,7 @@ impl<R: Read> OfRead<R> {
         self.truncated.count()
     }
 
-    /// Hands the reader back.
+    /// Returns the reader.
     pub fn into_inner(self) -> R
         ensures { result ≡ reader_inside self }
     {

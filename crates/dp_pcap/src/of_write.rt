@@ -4,7 +4,7 @@ ghost use Rattle.std.specs.Prelude.{◌≡◌, []};
 use crate::{Failed, Health, Offers, Sink};
 use std::io::Write;
 
-/// A writer as a [`Sink`]. Its first error breaks it, and so does a write that takes none of some bytes. It is not called again.
+/// A writer as a [`Sink`]. Its first error breaks it, as does a write that takes none of the bytes offered. It is not called again.
 #[derive(Drop)]
 pub struct OfWrite<W> {
     pub(crate) inner: W,
@@ -16,7 +16,7 @@ impl<W: Write> OfWrite<W> {
     ghost use Rattle.dp_pcap.specs.Health.{fresh};
     ghost use Rattle.dp_pcap.specs.OfStd.{writer_inside, sink_health, sink_offers};
 
-    /// Takes a writer over.
+    /// Wraps a writer.
     pub fn new(inner: W) -> OfWrite<W>
         ensures inner { writer_inside result ≡ inner }
         ensures health { sink_health result ≡ fresh }
@@ -29,7 +29,7 @@ impl<W: Write> OfWrite<W> {
         }
     }
 
-    /// Hands the writer back, without flushing it.
+    /// Returns the writer, without flushing it.
     pub fn into_inner(self) -> W
         ensures { result ≡ writer_inside self }
     {

@@ -4,7 +4,7 @@ ghost use Rattle.std.specs.Borrow.{ftrue};
 
 use std::marker::Model;
 
-/// The bytes that a sink was offered in each call, as `pieces` in a clause. It takes no bytes, and does nothing when the program runs.
+/// The bytes that a sink was offered in each call, as `pieces` in a clause. It takes no bytes, and does nothing at run time.
 #[derive(Drop)]
 pub struct Offers {
     pub ghost pieces: { List (List ℕ) },
@@ -15,14 +15,14 @@ impl Model for Offers {
 }
 
 impl Offers {
-    /// No offer yet.
+    /// No offers yet.
     pub fn new() -> Offers
         ensures { result.pieces ≡ [] }
     {
         Self {}
     }
 
-    /// One more offer.
+    /// The offers after one more.
     pub fn and(&self, bytes: &[u8]) -> Offers
         ensures { result.pieces ≡ self.now.pieces ++ bytes.now ∷ [] }
     {

@@ -1,13 +1,13 @@
 //! Counts truncated records: the capture has only the front of their packets.
 ghost use Rattle.std.specs.Prelude.{◌≡◌, ◌+◌, ◌-◌, ◌^◌, min};
 
-use crate::Calls;
+use crate::GhostCount;
 use std::marker::Model;
 
 /// A count of truncated records: exact in a clause; as a number it stops at 2^64 - 1.
 #[derive(Drop)]
 pub(crate) struct Truncated {
-    exact: Calls,
+    exact: GhostCount,
     count: u64,
 }
 
@@ -22,17 +22,17 @@ impl Model for Truncated {
 }
 
 impl Truncated {
-    // None yet.
+    // A count of zero.
     pub(crate) fn new() -> Truncated
         ensures { result ≡ 0 }
     {
         Truncated {
-            exact: Calls::new(),
+            exact: GhostCount::new(),
             count: 0,
         }
     }
 
-    // One more.
+    // Counts one more.
     pub(crate) fn note(&mut self)
         ensures { self.new ≡ self.old + 1 }
     {

@@ -1,9 +1,9 @@
-//! Counts the records of a capture that are whole in the bytes that went by.
+//! Counts the whole records of a capture in the bytes that passed so far.
 ghost use Rattle.std.specs.Prelude.{◌≡◌, ◌+◌, ◌<◌, ◌≤◌, ◌^◌, ◌++◌, ℕ, List, length, take};
 ghost use Rattle.dp_pcap.specs.declared.byte_order.Order.{Order};
 ghost use Rattle.dp_pcap.specs.declared.time.Unit.{Unit as TimeUnit};
 ghost use Rattle.dp_pcap.specs.Capture.{captured, IsHeader};
-ghost use Rattle.dp_pcap.specs.Counting.{none_yet, none_left, records_in, IsBehind};
+ghost use Rattle.dp_pcap.specs.Counting.{none_yet, none_left, records_in, IsAfter};
 ghost use Rattle.dp_pcap.specs.Passing.{StepsBy};
 
 use crate::byte_order::{Order, long_number, short_number};
@@ -61,8 +61,8 @@ fn order_of(header: &[u8]) -> Order
 fn whole_at_front(order: Order, bytes: &[u8]) -> (u64, usize)
     ensures within { result.1 ≤ length bytes.now }
     ensures few { result.0 ≤ result.1 }
-    ensures behind { (n : ℕ) (before : List ℕ) → IsBehind (none_left order n) before →
-        IsBehind (none_left order (n + result.0)) (before ++ take result.1 bytes.now) }
+    ensures beyond { (n : ℕ) (before : List ℕ) → IsAfter (none_left order n) before →
+        IsAfter (none_left order (n + result.0)) (before ++ take result.1 bytes.now) }
 {
     let mut count = 0u64;
     let mut at = 0;
@@ -120,8 +120,8 @@ impl WholeRecords {
     /// Counts more bytes of the capture.
     pub fn pass(&mut self, bytes: &[u8])
         ensures order { self.new.order ≡ self.old.order }
-        ensures behind { self.old.pieces + length bytes.now < 2 ^ 64 →
-            (before : List ℕ) → IsBehind self.old before → IsBehind self.new (before ++ bytes.now) }
+        ensures beyond { self.old.pieces + length bytes.now < 2 ^ 64 →
+            (before : List ℕ) → IsAfter self.old before → IsAfter self.new (before ++ bytes.now) }
     {
         let mut at = 0;
         while at < bytes.len() {

@@ -11,7 +11,7 @@ use Rattle.dp_pcap.specs.Capture.{PacketRecord}
 use Rattle.dp_pcap.specs.Text.{record_text}
 use Rattle.dp_model.specs.Machine.{World}
 use Rattle.dp_model.specs.Runs.{records_at, joined, interleaved}
-use Rattle.dp_model.specs.Laws.Lists.{get_set_other, get_within}
+use Rattle.dp_model.specs.Laws.Lists.{get_set_other, get_within, set_itself}
 use Rattle.dp_engine.specs.declared.report.InputState.{InputState}
 use Rattle.dp_engine.specs.declared.report.InputState.TheVariants.{Open, Whole, Cut}
 use Rattle.dp_engine.specs.Drains.{captured}
@@ -21,7 +21,6 @@ use Rattle.dp_pipe.specs.Forwarding.{drained_at}
 use Rattle.dp_pipe.proofs.Forwarded.{split}
 use Rattle.dp_pipe.proofs.Interleaving.{AreFew, interleaved_more}
 use Rattle.dp_pipe.proofs.RunOn.{arrival}
-use Rattle.dp_pipe.proofs.Indices.{set_itself}
 use Rattle.dp_pipe.proofs.Giving.{given_then}
 
 -- ---- what was written
@@ -108,10 +107,10 @@ arrivals_more inputs round p i r order here goes =
     let long : length xs ≡ round = length-map i.records timed ∙ count in
     let more : records_in (with_record r i) ≡ xs ++ timed r ∷ [] = map-append timed i.records (r ∷ []) in
     let few : AreFew (length xs + 1) (map records_in inputs) = λ q ys e. few_at q ys e (input_of inputs q ys e) long in
-    let behind : (q : ℕ) (ys : List (Time × List ℕ)) → p < q → slice_get (map records_in inputs) q ≡ Some ys → length ys ≤ length xs =
-    λ q ys lt e. behind_at q ys lt (input_of inputs q ys e) long in
+    let beyond : (q : ℕ) (ys : List (Time × List ℕ)) → p < q → slice_get (map records_in inputs) q ≡ Some ys → length ys ≤ length xs =
+    λ q ys lt e. beyond_at q ys lt (input_of inputs q ys e) long in
     ap interleaved (records_set inputs p (with_record r i) ∙ ap (slice_set (map records_in inputs) p) more)
-    ∙ interleaved_more (map records_in inputs) p xs (timed r) is few behind
+    ∙ interleaved_more (map records_in inputs) p xs (timed r) is few beyond
   where
     input_of : (inputs : List Input) (q : ℕ) (ys : List (Time × List ℕ)) → slice_get (map records_in inputs) q ≡ Some ys →
         (j : Input) × (slice_get inputs q ≡ Some j) × (ys ≡ records_in j)
@@ -124,9 +123,9 @@ arrivals_more inputs round p i r order here goes =
     few_at q ys e (j, at, is) long =
         omega (arith, ap length is, length-map j.records timed, given_few round p q j.state (length j.records) (order q j at), asked_most round p q, long)
 
-    behind_at : (q : ℕ) (ys : List (Time × List ℕ)) → p < q → ((j : Input) × (slice_get inputs q ≡ Some j) × (ys ≡ records_in j)) →
+    beyond_at : (q : ℕ) (ys : List (Time × List ℕ)) → p < q → ((j : Input) × (slice_get inputs q ≡ Some j) × (ys ≡ records_in j)) →
         length (records_in i) ≡ round → length ys ≤ length (records_in i)
-    behind_at q ys lt (j, at, is) long =
+    beyond_at q ys lt (j, at, is) long =
         let none : asked round p q ≡ round = ap (λ b. if b then round + 1 else round) (le-ltb q p (omega (arith, lt))) in
         omega (arith, ap length is, length-map j.records timed, given_few round p q j.state (length j.records) (order q j at), none, long)
 

@@ -4,7 +4,7 @@ use Rattle.std.proofs.Common.{sym, ◌∙◌, subst, arith}
 use Rattle.std.specs.Prelude.{slice_get, slice_set, ◌==◌, if◌then◌else◌, IsTrue, IsOk, IsErrOf, ⊤}
 use Rattle.std.proofs.lemmas.Bool.{eq-eqb, ne_eqb, cases_lt}
 use Rattle.std.proofs.lemmas.Option.{same_Some, slice_get_within, slice_get-get_or}
-use Rattle.dp_model.specs.Laws.Lists.{get_set_other, each_at}
+use Rattle.dp_model.specs.Laws.Lists.{get_set_other, each_at, each_slot}
 use Rattle.dp_pcap.specs.declared.error.PcapError.{PcapError}
 use Rattle.dp_pcap.specs.declared.error.PcapError.TheVariants.{Read}
 use Rattle.dp_pcap.specs.declared.time.Unit.{Unit as TimeUnit}
@@ -14,7 +14,7 @@ use Rattle.dp_pipe.specs.declared.forwarding.RunCause.TheVariants.{Memory, NoRoo
 use Rattle.dp_pipe.specs.Devices.{Device, Fared, AllFared, FaredAlone, AllSound, failed_reader, failed_writer}
 use Rattle.dp_pipe.specs.Running.{IsHeaderCause, IsWriteCause}
 use Rattle.dp_pipe.proofs.Forwarded.{split}
-use Rattle.dp_pipe.proofs.Heading.{Changed, each_of, is_same, new_of}
+use Rattle.dp_pipe.proofs.Heading.{Changed, is_same, new_of}
 
 -- ---- one device
 
@@ -100,12 +100,12 @@ all_well is_broken failures R n olds news c well q d d' here there = go (cases_l
   where
     go : (q < n) ⊎ (n ≤ q) → Fared is_broken failures false d d'
     go (inl below) = well d d' (c.done q d d' below here there)
-    go (inr behind) = rw (is_same olds news q d d' (c.rest q behind) here there) (fared_same is_broken failures d)
+    go (inr beyond) = rw (is_same olds news q d d' (c.rest q beyond) here there) (fared_same is_broken failures d)
 
 -- all are sound where all were and none failed
 pub still_sound : {D : Type 0} (is_broken : D → Bool) (failures : D → ℕ) (olds news : List D) → length news ≡ length olds
     → AllFared is_broken failures (λ q. false) olds news → AllSound is_broken olds → AllSound is_broken news
-still_sound is_broken failures olds news many fared sound = each_of (λ d. is_broken d ≡ false) news (λ q d there.
+still_sound is_broken failures olds news many fared sound = each_slot (λ d. is_broken d ≡ false) news (λ q d there.
     let here = slice_get-get_or olds q d (omega (arith, many, slice_get_within news q d there)) in
     (fared q _ d here there).broken ∙ each_at (λ x. is_broken x ≡ false) olds q _ sound here)
 

@@ -13,7 +13,7 @@ use Rattle.dp_pcap.specs.Text.{record_text}
 use Rattle.dp_model.specs.Packets.{Packet, packet_bytes}
 use Rattle.dp_model.specs.Machine.{World}
 use Rattle.dp_model.specs.Runs.{records_at}
-use Rattle.dp_model.specs.Laws.Lists.{get_set_other, get_set_same, get_within}
+use Rattle.dp_model.specs.Laws.Lists.{get_set_other, get_set_same, get_within, map_get}
 use Rattle.dp_engine.specs.declared.report.Tallies.{Tallies}
 use Rattle.dp_engine.specs.Drains.{captured}
 use Rattle.dp_engine.specs.Engines.{EngineState, tallies_at, drained}
@@ -161,9 +161,6 @@ map_other f xs n q x other = slice_get-map f (slice_set xs n x) q ∙ ap (option
 pub map_here : {A B : Type 0} (f : A → B) (xs : List A) (n : ℕ) (x y : A) → slice_get xs n ≡ Some y → slice_get (map f (slice_set xs n x)) n ≡ Some (f x)
 map_here f xs n x y here = slice_get-map f (slice_set xs n x) n ∙ ap (option_map f) (get_set_same xs n x y here)
 
-pub map_at : {A B : Type 0} (f : A → B) (xs : List A) (n : ℕ) (y : A) → slice_get xs n ≡ Some y → slice_get (map f xs) n ≡ Some (f y)
-map_at f xs n y here = slice_get-map f xs n ∙ ap (option_map f) here
-
 pub ok_some : {A E : Type 0} (r : Result A E) (P : A → Type 0) → false ≡ is_err r → IfOk r P → (x : A) × (r ≡ Ok x) × P x
 ok_some (Ok x) P e h = (x, refl, h)
 ok_some (Err x) P e h = cc
@@ -182,7 +179,7 @@ drain_on f n unit time e1 e2 outs w w' sent records here at count wrote is = rec
   records = records;
   records_is = at;
   own = λ old new a b.
-      let first : f w ≡ old = same_Some _ _ (sym (map_at f outs n w here) ∙ a) in
+      let first : f w ≡ old = same_Some _ _ (sym (map_get f outs n w here) ∙ a) in
       let second : f w' ≡ new = same_Some _ _ (sym (map_here f outs n w' w here) ∙ b) in
       rw (← first, ← second) wrote;
   others = λ q other. map_other f outs n q w' other;
@@ -215,7 +212,7 @@ stopped f n unit time e e1 e2 outs mids w w' whole records there first here at w
     owned : drained_at time e.world n ≡ capture_of records → (old new : Device) → slice_get (map f outs) n ≡ Some old →
         slice_get (map f (slice_set mids n w')) n ≡ Some new → DrainedPart unit (drained_at time e.world n) whole old new
     owned mine old new a b =
-        let mid = map_at f mids n w here in
+        let mid = map_get f mids n w here in
         let before : IsGiven old (f w) [] = rw (not_below n) at (first.wrote n old (f w) a mid) in
         let second : f w' ≡ new = same_Some _ _ (sym (map_here f mids n w' w here) ∙ b) in
         rw (mine, ← second) (record {

@@ -7,10 +7,11 @@ use Rattle.std.proofs.lemmas.Option.{same_Some}
 use Rattle.std.proofs.KnownBytes.{Appends-nil, Appends-trans}
 use Rattle.dp_pcap.specs.declared.time.Time.{Time}
 use Rattle.dp_pcap.specs.declared.time.Unit.{Unit as TimeUnit}
-use Rattle.dp_pcap.specs.Standing.{Standing}
+use Rattle.dp_pcap.specs.SourceState.{SourceState}
 use Rattle.dp_pcap.specs.Source.{WhereKnown}
 use Rattle.dp_pcap.specs.Capture.{PacketRecord}
 use Rattle.dp_pcap.specs.Text.{header_text, head_text, record_text, text}
+use Rattle.dp_pcap.specs.Laws.Chaining.{length_head}
 use Rattle.dp_model.specs.Machine.{World}
 use Rattle.dp_model.specs.Runs.{records_at}
 use Rattle.dp_engine.specs.Drains.{captured, Written, WrotePart, IsCalledFor}
@@ -24,10 +25,6 @@ use Rattle.dp_pipe.specs.Forwarding.{Input, Gives, HasReadSo, IsRead, IsReadBy, 
 pub length_header : (unit : TimeUnit) → length (header_text unit) ≡ 24
 unfolding header_text
 length_header unit = refl
-
-length_head : (unit : TimeUnit) (time : Time) (len : ℕ) → length (head_text unit time len) ≡ 16
-unfolding head_text
-length_head unit time len = refl
 
 length_record : (unit : TimeUnit) (r : PacketRecord) → length (record_text unit r) ≡ 16 + length r.bytes
 length_record unit r = omega (arith, length-append (head_text unit r.time (length r.bytes)) r.bytes, length_head unit r.time (length r.bytes))
@@ -96,14 +93,14 @@ known_map None b P Q f h = tt
 known_map (Some x) None P Q f h = absurd h
 known_map (Some x) (Some y) P Q f h = f x y h
 
-gives_of : (state : InputState) (s : Standing) (unit : TimeUnit) (records : List PacketRecord) (bytes rest : List ℕ) → s.unit ≡ unit →
+gives_of : (state : InputState) (s : SourceState) (unit : TimeUnit) (records : List PacketRecord) (bytes rest : List ℕ) → s.unit ≡ unit →
     HasReadSo state s records bytes rest → Gives state unit records bytes rest
 gives_of Open s unit records bytes rest same has = (s, has, same)
 gives_of Whole s unit records bytes rest same has = rw (← same) has
 gives_of (Cut byte) s unit records bytes rest same has = rw (← same) has
 
 -- what a source has read of an input
-pub read_as : (i : Input) (s : Standing) (a b : Device) → s.unit ≡ i.unit → IsReadBy i s a b → IsRead i a b
+pub read_as : (i : Input) (s : SourceState) (a b : Device) → s.unit ≡ i.unit → IsReadBy i s a b → IsRead i a b
 read_as i s a b same by = record {
   gives = known_map a.bytes b.bytes _ _ (λ bytes rest has. gives_of i.state s i.unit i.records bytes rest same has) by.has;
   calls = by.calls;

@@ -11,10 +11,10 @@ use Rattle.dp_pcap.specs.declared.error.PcapError.{PcapError}
 use Rattle.dp_pcap.specs.declared.source.Next.{Next}
 use Rattle.dp_pcap.specs.declared.source.Next.TheVariants.{Record, End}
 use Rattle.dp_pcap.specs.declared.source.Next.TheVariants as next
-use Rattle.dp_pcap.specs.Standing.{Standing}
+use Rattle.dp_pcap.specs.SourceState.{SourceState}
 use Rattle.dp_pcap.specs.Capture.{PacketRecord, IsCapture}
 use Rattle.dp_pcap.specs.Capture as capture
-use Rattle.dp_pcap.specs.Source.{WhereKnown, HasRead, Continues, IsInRange, Moves, advanced, most_pulls, over}
+use Rattle.dp_pcap.specs.Source.{WhereKnown, HasRead, Continues, IsInRange, Moves, advanced, max_pulls, over}
 use Rattle.dp_model.specs.Machine.{Setting}
 use Rattle.dp_model.specs.Runs.{records_at, joined}
 use Rattle.dp_engine.specs.declared.report.InputState.{InputState}
@@ -74,11 +74,11 @@ wanted round port count Open e is = is ∙ ap (λ b. if b then round + 1 else ro
 wanted round port count Whole e lt = cc
 wanted round port count (Cut byte) e lt = cc
 
-whole_read : (s s' : Standing) (records : List PacketRecord) (bytes : List ℕ) → s' ≡ over s → IsCapture bytes s.unit records capture.Ending.Whole →
+whole_read : (s s' : SourceState) (records : List PacketRecord) (bytes : List ℕ) → s' ≡ over s → IsCapture bytes s.unit records capture.Ending.Whole →
     IsCapture bytes s'.unit records capture.Ending.Whole
 whole_read s s' records bytes is h = rw is h
 
-cut_read : (byte : ℕ) (s s' : Standing) (records : List PacketRecord) (bytes : List ℕ) → s' ≡ over s →
+cut_read : (byte : ℕ) (s s' : SourceState) (records : List PacketRecord) (bytes : List ℕ) → s' ≡ over s →
     IsCapture bytes s.unit records (capture.Ending.Cut byte) → IsCapture bytes s'.unit records (capture.Ending.Cut byte)
 cut_read byte s s' records bytes is h = rw is h
 
@@ -187,7 +187,7 @@ pub goes_on : (unit : TimeUnit) (e0 e e' : EngineState) (olds news held mids hol
 goes_on unit e0 e e' olds news held mids holds progress inputs round port p p' a b along many here open_p there left_a step =
     go step.next step.read step.pulls step.in_range step.moves step.follows
   where
-    go : (answer : Result Next PcapError) → ReadsTurn port e step.engine p.source p'.source a.bytes b.bytes answer → b.calls ≤ a.calls + most_pulls answer →
+    go : (answer : Result Next PcapError) → ReadsTurn port e step.engine p.source p'.source a.bytes b.bytes answer → b.calls ≤ a.calls + max_pulls answer →
         IsInRange p.source answer →
         Moves p.source p'.source answer → Follows port unit step.engine e' p'.state mids holds answer (Ok tt)
         → (inputs' : List Input) × Along unit e0 e' (transfer olds (slice_set news port b) held holds) (slice_set progress port p') inputs' round (port + 1)

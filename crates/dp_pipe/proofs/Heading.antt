@@ -4,14 +4,14 @@ use Rattle.std.proofs.Common.{refl, ap, sym, ◌∙◌, subst, arith}
 use Rattle.std.specs.Prelude.{option_map, slice_get, slice_set, slice_index_or, Err}
 use Rattle.std.proofs.lemmas.List.{length-map, length-append, length-set}
 use Rattle.std.proofs.lemmas.Option.{same_Some, slice_get_within, slice_get-get_or, slice_get-map}
-use Rattle.dp_model.specs.Laws.Lists.{get_set_other, get_set_same, each_at}
+use Rattle.dp_model.specs.Laws.Lists.{get_set_other, get_set_same, each_at, all_join, each_slot}
 use Rattle.dp_pipe.proofs.Forwarded.{split}
 use Rattle.std.specs.List.{list_any, AllByRecursion}
 use Rattle.dp_pcap.specs.declared.time.Unit.{Unit as TimeUnit}
 use Rattle.dp_pcap.specs.declared.error.PcapError.{PcapError}
 use Rattle.dp_pcap.specs.Source.{WhereKnown, HasRead}
 use Rattle.dp_pcap.specs.Text.{header_text}
-use Rattle.dp_pcap.specs.Standing.{Standing}
+use Rattle.dp_pcap.specs.SourceState.{SourceState}
 use Rattle.dp_engine.specs.declared.report.InputState.{InputState}
 use Rattle.dp_engine.specs.declared.report.InputState.TheVariants.{Open}
 use Rattle.dp_engine.specs.declared.report.PortReport.{PortReport}
@@ -104,16 +104,11 @@ pub is_same : {W : Type 0} (olds news : List W) (q : ℕ) (w w' : W) → slice_g
     slice_get news q ≡ Some w' → w' ≡ w
 is_same olds news q w w' same here there = same_Some w' w (sym there ∙ same ∙ here)
 
--- each of a list
-pub each_of : {W : Type 0} (P : W → Type 0) (xs : List W) → ((q : ℕ) (w : W) → slice_get xs q ≡ Some w → P w) → AllByRecursion P xs
-each_of P [] is = tt
-each_of P (x ∷ xs) is = (is 0 x refl, each_of P xs (λ q w e. is (suc q) w e))
-
 -- each device that was changed so
 pub new_all : {W : Type 0} (R : W → W → Type 0) (P : W → Type 0) (n : ℕ) (olds news : List W) → Changed R n olds news → n ≡ length olds →
     ((w w' : W) → R w w' → P w')
     → AllByRecursion P news
-new_all {W = W} R P n olds news c e implies = each_of P news each
+new_all {W = W} R P n olds news c e implies = each_slot P news each
   where
     each : (q : ℕ) (w : W) → slice_get news q ≡ Some w → P w
     each q w there =
@@ -134,17 +129,17 @@ pub new_of : {W : Type 0} (n : ℕ) (news : List W) (w u x' : W) → slice_get n
 new_of n news w u x' at there = same_Some x' u (sym there ∙ get_set_same news n u w at)
 
 -- and those after it are as they were
-pub behind_of : {W : Type 0} (R : W → W → Type 0) (n : ℕ) (olds news : List W) (u : W) → Changed R n olds news
+pub after_of : {W : Type 0} (R : W → W → Type 0) (n : ℕ) (olds news : List W) (u : W) → Changed R n olds news
     → (q : ℕ) (x x' : W) → n < q → slice_get olds q ≡ Some x → slice_get (slice_set news n u) q ≡ Some x' → x' ≡ x
-behind_of R n olds news u c q x x' l here there =
+after_of R n olds news u c q x x' l here there =
     same_Some x' x (sym there ∙ get_set_other news n q u (λ e. absurd (omega (arith, l, e))) ∙ c.rest q (omega (arith, l)) ∙ here)
 
 -- ---- writers
 
 -- those after one that was called are as they were
-same_behind : {W : Type 0} (device : W → Device) (R : W → W → Type 0) (n : ℕ) (olds news : List W) (u : W) → Changed R n olds news → (q : ℕ) → n < q
+same_after : {W : Type 0} (device : W → Device) (R : W → W → Type 0) (n : ℕ) (olds news : List W) (u : W) → Changed R n olds news → (q : ℕ) → n < q
     → slice_get (map device (slice_set news n u)) q ≡ slice_get (map device olds) q
-same_behind device R n olds news u c q l =
+same_after device R n olds news u c q l =
     slice_get-map device (slice_set news n u) q
     ∙ ap (option_map device) (get_set_other news n q u (λ e. absurd (omega (arith, l, e))) ∙ c.rest q (omega (arith, l)))
     ∙ sym (slice_get-map device olds q)
@@ -172,13 +167,13 @@ headers_stopped device R unit n olds news w u c whole at part = record {
       (λ x x' here there. whole x x' (before_of R n olds news u c q x x' l here there));
   own = in_answers device (λ a a'. IsGivenPart a a' (header_text unit)) olds (slice_set news n u) n
       (λ x x' here there. rw (old_of R n olds news w x c at here, new_of n news w u x' at there) part);
-  after = same_behind device R n olds news u c;
+  after = same_after device R n olds news u c;
 }
 
 -- ---- readers
 
 -- a header was read
-pub record HeaderRead (s : Standing) (old new : Device) : Type 0 where
+pub record HeaderRead (s : SourceState) (old new : Device) : Type 0 where
   pub has : WhereKnown old.bytes new.bytes (λ bytes rest. HasRead bytes s [] rest)
   pub calls : new.calls ≤ old.calls + 24
 
@@ -203,11 +198,6 @@ get_front (z ∷ xs) y (suc q) x e = go (get_front xs y q x e)
     go (inl (l, at)) = inl (omega (arith, l), at)
     go (inr (same, at)) = inr (ap suc same, at)
 
--- all of a list and one more
-pub each_more : {A : Type 0} (P : A → Type 0) (xs : List A) (y : A) → AllByRecursion P xs → P y → AllByRecursion P (xs ++ y ∷ [])
-each_more P [] y all is = (is, tt)
-each_more P (x ∷ xs) y (first, all) is = (first, each_more P xs y all is)
-
 -- one header more
 pub read_more : {R : Type 0} (device : R → Device) (failures : R → ℕ) (is_broken : R →
     Bool) (n : ℕ) (olds news : List R) (inputs : List Progress) (r u : R) (p : Progress)
@@ -218,7 +208,7 @@ pub read_more : {R : Type 0} (device : R → Device) (failures : R → ℕ) (is_
 read_more {R = R} device failures is_broken n olds news inputs r u p c at fared sound begun known = record {
   changed = changed_more _ n olds news r u c.changed at (fared, sound);
   many = omega (arith, length-append inputs (p ∷ []), c.many);
-  begun = each_more IsBegun inputs p c.begun begun;
+  begun = all_join IsBegun inputs (p ∷ []) c.begun (begun, tt);
   read = read;
 }
   where
@@ -297,5 +287,5 @@ header_fault device failures is_broken n olds news inputs r u error c at bad = r
   );
   fault = in_answers device (IsBadHeader error) olds (slice_set news n u) n
       (λ x x' here there. rw (old_of _ n olds news r x c.changed at here, new_of n news r u x' at there) bad);
-  after = same_behind device _ n olds news u c.changed;
+  after = same_after device _ n olds news u c.changed;
 }

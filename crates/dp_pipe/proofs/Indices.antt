@@ -1,14 +1,14 @@
 -- Elements of lists by index.
 use Rattle.std.proofs.Common.{◌≡◌, ℕ, zero, suc, ◌+◌, ◌<◌, List, [], ◌∷◌, ◌++◌, length, take, drop, Some, refl, ap, sym, ◌∙◌, arith, add-one, add-zero}
-use Rattle.std.proofs.Common.{zero-add, subst}
+use Rattle.std.proofs.Common.{zero-add}
 use Rattle.std.specs.Prelude.{slice_get, slice_set}
 use Rattle.std.proofs.lemmas.Option.{same_Some}
 use Rattle.std.specs.List.{AllZip}
 use Rattle.dp_model.specs.declared.env.Entry.{Entry}
+use Rattle.dp_model.specs.Laws.Lists.{take_more}
 use Rattle.dp_pipe.specs.Setup.{NodeFiles}
 use Rattle.dp_pipe.specs.declared.nodes.How.{How}
 use Rattle.dp_pipe.specs.Nodes.{Node, numbered, node_of}
-use Rattle.dp_pipe.proofs.PacketRuns.{zip_length}
 
 -- ---- what is there, and what is set
 
@@ -17,20 +17,10 @@ set_here [] n x y e = cc
 set_here (z ∷ xs) zero x y e = same_Some x y e
 set_here (z ∷ xs) (suc n) x y e = set_here xs n x y e
 
-pub set_itself : {A : Type 0} (xs : List A) (p : ℕ) (x : A) → slice_get xs p ≡ Some x → slice_set xs p x ≡ xs
-set_itself [] p x e = refl
-set_itself (y ∷ xs) zero x e = ap (λ z. z ∷ xs) (sym (same_Some y x e))
-set_itself (y ∷ xs) (suc p) x e = ap (λ l. y ∷ l) (set_itself xs p x e)
-
 -- ---- one element more
 
-taken_next : {A : Type 0} (xs : List A) (k : ℕ) (x : A) → slice_get xs k ≡ Some x → take (suc k) xs ≡ take k xs ++ x ∷ []
-taken_next [] k x e = absurd cc
-taken_next (y ∷ ys) zero x e = let same : y ≡ x = cc in ap (λ z. z ∷ []) same
-taken_next (y ∷ ys) (suc k) x e = ap (λ zs. y ∷ zs) (taken_next ys k x e)
-
 pub taken_more : {A : Type 0} (xs : List A) (k : ℕ) (x : A) → slice_get xs k ≡ Some x → take (k + 1) xs ≡ take k xs ++ x ∷ []
-taken_more xs k x e = rw add-one (taken_next xs k x e)
+taken_more xs k x e = rw add-one (take_more xs k x e)
 
 -- the list, split at an element
 pub parted : {A : Type 0} (xs : List A) (k : ℕ) (x : A) → slice_get xs k ≡ Some x → xs ≡ take k xs ++ x ∷ drop (suc k) xs
@@ -52,11 +42,11 @@ in_front [] ys k x e = absurd cc
 in_front (z ∷ zs) ys zero x e = e
 in_front (z ∷ zs) ys (suc k) x e = in_front zs ys k x e
 
-pub behind : {A : Type 0} (xs ys : List A) (k : ℕ) → slice_get (xs ++ ys) (length xs + k) ≡ slice_get ys k
-behind [] ys k = rw zero-add refl
-behind (x ∷ xs) ys k =
+pub beyond : {A : Type 0} (xs ys : List A) (k : ℕ) → slice_get (xs ++ ys) (length xs + k) ≡ slice_get ys k
+beyond [] ys k = rw zero-add refl
+beyond (x ∷ xs) ys k =
     let next : length (x ∷ xs) + k ≡ suc (length xs + k) = omega arith in
-    ap (slice_get (x ∷ (xs ++ ys))) next ∙ behind xs ys k
+    ap (slice_get (x ∷ (xs ++ ys))) next ∙ beyond xs ys k
 
 -- ---- numbered nodes
 
@@ -88,12 +78,3 @@ numbered_entry how kind k (g ∷ files) (suc i) node e =
     numbered_entry how kind (k + 1) files i node e ∙ ap kind next
 
 -- ---- lists that fit, index by index
-
-pub zipped_at : {A B : Type 0} (R : A → B → Type 0) (xs : List A) (ys : List B) (k : ℕ) (y : B) → AllZip R xs ys → slice_get ys k ≡ Some y →
-    (x : A) × (slice_get xs k ≡ Some x) × R x y
-zipped_at R [] [] k y all e = absurd cc
-zipped_at R [] (z ∷ ys) k y all e = absurd all
-zipped_at R (x ∷ xs) [] k y all e = absurd all
-zipped_at R (x ∷ xs) (z ∷ ys) zero y all e =
-    let same : z ≡ y = cc in (x, refl, subst (R x) same all.0)
-zipped_at R (x ∷ xs) (z ∷ ys) (suc k) y all e = zipped_at R xs ys k y all.1 e

@@ -4,6 +4,7 @@ use Rattle.std.specs.Prelude.{slice_get, slice_set, option_map, option_to_list}
 use Rattle.std.proofs.lemmas.List.{length-append, append_assoc}
 use Rattle.std.proofs.lemmas.Option.{slice_get_past, same_Some}
 use Rattle.dp_model.specs.Runs.{Arrival, round_of, rounds, longest, interleaved}
+use Rattle.dp_pipe.proofs.Indices.{front_of}
 
 -- a record of an input, as it comes to a port
 abbrev pub arriving : {T : Type 0} → ℕ → T × List ℕ → Arrival T
@@ -58,11 +59,6 @@ rounds_same zero k a b same = refl
 rounds_same (suc n) k a b same =
     rw (same k (omega arith)) (ap (λ l. round_of k 0 b ++ l) (rounds_same n (k + 1) a b (λ j lt. same j (omega (arith, lt)))))
 
-get_front : {A : Type 0} (xs ys : List A) (j : ℕ) → j < length xs → slice_get (xs ++ ys) j ≡ slice_get xs j
-get_front [] ys j lt = absurd (omega (arith, lt))
-get_front (x ∷ xs) ys zero lt = refl
-get_front (x ∷ xs) ys (suc j) lt = get_front xs ys j (omega (arith, lt))
-
 get_last : {A : Type 0} (xs : List A) (r : A) → slice_get (xs ++ r ∷ []) (length xs) ≡ Some r
 get_last [] r = refl
 get_last (x ∷ xs) r = get_last xs r
@@ -73,7 +69,7 @@ round_same : {T : Type 0} (inputs : List (List (T × List ℕ))) (p j s : ℕ) (
 round_same [] p j s xs ys e lt = refl
 round_same {T} (x ∷ inputs) zero j s xs ys e lt =
     let same = same_Some x xs e in
-    ap (λ o. option_to_list (option_map (arriving s) o) ++ round_of j (s + 1) inputs) (get_front xs ys j lt ∙ ap (λ l. slice_get l j) (sym same))
+    ap (λ o. option_to_list (option_map (arriving s) o) ++ round_of j (s + 1) inputs) (front_of xs ys j lt ∙ ap (λ l. slice_get l j) (sym same))
 round_same (x ∷ inputs) (suc p) j s xs ys e lt =
     ap (λ l. option_to_list (option_map (arriving s) (slice_get x j)) ++ l) (round_same inputs p j (s + 1) xs ys e lt)
 
@@ -116,7 +112,7 @@ all_rounds n inputs few =
 pub interleaved_more : {T : Type 0} (inputs : List (List (T × List ℕ))) (p : ℕ) (xs : List (T × List ℕ)) (r : T × List ℕ) → slice_get inputs p ≡ Some xs
     → AreFew (length xs + 1) inputs → ((q : ℕ) (ys : List (T × List ℕ)) → p < q → slice_get inputs q ≡ Some ys → length ys ≤ length xs)
     → interleaved (slice_set inputs p (xs ++ r ∷ [])) ≡ interleaved inputs ++ arriving p r ∷ []
-interleaved_more inputs p xs r e few behind =
+interleaved_more inputs p xs r e few beyond =
     let k = length xs in
     let after = slice_set inputs p (xs ++ r ∷ []) in
     let more = length-append xs (r ∷ []) in
@@ -125,7 +121,7 @@ interleaved_more inputs p xs r e few behind =
     let b = all_rounds (suc k) inputs (few_at (k + 1) (suc k) inputs (omega arith) few) in
     let same : rounds k 0 after ≡ rounds k 0 inputs = rounds_same k 0 after inputs (λ j lt. round_same inputs p j 0 xs (r ∷ []) e (omega (arith, lt))) in
     let zero_more : 0 + p ≡ p = omega arith in
-    let last : round_of k 0 after ≡ round_of k 0 inputs ++ arriving p r ∷ [] = round_more inputs p 0 xs r e behind
+    let last : round_of k 0 after ≡ round_of k 0 inputs ++ arriving p r ∷ [] = round_more inputs p 0 xs r e beyond
     ∙ ap (λ n. round_of k 0 inputs ++ arriving n r ∷ []) zero_more in
     let c = rounds_last k 0 after in
     let d = rounds_last k 0 inputs in

@@ -30,7 +30,7 @@ use Rattle.dp_model.specs.Laws.Lists.{get_within}
 use Rattle.dp_pipe.proofs.Forwarded.{split, tallies_other, tallies_same}
 use Rattle.dp_pipe.proofs.Numbers.{IsCounted}
 use Rattle.dp_pipe.proofs.PacketRuns.{IsReady, packet_run, ran, run_of, counted_run, rings_there}
-use Rattle.dp_pipe.proofs.Indices.{behind}
+use Rattle.dp_pipe.proofs.Indices.{beyond}
 use Rattle.dp_pipe.proofs.RunOn.{counted_sent, outcomes_many, shown_in, tally_more, turn_tally}
 use Rattle.dp_pipe.proofs.Through.{stays_failed}
 
@@ -44,11 +44,11 @@ capture_joined xs ys q lt lt' =
     ap (λ o. option_map_or capture_of o []) both ∙ map-append captured x y
     ∙ ap (λ o. option_map_or capture_of o [] ++ capture_of y) (sym was) ∙ ap (λ o. capture_at xs q ++ option_map_or capture_of o []) (sym is)
 
-take_behind : {A : Type 0} (xs ys : List A) (n : ℕ) → take (length xs + n) (xs ++ ys) ≡ xs ++ take n ys
-take_behind [] ys n = ap (λ m. take m ys) (zero-add n)
-take_behind (x ∷ xs) ys n =
+take_after : {A : Type 0} (xs ys : List A) (n : ℕ) → take (length xs + n) (xs ++ ys) ≡ xs ++ take n ys
+take_after [] ys n = ap (λ m. take m ys) (zero-add n)
+take_after (x ∷ xs) ys n =
     let next : length (x ∷ xs) + n ≡ suc (length xs + n) = omega arith in
-    ap (λ m. take m (x ∷ (xs ++ ys))) next ∙ ap (λ l. x ∷ l) (take_behind xs ys n)
+    ap (λ m. take m (x ∷ (xs ++ ys))) next ∙ ap (λ l. x ∷ l) (take_after xs ys n)
 
 -- a header, records, and more records
 text_more : (unit : TimeUnit) (xs ys : List PacketRecord) → (header_text unit ++ records_text unit xs) ++ records_text unit ys ≡ text unit (xs ++ ys)
@@ -92,9 +92,9 @@ module _ (unit : TimeUnit) (captures : List (List (Time × List ℕ))) (time : T
       (given_then old m new (text unit (capture_at captures q)) (records_text unit (drained_at time e.world q)) before now)
 
   -- a port after it has written what was sent before
-  pub given_behind : (q : ℕ) (old new : Device) → port < q → slice_get held q ≡ Some old → slice_get holds q ≡ Some new →
+  pub given_after : (q : ℕ) (old new : Device) → port < q → slice_get held q ≡ Some old → slice_get holds q ≡ Some new →
       IsGiven old new (capture_text unit captures q)
-  given_behind q old new less here there =
+  given_after q old new less here there =
       let (m, at_m, before) = given_before unit captures held hdr mids many mids_many headers wrote q old here in
       let apart : q ≢ port = λ e. absurd (omega (arith, less, e)) in
       let now = rw (le-ltb q port (omega (arith, less))) at (stopped.first.wrote q m new at_m (sym (stopped.others q apart) ∙ there)) in
@@ -115,16 +115,16 @@ module _ (unit : TimeUnit) (captures : List (List (Time × List ℕ))) (time : T
       let is = both port old here in
       let one_more : length xs + (stopped.whole + 1) ≡ length xs + stopped.whole + 1 = omega arith in
       let longer : text unit xs ++ records_text unit more ≡ text unit (take (length xs + stopped.whole + 1) (capture_at all port)) =
-      text_more unit xs more ∙ ap (text unit) (sym (take_behind xs ys (stopped.whole + 1)) ∙ ap (take (length xs + (stopped.whole + 1))) (sym is)
+      text_more unit xs more ∙ ap (text unit) (sym (take_after xs ys (stopped.whole + 1)) ∙ ap (take (length xs + (stopped.whole + 1))) (sym is)
       ∙ ap (λ n. take n (capture_at all port)) one_more) in
       record {
         next = part.next;
-        next_is = ap (λ l. slice_get l (length xs + stopped.whole)) is ∙ behind xs ys stopped.whole ∙ part.next_is;
+        next_is = ap (λ l. slice_get l (length xs + stopped.whole)) is ∙ beyond xs ys stopped.whole ∙ part.next_is;
         bytes = part.bytes;
         part = part.part;
         wrote = subst (Appends old.bytes new.bytes)
             (sym (append_assoc (text unit xs) (records_text unit front) rest)
-            ∙ ap (λ l. l ++ rest) (text_more unit xs front ∙ ap (text unit) (sym (take_behind xs ys stopped.whole)
+            ∙ ap (λ l. l ++ rest) (text_more unit xs front ∙ ap (text unit) (sym (take_after xs ys stopped.whole)
             ∙ ap (take (length xs + stopped.whole)) (sym is))))
             (Appends-trans old.bytes m.bytes new.bytes (text unit xs) (records_text unit front ++ rest) before.grown part.wrote);
         calls = omega (arith, before.calls, own.calls, ap length longer, length-append (text unit xs) (records_text unit more));
@@ -183,42 +183,42 @@ module _ (p : Plan) (pattern : List ℕ) (first last : EngineState) (unit : Time
   engine_setting : f.engine.setting ≡ setting_in p pattern
   engine_setting = ap (λ (e : EngineState). e.setting) f.run.stays ∙ is.setting
 
-  behind_setting : f.behind.setting ≡ setting_in p pattern
-  behind_setting = ap (λ (e : EngineState). e.setting) f.turn.is ∙ engine_setting
+  after_setting : f.beyond.setting ≡ setting_in p pattern
+  after_setting = ap (λ (e : EngineState). e.setting) f.turn.is ∙ engine_setting
 
-  pub boxes : length f.behind.world.outboxes ≡ length p.env.ports
-  boxes = f.turn.lists ∙ ap (λ (s : Setting). length s.env.ports) behind_setting
+  pub boxes : length f.beyond.world.outboxes ≡ length p.env.ports
+  boxes = f.turn.lists ∙ ap (λ (s : Setting). length s.env.ports) after_setting
 
   pub captures_long : length f.captures ≡ length p.env.ports
   captures_long = f.many ∙ ap (λ (s : Setting). length s.env.ports) is.setting
 
-  pub records_long : length (records_at f.last.time f.behind.world) ≡ length p.env.ports
-  records_long = length-map f.behind.world.outboxes _ ∙ boxes
+  pub records_long : length (records_at f.last.time f.beyond.world) ≡ length p.env.ports
+  records_long = length-map f.beyond.world.outboxes _ ∙ boxes
 
   abbrev pub earlier : PacketRun p pattern f.before
   earlier = run_of p pattern first f.engine f.before f.captures ready is f.run
 
-  pub turned : Turn (setting_in p pattern) (programs_in p) f.last.port f.last.bytes f.engine.world f.turn.outcome f.turn.runs f.turn.answers f.behind.world
-  turned = subst (λ (c : Setting). Turn c (programs_in p) f.last.port f.last.bytes f.engine.world f.turn.outcome f.turn.runs f.turn.answers f.behind.world)
+  pub turned : Turn (setting_in p pattern) (programs_in p) f.last.port f.last.bytes f.engine.world f.turn.outcome f.turn.runs f.turn.answers f.beyond.world
+  turned = subst (λ (c : Setting). Turn c (programs_in p) f.last.port f.last.bytes f.engine.world f.turn.outcome f.turn.runs f.turn.answers f.beyond.world)
       engine_setting
-      (subst (λ (n : Nodes). Turn f.engine.setting n f.last.port f.last.bytes f.engine.world f.turn.outcome f.turn.runs f.turn.answers f.behind.world)
+      (subst (λ (n : Nodes). Turn f.engine.setting n f.last.port f.last.bytes f.engine.world f.turn.outcome f.turn.runs f.turn.answers f.beyond.world)
       (ap (λ (e : EngineState). e.nodes) f.run.stays ∙ is.nodes) f.turn.turn)
 
   pub pushed : Run (setting_in p pattern) (programs_in p) (f.before ++ f.last ∷ []) first.world
-      (with_turn f.last.time f.turn.outcome f.turn.answers f.behind.world (shown_in f.run)) (with_empty_outboxes f.behind.world)
-  pushed = run_push (setting_in p pattern) (programs_in p) f.before f.last first.world f.engine.world f.behind.world (shown_in f.run)
+      (with_turn f.last.time f.turn.outcome f.turn.answers f.beyond.world (shown_in f.run)) (with_empty_outboxes f.beyond.world)
+  pushed = run_push (setting_in p pattern) (programs_in p) f.before f.last first.world f.engine.world f.beyond.world (shown_in f.run)
       f.turn.outcome f.turn.runs f.turn.answers boxes
       (ran p pattern first f.engine f.before f.captures is f.run) turned
 
   abbrev pub through : PacketRun p pattern (f.before ++ f.last ∷ [])
-  through = packet_run p pattern (f.before ++ f.last ∷ []) first.world (with_empty_outboxes f.behind.world) (f.run.answers ++ f.turn.answers) (f.run.outcomes
+  through = packet_run p pattern (f.before ++ f.last ∷ []) first.world (with_empty_outboxes f.beyond.world) (f.run.answers ++ f.turn.answers) (f.run.outcomes
       ++ f.turn.outcome ∷ [])
-      (joined f.captures (records_at f.last.time f.behind.world)) ready is.start pushed
+      (joined f.captures (records_at f.last.time f.beyond.world)) ready is.start pushed
 
   pub goes_on_by : GoesOnBy p pattern f.before f.last earlier through
   goes_on_by = record {
     first = refl;
-    mid = f.behind.world;
+    mid = f.beyond.world;
     outcome = f.turn.outcome;
     runs = f.turn.runs;
     answers = f.turn.answers;
@@ -240,8 +240,8 @@ module _ (p : Plan) (pattern : List ℕ) (first last : EngineState) (unit : Time
       let o = f.turn.outcome in
       let after : Tallies = if f.last.port == q then counted o base else base in
       let before = length (capture_at f.captures q) in
-      let newest = drained_at f.last.time f.behind.world q in
-      let records = records_at f.last.time f.behind.world in
+      let newest = drained_at f.last.time f.beyond.world q in
+      let records = records_at f.last.time f.beyond.world in
       let c = counted_run p pattern first f.engine f.before f.captures ready is f.run captures_long in
       let there : f.last.port < length f.engine.tallies = omega (
         arith,
@@ -249,18 +249,18 @@ module _ (p : Plan) (pattern : List ℕ) (first last : EngineState) (unit : Time
         few_ports,
         c.tallies_many,
       ) in
-      let t1 : tallies_at f.behind.tallies q ≡ record after { sent = before } =
+      let t1 : tallies_at f.beyond.tallies q ≡ record after { sent = before } =
       ap (λ (e : EngineState). tallies_at e.tallies q) f.turn.is ∙ turned_tally q f.last.port o f.engine.tallies base before there (c.tallies q less) in
-      let inside : q < length f.behind.setting.env.ports = subst (λ (s : Setting). q < length s.env.ports) (sym behind_setting) less in
+      let inside : q < length f.beyond.setting.env.ports = subst (λ (s : Setting). q < length s.env.ports) (sym after_setting) less in
       let t2 : tallies_at f.stopped.engine.tallies q ≡ record after { sent = before + (if nat_lt q port then length newest else 0) } =
       f.stopped.first.tallies q inside ∙ ap (λ (t : Tallies). record t { sent = t.sent + (if nat_lt q port then length newest else 0) }) t1 in
       let port_in : port < length f.stopped.engine.tallies = omega (
         arith,
         f.stopped.there,
-        ap (λ (s : Setting). length s.env.ports) behind_setting,
+        ap (λ (s : Setting). length s.env.ports) after_setting,
         few_ports,
         f.stopped.first.each,
-        many_behind,
+        many_after,
         c.tallies_many,
       ) in
       let t3 = ap (λ (e : EngineState). tallies_at e.tallies q) f.stopped.is ∙ drained_tally q port f.stopped.whole f.stopped.engine.tallies port_in
@@ -273,8 +273,8 @@ module _ (p : Plan) (pattern : List ℕ) (first last : EngineState) (unit : Time
       (sym (tally_more q f.before f.run.outcomes f.last o no_tallies (outcomes_many (setting_in p pattern) (programs_in p) f.before first.world f.engine.world
       (shown_in f.run) (ran p pattern first f.engine f.before f.captures is f.run))))
     where
-      many_behind : length f.behind.tallies ≡ length f.engine.tallies
-      many_behind = ap (λ (e : EngineState). length e.tallies) f.turn.is
+      many_after : length f.beyond.tallies ≡ length f.engine.tallies
+      many_after = ap (λ (e : EngineState). length e.tallies) f.turn.is
           ∙ length-set f.engine.tallies f.last.port (counted f.turn.outcome (tallies_at f.engine.tallies f.last.port))
 
   pub counted_failed : IsCounted p pattern (f.before ++ f.last ∷ []) through last (sent_until port own_sent through.captures f.captures)

@@ -10,7 +10,7 @@ use Rattle.dp_pipe.specs.declared.nodes.How.{How}
 use Rattle.dp_pipe.specs.Setup.{NodeFiles}
 use Rattle.dp_pipe.specs.Views.{node_names}
 use Rattle.dp_pipe.specs.Nodes.{node_of, numbered, nodes_of}
-use Rattle.dp_pipe.proofs.Indices.{in_front, behind, numbered_at, length-numbered}
+use Rattle.dp_pipe.proofs.Indices.{in_front, beyond, numbered_at, length-numbered}
 
 -- the files at an index of a list of names
 named_at : {X : Type 0} (files_of : X → NodeFiles) (xs : List X) (i : ℕ) (x : X) → i < length xs → x ≡ get_or xs i x → slice_get (map files_of xs) i
@@ -37,6 +37,6 @@ ring_at how ports rings index ring names e lt is =
     let many : length (numbered how Port 0 files) ≡ length ports = length-numbered how Port 0 files ∙ length-map ports (λ p. node_names p.files) in
     let there : index ≡ length (numbered how Port 0 files) + ring = omega arith in
     ap (slice_get (nodes_of how files (map node_names rings))) there
-    ∙ behind (numbered how Port 0 files) (numbered how Ring 0 (map node_names rings)) ring
+    ∙ beyond (numbered how Port 0 files) (numbered how Ring 0 (map node_names rings)) ring
     ∙ numbered_at how Ring 0 (map node_names rings) ring (node_names names) at
     ∙ ap (λ n. Some (node_of how (Ring n) (node_names names))) (zero-add ring)

@@ -1,15 +1,15 @@
 -- A run of an engine is a run of packets: no node run in it is stuck, and its captures are those of copies.
-use Rattle.std.proofs.Common.{◌≡◌, ℕ, zero, suc, ◌+◌, Bool, List, [], ◌∷◌, length, replicate, Some, None, refl, sym, ◌∙◌, ap, subst, arith, zero-add}
+use Rattle.std.proofs.Common.{◌≡◌, ℕ, zero, suc, ◌+◌, Bool, List, [], length, replicate, Some, None, refl, sym, ◌∙◌, ap, subst, arith, zero-add}
 use Rattle.std.specs.Prelude.{slice_get}
 use Rattle.std.specs.Option.{option_map_or}
-use Rattle.std.specs.List.{AllZip}
 use Rattle.std.proofs.lemmas.List.{length-map}
+use Rattle.std.proofs.lemmas.Slice.Zip.{AllZip-long}
 use Rattle.dp_model.specs.Laws.Lists.{get_within}
 use Rattle.dp_pcap.specs.declared.time.Time.{Time}
 use Rattle.dp_model.specs.Environments.{fault_of}
 use Rattle.dp_model.specs.Machine.{Setting, World}
 use Rattle.dp_model.specs.Meaning.{TablesFit}
-use Rattle.dp_model.specs.Runs.{Nodes, Arrival, Outcome, Shown, Run}
+use Rattle.dp_model.specs.Runs.{Nodes, Arrival, Outcome, Observed, Run}
 use Rattle.dp_model.specs.Safety.{IsPipeline, KeepsRunsSafe}
 use Rattle.dp_model.specs.Starts.{IsStart}
 use Rattle.dp_model.specs.Laws.Runs.{safe_never_stuck}
@@ -28,7 +28,7 @@ use Rattle.dp_pipe.proofs.Numbers.{IsCounted}
 pub record AreLaws : Type 0 where
   pub safe : (c : Setting) (nodes : Nodes) (arrivals : List (Arrival Time)) (w : World) → TablesFit c → IsPipeline c nodes → IsStart c.env w
       → KeepsRunsSafe c nodes arrivals w
-  pub copies : (c : Setting) (nodes : Nodes) (arrivals : List (Arrival Time)) (w w' : World) (shown : Shown Time)
+  pub copies : (c : Setting) (nodes : Nodes) (arrivals : List (Arrival Time)) (w w' : World) (shown : Observed Time)
       → fault_of c.env ≡ None → IsStart c.env w → Run c nodes arrivals w shown w'
       → Captures c.env c.tables nodes arrivals shown.answers shown.captures w'.cuts
 
@@ -62,19 +62,13 @@ packet_run p pattern arrivals first last answers outcomes captures ready start r
       (record { answers = answers; outcomes = outcomes; captures = captures }) ready.limits start run;
 }
 
-pub zip_length : {X Y : Type 0} (P : X → Y → Type 0) (xs : List X) (ys : List Y) → AllZip P xs ys → length ys ≡ length xs
-zip_length P [] [] all = refl
-zip_length P [] (y ∷ ys) all = absurd all
-zip_length P (x ∷ xs) [] all = absurd all
-zip_length P (x ∷ xs) (y ∷ ys) all = ap suc (zip_length P xs ys all.1)
-
 -- after a run every ring exists
 pub rings_there : (p : Plan) (pattern : List ℕ) (arrivals : List (Arrival Time)) → IsReady p pattern → (run : PacketRun p pattern arrivals) →
     length run.last.rings ≡ length p.env.rings
 rings_there p pattern arrivals ready run =
     let rest = (safe_runs p pattern arrivals run.first ready run.start).rests
     (record { answers = run.answers; outcomes = run.outcomes; captures = run.captures }) run.last run.run in
-    zip_length _ p.env.rings run.last.rings rest.ready.world.rings
+    AllZip-long _ p.env.rings run.last.rings rest.ready.world.rings
 
 pub ran : (p : Plan) (pattern : List ℕ) (first last : EngineState) (arrivals : List (Arrival Time)) (captures : List (List (Time × List ℕ))) →
     IsFirst p pattern first → (r : HasRun first last arrivals captures)

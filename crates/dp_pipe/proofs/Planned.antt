@@ -1,5 +1,5 @@
 -- Loaded nodes are those of a pipeline.
-use Rattle.std.proofs.Common.{◌≡◌, ℕ, ◌+◌, ◌-◌, ◌<◌, ◌≤◌, ◌⊎◌, inl, inr, List, length, Option, Some, ap, sym, ◌∙◌, arith, length-append, zero-add}
+use Rattle.std.proofs.Common.{◌≡◌, ℕ, ◌+◌, ◌-◌, ◌<◌, List, length, Option, Some, ap, sym, ◌∙◌, arith, length-append, zero-add}
 use Rattle.std.proofs.Common.{get_or, refl, subst}
 use Rattle.std.proofs.lemmas.Option.{slice_get_read}
 use Rattle.std.specs.Prelude.{slice_get}
@@ -7,17 +7,17 @@ use Rattle.dp_model.specs.declared.env.Entry.{Entry}
 use Rattle.dp_model.specs.declared.env.Entry.TheVariants.{Port, Ring}
 use Rattle.dp_model.specs.Environments.{Environment}
 use Rattle.dp_model.specs.Rules.{Question}
-use Rattle.std.proofs.lemmas.Bool.{cases_lt}
-use Rattle.dp_check.specs.Faults.{IsChecked}
+use Rattle.dp_model.specs.Laws.Lists.{zip_back}
+use Rattle.std.proofs.lemmas.Slice.Zip.{AllZip-long}
 use Rattle.dp_engine.specs.Laws.{plan_of}
-use Rattle.dp_pipe.proofs.PacketRuns.{IsReady, AreLaws, zip_length}
+use Rattle.dp_pipe.proofs.PacketRuns.{IsReady, AreLaws}
 use Rattle.dp_pipe.specs.declared.nodes.How.{How}
 use Rattle.dp_pipe.specs.Setup.{NodeFiles}
 use Rattle.dp_pipe.specs.Files.{FileMap}
 use Rattle.dp_pipe.specs.Nodes.{Node, numbered, nodes_of, IsLoaded, AreLoaded}
 use Rattle.dp_pipe.specs.Pipelines.{Plan, IsPlan, IsFor, HasNodes}
-use Rattle.dp_engine.specs.Schemes.{AreNodes}
-use Rattle.dp_pipe.proofs.Indices.{length-numbered, numbered_entry, front_of, behind, zipped_at}
+use Rattle.dp_pipe.proofs.Indices.{length-numbered, numbered_entry, front_of, beyond}
+use Rattle.dp_pipe.specs.Laws.{are_nodes, all_checked}
 
 for_entry : (known : Option FileMap) (env : Environment) (entry : Entry) (node : Node) (q : Question) → node.entry ≡ entry → IsLoaded known env node q →
     IsFor env entry q
@@ -27,7 +27,7 @@ port_is : (known : Option FileMap) (env : Environment) (how : How) (ports rings 
     AreLoaded known env (nodes_of how ports rings) nodes
     → (port : ℕ) (q : Question) → port < length ports → slice_get nodes port ≡ Some q → IsFor env (Port port) q
 port_is known env how ports rings nodes all port q lt e =
-    let (node, at, loaded) = zipped_at (IsLoaded known env) (nodes_of how ports rings) nodes port q all e in
+    let (node, at, loaded) = zip_back (IsLoaded known env) (nodes_of how ports rings) nodes port q all e in
     let few : port < length (numbered how Port 0 ports) = omega (arith, length-numbered how Port 0 ports) in
     let here : slice_get (numbered how Port 0 ports) port ≡ Some node = sym (front_of (numbered how Port 0 ports) (numbered how Ring 0 rings) port few) ∙ at in
     for_entry known env (Port port) node q (numbered_entry how Port 0 ports port node here ∙ ap Port (zero-add port)) loaded
@@ -36,10 +36,10 @@ ring_is : (known : Option FileMap) (env : Environment) (how : How) (ports rings 
     AreLoaded known env (nodes_of how ports rings) nodes
     → (ring : ℕ) (q : Question) → slice_get nodes (length ports + ring) ≡ Some q → IsFor env (Ring ring) q
 ring_is known env how ports rings nodes all ring q e =
-    let (node, at, loaded) = zipped_at (IsLoaded known env) (nodes_of how ports rings) nodes (length ports + ring) q all e in
+    let (node, at, loaded) = zip_back (IsLoaded known env) (nodes_of how ports rings) nodes (length ports + ring) q all e in
     let index : length (numbered how Port 0 ports) + ring ≡ length ports + ring = ap (λ n. n + ring) (length-numbered how Port 0 ports) in
     let here : slice_get (numbered how Ring 0 rings) ring ≡ Some node =
-    sym (behind (numbered how Port 0 ports) (numbered how Ring 0 rings) ring) ∙ ap (slice_get (nodes_of how ports rings)) index ∙ at in
+    sym (beyond (numbered how Port 0 ports) (numbered how Ring 0 rings) ring) ∙ ap (slice_get (nodes_of how ports rings)) index ∙ at in
     for_entry known env (Ring ring) node q (numbered_entry how Ring 0 rings ring node here ∙ ap Ring (zero-add ring)) loaded
 
 -- the nodes that are loaded are one for each port and each ring of the environment
@@ -49,7 +49,7 @@ pub has_nodes : (known : Option FileMap) (env : Environment) (how : How) (ports 
 has_nodes known env how ports rings nodes all p r = record {
   count = omega (
     arith,
-    zip_length (IsLoaded known env) (nodes_of how ports rings) nodes all,
+    AllZip-long (IsLoaded known env) (nodes_of how ports rings) nodes all,
     length-append (numbered how Port 0 ports) (numbered how Ring 0 rings),
     length-numbered how Port 0 ports,
     length-numbered how Ring 0 rings,
@@ -78,23 +78,7 @@ ring_node p shown k q e inv lt is ring index =
     let plan : IsPlan shown = subst IsPlan e inv in
     plan.nodes.rings ring q (ap (slice_get shown.nodes) (sym index) ∙ node_shown p shown k q e plan lt is)
 
--- nodes of a pipeline are those of an engine
-pub are_nodes : (env : Environment) (nodes : List Question) → HasNodes env nodes → AreNodes env nodes
-are_nodes env nodes h = record {
-  many = h.count;
-  ports = λ k q l at. ((h.ports k q l at).env_is, (h.ports k q l at).entry_is);
-  rings = λ k q at. ((h.rings k q at).env_is, (h.rings k q at).entry_is);
-}
-
 -- ---- a pipeline is ready to run
-
--- each of its programs is checked
-all_checked : (env : Environment) (nodes : List Question) → HasNodes env nodes → (k : ℕ) (q : Question) → slice_get nodes k ≡ Some q → IsChecked q
-all_checked env nodes h k q at = go (cases_lt k (length env.ports))
-  where
-    go : (k < length env.ports) ⊎ (length env.ports ≤ k) → IsChecked q
-    go (inl less) = (h.ports k q less at).checked
-    go (inr most) = (h.rings (k - length env.ports) q (ap (slice_get nodes) (omega (arith, most)) ∙ at)).checked
 
 pub is_ready : (p : Plan) (pattern : List ℕ) → IsPlan p → AreLaws → IsReady p pattern
 is_ready p pattern plan laws =

@@ -6,7 +6,7 @@ use Rattle.std.specs.List.{AllByRecursion}
 use Rattle.std.proofs.lemmas.Bool.{le-ltb}
 use Rattle.std.proofs.lemmas.List.{length-map, map-set}
 use Rattle.std.proofs.lemmas.Option.{slice_get_within}
-use Rattle.dp_model.specs.Laws.Lists.{get_within}
+use Rattle.dp_model.specs.Laws.Lists.{get_within, set_itself, map_get}
 use Rattle.dp_pcap.specs.declared.time.Unit.{Unit as TimeUnit}
 use Rattle.dp_engine.specs.declared.report.InputState.{InputState}
 use Rattle.dp_engine.specs.declared.report.InputState.TheVariants.{Open, Whole, Cut}
@@ -15,12 +15,10 @@ use Rattle.dp_pipe.specs.declared.forwarding.Progress.{Progress}
 use Rattle.dp_pipe.specs.Devices.{Device, transfer}
 use Rattle.dp_pipe.specs.declared.forwarding.RunCause.{RunCause}
 use Rattle.dp_pipe.specs.Forwarding.{Input, Stands, Along, Advances, Stops, AreRounds, IsRound, NoneIsOpen, AreOver, asked, AnswersSo}
-use Rattle.dp_pipe.proofs.Forwarded.{map_at}
 use Rattle.dp_pipe.proofs.Advancing.{order_ended, order_round}
 use Rattle.dp_pipe.proofs.Stepping.{input_at, open_going}
 use Rattle.dp_pipe.proofs.GoingOn.{goes_on, many_least}
 use Rattle.dp_pipe.proofs.Stopping.{stops_at, states_same, are_read}
-use Rattle.dp_pipe.proofs.Indices.{set_itself}
 
 -- open or ended
 decide : (state : InputState) → (state ≡ Open) ⊎ (state ≡ Open → ⊥)
@@ -134,7 +132,7 @@ module _ {R W : Type 0} {remaining : R → Device} {contents : W → Device} {un
           rw (map-set remaining ins port r') (goes_on unit e0 e e' olds (map remaining ins) held (map contents outs) (map contents outs') progress c.inputs
           round port p p' (remaining r) (remaining r') c.along
           (record { counted = c.counted; few = c.few; mids_many = length-map outs contents ∙ c.many }) c.input open_p c.there
-          (map_at remaining ins port r c.reader) (answers (Ok tt) ok open_p))
+          (map_get remaining ins port r c.reader) (answers (Ok tt) ok open_p))
       go (inr closed) =
           let (is_ok, e_is, p_is, r_is, outs_is) = over closed in
           rw (e_is, p_is, r_is, outs_is, set_itself ins port r c.reader, set_itself progress port p c.input) (
@@ -152,7 +150,7 @@ module _ {R W : Type 0} {remaining : R → Device} {contents : W → Device} {un
       go (inl open_p) =
           rw (map-set remaining ins port r') (stops_at unit e0 e e' olds (map remaining ins) held (map contents outs) (map contents outs') progress c.inputs
           round port p p' (remaining r) (remaining r') cause c.along (length-map outs contents ∙ c.many) c.input open_p
-          (map_at remaining ins port r c.reader) (answers (Err cause) err open_p))
+          (map_get remaining ins port r c.reader) (answers (Err cause) err open_p))
       go (inr closed) = let bad : Err cause ≡ Ok tt = sym err ∙ (over closed).0 in cc
 
 -- after all ports the next round begins

@@ -9,7 +9,7 @@ use Rattle.std.proofs.lemmas.Option.{same_Some, slice_get_within}
 use Rattle.dp_pcap.specs.declared.time.Time.{Time}
 use Rattle.dp_pcap.specs.declared.time.Unit.{Unit as TimeUnit}
 use Rattle.dp_model.specs.Machine.{Setting, World}
-use Rattle.dp_model.specs.Runs.{Arrival, Outcome, Got, NoBuffer, Oversize, Nodes, Turn, Shown, Run, records_at, joined, with_empty_outboxes}
+use Rattle.dp_model.specs.Runs.{Arrival, Outcome, Got, NoBuffer, Oversize, Nodes, Turn, Observed, Run, records_at, joined, with_empty_outboxes}
 use Rattle.dp_model.specs.Laws.Runs.{with_turn, run_push}
 use Rattle.dp_engine.specs.declared.report.Tallies.{Tallies}
 use Rattle.dp_engine.specs.Drains.{captured}
@@ -24,20 +24,20 @@ arrival port time bytes = record { port = port; time = time; bytes = bytes }
 
 -- what the run of an engine shows
 abbrev pub shown_in : {e e' : EngineState} {arrivals : List (Arrival Time)} {captures : List (List (Time × List ℕ))} → HasRun e e' arrivals captures
-    → Shown Time
+    → Observed Time
 shown_in {e} {e'} {arrivals} {captures} run = record { answers = run.answers; outcomes = run.outcomes; captures = captures }
 
 -- each record has an outcome
-pub outcomes_many : (c : Setting) (nodes : Nodes) (arrivals : List (Arrival Time)) (w w' : World) (shown : Shown Time)
+pub outcomes_many : (c : Setting) (nodes : Nodes) (arrivals : List (Arrival Time)) (w w' : World) (shown : Observed Time)
     → Run c nodes arrivals w shown w' → length shown.outcomes ≡ length arrivals
-outcomes_many c nodes [] w w' shown (none, is) = ap (λ (s : Shown Time). length s.outcomes) none
+outcomes_many c nodes [] w w' shown (none, is) = ap (λ (s : Observed Time). length s.outcomes) none
 outcomes_many c nodes (a ∷ arrivals) w w' shown (outcome, answers, runs, mid, rest, turn, run, is) =
-    ap (λ (s : Shown Time). length s.outcomes) is ∙ ap suc (outcomes_many c nodes arrivals (with_empty_outboxes mid) w' rest run)
+    ap (λ (s : Observed Time). length s.outcomes) is ∙ ap suc (outcomes_many c nodes arrivals (with_empty_outboxes mid) w' rest run)
 
 -- as many captures as ports, at most
-pub captures_many : (c : Setting) (nodes : Nodes) (arrivals : List (Arrival Time)) (w w' : World) (shown : Shown Time)
+pub captures_many : (c : Setting) (nodes : Nodes) (arrivals : List (Arrival Time)) (w w' : World) (shown : Observed Time)
     → Run c nodes arrivals w shown w' → length shown.captures ≤ length c.env.ports
-captures_many c nodes [] w w' shown (none, is) = omega (arith, ap (λ (s : Shown Time). length s.captures) none, length_none (length c.env.ports))
+captures_many c nodes [] w w' shown (none, is) = omega (arith, ap (λ (s : Observed Time). length s.captures) none, length_none (length c.env.ports))
   where
     length_none : (n : ℕ) → length {A = List (Time × List ℕ)} (replicate n []) ≡ n
     length_none zero = refl
@@ -45,7 +45,7 @@ captures_many c nodes [] w w' shown (none, is) = omega (arith, ap (λ (s : Shown
 captures_many c nodes (a ∷ arrivals) w w' shown (outcome, answers, runs, mid, rest, turn, run, is) =
     omega (
       arith,
-      ap (λ (s : Shown Time). length s.captures) is,
+      ap (λ (s : Observed Time). length s.captures) is,
       shorter (records_at a.time mid) rest.captures,
       captures_many c nodes arrivals (with_empty_outboxes mid) w' rest run,
     )

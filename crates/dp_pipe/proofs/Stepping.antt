@@ -5,7 +5,7 @@ use Rattle.std.specs.Prelude.{slice_get, slice_set}
 use Rattle.std.proofs.lemmas.List.{length-append, length-set}
 use Rattle.std.proofs.lemmas.Option.{slice_get_within}
 use Rattle.dp_pcap.specs.declared.time.Time.{Time}
-use Rattle.dp_pcap.specs.Standing.{Standing}
+use Rattle.dp_pcap.specs.SourceState.{SourceState}
 use Rattle.dp_pcap.specs.Capture.{PacketRecord}
 use Rattle.dp_pcap.specs.Source.{WhereKnown, HasRead, advanced, over}
 use Rattle.dp_pcap.specs.declared.time.Unit.{Unit as TimeUnit}
@@ -69,13 +69,13 @@ known_then (Some x) (Some y) None P Q R f p q = absurd q
 known_then (Some x) (Some y) (Some z) P Q R f p q = f x y z p q
 
 -- what was read of an input that is open
-pub open_read : (state : InputState) (s : Standing) (records : List PacketRecord) (bytes rest : List ℕ) → state ≡ Open →
+pub open_read : (state : InputState) (s : SourceState) (records : List PacketRecord) (bytes rest : List ℕ) → state ≡ Open →
     HasReadSo state s records bytes rest → HasRead bytes s records rest
 open_read Open s records bytes rest e has = has
 open_read Whole s records bytes rest e has = cc
 open_read (Cut byte) s records bytes rest e has = cc
 
-pub open_going : (state : InputState) (s : Standing) (count : ℕ) → state ≡ Open → IsGoingOn state s count → (s.is_open ≡ true) × (s.given ≡ count)
+pub open_going : (state : InputState) (s : SourceState) (count : ℕ) → state ≡ Open → IsGoingOn state s count → (s.is_open ≡ true) × (s.given ≡ count)
 open_going Open s count e on = on
 open_going Whole s count e on = cc
 open_going (Cut byte) s count e on = cc
@@ -107,7 +107,7 @@ stands_more p p' i time len buf stands was is moved less =
     let (on, given) = open_going i.state p.source (length i.records) state stands.goes_on in
     let more = length-append i.records (record { time = time; bytes = take len buf } ∷ []) in
     record {
-      unit = ap (λ (s : Standing). s.unit) moved ∙ stands.unit;
+      unit = ap (λ (s : SourceState). s.unit) moved ∙ stands.unit;
       state = is ∙ sym state;
       goes_on = rw (state, moved) (on, omega (arith, given, more));
       few = omega (arith, given, more, less);
@@ -117,7 +117,7 @@ stands_more p p' i time len buf stands was is moved less =
 pub stands_ended : (p p' : Progress) (i : Input) (state : InputState) → Stands p i → p'.state ≡ state → p'.source ≡ over p.source →
     (state ≡ Open → ⊥) → Stands p' (ended state i)
 stands_ended p p' i state stands is moved closed = record {
-  unit = ap (λ (s : Standing). s.unit) moved ∙ stands.unit;
+  unit = ap (λ (s : SourceState). s.unit) moved ∙ stands.unit;
   state = is;
   goes_on = none state closed;
   few = stands.few;

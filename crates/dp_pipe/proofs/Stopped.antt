@@ -21,7 +21,7 @@ use Rattle.dp_pipe.specs.Running.{RunAnswers, RanOn, IsFirst, GoesForward, Heade
 use Rattle.dp_pipe.proofs.Headline.{ports_in, went_on}
 use Rattle.dp_pipe.proofs.Heading.{none_read}
 use Rattle.dp_pipe.proofs.Idle.{idle_reported}
-use Rattle.dp_pipe.proofs.LastTurn.{records_long, captures_long, earlier, through, goes_on_by, own_sent, counted_failed, given_ahead, given_own, given_behind}
+use Rattle.dp_pipe.proofs.LastTurn.{records_long, captures_long, earlier, through, goes_on_by, own_sent, counted_failed, given_ahead, given_own, given_after}
 use Rattle.dp_pipe.proofs.Loaded.{few}
 use Rattle.dp_pipe.proofs.Numbers.{numbers_reported}
 use Rattle.dp_pipe.proofs.PacketRuns.{IsReady}
@@ -40,7 +40,7 @@ stopped_writing p pattern first last unit olds news held hdr holds inputs progre
     let before = earlier p pattern first last unit olds news hdr holds inputs port ready is f few_ports in
     let run = through p pattern first last unit olds news hdr holds inputs port ready is f few_ports in
     let long : length f.captures ≡ length held = captures_long p pattern first last unit olds news hdr holds inputs port ready is f few_ports ∙ sym held_many in
-    let new_long : length (records_at f.last.time f.behind.world) ≡ length held =
+    let new_long : length (records_at f.last.time f.beyond.world) ≡ length held =
     records_long p pattern first last unit olds news hdr holds inputs port ready is f few_ports ∙ sym held_many in
     record {
       room = is.room;
@@ -57,22 +57,22 @@ stopped_writing p pattern first last unit olds news held hdr holds inputs progre
       goes_on = goes_on_by p pattern first last unit olds news hdr holds inputs port ready is f few_ports;
       there = omega (arith, f.stopped.there, there);
       ahead = λ q less old new here at. subst (λ (u : TimeUnit). IsGiven old new (capture_text u run.captures q)) f.unit_is
-          (given_ahead unit f.captures f.last.time f.behind last held hdr f.mids holds port many f.mids_many headers f.wrote long new_long f.stopped q old new
+          (given_ahead unit f.captures f.last.time f.beyond last held hdr f.mids holds port many f.mids_many headers f.wrote long new_long f.stopped q old new
           less here at);
       sent = own_sent p pattern first last unit olds news hdr holds inputs port ready is f few_ports;
       not_less = omega arith;
       own = λ old new here at. subst (λ (u : TimeUnit). WroteFront u (capture_at run.captures port)
           (length (capture_at f.captures port) + f.stopped.whole) old new) f.unit_is
-          (given_own unit f.captures f.last.time f.behind last held hdr f.mids holds port many f.mids_many headers f.wrote long new_long f.stopped old new
+          (given_own unit f.captures f.last.time f.beyond last held hdr f.mids holds port many f.mids_many headers f.wrote long new_long f.stopped old new
           here at);
       after = λ q less old new here at. subst (λ (u : TimeUnit). IsGiven old new (capture_text u f.captures q)) f.unit_is
-          (given_behind unit f.captures f.last.time f.behind last held hdr f.mids holds port many f.mids_many headers f.wrote long new_long f.stopped q old
+          (given_after unit f.captures f.last.time f.beyond last held hdr f.mids holds port many f.mids_many headers f.wrote long new_long f.stopped q old
           new less here at);
       numbers = numbers_reported p pattern _ run last progress inputs _ r few_ports few_rings (f.inputs_many ∙ ports) states
           (counted_failed p pattern first last unit olds news hdr holds inputs port ready is f few_ports) reported;
     }
   where
-    there : length f.behind.setting.env.ports ≡ length p.env.ports
+    there : length f.beyond.setting.env.ports ≡ length p.env.ports
     there = ap (λ (e : EngineState). length e.setting.env.ports) f.turn.is ∙ ap (λ (e : EngineState). length e.setting.env.ports) f.run.stays
         ∙ ports_in p pattern first is
 

@@ -11,10 +11,10 @@ use Rattle.dp_pcap.specs.declared.error.PcapError.TheVariants.{BadMagic, BadVers
 use Rattle.dp_pcap.specs.declared.source.Next.{Next}
 use Rattle.dp_pcap.specs.declared.source.Next.TheVariants.{Record, End}
 use Rattle.dp_pcap.specs.declared.source.Next.TheVariants as next
-use Rattle.dp_pcap.specs.Standing.{Standing}
+use Rattle.dp_pcap.specs.SourceState.{SourceState}
 use Rattle.dp_pcap.specs.Capture.{PacketRecord}
-use Rattle.dp_pcap.specs.Source.{WhereKnown, Continues, ReadsOn, IsInRange, Moves, advanced, most_pulls}
-use Rattle.dp_model.specs.Laws.Lists.{get_set_other, get_within}
+use Rattle.dp_pcap.specs.Source.{WhereKnown, Continues, ReadsOn, IsInRange, Moves, advanced, max_pulls}
+use Rattle.dp_model.specs.Laws.Lists.{get_set_other, get_within, set_itself}
 use Rattle.dp_engine.specs.declared.report.InputState.{InputState}
 use Rattle.dp_engine.specs.declared.report.InputState.TheVariants.{Open, Whole, Cut}
 use Rattle.dp_engine.specs.Engines.{EngineState}
@@ -25,7 +25,7 @@ use Rattle.dp_pipe.specs.declared.forwarding.RunCause.TheVariants.{In, Out}
 use Rattle.dp_pipe.specs.Forwarding.{Input, IsReadTo, AreRead, Refuses, Stands, AllStand, ReadsTurn, Follows, Advances, Along, Stops, arrivals_of}
 use Rattle.dp_pipe.specs.Forwarding.{TakesTurn, DrainsStopped, unit_for}
 use Rattle.dp_pipe.proofs.Forwarded.{split}
-use Rattle.dp_pipe.proofs.Indices.{set_here, set_itself}
+use Rattle.dp_pipe.proofs.Indices.{set_here}
 use Rattle.dp_pipe.proofs.RunOn.{arrival}
 use Rattle.dp_pipe.proofs.Advancing.{with_record, arrivals_more, order_next}
 use Rattle.dp_pipe.proofs.GoingOn.{wanted}
@@ -78,7 +78,7 @@ are_read olds news progress inputs stand q i at old new a b =
     read_as i p.source old new (stand.each q p i here at).unit (stand.read q p i here at old new a b)
 
 -- a fault takes no more calls than the largest record
-pulls_most : (error : PcapError) → most_pulls (Err error) ≤ 262160
+pulls_most : (error : PcapError) → max_pulls (Err error) ≤ 262160
 pulls_most BadMagic = omega arith
 pulls_most BadVersion = omega arith
 pulls_most BadLink = omega arith
@@ -90,7 +90,7 @@ pulls_most Read = omega arith
 pulls_most error = omega arith
 
 -- what a fault says of the bytes
-refuses_of : (error : PcapError) (s s' : Standing) (unit : TimeUnit) (records : List PacketRecord) (bytes rest buf : List ℕ) → s.unit ≡ unit →
+refuses_of : (error : PcapError) (s s' : SourceState) (unit : TimeUnit) (records : List PacketRecord) (bytes rest buf : List ℕ) → s.unit ≡ unit →
     ReadsOn bytes records s s' rest buf (Err error) → Refuses unit records error bytes rest
 refuses_of BadMagic s s' unit records bytes rest buf same has = rw (← same) has
 refuses_of BadVersion s s' unit records bytes rest buf same has = rw (← same) has
@@ -119,12 +119,12 @@ module _ (unit : TimeUnit) (e0 e : EngineState) (olds news held mids : List Devi
   i_open = sym i_stands.state ∙ open_p
 
   -- a writer failed after its record
-  failed_behind : (holds : List Device) (time : Time) (len : ℕ) (buf : List ℕ) (e1 e2 : EngineState) (q : ℕ)
+  failed_after : (holds : List Device) (time : Time) (len : ℕ) (buf : List ℕ) (e1 e2 : EngineState) (q : ℕ)
       → length mids ≡ length e0.setting.env.ports → len ≤ length buf → b.calls ≤ a.calls + (16 + len)
       → WhereKnown a.bytes b.bytes (λ left rest. Continues p.source p'.source left rest buf (Ok (Record time len)))
       → p.source.given < 16777216 → p'.source ≡ advanced p.source len → TakesTurn port e e1 (take len buf) → p'.state ≡ Open
       → DrainsStopped unit time e1 e2 mids holds q → Stops unit e0 e2 (transfer olds (slice_set news port b) held holds) (slice_set progress port p') (Out q)
-  failed_behind holds time len buf e1 e2 q mids_many fits pulls more less moves turn is stops =
+  failed_after holds time len buf e1 e2 q mids_many fits pulls more less moves turn is stops =
       let r : PacketRecord = record { time = time; bytes = take len buf } in
       let i' = with_record r i in
       let stands = stands_more p p' i time len buf i_stands open_p is moves less in
@@ -154,7 +154,7 @@ module _ (unit : TimeUnit) (e0 e : EngineState) (olds news held mids : List Devi
           mids = mids;
           mids_many = mids_many ∙ sym along.held_many;
           wrote = along.wrote;
-          behind = e1;
+          beyond = e1;
           turn = turn;
           stopped = stops;
         },
@@ -166,7 +166,7 @@ module _ (unit : TimeUnit) (e0 e : EngineState) (olds news held mids : List Devi
       ∙ set_itself (map state_at progress) port p.state (states_get progress port p here))
 
   -- what was read up to a fault
-  read_to : (error : PcapError) (buf : List ℕ) → b.calls ≤ a.calls + most_pulls (Err error)
+  read_to : (error : PcapError) (buf : List ℕ) → b.calls ≤ a.calls + max_pulls (Err error)
       → WhereKnown a.bytes b.bytes (λ left rest. Continues p.source p'.source left rest buf (Err error))
       → (old : Device) → slice_get olds port ≡ Some old → IsReadTo i error old b
   read_to error buf pulls more old at =
@@ -179,7 +179,7 @@ module _ (unit : TimeUnit) (e0 e : EngineState) (olds news held mids : List Devi
       }
 
   -- the input is at fault
-  refused_here : (error : PcapError) (buf : List ℕ) → b.calls ≤ a.calls + most_pulls (Err error)
+  refused_here : (error : PcapError) (buf : List ℕ) → b.calls ≤ a.calls + max_pulls (Err error)
       → WhereKnown a.bytes b.bytes (λ left rest. Continues p.source p'.source left rest buf (Err error)) → p'.state ≡ Open
       → Stops unit e0 e (transfer olds (slice_set news port b) held mids) (slice_set progress port p') (In port error)
   refused_here error buf pulls more is = (
@@ -217,12 +217,12 @@ stops_at unit e0 e e' olds news held mids holds progress inputs round port p p' 
     same_err : (x y : RunCause) → ◌≡◌ {A = Result ⊤ RunCause} (Err x) (Err y) → x ≡ y
     same_err x y e = cc
 
-    go : (answer : Result Next PcapError) → ReadsTurn port e step.engine p.source p'.source a.bytes b.bytes answer → b.calls ≤ a.calls + most_pulls answer →
+    go : (answer : Result Next PcapError) → ReadsTurn port e step.engine p.source p'.source a.bytes b.bytes answer → b.calls ≤ a.calls + max_pulls answer →
         IsInRange p.source answer →
         Moves p.source p'.source answer → Follows port unit step.engine e' p'.state mids holds answer (Err cause)
         → Stops unit e0 e' (transfer olds (slice_set news port b) held holds) (slice_set progress port p') cause
     go (Ok (Record time len)) (buf, more, (fits, turn)) pulls (nano, few, less) moves (is, q, cause_is, stops) =
-        rw cause_is (failed_behind unit e0 e olds news held mids progress inputs round port along p p' here open_p a b left_a holds time len buf step.engine e'
+        rw cause_is (failed_after unit e0 e olds news held mids progress inputs round port along p p' here open_p a b left_a holds time len buf step.engine e'
         q mids_many fits pulls more less moves turn is stops)
     go (Ok End) reads pulls range moves (is, bad, e_is, holds_is) = cc
     go (Ok (next.Cut byte)) reads pulls range moves (is, bad, e_is, holds_is) = cc

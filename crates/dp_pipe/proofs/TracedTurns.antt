@@ -1,38 +1,34 @@
 -- Records that are traced, one after the other.
 use Rattle.std.proofs.Common.{◌≡◌, ℕ, zero, suc, ◌+◌, ◌≤◌, List, [], ◌∷◌, ◌++◌, length, Option, refl, sym, ◌∙◌, ap, subst, arith}
-use Rattle.std.specs.List.{AllByRecursion}
 use Rattle.std.proofs.lemmas.List.{length-append}
 use Rattle.dp_model.specs.Machine.{Setting, World}
 use Rattle.dp_model.specs.Runs.{Arrival, Nodes, with_empty_outboxes}
+use Rattle.dp_model.specs.Laws.Lists.{all_join}
 use Rattle.dp_pcap.specs.declared.time.Time.{Time}
 use Rattle.dp_engine.specs.Engines.{EngineState}
 use Rattle.dp_engine.specs.Watching.{Event}
 use Rattle.dp_pipe.specs.Tracing.{Note, TracesTurn, Traces, IsTraced, HasTraced, TracesRead}
 
 -- one record more
-traces_more : {V : Type 0} (sees : V → Event → V → Type 0) (told : V → Note → V → Type 0) (v mid v' : V) (c : Setting) (nodes : Nodes)
-    (arrivals : List (Arrival Time)) (a : Arrival Time) (w0 w w' : World) → Traces sees told v mid c nodes arrivals w0 w
-    → TracesTurn sees told mid v' c nodes a w w'
-    → Traces sees told v v' c nodes (arrivals ++ a ∷ []) w0 (with_empty_outboxes w')
-traces_more sees told v mid v' c nodes [] a w0 w w' (same, is) turn = (
+traces_more : {V : Type 0} (sees : V → Event → V → Type 0) (noted : V → Note → V → Type 0) (v mid v' : V) (c : Setting) (nodes : Nodes)
+    (arrivals : List (Arrival Time)) (a : Arrival Time) (w0 w w' : World) → Traces sees noted v mid c nodes arrivals w0 w
+    → TracesTurn sees noted mid v' c nodes a w w'
+    → Traces sees noted v v' c nodes (arrivals ++ a ∷ []) w0 (with_empty_outboxes w')
+traces_more sees noted v mid v' c nodes [] a w0 w w' (same, is) turn = (
   v',
   w',
-  subst (λ (x : World). TracesTurn sees told v v' c nodes a x w') is (subst (λ x. TracesTurn sees told x v' c nodes a w w') same turn),
+  subst (λ (x : World). TracesTurn sees noted v v' c nodes a x w') is (subst (λ x. TracesTurn sees noted x v' c nodes a w w') same turn),
   (refl, refl),
 )
-traces_more sees told v mid v' c nodes (b ∷ arrivals) a w0 w w' (next, turned, first, rest) turn =
-    (next, turned, first, traces_more sees told next mid v' c nodes arrivals a (with_empty_outboxes turned) w w' rest turn)
-
-all_more : {A : Type 0} (P : A → Type 0) (xs : List A) (x : A) → AllByRecursion P xs → P x → AllByRecursion P (xs ++ x ∷ [])
-all_more P [] x all here = (here, all)
-all_more P (y ∷ xs) x all here = (all.0, all_more P xs x all.1 here)
+traces_more sees noted v mid v' c nodes (b ∷ arrivals) a w0 w w' (next, turned, first, rest) turn =
+    (next, turned, first, traces_more sees noted next mid v' c nodes arrivals a (with_empty_outboxes turned) w w' rest turn)
 
 -- ---- engines
 
 -- nothing yet
-pub traced_none : {V : Type 0} (sees : V → Event → V → Type 0) (told : V → Note → V → Type 0) (v : V) (only : Option ℕ) (e : EngineState)
-    → HasTraced sees told v v only 0 e e
-traced_none sees told v only e = record {
+pub traced_none : {V : Type 0} (sees : V → Event → V → Type 0) (noted : V → Note → V → Type 0) (v : V) (only : Option ℕ) (e : EngineState)
+    → HasTraced sees noted v v only 0 e e
+traced_none sees noted v only e = record {
   arrivals = [];
   traces = (refl, refl);
   only_is = _;
@@ -43,17 +39,17 @@ traced_none sees told v only e = record {
 }
 
 -- a record more, after which all transmit lists are emptied
-pub traced_more : {V : Type 0} (sees : V → Event → V → Type 0) (told : V → Note → V → Type 0) (v0 v v' : V) (only : Option ℕ) (count : ℕ)
-    (e0 e e' e'' : EngineState) (port : ℕ) (time : Time) → HasTraced sees told v0 v only count e0 e → TracesRead sees told v v' port time e e'
-    → IsTraced only port → e'' ≡ record e' { world = with_empty_outboxes e'.world } → HasTraced sees told v0 v' only (count + 1) e0 e''
-traced_more sees told v0 v v' only count e0 e e' e'' port time h r of is =
+pub traced_more : {V : Type 0} (sees : V → Event → V → Type 0) (noted : V → Note → V → Type 0) (v0 v v' : V) (only : Option ℕ) (count : ℕ)
+    (e0 e e' e'' : EngineState) (port : ℕ) (time : Time) → HasTraced sees noted v0 v only count e0 e → TracesRead sees noted v v' port time e e'
+    → IsTraced only port → e'' ≡ record e' { world = with_empty_outboxes e'.world } → HasTraced sees noted v0 v' only (count + 1) e0 e''
+traced_more sees noted v0 v v' only count e0 e e' e'' port time h r of is =
     let a : Arrival Time = record { port = port; time = time; bytes = r.bytes } in
-    let turn = subst (λ (c : Setting). TracesTurn sees told v v' c e0.nodes a e.world e'.world) h.setting
-    (subst (λ (nodes : Nodes). TracesTurn sees told v v' e.setting nodes a e.world e'.world) h.nodes r.traces) in
-    subst (HasTraced sees told v0 v' only (count + 1) e0) (sym is) (record {
+    let turn = subst (λ (c : Setting). TracesTurn sees noted v v' c e0.nodes a e.world e'.world) h.setting
+    (subst (λ (nodes : Nodes). TracesTurn sees noted v v' e.setting nodes a e.world e'.world) h.nodes r.traces) in
+    subst (HasTraced sees noted v0 v' only (count + 1) e0) (sym is) (record {
       arrivals = h.arrivals ++ a ∷ [];
-      traces = traces_more sees told v0 v v' e0.setting e0.nodes h.arrivals a e0.world e.world e'.world h.traces turn;
-      only_is = all_more (λ (x : Arrival Time). IsTraced only x.port) h.arrivals a h.only_is of;
+      traces = traces_more sees noted v0 v v' e0.setting e0.nodes h.arrivals a e0.world e.world e'.world h.traces turn;
+      only_is = all_join (λ (x : Arrival Time). IsTraced only x.port) h.arrivals (a ∷ []) h.only_is (of, tt);
       many = length-append h.arrivals (a ∷ []) ∙ ap (λ n. n + 1) h.many;
       setting = r.setting ∙ h.setting;
       nodes = r.nodes ∙ h.nodes;
@@ -61,33 +57,29 @@ traced_more sees told v0 v v' only count e0 e e' e'' port time h r of is =
     })
 
 -- nothing more
-pub traced_same : {V : Type 0} (sees : V → Event → V → Type 0) (told : V → Note → V → Type 0) (v0 v v' : V) (only : Option ℕ) (count : ℕ)
-    (e0 e e' : EngineState) → HasTraced sees told v0 v only count e0 e → v' ≡ v → e' ≡ e → HasTraced sees told v0 v' only count e0 e'
-traced_same sees told v0 v v' only count e0 e e' h same is =
-    subst (λ x. HasTraced sees told v0 v' only count e0 x) (sym is) (subst (λ x. HasTraced sees told v0 x only count e0 e) (sym same) h)
+pub traced_same : {V : Type 0} (sees : V → Event → V → Type 0) (noted : V → Note → V → Type 0) (v0 v v' : V) (only : Option ℕ) (count : ℕ)
+    (e0 e e' : EngineState) → HasTraced sees noted v0 v only count e0 e → v' ≡ v → e' ≡ e → HasTraced sees noted v0 v' only count e0 e'
+traced_same sees noted v0 v v' only count e0 e e' h same is =
+    subst (λ x. HasTraced sees noted v0 v' only count e0 x) (sym is) (subst (λ x. HasTraced sees noted v0 x only count e0 e) (sym same) h)
 
-traces_join : {V : Type 0} (sees : V → Event → V → Type 0) (told : V → Note → V → Type 0) (v mid v' : V) (c : Setting) (nodes : Nodes)
-    (arrivals more : List (Arrival Time)) (w0 w w' : World) → Traces sees told v mid c nodes arrivals w0 w → Traces sees told mid v' c nodes more w w'
-    → Traces sees told v v' c nodes (arrivals ++ more) w0 w'
-traces_join sees told v mid v' c nodes [] more w0 w w' (same, is) rest =
-    subst (λ (x : World). Traces sees told v v' c nodes more x w') is (subst (λ x. Traces sees told x v' c nodes more w w') same rest)
-traces_join sees told v mid v' c nodes (a ∷ arrivals) more w0 w w' (next, turned, first, others) rest =
-    (next, turned, first, traces_join sees told next mid v' c nodes arrivals more (with_empty_outboxes turned) w w' others rest)
-
-all_join : {A : Type 0} (P : A → Type 0) (xs ys : List A) → AllByRecursion P xs → AllByRecursion P ys → AllByRecursion P (xs ++ ys)
-all_join P [] ys all more = more
-all_join P (x ∷ xs) ys all more = (all.0, all_join P xs ys all.1 more)
+traces_join : {V : Type 0} (sees : V → Event → V → Type 0) (noted : V → Note → V → Type 0) (v mid v' : V) (c : Setting) (nodes : Nodes)
+    (arrivals more : List (Arrival Time)) (w0 w w' : World) → Traces sees noted v mid c nodes arrivals w0 w → Traces sees noted mid v' c nodes more w w'
+    → Traces sees noted v v' c nodes (arrivals ++ more) w0 w'
+traces_join sees noted v mid v' c nodes [] more w0 w w' (same, is) rest =
+    subst (λ (x : World). Traces sees noted v v' c nodes more x w') is (subst (λ x. Traces sees noted x v' c nodes more w w') same rest)
+traces_join sees noted v mid v' c nodes (a ∷ arrivals) more w0 w w' (next, turned, first, others) rest =
+    (next, turned, first, traces_join sees noted next mid v' c nodes arrivals more (with_empty_outboxes turned) w w' others rest)
 
 -- a round after others
-pub traced_join : {V : Type 0} (sees : V → Event → V → Type 0) (told : V → Note → V → Type 0) (v0 v v' : V) (only : Option ℕ) (count more : ℕ)
-    (e0 e e' : EngineState) → HasTraced sees told v0 v only count e0 e → HasTraced sees told v v' only more e e'
-    → HasTraced sees told v0 v' only (count + more) e0 e'
-traced_join sees told v0 v v' only count more e0 e e' h r =
-    let rest = subst (λ (c : Setting). Traces sees told v v' c e0.nodes r.arrivals e.world e'.world) h.setting
-    (subst (λ (nodes : Nodes). Traces sees told v v' e.setting nodes r.arrivals e.world e'.world) h.nodes r.traces) in
+pub traced_join : {V : Type 0} (sees : V → Event → V → Type 0) (noted : V → Note → V → Type 0) (v0 v v' : V) (only : Option ℕ) (count more : ℕ)
+    (e0 e e' : EngineState) → HasTraced sees noted v0 v only count e0 e → HasTraced sees noted v v' only more e e'
+    → HasTraced sees noted v0 v' only (count + more) e0 e'
+traced_join sees noted v0 v v' only count more e0 e e' h r =
+    let rest = subst (λ (c : Setting). Traces sees noted v v' c e0.nodes r.arrivals e.world e'.world) h.setting
+    (subst (λ (nodes : Nodes). Traces sees noted v v' e.setting nodes r.arrivals e.world e'.world) h.nodes r.traces) in
     record {
       arrivals = h.arrivals ++ r.arrivals;
-      traces = traces_join sees told v0 v v' e0.setting e0.nodes h.arrivals r.arrivals e0.world e.world e'.world h.traces rest;
+      traces = traces_join sees noted v0 v v' e0.setting e0.nodes h.arrivals r.arrivals e0.world e.world e'.world h.traces rest;
       only_is = all_join (λ (x : Arrival Time). IsTraced only x.port) h.arrivals r.arrivals h.only_is r.only_is;
       many = length-append h.arrivals r.arrivals ∙ (ap (λ n. n + length r.arrivals) h.many ∙ ap (λ n. count + n) r.many);
       setting = r.setting ∙ h.setting;
@@ -99,27 +91,27 @@ traced_join sees told v0 v v' only count more e0 e e' h r =
 
 -- some records were traced, and that many fewer are left
 abbrev pub TracesSome : {V : Type 0} → (V → Event → V → Type 0) → (V → Note → V → Type 0) → V → V → Option ℕ → EngineState → EngineState → ℕ → ℕ → Type 0
-TracesSome sees told v v' only e e' left left' = (count : ℕ) × HasTraced sees told v v' only count e e' × (left' + count ≡ left)
+TracesSome sees noted v v' only e e' left left' = (count : ℕ) × HasTraced sees noted v v' only count e e' × (left' + count ≡ left)
 
 -- none
-pub some_none : {V : Type 0} (sees : V → Event → V → Type 0) (told : V → Note → V → Type 0) (v v' : V) (only : Option ℕ) (e e' : EngineState) (left : ℕ)
-    → v' ≡ v → e' ≡ e → TracesSome sees told v v' only e e' left left
-some_none sees told v v' only e e' left same is =
-    (0, traced_same sees told v v v' only 0 e e e' (traced_none sees told v only e) same is, omega arith)
+pub some_none : {V : Type 0} (sees : V → Event → V → Type 0) (noted : V → Note → V → Type 0) (v v' : V) (only : Option ℕ) (e e' : EngineState) (left : ℕ)
+    → v' ≡ v → e' ≡ e → TracesSome sees noted v v' only e e' left left
+some_none sees noted v v' only e e' left same is =
+    (0, traced_same sees noted v v v' only 0 e e e' (traced_none sees noted v only e) same is, omega arith)
 
 -- one
-pub some_one : {V : Type 0} (sees : V → Event → V → Type 0) (told : V → Note → V → Type 0) (v v' : V) (only : Option ℕ) (e e' e'' : EngineState)
-    (port : ℕ) (time : Time) (left left' : ℕ) → left' + 1 ≡ left → TracesRead sees told v v' port time e e' → IsTraced only port
-    → e'' ≡ record e' { world = with_empty_outboxes e'.world } → TracesSome sees told v v' only e e'' left left'
-some_one sees told v v' only e e' e'' port time left left' fewer r of is =
-    (1, traced_more sees told v v v' only 0 e e e' e'' port time (traced_none sees told v only e) r of is, fewer)
+pub some_one : {V : Type 0} (sees : V → Event → V → Type 0) (noted : V → Note → V → Type 0) (v v' : V) (only : Option ℕ) (e e' e'' : EngineState)
+    (port : ℕ) (time : Time) (left left' : ℕ) → left' + 1 ≡ left → TracesRead sees noted v v' port time e e' → IsTraced only port
+    → e'' ≡ record e' { world = with_empty_outboxes e'.world } → TracesSome sees noted v v' only e e'' left left'
+some_one sees noted v v' only e e' e'' port time left left' fewer r of is =
+    (1, traced_more sees noted v v v' only 0 e e e' e'' port time (traced_none sees noted v only e) r of is, fewer)
 
 -- and more
-pub some_join : {V : Type 0} (sees : V → Event → V → Type 0) (told : V → Note → V → Type 0) (v0 v v' : V) (only only' : Option ℕ) (e0 e e' : EngineState)
-    (left left' left'' : ℕ) → only' ≡ only → TracesSome sees told v0 v only e0 e left left' → TracesSome sees told v v' only' e e' left' left''
-    → TracesSome sees told v0 v' only e0 e' left left''
-some_join sees told v0 v v' only only' e0 e e' left left' left'' same (count, h, now) (more, r, then_now) = (
+pub some_join : {V : Type 0} (sees : V → Event → V → Type 0) (noted : V → Note → V → Type 0) (v0 v v' : V) (only only' : Option ℕ) (e0 e e' : EngineState)
+    (left left' left'' : ℕ) → only' ≡ only → TracesSome sees noted v0 v only e0 e left left' → TracesSome sees noted v v' only' e e' left' left''
+    → TracesSome sees noted v0 v' only e0 e' left left''
+some_join sees noted v0 v v' only only' e0 e e' left left' left'' same (count, h, now) (more, r, then_now) = (
   count + more,
-  traced_join sees told v0 v v' only count more e0 e e' h (subst (λ o. HasTraced sees told v v' o more e e') same r),
+  traced_join sees noted v0 v v' only count more e0 e e' h (subst (λ o. HasTraced sees noted v v' o more e e') same r),
   omega (arith, now, then_now),
 )

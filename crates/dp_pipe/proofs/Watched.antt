@@ -15,7 +15,7 @@ use Rattle.dp_pipe.specs.declared.forwarding.RunCause.{RunCause}
 use Rattle.dp_pipe.specs.Devices.{Device}
 use Rattle.dp_pipe.specs.Forwarding.{emptied, DrainedAll, DrainsStopped}
 use Rattle.dp_pipe.specs.Tracing.{TracesRead}
-use Rattle.dp_pipe.specs.Watched.{untold, HasShown, DiffersInLists, ShowsTurns, ShowsNext}
+use Rattle.dp_pipe.specs.Watched.{unnoted, HasShown, DiffersInLists, ShowsTurns, ShowsNext}
 use Rattle.dp_pipe.proofs.Forwarded.{emptied_all}
 use Rattle.dp_pipe.proofs.TracedTurns.{traced_none, traced_same, traced_join}
 
@@ -23,11 +23,11 @@ use Rattle.dp_pipe.proofs.TracedTurns.{traced_none, traced_same, traced_join}
 
 -- no turn
 pub shown_none : {V : Type 0} (sees : V → Event → V → Type 0) (v v' : V) (e e' : EngineState) → v' ≡ v → e' ≡ e → HasShown sees v v' e e'
-shown_none sees v v' e e' same is = (0, traced_same sees untold v v v' None 0 e e e' (traced_none sees untold v None e) same is)
+shown_none sees v v' e e' same is = (0, traced_same sees unnoted v v v' None 0 e e e' (traced_none sees unnoted v None e) same is)
 
 shown_join : {V : Type 0} (sees : V → Event → V → Type 0) (v0 v v' : V) (e0 e e' : EngineState) → HasShown sees v0 v e0 e → HasShown sees v v' e e'
     → HasShown sees v0 v' e0 e'
-shown_join sees v0 v v' e0 e e' (count, h) (more, r) = (count + more, traced_join sees untold v0 v v' None count more e0 e e' h r)
+shown_join sees v0 v v' e0 e e' (count, h) (more, r) = (count + more, traced_join sees unnoted v0 v v' None count more e0 e e' h r)
 
 -- turns, and then those of a run that ended so
 pub shown_then : {V : Type 0} (sees : V → Event → V → Type 0) (v0 v v' : V) (e0 e e' : EngineState) (answer : Result ⊤ RunCause) → HasShown sees v0 v e0 e
@@ -53,7 +53,7 @@ no_difference e = record {
 
 -- a turn, after which all transmit lists are emptied
 shown_turn : {V : Type 0} (sees : V → Event → V → Type 0) (v v' : V) (port : ℕ) (time : Time) (e mid e' : EngineState)
-    → TracesRead sees untold v v' port time e mid → e'.world ≡ with_empty_outboxes mid.world → e'.setting ≡ mid.setting → e'.nodes ≡ mid.nodes
+    → TracesRead sees unnoted v v' port time e mid → e'.world ≡ with_empty_outboxes mid.world → e'.setting ≡ mid.setting → e'.nodes ≡ mid.nodes
     → e'.turns ≡ mid.turns → HasShown sees v v' e e'
 shown_turn sees v v' port time e mid e' r world setting nodes turns = (
   1,

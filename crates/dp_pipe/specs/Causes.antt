@@ -27,14 +27,14 @@ number_of (BadCert _ _) = 7
 number_of (NotInferred _ _ _) = 8
 number_of (Refused _ _ _) = 9
 
--- that of the table's refusal, or 6
+-- the number of the table's refusal, or 6
 abbrev pub number_of_route : RouteError → ℕ
 number_of_route (route.Refused error) = lpm.number_of error
 number_of_route route.Unreadable = 6
 
 -- ---- how they are displayed
 
--- a kind of part
+-- how a kind of part is displayed
 abbrev pub part_text : Part → List ℕ
 part_text part.Top = codes "top"
 part_text part.Pool = codes "pool"
@@ -42,12 +42,12 @@ part_text part.Table = codes "table"
 part_text part.Ring = codes "ring"
 part_text part.Port = codes "port"
 
--- a node
+-- how a node is displayed
 abbrev pub node_text : Entry → List ℕ
 node_text (entry.Port index) = codes "port " ++ decimal index
 node_text (entry.Ring index) = codes "ring " ++ decimal index
 
--- causes 1 to 7 as a number, a name, and where and why; 8 and 9 as the verdict on the node
+-- causes 1 to 7 as a number, a name, the place and the reason; 8 and 9 as the verdict on the node
 abbrev pub text_of : PipeError → List ℕ
 text_of Memory = codes "memory"
 text_of NotToml = codes "1 NotToml"

@@ -1,4 +1,4 @@
--- The configuration in a pipeline file, and why there is none.
+-- The configuration in a pipeline file, or why a file has none.
 use Rattle.std.specs.Prelude.{◌≡◌, ℕ, min, List, [], ◌∷◌, length, map, take, slice_get, Option, Some, None, Ok, Err}
 use Rattle.std.specs.Str.{IsUtf8}
 use Rattle.toml.specs.Data.{Members}
@@ -33,7 +33,7 @@ names_of_port p = (p.files, p.input, p.output)
 abbrev pub empty_of : TablePart → RouteTable
 empty_of t = record { routes = []; max_rules = t.rules; groups = t.groups }
 
--- the table has the routes of its list, added one after the other
+-- the table has the routes of its list, added in order
 abbrev pub Holds : TablePart → RouteTable → Type 0
 Holds t table = TakesAll (empty_of t) table t.routes
 
@@ -54,7 +54,7 @@ pub record IsTableFault (ts : List TablePart) (index route : ℕ) (cause : Route
   pub before : HoldAll (take index ts) filled
   pub here : IsRouteFault (slice_get ts index) route cause
 
--- what a configuration is
+-- a configuration: the region, the environment, the tables and the file names
 pub record IsConfig (s : Setup) (c : Config) : Type 0 where
   pub region : c.region ≡ s.region
   pub fits : fault_of (environment_of s) ≡ None

@@ -32,7 +32,7 @@ pub record IsGiven (old new : Device) (bytes : List ℕ) : Type 0 where
   pub grown : Appends old.bytes new.bytes bytes
   pub calls : new.calls ≤ old.calls + length bytes
 
--- it failed inside these bytes: it was given a proper front of them
+-- a writer failed inside these bytes: it was given a proper prefix of them
 pub record IsGivenPart (old new : Device) (bytes : List ℕ) : Type 0 where
   pub grown : AppendsPart old.bytes new.bytes bytes
   pub calls : new.calls ≤ old.calls + length bytes
@@ -63,17 +63,17 @@ failed_drain (Err port) q = q == port
 abbrev pub AllSound : {D : Type 0} → (D → Bool) → List D → Type 0
 AllSound is_broken devices = AllByRecursion (λ d. is_broken d ≡ false) devices
 
--- A device after its calls: it is broken if it was before or failed now, and one of its calls failed, or none.
+-- A device after its calls: it is broken if it was before or failed now. One of its calls failed if it failed now, else none.
 pub record Fared {D : Type 0} (is_broken : D → Bool) (failures : D → ℕ) (failed : Bool) (old new : D) : Type 0 where
   pub broken : is_broken new ≡ (failed || is_broken old)
   pub count : failures new ≡ failures old + (if failed then 1 else 0)
 
--- each device of a list so: those at these indexes failed, and no others
+-- each device of a list after its calls: those at these indexes failed, and no others
 abbrev pub AllFared : {D : Type 0} → (D → Bool) → (D → ℕ) → (ℕ → Bool) → List D → List D → Type 0
 AllFared {D} is_broken failures failed olds news =
     (q : ℕ) (old new : D) → slice_get olds q ≡ Some old → slice_get news q ≡ Some new → Fared is_broken failures (failed q) old new
 
--- the device of a port so, and no other failed
+-- the device of a port after its calls, where no other device failed
 pub record FaredAlone {D : Type 0} (is_broken : D → Bool) (failures : D → ℕ) (failed : ℕ → Bool) (port : ℕ) (old new : D) : Type 0 where
   pub own : Fared is_broken failures (failed port) old new
   pub others : (q : ℕ) → q ≢ port → failed q ≡ false

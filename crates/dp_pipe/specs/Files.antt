@@ -5,31 +5,31 @@ use Rattle.std.specs.Prelude.{◌≡◌, ℕ, nat_le, List, length, Option, Some
 abbrev pub FileMap : Type 0
 FileMap = List ℕ → Option (List ℕ)
 
--- the most bytes of a file of a node
-abbrev pub longest_file : ℕ
-longest_file = 1048576
+-- the maximum size of a node's file, in bytes
+abbrev pub max_file : ℕ
+max_file = 1048576
 
--- the bytes, if there are some and not too many
+-- the bytes of a file, if it exists and is not too long
 abbrev pub if_short : Option (List ℕ) → Option (List ℕ)
 if_short None = None
-if_short (Some bytes) = if nat_le (length bytes) longest_file then Some bytes else None
+if_short (Some bytes) = if nat_le (length bytes) max_file then Some bytes else None
 
 -- the bytes of a file that exists and is not too long
 abbrev pub fetched : FileMap → List ℕ → Option (List ℕ)
 fetched files name = if_short (files name)
 
--- where the files are known, the one of this name has these bytes
+-- if the files are known, the one of this name has these bytes
 abbrev pub HasBytes : Option FileMap → List ℕ → List ℕ → Type 0
 HasBytes known name bytes = (files : FileMap) → known ≡ Some files → files name ≡ Some bytes
 
--- where the files are known, none has this name
+-- if the files are known, none has this name
 abbrev pub HasNone : Option FileMap → List ℕ → Type 0
 HasNone known name = (files : FileMap) → known ≡ Some files → files name ≡ None
 
--- where the files are known, the one of this name has these bytes, which are not too many
+-- if the files are known, the one of this name has these bytes, which are not too many
 abbrev pub IsFile : Option FileMap → List ℕ → List ℕ → Type 0
 IsFile known name bytes = (files : FileMap) → known ≡ Some files → fetched files name ≡ Some bytes
 
--- where the files are known, none has this name, or it is too long
+-- if the files are known, none has this name, or it is too long
 abbrev pub IsNoFile : Option FileMap → List ℕ → Type 0
 IsNoFile known name = (files : FileMap) → known ≡ Some files → fetched files name ≡ None

@@ -9,10 +9,10 @@ use Rattle.dp_pcap.specs.declared.time.Unit.{Unit as TimeUnit}
 use Rattle.dp_pcap.specs.declared.time.Unit.TheVariants.{Micro, Nano}
 use Rattle.dp_pcap.specs.declared.error.PcapError.{PcapError}
 use Rattle.dp_pcap.specs.declared.error.PcapError.TheVariants.{Read}
-use Rattle.dp_pcap.specs.Standing.{Standing}
+use Rattle.dp_pcap.specs.SourceState.{SourceState}
 use Rattle.dp_pcap.specs.Capture.{PacketRecord, IsCapture}
 use Rattle.dp_pcap.specs.Capture as capture
-use Rattle.dp_pcap.specs.Source.{WhereKnown, HasRead, FailsBehind, Continues, IsInRange, Moves, most_pulls}
+use Rattle.dp_pcap.specs.Source.{WhereKnown, HasRead, FailsAfter, Continues, IsInRange, Moves, max_pulls}
 use Rattle.dp_pcap.specs.declared.source.Next.{Next}
 use Rattle.dp_pcap.specs.declared.source.Next.TheVariants.{Record, End}
 use Rattle.dp_pcap.specs.declared.source.Next.TheVariants as next
@@ -39,13 +39,13 @@ pub record Input : Type 0 where
   pub records : List PacketRecord
   pub state : InputState
 
--- bytes of which this was read, and no more if the input is open: the rest is left
+-- if the input is open, this was read of these bytes and the rest is left; if it has ended, the bytes are this capture
 abbrev pub Gives : InputState → TimeUnit → List PacketRecord → List ℕ → List ℕ → Type 0
-Gives Open unit records bytes rest = (s : Standing) × HasRead bytes s records rest × (s.unit ≡ unit)
+Gives Open unit records bytes rest = (s : SourceState) × HasRead bytes s records rest × (s.unit ≡ unit)
 Gives Whole unit records bytes rest = IsCapture bytes unit records capture.Ending.Whole
 Gives (Cut byte) unit records bytes rest = IsCapture bytes unit records (capture.Ending.Cut byte)
 
--- the most calls of a reader that find the end of its input
+-- the maximum number of calls of a reader that find the end of its input
 abbrev pub last_pulls : InputState → ℕ
 last_pulls Open = 0
 last_pulls Whole = 1
@@ -63,15 +63,15 @@ AreRead had left inputs = (port : ℕ) (i : Input) → slice_get inputs port ≡
 -- a header and these records of these bytes were read, and then comes a fault: the reader failed within the next record, and the rest is left; or
 -- what follows is refused
 abbrev pub Refuses : TimeUnit → List PacketRecord → PcapError → List ℕ → List ℕ → Type 0
-Refuses unit records Read bytes rest = (s : Standing) × (s.unit ≡ unit) × FailsBehind bytes s records rest
+Refuses unit records Read bytes rest = (s : SourceState) × (s.unit ≡ unit) × FailsAfter bytes s records rest
 Refuses unit records error bytes rest = IsCapture bytes unit records (capture.Ending.Refused error)
 
--- this input was read up to a fault, with at most one call for each byte of its header, its records, and one record more
+-- this input was read up to a fault, with at most one call for each byte of its header, its records, and one more record
 pub record IsReadTo (i : Input) (error : PcapError) (old new : Device) : Type 0 where
   pub refuses : WhereKnown old.bytes new.bytes (Refuses i.unit i.records error)
   pub calls : new.calls ≤ old.calls + length (text i.unit i.records) + (HEAD_SIZE + MAX_RECORD)
 
--- nanoseconds if any input has them, else microseconds
+-- the unit of the outputs: nanoseconds if any input has them, else microseconds
 abbrev pub is_nano : TimeUnit → Bool
 is_nano Nano = true
 is_nano Micro = false
@@ -93,7 +93,7 @@ arrivals_of inputs = interleaved (map records_in inputs)
 abbrev pub asked : ℕ → ℕ → ℕ → ℕ
 asked round port q = if nat_lt q port then round + 1 else round
 
--- an open input gave a record each time, and one that has ended did not the last time
+-- an open input gave a record each time it was asked; one that has ended did not give one the last time
 abbrev pub AnswersSo : InputState → ℕ → ℕ → Type 0
 AnswersSo Open given wanted = given ≡ wanted
 AnswersSo Whole given wanted = given < wanted
@@ -179,13 +179,13 @@ pub record TakesTurn (port : ℕ) (before after : EngineState) (bytes : List ℕ
   -- each port has its transmit list
   pub lists : length after.world.outboxes ≡ length after.setting.env.ports
 
--- after a record there was a turn with its bytes, and after anything else none
+-- after a record there was a turn with its bytes; after any other result there was none
 abbrev pub TurnsOn : ℕ → EngineState → EngineState → List ℕ → Result Next PcapError → Type 0
 TurnsOn port before after bytes (Ok (Record time len)) = (len ≤ length bytes) × TakesTurn port before after (take len bytes)
 TurnsOn port before after bytes answer = after ≡ before
 
--- what comes next in a capture was read, and if it is a record a turn was taken
-abbrev pub ReadsTurn : ℕ → EngineState → EngineState → Standing → Standing → Option (List ℕ) → Option (List ℕ) → Result Next PcapError → Type 0
+-- what comes next in a capture was read; if it is a record, a turn was taken
+abbrev pub ReadsTurn : ℕ → EngineState → EngineState → SourceState → SourceState → Option (List ℕ) → Option (List ℕ) → Result Next PcapError → Type 0
 ReadsTurn port before after source source' a b answer =
     (bytes : List ℕ) × WhereKnown a b (λ left rest. Continues source source' left rest bytes answer) × TurnsOn port before after bytes answer
 
@@ -199,7 +199,7 @@ emptied zero lists = lists
 emptied (suc n) [] = []
 emptied (suc n) (packets ∷ lists) = [] ∷ emptied n lists
 
--- the drains of the first n ports: what each wrote, and what was counted of it
+-- the drains of the first n ports: what each wrote, and what was counted for it
 pub record DrainedFirst (n : ℕ) (unit : TimeUnit) (time : Time) (before after : EngineState) (held holds : List Device) : Type 0 where
   pub wrote : (q : ℕ) → At held holds q (λ old new. IsGiven old new (if nat_lt q n then records_text unit (drained_at time before.world q) else []))
   pub is : after ≡ record before { world = record before.world { outboxes = emptied n before.world.outboxes }; tallies = after.tallies }
@@ -219,7 +219,7 @@ pub record DrainedPart (unit : TimeUnit) (records : List PacketRecord) (sent : �
   pub part : WrotePart old.bytes new.bytes unit records sent
   pub calls : new.calls ≤ old.calls + length (records_text unit (take (sent + 1) records))
 
--- the writer of a port failed in the drains: those before it wrote everything, it a part, and those after it nothing
+-- the writer of a port failed in the drains: the writers before it wrote everything, it wrote a part, and those after it nothing
 pub record DrainsStopped (unit : TimeUnit) (time : Time) (before after : EngineState) (held holds : List Device) (port : ℕ) : Type 0 where
   pub there : port < length before.setting.env.ports
   pub engine : EngineState
@@ -233,12 +233,12 @@ pub record DrainsStopped (unit : TimeUnit) (time : Time) (before after : EngineS
 -- ---- inputs during a run
 
 -- what a source has read of an input
-abbrev pub HasReadSo : InputState → Standing → List PacketRecord → List ℕ → List ℕ → Type 0
+abbrev pub HasReadSo : InputState → SourceState → List PacketRecord → List ℕ → List ℕ → Type 0
 HasReadSo Open source records bytes rest = HasRead bytes source records rest
 HasReadSo Whole source records bytes rest = IsCapture bytes source.unit records capture.Ending.Whole
 HasReadSo (Cut byte) source records bytes rest = IsCapture bytes source.unit records (capture.Ending.Cut byte)
 
-abbrev pub IsGoingOn : InputState → Standing → ℕ → Type 0
+abbrev pub IsGoingOn : InputState → SourceState → ℕ → Type 0
 IsGoingOn Open source count = (source.is_open ≡ true) × (source.given ≡ count)
 IsGoingOn Whole source count = ⊤
 IsGoingOn (Cut byte) source count = ⊤
@@ -251,7 +251,7 @@ pub record Stands (p : Progress) (i : Input) : Type 0 where
   pub few : length i.records ≤ MAX_RECORDS
 
 -- this input was read by a source, with at most this many calls
-pub record IsReadBy (i : Input) (source : Standing) (old new : Device) : Type 0 where
+pub record IsReadBy (i : Input) (source : SourceState) (old new : Device) : Type 0 where
   pub has : WhereKnown old.bytes new.bytes (HasReadSo i.state source i.records)
   pub calls : new.calls ≤ old.calls + length (text i.unit i.records) + last_pulls i.state
 
@@ -298,13 +298,13 @@ pub record Advances (port : ℕ) (unit : TimeUnit) (before after : EngineState) 
   -- after the turn
   pub engine : EngineState
   pub read : ReadsTurn port before engine p.source p'.source old.bytes new.bytes next
-  pub pulls : new.calls ≤ old.calls + most_pulls next
+  pub pulls : new.calls ≤ old.calls + max_pulls next
   pub in_range : IsInRange p.source next
   pub moves : Moves p.source p'.source next
   pub follows : Follows port unit engine after p'.state held holds next answer
 
--- A writer failed in the drains after a turn. There was a run on all records but the last, all of which was written; then a turn with the last; and
--- then the drains after it, in port order, which stopped at that of a port. Until then the inputs were asked in turn.
+-- A writer failed in the drains after a turn. There was a run on all records but the last, whose output was all written; then a turn with the last
+-- record; and then the drains after it, in port order, which stopped at one port. Until then the inputs were asked in turn.
 pub record FailedAt (unit : TimeUnit) (e e' : EngineState) (t : Transfer) (inputs : List Input) (port : ℕ) : Type 0 where
   pub inputs_many : length inputs ≡ length e.setting.env.ports
   pub unit_is : unit ≡ unit_for (units_of inputs)
@@ -321,9 +321,9 @@ pub record FailedAt (unit : TimeUnit) (e e' : EngineState) (t : Transfer) (input
   pub mids : List Device
   pub mids_many : length mids ≡ length t.held
   pub wrote : AreWritten unit t.held mids (capture_at captures)
-  pub behind : EngineState
-  pub turn : TakesTurn last.port engine behind last.bytes
-  pub stopped : DrainsStopped unit last.time behind e' mids t.holds port
+  pub beyond : EngineState
+  pub turn : TakesTurn last.port engine beyond last.bytes
+  pub stopped : DrainsStopped unit last.time beyond e' mids t.holds port
 
 -- a run stops in a round
 abbrev pub Stops : TimeUnit → EngineState → EngineState → Transfer → List Progress → RunCause → Type 0

@@ -28,7 +28,7 @@ use Rattle.dp_pipe.specs.Running.{setting_in, programs_in, IsIdle, AreUnread, Ha
 -- ---- a run of packets
 
 -- A run of a pipeline's programs on these records, with the calls of the pattern refused: from a world without packets, the outcome of each
--- allocation call, what became of each record, and what each port sent, with the record's time. No node run in it is ever stuck. And what the ports
+-- allocation call, the outcome of each record, and what each port sent, with the record's time. No node run in it is ever stuck. And what the ports
 -- sent is what they send in the machine in which each packet has its own bytes, on the same records, given the same outcomes of allocation calls.
 pub record PacketRun (p : Plan) (pattern : List ℕ) (arrivals : List (Arrival Time)) : Type 0 where
   pub first : World
@@ -54,14 +54,14 @@ capture_text unit captures port = text unit (capture_at captures port)
 
 -- ---- the report
 
--- what became of the records of a port
+-- the outcomes of the records of a port
 abbrev pub outcomes_at : ℕ → List (Arrival Time) → List Outcome → List Outcome
 outcomes_at port [] outcomes = []
 outcomes_at port (a ∷ arrivals) [] = []
 outcomes_at port (a ∷ arrivals) (o ∷ outcomes) = if a.port == port then o ∷ outcomes_at port arrivals outcomes else outcomes_at port arrivals outcomes
 
--- the counts of a port: how many of its records were received, found no buffer and were too large, how many were written whole, and how far its input
--- was read
+-- the counts of a port: how many of its records were received, got no buffer and were too large, how many records were written whole, and how far its
+-- input was read
 abbrev pub port_numbers : List Outcome → ℕ → InputState → PortReport
 port_numbers outcomes sent state = record {
   received = how_many is_got outcomes;
@@ -71,7 +71,7 @@ port_numbers outcomes sent state = record {
   state = state;
 }
 
--- the counts of a run on what was read of these inputs, of which each port has written this many records whole
+-- the counts of a run on what was read of these inputs, in which each port has written this many records whole
 pub record HasNumbers (p : Plan) (pattern : List ℕ) (arrivals : List (Arrival Time)) (run : PacketRun p pattern arrivals) (inputs : List Input) (sent : ℕ →
     ℕ) (r : Report) : Type 0 where
   pub many : length r.ports.items ≡ length p.env.ports
@@ -121,7 +121,7 @@ pub record StoppedReading (p : Plan) (pattern : List ℕ) (t : Transfer) (port :
 
 -- ---- a writer fails
 
--- The header of this port's output was not written whole: those before it were, and none after it; no record was read.
+-- The header of this port's output was not written whole: the headers before it were, and none after it was; no record was read.
 pub record HeaderUnwritten (p : Plan) (t : Transfer) (port : ℕ) (r : Report) : Type 0 where
   pub room : bytes_needed p.env ≤ p.region
   pub inputs : List Input
@@ -154,16 +154,16 @@ pub record GoesOnBy (p : Plan) (pattern : List ℕ) (before : List (Arrival Time
   pub captures_are : run.captures ≡ joined earlier.captures (records_at last.time mid)
   pub last_is : run.last ≡ with_empty_outboxes mid
 
--- how many records each port has written whole, where the writer of one fails: those before it have written all, it this many, and those after it
--- what was sent before the last record
+-- how many records each port has written whole, if the writer of one port fails: the ports before it all of theirs, it this many, and those
+-- after it what was sent before the last record
 abbrev pub sent_until : ℕ → ℕ → List (List (Time × List ℕ)) → List (List (Time × List ℕ)) → ℕ → ℕ
 sent_until port own captures earlier q =
     if nat_lt q port then length (capture_at captures q) else if q == port then own else length (capture_at earlier q)
 
 -- The writer of this port failed in the drains after a record, the last that was read; the inputs were asked in turn until then. There was a run on
 -- the records before, and a run through the last. The writers before this one were given the whole capture of their port in the run through the last
--- record, and those after it the whole capture in the run before; this one was given a front of its capture in the run through the last record, with
--- all that it had sent before.
+-- record, and those after it the whole capture in the run before; this one was given a prefix of its capture in the run through the last record,
+-- with all that it had sent before.
 pub record StoppedWriting (p : Plan) (pattern : List ℕ) (t : Transfer) (port : ℕ) (r : Report) : Type 0 where
   pub room : bytes_needed p.env ≤ p.region
   pub inputs : List Input
@@ -187,7 +187,7 @@ pub record StoppedWriting (p : Plan) (pattern : List ℕ) (t : Transfer) (port :
 
 -- ---- the result
 
--- Why a run stopped, and what it did until then. Without memory, and where the region is smaller than the engine needs, there was none.
+-- Why a run stopped, and what it did before. If memory ran out, or the region is smaller than the engine needs, there was no run.
 abbrev pub StoppedBy : Plan → List ℕ → Transfer → RunCause → Report → Type 0
 StoppedBy p pattern t Memory r = IsIdle p.env r
 StoppedBy p pattern t NoRoom r = (p.region < bytes_needed p.env) × IsIdle p.env r

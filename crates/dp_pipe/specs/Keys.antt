@@ -1,4 +1,4 @@
--- The values at the keys of a TOML table.
+-- How the values at the keys of a TOML table are read.
 use Rattle.std.specs.Prelude.{ℕ, ℤ, pos, negsuc, Bool, ◌&&◌, nat_le, List, [], ◌∷◌, Option, Some, None, is_some, option_and_then, option_map, if◌then◌else◌}
 use Rattle.std.specs.List.{list_all, list_any}
 use Rattle.std.specs.Option.{option_map_or}
@@ -10,11 +10,11 @@ abbrev pub listed : Items → List Data
 listed no_items = []
 listed (item d ds) = d ∷ listed ds
 
--- the elements of a value; none where it is no array
+-- the elements of a value; none if it is not an array
 abbrev pub elements_of : Data → List Data
 elements_of d = option_map_or listed (as_array d) []
 
--- the elements of the array at a key; none where there is no array
+-- the elements of the array at a key; none if there is no array
 abbrev pub elements_at : List ℕ → Members → List Data
 elements_at key table = option_map_or elements_of (get_member key table) []
 

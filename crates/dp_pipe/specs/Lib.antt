@@ -5,6 +5,7 @@ pub mod Devices
 pub mod Files
 pub mod Forwarding
 pub mod Keys
+pub mod Laws
 pub mod Listed
 pub mod Loads
 pub mod Nodes

@@ -28,7 +28,7 @@ pub record Node : Type 0 where
   pub program : List ℕ
   pub cert : Option (List ℕ)
 
--- the certificate file to read, if there is one
+-- the name of the certificate file to read, if there is one
 abbrev pub cert_read : How → NodeFiles → Option (List ℕ)
 cert_read Given files = files.cert
 cert_read Inferred files = None
@@ -36,12 +36,12 @@ cert_read Inferred files = None
 abbrev pub node_of : How → Entry → NodeFiles → Node
 node_of how entry files = record { entry = entry; program = files.node; cert = cert_read how files }
 
--- nodes with entries of one kind, from this index on
+-- nodes with entries of one kind, starting at this index
 abbrev pub numbered : How → (ℕ → Entry) → ℕ → List NodeFiles → List Node
 numbered how kind k [] = []
 numbered how kind k (files ∷ more) = node_of how (kind k) files ∷ numbered how kind (k + 1) more
 
--- one for each port, then one for each ring
+-- the nodes: one for each port, then one for each ring
 abbrev pub nodes_of : How → List NodeFiles → List NodeFiles → List Node
 nodes_of how ports rings = numbered how Port 0 ports ++ numbered how Ring 0 rings
 

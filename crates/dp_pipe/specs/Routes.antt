@@ -1,4 +1,4 @@
--- How routes are written, and adding them to a table.
+-- How routes are written, and how they are added to a table.
 use Rattle.std.specs.Prelude.{◌≡◌, ℕ, ◌+◌, ◌-◌, ◌*◌, ◌&&◌, ◌==◌, nat_le, List, [], ◌∷◌, length, take, slice_get, Option, Some, None, option_and_then}
 use Rattle.std.specs.Prelude.{option_map, if◌then◌else◌}
 use Rattle.std.specs.Char.{is_ascii_digit}
@@ -10,12 +10,12 @@ use Rattle.dp_pipe.specs.declared.error.RouteError.{RouteError}
 use Rattle.dp_pipe.specs.declared.error.RouteError.TheVariants.{Refused, Unreadable}
 use Rattle.dp_pipe.specs.declared.routes.Route.{Route}
 
--- the number of decimal digits that follow those of n
+-- the number that decimal digits make after those of n
 abbrev pub decimal_after : ℕ → List ℕ → ℕ
 decimal_after n [] = n
 decimal_after n (digit ∷ digits) = decimal_after (n * 10 + (digit - 48)) digits
 
--- the number of 1 to n decimal digits
+-- the number that 1 to n decimal digits make
 abbrev pub number_in : ℕ → List ℕ → Option ℕ
 number_in most digits =
     if (nat_le 1 (length digits) && nat_le (length digits) most) && list_all is_ascii_digit digits
@@ -29,7 +29,7 @@ byte_if n = if nat_le n 255 then Some n else None
 abbrev pub byte_in : List ℕ → Option ℕ
 byte_in digits = option_and_then byte_if (number_in 3 digits)
 
--- a text split at the first occurrence of a byte: all and nothing where there is none
+-- a text split at the first occurrence of a byte; the whole text and an empty one if there is none
 abbrev pub before : ℕ → List ℕ → List ℕ
 before byte text = before_first (λ b. b == byte) text
 
@@ -57,12 +57,12 @@ route_in text =
 abbrev pub route_of : Data → Option Route
 route_of d = option_and_then route_in (as_str d)
 
--- why a table refuses what should be a route
+-- why a table refuses a value as a route
 abbrev pub refusal : RouteTable → Option Route → Option RouteError
 refusal table None = Some Unreadable
 refusal table (Some route) = option_map Refused (add_fault table route.ip route.depth route.hop)
 
--- the table with what should be a route added
+-- the table with a value added as a route
 abbrev pub PutsIn : RouteTable → RouteTable → Option Route → Type 0
 PutsIn old new None = ⊥
 PutsIn old new (Some route) = Puts old new (added route.ip route.depth route.hop)
@@ -72,7 +72,7 @@ pub record Takes (old new : RouteTable) (value : Data) : Type 0 where
   pub free : refusal old (route_of value) ≡ None
   pub puts : PutsIn old new (route_of value)
 
--- the values are added as routes, one after the other
+-- the values are added as routes, in order
 abbrev pub TakesAll : RouteTable → RouteTable → List Data → Type 0
 TakesAll old new [] = old ≡ new
 TakesAll old new (value ∷ values) = (middle : RouteTable) × Takes old middle value × TakesAll middle new values

@@ -30,7 +30,7 @@ use Rattle.dp_pipe.specs.Pipelines.{Plan}
 
 -- ---- the run of packets
 
--- what the node runs of a pipeline need where these allocation calls are refused, and its programs
+-- the setting of a pipeline's node runs, with these allocation calls refused, and its programs
 abbrev pub setting_in : Plan → List ℕ → Setting
 setting_in p pattern = setting_of p.env p.tables pattern
 
@@ -39,7 +39,7 @@ programs_in p = nodes_of p.env p.nodes
 
 -- ---- the report
 
--- the counts of a pipeline none of whose records was read
+-- the counts of a pipeline before any record is read
 pub record IsIdle (env : Environment) (r : Report) : Type 0 where
   pub ports : r.ports.items ≡ map (λ _. port_report Open no_tallies) env.ports
   pub rings : r.rings.items ≡ map (λ _. 0) env.rings
@@ -76,7 +76,7 @@ AreUnread inputs = AllByRecursion (λ (i : Input). (i.records ≡ []) × (i.stat
 abbrev pub HeadersRead : ℕ → List Device → List Device → Type 0
 HeadersRead n had left = (inputs : List Input) × (length inputs ≡ n) × AreUnread inputs × AreRead had left inputs
 
--- a reader gave bytes that are no header, or failed inside one, in at most one call for each of its bytes
+-- a reader gave bytes that are not a header, or failed inside one, in at most one call for each byte of a header
 pub record IsBadHeader (error : PcapError) (old new : Device) : Type 0 where
   pub answers : WhereKnown old.bytes new.bytes (λ bytes rest. HeaderAnswers bytes rest (Err error))
   pub calls : new.calls ≤ old.calls + HEADER_SIZE
@@ -134,7 +134,7 @@ pub record RoundsMade (before after : EngineState) (t : Transfer) (progress : Li
   pub headers : HeadersWritten unit t.held mids
   pub rounds : AreRounds unit before after (record t { held = mids }) progress answer
 
--- headers in, headers out, and all rounds: what is known after a result
+-- what is known after the headers are read and written and all rounds are taken, by the result
 abbrev pub GoesForward : EngineState → EngineState → Transfer → List Progress → Result ⊤ RunCause → Type 0
 GoesForward before after t progress answer = HeadersFail before after t progress answer ⊎ RoundsMade before after t progress answer
 
@@ -168,7 +168,7 @@ pub record IsFirst (p : Plan) (pattern : List ℕ) (first : EngineState) : Type 
   pub tallies : first.tallies ≡ replicate 8 no_tallies
   pub left : first.left ≡ replicate 8 0
 
--- A run of a pipeline that got an open engine: the engine before its first turn and after the last one, how far each input was read, and the report.
+-- A run of a pipeline whose engine was opened: the engine before its first turn and after the last one, how far each input was read, and the report.
 pub record RanOn (p : Plan) (pattern : List ℕ) (t : Transfer) (answer : Result Report RunFault) : Type 0 where
   pub first : EngineState
   pub is_first : IsFirst p pattern first
@@ -177,7 +177,7 @@ pub record RanOn (p : Plan) (pattern : List ℕ) (t : Transfer) (answer : Result
   pub went : GoesForward first last t progress (answer_of answer)
   pub reported : IsReportOf last progress (report_of answer)
 
--- why no engine was opened; whether there is room is known before memory is asked for
+-- why no engine was opened; whether there is room is known before any memory is requested
 abbrev pub IsUnopened : Plan → RunCause → Type 0
 IsUnopened p Memory = bytes_needed p.env ≤ p.region
 IsUnopened p NoRoom = p.region < bytes_needed p.env

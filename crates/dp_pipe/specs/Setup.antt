@@ -2,8 +2,8 @@
 use Rattle.std.specs.Prelude.{ℕ, ◌+◌, ◌%◌, Bool, true, ◌&&◌, ◌==◌, nat_le, List, [], ◌∷◌, Option, Some, None, option_and_then, option_map, ok_or, Result, Ok}
 use Rattle.std.specs.Prelude.{Err, if◌then◌else◌, codes}
 use Rattle.toml.specs.Data.{Data, Members, get_member, as_table}
-use Rattle.dp_region.specs.Region.{cache_line, largest_region, least_region}
-use Rattle.dp_model.specs.Limits.{largest_known}
+use Rattle.dp_region.specs.Region.{cache_line, max_region, min_region}
+use Rattle.dp_model.specs.Limits.{max_known}
 use Rattle.dp_model.specs.declared.row.Fact.{Fact}
 use Rattle.dp_model.specs.declared.row.Fact.TheVariants.{Held}
 use Rattle.dp_model.specs.declared.env.PoolSpec.{PoolSpec}
@@ -14,16 +14,16 @@ use Rattle.dp_pipe.specs.declared.error.Part.{Part}
 use Rattle.dp_pipe.specs.declared.error.Part.TheVariants.{Top, Pool, Table, Ring, Port}
 use Rattle.dp_pipe.specs.Keys.{elements_at, elements_of, is_array_of, is_text, is_table, has_only, number_at, text_at, text_if_any}
 
--- the largest share, and the most segments, that a file can have: the largest byte
-abbrev pub largest_small : ℕ
-largest_small = 255
+-- the largest share, and the maximum number of segments, that a file can have: the largest byte
+abbrev pub max_small : ℕ
+max_small = 255
 
 -- the file names of a node
 pub record NodeFiles : Type 0 where
   pub node : List ℕ
   pub cert : Option (List ℕ)
 
--- a table of routes: the most rules and groups, and the values of its list
+-- a table of routes: the maximum numbers of rules and groups, and the values of its list
 pub record TablePart : Type 0 where
   pub rules : ℕ
   pub groups : ℕ
@@ -49,7 +49,7 @@ pub record Setup : Type 0 where
   pub rings : List RingPart
   pub ports : List PortPart
 
--- the greatest whole number of a key without another limit
+-- the maximum integer at a key that has no other limit
 abbrev pub greatest : ℕ
 greatest = 4294967295
 
@@ -69,7 +69,7 @@ pool_in table =
 abbrev pub rules_if : ℕ → Option ℕ
 rules_if n = if nat_le 1 n then Some n else None
 
--- the most rules of a table of routes, at least 1
+-- the maximum number of rules of a table of routes, at least 1
 abbrev pub rules_in : Members → Option ℕ
 rules_in table = option_and_then rules_if (number_at (codes "rules") MAX_RULES table)
 
@@ -91,7 +91,7 @@ table_in table =
     (rules_in table)
     else None
 
--- the file of a node's program, and of its certificate where one is named
+-- the file of a node's program, and of its certificate if one is named
 abbrev pub node_files_in : Members → Option NodeFiles
 node_files_in table =
     option_and_then (λ node. option_map (λ cert. record { node = node; cert = cert })
@@ -103,12 +103,12 @@ abbrev pub fact_in : Members → Option Fact
 fact_in table =
     option_and_then (λ share. option_and_then (λ head. option_and_then
     (λ tail. option_and_then (λ first. option_and_then (λ last. option_map (λ segs. Held share head tail first last segs)
-    (number_at (codes "segs") largest_small table))
-    (number_at (codes "last") largest_known table))
-    (number_at (codes "first") largest_known table))
-    (number_at (codes "tail") largest_known table))
-    (number_at (codes "head") largest_known table))
-    (number_at (codes "share") largest_small table)
+    (number_at (codes "segs") max_small table))
+    (number_at (codes "last") max_known table))
+    (number_at (codes "first") max_known table))
+    (number_at (codes "tail") max_known table))
+    (number_at (codes "head") max_known table))
+    (number_at (codes "share") max_small table)
 
 -- the keys of a `[[ring]]`
 abbrev pub ring_keys : List (List ℕ)
@@ -142,7 +142,7 @@ abbrev pub port_spec_in : Members → Option PortSpec
 port_spec_in table =
     option_and_then (λ pool. option_and_then (λ segs. option_map (λ queue. record { pool = pool; segs = segs; queue = queue })
     (number_at (codes "queue") greatest table))
-    (number_at (codes "segs") largest_small table))
+    (number_at (codes "segs") max_small table))
     (number_at (codes "pool") greatest table)
 
 -- a `[[port]]`
@@ -161,7 +161,7 @@ port_in table =
 
 -- a number that is a multiple of the unit and not too small
 abbrev pub region_if : ℕ → Option ℕ
-region_if n = if nat_le least_region n && n % cache_line == 0 then Some n else None
+region_if n = if nat_le min_region n && n % cache_line == 0 then Some n else None
 
 -- an array of tables, or missing
 abbrev pub is_tables : Option Data → Bool
@@ -172,7 +172,7 @@ is_tables (Some d) = is_array_of is_table d
 abbrev pub top_keys : List (List ℕ)
 top_keys = codes "region" ∷ codes "pool" ∷ codes "table" ∷ codes "ring" ∷ codes "port" ∷ []
 
--- whether the top has no other keys, and arrays of tables at those that may have them
+-- whether the top has only known keys, and arrays of tables at the keys that may have them
 abbrev pub is_top : Members → Bool
 is_top top =
     has_only top_keys top && is_tables (get_member (codes "pool") top) && is_tables (get_member (codes "table") top)
@@ -181,9 +181,9 @@ is_top top =
 -- the region, if no key at the top is bad
 abbrev pub region_in : Members → Option ℕ
 region_in top =
-    if is_top top then option_and_then region_if (number_at (codes "region") largest_region top) else None
+    if is_top top then option_and_then region_if (number_at (codes "region") max_region top) else None
 
--- the second reading, after the first if that gave something
+-- the second reading, applied if the first gave a value
 abbrev pub and_then : {A B E : Type 0} → Result A E → (A → Result B E) → Result B E
 and_then (Ok x) next = next x
 and_then (Err e) next = Err e

@@ -14,12 +14,12 @@ use Rattle.dp_pipe.specs.declared.forwarding.RunCause.{RunCause}
 use Rattle.dp_pipe.specs.declared.running.RunFault.{RunFault}
 
 -- a watcher is shown only node runs: what is reported between turns does not change it
-abbrev pub untold : {V : Type 0} → V → Note → V → Type 0
-untold v note v' = v' ≡ v
+abbrev pub unnoted : {V : Type 0} → V → Note → V → Type 0
+unnoted v note v' = v' ≡ v
 
--- from one engine to a later one a watcher was shown the turns of some records, one after the other, and nothing else
+-- from one engine to a later one a watcher was shown the turns of some records, in order, and nothing else
 abbrev pub HasShown : {V : Type 0} → (V → Event → V → Type 0) → V → V → EngineState → EngineState → Type 0
-HasShown sees v v' before after = (count : ℕ) × HasTraced sees untold v v' None count before after
+HasShown sees v v' before after = (count : ℕ) × HasTraced sees unnoted v v' None count before after
 
 -- two engines after the same number of turns, which may differ in what is in transmit lists and in what was counted as sent
 pub record DiffersInLists (before after : EngineState) : Type 0 where
@@ -28,12 +28,12 @@ pub record DiffersInLists (before after : EngineState) : Type 0 where
   pub nodes : after.nodes ≡ before.nodes
   pub turns : after.turns ≡ before.turns
 
--- A watcher was shown the turns of a run that ended so. Where a writer failed, packets may still be in transmit lists.
+-- A watcher was shown the turns of a run with this result. If a writer failed, packets may still be in transmit lists.
 abbrev pub ShowsTurns : {V : Type 0} → (V → Event → V → Type 0) → V → V → EngineState → EngineState → Result ⊤ RunCause → Type 0
 ShowsTurns sees v v' before after (Ok done) = HasShown sees v v' before after
 ShowsTurns sees v v' before after (Err cause) = (whole : EngineState) × HasShown sees v v' before whole × DiffersInLists whole after
 
--- A watcher was shown the turns of a run, one after the other, and nothing else: those from its start on, up to the engine whose counts are reported.
+-- A watcher was shown the turns of a run, in order, and nothing else: from its start up to the engine whose counts are reported.
 pub record WatchesRun {V : Type 0} (sees : V → Event → V → Type 0) (v v' : V) (p : Plan) (pattern : List ℕ) (answer : Result Report RunFault) : Type 0 where
   pub first : EngineState
   pub is_first : IsFirst p pattern first
@@ -44,8 +44,8 @@ pub record WatchesRun {V : Type 0} (sees : V → Event → V → Type 0) (v v' :
 
 -- ---- Internal
 
--- where a record was read, its turn was shown, after which each port has its transmit list; else nothing
+-- if a record was read, its turn was shown, after which each port has its transmit list; else nothing
 abbrev pub ShowsNext : {V : Type 0} → (V → Event → V → Type 0) → V → V → ℕ → EngineState → EngineState → Result Next PcapError → Type 0
 ShowsNext sees v v' port before after (Ok (Record time len)) =
-    TracesRead sees untold v v' port time before after × (length after.world.outboxes ≡ length after.setting.env.ports)
+    TracesRead sees unnoted v v' port time before after × (length after.world.outboxes ≡ length after.setting.env.ports)
 ShowsNext sees v v' port before after answer = (v' ≡ v) × (after ≡ before)

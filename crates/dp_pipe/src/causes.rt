@@ -75,7 +75,7 @@ impl fmt::Display for NodeName {
     }
 }
 
-/// Causes 1 to 7 as a number, a name, and where and why; 8 and 9 as the verdict on the node.
+/// Prints causes 1 to 7 as a number, a name, the place and the reason; 8 and 9 as the verdict on the node.
 impl fmt::Display for PipeError {
     ghost use Rattle.std.specs.Prelude.{Some};
     ghost use Rattle.dp_pipe.specs.Causes.{text_of};

@@ -17,7 +17,7 @@ use dp_model::{Env, PortSpec, RingSpec};
 use std::alloc::{AllocError, Global};
 use toml::Table;
 
-/// The configuration in a pipeline file.
+/// What a pipeline file says: the region, the environment, the tables and the file names.
 #[derive(Drop)]
 pub(crate) struct Config {
     /// The size of the region in bytes: a multiple of `dp_region::CACHE_LINE`, from `MIN_REGION` to `MAX_REGION`.
@@ -59,7 +59,7 @@ fn specs_of_ports(alloc: Global, ports: &[PortPart<'_>]) -> Result<Vec<PortSpec>
     ports.iter().map(|port| port.spec).collect(alloc)
 }
 
-/// The environment in a file; more than 255 tables count as 255.
+/// Makes the environment of a file. More than 255 tables count as 255.
 fn env_of(alloc: Global, setup: &Setup<'_>) -> Result<Env, PipeError>
     ensures ok { IfOk result (λ env. spec.IsEnv (view.setup setup.now) env) }
     ensures err { IfErr result (spec.IsEnvFault (view.setup setup.now)) }
@@ -156,7 +156,7 @@ fn tables_of(alloc: Global, tables: &[TablePart<'_>]) -> Result<Vec<Lpm>, PipeEr
     Ok(filled_tables)
 }
 
-/// The configuration of a setup.
+/// Makes the configuration of a setup: its environment, tables and file names.
 fn config_of(alloc: Global, setup: &Setup<'_>) -> Result<Config, PipeError>
     ensures ok { IfOk result (spec.IsConfig (view.setup setup.now)) }
     ensures err { IfErr result (spec.IsSetupFault (view.setup setup.now)) }
@@ -175,7 +175,7 @@ fn config_of(alloc: Global, setup: &Setup<'_>) -> Result<Config, PipeError>
 /// Reads a text as a configuration.
 ///
 /// # Errors
-/// `Memory` where memory is refused, else the first of `NotToml`, `BadKey`, `BadEnv` and `BadTable` that applies.
+/// `Memory` if memory is refused, else the first of `NotToml`, `BadKey`, `BadEnv` and `BadTable` that applies.
 pub(crate) fn configure(alloc: Global, text: &[u8]) -> Result<Config, PipeError>
     ensures ok { IfOk result (spec.IsConfigOf text.now) }
     ensures err { IfErr result (spec.IsFaultOf text.now) }

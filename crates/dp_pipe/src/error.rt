@@ -42,7 +42,7 @@ pub enum RouteError {
     Unreadable,
 }
 
-/// Why a pipeline is not loaded, in the order of the tests. Indexes count from 0.
+/// Why a pipeline is not loaded, in the order in which the causes are tested. Indexes count from 0.
 #[derive(Clone, Copy, Debug, PartialEq, Eq)]
 pub enum PipeError {
     /// The allocator refused memory.
@@ -53,7 +53,7 @@ pub enum PipeError {
     BadKey {
         /// The kind of the part.
         part: Part,
-        /// Its index among its kind; 0 at the top.
+        /// Its index among the parts of its kind; 0 for the top.
         index: usize,
     },
     /// The environment is refused.
@@ -77,7 +77,7 @@ pub enum PipeError {
     NotInferred {
         /// The node.
         node: Entry,
-        /// The least label, from 0, at which a rule fails with the last certificate that was tried.
+        /// The lowest label, from 0, at which a rule fails with the last certificate that was tried.
         label: u16,
         /// The number of the first rule that fails there, 2 to 11: every certificate that is tried has a row for each instruction.
         rule: u8,
@@ -86,7 +86,7 @@ pub enum PipeError {
     Refused {
         /// The node.
         node: Entry,
-        /// The least label, from 0, at which a rule fails.
+        /// The lowest label, from 0, at which a rule fails.
         label: u16,
         /// The number of the first rule that fails there, 2 to 11: a certificate that is read has a row for each instruction.
         rule: u8,

@@ -6,7 +6,7 @@ ghost use Rattle.dp_pipe.specs.Files.{HasBytes, HasNone};
 use crate::error::FetchFault;
 use std::alloc::Global;
 
-/// The most bytes of a program, of a certificate and of a pipeline file.
+/// The maximum size of a program, a certificate or a pipeline file, in bytes.
 pub const MAX_FILE: usize = 1_048_576;
 
 /// Files that are fetched by name, as those of a folder.
@@ -16,11 +16,11 @@ pub trait Files {
     // The bytes of each file by its name, where they are known.
     ghost known: { Self → Option (List ℕ → Option (List ℕ)) };
 
-    /// Returns the bytes of a file. One that is longer than [`MAX_FILE`] may be cut after one byte more, unless the files are known.
+    /// Returns the bytes of a file. A file longer than [`MAX_FILE`] may be cut to `MAX_FILE + 1` bytes, unless the files are known.
     ///
     /// # Errors
     ///
-    /// [`FetchFault::Missing`] where there is no such file or it cannot be read, and [`FetchFault::Memory`] where memory for its bytes is refused.
+    /// [`FetchFault::Missing`] if there is no such file or it cannot be read, and [`FetchFault::Memory`] if memory for its bytes is refused.
     fn fetch(&mut self, alloc: Global, name: &str) -> Result<Vec<u8>, FetchFault>
         ensures found { IfOk result (λ bytes. HasBytes (known self.old) name.now bytes.items) }
         ensures missing { IsErrOf result FetchFault.Missing → HasNone (known self.old) name.now }

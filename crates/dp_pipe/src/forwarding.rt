@@ -1,7 +1,7 @@
 //! Runs an open engine from captures to captures: headers, then record by record, round by round.
 ghost use Rattle.std.specs.Prelude.{◌≡◌, ℕ, ◌+◌, ◌<◌, ◌≤◌, ◌↔◌, true, false, [], List, Ok, Err, length, map, take, slice_get, Some, OnOk, OnErr};
 ghost use Rattle.std.specs.Prelude.{IfOk, IfErr, IsOk, IsErr, IsErrOf, IsTrue};
-ghost use Rattle.dp_pcap.specs.Source.{body_in, IsInRange, Moves, most_pulls, failed_pulls};
+ghost use Rattle.dp_pcap.specs.Source.{body_in, IsInRange, Moves, max_pulls, failed_pulls};
 ghost use Rattle.dp_pipe.specs.Devices.{Device, seen, transfer, AllSound, AllFared, FaredAlone, failed_reader, failed_writer, failed_drain};
 ghost use Rattle.dp_pipe.specs.Forwarding.{Input, ReadsTurn, DrainedAll, DrainsStopped, DrainedFirst, Advances, Along, IsRound, AreRounds};
 ghost use Rattle.dp_pipe.specs.Forwarding.{NoneIsOpen, SomeIsOpen};
@@ -17,10 +17,10 @@ use dp_pcap::{
     next_record, pass_record, put_header, read_header, record_at_hand,
 };
 
-/// The most turns of a run: as many as eight captures can have records.
+/// The maximum number of turns of a run: the most records that eight captures can have.
 pub const MAX_TURNS: u64 = 8 * MAX_RECORDS as u64;
 
-/// The most rounds of a run: one for each record of an input, and one in which all have ended.
+/// The maximum number of rounds of a run: one for each record of an input, and one in which all have ended.
 pub(crate) const ROUNDS: u32 = MAX_RECORDS + 1;
 
 /// Why a run stopped.
@@ -43,7 +43,7 @@ pub(crate) struct Progress {
     pub state: InputState,
 }
 
-// The bytes of a record: those that the reader has buffered, or those in the buffer.
+// The bytes of a record: in the reader's own buffer, or in the run's.
 #[inline(always)]
 fn bytes_of<'a, R: Feed>(r: &'a R, buf: &'a [u8], is_held: bool, len: usize) -> &'a [u8]
     requires held { IsTrue is_held → HEAD_SIZE + len ≤ length (R.at_hand r.now) }
@@ -71,7 +71,7 @@ fn next_turn<K: Known, R: Feed, V: Watch>(
 ) -> Result<Next, PcapError>
     requires exists { port < length engine.old.setting.env.ports }
     requires buf { MAX_RECORD ≤ length buf.old }
-    // Eight inputs with at most that many records are no more turns than an engine takes.
+    // Eight inputs with at most that many records make no more turns than an engine takes.
     requires limit { engine.old.turns + MAX_RECORDS ≤ MAX_TURNS + source.old.given }
     requires open { source.old.is_open ≡ true }
     ensures turn { ReadsTurn port engine.old engine.new source.old source.new (R.remaining r.old) (R.remaining r.new) result }
@@ -79,7 +79,7 @@ fn next_turn<K: Known, R: Feed, V: Watch>(
     ensures source { Moves source.old source.new result }
     ensures failed { IsErrOf result PcapError.Read ↔ IsTrue (R.is_broken r.new) }
     ensures stays { IsTrue (R.is_broken r.old) → IsTrue (R.is_broken r.new) }
-    ensures counted { R.calls r.new ≤ R.calls r.old + most_pulls result }
+    ensures counted { R.calls r.new ≤ R.calls r.old + max_pulls result }
     ensures failures { R.failures r.new ≡ R.failures r.old + failed_pulls result }
     ensures shown { ShowsNext V.sees watch.old watch.new port engine.old engine.new result }
 {
@@ -183,7 +183,7 @@ fn ask<K: Known, R: Feed, W: Sink, V: Watch>(
     }
 }
 
-// Does that once for each open input, in port order.
+// Takes one turn for each open input, in port order, each followed by the drains.
 fn round<K: Known, R: Feed, W: Sink, V: Watch>(
     engine: &mut Engine<K>,
     inputs: &mut [Progress],

@@ -10,7 +10,7 @@ ghost use Rattle.dp_pipe.specs.Keys as spec;
 
 use toml::{Table, Value};
 
-/// The value at a key.
+/// Looks up the value at a key.
 pub fn value_at<'a>(table: &'a Table, key: &str) -> Option<&'a Value>
     ensures { option_map (λ v. view v.now) result ≡ get_member key.now (table_view table.now) }
 {
@@ -42,7 +42,7 @@ fn integer_at(table: &Table, key: &str) -> Option<i64>
     value_at(table, key)?.as_integer()
 }
 
-/// The whole number at a key, from 0 to `most`.
+/// Reads the integer at a key, from 0 to `most`.
 pub fn number_at(table: &Table, key: &str, most: u32) -> Option<u32>
     ensures number { result ≡ spec.number_at key.now most (table_view table.now) }
     ensures most { IfSome result (λ n. n ≤ most) }
@@ -55,14 +55,14 @@ pub fn number_at(table: &Table, key: &str, most: u32) -> Option<u32>
     }
 }
 
-/// The text at a key.
+/// Reads the string at a key.
 pub fn text_at<'a>(table: &'a Table, key: &str) -> Option<&'a str>
     ensures { option_map (λ s. s.now) result ≡ spec.text_at key.now (table_view table.now) }
 {
     value_at(table, key)?.as_str()
 }
 
-/// The text at an optional key; nothing where the value is no text.
+/// Reads the string at an optional key; nothing if the value is not a string.
 pub fn text_if_any<'a>(table: &'a Table, key: &str) -> Option<Option<&'a str>>
     ensures { option_map (option_map (λ s. s.now)) result ≡ spec.text_if_any (get_member key.now (table_view table.now)) }
 {
@@ -75,7 +75,7 @@ pub fn text_if_any<'a>(table: &'a Table, key: &str) -> Option<Option<&'a str>>
     }
 }
 
-/// The elements of a value; none where it is no array.
+/// The elements of a value; none if it is not an array.
 pub fn elements_of(value: &Value) -> &[Value]
     ensures { map view result.now ≡ spec.elements_of (view value.now) }
 {
@@ -85,7 +85,7 @@ pub fn elements_of(value: &Value) -> &[Value]
     }
 }
 
-/// The elements of the array at a key; none where there is no array.
+/// The elements of the array at a key; none if there is no array.
 pub fn elements_at<'a>(table: &'a Table, key: &str) -> &'a [Value]
     ensures { map view result.now ≡ spec.elements_at key.now (table_view table.now) }
 {

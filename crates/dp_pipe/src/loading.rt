@@ -14,9 +14,9 @@ use std::alloc::Global;
 ///
 /// # Errors
 ///
-/// The first cause of [`PipeError`]: 1 to 4 from the text alone, then node by node, ports first, those of its program and its
-/// certificate. [`PipeError::Memory`] may come in place of any, except that a text is not UTF-8, which is found without memory. Files were
-/// fetched then; nothing else has changed.
+/// The first cause of [`PipeError`]: 1 to 4 from the text alone, then those of each node's program and certificate, ports first.
+/// [`PipeError::Memory`] may come in place of any of them, except for a text that is not UTF-8, which is found without memory. Files have
+/// been fetched then; nothing else has changed.
 pub fn load<F: Files>(
     alloc: Global,
     text: &[u8],

@@ -21,7 +21,7 @@ use dp_lang::{AsmError, Program, assemble};
 use dp_model::{Entry, Env};
 use std::alloc::Global;
 
-/// Where certificates come from.
+/// Where the certificates of nodes come from.
 #[derive(Clone, Copy, Debug, PartialEq, Eq)]
 pub enum How {
     /// Named ones are read, and the others are inferred.
@@ -30,11 +30,11 @@ pub enum How {
     Inferred,
 }
 
-/// The bytes of a file of a node.
+/// Fetches the bytes of a node's file.
 ///
 /// # Errors
 ///
-/// [`PipeError::File`] where it cannot be fetched or is longer than 1,048,576 bytes. [`PipeError::Memory`] may come at any time.
+/// [`PipeError::File`] if it cannot be fetched or is longer than 1,048,576 bytes. [`PipeError::Memory`] may come at any time.
 pub fn bytes_of<F: Files>(
     alloc: Global,
     files: &mut F,
@@ -152,7 +152,7 @@ fn inferred(alloc: Global, env: &Env, node: Entry, program: Program) -> Result<C
     }
 }
 
-// The certificate file to read, if there is one.
+// The name of the certificate file to read, if there is one.
 fn cert_read(how: How, names: &NodeNames) -> Option<&str>
     ensures { option_map (λ name. name.now) result ≡ cert_read how (node_names names.now) }
 {
@@ -169,10 +169,10 @@ fn cert_read(how: How, names: &NodeNames) -> Option<&str>
 ///
 /// # Errors
 ///
-/// In this order: [`PipeError::File`] where the program file cannot be fetched or is longer than 1,048,576 bytes, and
-/// [`PipeError::Asm`]; where a certificate is named, and not all are inferred, [`PipeError::File`] for its file,
+/// In this order: [`PipeError::File`] if the program file cannot be fetched or is longer than 1,048,576 bytes, and
+/// [`PipeError::Asm`]; if a certificate is named, and not all are inferred, [`PipeError::File`] for its file,
 /// [`PipeError::BadCert`] and [`PipeError::Refused`]; else [`PipeError::NotInferred`], with the label and the rule of a certificate that was
-/// tried; for a forward program exactly where it is accepted with none. [`PipeError::Memory`] may come at any time.
+/// tried; for a forward program exactly if it is accepted with none. [`PipeError::Memory`] may come at any time.
 pub(crate) fn load_node<F: Files>(
     alloc: Global,
     files: &mut F,
@@ -212,7 +212,7 @@ fn node_at<'a>(
     }
 }
 
-/// Loads the programs of all nodes: one for each port, then one for each ring.
+/// Loads the programs of all nodes, each checked: one for each port, then one for each ring.
 ///
 /// # Errors
 ///

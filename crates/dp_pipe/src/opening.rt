@@ -1,4 +1,4 @@
-//! Takes all that a run needs before it reads anything: its memory, and an open engine.
+//! Takes what a run needs before it reads anything: its memory, and an open engine.
 
 ghost use Rattle.std.specs.Prelude.{◌≡◌, ◌<◌, ◌≤◌, [], length, IfOk, IfErr, OnOk, vec_len};
 ghost use Rattle.dp_engine.specs.Needs.{bytes_needed};
@@ -17,7 +17,7 @@ use std::alloc::Global;
 ///
 /// # Errors
 ///
-/// [`RunCause::NoRoom`] where it has fewer.
+/// [`RunCause::NoRoom`] if it has fewer.
 fn ask_room(pipeline: &Pipeline) -> Result<(), RunCause>
     ensures room { OnOk result (bytes_needed pipeline.now.env ≤ pipeline.now.region) }
     ensures refused { IfErr result (λ cause. (cause ≡ RunCause.NoRoom) × (pipeline.now.region < bytes_needed pipeline.now.env)) }
@@ -32,7 +32,7 @@ fn ask_room(pipeline: &Pipeline) -> Result<(), RunCause>
 ///
 /// # Errors
 ///
-/// [`RunCause::NoRoom`] exactly where the region is smaller than the engine needs, else [`RunCause::Memory`] where the region is
+/// [`RunCause::NoRoom`] exactly if the region is smaller than the engine needs, else [`RunCause::Memory`] if the region is
 /// refused.
 pub fn engine_of<K: Known>(
     alloc: Global,
@@ -72,7 +72,7 @@ pub(crate) fn opened<K: Known>(
     ensures buf { IfOk result (λ r. MAX_RECORD ≤ length r.2.items) }
     ensures err { IfErr result (IsUnopened pipeline) }
 {
-    // Before any memory is asked for.
+    // This is tested before any memory is requested.
     ask_room(&pipeline)?;
     let Ok(inputs) = Vec::with_capacity(alloc, 8) else {
         return Err(RunCause::Memory);

@@ -30,7 +30,7 @@ fn pool_in(table: &Table) -> Option<PoolSpec>
     })
 }
 
-/// The most rules of a table of routes, at least 1.
+/// The maximum number of rules of a table of routes, at least 1.
 fn rules_in(table: &Table) -> Option<u32>
     ensures number { result ≡ spec.rules_in (table_view table.now) }
     ensures most { IfSome result (λ n. n ≤ MAX_RULES) }
@@ -65,7 +65,7 @@ fn table_in(table: &Table) -> Option<TablePart<'_>>
     })
 }
 
-/// The file names of a node.
+/// Reads the file names of a node.
 fn node_files_in(table: &Table) -> Option<NodeFiles<'_>>
     ensures { option_map view.node_files result ≡ spec.node_files_in (table_view table.now) }
 {
@@ -75,7 +75,7 @@ fn node_files_in(table: &Table) -> Option<NodeFiles<'_>>
     })
 }
 
-/// The fact that each packet of a ring satisfies.
+/// Reads the fact that each packet of a ring satisfies.
 fn fact_in(table: &Table) -> Option<Fact>
     ensures { result ≡ spec.fact_in (table_view table.now) }
 {
@@ -150,7 +150,7 @@ fn has_tables(table: &Table, key: &str) -> bool
     }
 }
 
-/// Whether the top has no other keys, and arrays of tables at those that may have them.
+/// Whether the top has only known keys, and arrays of tables at the keys that may have them.
 fn is_top(top: &Table) -> bool
     ensures { result ≡ spec.is_top (table_view top.now) }
 {
@@ -161,7 +161,7 @@ fn is_top(top: &Table) -> bool
         && has_tables(top, "port")
 }
 
-/// The region in bytes, if no key at the top is bad.
+/// Reads the size of the region in bytes, if no key at the top is bad.
 pub fn region_in(top: &Table) -> Option<u32>
     ensures { result ≡ spec.region_in (table_view top.now) }
 {
@@ -176,16 +176,16 @@ pub fn region_in(top: &Table) -> Option<u32>
     }
 }
 
-/// A part of which a file has an array: a pool, a table, a ring or a port.
+/// A part that a file has an array of: a pool, a table, a ring or a port.
 pub trait ArrayPart<'a>: Sized {
-    // What such a part is by the definitions, and how that is read from its table.
+    // What such a part is in the definitions, and how it is read from its table.
     ghost Meaning: { Type 0 };
 
     ghost meaning: { Self → Meaning };
 
     ghost read: { Members → Option Meaning };
 
-    /// The part that an element of the array is, or nothing where it has a bad key.
+    /// Reads an element of the array as such a part; nothing if it has a bad key.
     fn in_element(element: &'a Value) -> Option<Self>
         ensures { option_map meaning result ≡ option_and_then read (as_table (data_of element.now)) };
 }

@@ -1,4 +1,4 @@
-//! Pipelines that are ready to run.
+//! A pipeline that is ready to run, with its programs checked.
 
 ghost use Rattle.std.specs.Prelude.{◌≡◌, ℕ, ◌+◌, ◌<◌, length, Some, None, slice_get};
 ghost use Rattle.dp_model.specs.declared.env.Entry.TheVariants.{Port, Ring};
@@ -135,7 +135,7 @@ impl Pipeline {
         self.ports[port].output.as_str()
     }
 
-    /// Takes the pipeline apart, for an engine.
+    /// Splits the pipeline into the parts that an engine takes.
     pub(crate) fn into_parts(self) -> (Env, Vec<Lpm>, Vec<Checked>)
         ensures env { result.0 ≡ self.env }
         ensures tables { result.1.items ≡ self.tables }

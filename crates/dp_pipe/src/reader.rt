@@ -12,7 +12,7 @@ use crate::setup::Setup;
 use std::alloc::Global;
 use toml::{Table, Value};
 
-/// The parts of an array, or the first with a bad key.
+/// Reads the parts of an array, or finds the first with a bad key.
 fn parts_in<'a, P: ArrayPart<'a> + Drop>(
     alloc: Global,
     part: Part,

@@ -1,4 +1,4 @@
-//! Routes as they are written, and adding them to tables.
+//! Parses routes, and adds them to tables.
 
 ghost use Rattle.std.specs.Prelude.{◌≡◌, ◌≤◌, ◌<◌, ◌^◌, ◌==◌, length, position, IfSome, IfErr, OnOk, IsTrue};
 ghost use Rattle.std.specs.Char.{is_ascii_digit};
@@ -12,7 +12,7 @@ use crate::error::RouteError;
 use dp_lpm::Lpm;
 use toml::Value;
 
-/// A route as it is written: an address, how many of its bits count, and the hop.
+/// A route as a file has it: an address, the number of its bits that count, and the hop.
 #[derive(Clone, Copy)]
 pub struct Route {
     pub ip: u32,
@@ -26,7 +26,7 @@ fn are_digits(text: &[u8]) -> bool
     text.iter().all(|b| b.is_ascii_digit())
 }
 
-/// The number of decimal digits.
+/// Parses decimal digits as a number.
 fn decimal(digits: &[u8]) -> u32
     requires few { length digits.now ≤ 8 }
     requires digits { IsTrue (list_all is_ascii_digit digits.now) }
@@ -40,7 +40,7 @@ fn decimal(digits: &[u8]) -> u32
     value
 }
 
-/// The number of 1 to `most` decimal digits.
+/// Parses 1 to `most` decimal digits as a number.
 fn number_in(most: usize, digits: &[u8]) -> Option<u32>
     requires { most ≤ 8 }
     ensures value { result ≡ spec.number_in most digits.now }
@@ -53,7 +53,7 @@ fn number_in(most: usize, digits: &[u8]) -> Option<u32>
     }
 }
 
-/// One byte of an address.
+/// Parses one byte of an address.
 fn byte_in(digits: &[u8]) -> Option<u32>
     ensures value { result ≡ spec.byte_in digits.now }
     ensures most { IfSome result (λ n. n ≤ 255) }
@@ -68,7 +68,7 @@ fn offset_of(byte: u8, text: &[u8]) -> Option<usize>
     text.iter().position(|b| *b == byte)
 }
 
-/// Splits a text at the first occurrence of a byte: all and nothing where there is none.
+/// Splits a text at the first occurrence of a byte. Without one, the first part is the whole text and the second is empty.
 fn cut(byte: u8, text: &[u8]) -> (&[u8], &[u8])
     ensures before { result.0.now ≡ spec.before byte text.now }
     ensures after { result.1.now ≡ spec.after byte text.now }
@@ -79,7 +79,7 @@ fn cut(byte: u8, text: &[u8]) -> (&[u8], &[u8])
     }
 }
 
-/// `A.B.C.D`.
+/// Parses an address, `A.B.C.D`.
 fn address_in(text: &[u8]) -> Option<u32>
     ensures { result ≡ spec.address_in text.now }
 {
@@ -93,7 +93,7 @@ fn address_in(text: &[u8]) -> Option<u32>
     Some(((a * 256 + b) * 256 + c) * 256 + d)
 }
 
-/// `A.B.C.D/DEPTH HOP`.
+/// Parses a route, `A.B.C.D/DEPTH HOP`.
 pub fn route_in(text: &[u8]) -> Option<Route>
     ensures value { result ≡ spec.route_in text.now }
     ensures depth { IfSome result (λ route. route.depth ≤ 255) }
@@ -107,7 +107,7 @@ pub fn route_in(text: &[u8]) -> Option<Route>
     })
 }
 
-/// The route in a value of a file.
+/// Reads the route in a value of a file.
 fn route_of(value: &Value) -> Option<Route>
     ensures value { result ≡ spec.route_of (view value.now) }
     ensures depth { IfSome result (λ route. route.depth ≤ 255) }
@@ -130,7 +130,7 @@ fn add_route(table: &mut Lpm, value: &Value) -> Result<(), RouteError>
     }
 }
 
-/// Adds values to a table as routes, one after the other, up to the first that is refused: returns its index, and why.
+/// Adds values to a table as routes, in order, up to the first that is refused; returns its index, and why.
 pub fn add_routes(table: &mut Lpm, routes: &[Value]) -> Result<(), (usize, RouteError)>
     ensures ok { OnOk result (spec.TakesAll table.old table.new (values routes.now)) }
     ensures refused { IfErr result (λ e. spec.IsFirstRefused table.old (values routes.now) e.0 e.1) }

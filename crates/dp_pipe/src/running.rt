@@ -100,7 +100,7 @@ fn has_nano(inputs: &[Progress]) -> bool
     inputs.iter().any(|input| is_nano(input.source.unit()))
 }
 
-// The unit of time of the outputs: nanoseconds if any input has them, else microseconds.
+// The time unit of the outputs: nanoseconds if any input has them, else microseconds.
 fn unit_for(inputs: &[Progress]) -> Unit
     ensures { result ≡ forwarding.unit_for (units_of (spec.all_begun inputs.now)) }
 {
@@ -233,7 +233,7 @@ fn free_pools(specs: &[PoolSpec]) -> ArrayVec<PoolReport, 8>
     pools
 }
 
-// The counts of ports of which no input was read.
+// The counts of ports whose inputs were not read.
 fn idle_ports(specs: &[PortSpec]) -> ArrayVec<PortReport, 8>
     requires { length specs.now ≤ 8 }
     ensures { result.items ≡ map (λ _. port_report InputState.Open no_tallies) specs.now }
@@ -319,9 +319,9 @@ fn answer<K: Known, R: Feed, W: Sink, V: Watch>(
     }
 }
 
-/// Runs a pipeline as [`run`] does, under a watcher: it is shown each node run of each turn, instruction by instruction, in order, and
-/// nothing else; on [`RunCause::Memory`] and [`RunCause::NoRoom`] it is shown nothing. Programs that are among `K` run as machine code of
-/// their own, others are interpreted; nothing else depends on `K`.
+/// Runs a pipeline as [`run`] does, under a watcher, which is shown each node run of each turn, instruction by instruction, in order, and
+/// nothing else; on [`RunCause::Memory`] and [`RunCause::NoRoom`] it is shown nothing. Programs that are among `K` run as machine code,
+/// others are interpreted; nothing else depends on `K`.
 ///
 /// # Errors
 ///
@@ -368,28 +368,28 @@ pub fn run_watched<K: Known, R: Feed, W: Sink, V: Watch>(
     answer::<K, R, W, V>(alloc, pipeline, ins, outs, pattern, watch)
 }
 
-/// Runs a pipeline from captures to captures: one reader and one writer for each port, in port order. Record k of each input,
-/// in port order, round by round, is one turn of its engine, after which all transmit lists are written with the record's time.
-/// The headers are read and then written first, with nanoseconds if any input has them, else microseconds. The allocation calls
-/// whose numbers are in `pattern` are refused.
+/// Runs a pipeline from captures to captures: one reader and one writer for each port, in port order. Record k of each input, in port
+/// order, round by round, is one turn of its engine, after which all transmit lists are written with the record's time. First the headers
+/// are read, and then written, with nanoseconds if any input has them, else microseconds. The allocation calls whose numbers are in
+/// `pattern` are refused.
 ///
-/// No node run is ever stuck. What a port sends is what it sends where each packet has its own bytes and the allocation calls
+/// No node run is ever stuck. What a port sends is what it sends if each packet has its own bytes and the allocation calls
 /// have the same outcomes: no write is seen through another packet.
 ///
-/// All memory is taken before anything is read: the engine's region, a buffer for a record, and a list of the inputs. Whatever
-/// is returned, all packets are freed at the end, and all buffers are free.
+/// All memory is taken before anything is read: the engine's region, a buffer for a record, and a list of the inputs. Whatever `run`
+/// returns, all packets are freed at the end, and all buffers are free.
 ///
-/// No input is read ahead of its turn. A reader is called at most once for each byte of its header and of its records, and of one
-/// record more where its input ends or has a fault; a writer is called at most once for each byte that it is given.
+/// No input is read ahead of its turn. A reader is called at most once for each byte of its header and records, and of one more record if
+/// its input ends or has a fault; a writer is called at most once for each byte that it is given.
 ///
 /// # Errors
 ///
-/// [`RunCause::NoRoom`] exactly where the pipeline's region is smaller than its engine needs, which is known before memory is asked
-/// for, and [`RunCause::Memory`] where memory is refused; nothing was read or written then. [`RunCause::In`] names the first
-/// input with a fault, in the order in which they are read: the outputs are those of the run on the records before it, and nothing
-/// where the fault is in a header. [`RunCause::Out`] names the port whose writer failed: it was given a part of its output in the
-/// run through the last record that was read, the ports before it all of theirs, and those after it theirs in the run before; of
-/// headers the ports before have theirs, and those after it nothing. A reader or writer that failed is not called again.
+/// [`RunCause::NoRoom`] exactly if the pipeline's region is smaller than its engine needs, which is known before memory is asked for, and
+/// [`RunCause::Memory`] if memory is refused; nothing was read or written then. [`RunCause::In`] names the first input with a fault, in the
+/// order in which they are read: the outputs are those of the run on the records before it, and nothing if the fault is in a header.
+/// [`RunCause::Out`] names the port whose writer failed. After a record, that writer was given a part of its output of the run through that
+/// record, the writers before it all of theirs, and those after it theirs of the run before that record; at a header, the writers before it
+/// have their headers, and those after it nothing. A reader or writer that failed is not called again.
 pub fn run<R: Feed, W: Sink>(
     alloc: Global,
     pipeline: Pipeline,

@@ -1,4 +1,4 @@
-//! The setup in a pipeline file, borrowed from the text's table, and the limits of its numbers that no other crate has.
+//! The setup of a pipeline file, borrowed from its TOML table, and the limits of numbers that no other crate has.
 
 ghost use Rattle.std.specs.Prelude.{◌≤◌};
 ghost use Rattle.dp_lpm.specs.declared.limits.TheConstants.{MAX_GROUPS, MAX_RULES};
@@ -45,7 +45,7 @@ pub struct PortPart<'a> {
     pub output: &'a str,
 }
 
-/// A whole file; the region in bytes.
+/// All parts of a file; the region is in bytes.
 #[derive(Drop)]
 pub struct Setup<'a> {
     pub region: u32,

@@ -16,26 +16,26 @@ use std::alloc::Global;
 
 /// Watches a traced run: each record, each node run and each instruction.
 ///
-/// In a contract a tracer has what it makes of each note, besides what it makes of each event (`sees`).
+/// Contracts see how each note changes a tracer, as they see how each event does (`sees`).
 pub trait Tracer: Watch {
     ghost use Rattle.dp_pipe.specs.Tracing.{Note, Came, Ended};
 
     // Relates the tracer before a note to the tracer after it.
-    ghost told: { Self → Note → Self → Type 0 };
+    ghost noted: { Self → Note → Self → Type 0 };
 
     /// A record comes to a port: its time, and its length in bytes.
     fn record(&mut self, port: u8, time: Time, len: usize)
-        ensures { told self.old (Came port time len) self.new };
+        ensures { noted self.old (Came port time len) self.new };
 
-    /// The turn with that record is over. What is then in transmit lists is sent.
+    /// The turn with that record is over. The packets now in transmit lists are sent.
     fn turned(&mut self, turn: Turn, view: View<'_>)
-        ensures { told self.old (Ended turn view.entry.state.world) self.new };
+        ensures { noted self.old (Ended turn view.entry.state.world) self.new };
 }
 
 /// Which records are traced.
 #[derive(Clone, Copy, Debug, PartialEq, Eq)]
 pub struct Traced {
-    /// The most records: up to [`MAX_TURNS`].
+    /// The maximum number of records: up to [`MAX_TURNS`].
     pub records: u32,
     /// Only those of one port, or those of all ports in the order of a run.
     pub port: Option<u8>,
@@ -65,7 +65,7 @@ fn trace_next<K: Known, R: Feed, T: Tracer>(
     requires exists { port < length engine.old.setting.env.ports }
     requires buf { MAX_RECORD ≤ length buf.old }
     requires limit { engine.old.turns < MAX_TURNS }
-    ensures traced { MatchResult result (λ time. TracesOne T.Watch.sees T.told tracer.old tracer.new port time engine.old engine.new)
+    ensures traced { MatchResult result (λ time. TracesOne T.Watch.sees T.noted tracer.old tracer.new port time engine.old engine.new)
         (λ _. (tracer.new ≡ tracer.old) × (engine.new ≡ engine.old)) }
     ensures buf { length buf.new ≡ length buf.old }
 {
@@ -87,7 +87,7 @@ fn trace_next<K: Known, R: Feed, T: Tracer>(
     }
 }
 
-// Does that for a port that is traced and open, if more records are wanted. What the turn put into transmit lists is dropped after it.
+// Takes a traced turn for a port that is traced and open, if more records are wanted. Then drops what the turn put into transmit lists.
 fn trace_port<K: Known, R: Feed, T: Tracer>(
     engine: &mut Engine<K>,
     port: u8,
@@ -100,7 +100,7 @@ fn trace_port<K: Known, R: Feed, T: Tracer>(
     requires exists { port < length engine.old.setting.env.ports }
     requires buf { MAX_RECORD ≤ length buf.old }
     requires limit { engine.old.turns + which.old.records ≤ MAX_TURNS }
-    ensures traced { (count : ℕ) × HasTraced T.Watch.sees T.told tracer.old tracer.new which.old.port count engine.old engine.new
+    ensures traced { (count : ℕ) × HasTraced T.Watch.sees T.noted tracer.old tracer.new which.old.port count engine.old engine.new
         × (which.new.records + count ≡ which.old.records) }
     ensures port { which.new.port ≡ which.old.port }
     ensures buf { length buf.new ≡ length buf.old }
@@ -122,7 +122,7 @@ fn trace_port<K: Known, R: Feed, T: Tracer>(
     }
 }
 
-// Does that once for each input that is traced and open, in port order.
+// Takes one traced turn for each input that is traced and open, in port order.
 fn trace_round<K: Known, R: Feed, T: Tracer>(
     engine: &mut Engine<K>,
     inputs: &mut [Progress],
@@ -136,7 +136,7 @@ fn trace_round<K: Known, R: Feed, T: Tracer>(
     requires few { length ins.old ≤ 8 }
     requires buf { MAX_RECORD ≤ length buf.old }
     requires limit { engine.old.turns + which.old.records ≤ MAX_TURNS }
-    ensures traced { (count : ℕ) × HasTraced T.Watch.sees T.told tracer.old tracer.new which.old.port count engine.old engine.new
+    ensures traced { (count : ℕ) × HasTraced T.Watch.sees T.noted tracer.old tracer.new which.old.port count engine.old engine.new
         × (which.new.records + count ≡ which.old.records) }
     ensures port { which.new.port ≡ which.old.port }
     ensures many { (length inputs.new ≡ length inputs.old) × (length ins.new ≡ length ins.old) × (length buf.new ≡ length buf.old) }
@@ -183,7 +183,7 @@ fn trace_rounds<K: Known, R: Feed, T: Tracer>(
     requires few { length ins.old ≤ 8 }
     requires buf { MAX_RECORD ≤ length buf.old }
     requires limit { engine.old.turns + which.records ≤ MAX_TURNS }
-    ensures traced { (count : ℕ) × HasTraced T.Watch.sees T.told tracer.old tracer.new which.port count engine.old engine.new × (count ≤ which.records) }
+    ensures traced { (count : ℕ) × HasTraced T.Watch.sees T.noted tracer.old tracer.new which.port count engine.old engine.new × (count ≤ which.records) }
     ensures cause { IfErr result IsOfInput }
 {
     let mut which = which;
@@ -212,7 +212,7 @@ fn trace_records<K: Known, R: Feed, T: Tracer>(
     requires room { 8 ≤ vec_capacity inputs.old }
     requires buf { MAX_RECORD ≤ length buf.old }
     requires limit { which.records ≤ MAX_TURNS }
-    ensures traced { (count : ℕ) × HasTraced T.Watch.sees T.told tracer.old tracer.new which.port count engine.old engine.new × (count ≤ which.records) }
+    ensures traced { (count : ℕ) × HasTraced T.Watch.sees T.noted tracer.old tracer.new which.port count engine.old engine.new × (count ≤ which.records) }
     ensures cause { IfErr result IsOfInput }
 {
     read_headers(ins, inputs)?;
@@ -225,9 +225,9 @@ fn trace_records<K: Known, R: Feed, T: Tracer>(
 ///
 /// # Errors
 ///
-/// [`RunCause::NoRoom`] exactly where the pipeline's region is smaller than its engine needs, which is known before memory is asked
-/// for, and [`RunCause::Memory`] where memory is refused; nothing was read or traced then. [`RunCause::In`] where an input has a
-/// fault, in its header or after the records that were traced.
+/// [`RunCause::NoRoom`] exactly if the pipeline's region is smaller than its engine needs, which is known before memory is asked for, and
+/// [`RunCause::Memory`] if memory is refused; nothing was read or traced then. [`RunCause::In`] if an input has a fault, in its header or
+/// after the records that were traced.
 pub fn trace<K: Known, R: Feed, T: Tracer>(
     alloc: Global,
     pipeline: Pipeline,
@@ -243,7 +243,7 @@ pub fn trace<K: Known, R: Feed, T: Tracer>(
     ensures no_room { result ≡ Err RunCause.NoRoom ↔ pipeline.region < bytes_needed pipeline.env }
     // It is shown the first turns of a run, and nothing else.
     ensures traced { (result ≡ Err RunCause.Memory) ⊎ (result ≡ Err RunCause.NoRoom)
-        ⊎ TracesFirst T.Watch.sees T.told tracer.old tracer.new pipeline pattern.items which.port which.records }
+        ⊎ TracesFirst T.Watch.sees T.noted tracer.old tracer.new pipeline pattern.items which.port which.records }
     ensures untouched { IfErr result (λ cause. (cause ≡ RunCause.Memory) ⊎ (cause ≡ RunCause.NoRoom) → (ins.new ≡ ins.old) × (tracer.new ≡ tracer.old)) }
 {
     let (mut engine, mut inputs, mut buf) = opened::<K>(alloc, pipeline, pattern)?;

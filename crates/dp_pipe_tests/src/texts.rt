@@ -16,12 +16,12 @@ const RING: &str =
 const PORT: &str =
     "[[port]]\npool = 0\nsegs = 1\nqueue = 4\nnode = \"n\"\ncert = \"c\"\nin = \"a\"\nout = \"b\"\n";
 
-/// Why a text is refused, and nothing where it is not.
+/// Why a text is refused, and nothing if it is not.
 fn refusal(rt: &HostRuntime, text: &[u8]) -> Option<PipeError> {
     survey_of(rt.alloc(), text).err()
 }
 
-/// A whole file of these parts, with a word changed where it first occurs.
+/// A whole file of these parts, with a word changed at its first occurrence.
 fn changed(rt: &HostRuntime, old: &str, new: &str) -> Result<String, AllocError> {
     let alloc = rt.alloc();
     let text = format!(in alloc; "region = 10368\n{POOL}{TABLE}{RING}{PORT}")?;

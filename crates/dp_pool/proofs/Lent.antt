@@ -7,27 +7,27 @@ use Rattle.dp_pool.specs.Pools.{stride_of, objects_from, object_offset, spilled}
 use Rattle.dp_pool.proofs.Objects.{offset_from, offset_within, stride_covers}
 
 -- the bytes after the offset are the old ones with the rest of ws over them
-bytes_in-behind : (xs : List ℕ) (p d n : ℕ) (ws : List ℕ) → p + d + n ≤ length xs → bytes_in (overlaid xs p ws) (p + d) n
+bytes_in-beyond : (xs : List ℕ) (p d n : ℕ) (ws : List ℕ) → p + d + n ≤ length xs → bytes_in (overlaid xs p ws) (p + d) n
     ≡ refilled (bytes_in xs (p + d) n) (drop d ws)
-bytes_in-behind xs p d n ws fits = same_lists _ _ (search (rules, places)) (λ k e h. grind (arith, places))
+bytes_in-beyond xs p d n ws fits = same_lists _ _ (search (rules, places)) (λ k e h. grind (arith, places))
 
 -- the bytes before it stay
 bytes_in-before : (xs : List ℕ) (p q n : ℕ) (ws : List ℕ) → q + n ≤ p → p ≤ length xs → bytes_in (overlaid xs p ws) q n ≡ bytes_in xs q n
 bytes_in-before xs p q n ws before fits = same_lists _ _ (search (rules, places)) (λ k e h. grind (arith, places))
 
 -- the objects after it have the rest of ws over them
-objects_behind : (xs : List ℕ) (size p d n : ℕ) (ws : List ℕ) → object_offset size (p + d) n ≤ length xs → objects_from (overlaid xs p ws) size (p + d) n
+objects_after : (xs : List ℕ) (size p d n : ℕ) (ws : List ℕ) → object_offset size (p + d) n ≤ length xs → objects_from (overlaid xs p ws) size (p + d) n
     ≡ spilled (stride_of size) (objects_from xs size (p + d) n) (drop d ws)
-objects_behind xs size p d zero ws fits = refl
-objects_behind xs size p d (suc n) ws fits =
+objects_after xs size p d zero ws fits = refl
+objects_after xs size p d (suc n) ws fits =
     let high = offset_from size (p + d + stride_of size) n in
     let covers = stride_covers size in
     let next : p + d + stride_of size ≡ p + (d + stride_of size) = omega arith in
     let rest : drop (d + stride_of size) ws ≡ drop (stride_of size) (drop d ws) = sym (drop-drop (stride_of size) d ws) in
     ap₂ (λ (o : List ℕ) (os : List (List ℕ)). o ∷ os)
-    (bytes_in-behind xs p d size ws (omega (arith, high, covers, fits)))
+    (bytes_in-beyond xs p d size ws (omega (arith, high, covers, fits)))
     (ap (λ q. objects_from (overlaid xs p ws) size q n) next
-    ∙ (objects_behind xs size p (d + stride_of size) n ws (rw next at fits)
+    ∙ (objects_after xs size p (d + stride_of size) n ws (rw next at fits)
     ∙ (ap (λ l. spilled (stride_of size) (objects_from xs size (p + (d + stride_of size)) n) l) rest
     ∙ ap (λ q. spilled (stride_of size) (objects_from xs size q n) (drop (stride_of size) (drop d ws))) (sym next))))
 
@@ -38,7 +38,7 @@ pub objects_left : (xs : List ℕ) (size q n i : ℕ) (ws : List ℕ) → i < n 
 objects_left xs size q zero i ws less fits = absurd (omega (arith, less))
 objects_left xs size q (suc n) zero ws less fits =
     let here : q + 0 ≡ q = omega arith in
-    rw here at (objects_behind xs size q 0 (suc n) ws (rw here fits))
+    rw here at (objects_after xs size q 0 (suc n) ws (rw here fits))
 objects_left xs size q (suc n) (suc i) ws less fits =
     let low = offset_from size (q + stride_of size) i in
     let high = offset_within size (q + stride_of size) n i (omega (arith, less)) in

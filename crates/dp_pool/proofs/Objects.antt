@@ -67,8 +67,8 @@ bytes_in-inside xs q n at ws fits room =
                 inside xs (q + at) (length ws) fits_whole ws refl (q + k) 0 (omega (arith, from)) (omega (arith, before))
                 ∙ (ap (λ j. get_or ws j 0) (let same : q + k - (q + at) ≡ k - at = omega (arith, from) in same)
                 ∙ sym (inside part at (length ws) fits_part ws refl k 0 from before))
-            | inr behind ↦
-                let past = ltb-false k (at + length ws) behind in
+            | inr beyond ↦
+                let past = ltb-false k (at + length ws) beyond in
                 outside xs (q + at) (length ws) fits_whole ws refl (q + k) 0 (inr (omega (arith, past)))
                 ∙ (sym (in_run xs q n k 0 less) ∙ sym (outside part at (length ws) fits_part ws refl k 0 (inr past)))
           ]

@@ -7,17 +7,17 @@ use Rattle.dp_zone.specs.Zones.{Reserved, IsZoneRefused, IsReservable}
 use Rattle.dp_region.specs.Ownership.{Home}
 use Rattle.dp_pool.specs.declared.error.PoolError.{PoolError}
 use Rattle.dp_pool.specs.declared.error.PoolError.TheVariants.{BadCount, BadSize, BadCache, Zone}
-use Rattle.dp_pool.specs.Pools.{most_objects, largest_object, largest_cache, PoolView, stride_of}
+use Rattle.dp_pool.specs.Pools.{max_objects, max_object, max_cache, PoolView, stride_of}
 
 -- permitted numbers of objects, sizes and caches
 abbrev pub IsPoolCount : ℕ → Type 0
-IsPoolCount n = (1 ≤ n) × (n ≤ most_objects)
+IsPoolCount n = (1 ≤ n) × (n ≤ max_objects)
 
 abbrev pub IsObjectSize : ℕ → Type 0
-IsObjectSize size = (1 ≤ size) × (size ≤ largest_object)
+IsObjectSize size = (1 ≤ size) × (size ≤ max_object)
 
 abbrev pub IsCacheSize : ℕ → ℕ → Type 0
-IsCacheSize n cache = (cache ≤ largest_cache) × (3 * cache ≤ 2 * n)
+IsCacheSize n cache = (cache ≤ max_cache) × (3 * cache ≤ 2 * n)
 
 -- the names of a pool's zones
 abbrev pub object_name : List ℕ → List ℕ

@@ -6,7 +6,7 @@ abbrev pub occurs : ℕ → List ℕ → ℕ
 occurs i [] = 0
 occurs i (x ∷ xs) = (if x == i then 1 else 0) + occurs i xs
 
--- for each of n indexes from i on: whether it does not occur in the list
+-- for each of the n indexes from i: whether it does not occur in the list
 abbrev pub absent_from : ℕ → ℕ → List ℕ → List Bool
 absent_from i zero ins = []
 absent_from i (suc n) ins = (occurs i ins == 0) ∷ absent_from (suc i) n ins

@@ -38,11 +38,11 @@ pool_code =
     (λ p. (p.size, (p.cache, (p.cached, (p.objects, (p.out, p.zones))))))
     (λ t. record { size = t.0; cache = t.1.0; cached = t.1.1.0; objects = t.1.1.1.0; out = t.1.1.1.1.0; zones = t.1.1.1.1.1 }) (λ _. refl)
 
--- the bytes of an object; none where there is no such object
+-- the bytes of an object; empty if there is no such object
 abbrev pub object_in : PoolView → ℕ → List ℕ
 object_in p i = slice_index_or p.objects i []
 
--- bytes after others are written over them from an offset on
+-- bytes after others are written over them at an offset
 abbrev pub overwritten : List ℕ → ℕ → List ℕ → List ℕ
 overwritten old at new = take at old ++ (new ++ drop (at + length new) old)
 
@@ -50,7 +50,7 @@ overwritten old at new = take at old ++ (new ++ drop (at + length new) old)
 abbrev pub with_object : PoolView → ℕ → List ℕ → PoolView
 with_object p i bytes = record p { objects = slice_set p.objects i bytes }
 
--- the pool after these bytes are written into an object from an offset on
+-- the pool after these bytes are written into an object at an offset
 abbrev pub with_written : PoolView → ℕ → ℕ → List ℕ → PoolView
 with_written p i at bytes = with_object p i (overwritten (object_in p i) at bytes)
 
@@ -76,25 +76,25 @@ abbrev pub all_back : PoolView → List ℕ → PoolView
 all_back p [] = p
 all_back p (i ∷ is) = all_back (put_back p i) is
 
--- the most objects of a pool, the size of the largest, and the most indexes that a cache is for
-abbrev pub most_objects : ℕ
-most_objects = 65535
+-- the maximum number of objects of a pool, the maximum size of an object, and the maximum size of a cache
+abbrev pub max_objects : ℕ
+max_objects = 65535
 
-abbrev pub largest_object : ℕ
-largest_object = 4224
+abbrev pub max_object : ℕ
+max_object = 4224
 
-abbrev pub largest_cache : ℕ
-largest_cache = 512
+abbrev pub max_cache : ℕ
+max_cache = 512
 
 -- what holds of every pool
 pub record IsPool (p : PoolView) : Type 0 where
   pub some : 1 ≤ length p.objects
-  pub count : length p.objects ≤ most_objects
+  pub count : length p.objects ≤ max_objects
   pub out : length p.out ≡ length p.objects
   pub sizes : (i : ℕ) → i < length p.objects → length (object_in p i) ≡ p.size
   pub bytes : (i k : ℕ) → slice_index (object_in p i) k < 256
-  pub size : (1 ≤ p.size) × (p.size ≤ largest_object)
-  pub cache : (p.cache ≤ largest_cache) × (3 * p.cache ≤ 2 * length p.objects)
+  pub size : (1 ≤ p.size) × (p.size ≤ max_object)
+  pub cache : (p.cache ≤ max_cache) × (3 * p.cache ≤ 2 * length p.objects)
 
 -- ---- how the objects lie in their zone
 
@@ -102,7 +102,7 @@ pub record IsPool (p : PoolView) : Type 0 where
 abbrev pub stride_of : ℕ → ℕ
 stride_of size = (size + (cache_line - 1)) / cache_line * cache_line
 
--- the n objects of a size from an offset on
+-- the n objects of a size that begin at an offset
 abbrev pub objects_from : List ℕ → ℕ → ℕ → ℕ → List (List ℕ)
 objects_from bytes size offset zero = []
 objects_from bytes size offset (suc n) = bytes_in bytes offset size ∷ objects_from bytes size (offset + stride_of size) n
@@ -114,7 +114,7 @@ object_offset size offset (suc i) = object_offset size (offset + stride_of size)
 
 -- ---- an object whose bytes were lent for writing
 
--- objects after ws is written over them from the first byte on; each begins `stride` bytes after the one before
+-- objects after ws is written over them, starting at the first byte; each begins `stride` bytes after the one before
 abbrev pub spilled : ℕ → List (List ℕ) → List ℕ → List (List ℕ)
 spilled stride [] ws = []
 spilled stride (o ∷ os) ws = refilled o ws ∷ spilled stride os (drop stride ws)

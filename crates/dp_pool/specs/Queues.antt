@@ -4,7 +4,7 @@ use Rattle.std.specs.Prelude.{slice_set, count_by}
 use Rattle.std.specs.Coded.{Coded, code_by, coded×, coded_list, coded_ℕ, coded_bool}
 use Rattle.dp_region.specs.Ownership.{Home, home_code}
 
--- the number of indexes, the size of the cache and how many it holds, which are out, and the queue's zone
+-- the number of indexes, the size of the cache and how many indexes it holds, which indexes are out, and the queue's zone
 pub record IndexView : Type 0 where
   pub cache : ℕ
   pub cached : ℕ
@@ -22,9 +22,9 @@ index_code =
     (λ v. (v.cache, (v.cached, (v.out, (v.name, (v.home, (v.offset, v.len)))))))
     (λ p. record { cache = p.0; cached = p.1.0; out = p.1.1.0; name = p.1.1.1.0; home = p.1.1.1.1.0; offset = p.1.1.1.1.1.0; len = p.1.1.1.1.1.1 }) (λ _. refl)
 
--- the most indexes in a cache at once: one and a half times the largest size
-abbrev pub most_in_cache : ℕ
-most_in_cache = 768
+-- the maximum number of indexes in a cache at once: one and a half times the maximum size
+abbrev pub max_in_cache : ℕ
+max_in_cache = 768
 
 -- how many indexes are in
 abbrev pub in_count : List Bool → ℕ

@@ -14,7 +14,7 @@ pub enum PoolError {
     /// The size of an object is 0 or above `MAX_OBJECT`.
     #[error("bad object size")]
     BadSize,
-    /// The cache is for more than `MAX_CACHE` indexes, or for more than two thirds of the objects.
+    /// The cache's size is above `MAX_CACHE`, or above two thirds of the number of objects.
     #[error("bad cache size")]
     BadCache,
     /// The zone of the objects, or that of the queue, is refused.

@@ -4,15 +4,15 @@ ghost use Rattle.std.specs.Prelude.{◌≡◌, ℕ, ◌+◌, ◌-◌, ◌*◌, �
 ghost use Rattle.std.specs.Prelude.{MatchOption, Some, slice_get, slice_set, count_by, replicate, ◌==◌, ◌↔◌, IsTrue};
 ghost use Rattle.std.specs.List.{list_any};
 ghost use Rattle.dp_pool.specs.Once.{upto};
-ghost use Rattle.dp_pool.specs.Pools.{most_objects, largest_cache, is_out_in};
+ghost use Rattle.dp_pool.specs.Pools.{max_objects, max_cache, is_out_in};
 ghost use Rattle.dp_ring.specs.Rings.{room_in, with_more, without_first};
-ghost use Rattle.dp_pool.specs.Queues.{most_in_cache, in_count, taken, back, cached_after_get, cached_after_put, AreHanded, AreOut, all_returned};
+ghost use Rattle.dp_pool.specs.Queues.{max_in_cache, in_count, taken, back, cached_after_get, cached_after_put, AreHanded, AreOut, all_returned};
 
 use arrayvec::ArrayVec;
 use dp_ring::Ring;
 use std::marker::Model;
 
-/// The most indexes in a cache at once. A cache for 512 (`MAX_CACHE`) is cut back to 512 when it reaches one and a half times that, as DPDK
+/// The maximum number of indexes in a cache at once. A cache for 512 (`MAX_CACHE`) is cut back to 512 when it reaches one and a half times that, as DPDK
 /// flushes one.
 const MAX_IN_CACHE: usize = 768;
 
@@ -31,8 +31,8 @@ pub(crate) struct Indexes {
 
 impl Model for Indexes {
     ghost use Rattle.std.specs.Prelude.{◌≡◌, ◌-◌, ◌<◌, ◌≤◌, ◌++◌, length};
-    ghost use Rattle.dp_pool.specs.Pools.{most_objects, largest_cache};
-    ghost use Rattle.dp_pool.specs.Queues.{most_in_cache, IndexView, index_code};
+    ghost use Rattle.dp_pool.specs.Pools.{max_objects, max_cache};
+    ghost use Rattle.dp_pool.specs.Queues.{max_in_cache, IndexView, index_code};
     ghost use Rattle.dp_pool.specs.Once.{absent, AreOnce};
 
     ghost Value = { IndexView };
@@ -49,15 +49,15 @@ impl Model for Indexes {
       len = v.queue.len;
     } };
 
-    ghost invariant = { λ v. AreOnce v.count (v.cached.items ++ v.queue.entries) × (v.count < v.queue.count) × (v.cache ≤ largest_cache)
-        × (length v.cached.items ≤ most_in_cache - 1) × (v.cache ≡ 0 → length v.cached.items ≡ 0) × (v.count ≤ most_objects) };
+    ghost invariant = { λ v. AreOnce v.count (v.cached.items ++ v.queue.entries) × (v.count < v.queue.count) × (v.cache ≤ max_cache)
+        × (length v.cached.items ≤ max_in_cache - 1) × (v.cache ≡ 0 → length v.cached.items ≡ 0) × (v.count ≤ max_objects) };
 }
 
 // Moves the first indexes of the queue to the end of the cache, in one read.
 #[inline(never)]
 fn move_in(queue: &mut Ring, cached: &mut ArrayVec<u32, MAX_IN_CACHE>, number: u32)
     requires there { number ≤ length queue.old.entries }
-    requires room { length cached.old.items + number ≤ most_in_cache }
+    requires room { length cached.old.items + number ≤ max_in_cache }
     ensures cached { cached.new.items ≡ cached.old.items ++ take number queue.old.entries }
     ensures queue { queue.new ≡ without_first queue.old number }
 {
@@ -81,7 +81,7 @@ fn move_out(queue: &mut Ring, cached: &mut ArrayVec<u32, MAX_IN_CACHE>, keep: us
 // Appends indexes to the cache.
 #[inline(always)]
 fn extend(cached: &mut ArrayVec<u32, MAX_IN_CACHE>, indexes: &[u32])
-    requires { length cached.old.items + length indexes.now ≤ most_in_cache }
+    requires { length cached.old.items + length indexes.now ≤ max_in_cache }
     ensures { cached.new.items ≡ cached.old.items ++ indexes.now }
 {
     let _ = cached.try_extend_from_slice(indexes);
@@ -106,11 +106,11 @@ fn is_one_of(indexes: &[u32], index: u32) -> bool
 }
 
 impl Indexes {
-    /// All indexes below `count`, in an empty queue that has room for one more.
+    /// Puts all indexes below `count` into an empty queue that has room for one more.
     pub(crate) fn over(queue: Ring, count: u32, cache: u32) -> Indexes
         requires empty { queue.entries ≡ [] }
         requires room { count < queue.count }
-        requires limits { (count ≤ most_objects) × (cache ≤ largest_cache) }
+        requires limits { (count ≤ max_objects) × (cache ≤ max_cache) }
         ensures { result ≡ record {
           cache = cache;
           cached = 0;
@@ -131,7 +131,7 @@ impl Indexes {
         }
     }
 
-    /// Hands the queue back. Its entries are left open.
+    /// Returns the queue. The contract does not say what its entries are.
     pub(crate) fn into_queue(self) -> Ring
         ensures { (result.name ≡ self.name) × (result.home ≡ self.home) × (result.offset ≡ self.offset) × (result.len ≡ self.len) }
     {
@@ -144,7 +144,7 @@ impl Indexes {
         queue
     }
 
-    /// Whether an index is out; false where there is no such index.
+    /// Whether an index is out; false if there is no such index.
     pub(crate) fn is_out(&self, index: u32) -> bool
         ensures { result ≡ is_out_in self.now.out index }
     {
@@ -204,7 +204,7 @@ impl Indexes {
         move_in(&mut self.queue, &mut self.cached, number);
     }
 
-    // Takes an index where the cache is empty: fills the cache first, unless it is for none.
+    // Takes an index when the cache is empty: fills the cache first, unless its size is 0.
     fn get_refilled(&mut self) -> Option<u32>
         requires { self.old.cached ≡ 0 }
         ensures { MatchOption result ((in_count self.old.out ≡ 0) × (self.new ≡ self.old)) (λ i. (slice_get self.old.out i ≡ Some false)
@@ -220,7 +220,7 @@ impl Indexes {
         Some(self.next_cached())
     }
 
-    // Whether the cache has an index; if so, it is not for none.
+    // Whether the cache has an index; if so, its size is not 0.
     #[inline(always)]
     fn has_cached(&self) -> bool
         ensures some { result ≡ true → (0 < self.now.cached) × (0 < self.now.cache) }

@@ -5,8 +5,8 @@ ghost use Rattle.std.specs.Prelude.{count_by, not, max, ◌⊎◌};
 ghost use Rattle.std.specs.Int.{IsNextPowerOfTwo};
 ghost use Rattle.dp_heap.specs.Elements.{rounded, merged, IsOut, count_of, is_busy};
 ghost use Rattle.dp_zone.specs.Zones.{IsZoneRefused, without_name};
-ghost use Rattle.dp_ring.specs.Rings.{most_slots};
-ghost use Rattle.dp_pool.specs.Pools.{most_objects, largest_object, stride_of};
+ghost use Rattle.dp_ring.specs.Rings.{max_slots};
+ghost use Rattle.dp_pool.specs.Pools.{max_objects, max_object, stride_of};
 ghost use Rattle.dp_pool.specs.Making.{IsPoolCount, IsObjectSize, IsCacheSize, object_name, queue_name, Reserves, IsPoolRefused, IsMade};
 
 use crate::error::PoolError;
@@ -15,16 +15,16 @@ use dp_heap::Heap;
 use dp_region::CACHE_LINE;
 use dp_zone::{Zone, ZoneError, Zones};
 
-/// The most objects of a pool: all whose indexes fit into 2 bytes of an mbuf's header, less one.
+/// The maximum number of objects of a pool: one less than the number of indexes that fit into 2 bytes of an mbuf's header.
 pub const MAX_OBJECTS: u32 = 65_535;
 
 /// The size of the largest object, in bytes: the header of an mbuf and 4,096 of data.
 pub const MAX_OBJECT: u32 = 4224;
 
-/// The most indexes that a cache may be for: DPDK's `RTE_MEMPOOL_CACHE_MAX_SIZE`.
+/// The maximum size of a cache, in indexes: DPDK's `RTE_MEMPOOL_CACHE_MAX_SIZE`.
 pub const MAX_CACHE: u32 = 512;
 
-// The pool's name with a suffix, if that is short enough for a zone's name.
+// The pool's name with a suffix, if the result is short enough for a zone's name.
 fn with_suffix(name: &str, suffix: &str) -> Option<ArrayString<32>>
     requires { length suffix.now ≤ 5 }
     ensures some { IfSome result (λ t. t.bytes ≡ name.now ++ suffix.now) }
@@ -39,7 +39,7 @@ fn with_suffix(name: &str, suffix: &str) -> Option<ArrayString<32>>
     Some(text)
 }
 
-// The error that these numbers cause, whatever the zones are.
+// The error that these numbers cause by themselves, if they do.
 pub(crate) fn refused_numbers(count: u32, size: u32, cache: u32) -> Option<PoolError>
     ensures some { IfSome result (λ e. (e ≡ PoolError.BadCount × ¬ IsPoolCount count)
         ⊎ ((e ≡ PoolError.BadSize × IsPoolCount count × ¬ IsObjectSize size)
@@ -60,7 +60,7 @@ pub(crate) fn refused_numbers(count: u32, size: u32, cache: u32) -> Option<PoolE
 
 // The bytes that an object of this size takes in its zone.
 pub(crate) fn stride_of(size: u32) -> u32
-    requires { size ≤ largest_object }
+    requires { size ≤ max_object }
     ensures { result ≡ stride_of size }
 {
     (size + (CACHE_LINE - 1)) / CACHE_LINE * CACHE_LINE
@@ -68,9 +68,9 @@ pub(crate) fn stride_of(size: u32) -> u32
 
 // The number of slots of the queue: the smallest power of two above the number of objects.
 pub(crate) fn queue_count(count: u32) -> u32
-    requires { (1 ≤ count) × (count ≤ most_objects) }
+    requires { (1 ≤ count) × (count ≤ max_objects) }
     ensures next { IsNextPowerOfTwo (count + 1) result }
-    ensures bound { (count < result) × (result ≤ most_slots) }
+    ensures bound { (count < result) × (result ≤ max_slots) }
 {
     (count + 1).next_power_of_two()
 }

@@ -1,4 +1,4 @@
-//! The pool's public calls.
+//! A pool, and its public calls.
 
 ghost use Rattle.std.specs.Borrow.{Lends, Array, sem, u8 as byte};
 ghost use Rattle.std.specs.Prelude.{◌≡◌, ℕ, ◌+◌, ◌*◌, ◌<◌, ◌≤◌, List, true, false, not, Some, length, replicate, slice_get, slice_index, count_by, nat_le};
@@ -8,8 +8,8 @@ ghost use Rattle.dp_zone.specs.Zones.{without_name};
 ghost use Rattle.dp_pool.specs.Making.{IsPoolCount, IsObjectSize, IsCacheSize, IsPoolRefused, IsMade};
 ghost use Rattle.dp_pool.specs.Queues.{in_count, AreOut};
 ghost use Rattle.dp_pool.specs.Pools.{IsPool, AreGot, object_offset, stride_of, object_in, with_object, with_written, with_left, is_out_in, got, put_back};
-ghost use Rattle.dp_ring.specs.Rings.{most_slots};
-ghost use Rattle.dp_pool.specs.Pools.{most_objects, largest_object, all_back};
+ghost use Rattle.dp_ring.specs.Rings.{max_slots};
+ghost use Rattle.dp_pool.specs.Pools.{max_objects, max_object, all_back};
 ghost use Rattle.dp_pool.specs.contracts.pool.Pool.{the_row};
 
 use crate::error::PoolError;
@@ -42,7 +42,7 @@ struct Numbers {
 
 impl Model for Pool {
     ghost use Rattle.std.specs.Prelude.{◌≡◌, ◌*◌, ◌≤◌, length};
-    ghost use Rattle.dp_pool.specs.Pools.{most_objects, largest_object, largest_cache, PoolView, PoolZones, pool_code, objects_from, stride_of};
+    ghost use Rattle.dp_pool.specs.Pools.{max_objects, max_object, max_cache, PoolView, PoolZones, pool_code, objects_from, stride_of};
 
     ghost Value = { PoolView };
 
@@ -63,9 +63,9 @@ impl Model for Pool {
       };
     } };
 
-    ghost invariant = { λ p. (length p.indexes.out ≡ p.count) × (1 ≤ p.count) × (p.count ≤ most_objects) × (1 ≤ p.size) × (p.size ≤ largest_object)
+    ghost invariant = { λ p. (length p.indexes.out ≡ p.count) × (1 ≤ p.count) × (p.count ≤ max_objects) × (1 ≤ p.size) × (p.size ≤ max_object)
         × (p.stride ≡ stride_of p.size) × (p.count * stride_of p.size ≤ length p.objects.bytes) × (p.indexes.home ≡ p.objects.home)
-        × (p.indexes.cache ≤ largest_cache) × (3 * p.indexes.cache ≤ 2 * p.count) };
+        × (p.indexes.cache ≤ max_cache) × (3 * p.indexes.cache ≤ 2 * p.count) };
 }
 
 // The offset of an object in the zone of `count` objects that take `stride` bytes each.
@@ -73,10 +73,10 @@ impl Model for Pool {
 #[tactic(auto, using(crate::proofs::Pools::offset_is, crate::proofs::Pools::offset_ends))]
 fn offset_of(index: u32, count: u32, size: u32, stride: u32) -> u32
     requires there { index < count }
-    requires limits { (count ≤ most_objects) × (size ≤ largest_object) × (stride ≡ stride_of size) }
+    requires limits { (count ≤ max_objects) × (size ≤ max_object) × (stride ≡ stride_of size) }
     ensures value { result ≡ object_offset size 0 index }
     ensures end { result + stride_of size ≤ count * stride_of size }
-    ensures bound { result ≤ most_objects * largest_object }
+    ensures bound { result ≤ max_objects * max_object }
 {
     index * stride
 }
@@ -93,7 +93,7 @@ impl Pool {
     fn over(objects: Zone, queue: Zone, numbers: Numbers) -> Pool
         requires numbers { IsPoolCount numbers.count × IsObjectSize numbers.size × IsCacheSize numbers.count numbers.cache }
         requires room { numbers.count * stride_of numbers.size ≤ length objects.bytes }
-        requires slots { (numbers.count < numbers.slots) × (numbers.slots ≤ most_slots) × (4 * numbers.slots ≤ length queue.bytes) }
+        requires slots { (numbers.count < numbers.slots) × (numbers.slots ≤ max_slots) × (4 * numbers.slots ≤ length queue.bytes) }
         requires home { queue.home ≡ objects.home }
         ensures numbers { (result.size ≡ numbers.size) × (result.cache ≡ numbers.cache) × (result.cached ≡ 0) × (length result.objects ≡ numbers.count)
             × (result.out ≡ replicate numbers.count false) }
@@ -157,7 +157,7 @@ impl Pool {
         Ok(Pool::over(objects, queue, numbers))
     }
 
-    /// Ends the pool, whatever is out, and gives its two zones back. `heap` must be the one in which the pool was made.
+    /// Ends the pool, even if objects are out, and frees its two zones. `heap` must be the one in which the pool was made.
     pub fn unmake(self, heap: &mut Heap, zones: &mut Zones)
         requires { self.zones.home ≡ heap.old.home }
         ensures table { zones.new ≡ without_name self.zones.object_name (without_name self.zones.queue_name zones.old) }
@@ -212,14 +212,14 @@ impl Pool {
         self.indexes.cached()
     }
 
-    /// Whether an object is out; false where there is no such object. It looks at the whole queue.
+    /// Whether an object is out; false if there is no such object. It searches the whole queue.
     pub fn is_out(&self, index: u32) -> bool
         ensures { result ≡ is_out_in self.now.out index }
     {
         self.indexes.is_out(index)
     }
 
-    /// Takes an object that is in and returns its index, or `None` where none is in.
+    /// Takes an object that is in and returns its index, or `None` if none is in.
     #[inline(always)]
     pub fn get(&mut self) -> Option<u32>
         ensures { MatchOption result ((in_count self.old.out ≡ 0) × (self.new ≡ self.old)) (λ i. (slice_get self.old.out i ≡ Some false)
@@ -252,7 +252,7 @@ impl Pool {
         self.indexes.take_cached(indexes);
     }
 
-    /// Takes an object for each slot of the list, the same as one `get` for each. Answers false, and takes none, where fewer are in. On success each
+    /// Takes an object for each slot of the list, the same as one `get` for each. Returns false, and takes none, if fewer are in. On success each
     /// is out and occurs once in the list (`out`).
     #[inline(always)]
     #[tactic(auto, using(crate::proofs::Bulk::got_keeps, crate::proofs::Bulk::got_out))]
@@ -307,7 +307,7 @@ impl Pool {
         &self.objects.bytes()[offset..offset + self.size as usize]
     }
 
-    /// The bytes of an object, for writing. Writing through a slice keeps its length, so only this object changes (`whole`).
+    /// The bytes of an object, for writing. A write through the slice keeps its length, so only this object changes (`whole`).
     #[inline(always)]
     pub fn object_mut(&mut self, index: u32) -> &mut [u8]
         requires { index < length self.old.objects }
@@ -320,7 +320,7 @@ impl Pool {
         self.objects.part_mut(offset, self.size)
     }
 
-    /// Writes bytes into an object from offset `at` on. They must fit into it.
+    /// Writes bytes into an object at offset `at`. They must fit into it.
     #[inline(always)]
     pub fn write(&mut self, index: u32, at: u32, bytes: &[u8])
         requires object { index < length self.old.objects }
@@ -331,7 +331,7 @@ impl Pool {
         self.objects.write(offset + at, bytes);
     }
 
-    /// Writes `len` zeros into an object from offset `at` on. They must fit into it.
+    /// Writes `len` zeros into an object at offset `at`. They must fit into it.
     #[inline(always)]
     pub fn clear(&mut self, index: u32, at: u32, len: u32)
         requires object { index < length self.old.objects }

@@ -1,6 +1,6 @@
 //! What loads and stores return, on bytes and numbers worked out by hand.
 ghost use Rattle.std.specs.Prelude.{◌≡◌, ◌≤◌, [], length};
-ghost use Rattle.dp_region.specs.Region.{IsRegionSize, least_region};
+ghost use Rattle.dp_region.specs.Region.{IsRegionSize, min_region};
 
 use dp_region::{Block, MAX_REGION, Memory, Region};
 use std::alloc::Global;
@@ -26,8 +26,8 @@ fn write_high(high: &mut Block)
 
 // Lends two blocks at once, writes them, and takes them back; returns what they began with.
 fn visit(region: &mut Region) -> (u8, u8, u32, u32, u32)
-    requires { (region.old.lent ≡ []) × (least_region ≤ length region.old.bytes) }
-    ensures { (region.new.lent ≡ []) × (least_region ≤ length region.new.bytes) }
+    requires { (region.old.lent ≡ []) × (min_region ≤ length region.old.bytes) }
+    ensures { (region.new.lent ≡ []) × (min_region ≤ length region.new.bytes) }
 {
     let mut low = region.lend(61, 3);
     let mut high = region.lend(64, 64);
@@ -46,7 +46,7 @@ fn visit(region: &mut Region) -> (u8, u8, u32, u32, u32)
 }
 
 fn numbers(region: &Region) -> (u32, u64, u32)
-    requires { (region.now.lent ≡ []) × (least_region ≤ length region.now.bytes) }
+    requires { (region.now.lent ≡ []) × (min_region ≤ length region.now.bytes) }
 {
     (
         region.load_u32(60),
@@ -57,7 +57,7 @@ fn numbers(region: &Region) -> (u32, u64, u32)
 
 // The upper half of a number of 8 bytes.
 fn overlaid(region: &mut Region) -> u32
-    requires { (region.old.lent ≡ []) × (least_region ≤ length region.old.bytes) }
+    requires { (region.old.lent ≡ []) × (min_region ≤ length region.old.bytes) }
     ensures { region.new.lent ≡ [] }
 {
     region.store_u64(1, 0x0102_0304_0506_0708);
@@ -84,7 +84,7 @@ fn bytes_stay_as_the_holder_left_them(rt: HostRuntime) -> Result<(), Fail> {
 
 // With the first allocation refused, `new` returns `Memory`.
 #[test]
-fn want_of_memory_is_told(rt: HostRuntime) {
+fn want_of_memory_is_reported(rt: HostRuntime) {
     match Region::new(rt.alloc(), 4096) {
         Ok(region) => region.close(),
         Err(error) => assert_eq!(rt; error, Memory),
@@ -107,7 +107,7 @@ fn used(rt: &impl Abort, alloc: Global, size: u32, number: u32) -> (u32, u32)
     (inside, outside)
 }
 
-// The largest region can be had where there is memory.
+// A region of the maximum size can be allocated if there is memory.
 #[test]
 fn the_largest_region_can_be_had(rt: HostRuntime) {
     let number = 0x0102_0304;

@@ -9,7 +9,7 @@ use dp_zone::{ZoneError, ZoneInfo, ZoneName, Zones};
 use std::process::Abort;
 use std::test::Fail;
 
-/// The one element of a heap of 4,096 bytes of which nothing is out.
+/// The one element of a heap of 4,096 bytes in which no block is allocated.
 const WHOLE: Element = Element {
     offset: 0,
     size: 4096,

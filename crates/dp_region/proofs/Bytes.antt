@@ -1,20 +1,17 @@
 -- Writing bytes into others; lending a span, writing it and taking it back.
-use Rattle.std.proofs.Common.{◌≡◌, ℕ, ◌+◌, ◌≤◌, Bool, false, cond, ltb, List, [], ◌∷◌, ◌++◌, length, drop, refl, sym, ap, ◌∙◌, arith, length-drop}
+use Rattle.std.proofs.Common.{◌≡◌, ℕ, ◌+◌, ◌≤◌, Bool, false, cond, ltb, List, [], ◌∷◌, ◌++◌, length, drop, sym, ap, ◌∙◌, arith, length-drop}
 use mathlib.Core.List.{append-nil}
 use Rattle.std.proofs.lemmas.Bool.{or_parts}
+use Rattle.std.proofs.lemmas.List.{nil_from_length}
 use Rattle.dp_region.specs.Spans.{Span, is_span, listed, with_span, without_span, bytes_in, with_bytes}
 use Rattle.dp_region.specs.Region.{RegionView}
-use Rattle.dp_region.proofs.Spans.{by_test, is_span-same}
-use Rattle.dp_region.specs.Laws.{length-bytes_in}
-
-none : (xs : List ℕ) → length xs ≡ 0 → xs ≡ []
-none [] e = refl
-none (x ∷ xs) e = absurd (omega arith)
+use Rattle.dp_region.proofs.Spans.{is_span-same}
+use Rattle.dp_region.specs.Laws.{length-bytes_in, by_test}
 
 -- a write of the full length replaces all bytes
 pub with_bytes-whole : (ys ws : List ℕ) → length ws ≡ length ys → with_bytes ys 0 ws ≡ ws
 with_bytes-whole ys ws e =
-    ap (λ (l : List ℕ). ws ++ l) (none (drop (0 + length ws) ys) (length-drop (0 + length ws) ys ∙ omega arith)) ∙ append-nil ws
+    ap (λ (l : List ℕ). ws ++ l) (nil_from_length (drop (0 + length ws) ys) (length-drop (0 + length ws) ys ∙ omega arith)) ∙ append-nil ws
 
 -- lending a span and taking it back changes nothing
 pub without_with : (r : Span) (ls : List Span) → listed r ls ≡ false → without_span r (with_span r ls) ≡ ls

@@ -14,8 +14,8 @@ use types.Logic.{Logic, sem}
 use types.Owned.{basic, own_new, own_sum, own_join}
 use Rattle.dp_region.specs.Spans.{Span, is_span, listed, with_span, without_span, Spaced}
 use Rattle.dp_region.specs.Ownership.{Home, Rights, right_if, ticket, tickets_but}
-use Rattle.dp_region.specs.Laws.{is_span-true}
-use Rattle.dp_region.proofs.Spans.{by_test, is_span-same, listed-with, unlisted_without, listed_without}
+use Rattle.dp_region.specs.Laws.{is_span-true, by_test}
+use Rattle.dp_region.proofs.Spans.{is_span-same, listed-with, unlisted_without, listed_without}
 
 abbrev Row : Type 0
 Row = Span → Option (Unit {0})

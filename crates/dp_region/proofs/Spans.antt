@@ -4,11 +4,7 @@ use mathlib.Core.Logic.{⊎_elim}
 use Rattle.std.proofs.lemmas.Bool.{ltb-true, ltb-false, leb-true, lt-ltb, le-leb, eq-eqb, cases_lt, and_parts, and_from, or_parts, or_from, or_left, or_right}
 use Rattle.std.proofs.lemmas.Bool.{false_from_ne_true, both_ways, true≢false}
 use Rattle.dp_region.specs.Spans.{Span, is_span, listed, covers, is_lent, IsUnlent, with_span, without_span, spaced, Spaced}
-use Rattle.dp_region.specs.Laws.{is_span-true, covers-below, covers-above}
-
-pub by_test : {X : Type 0} (t : Bool) → (t ≡ true → X) → (t ≡ false → X) → X
-by_test true y n = y refl
-by_test false y n = n refl
+use Rattle.dp_region.specs.Laws.{is_span-true, covers-below, covers-above, by_test}
 
 pub is_span-same : (r : Span) → is_span r r ≡ true
 is_span-same r = and_from (eqb r.0 r.0) (eqb r.1 r.1) (eq-eqb r.0 r.0 refl) (eq-eqb r.1 r.1 refl)

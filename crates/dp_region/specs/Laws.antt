@@ -1,5 +1,6 @@
 -- Internal: laws of spans, and of bytes and numbers that are written, for this crate and those above it.
-use Rattle.std.proofs.Common.{◌≡◌, ℕ, ◌+◌, ◌^◌, ◌<◌, ◌≤◌, ◌⊎◌, inl, inr, true, false, leb, ltb, eqb, List, [], length, refl, sym, ap, ap₂, ◌∙◌, subst, get_or}
+use Rattle.std.proofs.Common.{◌≡◌, ℕ, ◌+◌, ◌^◌, ◌<◌, ◌≤◌, ◌⊎◌, inl, inr, Bool, true, false, leb, ltb, eqb, List, [], length, refl, sym, ap, ap₂}
+use Rattle.std.proofs.Common.{◌∙◌, subst, get_or}
 use Rattle.std.proofs.lemmas.Bool.{eqb-true, le-ltb, lt-leb, and_parts, and_left, and_right}
 use Rattle.std.proofs.lemmas.List.{ext_get_or}
 use Rattle.std.proofs.Math.Nat.{le_refl, le_trans, le-add_right, lt_of_lt_of_le, add-lt-add_of_le_of_lt, add-sub_cancel_left}
@@ -10,6 +11,11 @@ use Rattle.byteorder.specs.Endian.{little_number, little_bytes}
 use Rattle.byteorder.specs.Numbers.{little_number-reads_back}
 use Rattle.dp_region.specs.Spans.{Span, is_span, covers, bytes_in, with_bytes}
 use Rattle.dp_region.specs.Region.{number_at, with_number}
+
+-- what follows from a test being true and from its being false
+pub by_test : {X : Type 0} (t : Bool) → (t ≡ true → X) → (t ≡ false → X) → X
+by_test true y n = y refl
+by_test false y n = n refl
 
 -- spans that the test finds equal are equal
 pub is_span-true : (r s : Span) → is_span r s ≡ true → r ≡ s

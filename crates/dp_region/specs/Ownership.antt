@@ -63,7 +63,7 @@ ticket h r = fown Rights h.rights (λ q. right_if (is_span q r))
 abbrev pub tickets_but : Home → List Span → Fml
 tickets_but h ls = fown Rights h.rights (λ q. right_if (not (listed q ls)))
 
--- P, where the test is false
+-- P, if the test is false
 abbrev pub unless : Bool → Fml → Fml
 unless true P = ftrue
 unless false P = P

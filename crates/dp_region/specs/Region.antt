@@ -17,7 +17,7 @@ region_code =
     code_by (Home × (List ℕ × List Span)) (coded× home_code (coded× (coded_list coded_ℕ) (coded_list (coded× coded_ℕ coded_ℕ))))
     (λ r. (r.home, (r.bytes, r.lent))) (λ p. record { home = p.0; bytes = p.1.0; lent = p.1.1 }) (λ _. refl)
 
--- a block: the region that it is of, its offset there, and its bytes
+-- a block: its region, its offset there, and its bytes
 pub record BlockView : Type 0 where
   pub home : Home
   pub offset : ℕ
@@ -34,15 +34,15 @@ abbrev pub cache_line : ℕ
 cache_line = 64
 
 -- the sizes of the smallest region and of the largest
-abbrev pub least_region : ℕ
-least_region = 4096
+abbrev pub min_region : ℕ
+min_region = 4096
 
-abbrev pub largest_region : ℕ
-largest_region = 1073741824
+abbrev pub max_region : ℕ
+max_region = 1073741824
 
 -- a size that a region may have
 abbrev pub IsRegionSize : ℕ → Type 0
-IsRegionSize n = (least_region ≤ n) × (n ≤ largest_region) × (n % cache_line ≡ 0)
+IsRegionSize n = (min_region ≤ n) × (n ≤ max_region) × (n % cache_line ≡ 0)
 
 -- the n bytes at p are in the region, and none of them is lent
 abbrev pub IsFree : RegionView → ℕ → ℕ → Type 0
@@ -64,6 +64,6 @@ span_of b = (b.offset, length b.bytes)
 abbrev pub with_content : BlockView → List ℕ → BlockView
 with_content b ws = record b { bytes = refilled b.bytes ws }
 
--- b with ws written over its bytes from an offset on
+-- b with ws written over its bytes at an offset
 abbrev pub with_part : ℕ → BlockView → List ℕ → BlockView
 with_part at b ws = record b { bytes = overlaid b.bytes at ws }

@@ -23,7 +23,7 @@ abbrev pub is_lent : List Span → ℕ → Bool
 is_lent [] k = false
 is_lent (r ∷ rs) k = covers r k || is_lent rs k
 
--- none of the n bytes from p on is lent
+-- none of the n bytes at p is lent
 abbrev pub IsUnlent : List Span → ℕ → ℕ → Type 0
 IsUnlent ls p n = (k : ℕ) → p ≤ k → k < p + n → is_lent ls k ≡ false
 
@@ -45,7 +45,7 @@ spaced low high (r ∷ rs) = nat_le low r.0 && (nat_lt 0 r.1 && spaced (r.0 + r.
 abbrev pub Spaced : ℕ → ℕ → List Span → Type 0
 Spaced low high rs = IsTrue (spaced low high rs)
 
--- the n bytes of xs from p on
+-- the n bytes of xs at p
 abbrev pub bytes_in : List ℕ → ℕ → ℕ → List ℕ
 bytes_in xs p n = take n (drop p xs)
 
@@ -57,6 +57,6 @@ with_bytes xs p ws = take p xs ++ (ws ++ drop (p + length ws) xs)
 abbrev pub refilled : List ℕ → List ℕ → List ℕ
 refilled xs ws = take (length xs) (ws ++ drop (length ws) xs)
 
--- xs with ws written over it from p on. What would lie past the end is dropped
+-- xs with ws written over it at p. Bytes past the end are dropped
 abbrev pub overlaid : List ℕ → ℕ → List ℕ → List ℕ
 overlaid xs p ws = refilled xs (take p xs ++ (ws ++ drop (length ws) (drop p xs)))

@@ -93,7 +93,7 @@ impl Block {
         self.bytes.as_mut_slice()
     }
 
-    /// The `len` bytes from `at` on, for writing. They must lie in the block.
+    /// The `len` bytes at offset `at`, for writing. They must lie in the block.
     pub fn part_mut(&mut self, at: u32, len: u32) -> &mut [u8]
         requires { at + len ≤ length self.old.bytes }
         ensures* writes_back { sem 𝓛 (Lends the_row (Array byte 0) self.entry result (with_part at self.old)) }

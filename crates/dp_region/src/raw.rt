@@ -14,7 +14,7 @@ mod parts;
 pub(crate) use cells::{Cells, Ticket};
 pub(crate) use parts::{attach, detach, house, vacate};
 
-// The right to the bytes from `start` on. Nothing else reaches them.
+// The right to the bytes that begin at `start`. Nothing else reaches them.
 pub(crate) struct Run {
     ghost start: { Ptr },
     ghost bytes: { List ℕ },

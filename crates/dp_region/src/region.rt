@@ -50,8 +50,8 @@ impl Model for Region {
 }
 
 impl Region {
-    /// Allocates a region of `size` bytes, all 0. The size must be a multiple of `CACHE_LINE`, from `MIN_REGION` to `MAX_REGION`. Answers
-    /// `Memory` where the allocator refuses.
+    /// Allocates a region of `size` bytes, all 0. The size must be a multiple of `CACHE_LINE`, from `MIN_REGION` to `MAX_REGION`. Returns
+    /// `Memory` if the allocator refuses.
     pub fn new(alloc: Global, size: u32) -> Result<Region, Memory>
         requires { IsRegionSize size }
         ensures { IfOk result (λ r. (r.bytes ≡ replicate size 0) × (r.lent ≡ [])) }
@@ -77,7 +77,7 @@ impl Region {
         self.size
     }
 
-    /// Lends the `len` bytes from `offset` on, at least one, none of them lent yet. The block has the bytes that were there.
+    /// Lends the `len` bytes at `offset`, at least one, none of them lent yet. The block has the bytes that were there.
     pub fn lend(&mut self, offset: u32, len: u32) -> Block
         requires some { 0 < len }
         requires unlent { IsFree self.old offset len }

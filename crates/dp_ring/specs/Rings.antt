@@ -22,13 +22,13 @@ ring_code =
     (λ r. (r.count, (r.entries, (r.name, (r.home, (r.offset, r.len))))))
     (λ p. record { count = p.0; entries = p.1.0; name = p.1.1.0; home = p.1.1.1.0; offset = p.1.1.1.1.0; len = p.1.1.1.1.1 }) (λ _. refl)
 
--- the most slots that a ring may have
-abbrev pub most_slots : ℕ
-most_slots = 65536
+-- the maximum number of slots of a ring
+abbrev pub max_slots : ℕ
+max_slots = 65536
 
--- how many slots a ring may have. It need not be a power of two, as DPDK's rings want it
+-- the numbers of slots that a ring may have. They need not be powers of two, as DPDK's rings require
 abbrev pub IsCount : ℕ → Type 0
-IsCount n = (2 ≤ n) × (n ≤ most_slots)
+IsCount n = (2 ≤ n) × (n ≤ max_slots)
 
 -- a ring without entries in a zone
 abbrev pub empty_over : ZoneView → ℕ → RingView
@@ -52,20 +52,20 @@ without_first r n = record r { entries = drop n r.entries }
 abbrev pub next_slot : ℕ → ℕ → ℕ
 next_slot count i = if nat_lt (i + 1) count then i + 1 else 0
 
--- the n entries from a slot on
+-- the n entries that begin at a slot
 abbrev pub entries_from : List ℕ → ℕ → ℕ → ℕ → List ℕ
 entries_from bytes count first zero = []
 entries_from bytes count first (suc n) = number_at bytes (4 * first) 4 ∷ entries_from bytes count (next_slot count first) n
 
 -- the slot n places after one
-abbrev pub slot_behind : ℕ → ℕ → ℕ → ℕ
-slot_behind count first n = if nat_lt (first + n) count then first + n else first + n - count
+abbrev pub slot_after : ℕ → ℕ → ℕ → ℕ
+slot_after count first n = if nat_lt (first + n) count then first + n else first + n - count
 
--- the numbers lie in consecutive slots from one on
+-- the numbers lie in consecutive slots, starting at one
 abbrev pub IsRun : List ℕ → ℕ → List ℕ → Type 0
 IsRun bytes slot numbers = (k : ℕ) → k < length numbers → number_at bytes (4 * (slot + k)) 4 ≡ slice_index numbers k
 
--- new has these numbers in the slots from `slot` on, and every number outside them as old has it
+-- new has these numbers in consecutive slots, starting at `slot`, and every other number as old has it
 pub record Stores (slot : ℕ) (numbers old new : List ℕ) : Type 0 where
   pub long : length new ≡ length old
   pub stored : IsRun new slot numbers

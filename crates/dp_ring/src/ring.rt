@@ -3,14 +3,14 @@
 ghost use Rattle.std.specs.Prelude.{◌≡◌, ℕ, ◌+◌, ◌-◌, ◌*◌, ◌<◌, ◌≤◌, ◌⊎◌, ◌++◌, [], ◌∷◌, length, take, drop, min, nat_lt, nat_le, if◌then◌else◌, slice_get};
 ghost use Rattle.std.specs.Prelude.{Some, None, MatchOption, ◌==◌};
 ghost use Rattle.std.specs.List.{list_any};
-ghost use Rattle.dp_ring.specs.Rings.{most_slots, IsCount, empty_over, room_in, with_more, without_first, slot_behind, next_slot};
+ghost use Rattle.dp_ring.specs.Rings.{max_slots, IsCount, empty_over, room_in, with_more, without_first, slot_after, next_slot};
 
 use crate::runs::{load_one, load_run, store_one, store_run};
 use dp_zone::Zone;
 use std::marker::Model;
 
-/// A ring of `count` slots, from 2 to 65,536, of which one stays unused. It lies in a zone of at least 4 bytes for each slot; `into_zone` hands that
-/// back.
+/// A ring of `count` slots, from 2 to 65,536, of which one stays unused. It lies in a zone of at least 4 bytes for each slot; `into_zone` returns
+/// the zone.
 pub struct Ring {
     zone: Zone,
     count: u32,
@@ -23,7 +23,7 @@ pub struct Ring {
 impl Model for Ring {
     ghost use Rattle.std.specs.Prelude.{◌*◌, ◌<◌, ◌≤◌, length};
     ghost use Rattle.std.specs.List.{list_any};
-    ghost use Rattle.dp_ring.specs.Rings.{most_slots, RingView, ring_code, entries_from};
+    ghost use Rattle.dp_ring.specs.Rings.{max_slots, RingView, ring_code, entries_from};
 
     ghost Value = { RingView };
 
@@ -38,28 +38,28 @@ impl Model for Ring {
       len = length r.zone.bytes;
     } };
 
-    ghost invariant = { λ r. (r.first < r.count) × (r.used < r.count) × (r.count ≤ most_slots) × (4 * r.count ≤ length r.zone.bytes) };
+    ghost invariant = { λ r. (r.first < r.count) × (r.used < r.count) × (r.count ≤ max_slots) × (4 * r.count ≤ length r.zone.bytes) };
 }
 
 // The slot `n` places after `first`.
 #[inline(always)]
-fn slot_behind(count: u32, first: u32, n: u32) -> u32
-    requires { (first < count) × (n < count) × (count ≤ most_slots) }
-    ensures value { result ≡ slot_behind count first n }
+fn slot_after(count: u32, first: u32, n: u32) -> u32
+    requires { (first < count) × (n < count) × (count ≤ max_slots) }
+    ensures value { result ≡ slot_after count first n }
     ensures bound { result < count }
 {
-    let behind = first + n;
-    if behind < count {
-        behind
+    let beyond = first + n;
+    if beyond < count {
+        beyond
     } else {
-        behind - count
+        beyond - count
     }
 }
 
 // The slot after `slot`.
 #[inline(always)]
 fn next_slot(count: u32, slot: u32) -> u32
-    requires { (slot < count) × (count ≤ most_slots) }
+    requires { (slot < count) × (count ≤ max_slots) }
     ensures value { result ≡ next_slot count slot }
     ensures bound { result < count }
 {
@@ -67,7 +67,7 @@ fn next_slot(count: u32, slot: u32) -> u32
     if next < count { next } else { 0 }
 }
 
-// How many of `number` entries fit from `slot` on before the slots begin again at 0.
+// How many of `number` entries fit, starting at `slot`, before the slots wrap to 0.
 fn before_turn(count: u32, slot: u32, number: usize) -> usize
     requires { slot < count }
     ensures most { (result ≤ number) × (result ≤ count - slot) }
@@ -111,7 +111,7 @@ impl Ring {
         self.count - 1 - self.used
     }
 
-    /// The `k`-th entry, counted from 0 at the front, or `None` where there are fewer.
+    /// The `k`-th entry, counted from 0 at the front, or `None` if there are fewer.
     #[tactic(auto, using(crate::proofs::Entries::counted, crate::proofs::Entries::entry_at, crate::proofs::Entries::no_entry_at))]
     pub fn peek(&self, k: u32) -> Option<u32>
         ensures { result ≡ slice_get self.now.entries k }
@@ -119,7 +119,7 @@ impl Ring {
         if k >= self.used {
             return None;
         }
-        let slot = slot_behind(self.count, self.first, k);
+        let slot = slot_after(self.count, self.first, k);
         Some(load_one(&self.zone, slot))
     }
 
@@ -146,12 +146,12 @@ impl Ring {
         ensures { self.new ≡ with_more self.old (value ∷ []) }
     {
         let used = self.used;
-        let slot = slot_behind(self.count, self.first, used);
+        let slot = slot_after(self.count, self.first, used);
         store_one(&mut self.zone, slot, value);
         self.used = used + 1;
     }
 
-    // Takes the first entry out. There must be one.
+    // Removes and returns the first entry. There must be one.
     #[inline(always)]
     fn pop(&mut self) -> u32
         requires { 0 < length self.old.entries }
@@ -164,7 +164,7 @@ impl Ring {
         value
     }
 
-    /// Appends an entry. Answers false, and changes nothing, where the ring is full.
+    /// Appends an entry. Returns false, and changes nothing, if the ring is full.
     #[inline(always)]
     pub fn enqueue(&mut self, value: u32) -> bool
         ensures taken { result ≡ nat_lt 0 (room_in self.old) }
@@ -177,7 +177,7 @@ impl Ring {
         true
     }
 
-    /// Takes the first entry out, or returns `None` if the ring is empty.
+    /// Removes and returns the first entry, or returns `None` if the ring is empty.
     #[inline(always)]
     pub fn dequeue(&mut self) -> Option<u32>
         ensures first { result ≡ slice_get self.old.entries 0 }
@@ -194,7 +194,7 @@ impl Ring {
         requires { length values.now ≤ room_in self.old }
         ensures { self.new ≡ with_more self.old values.now }
     {
-        let slot = slot_behind(self.count, self.first, self.used);
+        let slot = slot_after(self.count, self.first, self.used);
         let number = before_turn(self.count, slot, values.len());
         store_run(&mut self.zone, slot, &values[..number]);
         store_run(&mut self.zone, 0, &values[number..]);
@@ -218,11 +218,11 @@ impl Ring {
         ensures { self.new ≡ without_first self.old number }
     {
         let left = self.used - number as u32;
-        self.first = slot_behind(self.count, self.first, number as u32);
+        self.first = slot_after(self.count, self.first, number as u32);
         self.used = left;
     }
 
-    // Takes out as many of the first entries as `values` holds, in order.
+    // Removes as many of the first entries as `values` has room for, in order.
     fn pop_all(&mut self, values: &mut [u32])
         requires { length values.old ≤ length self.old.entries }
         ensures first { values.new ≡ take (length values.old) self.old.entries }
@@ -232,7 +232,7 @@ impl Ring {
         self.skip(values.len());
     }
 
-    /// Appends all of the values in order. Answers false, and appends none, where fewer slots are free.
+    /// Appends all of the values in order. Returns false, and appends none, if fewer slots are free.
     pub fn enqueue_bulk(&mut self, values: &[u32]) -> bool
         ensures taken { result ≡ nat_le (length values.now) (room_in self.old) }
         ensures entries { self.new ≡ (if nat_le (length values.now) (room_in self.old) then with_more self.old values.now else self.old) }
@@ -244,7 +244,7 @@ impl Ring {
         true
     }
 
-    /// Takes as many of the first entries as `values` holds, in order. Answers false, and takes none, where there are fewer.
+    /// Takes as many of the first entries as `values` has room for, in order. Returns false, and takes none, if there are fewer.
     pub fn dequeue_bulk(&mut self, values: &mut [u32]) -> bool
         ensures taken { result ≡ nat_le (length values.old) (length self.old.entries) }
         ensures first { values.new ≡ (if nat_le (length values.old) (length self.old.entries) then take (length values.old) self.old.entries else values.old) }
@@ -267,7 +267,7 @@ impl Ring {
         number
     }
 
-    /// Takes as many of the first entries as there are and as `values` holds, in order, and returns how many. The rest of `values` stays.
+    /// Takes the first entries, at most as many as `values` has room for, in order; returns how many. The rest of `values` does not change.
     pub fn dequeue_burst(&mut self, values: &mut [u32]) -> usize
         ensures number { result ≡ min (length values.old) (length self.old.entries) }
         ensures first { values.new ≡ take (min (length values.old) (length self.old.entries)) self.old.entries
@@ -279,7 +279,7 @@ impl Ring {
         number
     }
 
-    /// Hands the zone back. Its bytes are left open.
+    /// Returns the zone. The contract does not say what its bytes are.
     pub fn into_zone(self) -> Zone
         ensures offset { (result.name ≡ self.name) × (result.home ≡ self.home) × (result.offset ≡ self.offset) }
         ensures len { length result.bytes ≡ self.len }

@@ -6,7 +6,7 @@ ghost use Rattle.dp_ring.specs.Rings.{IsRun, Stores};
 use byteorder::{ByteOrder, LittleEndian};
 use dp_zone::Zone;
 
-// Writes a number into the 4 bytes from an offset on.
+// Writes a number into the 4 bytes at an offset.
 #[inline(always)]
 fn write_number(bytes: &mut [u8], at: usize, number: u32)
     requires { at + 4 ≤ length bytes.old }
@@ -45,7 +45,7 @@ pub(crate) fn load_one(zone: &Zone, slot: u32) -> u32
     LittleEndian::read_u32(&zone.bytes()[at..at + 4])
 }
 
-/// Writes numbers into consecutive slots from `slot` on.
+/// Writes numbers into consecutive slots, starting at `slot`.
 pub(crate) fn store_run(zone: &mut Zone, slot: u32, numbers: &[u32])
     requires { 4 * (slot + length numbers.now) ≤ length zone.old.bytes }
     ensures bytes { Stores slot numbers.now zone.old.bytes zone.new.bytes }
@@ -55,7 +55,7 @@ pub(crate) fn store_run(zone: &mut Zone, slot: u32, numbers: &[u32])
     write_numbers(&mut zone.bytes_mut()[at..at + 4 * numbers.len()], numbers);
 }
 
-/// Reads numbers from consecutive slots, from `slot` on.
+/// Reads numbers from consecutive slots, starting at `slot`.
 pub(crate) fn load_run(zone: &Zone, slot: u32, numbers: &mut [u32])
     requires { 4 * (slot + length numbers.old) ≤ length zone.now.bytes }
     ensures { IsRun zone.now.bytes slot numbers.new }

@@ -2,7 +2,7 @@
 
 ghost use Rattle.std.specs.Prelude.{◌≡◌, ◌+◌, ◌^◌, ◌≤◌, true, length, map};
 ghost use Rattle.std.specs.List.{AllByRecursion};
-ghost use Rattle.dp_model.specs.Limits.{most_buffers, largest_room, largest_ring};
+ghost use Rattle.dp_model.specs.Limits.{max_buffers, max_room, max_ring};
 ghost use Rattle.dp_model.specs.Environments.{pool_fits};
 ghost use Rattle.dp_ring.specs.Rings.{IsCount};
 ghost use Rattle.dp_engine.specs.Needs.{power_above, zone_bytes, objects_len, queue_len, ring_bytes, ring_counts, list_counts, bytes_needed};
@@ -37,10 +37,10 @@ fn zone_bytes(len: u64) -> u64
     u64::from(HEADER_LEN) + len.next_multiple_of(u64::from(CACHE_LINE))
 }
 
-/// The least power of two above `count`.
+/// The smallest power of two above `count`.
 #[tactic(auto, using(dp_engine::proofs::Powers::power_is))]
 fn power_above(count: u32) -> u64
-    requires { count ≤ most_buffers }
+    requires { count ≤ max_buffers }
     ensures value { result ≡ power_above count }
     ensures bound { result ≤ 131072 }
 {
@@ -49,7 +49,7 @@ fn power_above(count: u32) -> u64
 
 /// The length of the zone of a pool's buffers.
 fn objects_len(pool: PoolSpec) -> u64
-    requires { (pool.count ≤ most_buffers) × (pool.room ≤ largest_room) }
+    requires { (pool.count ≤ max_buffers) × (pool.room ≤ max_room) }
     ensures value { result ≡ objects_len pool }
     ensures bound { result ≤ 277000000 }
 {
@@ -59,7 +59,7 @@ fn objects_len(pool: PoolSpec) -> u64
 
 /// The bytes that a pool takes.
 fn pool_size(pool: PoolSpec) -> PoolSize
-    requires { (pool.count ≤ most_buffers) × (pool.room ≤ largest_room) }
+    requires { (pool.count ≤ max_buffers) × (pool.room ≤ max_room) }
     ensures { result ≡ spec.pool_size pool }
 {
     PoolSize {

@@ -1,4 +1,4 @@
-//! The table of what a region is used for.
+//! Prints the table of what takes the bytes of a region.
 
 use crate::sizes::{PoolSize, sizes_of};
 use dp_engine::need;
@@ -92,7 +92,7 @@ fn push_sums(out: &mut String, needed: u64, region: u64) -> Result<(), AllocErro
 ///
 /// # Errors
 ///
-/// `AllocError` where the text could not grow.
+/// `AllocError` if the text could not grow.
 pub fn sizes_text(alloc: Global, env: &Env, region: u32) -> Result<String, AllocError> {
     let sizes = sizes_of(env);
     let mut out = String::new(alloc);

@@ -1,4 +1,4 @@
--- The flow of control in a program, and how often it went where.
+-- The flow of control in a program, and how often control took each arrow.
 use Rattle.std.specs.Prelude.{◌≡◌, ℕ, zero, suc, ◌+◌, ◌-◌, ◌==◌, ◌||◌, Bool, true, false, not, List, Option, None, Some, option_map, slice_get}
 use Rattle.std.specs.Prelude.{if◌then◌else◌}
 use Rattle.std.specs.Option.{option_map_or}

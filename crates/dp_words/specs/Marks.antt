@@ -1,4 +1,4 @@
--- How what is refused and what is not reached looks.
+-- How refused instructions, and those that control never reaches, are drawn.
 use Rattle.std.specs.Prelude.{Bool, true, false}
 use Rattle.dp_words.specs.declared.marks.Mark.{Mark}
 use Rattle.dp_words.specs.declared.marks.Mark.TheVariants.{Plain, Unreached, Refused}

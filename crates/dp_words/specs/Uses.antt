@@ -23,7 +23,7 @@ abbrev pub is_table : ℕ → Place → Bool
 is_table table (Table number) = number == table
 is_table table _ = false
 
--- whether an instruction names the place, where the numbers are at most these
+-- whether an instruction can name the place, given that the numbers are at most these
 abbrev pub names_place : Instr → Row → Place → Bool
 names_place (Tx packet port full) row place = is_port (λ number. nat_le number (slice_index row.bounds port)) place
 names_place (Enq packet ring full) row place = is_ring ring place
@@ -32,7 +32,7 @@ names_place (Clone into from pool refused) row place = is_pool pool place
 names_place (Lookup into table address missed) row place = is_table table place
 names_place _ row place = false
 
--- whether an instruction can use the place: none does that is never reached
+-- whether an instruction can use the place: one that is never reached uses none
 abbrev pub uses : Instr → Row → Place → Bool
 uses i row place = row.live && names_place i row place
 

@@ -7,7 +7,7 @@ ghost use Rattle.dp_words.specs.Flow as spec;
 use dp_lang::arguments_of;
 use dp_model::Instr;
 
-/// How often an instruction ran, and how often its jump was taken, if it is counted by its jumps.
+/// How often an instruction ran, and how often its jump was taken, if it has a condition.
 #[derive(Clone, Copy, Debug, PartialEq, Eq)]
 pub struct StepCount {
     /// How often it ran.
@@ -17,7 +17,7 @@ pub struct StepCount {
 }
 
 impl StepCount {
-    /// How often control went to the label that the instruction names: each time, where it has no condition.
+    /// How often control went to the label that the instruction names: each time, if it has no condition.
     pub fn jumped(self) -> u64
         ensures { result ≡ spec.jumped self }
     {

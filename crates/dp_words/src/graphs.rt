@@ -26,7 +26,7 @@ pub struct Drawing<'h, 'i, 's, 't, 'r, 'c> {
 }
 
 impl Drawing<'_, '_, '_, '_, '_, '_> {
-    /// Whether control comes to an instruction.
+    /// Whether control can reach an instruction.
     fn is_live(self, number: usize) -> bool {
         match self.rows.get(number) {
             Some(row) => row.live,
@@ -34,7 +34,7 @@ impl Drawing<'_, '_, '_, '_, '_, '_> {
         }
     }
 
-    /// How the box of a block looks: red where one of its instructions is refused.
+    /// The mark of a block's box: red if one of its instructions is refused.
     fn mark_of_block(self, first: usize, end: usize) -> Mark {
         let is_refused = match self.heading.refused_at {
             Some(label) => first <= usize::from(label) && usize::from(label) < end,
@@ -160,11 +160,11 @@ fn push_arrows(
 const ATTRIBUTES: &str = "  labelloc=t;\n  fontname=monospace;\n  \
     node [shape=box, fontname=monospace, margin=\"0.05,0.05\"];\n  edge [fontname=monospace];\n";
 
-/// Returns the text from which `dot` draws a program.
+/// Returns the graph of a program, in the language of `dot`.
 ///
 /// # Errors
 ///
-/// `AllocError` where the text could not grow.
+/// `AllocError` if the text could not grow.
 pub fn graph(
     alloc: Global,
     drawing: Drawing<'_, '_, '_, '_, '_, '_>,

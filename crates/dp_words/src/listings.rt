@@ -126,7 +126,7 @@ fn rows_at(rows: &[Row], label: usize) -> (Option<&Row>, Option<&Row>) {
 ///
 /// # Errors
 ///
-/// `AllocError` where the text could not grow.
+/// `AllocError` if the text could not grow.
 pub fn listing(
     alloc: Global,
     heading: Heading<'_>,

@@ -1,4 +1,4 @@
-//! Pieces of the texts that `dot` draws: texts inside HTML-like labels, and how an instruction, a block and an arrow look.
+//! Pieces of graphs for `dot`: texts inside HTML-like labels, and how an instruction, a block and an arrow look.
 
 ghost use Rattle.std.specs.Prelude.{◌≡◌, ◌≤◌};
 ghost use Rattle.dp_words.specs.Marks as spec;
@@ -11,7 +11,7 @@ use std::alloc::AllocError;
 pub enum Mark {
     /// Black.
     Plain,
-    /// Grey: control never comes there.
+    /// Grey: control never reaches it.
     Unreached,
     /// Red: it is refused.
     Refused,
@@ -73,7 +73,7 @@ pub fn push_escaped(out: &mut String, text: &str) -> Result<(), AllocError> {
     Ok(())
 }
 
-/// The logarithm of a count to the base 2, rounded down, and 0 for none.
+/// The logarithm of a count to base 2, rounded down; 0 for a count of 0.
 fn logarithm(count: u64) -> u64
     ensures { result ≤ 63 }
 {
@@ -105,7 +105,7 @@ fn push_count(out: &mut String, count: Option<u64>, most: u64) -> Result<(), All
     )
 }
 
-/// Adds an arrow from a box: dashed for a jump, and as wide as its count asks for, if it has one.
+/// Adds an arrow from a box: dashed for a jump, and with a width by its count, if it has one.
 pub fn push_arrow(
     out: &mut String,
     from: usize,

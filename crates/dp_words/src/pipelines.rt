@@ -33,8 +33,8 @@ pub enum Place {
     Table(u8),
 }
 
-/// Whether an instruction can use a place, where this is known before it: one that is never reached uses none, and `tx` the ports up to the greatest
-/// value of its register.
+/// Whether an instruction can use a place, by the row before it: one that is never reached uses none, and `tx` the ports up to the greatest value of
+/// its register.
 fn uses(instr: &Instr, row: &Row, place: Place) -> bool
     ensures { result ≡ spec.uses instr.now row.now place }
 {
@@ -199,7 +199,7 @@ fn push_tables(out: &mut String, tables: u8) -> Result<(), AllocError> {
 ///
 /// # Errors
 ///
-/// `AllocError` where the text could not grow.
+/// `AllocError` if the text could not grow.
 pub fn node_graph(
     alloc: Global,
     env: &Env,
@@ -213,11 +213,11 @@ pub fn node_graph(
     Ok(out)
 }
 
-/// Returns the text from which `dot` draws a pipeline: its ports, rings, pools and tables, and the parts that draw its nodes.
+/// Returns the graph of a pipeline, in the language of `dot`: its ports, rings, pools and tables, and the parts that draw its nodes.
 ///
 /// # Errors
 ///
-/// `AllocError` where the text could not grow.
+/// `AllocError` if the text could not grow.
 pub fn pipeline_graph(alloc: Global, env: &Env, nodes: &str) -> Result<String, AllocError> {
     let mut out = String::from_str(
         alloc,

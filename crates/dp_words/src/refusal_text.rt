@@ -6,7 +6,7 @@ use dp_check::{Gap, Measure, Reason};
 use dp_model::{Fact, NumberRegister, PacketRegister, Rule};
 use std::fmt;
 
-/// The most bytes for which an instruction can test.
+/// The maximum number of bytes for which an instruction can test.
 const MAX_TESTED: u64 = u16::MAX as u64;
 
 /// A rule in words.
@@ -21,8 +21,8 @@ impl fmt::Display for RuleText {
             Rule::J3 => "the pool, the table, the ring and each label are there",
             Rule::J4 => "each packet register that is used holds a packet",
             Rule::J5 => "the target of alloc and clone is empty, and those of chain differ",
-            Rule::J6 => "there are as many bytes, or as much room, as is taken",
-            Rule::J7 => "what is written is held by nobody else",
+            Rule::J6 => "the bytes or the room that it takes are there",
+            Rule::J7 => "what it writes is not shared",
             Rule::J8 => "chained packets have at most 64 segments",
             Rule::J9 => "the port is there, and the packet is as the ring declares",
             Rule::J10 => "at exit no register holds a packet",
@@ -163,7 +163,7 @@ fn write_known<W: fmt::Write>(f: &mut fmt::Formatter<W>, reason: Reason) -> fmt:
     }
 }
 
-/// Writes what is known where another row asks for more.
+/// Writes what is known when another row asks for more.
 fn write_known_row<W: fmt::Write>(f: &mut fmt::Formatter<W>, gap: Gap) -> fmt::Result {
     match gap {
         Gap::Dead => write!(f, "control comes there"),
@@ -249,7 +249,7 @@ fn write_wanted<W: fmt::Write>(
     }
 }
 
-/// Writes which bytes of a packet are wanted: `count` from `start` on.
+/// Writes which bytes of a packet are wanted: `count` bytes at `start`.
 fn write_bytes<W: fmt::Write>(
     f: &mut fmt::Formatter<W>,
     packet: PacketRegister,
@@ -427,7 +427,7 @@ fn freed_there(gap: Gap) -> Option<u8> {
     }
 }
 
-/// Writes how to become the only holder of a packet.
+/// Writes how to make a packet unshared.
 fn write_of_share<W: fmt::Write>(f: &mut fmt::Formatter<W>, known: Fact) -> fmt::Result {
     match known {
         Fact::Held { share, .. } if share >= 8 => {

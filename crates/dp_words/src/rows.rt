@@ -23,7 +23,7 @@ impl fmt::Display for ShareText {
     }
 }
 
-/// The most segments of a packet, as `at most 1 segment`.
+/// A packet's bound on its segments, as `at most 1 segment`.
 #[derive(Drop)]
 pub struct SegmentsText(pub u8);
 
@@ -73,7 +73,7 @@ impl fmt::Display for Part {
     }
 }
 
-/// The parts of a fact, where the register holds a packet.
+/// The parts of a fact, if the register holds a packet.
 fn parts_of(fact: Fact) -> Option<[Part; 6]> {
     let held = fact.holding()?;
     Some([
@@ -103,7 +103,7 @@ fn push_changed_parts(
     Ok(())
 }
 
-/// Adds what is known of a register after its name; only what changed, where it held a packet before and does now.
+/// Adds what is known of a register after its name; only what changed, if it held a packet before and does now.
 fn push_fact(out: &mut String, now: Fact, before: Fact) -> Result<(), AllocError> {
     if let Some(parts) = parts_of(now) {
         if let Some(others) = parts_of(before) {
@@ -218,7 +218,7 @@ fn changed_bounds(bounds: &[u64; 8], before: &[u64; 8]) -> [Option<u64>; 8] {
 ///
 /// # Errors
 ///
-/// `AllocError` where the text could not grow.
+/// `AllocError` if the text could not grow.
 pub fn row_text(alloc: Global, row: &Row, mark: &str) -> Result<String, AllocError> {
     let mut out = String::new(alloc);
     if !row.live {
@@ -249,11 +249,11 @@ fn change_text(alloc: Global, row: &Row, before: &Row) -> Result<String, AllocEr
     format!(in alloc; "+ {changes}")
 }
 
-/// Returns what a row says: its difference from the row before, after a `+`, where that is shorter; else all of it.
+/// Returns what a row says: its difference from the row before, after a `+`, if that is shorter; else all of it.
 ///
 /// # Errors
 ///
-/// `AllocError` where the text could not grow.
+/// `AllocError` if the text could not grow.
 pub fn row_after(alloc: Global, row: &Row, before: Option<&Row>) -> Result<String, AllocError> {
     let whole = row_text(alloc, row, "; ")?;
     match before {

@@ -13,7 +13,7 @@ pub struct Written<'a> {
     pub comment: &'a str,
 }
 
-/// Cuts a line into what is before its comment, and the comment, both without the blanks around them.
+/// Splits a line into what is before its comment, and the comment, both without the blanks around them.
 fn cut_comment(line: &str) -> (&str, &str) {
     match line.split_once('#') {
         Some((code, comment)) => (code.trim(), comment.trim()),
@@ -21,7 +21,7 @@ fn cut_comment(line: &str) -> (&str, &str) {
     }
 }
 
-/// Cuts what is before a comment into the labels, with a colon between two, and the instruction.
+/// Splits what is before a comment into the labels, with a colon between two, and the instruction.
 fn cut_labels(code: &str) -> (&str, &str) {
     match code.rsplit_once(':') {
         Some((labels, text)) => (labels, text.trim()),
@@ -44,7 +44,7 @@ fn push_names<'a>(names: &mut Vec<&'a str>, labels: &'a str) -> Result<(), Alloc
 ///
 /// # Errors
 ///
-/// `AllocError` where a list could not grow.
+/// `AllocError` if a list could not grow.
 pub fn written_in(alloc: Global, source: &[u8]) -> Result<Vec<Written<'_>>, AllocError> {
     let source = std::str::from_utf8(source).unwrap_or("");
     let mut found = Vec::new(alloc);
@@ -70,7 +70,7 @@ pub fn label_at<'a>(source: &[Written<'a>], number: usize) -> Option<&'a str> {
     written.labels.as_slice().first().copied()
 }
 
-/// The text of an instruction, and nothing where the source has none with this number.
+/// The text of an instruction, and nothing if the source has none with this number.
 pub fn text_at<'a>(source: &[Written<'a>], number: usize) -> &'a str {
     match source.get(number) {
         Some(written) => written.text,

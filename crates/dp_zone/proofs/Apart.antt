@@ -1,10 +1,10 @@
 -- Tables in which each name occurs once.
-use Rattle.std.proofs.Common.{◌≡◌, ℕ, Bool, true, false, ◌||◌, cond, List, [], ◌∷◌, ◌++◌, Some, None, refl, sym, ap, subst, ◌∙◌}
-use Rattle.std.proofs.lemmas.Bool.{true≢false, or_parts}
+use Rattle.std.proofs.Common.{◌≡◌, ℕ, Bool, true, false, cond, List, [], ◌∷◌, ◌++◌, Some, None, refl, sym, ap, subst, ◌∙◌}
+use Rattle.std.proofs.lemmas.Bool.{or_parts, or_from}
 use Rattle.std.proofs.lemmas.Bool.Decides.{same_from_decides}
 use Rattle.std.proofs.lemmas.Slice.Eq.{bytes_eq-Decides}
 use Rattle.std.proofs.lemmas.List.{map-append}
-use Rattle.dp_zone.specs.declared.zones.Entry.{Entry}
+use Rattle.dp_zone.specs.declared.zones.Reservation.{Reservation}
 use Rattle.dp_zone.specs.Names.{same_name}
 use Rattle.dp_zone.specs.Zones.{Reserved, is_named, has_name, zone_named, without_name, AreApart}
 use Rattle.dp_zone.specs.Entries.{entry_of, table_of}
@@ -16,24 +16,20 @@ same_back a b = same_from_decides (same_name a b) (same_name b a) (bytes_eq-Deci
       (bytes_eq-Decides b a).1 (sym e),
 )
 
-none_of : (a b : Bool) → a ≡ false → b ≡ false → (a || b) ≡ false
-none_of true b is none = absurd (true≢false is)
-none_of false b is none = none
-
 -- appending a zone adds its name alone
-fresh_behind : (name : List ℕ) (table : List Reserved) (r : Reserved) → has_name name table ≡ false → same_name r.name name ≡ false →
+fresh_after : (name : List ℕ) (table : List Reserved) (r : Reserved) → has_name name table ≡ false → same_name r.name name ≡ false →
     has_name name (table ++ r ∷ []) ≡ false
-fresh_behind name [] r none other = none_of (same_name r.name name) false other refl
-fresh_behind name (q ∷ table) r none other =
+fresh_after name [] r none other = or_from (same_name r.name name) false other refl
+fresh_after name (q ∷ table) r none other =
     let parts = or_parts (is_named name q) (has_name name table) none in
-    none_of (is_named name q) (has_name name (table ++ r ∷ [])) parts.0 (fresh_behind name table r parts.1 other)
+    or_from (is_named name q) (has_name name (table ++ r ∷ [])) parts.0 (fresh_after name table r parts.1 other)
 
 -- appending a zone of a new name keeps the names distinct
 pub apart_more : (table : List Reserved) (r : Reserved) → AreApart table → has_name r.name table ≡ false → AreApart (table ++ r ∷ [])
 apart_more [] r apart fresh = (refl, tt)
 apart_more (q ∷ table) r apart fresh =
     let parts = or_parts (is_named r.name q) (has_name r.name table) fresh in
-    (fresh_behind q.name table r apart.0 (same_back r.name q.name ∙ parts.0), apart_more table r apart.1 parts.1)
+    (fresh_after q.name table r apart.0 (same_back r.name q.name ∙ parts.0), apart_more table r apart.1 parts.1)
 
 -- removing a zone adds no name
 none_without : (name other : List ℕ) (table : List Reserved) → has_name name table ≡ false → has_name name (without_name other table) ≡ false
@@ -44,7 +40,7 @@ none_without name other (r ∷ table) none = by (is_named other r) (none_without
 
   by : (b : Bool) → has_name name (without_name other table) ≡ false → has_name name (cond b table (r ∷ without_name other table)) ≡ false
   by true rest = parts.1
-  by false rest = none_of (is_named name r) (has_name name (without_name other table)) parts.0 rest
+  by false rest = or_from (is_named name r) (has_name name (without_name other table)) parts.0 rest
 
 -- removing a zone keeps the names distinct
 pub apart_without : (name : List ℕ) (table : List Reserved) → AreApart table → AreApart (without_name name table)
@@ -71,7 +67,8 @@ gone_without name (r ∷ table) apart = by (is_named name r) refl (gone_without 
 -- ---- the same for entries
 
 -- appending an entry of a new name keeps the names distinct
-pub apart_entries : (entries : List Entry) (e : Entry) (name : List ℕ) → AreApart (table_of entries) → e.name.bytes ≡ name → has_name name (table_of entries)
+pub apart_entries : (entries : List Reservation) (e : Reservation) (name : List ℕ) → AreApart (table_of entries) → e.name.bytes ≡ name → has_name name
+    (table_of entries)
     ≡ false → AreApart (table_of (entries ++ e ∷ []))
 apart_entries entries e name apart named fresh =
     subst AreApart (sym (map-append entry_of entries (e ∷ []))) (apart_more (table_of entries) (entry_of e) apart

@@ -4,7 +4,7 @@ use Rattle.std.specs.List.{list_any}
 use Rattle.std.specs.Coded.{Coded, code_by, coded×, coded_list, coded_ℕ}
 use Rattle.dp_region.specs.Ownership.{Home, home_code}
 use Rattle.dp_region.specs.Spans.{refilled, overlaid}
-use Rattle.dp_region.specs.Region.{largest_region}
+use Rattle.dp_region.specs.Region.{max_region}
 use Rattle.dp_heap.specs.declared.elements.Element.{Element}
 use Rattle.dp_heap.specs.Elements.{rounded, alignment, NothingFits}
 use Rattle.dp_heap.specs.Refusals.{IsAlign}
@@ -30,7 +30,7 @@ zone_code =
 abbrev pub with_content : ZoneView → List ℕ → ZoneView
 with_content z ws = record z { bytes = refilled z.bytes ws }
 
--- z with ws written over its bytes from an offset on
+-- z with ws written over its bytes at an offset
 abbrev pub with_part : ℕ → ZoneView → List ℕ → ZoneView
 with_part at z ws = record z { bytes = overlaid z.bytes at ws }
 
@@ -43,7 +43,7 @@ pub record Reserved : Type 0 where
 abbrev pub reserved_of : ZoneView → Reserved
 reserved_of z = record { name = z.name; offset = z.offset; len = length z.bytes }
 
--- whether it has this name
+-- whether the zone has this name
 abbrev pub is_named : List ℕ → Reserved → Bool
 is_named name r = same_name r.name name
 
@@ -65,22 +65,22 @@ abbrev pub AreApart : List Reserved → Type 0
 AreApart [] = Unit {0}
 AreApart (r ∷ rs) = (has_name r.name rs ≡ false) × AreApart rs
 
--- the most zones of a table
-abbrev pub most_zones : ℕ
-most_zones = 64
+-- the maximum number of zones of a table
+abbrev pub max_zones : ℕ
+max_zones = 64
 
 -- what holds of every table
 pub record IsZoneTable (table : List Reserved) : Type 0 where
-  pub few : length table ≤ most_zones
+  pub few : length table ≤ max_zones
   pub apart : AreApart table
 
--- what a look-up returns of it
+-- what a look-up returns for an entry
 abbrev pub info_of : Reserved → ZoneInfo
 info_of r = record { offset = r.offset; len = r.len }
 
 -- a length that a zone may have
 abbrev pub IsLength : ℕ → Type 0
-IsLength len = (0 < len) × (len ≤ largest_region)
+IsLength len = (0 < len) × (len ≤ max_region)
 
 -- a request is refused with this error: none of the earlier ones applies
 abbrev pub IsZoneRefused : ZoneError → List ℕ → ℕ → ℕ → List Reserved → List Element → Type 0
@@ -89,9 +89,9 @@ IsZoneRefused BadLength name len align table es = (is_name name ≡ true) × ¬ 
 IsZoneRefused BadAlign name len align table es = (is_name name ≡ true) × IsLength len × ¬ IsAlign align
 IsZoneRefused Exists name len align table es = (is_name name ≡ true) × IsLength len × IsAlign align × (has_name name table ≡ true)
 IsZoneRefused Full name len align table es =
-    (is_name name ≡ true) × IsLength len × IsAlign align × (has_name name table ≡ false) × (length table ≡ most_zones)
+    (is_name name ≡ true) × IsLength len × IsAlign align × (has_name name table ≡ false) × (length table ≡ max_zones)
 IsZoneRefused NoRoom name len align table es =
-    (is_name name ≡ true) × IsLength len × IsAlign align × (has_name name table ≡ false) × (length table < most_zones)
+    (is_name name ≡ true) × IsLength len × IsAlign align × (has_name name table ≡ false) × (length table < max_zones)
     × NothingFits (rounded len) (alignment align) es
 
 -- the number of a cause
@@ -109,4 +109,4 @@ pub record IsReservable (name : List ℕ) (len align : ℕ) (table : List Reserv
   pub length_fits : IsLength len
   pub aligned : IsAlign align
   pub fresh : has_name name table ≡ false
-  pub room : length table < most_zones
+  pub room : length table < max_zones

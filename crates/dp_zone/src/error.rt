@@ -7,7 +7,7 @@ use thiserror::Error;
 /// Why `reserve` refuses a zone: the first of these that applies.
 #[derive(Clone, Copy, Debug, PartialEq, Eq, Drop, Error)]
 pub enum ZoneError {
-    /// The name has no characters or more than `MAX_NAME`, or one of them is not from 33 to 126.
+    /// The name is empty or longer than `MAX_NAME`, or has a character that is not from 33 to 126.
     #[error("bad zone name")]
     BadName,
     /// The length is 0 or above `dp_region::MAX_REGION`.

@@ -1,4 +1,4 @@
-//! Names of zones: which texts are permitted.
+//! Names of zones, and which texts are names.
 
 ghost use Rattle.std.specs.Prelude.{◌≡◌, ◌&&◌, nat_le, true, false, IfSome, IfNone};
 ghost use Rattle.std.specs.List.{list_all};
@@ -7,7 +7,7 @@ ghost use Rattle.dp_zone.specs.Names.{is_name, same_name};
 use arrayvec::ArrayString;
 use std::marker::Model;
 
-/// The most characters of a zone's name, one fewer than DPDK's `RTE_MEMZONE_NAMESIZE`, which counts the final zero.
+/// The maximum number of characters of a zone's name, one fewer than DPDK's `RTE_MEMZONE_NAMESIZE`, which counts the final zero.
 pub const MAX_NAME: usize = 31;
 
 /// The name of a zone: 1 to `MAX_NAME` visible ASCII characters, without blanks.
@@ -42,7 +42,7 @@ pub(crate) fn is_name(text: &str) -> bool
 }
 
 impl ZoneName {
-    /// Makes a name of `text`, or `None` where it is none.
+    /// Makes a name of `text`, or returns `None` if it is not one.
     pub fn new(text: &str) -> Option<ZoneName>
         ensures some { IfSome result (λ n. (n ≡ text.now) × (is_name text.now ≡ true)) }
         ensures none { IfNone result (is_name text.now ≡ false) }

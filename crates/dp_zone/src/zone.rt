@@ -11,7 +11,7 @@ use crate::name::ZoneName;
 use dp_region::Block;
 use std::marker::Model;
 
-/// A named block of a heap. `Zones::give_back` takes it back.
+/// A named block of a heap. `Zones::give_back` frees it.
 pub struct Zone {
     name: ZoneName,
     block: Block,
@@ -80,7 +80,7 @@ impl Zone {
         self.block.bytes_mut()
     }
 
-    /// The `len` bytes from `at` on, for writing. They must lie in the zone.
+    /// The `len` bytes at offset `at`, for writing. They must lie in the zone.
     pub fn part_mut(&mut self, at: u32, len: u32) -> &mut [u8]
         requires { at + len ≤ length self.old.bytes }
         ensures* writes_back { sem 𝓛 (Lends the_row (Array byte 0) self.entry result (with_part at self.old)) }
@@ -130,7 +130,7 @@ impl Zone {
         self.block.copy_within(from, len, to);
     }
 
-    /// Writes `bytes` from `at` on. They must fit into the zone.
+    /// Writes `bytes` at offset `at`. They must fit into the zone.
     pub fn write(&mut self, at: u32, bytes: &[u8])
         requires { at + length bytes.now ≤ length self.old.bytes }
         ensures { self.new ≡ record self.old { bytes = with_bytes self.old.bytes at bytes.now } }
@@ -139,7 +139,7 @@ impl Zone {
         self.block.bytes_mut()[at..at + bytes.len()].copy_from_slice(bytes);
     }
 
-    /// Writes `len` zeros from `at` on. They must fit into the zone.
+    /// Writes `len` zeros at offset `at`. They must fit into the zone.
     pub fn clear(&mut self, at: u32, len: u32)
         requires { at + len ≤ length self.old.bytes }
         ensures { self.new ≡ record self.old { bytes = with_bytes self.old.bytes at (replicate len 0) } }

@@ -17,7 +17,7 @@ use dp_heap::{Heap, HeapError};
 use dp_region::MAX_REGION;
 use std::marker::Model;
 
-/// The most zones of a table. DPDK has 2,560, `RTE_MAX_MEMZONE`.
+/// The maximum number of zones of a table. DPDK has 2,560, `RTE_MAX_MEMZONE`.
 pub const MAX_ZONES: usize = 64;
 
 /// Where a zone is: its offset, in bytes from the region's start, and its length in bytes.
@@ -29,13 +29,13 @@ pub struct ZoneInfo {
 
 // What the table knows of one zone.
 #[derive(Clone, Copy, Default, Drop)]
-struct Entry {
+struct Reservation {
     name: ArrayString<MAX_NAME>,
     offset: u32,
     len: u32,
 }
 
-impl Entry {
+impl Reservation {
     // Whether the zone has this name.
     fn is(&self, name: &str) -> bool
         ensures { result ≡ same_name self.now.name.bytes name.now }
@@ -45,21 +45,21 @@ impl Entry {
 }
 
 // The index of the entry of that name.
-fn index_of(entries: &[Entry], name: &str) -> Option<usize>
+fn index_of(entries: &[Reservation], name: &str) -> Option<usize>
     ensures { result ≡ position (λ e. same_name e.name.bytes name.now) entries.now }
 {
     entries.iter().position(|e| e.is(name))
 }
 
 // Whether an entry has that name.
-fn any_named(entries: &[Entry], name: &str) -> bool
+fn any_named(entries: &[Reservation], name: &str) -> bool
     ensures { result ≡ list_any (λ e. same_name e.name.bytes name.now) entries.now }
 {
     entries.iter().any(|e| e.is(name))
 }
 
 // The entry of that name.
-fn entry_named(entries: &[Entry], name: &str) -> Option<Entry>
+fn entry_named(entries: &[Reservation], name: &str) -> Option<Reservation>
     ensures { result ≡ find (λ e. same_name e.name.bytes name.now) entries.now }
 {
     entries.iter().copied().find(|e| e.is(name))
@@ -68,7 +68,7 @@ fn entry_named(entries: &[Entry], name: &str) -> Option<Entry>
 /// A table of at most `MAX_ZONES` zones with distinct names.
 #[derive(Drop)]
 pub struct Zones {
-    entries: ArrayVec<Entry, MAX_ZONES>,
+    entries: ArrayVec<Reservation, MAX_ZONES>,
 }
 
 impl Model for Zones {
@@ -109,7 +109,7 @@ impl Zones {
         any_named(self.entries.as_slice(), name)
     }
 
-    /// Looks a zone up by its name.
+    /// Looks up a zone by its name.
     #[tactic(auto, using(crate::proofs::Tables::lookup_found, crate::proofs::Tables::lookup_missed))]
     pub fn lookup(&self, name: &str) -> Option<ZoneInfo>
         ensures { result ≡ option_map info_of (zone_named name.now self.now) }
@@ -123,7 +123,7 @@ impl Zones {
         }
     }
 
-    // The error that refuses this request whatever the heap holds, if there is one.
+    // The error that refuses this request whatever is in the heap, if there is one.
     fn refusal(&self, name: &str, len: u32, align: u32) -> Option<ZoneError>
         ensures none { IfNone result (IsReservable name.now len align self.now) }
         ensures some { IfSome result (λ e. (es : List Element) → IsZoneRefused e name.now len align self.now es) }
@@ -157,7 +157,7 @@ impl Zones {
     }
 
     /// Reserves a zone of `len` bytes, rounded up to cache lines, at a multiple of `align` (0 or a power of two; at least a cache line). Its bytes
-    /// are those that were there. On an error, the first of [`ZoneError`] that applies, nothing changes.
+    /// are not cleared. On an error, the first of [`ZoneError`] that applies, nothing changes.
     pub fn reserve(
         &mut self,
         heap: &mut Heap,
@@ -184,7 +184,7 @@ impl Zones {
         };
         match heap.malloc(len, align) {
             Ok(block) => {
-                self.entries.push(Entry {
+                self.entries.push(Reservation {
                     name: zone_name.text(),
                     offset: block.offset(),
                     len: block.len(),
@@ -195,7 +195,7 @@ impl Zones {
         }
     }
 
-    /// Gives a zone back to the heap that it is of. Its name is free again.
+    /// Frees a zone to its heap. Its name is free again.
     pub fn give_back(&mut self, heap: &mut Heap, zone: Zone)
         requires { zone.home ≡ heap.old.home }
         ensures was_out { IsOut zone.offset heap.old.elements }

@@ -2,9 +2,9 @@
 
 use crate::call::Call;
 use crate::check::check_line;
-use crate::check::sizes::say_sizes;
+use crate::check::sizes::print_sizes;
 use crate::documents::checks::check_document;
-use crate::fault::{DONE, Status, tell_usage};
+use crate::fault::{DONE, Status, write_usage_error};
 use crate::loading::load_file;
 use crate::printer::Printer;
 use dp_pipe::How;
@@ -14,20 +14,20 @@ use std::rt::Files;
 /// Checks the programs of a pipeline file; then prints what takes the bytes of its region, if requested.
 pub fn check_file<R: Files + Print, E: Write>(call: &Call<'_, '_, R>, err: &mut E) -> Status {
     if call.is_json() && call.words.get_flag("sizes") {
-        return Err(tell_usage(
+        return Err(write_usage_error(
             err,
             "error: --sizes is printed as text alone: leave out --json, or --sizes",
         ));
     }
     let pipeline = load_file(call, How::Given, err)?;
-    let (mut out, mut told) = (Printer::new(io::writer(call.rt)), Printer::new(err));
-    let (out, told) = (&mut out, &mut told);
+    let (mut out, mut faults) = (Printer::new(io::writer(call.rt)), Printer::new(err));
+    let (out, faults) = (&mut out, &mut faults);
     if call.is_json() {
-        return Ok(check_document(call.alloc, &pipeline, out, told));
+        return Ok(check_document(call.alloc, &pipeline, out, faults));
     }
-    let status = check_line(&pipeline, out, told);
+    let status = check_line(&pipeline, out, faults);
     if status == DONE && call.words.get_flag("sizes") {
-        return Ok(say_sizes(call.alloc, &pipeline, out, told));
+        return Ok(print_sizes(call.alloc, &pipeline, out, faults));
     }
     Ok(status)
 }

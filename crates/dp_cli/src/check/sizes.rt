@@ -11,8 +11,8 @@ use dp_sizes::sizes_text;
 use std::alloc::{AllocError, Global};
 use std::io::Write;
 
-/// Prints the bytes that each pool, ring and port of a pipeline takes, their sum, and the size of the region; returns the status.
-pub fn say_sizes<O: Write, E: Write>(
+/// Prints the bytes that each pool, ring and port of a pipeline takes, their sum, and the size of the region. Returns the status.
+pub fn print_sizes<O: Write, E: Write>(
     alloc: Global,
     pipeline: &Pipeline,
     out: &mut Printer<O>,

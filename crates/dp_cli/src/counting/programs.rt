@@ -14,7 +14,7 @@ struct Fetched {
     bytes: Vec<u8>,
 }
 
-/// Files that were fetched, kept if they are needed again.
+/// Fetched files, kept if they are needed again.
 #[derive(Drop)]
 pub struct Kept {
     is_wanted: bool,
@@ -22,7 +22,7 @@ pub struct Kept {
 }
 
 impl Kept {
-    /// No files; none is kept until they are needed.
+    /// Makes an empty list, which keeps no files until `want` is called.
     pub fn new(alloc: Global) -> Kept {
         Kept {
             is_wanted: false,
@@ -109,7 +109,7 @@ fn places_of(alloc: Global, text: &[u8]) -> Result<Vec<usize>, AllocError> {
 ///
 /// # Errors
 ///
-/// `AllocError` where a growth was refused.
+/// `AllocError` if an allocation was refused.
 pub fn sources_of<'a>(
     alloc: Global,
     pipeline: &Pipeline,

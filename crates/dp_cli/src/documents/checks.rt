@@ -33,7 +33,7 @@ fn value_of_check(alloc: Global, pipeline: &Pipeline) -> Result<Value, AllocErro
     verdicts_document(alloc, nodes, None)
 }
 
-/// Prints the document of a pipeline, all of whose nodes are accepted, and returns the status: 0, or 3 or 4 where it could not be written.
+/// Prints the document of a pipeline, all of whose nodes are accepted, and returns the status: 0, or 3 or 4 if it could not be written.
 pub fn check_document<O: Write, E: Write>(
     alloc: Global,
     pipeline: &Pipeline,

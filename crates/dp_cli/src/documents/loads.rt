@@ -38,7 +38,7 @@ fn refusal_of(error: PipeError) -> Option<Refusal>
     }
 }
 
-/// The fault of a pipeline that is not loaded for another cause.
+/// The fault of a pipeline that is not loaded for a cause other than a refused program.
 pub fn fault_for(error: PipeError) -> Fault<'static>
     ensures { result ≡ spec.fault_for error }
 {
@@ -71,7 +71,7 @@ fn document_refusal<O: Write, E: Write>(
     end_documented(alloc, document, REFUSED, out, err)
 }
 
-/// Reports why a pipeline is not loaded: a program that is refused by a document, a fault by its lines and a document. Returns the status.
+/// Reports why a pipeline is not loaded: for a refused program a document, for a fault its lines and a document. Returns the status.
 pub fn document_unloaded<O: Write, E: Write>(
     alloc: Global,
     error: PipeError,
@@ -103,7 +103,7 @@ pub fn load_or_document<F: Files, O: Write, E: Write>(
 ) -> Result<Pipeline, Unloaded>
     ensures loaded { IfOk result (IsLoadedFrom (F.known files.old) how text.now) }
     ensures silent { OnOk result ((out.new ≡ out.old) × (err.new ≡ err.old)) }
-    ensures fails { IfErr result (λ unloaded. spec.IsUnloadedTold (F.known files.old) how text.now (paper O.contents out.old) (paper O.contents out.new)
+    ensures fails { IfErr result (λ unloaded. spec.PrintsUnloaded (F.known files.old) how text.now (paper O.contents out.old) (paper O.contents out.new)
         (paper E.contents err.old) (paper E.contents err.new) unloaded.error unloaded.status) }
     ensures stays { F.known files.new ≡ F.known files.old }
 {

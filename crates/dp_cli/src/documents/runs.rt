@@ -2,7 +2,7 @@
 
 ghost use Rattle.std.specs.Prelude.{◌≡◌, IfOk, OnOk, map, option_map, string_bytes};
 ghost use Rattle.serde_json.specs.View.{view};
-ghost use Rattle.dp_json.specs.Documents.{told_of};
+ghost use Rattle.dp_json.specs.Documents.{fault_view};
 ghost use Rattle.dp_json.specs.Documents as json;
 ghost use Rattle.dp_cli.specs.Documents.{IsRunDocumented, PrintsDocument, counts_in};
 ghost use Rattle.dp_cli.specs.Documents as spec;
@@ -15,7 +15,7 @@ use crate::documents::{print_document, print_memory};
 use crate::error_text::Finding;
 use crate::fault::{FAULT, status_unwritten};
 use crate::printer::Printer;
-use crate::run::closing::Settled;
+use crate::run::closing::Flushed;
 use crate::run::inlet::Inlet;
 use crate::run::{Reporting, fault_of, found_of, print_stop, print_totals, status_of, stop_of};
 use dp_counts::Levels;
@@ -54,7 +54,7 @@ fn counts_value(
     }
 }
 
-/// How full the rings were, and how few buffers were free, where that was counted.
+/// How full the rings were, and the least numbers of free buffers, if these were counted.
 fn levels_of(counting: &Option<Counting<'_>>) -> Levels {
     match counting {
         None => Levels::NONE,
@@ -71,13 +71,13 @@ fn reported(
     env: &Env,
     fault: Option<FaultText<'_>>,
 ) -> Result<Value, AllocError>
-    ensures { IfOk result (λ v. view v ≡ json.run_document report.now (counts_in counting.now levels.now env.now) (option_map told_of fault.entry)) }
+    ensures { IfOk result (λ v. view v ≡ json.run_document report.now (counts_in counting.now levels.now env.now) (option_map fault_view fault.entry)) }
 {
     let counts = counts_value(alloc, counting, levels, env)?;
     run_document(alloc, report, counts, fault)
 }
 
-/// The document of a run that stopped; of one that found no memory, the fault alone.
+/// The document of a run that stopped; if it ran out of memory, only the fault.
 fn stopped(
     alloc: Global,
     fault: &RunFault,
@@ -88,13 +88,20 @@ fn stopped(
     ensures { IfOk result (λ v. view v ≡ spec.stopped_document fault.now.cause fault.now.report (counts_in counting.now levels.now env.now)) }
 {
     let line = stop_line(alloc, fault.cause)?;
-    let told = FaultText {
+    let fault_text = FaultText {
         text: line.as_str(),
         status: status_of(Err(fault.cause)),
     };
     match fault.cause {
-        RunCause::Memory => fault_document(alloc, told),
-        _ => reported(alloc, &fault.report, counting, levels, env, Some(told)),
+        RunCause::Memory => fault_document(alloc, fault_text),
+        _ => reported(
+            alloc,
+            &fault.report,
+            counting,
+            levels,
+            env,
+            Some(fault_text),
+        ),
     }
 }
 
@@ -170,9 +177,9 @@ fn document_run<O: Write, E: Write>(
 
 /// Reports a run with this result: prints the records of each port, if requested, its document, and why the run stopped, if it did. Returns the
 /// status.
-pub fn document_settled<I: Inlet, P: Write, E: Write>(
+pub fn document_flushed<I: Inlet, P: Write, E: Write>(
     alloc: Global,
-    settled: &Settled,
+    flushed: &Flushed,
     ins: &[I],
     counting: &Option<Counting<'_>>,
     env: &Env,
@@ -181,15 +188,15 @@ pub fn document_settled<I: Inlet, P: Write, E: Write>(
     err: &mut Printer<E>,
 ) -> u8
     ensures { IsRunDocumented reporting.entry.names.now (map I.saw ins.now) reporting.entry.counts counting.now env.now (paper P.contents out.old)
-        (paper P.contents out.new) (paper E.contents err.old) (paper E.contents err.new) settled.now result }
+        (paper P.contents out.new) (paper E.contents err.old) (paper E.contents err.new) flushed.now result }
 {
-    print_totals(reporting.counts, &settled.answer, err);
-    let stop = stop_of(&settled.answer);
-    let found = found_of(reporting.names, ins, stop, settled.failure);
+    print_totals(reporting.counts, &flushed.answer, err);
+    let stop = stop_of(&flushed.answer);
+    let found = found_of(reporting.names, ins, stop, flushed.failure);
     let levels = levels_of(counting);
     document_run(
         alloc,
-        &settled.answer,
+        &flushed.answer,
         found,
         counting,
         &levels,

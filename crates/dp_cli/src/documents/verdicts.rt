@@ -9,7 +9,7 @@ ghost use Rattle.dp_cli.specs.Printing.{paper};
 
 use crate::documents::loads::{document_unloaded, fault_for};
 use crate::documents::{document_fault, document_with, end_documented, value_of_fault};
-use crate::fault::{DONE, Fault, REFUSED, tell_no_node};
+use crate::fault::{DONE, Fault, REFUSED, write_no_node};
 use crate::printer::Printer;
 use crate::verdicts::entry_at;
 use crate::verdicts::explain::{explanation_text, line_at, line_of};
@@ -110,7 +110,7 @@ fn refused_value<'x>(
     explained(alloc, &explanation)
 }
 
-/// What the document has of a node.
+/// The part of the document about a node.
 #[derive(Drop)]
 struct Verdict {
     value: Value,
@@ -160,7 +160,7 @@ fn explained_node<F: Files>(
 /// The verdicts on nodes.
 #[derive(Drop)]
 struct Verdicts {
-    /// What the document has of each.
+    /// The part of the document about each node.
     nodes: Vec<Value>,
     /// Whether one of them is refused.
     refused: bool,
@@ -247,16 +247,16 @@ fn value_of_verdicts(
         None => verdicts_document(alloc, nodes, None),
         Some(fault) => {
             let line = format!(in alloc; "{fault}")?;
-            let told = FaultText {
+            let fault_text = FaultText {
                 text: line.as_str(),
                 status: fault.status(),
             };
-            verdicts_document(alloc, nodes, Some(told))
+            verdicts_document(alloc, nodes, Some(fault_text))
         }
     }
 }
 
-/// The document of verdicts that a fault ended; where memory ran out it has that alone.
+/// The document of verdicts that a fault ended; if memory ran out, only the fault.
 fn value_of_end(alloc: Global, nodes: Vec<Value>, fault: Fault<'_>) -> Result<Value, AllocError>
     ensures { IfOk result (λ v. view v ≡ spec.end_document (map view nodes.items) fault.entry) }
 {
@@ -266,7 +266,7 @@ fn value_of_end(alloc: Global, nodes: Vec<Value>, fault: Fault<'_>) -> Result<Va
     }
 }
 
-/// Prints the document of verdicts that a fault ended, and the fault's lines. Returns the status. Where memory ran out the document has that alone.
+/// Prints the document of verdicts that a fault ended, and the fault's lines. Returns the status. If memory ran out, it has only the fault.
 fn document_ended<O: Write, E: Write>(
     alloc: Global,
     nodes: Vec<Value>,
@@ -286,7 +286,7 @@ fn document_ended<O: Write, E: Write>(
     }
 }
 
-/// Prints the document of verdicts, and returns the status: 1 where a program is refused.
+/// Prints the document of verdicts, and returns the status: 1 if a program is refused.
 fn document_whole<O: Write, E: Write>(
     alloc: Global,
     verdicts: Verdicts,
@@ -301,7 +301,7 @@ fn document_whole<O: Write, E: Write>(
     end_documented(alloc, document, status, out, err)
 }
 
-/// Prints the document of verdicts that ended so, and returns the status.
+/// Prints the document of verdicts, or of those before a fault, and returns the status.
 fn document_verdicts<O: Write, E: Write>(
     alloc: Global,
     verdicts: Verdicts,
@@ -329,7 +329,7 @@ fn no_verdicts(alloc: Global) -> Verdicts
     }
 }
 
-/// Prints the document of the verdict on a program, with the reason where it is refused, and returns the status.
+/// Prints the document of the verdict on a program, with the reason if it is refused, and returns the status.
 pub fn document_node<F: Files, O: Write, E: Write>(
     alloc: Global,
     files: &mut F,
@@ -362,7 +362,7 @@ fn document_all<F: Files, O: Write, E: Write>(
     document_verdicts(alloc, verdicts, ended, out, err)
 }
 
-/// Prints the document of the verdict on the node of a pipeline with this entry. Where it has none that is reported, and there is no document.
+/// Prints the document of the verdict on a pipeline's node with this entry. If there is no such node, reports that, without a document.
 fn document_at<F: Files, O: Write, E: Write>(
     alloc: Global,
     files: &mut F,
@@ -376,11 +376,11 @@ fn document_at<F: Files, O: Write, E: Write>(
 {
     match asked_of(survey, node) {
         Some(asked) => document_node(alloc, files, survey.env(), asked, out, err),
-        None => tell_no_node(node, &mut err.to),
+        None => write_no_node(node, &mut err.to),
     }
 }
 
-/// Prints the document of the verdicts on the nodes of a pipeline, or on the one that is named, and returns the status: 1 where one is refused, 2 where
+/// Prints the document of the verdicts on the nodes of a pipeline, or on the one that is named, and returns the status: 1 if one is refused, 2 if
 /// the pipeline has no such node.
 pub fn document_pipeline<F: Files, O: Write, E: Write>(
     alloc: Global,

@@ -3,7 +3,7 @@
 ghost use Rattle.std.specs.Prelude.{◌≡◌, IfOk, IfErr, OnOk};
 ghost use Rattle.dp_cert.specs.Spelling.{spelling};
 ghost use Rattle.dp_pipe.specs.Nodes.{Fails};
-ghost use Rattle.dp_cli.specs.Inferring.{by_itself, IsCertEnded, IsInferred, IsInferredTold};
+ghost use Rattle.dp_cli.specs.Inferring.{by_itself, IsCertEnded, IsInferred, PrintsInferred};
 ghost use Rattle.dp_cli.specs.Printing.{Notes, paper, Prints};
 
 use crate::fault::{DONE, Fault, status_unwritten};
@@ -76,7 +76,7 @@ pub fn infer_node<F: Files, O: Write, E: Write>(
     out: &mut Printer<O>,
     err: &mut Printer<E>,
 ) -> u8
-    ensures told { IsInferredTold (F.known files.old) env.now (by_itself node program.now) (paper O.contents out.old) (paper O.contents out.new)
+    ensures is_printed { PrintsInferred (F.known files.old) env.now (by_itself node program.now) (paper O.contents out.old) (paper O.contents out.new)
         (paper E.contents err.old) (paper E.contents err.new) result }
     ensures stays { F.known files.new ≡ F.known files.old }
 {

@@ -1,7 +1,7 @@
 //! `dpv infer` and `dpv infer-one` over the host's files.
 
 use crate::call::Call;
-use crate::fault::{Status, tell_usage};
+use crate::fault::{Status, write_usage_error};
 use crate::host_files::HostFiles;
 use crate::infer::certifying::infer_node;
 use crate::infer::infer_line;
@@ -14,11 +14,11 @@ use dp_pipe::How;
 use std::io::{self, Write};
 use std::rt::Files;
 
-/// The node that a word names; or the status, after reporting that it names none.
+/// Parses a word as a node; or reports that it names none, and returns the status.
 pub fn node_in<E: Write>(which: &str, err: &mut E) -> Result<Entry, u8> {
     match node_named(which) {
         Some(node) => Ok(node),
-        None => Err(tell_usage(
+        None => Err(write_usage_error(
             err,
             format_args!("error: '{which}' names no node: port or ring, and one digit"),
         )),
@@ -36,14 +36,20 @@ pub fn infer_file<R: Files + Print, E: Write>(call: &Call<'_, '_, R>, err: &mut 
 
 /// Prints the certificate of a program by itself.
 pub fn infer_program<R: Files + Print, E: Write>(call: &Call<'_, '_, R>, err: &mut E) -> Status {
-    let mut files = HostFiles::new(call.rt, call.alloc, Naming::AsTheyStand);
+    let mut files = HostFiles::new(call.rt, call.alloc, Naming::AsWritten);
     let (env, node) = (one_env(), call.word("NODE"));
     let mut out = Printer::new(io::writer(call.rt));
-    let mut told = Printer::new(err);
+    let mut faults = Printer::new(err);
     let port = Entry::Port(0);
     let status = infer_node(
-        call.alloc, &mut files, &env, port, node, &mut out, &mut told,
+        call.alloc,
+        &mut files,
+        &env,
+        port,
+        node,
+        &mut out,
+        &mut faults,
     );
-    let err = told.into_inner();
-    Ok(files.tell_unfetched(status, err))
+    let err = faults.into_inner();
+    Ok(files.write_unfetched(status, err))
 }

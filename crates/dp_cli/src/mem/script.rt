@@ -23,7 +23,7 @@ pub enum Command {
     Stats,
 }
 
-/// A word as a number: decimal digits, at most 4,294,967,295.
+/// Parses a word as a number: decimal digits, at most 4,294,967,295.
 fn number(word: &str) -> Option<u32>
     ensures { result ≡ spec.number_in word.now }
 {
@@ -34,7 +34,7 @@ fn number(word: &str) -> Option<u32>
     }
 }
 
-/// The command of one word.
+/// Parses a command of one word.
 fn alone(word: &str) -> Option<Command>
     ensures { result ≡ spec.alone word.now }
 {
@@ -45,7 +45,7 @@ fn alone(word: &str) -> Option<Command>
     }
 }
 
-/// The command of a word and a number.
+/// Makes the command of a word and a number.
 fn with_number(word: &str, number: u32) -> Option<Command>
     ensures { result ≡ spec.with_number word.now number }
 {
@@ -56,7 +56,7 @@ fn with_number(word: &str, number: u32) -> Option<Command>
     }
 }
 
-/// The command of a word, a size and an alignment.
+/// Makes the command of a word, a size and an alignment.
 fn with_numbers(word: &str, size: u32, align: u32) -> Option<Command>
     ensures { result ≡ spec.with_numbers word.now size align }
 {
@@ -67,21 +67,21 @@ fn with_numbers(word: &str, size: u32, align: u32) -> Option<Command>
     }
 }
 
-/// The command of two words.
+/// Parses a command of two words.
 fn of_two(word: &str, first: &str) -> Option<Command>
     ensures { result ≡ option_and_then (spec.with_number word.now) (spec.number_in first.now) }
 {
     with_number(word, number(first)?)
 }
 
-/// The command of three words.
+/// Parses a command of three words.
 fn of_three(word: &str, first: &str, second: &str) -> Option<Command>
     ensures { result ≡ option_and_then (λ n. option_and_then (spec.with_numbers word.now n) (spec.number_in second.now)) (spec.number_in first.now) }
 {
     with_numbers(word, number(first)?, number(second)?)
 }
 
-/// The command of words with one space between them.
+/// Parses a command: words with one space between them.
 fn of_text(text: &str) -> Option<Command>
     ensures { result ≡ spec.command_in text.now }
 {
@@ -99,7 +99,7 @@ fn of_text(text: &str) -> Option<Command>
     }
 }
 
-/// A line as a command, its words with one space between them; `None` where it is none.
+/// Parses a line as a command, its words with one space between them; returns `None` if it is not one.
 pub fn command_of(line: &[u8]) -> Option<Command>
     ensures { result ≡ spec.command_in line.now }
 {

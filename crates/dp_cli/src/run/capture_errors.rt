@@ -25,7 +25,7 @@ pub struct CaptureNames {
     pub output_place: Place,
 }
 
-/// The captures of a port, given where they are and under which names.
+/// Makes the captures of a port from their places and names.
 fn captures_of(
     alloc: Global,
     input: (Place, &str),

@@ -10,7 +10,7 @@ use crate::run::capture_errors::CaptureNames;
 use crate::run::guarded::Guarded;
 use crate::run::input_file::{Source, open_source};
 use crate::run::output_file::{Destination, open_destination};
-use crate::run::progress::{Progress, Telling, ToStderr};
+use crate::run::progress::{Progress, ProgressNotices, ToStderr};
 use crate::run::same_file::Written;
 use crate::run::watched::Watched;
 use dp_pcap::{OfBufReader, OfBufWriter};
@@ -18,16 +18,16 @@ use std::alloc::Global;
 use std::io::{BufReader, BufWriter, Stdin, Stdout};
 use std::rt::Files;
 
-/// How many bytes the buffer of a capture has.
+/// The size of a capture's buffer, in bytes.
 pub const BUFFER: usize = 65_536;
 
-/// How many bytes the buffer of an output has that lets everything through at once.
+/// The size of the buffer of an unbuffered output, in bytes.
 pub const UNBUFFERED: usize = 0;
 
-/// What is read as a capture.
+/// The type of an input: a reader of a capture.
 pub type InputOf<F> = OfBufReader<Watched<Source<F>, ToStderr>>;
 
-/// What is written as a capture.
+/// The type of an output: a writer of a capture.
 pub type OutputOf<F> = OfBufWriter<Guarded<Destination<F>>>;
 
 /// Opens a capture for reading.
@@ -78,14 +78,14 @@ pub fn open_inputs<'a, R: Files>(
     alloc: Global,
     stdin: Stdin,
     names: &'a [CaptureNames],
-    telling: Telling,
+    notices: ProgressNotices,
 ) -> Result<Vec<InputOf<R::File>>, Fault<'a>>
     ensures names { IfOk result (λ inputs. AreInputs inputs.items names.now) }
     ensures many { IfOk result (λ inputs. length inputs.items ≡ length names.now) }
 {
     let mut inputs = Vec::new(alloc);
     for (port, files) in names.iter().enumerate() {
-        let progress = Progress::new(telling.to, port, telling.is_on);
+        let progress = Progress::new(notices.to, port, notices.is_on);
         let input = open_input(rt, alloc, stdin, files, progress)?;
         if inputs.push(input).is_err() {
             return Err(Fault::Memory);
@@ -94,7 +94,7 @@ pub fn open_inputs<'a, R: Files>(
     Ok(inputs)
 }
 
-/// Makes the captures that a pipeline writes, in port order, once it is known that none of them is a file of the run; each with a buffer of this size.
+/// Makes the captures that a pipeline writes, in port order, after testing that none of them is a file of the run; each with a buffer of this size.
 pub fn create_outputs<'a, R: Files>(
     rt: &R,
     alloc: Global,

@@ -1,4 +1,4 @@
-//! Writes out the outputs of a run before the run is reported.
+//! Flushes the outputs of a run before the run is reported.
 
 ghost use Rattle.std.specs.Prelude.{◌≡◌, ◌<◌, ◌≤◌, Ok, Err, IfSome, length, map, option_map};
 ghost use Rattle.dp_pipe.specs.Running.{report_of, answer_of};
@@ -10,7 +10,7 @@ use dp_engine::{PortReport, Report};
 use dp_pipe::{RunCause, RunFault};
 use std::io::Error;
 
-/// Writes out an output. Returns how it is incomplete, if it is.
+/// Flushes an output. Returns how it is incomplete, if it is.
 fn loss_of<O: Outlet>(out: &mut O) -> Option<Incomplete>
     ensures { spec.IsClosed (O.contents out.old) (O.taken out.new) result }
 {
@@ -20,7 +20,7 @@ fn loss_of<O: Outlet>(out: &mut O) -> Option<Incomplete>
     }
 }
 
-/// Writes out all outputs, in port order. Returns for each how it is incomplete, if it is.
+/// Flushes all outputs, in port order. Returns for each how it is incomplete, if it is.
 fn close_all<O: Outlet>(outs: &mut [O]) -> ArrayVec<Option<Incomplete>, 8>
     requires { length outs.old ≤ 8 }
     ensures { spec.AreClosed (map O.contents outs.old) (map O.taken outs.new) result.items }
@@ -98,7 +98,7 @@ fn first_lost(lost: &[Option<Incomplete>]) -> Option<u8>
 
 /// The result of a run after its outputs are written out, and the error of the output at which it stopped.
 #[derive(Drop)]
-pub struct Settled {
+pub struct Flushed {
     pub answer: Result<Report, RunFault>,
     pub failure: Option<Error>,
 }
@@ -114,7 +114,7 @@ fn failure_at(lost: &[Option<Incomplete>], port: u8) -> Option<Error>
 }
 
 /// The result of a run that stopped for this cause.
-fn stopped(cause: RunCause, report: Report, lost: &[Option<Incomplete>]) -> Settled
+fn stopped(cause: RunCause, report: Report, lost: &[Option<Incomplete>]) -> Flushed
     ensures cause { answer_of result.answer ≡ Err cause }
     ensures report { report_of result.answer ≡ report }
     ensures failure { result.failure ≡ spec.failure_of lost.now (Err cause) }
@@ -123,14 +123,14 @@ fn stopped(cause: RunCause, report: Report, lost: &[Option<Incomplete>]) -> Sett
         RunCause::Out(port) => failure_at(lost, port),
         _ => None,
     };
-    Settled {
+    Flushed {
         answer: Err(RunFault { cause, report }),
         failure,
     }
 }
 
 /// The result of a run that reached its end: it still stopped if an output is incomplete.
-fn ended(report: Report, lost: &[Option<Incomplete>]) -> Settled
+fn ended(report: Report, lost: &[Option<Incomplete>]) -> Flushed
     requires { length lost.now ≤ 8 }
     ensures came { answer_of result.answer ≡ spec.came_to (Ok report) lost.now }
     ensures report { report_of result.answer ≡ report }
@@ -138,18 +138,18 @@ fn ended(report: Report, lost: &[Option<Incomplete>]) -> Settled
 {
     match first_lost(lost) {
         Some(port) => stopped(RunCause::Out(port), report, lost),
-        None => Settled {
+        None => Flushed {
             answer: Ok(report),
             failure: None,
         },
     }
 }
 
-/// Writes out the outputs of a run, in port order, whatever its result. If a port's file does not take everything, the port's `sent` is lowered to
-/// the records that are whole in the file, and a run that had reached its end stopped at the first such port.
-pub fn settle<O: Outlet>(outs: &mut [O], answer: Result<Report, RunFault>) -> Settled
+/// Flushes the outputs of a run, in port order, whatever its result. If a port's file does not take everything, the port's `sent` is lowered to
+/// the records that are whole in the file, and a run that had reached its end counts as stopped at the first such port.
+pub fn flush_outputs<O: Outlet>(outs: &mut [O], answer: Result<Report, RunFault>) -> Flushed
     requires { length outs.old ≤ 8 }
-    ensures { spec.IsSettled (map O.contents outs.old) (map O.taken outs.new) answer result }
+    ensures { spec.IsFlushed (map O.contents outs.old) (map O.taken outs.new) answer result }
 {
     let lost = close_all(outs);
     match answer {

@@ -13,7 +13,7 @@ use crate::call::Call;
 use crate::compile::write_interpreted;
 use crate::counting::{Counting, counting_in, run_and_report};
 use crate::documents::end_with;
-use crate::fault::{Fault, Status, tell_fault, tell_no_node, tell_usage};
+use crate::fault::{Fault, Status, fail_with, write_no_node, write_usage_error};
 use crate::loading::{Loaded, load_text, load_with_reads};
 use crate::operands::numbers_in;
 use crate::printer::Printer;
@@ -21,7 +21,7 @@ use crate::run::Reporting;
 use crate::run::capture_errors::{CaptureNames, names_of};
 use crate::run::captures::{BUFFER, InputOf, OutputOf, UNBUFFERED, create_outputs, open_inputs};
 use crate::run::drops::Drops;
-use crate::run::progress::Telling;
+use crate::run::progress::ProgressNotices;
 use crate::run::replaced::{Replacements, replacements_in};
 use crate::run::same_file::{ReadFile, keep_apart, note_input};
 use crate::run::truncated::write_truncated;
@@ -34,7 +34,7 @@ use std::alloc::Global;
 use std::io::{self, Write};
 use std::rt::Files;
 
-/// The allocation calls to be refused: those of a list, if there is one; or the status, once the fault is reported.
+/// Parses the list of allocation calls to refuse, if there is one; or reports the fault, and returns the status.
 fn refused_by<E: Write>(alloc: Global, list: Option<&str>, err: &mut E) -> Result<Vec<u64>, u8>
     ensures calls { IfOk result (λ pattern. Some pattern.items ≡ calls_refused (option_map (λ word. word.now) list.entry)) }
     ensures ascending { IfOk result (λ pattern. IsAscending 0 pattern.items) }
@@ -44,17 +44,17 @@ fn refused_by<E: Write>(alloc: Global, list: Option<&str>, err: &mut E) -> Resul
     };
     match numbers_in(alloc, list) {
         Ok(Some(pattern)) => Ok(pattern),
-        Ok(None) => Err(tell_usage(
+        Ok(None) => Err(write_usage_error(
             err,
             format_args!(
-                "error: '{list}' is no list: numbers from 1 on, each above the one before it, joined by commas"
+                "error: '{list}' is not a list: numbers from 1 on, each above the one before it, joined by commas"
             ),
         )),
-        Err(_) => Err(tell_fault(err, Fault::Memory)),
+        Err(_) => Err(fail_with(err, Fault::Memory)),
     }
 }
 
-/// The allocation calls that the command line refuses; or the status, once the fault is reported.
+/// Reads which allocation calls the command line refuses; or reports the fault, and returns the status.
 pub fn refused_in<R, E: Write>(call: &Call<'_, '_, R>, err: &mut E) -> Result<Vec<u64>, u8>
     ensures calls { IfOk result (λ pattern. Some pattern.items ≡ calls_refused (first_value (found_of call.now.words.now) (codes "refuse"))) }
     ensures ascending { IfOk result (λ pattern. IsAscending 0 pattern.items) }
@@ -65,12 +65,12 @@ pub fn refused_in<R, E: Write>(call: &Call<'_, '_, R>, err: &mut E) -> Result<Ve
 /// The captures that a run reads, and those that it writes.
 type Captures<F> = (Vec<InputOf<F>>, Vec<OutputOf<F>>);
 
-/// Opens the captures that a run reads, and makes those that it writes, where none of them is a file that it reads.
+/// Opens the captures that a run reads, and makes those that it writes, unless one of them is a file that it reads.
 fn open_captures<'a, R: Files>(
     call: &Call<'_, '_, R>,
     reads: &'a [ReadFile],
     names: &'a [CaptureNames],
-    telling: Telling,
+    notices: ProgressNotices,
 ) -> Result<Captures<R::File>, Fault<'a>>
     requires { ReadsInputs reads.now names.now }
     ensures inputs { IfOk result (λ captures. AreInputs captures.0.items names.now) }
@@ -83,7 +83,7 @@ fn open_captures<'a, R: Files>(
     } else {
         BUFFER
     };
-    let inputs = open_inputs(rt, alloc, call.streams.input, names, telling)?;
+    let inputs = open_inputs(rt, alloc, call.streams.input, names, notices)?;
     let files = keep_apart(rt, alloc, reads, names)?;
     let outputs = create_outputs(rt, alloc, call.streams.output, buffer, files.as_slice())?;
     Ok((inputs, outputs))
@@ -103,7 +103,7 @@ fn write_region<E: Write>(needed: u64, err: &mut E) -> io::Result<()> {
     let least = needed.max(u64::from(MIN_REGION));
     writeln!(
         err,
-        "  help: the pools, rings and ports need {needed} bytes, of which dpv check FILE --sizes shows the parts: region = {}",
+        "  help: the pools, rings and ports need {needed} bytes (dpv check FILE --sizes shows the parts): region = {}",
         least.div_ceil(line).saturating_mul(line)
     )
 }
@@ -144,23 +144,23 @@ fn run_opened<K: Known, R: Files + Print, E: Write>(
     let (mut inputs, mut outputs) = captures;
     let (ins, outs) = (inputs.as_mut_slice(), outputs.as_mut_slice());
     let mut out = Printer::new(call.paper());
-    let mut told = Printer::new(err);
-    let (out, told, alloc) = (&mut out, &mut told, call.alloc);
+    let mut faults = Printer::new(err);
+    let (out, faults, alloc) = (&mut out, &mut faults, call.alloc);
     let ended = run_and_report::<K, _, _, _, _>(
-        alloc, pipeline, ins, outs, pattern, counting, &env, is_json, reporting, out, told,
+        alloc, pipeline, ins, outs, pattern, counting, &env, is_json, reporting, out, faults,
     );
     // If these lines cannot be written, the status is not changed.
-    let err = &mut told.to;
+    let err = &mut faults.to;
     let _written = if region < needed {
         write_region(needed, err)
     } else {
-        drops_of(&ended.settled.answer).write(&env, err)
+        drops_of(&ended.flushed.answer).write(&env, err)
     };
     let _written = write_truncated(inputs.as_slice(), err);
     ended.status
 }
 
-/// Runs a pipeline: opens the captures that it reads and those that it writes, and runs it over these.
+/// Opens the captures that a pipeline reads and writes, and runs it over them.
 fn run_pipeline<K: Known, R: Files + Print, E: Write>(
     call: &Call<'_, '_, R>,
     loaded: Loaded,
@@ -184,20 +184,20 @@ fn run_pipeline<K: Known, R: Files + Print, E: Write>(
     if let Err(fault) = note_inputs(call, &mut reads, names) {
         return end_with(call, fault, err);
     }
-    let telling = Telling {
+    let notices = ProgressNotices {
         is_on: call.words.get_flag("progress"),
         to: call.to,
     };
     let Ok(mut counting) = counting_in(call, &pipeline, programs.as_slice()) else {
         return end_with(call, Fault::Memory, err);
     };
-    let captures = match open_captures(call, reads.as_slice(), names, telling) {
+    let captures = match open_captures(call, reads.as_slice(), names, notices) {
         Ok(captures) => captures,
         Err(fault) => return end_with(call, fault, err),
     };
     let reporting = Reporting {
         names,
-        counts: telling.is_on,
+        counts: notices.is_on,
     };
     run_opened::<K, R, E>(
         call,
@@ -216,7 +216,7 @@ fn refuse_missing<E: Write>(given: &Replacements<'_>, ports: usize, err: &mut E)
     ensures { OnOk result (missing ports given.now.inputs.items given.now.outputs.items ≡ None) }
 {
     match given.missing(ports) {
-        Some(port) => Err(tell_no_node(Entry::Port(port), err)),
+        Some(port) => Err(write_no_node(Entry::Port(port), err)),
         None => Ok(()),
     }
 }
@@ -233,10 +233,10 @@ pub fn run_file<K: Known, R: Files + Print, E: Write>(
     let loaded = load_with_reads(call, How::Given, err)?;
     refuse_missing(&given, loaded.pipeline.ports(), err)?;
     if reports_interpreted {
-        // If that cannot be written, the pipeline still runs.
+        // If this line cannot be written, the pipeline still runs.
         let _written = write_interpreted::<K, E>(&loaded.pipeline, err);
     }
-    let naming = Naming::AsTheyStand;
+    let naming = Naming::AsWritten;
     Ok(run_pipeline::<K, R, E>(call, loaded, naming, &given, pattern, err))
 }
 
@@ -250,7 +250,7 @@ pub fn run_one_port<R: Files + Print, E: Write>(call: &Call<'_, '_, R>, err: &mu
         output,
     });
     let Ok(given) = Replacements::of_one(call.alloc, input, output) else {
-        return Err(tell_fault(err, Fault::Memory));
+        return Err(fail_with(err, Fault::Memory));
     };
     let call = &call.giving_stdout(given.take_stdout());
     let loaded = load_text(call, ONE_PORT.as_bytes(), naming, How::Given, err)?;

@@ -1,4 +1,4 @@
-//! Writers that are not called again after they failed.
+//! Wraps writers so that they are not called again after a failure.
 
 ghost use Rattle.std.specs.Prelude.{◌≡◌, None, Some, IsSome, false, true, [], ◌∷◌, ◌++◌};
 ghost use Rattle.dp_pcap.specs.declared.byte_order.Order.TheVariants.{Little};
@@ -8,8 +8,8 @@ ghost use Rattle.dp_cli.specs.Outlets.{Counts, joined};
 use dp_pcap::{Offers, WholeRecords};
 use std::io::{Error, ErrorKind, Result, Write};
 
-/// A writer that fails for good: after its first failure the inner writer is not called again, not even by a buffer that is dropped. It keeps the
-/// error of that failure, and counts the records of a capture that the inner writer took whole.
+/// A writer whose first failure is final: the inner writer is then not called again, not even when a buffer is dropped. It keeps the error of
+/// that failure, and counts the records of a capture that the inner writer took whole.
 #[derive(Drop)]
 pub struct Guarded<W> {
     inner: W,
@@ -106,7 +106,7 @@ impl<W: Write> Write for Guarded<W> {
     ghost use Rattle.std.specs.Prelude.{◌≡◌, ◌≢◌, ◌+◌, ◌<◌, ◌^◌, ◌++◌, ◌∷◌, [], ℕ, List, Some, true, false, length, take, IsErr, IfOk, IfErr, OnErr};
     ghost use Rattle.std.specs.Io.{WritesAtMost};
     ghost use Rattle.std.specs.IoError.{error_kind};
-    ghost use Rattle.dp_pcap.specs.Counting.{IsBehind};
+    ghost use Rattle.dp_pcap.specs.Counting.{IsAfter};
     ghost use Rattle.std.specs.Io.KnownBytes.{Keeps, WriteAppends};
     ghost use Rattle.dp_cli.specs.Outlets.{joined};
 

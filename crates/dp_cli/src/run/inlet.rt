@@ -20,9 +20,9 @@ pub trait Inlet: Feed {
 
 impl<R: Read, P: Write> Inlet for OfBufReader<Watched<R, P>> {
     ghost use Rattle.std.specs.Prelude.{Some};
-    ghost use Rattle.dp_cli.specs.Inputs.{given_away};
+    ghost use Rattle.dp_cli.specs.Inputs.{seen_of_file};
 
-    ghost saw = { λ d. Some (given_away d) };
+    ghost saw = { λ d. Some (seen_of_file d) };
 
     fn seen(&self) -> Option<Seen> {
         Some(self.get_ref().get_ref().seen())

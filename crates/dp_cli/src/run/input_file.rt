@@ -15,11 +15,11 @@ pub enum Source<F> {
     File(F),
     /// Standard input.
     Stream(Stdin),
-    /// What is left of a capture without records.
+    /// A capture without records: the bytes that are left of it.
     Nowhere(&'static [u8]),
 }
 
-/// A capture without records: its header, with times in microseconds.
+/// The bytes of a capture without records: its header, with times in microseconds.
 fn empty() -> &'static [u8]
     ensures { result.now ≡ empty_capture }
 {

@@ -1,4 +1,4 @@
-//! Link types of captures: their names, and what helps where a capture has one that is not read.
+//! Link types of captures: their names, and what helps if `dpv` does not read one.
 
 ghost use Rattle.std.specs.Prelude.{◌≡◌, ◌%◌, ◌/◌, ◌^◌, codes};
 ghost use Rattle.dp_cli.specs.LinkTypes as spec;
@@ -113,7 +113,7 @@ impl LinkType {
         self.0 % 65_536
     }
 
-    /// What helps where it is not read.
+    /// What helps if it is not read.
     pub fn cure(self) -> &'static str
         ensures { result.now ≡ spec.cure_text self }
     {

@@ -8,19 +8,19 @@ use crate::run::guarded::Guarded;
 use dp_pcap::{OfBufWriter, Sink};
 use std::io::{Error, Write};
 
-/// An output that was not written out: the number of records that its file took whole, and the error.
+/// An output that was not flushed: the number of records that its file took whole, and the error.
 #[derive(Clone, Copy, Debug)]
 pub struct Incomplete {
     pub whole: u64,
     pub failure: Error,
 }
 
-/// A capture that is written: a sink that may hold bytes back, and the file that takes them.
+/// A capture that is written: a sink that may buffer bytes, and the file that takes them.
 pub trait Outlet: Sink {
     // The bytes that its file took, if they are known.
     ghost taken: { Self → Option (List ℕ) };
 
-    /// Writes the bytes that it holds back to its file.
+    /// Flushes: writes the buffered bytes to its file.
     ///
     /// # Errors
     ///

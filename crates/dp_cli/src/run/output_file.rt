@@ -8,15 +8,15 @@ use std::fs::{OpenFile, OpenOptions};
 use std::io::{Result, Stdout, Write};
 use std::rt::Files;
 
-/// A file for writing. It is emptied when its first byte is written, so a run that ends before that does not change it. Devices and pipes have no
-/// content, and are never emptied.
+/// A file for writing. It is truncated when its first byte is written, so a run that ends before that does not change it. Devices and pipes have
+/// no content, and are never truncated.
 #[derive(Drop)]
 pub struct OutputFile<F> {
     inner: F,
     holds_old_bytes: bool,
 }
 
-/// Opens a file for writing, and makes it if none has its name. Its content stays.
+/// Opens a file for writing, and creates it if it does not exist. Its content is kept.
 ///
 /// # Errors
 ///
@@ -60,7 +60,7 @@ impl<F: Write + OpenFile> Write for OutputFile<F> {
     }
 }
 
-/// Where an output is written. Standard output is written where it stands: what the shell has there is kept, and what is written comes after it.
+/// Where an output is written. Standard output is written at its current position: the output comes after what the shell has put there.
 #[derive(Drop)]
 pub enum Destination<F> {
     /// A file.

@@ -6,7 +6,7 @@ ghost use Rattle.dp_pcap.specs.declared.byte_order.Order.{Order};
 ghost use Rattle.dp_pcap.specs.declared.byte_order.Order.TheVariants.{Little};
 ghost use Rattle.dp_pcap.specs.declared.time.Unit.{Unit as TimeUnit};
 ghost use Rattle.dp_pcap.specs.Capture.{IsHeader};
-ghost use Rattle.dp_pcap.specs.Counting.{none_yet, records_in, IsBehind};
+ghost use Rattle.dp_pcap.specs.Counting.{none_yet, records_in, IsAfter};
 ghost use Rattle.dp_pipe.specs.Running.{report_of};
 ghost use Rattle.dp_cli.specs.Progress as spec;
 
@@ -15,7 +15,7 @@ use dp_pcap::WholeRecords;
 use dp_pipe::RunFault;
 use std::io::{Print, Result, Stderr, Write};
 
-/// A line is written each time that this many more records of a port were read.
+/// A line is written after each further `STEP` records of a port.
 const STEP: u64 = 1_000_000;
 
 /// Standard error, as a writer that can be copied.
@@ -34,7 +34,7 @@ impl Write for ToStderr {
 
 /// Whether progress is reported, and where.
 #[derive(Clone, Copy)]
-pub struct Telling {
+pub struct ProgressNotices {
     pub is_on: bool,
     pub to: ToStderr,
 }
@@ -72,7 +72,7 @@ impl<P: Write> Progress<P> {
         }
     }
 
-    /// Gets the byte order from the first bytes of the capture; they are counted later.
+    /// Reads the byte order from the first bytes of the capture, which are counted later.
     pub fn begin(&mut self, front: &[u8])
         ensures none { self.new.records ≡ none_yet self.new.records.order }
         ensures order { (order : Order) (unit : TimeUnit) → IsHeader order unit (take 24 front.now) → self.new.records ≡ none_yet order }
@@ -88,8 +88,8 @@ impl<P: Write> Progress<P> {
         ensures off { self.old.is_on ≡ false → self.new ≡ self.old }
         ensures port { self.new.port ≡ self.old.port }
         ensures order { self.new.records.order ≡ self.old.records.order }
-        ensures behind { self.old.is_on ≡ true → self.old.records.pieces + length bytes.now < 2 ^ 64 →
-            (before : List ℕ) → IsBehind self.old.records before → IsBehind self.new.records (before ++ bytes.now) }
+        ensures beyond { self.old.is_on ≡ true → self.old.records.pieces + length bytes.now < 2 ^ 64 →
+            (before : List ℕ) → IsAfter self.old.records before → IsAfter self.new.records (before ++ bytes.now) }
         ensures steps { self.new.is_on ≡ true → Appends (P.contents self.old.to) (P.contents self.new.to)
             (spec.steps_text self.old.port (records_in self.old.records) (records_in self.new.records)) }
     {
@@ -124,7 +124,7 @@ fn write_totals<W: Write>(ports: &[PortReport], to: &mut W) -> Result<()>
 }
 
 /// Writes at the end of a run, also of one that stopped, how many records of each port it processed, if asked to.
-pub fn tell_totals<W: Write>(
+pub fn report_totals<W: Write>(
     is_on: bool,
     answer: &std::result::Result<Report, RunFault>,
     to: &mut W,

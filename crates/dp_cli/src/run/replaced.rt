@@ -8,7 +8,7 @@ ghost use Rattle.dp_cli.specs.Replacing as spec;
 ghost use Rattle.dp_cli.specs.Replacing.{row_of};
 
 use crate::call::Call;
-use crate::fault::{Fault, tell_fault, tell_usage};
+use crate::fault::{Fault, fail_with, write_usage_error};
 use crate::operands::{nowhere_in, place_named, replaced_in};
 use clap::ArgMatches;
 use std::alloc::{AllocError, Global};
@@ -62,7 +62,7 @@ pub enum Form {
 pub enum WordFault<'a> {
     /// Memory was refused.
     Memory,
-    /// This word has not its form.
+    /// This word does not have its form.
     Unread(&'a str, Form),
     /// The first of these captures cannot be given together with the second, of an earlier word.
     Clash(Replaced<'a>, Replaced<'a>),
@@ -159,7 +159,7 @@ fn add_words<'a>(
 ///
 /// # Errors
 ///
-/// The first word that has not its form, or whose capture cannot be given together with an earlier one; or that memory was refused.
+/// The first word that does not have its form, or whose capture cannot be given together with an earlier one; or that memory was refused.
 pub fn captures_of<'a>(
     alloc: Global,
     named: &[&'a str],
@@ -187,7 +187,7 @@ fn option_of(way: Way, form: Form) -> &'static str
     }
 }
 
-/// The words of an option.
+/// Returns the words of an option.
 ///
 /// # Errors
 ///
@@ -274,10 +274,10 @@ impl fmt::Display for WordProblem<'_> {
             WordFault::Memory => write!(f, "fault: memory"),
             WordFault::Unread(word, Form::Named) => write!(
                 f,
-                "error: '{word}' is no PORT=NAME: PORT a digit from 0 to 7, NAME a capture, or - for the standard stream"
+                "error: '{word}' is not PORT=NAME: PORT a digit from 0 to 7, NAME a capture, or - for the standard stream"
             ),
             WordFault::Unread(word, Form::Bare) => {
-                write!(f, "error: '{word}' is no port: a digit from 0 to 7")
+                write!(f, "error: '{word}' is not a port: a digit from 0 to 7")
             }
             WordFault::Clash(one, other) => write_clash(f, self.way, one, other),
         }
@@ -285,14 +285,14 @@ impl fmt::Display for WordProblem<'_> {
 }
 
 /// Reports why words give no captures, and returns the status.
-fn tell_words<E: Write>(way: Way, fault: WordFault<'_>, err: &mut E) -> u8 {
+fn write_word_fault<E: Write>(way: Way, fault: WordFault<'_>, err: &mut E) -> u8 {
     match fault {
-        WordFault::Memory => tell_fault(err, Fault::Memory),
-        _ => tell_usage(err, WordProblem { way, fault }),
+        WordFault::Memory => fail_with(err, Fault::Memory),
+        _ => write_usage_error(err, WordProblem { way, fault }),
     }
 }
 
-/// The captures that the command line gives the ports of a pipeline to read, or to write; or the status, once the fault is reported.
+/// Reads the captures that the command line gives a pipeline's ports to read, or to write; or reports the fault, and returns the status.
 fn given_in<'w, R, E: Write>(
     call: &Call<'_, 'w, R>,
     way: Way,
@@ -302,7 +302,7 @@ fn given_in<'w, R, E: Write>(
 {
     match captures_in(call.alloc, call.words, way) {
         Ok(given) => Ok(given),
-        Err(fault) => Err(tell_words(way, fault, err)),
+        Err(fault) => Err(write_word_fault(way, fault, err)),
     }
 }
 
@@ -331,7 +331,7 @@ pub struct Replacements<'a> {
 }
 
 impl<'a> Replacements<'a> {
-    /// None.
+    /// Makes an empty set of replacements.
     pub fn none(alloc: Global) -> Replacements<'a>
         ensures inputs { result.inputs.items ≡ [] }
         ensures outputs { result.outputs.items ≡ [] }
@@ -342,7 +342,7 @@ impl<'a> Replacements<'a> {
         }
     }
 
-    /// Those of `dpv one`: what its words IN and OUT name.
+    /// The captures of `dpv one`: what its words IN and OUT name.
     ///
     /// # Errors
     ///
@@ -371,7 +371,7 @@ impl<'a> Replacements<'a> {
         }
     }
 
-    /// Whether standard output is one of them.
+    /// Whether one of the outputs is standard output.
     pub fn take_stdout(&self) -> bool
         ensures { result ≡ list_any (λ one. spec.is_stream one.place) self.now.outputs.items }
     {
@@ -391,7 +391,7 @@ fn only<'a>(word: &'a str) -> Replaced<'a>
     }
 }
 
-/// The captures that the words of `dpv run` give the ports of its pipeline; or the status, once the fault is reported.
+/// Reads the captures that the words of `dpv run` give the ports of its pipeline; or reports the fault, and returns the status.
 pub fn replacements_in<'w, R, E: Write>(
     call: &Call<'_, 'w, R>,
     err: &mut E,

@@ -4,7 +4,7 @@ ghost use Rattle.std.specs.Prelude.{◌≡◌, ◌++◌, ◌∷◌, [], find, ma
 ghost use Rattle.dp_cli.specs.Guarding as spec;
 ghost use Rattle.dp_cli.specs.Guarding.{read_name};
 ghost use Rattle.dp_cli.specs.Names.{input_name, output_capture};
-ghost use Rattle.dp_cli.specs.Told.{IsClash};
+ghost use Rattle.dp_cli.specs.Statuses.{IsClash};
 
 use crate::error_text::Reason;
 use crate::fault::Fault;
@@ -23,7 +23,7 @@ pub struct FileId {
     pub number: u64,
 }
 
-/// A file that a run reads: which plain file it is. Devices and pipes are none: they have nothing to lose.
+/// A plain file that a run reads. Devices and pipes are not among them: they have nothing to lose.
 #[derive(Debug, Drop)]
 pub struct ReadFile {
     pub name: String,
@@ -149,7 +149,7 @@ fn stdout_target<'a, R: Files>(rt: &R) -> Result<Target<'a>, Fault<'static>> {
     }
 }
 
-/// What an output means that is in this place and has this name.
+/// What an output in this place with this name means.
 fn target_at<'a, R: Files>(
     rt: &R,
     place: Place,
@@ -171,7 +171,7 @@ fn first_read<'a>(target: Target<'_>, reads: &'a [ReadFile]) -> Option<&'a ReadF
     reads.iter().find(|read| is_read(target, read))
 }
 
-/// Refuses an output that is a file which the run reads.
+/// Refuses an output that is a file that the run reads.
 fn refuse_read<'a>(
     output: &'a str,
     target: Target<'_>,
@@ -192,7 +192,7 @@ fn refuse_read<'a>(
     }
 }
 
-/// An output: where it is, its name, and the file that this means.
+/// An output: its place, its name, and the file that the two mean.
 #[derive(Clone, Copy, Debug)]
 pub struct Written<'a> {
     pub place: Place,
@@ -230,7 +230,7 @@ fn refuse_twice<'a>(
     }
 }
 
-/// The output of this name, where it is no file which the run reads, and none of the earlier outputs.
+/// The output of this name; refused if it is a file that the run reads, or one of the earlier outputs.
 fn kept_apart<'a, R: Files>(
     rt: &R,
     port: &'a CaptureNames,
@@ -251,8 +251,8 @@ fn kept_apart<'a, R: Files>(
     })
 }
 
-/// The outputs of a run, by the names of its captures. Refuses the first that is a file which the run reads, or the output of an earlier port.
-/// Nothing was made or emptied then.
+/// The outputs of a run, by the names of its captures. Refuses the first that is a file that the run reads, or the output of an earlier port,
+/// before any output is created or truncated.
 pub fn keep_apart<'a, R: Files>(
     rt: &R,
     alloc: Global,

@@ -1,4 +1,4 @@
-//! Records that a run read of which the capture holds only the front, reported after the run.
+//! Reports, after a run, the records of which the capture had only the front.
 
 ghost use Rattle.std.specs.Prelude.{OnOk};
 ghost use Rattle.std.specs.Io.KnownBytes.{Appends};
@@ -7,7 +7,7 @@ ghost use Rattle.dp_cli.specs.Truncated.{truncated_line};
 use dp_pcap::OfBufReader;
 use std::io::{self, Read, Write};
 
-/// Writes how many records of a port are truncated, and what helps; nothing where none are.
+/// Writes how many records of a port are truncated, and what helps; nothing if none are.
 fn write_port<E: Write>(port: usize, records: u64, err: &mut E) -> io::Result<()>
     ensures { OnOk result (Appends (E.contents err.old) (E.contents err.new) (truncated_line port records)) }
 {
@@ -20,7 +20,7 @@ fn write_port<E: Write>(port: usize, records: u64, err: &mut E) -> io::Result<()
     )
 }
 
-/// Writes for each input of which truncated records were read how many, and what helps.
+/// Writes for each input with truncated records how many it had, and what helps.
 ///
 /// # Errors
 ///

@@ -1,4 +1,4 @@
-//! Readers that keep the error of their failure and the link type of their capture, and report progress.
+//! Wraps readers to keep the error of a failed read and the link type of the capture, and to report progress.
 
 ghost use Rattle.std.specs.Prelude.{◌≡◌, ◌==◌, ◌∷◌, [], None, false};
 ghost use Rattle.std.specs.List.{starts_with};
@@ -103,7 +103,7 @@ impl<R: Read, P: Write> Read for Watched<R, P> {
     ghost use Rattle.dp_pcap.specs.declared.byte_order.Order.{Order};
     ghost use Rattle.dp_pcap.specs.declared.time.Unit.{Unit as TimeUnit};
     ghost use Rattle.dp_pcap.specs.Capture.{IsHeader};
-    ghost use Rattle.dp_pcap.specs.Counting.{IsBehind, records_in};
+    ghost use Rattle.dp_pcap.specs.Counting.{IsAfter, records_in};
     ghost use Rattle.dp_cli.specs.LinkTypes.{IsLinkOf};
     ghost use Rattle.dp_cli.specs.Progress.{steps_text};
 
@@ -125,8 +125,8 @@ impl<R: Read, P: Write> Read for Watched<R, P> {
             Appends (P.contents self.old.progress.to) (P.contents self.new.progress.to) (steps_text self.old.progress.port
             (if self.old.is_begun then records_in self.old.progress.records else 0) (records_in self.new.progress.records))) }
         ensures counted { IfOk result (λ n. self.old.progress.is_on ≡ true → self.old.is_begun ≡ true →
-            self.old.progress.records.pieces + n < 2 ^ 64 → (before : List ℕ) → IsBehind self.old.progress.records before →
-            IsBehind self.new.progress.records (before ++ take n buf.new)) }
+            self.old.progress.records.pieces + n < 2 ^ 64 → (before : List ℕ) → IsAfter self.old.progress.records before →
+            IsAfter self.new.progress.records (before ++ take n buf.new)) }
     {
         match self.inner.read(buf) {
             Ok(taken) => {

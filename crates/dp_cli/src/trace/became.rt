@@ -49,7 +49,7 @@ impl Picked<'_> {
 
 /// The outcome of a record so far.
 #[derive(Drop)]
-pub struct Became {
+pub struct RecordOutcome {
     text: Vec<u8>,
     is_sent: bool,
     is_freed: bool,
@@ -57,10 +57,10 @@ pub struct Became {
     came_by: bool,
 }
 
-impl Became {
+impl RecordOutcome {
     /// The outcome of a record at its start.
-    pub fn new(alloc: Global) -> Became {
-        Became {
+    pub fn new(alloc: Global) -> RecordOutcome {
+        RecordOutcome {
             text: Vec::new(alloc),
             is_sent: false,
             is_freed: false,
@@ -69,7 +69,7 @@ impl Became {
         }
     }
 
-    /// Forgets the record.
+    /// Clears the outcome, for the next record.
     pub fn clear(&mut self) {
         self.text.clear();
         self.is_sent = false;
@@ -84,7 +84,7 @@ impl Became {
     }
 
     /// Records that the requested instruction ran.
-    pub fn note_came_by(&mut self, is_there: bool) {
+    pub fn note_reached(&mut self, is_there: bool) {
         self.came_by = self.came_by || is_there;
     }
 
@@ -141,7 +141,7 @@ impl Became {
     }
 }
 
-/// The argument of `--only`: `sent`, `freed`, `refused`, `cut`, or a number from 1.
+/// Parses the argument of `--only`: `sent`, `freed`, `refused`, `cut`, or a number from 1.
 pub fn only_in(word: &str, number: Option<u32>) -> Option<Only> {
     match word {
         "sent" => Some(Only::Sent),
@@ -155,7 +155,7 @@ pub fn only_in(word: &str, number: Option<u32>) -> Option<Only> {
     }
 }
 
-/// What is in a line before its comment.
+/// The part of a line before its comment.
 fn code_of(text: &[u8]) -> &str {
     let Some(code) = text.split(|b| *b == b'#').next() else {
         return "";
@@ -163,7 +163,7 @@ fn code_of(text: &[u8]) -> &str {
     std::str::from_utf8(code).unwrap_or("")
 }
 
-/// Whether a line gives a label this name: whether that is followed by a colon.
+/// Whether a line has a label with this name: the name, followed by a colon.
 fn is_named_in(text: &[u8], name: &str) -> bool {
     match code_of(text).rsplit_once(':') {
         Some((labels, _)) => labels.split(':').any(|label| label.trim() == name),
@@ -183,7 +183,7 @@ fn label_named(lines: &[SourceLine<'_>], name: &str) -> Option<usize> {
     None
 }
 
-/// The label for the argument of `--instr` in each of these programs: that of a name, or the number itself.
+/// Finds the label for the argument of `--instr` in each of these programs: that of a name, or the number itself.
 pub fn labels_of(
     alloc: Global,
     sources: &[dp_counts::NodeSource<'_>],

@@ -5,14 +5,14 @@ ghost use Rattle.dp_engine.specs.Engines.{IsAscending};
 
 use crate::call::Call;
 use crate::counting::programs::sources_of;
-use crate::fault::{Fault, Status, tell_fault, tell_no_node, tell_usage};
+use crate::fault::{Fault, Status, fail_with, write_no_node, write_usage_error};
 use crate::loading::{Loaded, load_with_programs};
 use crate::operands::{port_in, records_in};
 use crate::printer::Printer;
 use crate::run::capture_errors::names_of;
 use crate::run::captures::open_inputs;
 use crate::run::files::refused_in;
-use crate::run::progress::Telling;
+use crate::run::progress::ProgressNotices;
 use crate::run::replaced::Replacements;
 use crate::single_port::Naming;
 use crate::trace::became::{Only, Picked, labels_of, only_in};
@@ -26,13 +26,13 @@ use std::alloc::Global;
 use std::io::{self, Write};
 use std::rt::Files;
 
-/// The port that a word names; or the status, after reporting that it names none.
+/// Parses a word as a port; or reports that it names none, and returns the status.
 fn named_port<E: Write>(word: &str, err: &mut E) -> Result<u8, u8> {
     match port_in(word) {
         Some(port) => Ok(port),
-        None => Err(tell_usage(
+        None => Err(write_usage_error(
             err,
-            format_args!("error: '{word}' is no port: a number from 0 to 7"),
+            format_args!("error: '{word}' is not a port: a number from 0 to 7"),
         )),
     }
 }
@@ -46,15 +46,15 @@ fn usual_count(words: &ArgMatches<'_>) -> &'static str {
     }
 }
 
-/// Which records are traced; or the status, after reporting the fault.
+/// Reads which records are traced; or reports the fault, and returns the status.
 fn traced_in<E: Write>(words: &ArgMatches<'_>, err: &mut E) -> Result<Traced, u8>
     ensures { IfOk result (λ which. which.records ≤ MAX_TURNS) }
 {
     let count = words.get_str("records").unwrap_or(usual_count(words));
     let Some(records) = records_in(count) else {
-        return Err(tell_usage(
+        return Err(write_usage_error(
             err,
-            format_args!("error: '{count}' is no number of records: from 1 to {MAX_TURNS}"),
+            format_args!("error: '{count}' is not a number of records: from 1 to {MAX_TURNS}"),
         ));
     };
     let port = match words.get_str("port") {
@@ -64,14 +64,14 @@ fn traced_in<E: Write>(words: &ArgMatches<'_>, err: &mut E) -> Result<Traced, u8
     Ok(Traced { records, port })
 }
 
-/// The argument of `--only`, if it is given; or the status, after reporting that it means nothing.
+/// Reads the argument of `--only`, if it is given; or reports that it means nothing, and returns the status.
 fn only_of<E: Write>(words: &ArgMatches<'_>, err: &mut E) -> Result<Option<Only>, u8> {
     let Some(word) = words.get_str("only") else {
         return Ok(None);
     };
     match only_in(word, records_in(word)) {
         Some(only) => Ok(Some(only)),
-        None => Err(tell_usage(
+        None => Err(write_usage_error(
             err,
             format_args!(
                 "error: '{word}' is none of sent, freed, refused and cut, and no number of a record"
@@ -80,7 +80,7 @@ fn only_of<E: Write>(words: &ArgMatches<'_>, err: &mut E) -> Result<Option<Only>
     }
 }
 
-/// The label for `--instr` in each program, if it is given; or the status, after reporting that no program has it.
+/// Reads the label for `--instr` in each program, if it is given; or reports that no program has it, and returns the status.
 fn labels_in<E: Write>(
     call_words: &ArgMatches<'_>,
     alloc: Global,
@@ -91,12 +91,12 @@ fn labels_in<E: Write>(
         return Ok(None);
     };
     let Ok(labels) = labels_of(alloc, sources, word) else {
-        return Err(tell_fault(err, Fault::Memory));
+        return Err(fail_with(err, Fault::Memory));
     };
     if labels.as_slice().iter().any(|label| label.is_some()) {
         return Ok(Some(labels));
     }
-    Err(tell_usage(
+    Err(write_usage_error(
         err,
         format_args!("error: no program has the label '{word}'"),
     ))
@@ -116,22 +116,22 @@ fn trace_pipeline<R: Files + Print, E: Write>(
 {
     match which.port {
         Some(port) if usize::from(port) >= pipeline.ports() => {
-            return tell_no_node(Entry::Port(port), err);
+            return write_no_node(Entry::Port(port), err);
         }
         _ => {}
     }
-    let (rt, alloc, naming) = (call.rt, call.alloc, Naming::AsTheyStand);
-    let telling = Telling {
+    let (rt, alloc, naming) = (call.rt, call.alloc, Naming::AsWritten);
+    let notices = ProgressNotices {
         is_on: false,
         to: call.to,
     };
     let Ok(names) = names_of(alloc, &pipeline, naming, &Replacements::none(alloc)) else {
-        return tell_fault(err, Fault::Memory);
+        return fail_with(err, Fault::Memory);
     };
     let names = names.as_slice();
-    let mut inputs = match open_inputs(rt, alloc, call.streams.input, names, telling) {
+    let mut inputs = match open_inputs(rt, alloc, call.streams.input, names, notices) {
         Ok(inputs) => inputs,
-        Err(fault) => return tell_fault(err, fault),
+        Err(fault) => return fail_with(err, fault),
     };
     let ins = inputs.as_mut_slice();
     let mut out = Printer::new(io::writer(rt));
@@ -162,7 +162,7 @@ pub fn trace_file<R: Files + Print, E: Write>(call: &Call<'_, '_, R>, err: &mut 
         reads: _,
     } = load_with_programs(call, How::Given, err)?;
     let Ok(sources) = sources_of(call.alloc, &pipeline, programs.as_slice()) else {
-        return Err(tell_fault(err, Fault::Memory));
+        return Err(fail_with(err, Fault::Memory));
     };
     let sources = sources.as_slice();
     let labels = labels_in(call.words, call.alloc, sources, err)?;

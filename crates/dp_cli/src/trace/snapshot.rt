@@ -3,21 +3,21 @@
 use dp_engine::{PacketShape, View};
 use dp_model::{NumberRegister, PacketRegister};
 
-/// The most bytes of a segment that are shown.
+/// The maximum number of bytes of a segment that are shown.
 pub const SHOWN: usize = 16;
 
-/// What is seen of a packet.
+/// What a snapshot has of a packet.
 #[derive(Clone, Copy, Debug, PartialEq, Eq)]
 pub struct Look {
     /// Its segments and rooms.
     pub shape: PacketShape,
-    /// The references to the buffers of its segments, summed up.
+    /// The sum of the references to the buffers of its segments.
     pub refs: u32,
     /// The first bytes of its first segment, followed by zeros.
     pub head: [u8; SHOWN],
 }
 
-/// What is seen of a machine between two instructions.
+/// The state of a machine between two instructions, as far as a trace shows it.
 #[derive(Clone, Copy, Debug)]
 pub struct Snapshot {
     /// The numbers in registers.
@@ -42,7 +42,7 @@ pub const NOTHING: Snapshot = Snapshot {
 };
 
 impl Snapshot {
-    /// What is seen of a machine.
+    /// Takes a snapshot of a machine.
     pub fn of(view: &View<'_>) -> Snapshot {
         Snapshot {
             numbers: numbers_of(view),
@@ -125,7 +125,7 @@ fn look_at(view: &View<'_>, p: PacketRegister) -> Option<Look> {
     })
 }
 
-/// The references to the buffers of a packet's segments, summed up.
+/// The sum of the references to the buffers of a packet's segments.
 fn refs_of(view: &View<'_>, p: PacketRegister, segments: u32) -> u32 {
     let mut refs = 0u32;
     for index in 0..segments {

@@ -2,7 +2,7 @@
 
 ghost use Rattle.std.specs.Prelude.{◌≡◌};
 
-use crate::trace::became::{Became, Picked};
+use crate::trace::became::{Picked, RecordOutcome};
 use crate::trace::snapshot::{Look, NOTHING, SHOWN, Snapshot};
 use crate::trace::written::{BytesBefore, bytes_before};
 use dp_engine::{Outcome, PacketShape, SegmentView, Turn, View, Watch, Way};
@@ -17,7 +17,7 @@ use std::io::{self, Write};
 pub struct NodeListing<'a> {
     /// Their texts.
     pub texts: Vec<&'a str>,
-    /// What they are.
+    /// The instructions themselves.
     pub instrs: Vec<Instr>,
 }
 
@@ -67,12 +67,12 @@ pub struct Printing<'a, W> {
     next: Option<BytesBefore>,
     // The text to print for the record.
     text: Vec<u8>,
-    became: Became,
+    became: RecordOutcome,
     written: io::Result<()>,
 }
 
 impl<'a, W: Write + Drop> Printing<'a, W> {
-    /// Prints a run of these programs, of which nothing is printed yet.
+    /// Makes a tracer for a run of these programs.
     pub fn new(alloc: Global, out: W, listing: Listing<'a>, picked: Picked<'a>) -> Printing<'a, W>
         ensures out { result.out ≡ out }
     {
@@ -85,7 +85,7 @@ impl<'a, W: Write + Drop> Printing<'a, W> {
             before: NOTHING,
             next: None,
             text: Vec::new(alloc),
-            became: Became::new(alloc),
+            became: RecordOutcome::new(alloc),
             written: Ok(()),
         }
     }
@@ -170,8 +170,8 @@ impl<'a, W: Write + Drop> Printing<'a, W> {
     }
 }
 
-/// What became of a record, in words.
-fn became_text(outcome: Outcome, became: &Became) -> &[u8] {
+/// The outcome of a record, in words.
+fn became_text(outcome: Outcome, became: &RecordOutcome) -> &[u8] {
     match outcome {
         Outcome::NoBuffer => "refused: it got no buffer".as_bytes(),
         Outcome::Oversize => "refused: it is too long for the port".as_bytes(),
@@ -209,7 +209,7 @@ impl<W: Write + Drop> Watch for Printing<'_, W> {
     fn see(&mut self, label: u16, way: Way, view: View<'_>) {
         let now = Snapshot::of(&view);
         let is_there = self.picked.is_at(self.listing.place(self.node), label);
-        self.became.note_came_by(is_there);
+        self.became.note_reached(is_there);
         if self.written.is_ok() {
             self.written = self.print_step(label, way, &view, &now);
         }
@@ -221,7 +221,7 @@ impl<W: Write + Drop> Watch for Printing<'_, W> {
 impl<W: Write + Drop> Tracer for Printing<'_, W> {
     ghost use Rattle.std.specs.Prelude.{⊤};
 
-    ghost told = { λ p note p'. ⊤ };
+    ghost noted = { λ p note p'. ⊤ };
 
     fn record(&mut self, port: u8, time: Time, len: usize) {
         self.records = self.records.saturating_add(1);
@@ -250,7 +250,7 @@ fn outcome_text(outcome: Outcome) -> &'static str {
     }
 }
 
-/// The plural `s`, where there is not exactly one.
+/// The plural `s`, if there is not exactly one.
 fn plural(count: usize) -> &'static str {
     if count == 1 { "" } else { "s" }
 }
@@ -277,8 +277,8 @@ fn print_call<W: Write>(
     if now.calls <= before.calls {
         return Ok(());
     }
-    let told = if is_made { "made" } else { "refused" };
-    writeln!(out, "      allocation call {}: {told}", now.calls)
+    let answer = if is_made { "made" } else { "refused" };
+    writeln!(out, "      allocation call {}: {answer}", now.calls)
 }
 
 /// Prints a number, also in hexadecimal digits if these differ.
@@ -365,11 +365,11 @@ fn print_bytes<W: Write>(out: &mut W, bytes: &[u8]) -> io::Result<()> {
         let before = if k == 0 { ": " } else { " " };
         write!(out, "{before}{byte:02x}")?;
     }
-    let behind = if bytes.len() > SHOWN { " .." } else { "" };
-    writeln!(out, "{behind}")
+    let beyond = if bytes.len() > SHOWN { " .." } else { "" };
+    writeln!(out, "{beyond}")
 }
 
-/// Prints the number of packets in each ring where that changed.
+/// Prints the number of packets in each ring that changed.
 fn print_rings<W: Write>(out: &mut W, before: &[u32; 8], now: &[u32; 8]) -> io::Result<()> {
     for k in 0..8usize {
         if now[k] != before[k] {
@@ -379,7 +379,7 @@ fn print_rings<W: Write>(out: &mut W, before: &[u32; 8], now: &[u32; 8]) -> io::
     Ok(())
 }
 
-/// Prints the number of packets in each transmit list where that changed.
+/// Prints the number of packets in each transmit list that changed.
 fn print_lists<W: Write>(out: &mut W, before: &[u32; 8], now: &[u32; 8]) -> io::Result<()> {
     for k in 0..8usize {
         if now[k] != before[k] {

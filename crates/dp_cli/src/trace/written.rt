@@ -4,7 +4,7 @@ use dp_engine::View;
 use dp_model::{Instr, PacketRegister, Width};
 use std::io::{self, Write};
 
-/// The greatest number of bytes that an instruction writes.
+/// The maximum number of bytes that an instruction writes.
 const MOST: usize = 8;
 
 /// Bytes that an instruction writes, before it runs.
@@ -70,7 +70,7 @@ fn print_bytes<W: Write>(bytes: &[u8], out: &mut W) -> io::Result<()> {
     Ok(())
 }
 
-/// The first of some bytes.
+/// The first `count` of some bytes.
 fn first(bytes: &[u8], count: usize) -> &[u8] {
     bytes.get(..count).unwrap_or(bytes)
 }

@@ -1,7 +1,7 @@
 //! The counts of a program, as `dpv run FILE --counts --json` printed them.
 
 use crate::call::Call;
-use crate::fault::{FAULT, Fault, tell_fault};
+use crate::fault::{FAULT, Fault, fail_with};
 use crate::files;
 use dp_counted::{CountsError, counts_of};
 use dp_model::Entry;
@@ -20,7 +20,7 @@ pub struct Counted<'a> {
     pub steps: &'a [StepCount],
 }
 
-/// The lines that report counts of a program with another number of instructions than this.
+/// The lines that report that counts are of a program with a different number of instructions.
 pub fn misfit_text(
     alloc: Global,
     counted: Counted<'_>,
@@ -59,9 +59,9 @@ fn write_error<E: Write>(
 }
 
 /// Reports why a file has no counts of a node, and returns the status.
-fn tell_error<E: Write>(file: &str, node: Entry, error: CountsError, err: &mut E) -> u8 {
+fn write_counts_error<E: Write>(file: &str, node: Entry, error: CountsError, err: &mut E) -> u8 {
     match error {
-        CountsError::Memory => tell_fault(err, Fault::Memory),
+        CountsError::Memory => fail_with(err, Fault::Memory),
         _ => {
             // If these lines cannot be written, the status is the same.
             let _written = write_error(file, node, error, err);
@@ -79,13 +79,13 @@ pub fn steps_in<R: Files, E: Write>(
 ) -> Result<Vec<StepCount>, u8> {
     let bytes = match files::read(call.rt, call.alloc, file) {
         Ok(bytes) => bytes,
-        Err(fault) => return Err(tell_fault(err, fault.of_file(file))),
+        Err(fault) => return Err(fail_with(err, fault.of_file(file))),
     };
     let Ok(name) = NodeName(node).to_string(call.alloc) else {
-        return Err(tell_fault(err, Fault::Memory));
+        return Err(fail_with(err, Fault::Memory));
     };
     match counts_of(call.alloc, bytes.as_slice(), name.as_str()) {
         Ok(steps) => Ok(steps),
-        Err(error) => Err(tell_error(file, node, error, err)),
+        Err(error) => Err(write_counts_error(file, node, error, err)),
     }
 }

@@ -10,7 +10,7 @@ use crate::loading::report_unloaded;
 use crate::printer::Printer;
 use crate::verdicts::saying::{report_memory, say};
 use crate::verdicts::show::Form;
-use crate::verdicts::{Wanted, tell_all};
+use crate::verdicts::{Wanted, print_all};
 use dp_model::Env;
 use dp_pipe::{Files, Survey, survey_of};
 use dp_words::pipeline_graph;
@@ -35,7 +35,7 @@ fn say_drawn<O: Write, E: Write>(
     }
 }
 
-/// Prints the picture of a pipeline whose nodes were drawn on this page, with this status; nothing where a fault ended that.
+/// Prints the picture of a pipeline whose nodes were drawn on this page, with this status; nothing if a fault ended the drawing.
 fn say_page<O: Write, E: Write>(
     alloc: Global,
     env: &Env,
@@ -53,7 +53,7 @@ fn say_page<O: Write, E: Write>(
     say_drawn(alloc, env, nodes.as_slice(), status, out, err)
 }
 
-/// Draws the pipeline of a survey, and returns the status: 1 where a program is refused.
+/// Draws the pipeline of a survey, and returns the status: 1 if a program is refused.
 fn draw_all<F: Files, O: Write, E: Write>(
     alloc: Global,
     files: &mut F,
@@ -67,12 +67,12 @@ fn draw_all<F: Files, O: Write, E: Write>(
 {
     let mut page = Printer::new(Vec::new(alloc));
     let wanted = Wanted::Program(Form::Part);
-    let status = tell_all(alloc, files, survey, wanted, &mut page, err);
+    let status = print_all(alloc, files, survey, wanted, &mut page, err);
     say_page(alloc, survey.env(), page, status, out, err)
 }
 
-/// Prints the picture of a pipeline, whose programs are judged, and returns the status: 1 where one is refused. Nothing is printed where a program
-/// cannot be judged.
+/// Checks the programs of a pipeline, prints its picture, and returns the status: 1 if one is refused. Prints nothing if a program cannot be
+/// checked.
 pub fn draw_pipeline<F: Files, O: Write, E: Write>(
     alloc: Global,
     text: &[u8],

@@ -2,7 +2,7 @@
 
 ghost use Rattle.std.specs.Prelude.{◌≡◌};
 ghost use Rattle.dp_check.specs.Faults.{question};
-ghost use Rattle.dp_cli.specs.Judging.{accepted_text, IsVerdictTold};
+ghost use Rattle.dp_cli.specs.Judging.{accepted_text, PrintsVerdict};
 ghost use Rattle.dp_cli.specs.Printing.{IsEnded, Prints, Says, paper};
 
 use crate::fault::{DONE, REFUSED, status_unwritten};
@@ -149,7 +149,7 @@ fn explanation_of(
     Ok(lines)
 }
 
-/// Prints whether a program is accepted, and if not why; returns the status: 1 where it is refused.
+/// Prints whether a program is accepted, and if not why; returns the status: 1 if it is refused.
 pub fn explain<O: Write, E: Write>(
     alloc: Global,
     env: &Env,
@@ -158,7 +158,7 @@ pub fn explain<O: Write, E: Write>(
     out: &mut Printer<O>,
     err: &mut Printer<E>,
 ) -> u8
-    ensures status { IsVerdictTold (question judged.now.program judged.now.cert env.now asked.entry.node) (paper O.contents out.old) (paper O.contents out.new)
+    ensures status { PrintsVerdict (question judged.now.program judged.now.cert env.now asked.entry.node) (paper O.contents out.old) (paper O.contents out.new)
         (paper E.contents err.old) (paper E.contents err.new) result }
     ensures printed { result ≡ DONE → Prints (paper O.contents out.old) (paper O.contents out.new) (accepted_text asked.entry.node) }
 {

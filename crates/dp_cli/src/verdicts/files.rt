@@ -2,7 +2,7 @@
 
 use crate::call::Call;
 use crate::documents::verdicts::{document_node, document_pipeline};
-use crate::fault::{Status, tell_usage};
+use crate::fault::{Status, write_usage_error};
 use crate::host_files::HostFiles;
 use crate::infer::files::node_in;
 use crate::loading::bytes_of;
@@ -12,13 +12,13 @@ use crate::verdicts::counted::{Counted, steps_in};
 use crate::verdicts::draw::draw_pipeline;
 use crate::verdicts::node_source::Asked;
 use crate::verdicts::show::Form;
-use crate::verdicts::{Wanted, tell_node, tell_pipeline};
+use crate::verdicts::{Wanted, print_node, print_pipeline};
 use clap::ArgMatches;
 use dp_model::Entry;
 use std::io::{self, Write};
 use std::rt::Files;
 
-/// The node that WHICH names, if it is given; or the status, after reporting that it names none.
+/// Reads the node that WHICH names, if it is given; or reports that it names none, and returns the status.
 fn which_in<E: Write>(words: &ArgMatches<'_>, err: &mut E) -> Result<Option<Entry>, u8> {
     match words.get_str("WHICH") {
         Some(which) => node_in(which, err).map(Some),
@@ -27,19 +27,21 @@ fn which_in<E: Write>(words: &ArgMatches<'_>, err: &mut E) -> Result<Option<Entr
 }
 
 /// Prints the verdict on the programs of a pipeline file, or on this node's.
-fn tell_which<R: Files + Print, E: Write>(
+fn print_which<R: Files + Print, E: Write>(
     call: &Call<'_, '_, R>,
     which: Option<Entry>,
     wanted: Wanted<'_>,
     err: &mut E,
 ) -> Status {
     let text = bytes_of(call, err)?;
-    let mut files = HostFiles::new(call.rt, call.alloc, Naming::AsTheyStand);
+    let mut files = HostFiles::new(call.rt, call.alloc, Naming::AsWritten);
     let mut out = Printer::new(io::writer(call.rt));
-    let mut told = Printer::new(err);
-    let (text, told) = (text.as_slice(), &mut told);
-    let status = tell_pipeline(call.alloc, text, &mut files, which, wanted, &mut out, told);
-    Ok(files.tell_unfetched(status, &mut told.to))
+    let mut faults = Printer::new(err);
+    let (text, faults) = (text.as_slice(), &mut faults);
+    let status = print_pipeline(
+        call.alloc, text, &mut files, which, wanted, &mut out, faults,
+    );
+    Ok(files.write_unfetched(status, &mut faults.to))
 }
 
 /// Prints the document of the verdicts on the programs of a pipeline file, or of the one on this node's.
@@ -49,12 +51,12 @@ fn document_which<R: Files + Print, E: Write>(
     err: &mut E,
 ) -> Status {
     let text = bytes_of(call, err)?;
-    let mut files = HostFiles::new(call.rt, call.alloc, Naming::AsTheyStand);
+    let mut files = HostFiles::new(call.rt, call.alloc, Naming::AsWritten);
     let mut out = Printer::new(io::writer(call.rt));
-    let mut told = Printer::new(err);
-    let (text, told) = (text.as_slice(), &mut told);
-    let status = document_pipeline(call.alloc, text, &mut files, which, &mut out, told);
-    Ok(files.tell_unfetched(status, &mut told.to))
+    let mut faults = Printer::new(err);
+    let (text, faults) = (text.as_slice(), &mut faults);
+    let status = document_pipeline(call.alloc, text, &mut files, which, &mut out, faults);
+    Ok(files.write_unfetched(status, &mut faults.to))
 }
 
 /// Explains the programs of a pipeline file, or the one that is named.
@@ -63,18 +65,18 @@ pub fn explain_file<R: Files + Print, E: Write>(call: &Call<'_, '_, R>, err: &mu
     if call.is_json() {
         return document_which(call, which, err);
     }
-    tell_which(call, which, Wanted::Reason, err)
+    print_which(call, which, Wanted::Reason, err)
 }
 
 /// Draws the pipeline of a file.
 fn draw_file<R: Files + Print, E: Write>(call: &Call<'_, '_, R>, err: &mut E) -> Status {
     let text = bytes_of(call, err)?;
-    let mut files = HostFiles::new(call.rt, call.alloc, Naming::AsTheyStand);
+    let mut files = HostFiles::new(call.rt, call.alloc, Naming::AsWritten);
     let mut out = Printer::new(io::writer(call.rt));
-    let mut told = Printer::new(err);
-    let (text, told) = (text.as_slice(), &mut told);
-    let status = draw_pipeline(call.alloc, text, &mut files, &mut out, told);
-    Ok(files.tell_unfetched(status, &mut told.to))
+    let mut faults = Printer::new(err);
+    let (text, faults) = (text.as_slice(), &mut faults);
+    let status = draw_pipeline(call.alloc, text, &mut files, &mut out, faults);
+    Ok(files.write_unfetched(status, &mut faults.to))
 }
 
 /// Shows a node's program of a pipeline file, with the counts of a file.
@@ -85,7 +87,7 @@ fn show_counted<R: Files + Print, E: Write>(
     err: &mut E,
 ) -> Status {
     if !call.words.get_flag("dot") {
-        return Err(tell_usage(
+        return Err(write_usage_error(
             err,
             "error: --counts is for a picture: add --dot, or leave it out",
         ));
@@ -96,7 +98,7 @@ fn show_counted<R: Files + Print, E: Write>(
         steps: steps.as_slice(),
     };
     let wanted = Wanted::Program(Form::Counted(counted));
-    tell_which(call, Some(node), wanted, err)
+    print_which(call, Some(node), wanted, err)
 }
 
 /// Shows a node's program of a pipeline file; or with `--dot` and no node, the whole pipeline.
@@ -104,13 +106,13 @@ pub fn show_file<R: Files + Print, E: Write>(call: &Call<'_, '_, R>, err: &mut E
     let counts = call.words.get_str("counts");
     match (which_in(call.words, err)?, counts) {
         (Some(node), Some(file)) => show_counted(call, node, file, err),
-        (Some(node), None) => tell_which(call, Some(node), shown_in(call.words), err),
-        (None, Some(_)) => Err(tell_usage(
+        (Some(node), None) => print_which(call, Some(node), shown_in(call.words), err),
+        (None, Some(_)) => Err(write_usage_error(
             err,
             "error: --counts is for the picture of one program: WHICH is missing, such as port0",
         )),
         (None, None) if call.words.get_flag("dot") => draw_file(call, err),
-        (None, None) => Err(tell_usage(
+        (None, None) => Err(write_usage_error(
             err,
             "error: WHICH is missing, the node to be shown, such as port0; or --dot, for a picture of the whole pipeline",
         )),
@@ -127,32 +129,34 @@ fn asked_one<'w, R>(call: &Call<'_, 'w, R>) -> Asked<'w> {
 }
 
 /// Prints the verdict on a program by itself, for the one port of `dpv one`.
-pub fn tell_one<R: Files + Print, E: Write>(
+pub fn print_one<R: Files + Print, E: Write>(
     call: &Call<'_, '_, R>,
     wanted: Wanted<'_>,
     err: &mut E,
 ) -> Status {
     let asked = asked_one(call);
-    let mut files = HostFiles::new(call.rt, call.alloc, Naming::AsTheyStand);
+    let mut files = HostFiles::new(call.rt, call.alloc, Naming::AsWritten);
     let mut out = Printer::new(io::writer(call.rt));
-    let mut told = Printer::new(err);
-    let (env, told) = (one_env(), &mut told);
-    let status = tell_node(call.alloc, &mut files, &env, asked, wanted, &mut out, told);
-    Ok(files.tell_unfetched(status, &mut told.to))
+    let mut faults = Printer::new(err);
+    let (env, faults) = (one_env(), &mut faults);
+    let status = print_node(
+        call.alloc, &mut files, &env, asked, wanted, &mut out, faults,
+    );
+    Ok(files.write_unfetched(status, &mut faults.to))
 }
 
 /// Explains the verdict on a program by itself: as text, or as a document.
 pub fn explain_one<R: Files + Print, E: Write>(call: &Call<'_, '_, R>, err: &mut E) -> Status {
     if !call.is_json() {
-        return tell_one(call, Wanted::Reason, err);
+        return print_one(call, Wanted::Reason, err);
     }
-    let mut files = HostFiles::new(call.rt, call.alloc, Naming::AsTheyStand);
+    let mut files = HostFiles::new(call.rt, call.alloc, Naming::AsWritten);
     let mut out = Printer::new(io::writer(call.rt));
-    let mut told = Printer::new(err);
-    let (env, told) = (one_env(), &mut told);
+    let mut faults = Printer::new(err);
+    let (env, faults) = (one_env(), &mut faults);
     let asked = asked_one(call);
-    let status = document_node(call.alloc, &mut files, &env, asked, &mut out, told);
-    Ok(files.tell_unfetched(status, &mut told.to))
+    let status = document_node(call.alloc, &mut files, &env, asked, &mut out, faults);
+    Ok(files.write_unfetched(status, &mut faults.to))
 }
 
 /// The form in which a program is to be shown.

@@ -66,7 +66,7 @@ pub fn program_of<F: Files>(
 }
 
 /// The certificate by which a program is judged.
-fn judging_cert<F: Files>(
+fn cert_to_check<F: Files>(
     alloc: Global,
     files: &mut F,
     env: &Env,
@@ -87,7 +87,7 @@ fn judging_cert<F: Files>(
 ///
 /// # Errors
 ///
-/// In this order: [`PipeError::File`] and [`PipeError::Asm`] for its program; where a certificate is given, [`PipeError::File`]
+/// In this order: [`PipeError::File`] and [`PipeError::Asm`] for its program; if a certificate is given, [`PipeError::File`]
 /// and [`PipeError::BadCert`] for that. [`PipeError::Memory`] may come at any time.
 pub fn judge<F: Files>(
     alloc: Global,
@@ -100,7 +100,7 @@ pub fn judge<F: Files>(
     ensures stays { F.known files.new ≡ F.known files.old }
 {
     let (text, program) = program_of(alloc, files, asked.node, asked.program)?;
-    let cert = judging_cert(alloc, files, env, asked, &program)?;
+    let cert = cert_to_check(alloc, files, env, asked, &program)?;
     Ok(Judged {
         text,
         program,

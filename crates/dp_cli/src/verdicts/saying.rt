@@ -1,9 +1,9 @@
-//! Prints a verdict, or a fault of its own words, and returns the status.
+//! Prints a verdict, or a fault in its own words, and returns the status.
 
 ghost use Rattle.std.specs.Prelude.{◌≡◌, ◌⊎◌};
 ghost use Rattle.dp_cli.specs.Pipelines.{IsUnloadedReported};
 ghost use Rattle.dp_cli.specs.Printing.{IsEnded, Says, Reports, paper};
-ghost use Rattle.dp_cli.specs.Told.{IsTold};
+ghost use Rattle.dp_cli.specs.Statuses.{IsExitStatus};
 
 use crate::fault::{FAULT, Fault, MEMORY, print_fault, status_unwritten};
 use crate::printer::Printer;
@@ -19,7 +19,7 @@ pub fn say<O: Write, E: Write>(
 ) -> u8
     ensures said { IsEnded status (Says (paper O.contents out.old) (paper O.contents out.new) (paper E.contents err.old) (paper E.contents err.new))
         (paper O.contents out.new) (paper E.contents err.old) (paper E.contents err.new) result }
-    ensures ends { IsTold status result }
+    ensures ends { IsExitStatus status result }
 {
     match out.text(text) {
         Ok(()) => status,

@@ -2,7 +2,7 @@
 
 ghost use Rattle.std.specs.Prelude.{◌≡◌};
 ghost use Rattle.dp_check.specs.Faults.{question};
-ghost use Rattle.dp_cli.specs.Judging.{IsFaultSaid, IsFormTold, IsSaid, IsVerdictTold, misfit_in};
+ghost use Rattle.dp_cli.specs.Judging.{IsFaultSaid, PrintsForm, IsSaid, PrintsVerdict, misfit_in};
 ghost use Rattle.dp_cli.specs.Printing.{paper};
 
 use crate::fault::{DONE, REFUSED};
@@ -24,9 +24,9 @@ use std::io::Write;
 pub enum Form<'a> {
     /// As a listing.
     Listing,
-    /// As the text from which `dot` draws a graph.
+    /// As a graph in the language of `dot`.
     Graph,
-    /// As such a graph, with how often control went which way.
+    /// As such a graph, with the count of each arrow.
     Counted(Counted<'a>),
     /// As a part of the graph of its pipeline.
     Part,
@@ -171,7 +171,7 @@ fn show_verdict<O: Write, E: Write>(
     out: &mut Printer<O>,
     err: &mut Printer<E>,
 ) -> u8
-    ensures { IsVerdictTold (question judged.now.program judged.now.cert env.now asked.entry.node) (paper O.contents out.old) (paper O.contents out.new)
+    ensures { PrintsVerdict (question judged.now.program judged.now.cert env.now asked.entry.node) (paper O.contents out.old) (paper O.contents out.new)
         (paper E.contents err.old) (paper E.contents err.new) result }
 {
     let Some(diagnosis) = diagnose(&judged.program, &judged.cert, env, asked.node) else {
@@ -184,7 +184,7 @@ fn show_verdict<O: Write, E: Write>(
     say_shown(alloc, env, form, asked, refused, judged, REFUSED, out, err)
 }
 
-/// Prints a program with its rows and the verdict, and returns the status; 3, with a report, where its counts are of a program with another number of
+/// Prints a program with its rows and the verdict, and returns the status; 3, with a report, if its counts are of a program with another number of
 /// instructions.
 #[tactic(auto, using(crate::proofs::Endings::form_fits, crate::proofs::Endings::form_misfits))]
 pub fn show<O: Write, E: Write>(
@@ -196,7 +196,7 @@ pub fn show<O: Write, E: Write>(
     out: &mut Printer<O>,
     err: &mut Printer<E>,
 ) -> u8
-    ensures { IsFormTold form.entry (question judged.now.program judged.now.cert env.now asked.entry.node) (paper O.contents out.old)
+    ensures { PrintsForm form.entry (question judged.now.program judged.now.cert env.now asked.entry.node) (paper O.contents out.old)
         (paper O.contents out.new) (paper E.contents err.old) (paper E.contents err.new) result }
 {
     let count = judged.program.instrs().len();

@@ -1,9 +1,9 @@
-//! Passes: a turn, and the drains of all ports.
+//! Passes: a turn, and then the drains of all ports.
 ghost use Rattle.std.specs.Prelude.{◌≡◌, ◌<◌, ◌≤◌, List, length, slice_get, Some, IfSome, IfNone};
 ghost use Rattle.dp_model.specs.Packets.{Packet};
 ghost use Rattle.dp_pcap.specs.declared.format.TheConstants.{MAX_RECORD};
-ghost use Rattle.dp_engine.specs.Batches.{Holds, Passes, all_buffers, all_drained, frames_in, largest_batch, widest};
-ghost use Rattle.dp_engine.specs.Engines.{drained, most_turns};
+ghost use Rattle.dp_engine.specs.Batches.{Holds, Passes, all_buffers, all_drained, frames_in, max_batch, widest};
+ghost use Rattle.dp_engine.specs.Engines.{drained, max_turns};
 ghost use Rattle.dp_engine.specs.Shapes.{AreWaiting};
 
 use crate::batch::{BatchSize, SentRecord};
@@ -21,7 +21,7 @@ pub struct Pass {
     pub sent: BatchSize,
 }
 
-// The number of buffers in all pools, where these are not too many.
+// The number of buffers in all pools together, at most 65,535.
 fn buffers_in(pools: &[PoolSpec]) -> usize
     requires { all_buffers pools.now ≤ 65535 }
     ensures { result ≡ all_buffers pools.now }
@@ -47,7 +47,7 @@ fn widest_room(pools: &[PoolSpec]) -> usize
 impl<K: Known> Engine<K> {
     /// The size of a batch with room for whatever a turn sends: as many records as there are buffers, each with the largest data room.
     pub fn batch_size(&self) -> BatchSize
-        ensures { result ≡ largest_batch self.now.setting.env }
+        ensures { result ≡ max_batch self.now.setting.env }
     {
         let pools = self.plan.env().pools();
         let records = buffers_in(pools);
@@ -71,8 +71,8 @@ impl<K: Known> Engine<K> {
 
     // Copies the packets of all transmit lists to a batch that has room for them.
     fn copy_sent(&self, time: u64, records: &mut [SentRecord], bytes: &mut [u8]) -> BatchSize
-        requires records { (largest_batch self.now.setting.env).records ≤ length records.old }
-        requires bytes { (largest_batch self.now.setting.env).bytes ≤ length bytes.old }
+        requires records { (max_batch self.now.setting.env).records ≤ length records.old }
+        requires bytes { (max_batch self.now.setting.env).bytes ≤ length bytes.old }
         ensures holds { Holds time (frames_in self.now.world) records.new bytes.new result }
         ensures many { (length records.new ≡ length records.old) × (length bytes.new ≡ length bytes.old) }
     {
@@ -98,9 +98,9 @@ impl<K: Known> Engine<K> {
         }
     }
 
-    /// A turn, as [`turn`](Engine::turn), followed by the drains of all ports into arrays of the caller's: `records` port by port, first to last, and
-    /// their bytes one after the other in `bytes`. Both must be as long as [`batch_size`](Engine::batch_size) says. The time is handed on with each
-    /// record, in the caller's unit. It takes no memory.
+    /// Takes a turn, as [`turn`](Engine::turn) does, then drains all ports into the caller's arrays: the records into `records`, port by port, first
+    /// to last, and their bytes into `bytes`, in the same order. Both must be as long as [`batch_size`](Engine::batch_size) says. Each record gets
+    /// the time, in the caller's unit. It takes no memory.
     pub fn pass(
         &mut self,
         port: u8,
@@ -110,10 +110,10 @@ impl<K: Known> Engine<K> {
         bytes: &mut [u8],
     ) -> Pass
         requires exists { port < length self.old.setting.env.ports }
-        requires limit { self.old.turns < most_turns }
+        requires limit { self.old.turns < max_turns }
         requires size { length frame.now ≤ MAX_RECORD }
-        requires records { (largest_batch self.old.setting.env).records ≤ length records.old }
-        requires bytes { (largest_batch self.old.setting.env).bytes ≤ length bytes.old }
+        requires records { (max_batch self.old.setting.env).records ≤ length records.old }
+        requires bytes { (max_batch self.old.setting.env).bytes ≤ length bytes.old }
         ensures passes { Passes self.old self.new port frame.now result.turn time records.new bytes.new result.sent }
         ensures many { (length records.new ≡ length records.old) × (length bytes.new ≡ length bytes.old) }
     {

@@ -2,7 +2,7 @@
 ghost use Rattle.std.specs.Prelude.{◌≡◌, ◌<◌, ◌≤◌, length};
 ghost use Rattle.dp_pcap.specs.declared.format.TheConstants.{MAX_RECORD};
 ghost use Rattle.dp_model.specs.Runs.{runs_of};
-ghost use Rattle.dp_engine.specs.Engines.{most_turns, tallies_at, counted_at, records_of, TakesTurn};
+ghost use Rattle.dp_engine.specs.Engines.{max_turns, tallies_at, counted_at, records_of, TakesTurn};
 ghost use Rattle.dp_engine.specs.Outcomes.{outcome_of};
 ghost use Rattle.dp_engine.specs.Watching.{WatchesTurn};
 
@@ -17,7 +17,7 @@ use dp_model::budgets_are_as_they_read;
 // Counts one record at `port` by its outcome.
 fn count(tallies: &mut [Tallies; 8], port: u8, outcome: Outcome)
     requires there { port < 8 }
-    requires few { records_of (tallies_at tallies.old port) < most_turns }
+    requires few { records_of (tallies_at tallies.old port) < max_turns }
     ensures { tallies.new ≡ counted_at port (outcome_of outcome) tallies.old }
 {
     match outcome {
@@ -28,24 +28,24 @@ fn count(tallies: &mut [Tallies; 8], port: u8, outcome: Outcome)
 }
 
 impl<K: Known> Engine<K> {
-    /// Takes a turn with a record of at most 262,144 bytes at a port, which must exist: receives it and runs the port's program, or drops it; then up
+    /// Takes a turn with a record of at most 262,144 bytes at a port, which must exist: receives it and runs the port's program, or drops it. Then up
     /// to 32 node runs follow, each on the front packet of the lowest ring that has one. An engine takes at most 1,099,511,627,776 turns (2^40). No
     /// node run is ever stuck.
     pub fn turn(&mut self, port: u8, bytes: &[u8]) -> Turn
         requires exists { port < length self.old.setting.env.ports }
-        requires limit { self.old.turns < most_turns }
+        requires limit { self.old.turns < max_turns }
         requires size { length bytes.now ≤ MAX_RECORD }
         ensures { TakesTurn self.old self.new port bytes.now result }
     {
         self.watched_turn(port, bytes, &mut Silent)
     }
 
-    /// A turn, as [`turn`](Engine::turn), under a watcher: it is shown the start of each node run, and each instruction after it ran, in order, and
-    /// nothing else.
+    /// Takes a turn, as [`turn`](Engine::turn) does, under a watcher, which is shown the start of each node run, and each instruction after it ran,
+    /// in order, and nothing else.
     #[inline(always)]
     pub fn watched_turn<W: Watch>(&mut self, port: u8, bytes: &[u8], watch: &mut W) -> Turn
         requires exists { port < length self.old.setting.env.ports }
-        requires limit { self.old.turns < most_turns }
+        requires limit { self.old.turns < max_turns }
         requires size { length bytes.now ≤ MAX_RECORD }
         ensures taken { TakesTurn self.old self.new port bytes.now result }
         ensures watched { WatchesTurn W.sees watch.old watch.new self.old.setting self.old.nodes port bytes.now self.old.world (outcome_of result.outcome)

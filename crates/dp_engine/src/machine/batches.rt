@@ -11,7 +11,7 @@ use crate::machine::Machine;
 use dp_model::Packet as Handle;
 
 impl Machine {
-    // Copies the bytes of a packet in a transmit list. Returns how many they are.
+    // Copies the bytes of a packet in a transmit list. Returns their number.
     fn copy_waiting(&self, port: u8, at: u32, bytes: &mut [u8], from: usize) -> u32
         requires there { port < length self.now.frames.outboxes }
         requires waits { (packets : List Packet) × (slice_get self.now.state.world.outboxes port ≡ Some packets) × (at < length packets) }

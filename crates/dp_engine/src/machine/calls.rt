@@ -3,8 +3,8 @@ ghost use Rattle.std.specs.Prelude.{◌≡◌, ◌≢◌, ℕ, ◌+◌, ◌^◌,
 ghost use Rattle.dp_model.specs.Arithmetic.{bytes_in};
 ghost use Rattle.dp_model.specs.Buffers.{Number, Buffers, ChangesOnly};
 ghost use Rattle.dp_model.specs.Packets.{Packet, AreFresh, allocated, cloned, headroom, tailroom, last_len, first_len, IsHeadSole, IsTailSole, at_front};
-ghost use Rattle.dp_model.specs.Packets.{at_end, more_before, more_behind, less_behind, zeroed_before, zeroed_behind, loaded, stored};
-ghost use Rattle.dp_model.specs.Limits.{most_segments};
+ghost use Rattle.dp_model.specs.Packets.{at_end, more_before, more_after, less_after, zeroed_before, zeroed_after, loaded, stored};
+ghost use Rattle.dp_model.specs.Limits.{max_segments};
 ghost use Rattle.dp_model.specs.Machine.{Holds, IsEmpty, live, is_denied, with_call, with_packet, without_packet, with_buffers};
 ghost use Rattle.dp_engine.specs.Handles.{moved};
 ghost use Rattle.dp_engine.specs.Steps.{setting_of};
@@ -57,10 +57,10 @@ impl Machine {
         self.mbufs.last_len(&packet)
     }
 
-    // Cuts `n` bytes off the end of the last segment.
+    // Removes `n` bytes from the end of the last segment.
     pub(crate) fn trim(&mut self, p: PacketRegister, n: u16)
         requires { (k : Packet) × Holds self.old.state p k × (n ≤ last_len k) }
-        ensures { (k : Packet) → Holds self.old.state p k → self.new ≡ moved (with_packet p (at_end (less_behind n) k) self.old.state) self.old }
+        ensures { (k : Packet) → Holds self.old.state p k → self.new ≡ moved (with_packet p (at_end (less_after n) k) self.old.state) self.old }
     {
         let packet = handle_in(&self.registers, p);
         self.mbufs.trim(&packet, n);
@@ -80,7 +80,7 @@ impl Machine {
     pub(crate) fn append(&mut self, p: PacketRegister, n: u16)
         requires { (k : Packet) × Holds self.old.state p k × (n ≤ tailroom self.old.pools k) × IsTailSole (live self.old.state) k }
         ensures { (k : Packet) → Holds self.old.state p k → self.new ≡ moved
-            (with_packet p (at_end (more_behind n) k) (with_buffers (zeroed_behind n k self.old.state.world.buffers) self.old.state)) self.old }
+            (with_packet p (at_end (more_after n) k) (with_buffers (zeroed_after n k self.old.state.world.buffers) self.old.state)) self.old }
     {
         let packet = handle_in(&self.registers, p);
         self.mbufs.append(&packet, n);
@@ -108,7 +108,7 @@ impl Machine {
     // Appends the second packet to the first. Its register is empty then.
     pub(crate) fn chain(&mut self, front: PacketRegister, back: PacketRegister)
         requires { (k : Packet) × (t : Packet) × Holds self.old.state front k × Holds self.old.state back t × (front ≢ back)
-            × (length k + length t ≤ most_segments) }
+            × (length k + length t ≤ max_segments) }
         ensures { (k : Packet) (t : Packet) → Holds self.old.state front k → Holds self.old.state back t →
             self.new ≡ moved (without_packet back (with_packet front (k ++ t) self.old.state)) self.old }
     {
@@ -118,7 +118,7 @@ impl Machine {
         self.registers[usize::from(back.number())] = Register::empty();
     }
 
-    // Allocates a packet of one empty segment into an empty register. Answers false where the call is refused.
+    // Allocates a packet of one empty segment into an empty register. Returns false if the call is refused.
     pub(crate) fn alloc(
         &mut self,
         env: &Env,
@@ -149,7 +149,7 @@ impl Machine {
         }
     }
 
-    // Clones a packet into an empty register. Answers false where the call is refused.
+    // Clones a packet into an empty register. Returns false if the call is refused.
     pub(crate) fn clone_of(
         &mut self,
         env: &Env,

@@ -1,4 +1,4 @@
-//! What a view can see of a machine.
+//! What a `View` reads of a machine.
 ghost use Rattle.std.specs.Prelude.{◌≡◌, ◌<◌, ◌≤◌, false, length, slice_get, Some, IsTrue, IfSome, IfNone};
 ghost use Rattle.dp_model.specs.Packets.{Packet, Segment, refs, packet_bytes, segment_bytes, available};
 ghost use Rattle.dp_model.specs.Machine.{Holds, IsEmpty, live};
@@ -67,7 +67,7 @@ impl Machine {
         self.outboxes.len()
     }
 
-    // How many buffers of a pool are free, where there is one of this number.
+    // The number of free buffers of a pool, if the pool exists.
     pub(crate) fn free_in(&self, pool: u32) -> Option<u32>
         ensures some { IfSome result (λ n. n ≡ available self.now.pools (live self.now.state) pool) }
         ensures none { IfNone result (length self.now.pools ≤ pool) }

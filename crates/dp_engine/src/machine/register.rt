@@ -3,7 +3,7 @@ ghost use Rattle.std.specs.Prelude.{◌≡◌, ◌∷◌, Some, None, IsSome, is
 
 use std::marker::Model;
 
-/// The handle of a packet, or nothing. A flag beside the handle says which, and nothing tests it: the checker has made sure that a register holds a
+/// The handle of a packet, or nothing. A flag beside the handle says which, and no code tests it: the checker has made sure that a register holds a
 /// packet wherever its handle is used.
 #[derive(Drop)]
 pub(crate) struct Register {
@@ -21,7 +21,7 @@ impl Model for Register {
 }
 
 impl Register {
-    /// No packet.
+    /// An empty register.
     pub(crate) fn empty() -> Register
         ensures { result ≡ None }
     {
@@ -31,7 +31,7 @@ impl Register {
         }
     }
 
-    /// The packet of a handle.
+    /// A register that holds the packet of a handle.
     pub(crate) fn of(handle: u32) -> Register
         ensures { result ≡ Some handle }
     {

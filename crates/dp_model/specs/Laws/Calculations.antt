@@ -12,7 +12,7 @@ use Rattle.dp_model.specs.declared.registers.Operand.{Operand}
 use Rattle.dp_model.specs.declared.registers.Operand.TheVariants.{Register, Constant}
 use Rattle.dp_model.specs.declared.instr.Instr.{Instr}
 use Rattle.dp_model.specs.declared.instr.Instr.TheVariants.{Set, Mov, Add, Sub, And, Or, Xor, Shl, Shr, Jmp, Jeq, Jlt, Lookup}
-use Rattle.dp_model.specs.Limits.{largest_hop}
+use Rattle.dp_model.specs.Limits.{max_hop}
 use Rattle.dp_model.specs.Arithmetic.{wrapped, value, all_ones, ones_within, greatest}
 use Rattle.dp_model.specs.Environments.{Environment}
 use Rattle.dp_model.specs.Prefixes.{Route, hop_for}
@@ -92,13 +92,13 @@ pub data Calculation (i : Instr) : Type 0 where
       → ((env : Environment) (label : ℕ) (row : Row) → leads env label row i
       ≡ fork label row l (with_bound row r (top (bound row (Register r)) (bound row x))))
       → ((m n : ℕ) → test m n ≡ true → m ≤ top m n) → Grows top → IsPlain i → Calculation i
-  Goes : (l : ℕ) → label_of i ≡ Some l
+  GoesTo : (l : ℕ) → label_of i ≡ Some l
       → ((tables : List (List Route)) (label : ℕ) (ns : List ℕ) → calculated tables label ns i ≡ Some (l, ns))
       → ((env : Environment) (label : ℕ) (row : Row) → leads env label row i ≡ record { to = l; row = row } ∷ []) → IsPlain i → Calculation i
   Finds : (r table x l : ℕ) → label_of i ≡ Some l
       → ((tables : List (List Route)) (label : ℕ) (ns : List ℕ) → calculated tables label ns i
       ≡ finds (slice_get tables table) (slice_index ns x % 2 ^ 32) label r l ns)
-      → ((env : Environment) (label : ℕ) (row : Row) → leads env label row i ≡ fork label (with_bound row r largest_hop) l row)
+      → ((env : Environment) (label : ℕ) (row : Row) → leads env label row i ≡ fork label (with_bound row r max_hop) l row)
       → ((env : Environment) → indices_exist env i ≡ nat_lt table env.tables) → IsPlain i → Calculation i
   Handles_packets : ((tables : List (List Route)) (label : ℕ) (ns : List ℕ) → calculated tables label ns i ≡ None) → Calculation i
 
@@ -127,7 +127,7 @@ calculation_of (Shl r k) = Sets r (Constant k) (λ m n. wrapped (m * 2 ^ k)) (λ
     (λ c label s m. same)
 calculation_of (Shr r k) = Sets r (Constant k) (λ m n. m / 2 ^ k) (λ m n. m / 2 ^ k) (λ tables label ns. refl) (λ env label row. refl) (λ m n. omega arith)
     (λ m n m' n' le le'. shifted_more m m' k le) (λ c label s m. same)
-calculation_of (Jmp l) = Goes l refl (λ tables label ns. refl) (λ env label row. refl) (λ c label s m. same)
+calculation_of (Jmp l) = GoesTo l refl (λ tables label ns. refl) (λ env label row. refl) (λ c label s m. same)
 calculation_of (Jeq r x l) = Jumps r x l (λ m n. m == n) min refl (λ tables label ns. refl) (λ env label row. refl)
     (λ m n yes. omega (arith, eqb-true m n yes)) (λ m n m' n' le le'. omega (arith, le, le')) (λ c label s m. same)
 calculation_of (Jlt r k l) = Jumps r (Constant k) l nat_lt (λ m n. min m (n - 1)) refl (λ tables label ns. refl) (λ env label row. refl)
@@ -166,7 +166,7 @@ calculated_next i tables label ns after e = go (calculation_of i)
     go (Sets r x number top does to within grows plain) =
         inl (first_is (label + 1) (slice_set ns r (number (slice_index ns r) (value ns x))) after (sym (does tables label ns) ∙ e))
     go (Jumps r x l test top names does to within grows plain) = jumped (test (slice_index ns r) (value ns x)) l names (sym (does tables label ns) ∙ e)
-    go (Goes l names does to plain) = named l names (sym (does tables label ns) ∙ e)
+    go (GoesTo l names does to plain) = named l names (sym (does tables label ns) ∙ e)
     go (Finds r table x l names does to there plain) =
         found (slice_get tables table) (slice_index ns x % 2 ^ 32) r l names (sym (does tables label ns) ∙ e)
     go (Handles_packets none) = let no : None ≡ Some after = sym (none tables label ns) ∙ e in cc

@@ -7,7 +7,7 @@ pub by_cases : {G : Type 0} (b : Bool) → (b ≡ true → G) → (b ≡ false �
 by_cases true f g = f refl
 by_cases false f g = g refl
 
--- where a test is true, the first of two facts is to be proved, and where it is false the second
+-- if a test is true, the first of two facts is to be proved, and if it is false the second
 pub match_true : (b : Bool) (P Q : Type 0) → b ≡ true → P → MatchBool b P Q
 match_true true P Q e x = x
 match_true false P Q e x = cc

@@ -1,4 +1,4 @@
--- Internal: counts of segments. Each buffer keeps its owners where no count grows.
+-- Internal: counts of segments. Each buffer keeps its owners if no count grows.
 use Rattle.std.proofs.Common.{◌≡◌, ℕ, ◌+◌, ◌≤◌, Bool, true, false, cond, List, [], ◌∷◌, ◌++◌, refl, sym, ◌∙◌, ap, arith, not, ◌&&◌, subst, ⊎_elim}
 use Rattle.std.specs.Prelude.{count_by, map}
 use Rattle.std.specs.List.{AllByRecursion}
@@ -9,7 +9,7 @@ use Rattle.dp_model.specs.Packets.{Segment, refs, AreOwned, direct}
 use Rattle.dp_model.specs.Machine.{live}
 use Rattle.dp_model.specs.Buffers.{Number, same_number, IsNumber, AreDistinct}
 use Rattle.dp_model.specs.Laws.Cases.{one_if}
-use Rattle.dp_model.specs.Laws.Stored.{same_number_refl, same_is}
+use Rattle.dp_model.specs.Laws.Stored.{same_number_refl, same_is, same_number_sym}
 
 -- how many segments pass a test
 abbrev pub tally : (Segment → Bool) → List Segment → ℕ
@@ -33,7 +33,7 @@ tally_found test P (s ∷ rest) all one = go (test s) refl (tally_found test P r
     go true e later = (s, e, all.0)
     go false e later = let none : one_if (test s) ≡ 0 = ap one_if e in later (omega (arith, one, none, tally-cons test s rest))
 
--- none passes where each fails
+-- none passes if each fails
 pub tally_none : (test : Segment → Bool) (xs : List Segment) → AllByRecursion (λ s. test s ≡ false) xs → tally test xs ≡ 0
 tally_none test [] all = refl
 tally_none test (s ∷ rest) all = let none : one_if (test s) ≡ 0 = ap one_if all.0 in omega (arith, none, tally-cons test s rest, tally_none test rest all.1)
@@ -81,16 +81,6 @@ pub record AreCounted (pools : List PoolSpec) (live : List Segment) : Type 0 whe
   pub once : (n : Number) → mbufs live n ≤ 1
   pub direct : (n : Number) → 1 ≤ refs live n → indirects live n ≡ 0
 
--- `same_number` is symmetric
-pub same_number_sym : (a b : Number) → same_number a b ≡ same_number b a
-same_number_sym a b = go (same_number a b) (same_number b a) refl refl
-  where
-    go : (x y : Bool) → same_number a b ≡ x → same_number b a ≡ y → x ≡ y
-    go true true e f = refl
-    go false false e f = refl
-    go true false e f = let yes : same_number b a ≡ true = ap (λ m. same_number m a) (sym (same_is a b e)) ∙ same_number_refl a in cc
-    go false true e f = let yes : same_number a b ≡ true = ap (λ m. same_number m b) (sym (same_is b a f)) ∙ same_number_refl b in cc
-
 -- equal numbers are the same
 pub same_of : (a b : Number) → a ≡ b → same_number a b ≡ true
 same_of a b e = ap (same_number a) (sym e) ∙ same_number_refl a
@@ -101,7 +91,7 @@ distinct_none n (s ∷ rest) none =
     let all = tally_zero (has_mbuf n) (s ∷ rest) none in
     (same_number_sym n s.mbuf ∙ all.0, distinct_none n rest (omega (arith, none, tally-cons (has_mbuf n) s rest)))
 
-distinct_mbufs : (live : List Segment) → ((n : Number) → mbufs live n ≤ 1) → AreDistinct (map (λ s. s.mbuf) live)
+pub distinct_mbufs : (live : List Segment) → ((n : Number) → mbufs live n ≤ 1) → AreDistinct (map (λ s. s.mbuf) live)
 distinct_mbufs [] once = tt
 distinct_mbufs (s ∷ rest) once =
     let one : one_if (same_number s.mbuf s.mbuf) ≡ 1 = ap one_if (same_number_refl s.mbuf) in (
@@ -181,7 +171,7 @@ pub record AreFewer (live live' : List Segment) : Type 0 where
   pub buffers : (n : Number) → refs live' n ≤ refs live n
   pub indirects : (n : Number) → indirects live' n ≤ indirects live n
 
--- buffers keep their owners where no count grows
+-- buffers keep their owners if no count grows
 pub fewer_owned : (pools : List PoolSpec) (live live' : List Segment) → AreFewer live live' → AreOwned pools live → AreOwned pools live'
 fewer_owned pools live live' fewer owned =
     let counts = counts_of_owned pools live owned in

@@ -8,11 +8,11 @@ use Rattle.dp_model.specs.declared.registers.Width.{Width}
 use Rattle.dp_model.specs.Arithmetic.{bytes_in}
 use Rattle.dp_model.specs.Buffers.{Number, Buffers, ChangesOnly}
 use Rattle.dp_model.specs.Packets.{Packet, headroom, tailroom, first_len, last_len, AreFresh, IsHeadSole, IsTailSole, allocated, cloned, at_front, at_end}
-use Rattle.dp_model.specs.Packets.{more_before, less_before, more_behind, less_behind, zeroed_before, zeroed_behind, stored}
+use Rattle.dp_model.specs.Packets.{more_before, less_before, more_after, less_after, zeroed_before, zeroed_after, stored}
 use Rattle.dp_model.specs.Jumps.{label_of}
 use Rattle.dp_model.specs.Machine.{Setting, State, live, Next, At, Ended, Move, Acts, Holds, IsEmpty, branches, goes_on, moves_to, is_denied}
 use Rattle.dp_model.specs.Machine.{with_call, with_packet, without_packet, with_buffers, with_ring, with_outbox}
-use Rattle.dp_model.specs.Limits.{most_segments}
+use Rattle.dp_model.specs.Limits.{max_segments}
 use Rattle.dp_model.specs.Laws.Cases.{matched}
 use Rattle.dp_model.specs.Laws.Calculations.{calculated_next}
 
@@ -30,10 +30,10 @@ pub data Effect (c : Setting) (s : State) (m : Move) : Type 0 where
   Prepended : (p n : ℕ) (k : Packet) → Holds s p k → n ≤ headroom k → IsHeadSole (live s) k →
       m.state ≡ with_packet p (at_front (more_before n) k) (with_buffers (zeroed_before n k s.world.buffers) s) → m.answers ≡ [] → Effect c s m
   Appended : (p n : ℕ) (k : Packet) → Holds s p k → n ≤ tailroom c.env.pools k → IsTailSole (live s) k →
-      m.state ≡ with_packet p (at_end (more_behind n) k) (with_buffers (zeroed_behind n k s.world.buffers) s) → m.answers ≡ [] → Effect c s m
+      m.state ≡ with_packet p (at_end (more_after n) k) (with_buffers (zeroed_after n k s.world.buffers) s) → m.answers ≡ [] → Effect c s m
   Adjusted : (p n : ℕ) (k : Packet) → Holds s p k → n ≤ first_len k → m.state ≡ with_packet p (at_front (less_before n) k) s → m.answers ≡ [] → Effect c s m
-  Trimmed : (p n : ℕ) (k : Packet) → Holds s p k → n ≤ last_len k → m.state ≡ with_packet p (at_end (less_behind n) k) s → m.answers ≡ [] → Effect c s m
-  Chained : (p q : ℕ) (k t : Packet) → Holds s p k → Holds s q t → p ≢ q → length k + length t ≤ most_segments →
+  Trimmed : (p n : ℕ) (k : Packet) → Holds s p k → n ≤ last_len k → m.state ≡ with_packet p (at_end (less_after n) k) s → m.answers ≡ [] → Effect c s m
+  Chained : (p q : ℕ) (k t : Packet) → Holds s p k → Holds s q t → p ≢ q → length k + length t ≤ max_segments →
       m.state ≡ without_packet q (with_packet p (k ++ t) s) → m.answers ≡ [] → Effect c s m
   Stored : (p offset w n : ℕ) (k : Packet) → Holds s p k → offset + w ≤ first_len k → IsHeadSole (live s) k →
       m.state ≡ with_buffers (stored offset w n k s.world.buffers) s → m.answers ≡ [] → Effect c s m
@@ -81,7 +81,7 @@ module _ (c : Setting) (label : ℕ) (s : State) (i : Instr) (m : Move) where
   tested true l names is = did _ is (Kept refl refl) (inr names) quiet
   tested false l names is = did _ is (Kept refl refl) (inl refl) quiet
 
-  -- a packet leaves, or stays where the list is full
+  -- a packet leaves, or stays if the list is full
   left : (b : Bool) (l : ℕ) (s' : State) → label_of i ≡ Some l → m ≡ cond b (goes_on label s') (moves_to l s) → (effect : Effect c s (goes_on label s')) →
       ((written : Instr → Option ℕ) → NamesWritten written → WritesAt (written i) effect) → Did c label s i m
   left true l s' names is effect writes = did _ is effect (inl refl) writes

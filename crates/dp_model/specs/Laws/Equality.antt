@@ -76,7 +76,7 @@ environment_itself a =
     and_from _ _ (and_from _ _ (and_from _ _ (itself a.tables) ((pointwise_decides same_pool_decides a.pools a.pools).1 refl))
     ((pointwise_decides same_ring_decides a.rings a.rings).1 refl)) ((pointwise_decides same_port_decides a.ports a.ports).1 refl)
 
--- the test passes exactly where the two are equal
+-- the test passes exactly if the two are equal
 pub same_environment_decides : (a b : Environment) → Decides (same_environment a b) (a ≡ b)
 same_environment_decides a b = (
   λ h. let (h2, ports) = and_parts ((a.tables == b.tables) && pointwise same_pool a.pools b.pools && pointwise same_ring a.rings b.rings)

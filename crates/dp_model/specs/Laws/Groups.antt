@@ -1,6 +1,6 @@
 -- Internal: groups of registers: who belongs to which, and what edits of a row keep.
 use Rattle.std.proofs.Common.{◌≡◌, ◌≢◌, ℕ, zero, suc, ◌+◌, Bool, true, false, List, [], ◌∷◌, length, Option, Some, None, refl, ◌∙◌, ap, subst, arith, ◌⊎◌}
-use Rattle.std.proofs.Common.{◌-◌, cond, sym, inl, inr, ⊎_elim, ◌&&◌, get_or}
+use Rattle.std.proofs.Common.{◌-◌, ◌≤◌, cond, sym, inl, inr, ⊎_elim, ◌&&◌, get_or}
 use Rattle.std.specs.Prelude.{slice_get, slice_set, option_and_then, nat_le, ◌==◌, ◌≢◌}
 use Rattle.std.specs.Option.{option_map_or}
 use Rattle.std.proofs.lemmas.Option.{same_Some}
@@ -15,12 +15,12 @@ use Rattle.dp_model.specs.declared.row.Fact.TheVariants.{Empty, Held}
 use Rattle.dp_model.specs.declared.row.Row.{Row}
 use Rattle.dp_model.specs.declared.row.Holding.{Holding}
 use Rattle.dp_model.specs.Rows.{holding, group_at, with_shares, dissolved, is_well_formed_row, is_fact_of_row, held, held_at, with_fact, changed}
-use Rattle.dp_model.specs.Rows.{emptied}
+use Rattle.dp_model.specs.Rows.{emptied, shared, chained_share, owns_head}
 use Rattle.dp_model.specs.Groups.{group_of, is_in, size, share_of_group, belongs, reshared_fact, reshared, same_registers, least, is_group, are_groups}
 use Rattle.dp_model.specs.Laws.Lists.{get_set_other, get_set_same, all_at}
 use Rattle.dp_model.specs.Laws.Cases.{one_if, by_cases}
 
--- a test of an optional value can be true only where there is one
+-- a test of an optional value can be true only if there is one
 pub map_or_true : {X : Type 0} (test : X → Bool) (o : Option X) → option_map_or test o false ≡ true → (x : X) × (o ≡ Some x) × (test x ≡ true)
 map_or_true test None h = cc
 map_or_true test (Some x) h = (x, refl, h)
@@ -29,7 +29,7 @@ map_or_true test (Some x) h = (x, refl, h)
 pub size-cons : (f : Fact) (facts : List Fact) (g : ℕ) → size (f ∷ facts) g ≡ one_if (is_in g f) + size facts g
 size-cons f facts g = sum_by-cons (λ x. cond (is_in g x) 1 0) f facts
 
--- equal sizes where the same registers belong
+-- equal sizes if the same registers belong
 pub size_same : (xs ys : List Fact) (g h : ℕ) → length xs ≡ length ys → ((i : ℕ) → belongs xs g i ≡ belongs ys h i) → size xs g ≡ size ys h
 size_same [] [] g h e same = refl
 size_same [] (y ∷ ys) g h e same = absurd (omega arith)
@@ -38,7 +38,7 @@ size_same (x ∷ xs) (y ∷ ys) g h e same =
     let here : one_if (is_in g x) ≡ one_if (is_in h y) = ap one_if (same 0) in
     omega (arith, here, size-cons x xs g, size-cons y ys h, size_same xs ys g h (omega arith) (λ i. same (suc i)))
 
--- a register belongs to a group where its fact says so
+-- a register belongs to a group if its fact says so
 pub belongs_at : (facts : List Fact) (g p : ℕ) (f : Fact) → slice_get facts p ≡ Some f → belongs facts g p ≡ is_in g f
 belongs_at facts g p f e = ap (λ o. option_map_or (is_in g) o false) e
 
@@ -68,6 +68,15 @@ sole_no_group g = ne_eqb 2 (8 + g) (λ e. absurd (omega (arith, e)))
 -- the share of a loose packet is no group's
 pub loose_no_group : (g : ℕ) → (0 == share_of_group g) ≡ false
 loose_no_group g = not_group g
+
+-- nor is that of chained packets
+pub chained_no_group : (a b g : ℕ) → (chained_share a b == share_of_group g) ≡ false
+chained_no_group a b g = ne_eqb (chained_share a b) (8 + g) (λ e. absurd (omega (arith, e, most ((a == 2) && (b == 2)) (owns_head a))))
+  where
+    most : (x y : Bool) → cond x 2 (cond y 1 0) ≤ 2
+    most true y = omega arith
+    most false true = omega arith
+    most false false = omega arith
 
 -- two groups have two names
 pub other_group : (m x : ℕ) → m ≢ x → (share_of_group m == share_of_group x) ≡ false
@@ -128,6 +137,15 @@ belongs_out [] x g share i e = refl
 belongs_out (f ∷ facts) x g share zero e = reshared_out x g share f e
 belongs_out (f ∷ facts) x g share (suc i) e = belongs_out facts x g share i e
 
+-- all of a group get another share
+pub reshared_at : (facts : List Fact) (g n q : ℕ) (h : Holding) → slice_get facts q ≡ Some (held h) → (h.share == share_of_group g) ≡ true →
+    slice_get (reshared g n facts) q ≡ Some (held (shared n h))
+reshared_at [] g n q h e inside = cc
+reshared_at (f ∷ facts) g n zero h e inside =
+    let is : f ≡ held h = same_Some f (held h) e in
+    ap (λ x. Some (reshared_fact g n x)) is ∙ ap (λ b. Some (held (shared (cond b n h.share) h))) inside
+reshared_at (f ∷ facts) g n (suc q) h e inside = reshared_at facts g n q h e inside
+
 -- two rows with the same registers in a group: each register belongs to it in both or in neither
 pub same_at : (xs ys : List Fact) (g : ℕ) → same_registers xs ys g ≡ true → (length ys ≡ length xs) × ((i : ℕ) → belongs ys g i ≡ belongs xs g i)
 same_at [] [] g e = (refl, λ i. refl)
@@ -142,7 +160,7 @@ same_at (x ∷ xs) (y ∷ ys) g e =
     at first each zero = first
     at first each (suc i) = each i
 
--- where each group of a row is kept, so is the group of each fact
+-- if each group of a row is kept, so is the group of each fact
 pub kept_at : (as' : List Fact) (bs : List Fact) (i g : ℕ) (f : Fact)
     → list_all (λ other. option_map_or (same_registers as' bs) (group_of other) true) bs ≡ true → slice_get bs i ≡ Some f → is_in g f ≡ true
     → same_registers as' bs g ≡ true
@@ -205,7 +223,7 @@ least_belongs facts g m e = or_at facts m ∙ (position-Some (is_in g) facts m E
     or_at (f ∷ facts) zero = refl
     or_at (f ∷ facts) (suc m) = or_at facts m
 
--- where any register belongs to a group, the one that names it does
+-- if any register belongs to a group, the one that names it does
 pub named_by : (facts : List Fact) (g i : ℕ) → are_groups facts ≡ true → belongs facts g i ≡ true → belongs facts g g ≡ true
 named_by facts g i e inside =
     let (f, at, is) = belongs_there facts g i inside in
@@ -215,7 +233,7 @@ named_by facts g i e inside =
     (and_parts (nat_le 2 (size facts g)) (option_map_or (λ p. p == g) (least facts g) false) group).1 in
     subst (λ n. belongs facts g n ≡ true) (eqb-true p g same) (least_belongs facts g p first)
 
--- where the register that would name a group is not in it, no register is
+-- if the register that would name a group is not in it, no register is
 pub unnamed : (facts : List Fact) (m : ℕ) → are_groups facts ≡ true → belongs facts m m ≡ false → (i : ℕ) → belongs facts m i ≡ false
 unnamed facts m e out i = by_cases (belongs facts m i) (λ inside. let wrong : true ≡ false = sym (named_by facts m i e inside) ∙ out in cc) (λ outside. outside)
 

@@ -7,7 +7,7 @@ use Rattle.std.proofs.lemmas.Bool.{leb-true, and_parts}
 use Rattle.std.proofs.lemmas.Iterator.Adapters.{position_from-zero}
 use Rattle.dp_model.specs.declared.env.PortSpec.{PortSpec}
 use Rattle.dp_model.specs.declared.env.EnvError.TheVariants.{BadNumber, BadPort}
-use Rattle.dp_model.specs.Limits.{most_segments, least_port_room}
+use Rattle.dp_model.specs.Limits.{max_segments, min_port_room}
 use Rattle.dp_model.specs.Environments.{Environment, room_at, is_ring_count, port_fits, numbers_fit, fault_of}
 use Rattle.dp_model.specs.Rows.{segs_at}
 
@@ -24,7 +24,7 @@ numbers_known e h =
     let (h5, pools) = and_parts (nat_le 1 (length e.pools)) (nat_le (length e.pools) 8) h4 in
     (leb-true (length e.pools) 8 pools, leb-true (length e.rings) 8 rings, leb-true (length e.ports) 8 ports)
 
--- no fault where the test is true, and none after it
+-- no fault if the test is true, and none after it
 pub if_none : {X : Type 0} → (b : Bool) (a : Option X) (x : X) → (if b then a else Some x) ≡ None → (b ≡ true) × (a ≡ None)
 if_none true a x h = (refl, h)
 if_none false a x h = cc
@@ -34,7 +34,7 @@ pub or_none : {X : Type 0} → (a b : Option X) → option_or a b ≡ None → (
 or_none None b h = (refl, h)
 or_none (Some x) b h = cc
 
--- no fault of a kind where there is none
+-- no fault of a kind if there is none
 pub map_none : {X Y : Type 0} → (f : X → Y) (o : Option X) → option_map f o ≡ None → o ≡ None
 map_none f None h = refl
 map_none f (Some x) h = cc
@@ -44,7 +44,7 @@ pub not_false : (b : Bool) → not b ≡ false → b ≡ true
 not_false true h = refl
 not_false false h = cc
 
-step_none : (b : Bool) (i : ℕ) (r : Option ℕ) → cond b (Some i) r ≡ None → (b ≡ false) × (r ≡ None)
+pub step_none : (b : Bool) (i : ℕ) (r : Option ℕ) → cond b (Some i) r ≡ None → (b ≡ false) × (r ≡ None)
 step_none true i r h = cc
 step_none false i r h = (refl, h)
 
@@ -53,7 +53,7 @@ from_none test (y ∷ xs) i zero x h e = let here = (step_none (test y) i (posit
 from_none test (y ∷ xs) i (suc k) x h e = from_none test xs (i + 1) k x (step_none (test y) i (position_from test (i + 1) xs) h).1 e
 from_none test [] i k x h e = cc
 
--- where no element passes a test, a given one does not
+-- if no element passes a test, a given one does not
 pub none_at : {X : Type 0} → (test : X → Bool) (xs : List X) (k : ℕ) (x : X) → position test xs ≡ None → slice_get xs k ≡ Some x → test x ≡ false
 none_at test xs k x h e = from_none test xs 0 k x (sym (position_from-zero test xs) ∙ h) e
 
@@ -65,10 +65,10 @@ pub numbers_pass : (e : Environment) → fault_of e ≡ None → numbers_fit e �
 numbers_pass e h = (if_none (numbers_fit e) _ BadNumber h).0
 
 -- a port takes packets of at most 64 segments
-pub segs_small : (e : Environment) (k segs : ℕ) → fault_of e ≡ None → segs_at e.ports k ≡ Some segs → segs ≤ most_segments
+pub segs_small : (e : Environment) (k segs : ℕ) → fault_of e ≡ None → segs_at e.ports k ≡ Some segs → segs ≤ max_segments
 segs_small e k segs h is = go (slice_get e.ports k) refl is
   where
-    go : (o : Option PortSpec) → slice_get e.ports k ≡ o → option_map (λ p. p.segs) o ≡ Some segs → segs ≤ most_segments
+    go : (o : Option PortSpec) → slice_get e.ports k ≡ o → option_map (λ p. p.segs) o ≡ Some segs → segs ≤ max_segments
     go None here is = absurd cc
     go (Some p) here is =
         let fits = not_false (port_fits e.pools p) (none_at (λ p. not (port_fits e.pools p)) e.ports k p (ports_pass e h) here) in
@@ -79,7 +79,7 @@ segs_small e k segs h is = go (slice_get e.ports k) refl is
 
 -- the pools of ports have buffers with room for bytes
 abbrev pub HaveRoom : Environment → Type 0
-HaveRoom env = (port : ℕ) (spec : PortSpec) → slice_get env.ports port ≡ Some spec → least_port_room ≤ room_at env.pools spec.pool
+HaveRoom env = (port : ℕ) (spec : PortSpec) → slice_get env.ports port ≡ Some spec → min_port_room ≤ room_at env.pools spec.pool
 
 -- so they have
 pub ports_have_room : (e : Environment) → fault_of e ≡ None → HaveRoom e

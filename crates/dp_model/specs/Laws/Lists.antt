@@ -1,6 +1,6 @@
 -- Internal: lists: what a write keeps, and what holds of each element.
 use Rattle.std.proofs.Common.{◌≡◌, ◌≢◌, ℕ, zero, suc, ◌+◌, Bool, true, List, [], ◌∷◌, ◌++◌, Some, refl, ap, arith, ◌<◌, length, subst, ◌&&◌, add-one, drop}
-use Rattle.std.proofs.Common.{slice_get, slice_set, take}
+use Rattle.std.proofs.Common.{slice_get, slice_set, take, sym, map, get_or, replicate}
 use Rattle.std.specs.Prelude.{slice_get, slice_set}
 use Rattle.std.proofs.lemmas.Option.{same_Some}
 use Rattle.std.specs.List.{AllByRecursion, AllZip, list_all}
@@ -20,6 +20,30 @@ pub get_set_same : {X : Type 0} (xs : List X) (p : ℕ) (x y : X) → slice_get 
 get_set_same [] p x y h = cc
 get_set_same (z ∷ xs) zero x y h = refl
 get_set_same (z ∷ xs) (suc p) x y h = get_set_same xs p x y h
+
+-- an element that is written where it is
+pub set_itself : {X : Type 0} (xs : List X) (p : ℕ) (x : X) → slice_get xs p ≡ Some x → slice_set xs p x ≡ xs
+set_itself [] p x h = refl
+set_itself (y ∷ xs) zero x h = ap (λ z. z ∷ xs) (sym (same_Some y x h))
+set_itself (y ∷ xs) (suc p) x h = ap (λ z. y ∷ z) (set_itself xs p x h)
+
+-- an element's image
+pub map_get : {X Y : Type 0} (f : X → Y) (xs : List X) (i : ℕ) (x : X) → slice_get xs i ≡ Some x → slice_get (map f xs) i ≡ Some (f x)
+map_get f [] i x e = cc
+map_get f (y ∷ xs) zero x e = ap (λ x. Some (f x)) (same_Some y x e)
+map_get f (y ∷ xs) (suc i) x e = map_get f xs i x e
+
+-- a list of one value, read with that value as the default
+pub get_replicate : {X : Type 0} (n i : ℕ) (x : X) → get_or (replicate n x) i x ≡ x
+get_replicate zero i x = refl
+get_replicate (suc n) zero x = refl
+get_replicate (suc n) (suc i) x = get_replicate n i x
+
+-- the first elements, and one more
+pub take_more : {X : Type 0} (xs : List X) (i : ℕ) (x : X) → slice_get xs i ≡ Some x → take (suc i) xs ≡ take i xs ++ x ∷ []
+take_more [] i x e = cc
+take_more (y ∷ xs) zero x e = ap (λ z. z ∷ []) (same_Some y x e)
+take_more (y ∷ xs) (suc i) x e = ap (λ l. y ∷ l) (take_more xs i x e)
 
 -- each index within the length has an element
 pub get_within : {X : Type 0} (xs : List X) (i : ℕ) → i < length xs → (x : X) × (slice_get xs i ≡ Some x)
@@ -51,6 +75,11 @@ pub each_at : {X : Type 0} (P : X → Type 0) (xs : List X) (p : ℕ) (x : X) �
 each_at P [] p x all e = cc
 each_at P (y ∷ xs) zero x all e = subst P (same_Some y x e) all.0
 each_at P (y ∷ xs) (suc p) x all e = each_at P xs p x all.1 e
+
+-- and what holds of each holds of all
+pub each_slot : {X : Type 0} (P : X → Type 0) (xs : List X) → ((k : ℕ) (x : X) → slice_get xs k ≡ Some x → P x) → AllByRecursion P xs
+each_slot P [] all = tt
+each_slot P (x ∷ xs) all = (all 0 x refl, each_slot P xs (λ k y h. all (suc k) y h))
 
 -- tests at each index, from one on
 each_step : {A : Type 0} → (test : A → A → Bool) (xs ys : List A) (i : ℕ) (x y : A) → slice_get xs i ≡ Some x → slice_get ys i ≡ Some y

@@ -1,11 +1,12 @@
 -- Internal: references: what each packet adds, and what registers hold.
-use Rattle.std.proofs.Common.{◌≡◌, ◌≢◌, ℕ, zero, suc, ◌+◌, ◌≤◌, true, cond, List, [], ◌∷◌, ◌++◌, Option, Some, None, refl, ◌∙◌, ap, arith, false, not, ◌||◌}
+use Rattle.std.proofs.Common.{◌≡◌, ◌≢◌, ℕ, zero, suc, ◌+◌, ◌≤◌, true, cond, List, [], ◌∷◌, ◌++◌, Option, Some, None, refl, sym, ◌∙◌, ap, arith}
+use Rattle.std.proofs.Common.{false, not, ◌||◌}
 use Rattle.std.specs.Prelude.{slice_get, slice_set}
 use Rattle.std.proofs.lemmas.List.Sums.{sum_by-append, sum_by-cons}
 use Rattle.std.proofs.lemmas.Option.{same_Some}
 use Rattle.std.proofs.lemmas.Bool.{and_parts, not-true, or_parts}
 use Rattle.dp_model.specs.Buffers.{Number, same_number}
-use Rattle.dp_model.specs.Packets.{Segment, Packet, refs, IsSole, is_free}
+use Rattle.dp_model.specs.Packets.{Segment, Packet, refs, IsSole, IsHeadSole, is_free}
 use Rattle.dp_model.specs.Machine.{segments_held, segments_listed, State, live}
 use Rattle.dp_model.specs.Meaning.{IsShared}
 use Rattle.dp_model.specs.Laws.Cases.{one_if}
@@ -65,7 +66,7 @@ refs_first s rest =
     let e : cond (same_number s.buffer s.buffer) one 0 ≡ one = ap (λ b. cond b one 0) (same_number_refl s.buffer) in
     omega (arith, e, refs-cons s rest s.buffer)
 
--- a sole packet stays sole where its buffers keep their one reference
+-- a sole packet stays sole if its buffers keep their one reference
 pub sole_kept : (live live' k rest : List Segment) → Keeps live live' k → ((b : Number) → 1 ≤ refs rest b → 1 ≤ refs k b) → IsSole live rest → IsSole live' rest
 sole_kept live live' k [] keeps part h = tt
 sole_kept live live' k (s ∷ rest) keeps part h =
@@ -98,3 +99,8 @@ live_parts s b =
       refs-append (segments_held s.packets) (segments_listed s.world.rings ++ segments_listed s.world.outboxes) b,
       refs-append (segments_listed s.world.rings) (segments_listed s.world.outboxes) b,
     )
+
+-- a packet whose first buffer has one reference has a sole head
+pub head_sole : (live : List Segment) (k : Packet) (r : ℕ) → ((s : Segment) → slice_get k 0 ≡ Some s → r ≡ refs live s.buffer) → r ≡ 1 → IsHeadSole live k
+head_sole live [] r f one = tt
+head_sole live (s ∷ k) r f one = sym (f s refl) ∙ one

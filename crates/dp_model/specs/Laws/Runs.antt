@@ -7,7 +7,7 @@ use Rattle.dp_model.specs.declared.env.PoolSpec.{PoolSpec}
 use Rattle.dp_model.specs.Packets.{Segment, AreOwned}
 use Rattle.dp_model.specs.Machine.{Setting, World, live, segments_listed}
 use Rattle.dp_model.specs.Meaning.{RingHolds, TablesFit}
-use Rattle.dp_model.specs.Runs.{Outcome, between, Nodes, Turn, Arrival, Shown, Run, records_at, with_empty_outboxes, joined, NodeRun, NeverStuck}
+use Rattle.dp_model.specs.Runs.{Outcome, between, Nodes, Turn, Arrival, Observed, Run, records_at, with_empty_outboxes, joined, NodeRun, NeverStuck}
 use Rattle.dp_model.specs.Starts.{IsStart}
 use Rattle.dp_model.specs.Safety.{IsPacket, ArePackets, IsAtRest, Beginning, IsSafeBeginning}
 use Rattle.dp_model.specs.Laws.{Ready}
@@ -52,7 +52,7 @@ module _ {A : Type 0} where
       ∙ ap (λ as_. (x ++ (y ++ z)) ∷ as_) (joined_assoc xs ys zs)
 
 -- what a run shows after one more turn
-abbrev pub with_turn : {T : Type 0} → T → Outcome → List Bool → World → Shown T → Shown T
+abbrev pub with_turn : {T : Type 0} → T → Outcome → List Bool → World → Observed T → Observed T
 with_turn time outcome answers w shown = record {
   answers = shown.answers ++ answers;
   outcomes = shown.outcomes ++ outcome ∷ [];
@@ -60,7 +60,7 @@ with_turn time outcome answers w shown = record {
 }
 
 -- a run and one more turn is a run
-pub run_push : {T : Type 0} (c : Setting) (nodes : Nodes) (arrivals : List (Arrival T)) (a : Arrival T) (w v mid : World) (shown : Shown T)
+pub run_push : {T : Type 0} (c : Setting) (nodes : Nodes) (arrivals : List (Arrival T)) (a : Arrival T) (w v mid : World) (shown : Observed T)
     (outcome : Outcome) (runs : ℕ) (answers : List Bool) → length mid.outboxes ≡ length c.env.ports → Run c nodes arrivals w shown v
     → Turn c nodes a.port a.bytes v outcome runs answers mid → Run c nodes (arrivals ++ a ∷ []) w (with_turn a.time outcome answers mid shown)
     (with_empty_outboxes mid)
@@ -71,7 +71,7 @@ run_push {T} c nodes [] a w v mid shown outcome runs answers ports (none, is) tu
     let only : joined nothing records ≡ joined records nothing = joined_none_left (length c.env.ports) records long
     ∙ sym (joined_none_right (length c.env.ports) records long) in
     let flat : answers ≡ answers ++ [] = sym (append-nil answers) in
-    let last : Shown T = record { answers = []; outcomes = []; captures = nothing } in
+    let last : Observed T = record { answers = []; outcomes = []; captures = nothing } in
     let same : with_turn a.time outcome answers mid last ≡ record { answers = answers ++ []; outcomes = outcome ∷ []; captures = joined records nothing } =
     λ i. record { answers = flat i; outcomes = outcome ∷ []; captures = only i } in (
       outcome,

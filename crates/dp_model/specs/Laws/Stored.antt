@@ -1,11 +1,13 @@
 -- Internal: the bytes of buffers after one of them is written.
 use Rattle.std.proofs.Common.{◌≡◌, ◌≢◌, ℕ, zero, suc, ◌+◌, ◌-◌, ◌≤◌, true, List, [], ◌∷◌, ◌++◌, refl, ◌∙◌, ap, arith, ◌<◌, false, length, sym, subst, get_or}
-use Rattle.std.proofs.Common.{set, ⊎_elim, ◌⊎◌, take, drop, inl, inr, length-append, length-take, length-drop}
-use Rattle.std.proofs.lemmas.Bool.{eq-eqb, and_from, and_parts, eqb-true, cases_eq, cases_lt, both_ways, cases_Bool}
+use Rattle.std.proofs.Common.{Bool, set, ⊎_elim, ◌⊎◌, take, drop, inl, inr, length-append, length-take, length-drop}
+use Rattle.std.proofs.lemmas.Bool.{eq-eqb, and_from, and_parts, eqb-true, cases_eq, cases_lt, both_ways, cases_Bool, or_parts}
 use Rattle.std.proofs.Math.ListN.{get_or-append}
 use Rattle.std.specs.Prelude.{slice_range}
+use Rattle.std.specs.List.{AllByRecursion}
 use Rattle.std.proofs.lemmas.List.{get_or-set_same, get_or-set_other, set_past, get_or-append-add, get_or-take, get_or-drop, length-take-le, ext_get_or}
-use Rattle.dp_model.specs.Buffers.{Number, same_number, Buffers, bytes_of, with_bytes, overwritten}
+use Rattle.dp_model.specs.Buffers.{Number, same_number, Buffers, bytes_of, with_bytes, overwritten, written, ChangesOnly}
+use Rattle.dp_model.specs.Laws.Lists.{all_join, all_take, all_drop}
 
 -- a number is the same as itself
 pub same_number_refl : (n : Number) → same_number n n ≡ true
@@ -20,6 +22,16 @@ pub same_is : (a b : Number) → same_number a b ≡ true → a ≡ b
 same_is a b h =
     let t = and_parts _ _ h in
     number_path a b (eqb-true a.pool b.pool t.0) (eqb-true a.index b.index t.1)
+
+-- `same_number` is symmetric
+pub same_number_sym : (a b : Number) → same_number a b ≡ same_number b a
+same_number_sym a b = go (same_number a b) (same_number b a) refl refl
+  where
+    go : (x y : Bool) → same_number a b ≡ x → same_number b a ≡ y → x ≡ y
+    go true true e f = refl
+    go false false e f = refl
+    go true false e f = let yes : same_number b a ≡ true = ap (λ m. same_number m a) (sym (same_is a b e)) ∙ same_number_refl a in cc
+    go false true e f = let yes : same_number a b ≡ true = ap (λ m. same_number m b) (sym (same_is b a f)) ∙ same_number_refl b in cc
 
 inner : (xs : List (List ℕ)) (i j : ℕ) (bytes : List ℕ) → i ≢ j → get_or (set xs i bytes) j [] ≡ get_or xs j []
 inner xs i j bytes apart = get_or-set_other xs i j bytes [] (λ e. apart (sym e))
@@ -50,7 +62,7 @@ there_outside [] p i h = absurd (omega arith)
 there_outside (x ∷ xs) zero i h = omega arith
 there_outside (x ∷ xs) (suc p) i h = omega (arith, there_outside xs p i h)
 
--- the new bytes of a buffer, where it exists
+-- the new bytes of a buffer, if it exists
 pub bytes_same : (buffers : Buffers) (n : Number) (bytes : List ℕ) → 0 < length (bytes_of buffers n) → bytes_of (with_bytes buffers n bytes) n ≡ bytes
 bytes_same buffers n bytes some =
     ap (λ xs. get_or xs n.index [])
@@ -93,6 +105,21 @@ length_overwritten old new start h =
       length-drop (start + length new) old,
     )
 
+-- a write within a buffer changes that buffer only
+pub write_changes : (old : Buffers) (n : Number) (offset : ℕ) (new : List ℕ) → offset + length new ≤ length (bytes_of old n) →
+    AllByRecursion (λ x. x < 256) new → ChangesOnly (n ∷ []) old (written old n offset new)
+write_changes old n offset new fits small =
+    let bytes = overwritten (bytes_of old n) offset new in
+    record {
+      others = λ b apart. bytes_other old n b bytes (same_number_sym n b ∙ (or_parts (same_number b n) false apart).0);
+      lengths = λ b. written_each (λ xs. length xs ≡ length (bytes_of old b)) old n b bytes refl (λ e. length_overwritten (bytes_of old n) new offset fits
+          ∙ ap (λ m. length (bytes_of old m)) e);
+      bytes = λ well b. written_each (AllByRecursion (λ x. x < 256)) old n b bytes (well b)
+          (λ e. all_join (λ x. x < 256) (take offset (bytes_of old n)) (new
+          ++ drop (offset + length new) (bytes_of old n)) (all_take offset (bytes_of old n) (well n))
+          (all_join (λ x. x < 256) new (drop (offset + length new) (bytes_of old n)) small (all_drop (offset + length new) (bytes_of old n) (well n))));
+    }
+
 -- a byte before the write stays
 overwritten_before : (old new : List ℕ) (start k : ℕ) → start ≤ length old → k < start → get_or (overwritten old start new) k 0 ≡ get_or old k 0
 overwritten_before old new start k fits less =
@@ -111,9 +138,9 @@ overwritten_in old new start k fits from to =
     ∙ get_or-append new (drop (start + length new) old) 0 (k - start) (omega (arith, from, to))
 
 -- a byte after it stays
-overwritten_behind : (old new : List ℕ) (start k : ℕ) → start ≤ length old → start + length new ≤ k
+overwritten_after : (old new : List ℕ) (start k : ℕ) → start ≤ length old → start + length new ≤ k
     → get_or (overwritten old start new) k 0 ≡ get_or old k 0
-overwritten_behind old new start k fits past =
+overwritten_after old new start k fits past =
     let front : length (take start old) ≡ start = length-take-le start old fits in
     let rest : ℕ = k - start - length new in
     let at : k ≡ length (take start old) + (length new + rest) = omega (arith, front, past) in
@@ -169,8 +196,8 @@ range_overwritten old new offset len start short long =
         (λ to. overwritten_in old new (offset + start) (offset + k) (omega (arith, short, long)) (omega (arith, from)) (omega (arith, to))
         ∙ ap (λ j. get_or new j 0) (moved k from)
         ∙ sym (overwritten_in part new start k (omega (arith, many, short)) from to))
-        (λ past. overwritten_behind old new (offset + start) (offset + k) (omega (arith, short, long)) (omega (arith, past))
+        (λ past. overwritten_after old new (offset + start) (offset + k) (omega (arith, short, long)) (omega (arith, past))
         ∙ sym (range_at old offset len k less)
-        ∙ sym (overwritten_behind part new start k (omega (arith, many, short)) past))
+        ∙ sym (overwritten_after part new start k (omega (arith, many, short)) past))
         (cases_lt k (start + length new)))
         (cases_lt k start)

@@ -10,12 +10,12 @@ use Rattle.dp_model.specs.declared.row.Holding.{Holding}
 use Rattle.dp_model.specs.Rows.{holding}
 use Rattle.dp_model.specs.Machine.{live, segments_listed}
 use Rattle.dp_model.specs.Meaning.{Meets, Describes, RingHolds}
-use Rattle.dp_model.specs.Runs.{Waiting, behind, first_waiting}
+use Rattle.dp_model.specs.Runs.{Waiting, beyond, first_waiting}
 use Rattle.dp_model.specs.Laws.References.{refs-append, Keeps, share_kept}
 use Rattle.dp_model.specs.Laws.Lists.{all_left, all_right, all_join}
 
 module _ (pools : List PoolSpec) where
-  -- a packet satisfies a fact as before where its buffers keep their one reference
+  -- a packet satisfies a fact as before if its buffers keep their one reference
   pub meets_kept : (live live' : List Segment) (h : Holding) (k : Packet) → Keeps live live' k → Meets pools live h k → Meets pools live' h k
   meets_kept live live' h k keeps m =
       record {
@@ -69,9 +69,9 @@ waits ([] ∷ rings) next e = later (first_waiting rings) refl (waits rings)
   where
     later : (o : Option (Waiting Packet)) → first_waiting rings ≡ o
         → ((n : Waiting Packet) → first_waiting rings ≡ Some n → IsTaken rings n) → IsTaken ([] ∷ rings) next
-    later None f rest = let no : None ≡ Some next = sym (ap (option_map (behind [])) f) ∙ e in cc
+    later None f rest = let no : None ≡ Some next = sym (ap (option_map (beyond [])) f) ∙ e in cc
     later (Some n) f rest =
-        let same : behind [] n ≡ next = same_Some (behind [] n) next (sym (ap (option_map (behind [])) f) ∙ e) in
+        let same : beyond [] n ≡ next = same_Some (beyond [] n) next (sym (ap (option_map (beyond [])) f) ∙ e) in
         let (packets, there, are) = rest n f in
         subst (IsTaken ([] ∷ rings)) same (packets, there, ap (λ r. [] ∷ r) are)
 waits ((k ∷ packets) ∷ rings) next e =

@@ -47,7 +47,7 @@ all_held P (Some j ∷ packets) (suc p) k all h = all_held P packets p k (all_ri
 pub inside_held : (c : Setting) (s : State) (p : ℕ) (k : Packet) → IsInside c s → Holds s p k → AllByRecursion (Lies c.env.pools) k
 inside_held c s p k well holds = all_held (Lies c.env.pools) s.packets p k (parts (Lies c.env.pools) s well.lie).held holds
 
--- a received packet's segments lie within their buffers, where there are enough of them
+-- a received packet's segments lie within their buffers, if there are enough of them
 pub lies_received : (pools : List PoolSpec) (segments : List Segment) (pool : ℕ) (ns : List Number) (len : ℕ) → default_headroom ≤ room_at pools pool
     → len ≤ length ns * (room_at pools pool - default_headroom) → AllByRecursion (IsFresh pools segments pool) ns
     → AllByRecursion (Lies pools) (received (room_at pools pool) ns len)

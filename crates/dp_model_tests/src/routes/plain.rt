@@ -1,4 +1,4 @@
-//! The plain form of a table: one list of rules, of which each call reads all.
+//! The plain form of a table: one list of rules, all of which each call reads.
 
 use dp_lpm::LpmError;
 use std::alloc::{AllocError, Global};

@@ -158,7 +158,7 @@ fn read_all<R: Feed, A: Abort>(rt: &A, r: &mut R, buf: &mut Vec<u8>) -> Result<u
     Ok(count)
 }
 
-// A record is truncated where its packet had more bytes than were captured, whether it is at hand or read in parts.
+// A record is truncated if its packet had more bytes than were captured, whether it is at hand or read in parts.
 #[test]
 fn truncated_records_are_counted(rt: HostRuntime) -> Result<(), Fail> {
     let mut buf = vec![in rt.alloc(); 0u8; ROOM]?;
@@ -276,7 +276,7 @@ fn a_failed_reader_is_left_alone(rt: HostRuntime) -> Result<(), Fail> {
 
 // The same with a buffer in between.
 #[test]
-fn a_failed_reader_behind_a_buffer_is_left_alone(rt: HostRuntime) -> Result<(), Fail> {
+fn a_failed_reader_with_a_buffer_is_left_alone(rt: HostRuntime) -> Result<(), Fail> {
     let inner = BufReader::with_capacity(rt.alloc(), 64, FailsOnce { count: 0 })?;
     let mut r = OfBufReader::new(inner);
     assert_eq!(rt; read_header(&mut r).err(), Some(PcapError::Read));
@@ -374,9 +374,9 @@ fn a_failed_writer_is_left_alone(rt: HostRuntime) -> Result<(), Fail> {
     Ok(())
 }
 
-// Behind a buffer too, whether it is smaller than a piece or holds some.
+// With a buffer too, whether it is smaller than a piece or holds some.
 #[test]
-fn a_failed_writer_behind_a_buffer_is_left_alone(rt: HostRuntime) -> Result<(), Fail> {
+fn a_failed_writer_with_a_buffer_is_left_alone(rt: HostRuntime) -> Result<(), Fail> {
     for (room, sound) in [(0usize, 0usize), (8, 0), (25, 1), (60, 2)] {
         let inner = BufWriter::with_capacity(rt.alloc(), room, RefusesOnce { count: 0 })?;
         let mut w = OfBufWriter::new(inner);

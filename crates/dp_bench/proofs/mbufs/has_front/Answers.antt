@@ -1,7 +1,7 @@
 use Rattle.std.proofs.Common.{◌≡◌, arith, rules}
 use Rattle.std.proofs.lemmas.Bool.{leb-true}
 use Rattle.dp_model.specs.Stores.{segments_of}
-use Rattle.dp_bench.proofs.Packets.{head_sole}
+use Rattle.dp_model.specs.Laws.References.{head_sole}
 use Rattle.dp_bench.proofs.mbufs.has_front.Goals as goal
 
 pub returns : goal.returns

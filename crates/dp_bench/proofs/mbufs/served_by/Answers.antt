@@ -1,5 +1,6 @@
 use Rattle.std.proofs.Common.{◌∙◌}
-use Rattle.dp_bench.proofs.Packets.{alloc_live, alloc_pools, live_kept, some_kept, room_kept, returned}
+use Rattle.dp_model.specs.Laws.Stores.{alloc_live}
+use Rattle.dp_bench.proofs.Packets.{alloc_pools, live_kept, some_kept, room_kept, returned}
 use Rattle.dp_bench.proofs.mbufs.served_by.Goals as goal
 
 pub served_beside-served-requires-clause-live : goal.served_beside-served-requires-clause-live

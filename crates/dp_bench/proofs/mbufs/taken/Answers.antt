@@ -1,5 +1,6 @@
-use Rattle.dp_bench.proofs.Packets.{alloc_live, alloc_back}
+use Rattle.dp_bench.proofs.Packets.{alloc_back}
 use Rattle.std.proofs.Common.{◌∙◌}
+use Rattle.dp_model.specs.Laws.Stores.{alloc_live}
 use Rattle.dp_bench.proofs.mbufs.taken.Goals as goal
 
 pub free-requires : goal.free-requires

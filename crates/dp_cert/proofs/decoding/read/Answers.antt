@@ -9,16 +9,16 @@ pub returns-in_default : goal.returns-in_default
 returns-in_default c = no_version c.args.n c.args.text.now (sym c.version_in.ensures ∙ c.in_default.is)
 
 -- the bytes after the first line
-behind : (text : List ℕ) → take (length text - 11) (drop 11 text) ≡ drop 11 text
-behind text = take_all (length text - 11) (drop 11 text) (omega (arith, length-drop 11 text))
+beyond : (text : List ℕ) → take (length text - 11) (drop 11 text) ≡ drop 11 text
+beyond text = take_all (length text - 11) (drop 11 text) (omega (arith, length-drop 11 text))
 
 pub returns : goal.returns
 returns c =
     all_of c.args.n c.args.text.now c.in-Some.version c.in_ok-rows.rows.items c.of_version.result (sym c.version_in.ensures ∙ c.in-Some.is)
-    (rw (behind c.args.text.now) at c.in_ok-rows.ensures.exact) c.of_version.ensures.rows c.of_version.ensures.version
+    (rw (beyond c.args.text.now) at c.in_ok-rows.ensures.exact) c.of_version.ensures.rows c.of_version.ensures.version
 
 pub returns-in_err-rows : goal.returns-in_err-rows
 returns-in_err-rows c =
     let p = err_from_is_err_and c.from_residual.result c.from_residual.ensures.1 in
     rw (p.1, p.2) (error_of c.args.n c.args.text.now c.in-Some.version c.in_err-rows.field-0.0 (sym c.version_in.ensures ∙ c.in-Some.is)
-    (rw (behind c.args.text.now) at c.in_err-rows.ensures.exact))
+    (rw (beyond c.args.text.now) at c.in_err-rows.ensures.exact))

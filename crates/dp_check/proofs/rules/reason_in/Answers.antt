@@ -11,8 +11,8 @@ pub returns-in-Some-unfit_target-clause-says : goal.returns-in-Some-unfit_target
 returns-in-Some-unfit_target-clause-says c = λ version entry. c.in-Some-unfit_target.ensures.says
     (question c.args.program.now (record { version = version; rows = c.args.rows.now }) c.args.env.now entry) c.args.label
 
-pub returns-in-Some-unfit_bytes-clause-says : goal.returns-in-Some-unfit_bytes-clause-says
-returns-in-Some-unfit_bytes-clause-says c = λ version entry. c.in-Some-unfit_bytes.ensures.says
+pub returns-in-Some-check_bytes-clause-says : goal.returns-in-Some-check_bytes-clause-says
+returns-in-Some-check_bytes-clause-says c = λ version entry. c.in-Some-check_bytes.ensures.says
     (question c.args.program.now (record { version = version; rows = c.args.rows.now }) c.args.env.now entry) c.args.label
 
 pub returns-in-Some-unfit_share-clause-says : goal.returns-in-Some-unfit_share-clause-says

@@ -1,5 +1,5 @@
 -- The lines one after another.
-use Rattle.dp_cli.proofs.Behind.{ok_between}
+use Rattle.dp_cli.proofs.LaterLines.{ok_between}
 use Rattle.dp_cli.proofs.error_text.write_finding.Goals as goal
 
 pub returns : goal.returns

@@ -17,10 +17,10 @@ loop-rest-preserved g c =
     let next : c.saturating_add-number.result ≡ suc c.loop-rest.number =
     next_is c.loop-rest.number c.saturating_add-number.result text line c.saturating_add-number.ensures fits c.cut_line.ensures.within some in
     record {
-      fits = next_fits c.loop-rest.number c.saturating_add-number.result text c.cut_line.result.behind next fits c.cut_line.ensures.shorter;
-      played = played_line (suc c.args.number) (lines_left (option_map (λ more. more.now) c.args.behind)) (stage now.heap.elements now.held.items now.taken)
+      fits = next_fits c.loop-rest.number c.saturating_add-number.result text c.cut_line.result.beyond next fits c.cut_line.ensures.shorter;
+      played = played_line (suc c.args.number) (lines_left (option_map (λ more. more.now) c.args.beyond)) (stage now.heap.elements now.held.items now.taken)
           c.loop-rest.number c.saturating_add-number.result (lines_left (option_map (λ more. more.now) c.loop-rest.rest))
-          (lines_left (option_map (λ more. more.now) c.cut_line.result.behind)) line
+          (lines_left (option_map (λ more. more.now) c.cut_line.result.beyond)) line
           (stage before.heap.elements before.held.items before.taken) (stage after.heap.elements after.held.items after.taken)
           (g.O.Write.contents c.args.out.now) (g.O.Write.contents c.loop-rest.out) (g.O.Write.contents c.play_line.new.out) next
           (left_is c.loop-rest.rest c.in-Some.text c.in-Some.is ∙ c.cut_line.ensures.lines) some
@@ -37,9 +37,9 @@ returns-in-None g c =
     let some : 0 < length line = some_line line c.is_empty.result c.is_empty.ensures c.if-is_empty.false in
     let next : c.saturating_add-number.result ≡ suc c.loop-rest.number =
     next_is c.loop-rest.number c.saturating_add-number.result text line c.saturating_add-number.ensures fits c.cut_line.ensures.within some in
-    played_bad (suc c.args.number) (lines_left (option_map (λ more. more.now) c.args.behind)) (stage now.heap.elements now.held.items now.taken)
+    played_bad (suc c.args.number) (lines_left (option_map (λ more. more.now) c.args.beyond)) (stage now.heap.elements now.held.items now.taken)
     c.loop-rest.number c.saturating_add-number.result (lines_left (option_map (λ more. more.now) c.loop-rest.rest))
-    (lines_left (option_map (λ more. more.now) c.cut_line.result.behind)) line
+    (lines_left (option_map (λ more. more.now) c.cut_line.result.beyond)) line
     (stage before.heap.elements before.held.items before.taken) (g.O.Write.contents c.args.out.now) (g.O.Write.contents c.loop-rest.out)
     (g.O.Write.contents c.play_line.new.out) next
     (left_is c.loop-rest.rest c.in-Some.text c.in-Some.is ∙ c.cut_line.ensures.lines) some c.in-None.ensures.bad.0
@@ -50,7 +50,7 @@ pub returns : goal.returns
 returns g c =
     let now = c.args.session.now in
     let before = c.loop-rest.session in
-    played_end (suc c.args.number) (lines_left (option_map (λ more. more.now) c.args.behind)) (stage now.heap.elements now.held.items now.taken)
+    played_end (suc c.args.number) (lines_left (option_map (λ more. more.now) c.args.beyond)) (stage now.heap.elements now.held.items now.taken)
     c.loop-rest.number c.loop-rest.rest
     (stage before.heap.elements before.held.items before.taken) (g.O.Write.contents c.args.out.now) (g.O.Write.contents c.loop-rest.out) c.in_default.is
     c.loop-rest.invariant.played

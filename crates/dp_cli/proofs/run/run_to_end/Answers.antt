@@ -1,7 +1,7 @@
 -- The run, and its outputs written out.
 use Rattle.std.proofs.Common.{ap, map, subst, sym, List, Option, ℕ}
 use Rattle.dp_pipe.specs.Devices.{seen}
-use Rattle.dp_cli.specs.Closing.{IsSettled}
+use Rattle.dp_cli.specs.Closing.{IsFlushed}
 use Rattle.dp_cli.proofs.Devices.{bytes_of_seen}
 use Rattle.dp_cli.proofs.Endings.{if_err}
 use Rattle.dp_cli.proofs.run.run_to_end.Goals as goal
@@ -19,7 +19,7 @@ returns g c = record {
     (same early).2,
   )) c.run_watched-answer.ensures.untouched;
   shown = c.run_watched-answer.ensures.shown;
-  settled_is = subst (λ (givens : List (Option (List ℕ))). IsSettled givens (map g.O.Outlet.taken c.settle.new.outs) c.run_watched-answer.result
-      c.settle.result)
-      (sym (bytes_of_seen g.O.Sink.contents g.O.Sink.calls c.run_watched-answer.new.outs)) c.settle.ensures;
+  flushed_is = subst (λ (givens : List (Option (List ℕ))). IsFlushed givens (map g.O.Outlet.taken c.flush_outputs.new.outs) c.run_watched-answer.result
+      c.flush_outputs.result)
+      (sym (bytes_of_seen g.O.Sink.contents g.O.Sink.calls c.run_watched-answer.new.outs)) c.flush_outputs.ensures;
 }

@@ -2,8 +2,8 @@
 use Rattle.std.proofs.Common.{refl}
 use Rattle.std.proofs.lemmas.Option.{slice_get_read}
 use Rattle.dp_counts.specs.Listings.{node_text}
-use Rattle.dp_counts.proofs.Lists.{appends_piece}
 use Rattle.dp_counts.proofs.listing.print_programs.Goals as goal
+use Rattle.dp_counts.specs.Laws.{appends_piece}
 
 pub loop-source-preserved : goal.loop-source-preserved
 loop-source-preserved g c =

@@ -1,7 +1,7 @@
 -- One more line.
 use Rattle.dp_counts.specs.Totals.{line_of_ring}
-use Rattle.dp_counts.proofs.Lists.{appends_line}
 use Rattle.dp_counts.proofs.totals.print_few_rings.Goals as goal
+use Rattle.dp_counts.specs.Laws.{appends_line}
 
 pub loop-k-preserved : goal.loop-k-preserved
 loop-k-preserved g c =

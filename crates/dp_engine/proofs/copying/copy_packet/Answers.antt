@@ -3,12 +3,14 @@ use Rattle.std.proofs.Common.{◌≡◌, ◌+◌, ◌<◌, ◌≤◌, ◌++◌, 
 use Rattle.std.specs.List.{flat_map}
 use Rattle.std.proofs.lemmas.List.Folds.{length-flat_map-take}
 use Rattle.std.proofs.lemmas.Option.{get_or_from_slice_get}
+use Rattle.std.proofs.lemmas.List.{take_all}
 use Rattle.dp_model.specs.Buffers.{overwritten}
 use Rattle.dp_model.specs.Packets.{Packet, segment_bytes}
 use Rattle.dp_model.specs.Laws.Stored.{length_overwritten}
 use Rattle.dp_model.specs.Stores.{Has}
+use Rattle.dp_model.specs.Laws.Lists.{get_within}
 use Rattle.dp_engine.proofs.Batches.{written_none, written_on}
-use Rattle.dp_engine.proofs.Writing.{at_slot, piece_more, take_all}
+use Rattle.dp_engine.proofs.Writing.{piece_more}
 use Rattle.dp_engine.proofs.copying.copy_packet.Goals as goal
 use Rattle.dp_engine.proofs.copying.copy_packet.Goals.{After-segment_bytes-part}
 
@@ -24,7 +26,7 @@ next c k has =
     let b = c.args.mbufs.now.store.buffers in
     let count = c.segments-index-end.ensures k has in
     let lt : c.loop-index.index < length k = omega (arith, c.loop-index-test.true, count) in
-    let (s, here) = at_slot k c.loop-index.index lt in
+    let (s, here) = get_within k c.loop-index.index lt in
     let is = c.segment_bytes-part.ensures.value k has s here in
     record {
       more = sym (piece_more [] (segment_bytes b) k c.loop-index.index s here) ∙ ap (λ l. flat_map (segment_bytes b) (take c.loop-index.index k) ++ l) (sym is);
@@ -94,10 +96,10 @@ pub returns-clause-length : goal.returns-clause-length
 returns-clause-length c = λ k has.
     c.loop-index.invariant.long k has
     ∙ ap (λ l. length (flat_map (segment_bytes c.args.mbufs.now.store.buffers) l))
-    (take_all k c.loop-index.index (omega (arith, c.loop-index-test.false, c.segments-index-end.ensures k has)))
+    (take_all c.loop-index.index k (omega (arith, c.loop-index-test.false, c.segments-index-end.ensures k has)))
 
 pub returns-clause-copied : goal.returns-clause-copied
 returns-clause-copied c = λ k has.
     c.loop-index.invariant.copied k has
     ∙ ap (λ l. overwritten c.args.bytes.now c.args.from (flat_map (segment_bytes c.args.mbufs.now.store.buffers) l))
-    (take_all k c.loop-index.index (omega (arith, c.loop-index-test.false, c.segments-index-end.ensures k has)))
+    (take_all c.loop-index.index k (omega (arith, c.loop-index-test.false, c.segments-index-end.ensures k has)))

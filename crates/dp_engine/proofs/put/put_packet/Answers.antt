@@ -7,7 +7,7 @@ use Rattle.dp_model.specs.Buffers.{Buffers}
 use Rattle.dp_model.specs.Packets.{Packet, Segment, packet_bytes, segment_bytes}
 use Rattle.dp_model.specs.Stores.{Has}
 use Rattle.dp_pcap.specs.Text.{head_text, record_text, AppendsPart}
-use Rattle.dp_engine.proofs.Called.{length_head}
+use Rattle.dp_pcap.specs.Laws.Chaining.{length_head}
 use Rattle.dp_engine.proofs.put.put_packet.Goals as goal
 
 -- its bytes are those of the segment

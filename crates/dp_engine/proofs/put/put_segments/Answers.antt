@@ -3,9 +3,10 @@ use Rattle.std.proofs.Common.{◌≡◌, ◌+◌, length, Some, arith, rules, re
 use Rattle.std.specs.Prelude.{slice_get}
 use Rattle.dp_model.specs.Packets.{Packet, Segment, packet_bytes, segment_bytes}
 use Rattle.dp_model.specs.Stores.{Has}
+use Rattle.dp_model.specs.Laws.Lists.{get_within}
 use Rattle.dp_pcap.specs.Text.{head_text}
 use Rattle.dp_engine.proofs.Called.{called_head, called_piece, called_front}
-use Rattle.dp_engine.proofs.Writing.{at_slot, appends_piece, part_before, part_piece, sound_after, on_err_of}
+use Rattle.dp_engine.proofs.Writing.{appends_piece, part_before, part_piece, sound_after, on_err_of}
 use Rattle.dp_engine.proofs.put.put_segments.Goals as goal
 use Rattle.dp_engine.proofs.put.put_segments.Goals.{After-segment_bytes}
 
@@ -13,7 +14,7 @@ use Rattle.dp_engine.proofs.put.put_segments.Goals.{After-segment_bytes}
 part : (g : _) (c : After-segment_bytes g) (k : Packet) → Has c.args.mbufs.now.store c.args.packet k → (s : Segment)
     × (slice_get k c.loop-index.index ≡ Some s) × (c.segment_bytes.result.now ≡ segment_bytes c.args.mbufs.now.store.buffers s)
 part g c k has =
-    let (s, here) = at_slot k c.loop-index.index (omega (arith, c.segments-index-end.ensures k has)) in
+    let (s, here) = get_within k c.loop-index.index (omega (arith, c.segments-index-end.ensures k has)) in
     (s, here, c.segment_bytes.ensures.value k has s here)
 
 pub returns-in_err-put_head : goal.returns-in_err-put_head

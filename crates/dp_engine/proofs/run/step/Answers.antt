@@ -7,7 +7,7 @@ use Rattle.dp_engine.specs.declared.control.Control.TheVariants.{On, To}
 use Rattle.dp_engine.specs.declared.run.Went.TheVariants.{There}
 use Rattle.dp_engine.specs.declared.watch.Way.TheVariants as way
 use Rattle.dp_engine.specs.Handles.{Core, moved}
-use Rattle.dp_engine.specs.Midway.{Led}
+use Rattle.dp_engine.specs.Midway.{StepResult}
 use Rattle.dp_engine.specs.Steps.{setting_of}
 use Rattle.dp_engine.proofs.Midways.{StandsWithin, stands_within, stepped_at, controlled_at, led_forward, led_back, led_end, led_out}
 use Rattle.dp_engine.proofs.Midways.{names_ran, names_to, seen_of, seen_to}
@@ -191,7 +191,7 @@ returns-else-to-label g c =
                 (refl, names, ap (λ (x : Core). x.state) (w.m-is ∙ same))
                 (seen_to sees v v2 label c.in-To.there to c.from-to.ensures c.of-in-To.result m3 c.of-in-To.ensures c.see-in-To.ensures)
             | else-to-label-via-else-to-label w ↦
-                subst (λ (x : Core). Led sees S P m0 w0 m label x v2 (There to ahead')) (sym w.m-is)
+                subst (λ (x : Core). StepResult sees S P m0 w0 m label x v2 (There to ahead')) (sym w.m-is)
                 (led_forward sees S P m0 w0 m m2 v v2 ahead label ahead' to (way.To to) h s pools frames w.if-to-label.false more (refl, names, refl)
                 (seen_to sees v v2 label c.in-To.there to c.from-to.ensures c.of-in-To.result m2 (c.of-in-To.ensures ∙ w.m-is) c.see-in-To.ensures))
           ];

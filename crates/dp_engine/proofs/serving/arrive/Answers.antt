@@ -33,8 +33,7 @@ there g c =
 fits : (g : _) (c : After-pattern g) → segments_needed c.args.plan.now.setting.env.pools (spec_of c.ports.result.now c.from.result).pool
     (length c.args.bytes.now) ≤ (spec_of c.ports.result.now c.from.result).segs
 fits g c =
-    let pools = c.pools.ensures.same ∙ ap (λ (x : Environment). x.pools) c.env-env.ensures.same in
-    omega (arith, rw pools at c.needed.ensures, c.if-needed-spec.false)
+    omega (arith, rw c.requires.rests.pools at c.needed.ensures, c.if-needed-spec.false)
 
 -- what is received, and that the port's program can run on it
 came : (g : _) (c : After-tables g) → AtPort c.args.plan.now.setting c.args.plan.now.nodes c.args.port (spec_of c.ports.result.now c.from.result)
@@ -69,10 +68,14 @@ went g c r =
 pub returns-then-needed-spec-clause-arrives : goal.returns-then-needed-spec-clause-arrives
 returns-then-needed-spec-clause-arrives g c =
     let at = there g (goal.at.returns-then-needed-spec-clause-arrives g c).After-from in
-    let pools = c.pools.ensures.same ∙ ap (λ (x : Environment). x.pools) c.env-env.ensures.same in
     let need : c.needed.result ≡ segments_needed c.args.plan.now.setting.env.pools (spec_of c.ports.result.now c.from.result).pool (length c.args.bytes.now)
-    = rw pools at c.needed.ensures in
+    = rw c.requires.rests.pools at c.needed.ensures in
     ([], (spec_of c.ports.result.now c.from.result, at.program, at.spec_is, at.program_is, (omega (arith, need, c.if-needed-spec.true), refl, refl)))
+
+pub needed-requires : goal.needed-requires
+needed-requires g c =
+    let at = there g (goal.at.needed-requires g c).After-from in
+    rw c.requires.rests.pools at.room
 
 pub receive-requires-clause-has_room : goal.receive-requires-clause-has_room
 receive-requires-clause-has_room g c =
@@ -81,8 +84,9 @@ receive-requires-clause-has_room g c =
 
 pub receive-requires-clause-fits : goal.receive-requires-clause-fits
 receive-requires-clause-fits g c =
+    let pools = c.requires.rests.pools ∙ sym (ap (λ (x : Environment). x.pools) c.env-env.ensures.same) in
     let need : c.needed.result ≡ segments_needed c.env-env.result.now.pools (spec_of c.ports.result.now c.from.result).pool (length c.args.bytes.now) =
-    rw c.pools.ensures.same at c.needed.ensures in
+    rw pools at c.needed.ensures in
     omega (arith, need, c.if-needed-spec.false, (there g (goal.at.receive-requires-clause-fits g c).After-from).segs)
 
 pub returns-then-not-receive-clause-arrives : goal.returns-then-not-receive-clause-arrives
@@ -137,9 +141,8 @@ returns-clause-rests g c =
 pub returns-then-needed-spec-clause-watched : goal.returns-then-needed-spec-clause-watched
 returns-then-needed-spec-clause-watched g c =
     let at = there g (goal.at.returns-then-needed-spec-clause-watched g c).After-from in
-    let pools = c.pools.ensures.same ∙ ap (λ (x : Environment). x.pools) c.env-env.ensures.same in
     let need : c.needed.result ≡ segments_needed c.args.plan.now.setting.env.pools (spec_of c.ports.result.now c.from.result).pool (length c.args.bytes.now)
-    = rw pools at c.needed.ensures in
+    = rw c.requires.rests.pools at c.needed.ensures in
     record {
       answers = [];
       events = [];

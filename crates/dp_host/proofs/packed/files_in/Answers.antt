@@ -1,7 +1,8 @@
 use Rattle.std.proofs.Common.{[], ◌++◌, length, sym, subst, append-nil}
 use Rattle.std.proofs.lemmas.Bool.{eqb-true}
+use Rattle.std.proofs.lemmas.List.{nil_from_length}
 use Rattle.dp_host.specs.Packing.{AreFiles}
-use Rattle.dp_host.proofs.Files.{Taken, taken_more, no_more, pushed}
+use Rattle.dp_host.proofs.Files.{Taken, taken_more, pushed}
 use Rattle.dp_host.proofs.packed.files_in.Goals as goal
 
 pub loop-init : goal.loop-init
@@ -15,4 +16,4 @@ loop-preserved c =
 pub returns-then-is_empty : goal.returns-then-is_empty
 returns-then-is_empty c =
     subst (AreFiles c.args.packed.now) (append-nil c.loop.files.items)
-    (c.loop.invariant [] (no_more c.loop.rest.now (eqb-true (length c.loop.rest.now) 0 (sym c.if-is_empty.ensures))))
+    (c.loop.invariant [] (nil_from_length c.loop.rest.now (eqb-true (length c.loop.rest.now) 0 (sym c.if-is_empty.ensures))))

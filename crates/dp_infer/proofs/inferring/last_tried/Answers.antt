@@ -9,12 +9,12 @@ returns-in-None-clause-most c =
     most_of c.args.program.now c.args.env.now c.args.entry c.in_ok-cert.cert.rows c.in_ok-cert.ensures.some
     (ap (λ (cert : Certificate). cert.rows) c.in_ok-cert.ensures.found)
 
-pub returns-in_ok-settled-in-Some-clause-most : goal.returns-in_ok-settled-in-Some-clause-most
-returns-in_ok-settled-in-Some-clause-most c =
-    most_anyway c.args.program.now c.args.env.now c.args.entry c.in_ok-settled-in-Some.settled.rows
+pub returns-in_ok-widened_to_end-in-Some-clause-most : goal.returns-in_ok-widened_to_end-in-Some-clause-most
+returns-in_ok-widened_to_end-in-Some-clause-most c =
+    most_anyway c.args.program.now c.args.env.now c.args.entry c.in_ok-widened_to_end-in-Some.widened_to_end.rows
     (none_of c.args.program.now c.args.env.now c.args.entry c.in_ok-cert.cert _ _ c.in_ok-cert.ensures.some c.in_ok-cert.ensures.found c.in-Some.ensures.some)
 
-pub returns-in_ok-settled-in-Some-clause-none : goal.returns-in_ok-settled-in-Some-clause-none
-returns-in_ok-settled-in-Some-clause-none c =
+pub returns-in_ok-widened_to_end-in-Some-clause-none : goal.returns-in_ok-widened_to_end-in-Some-clause-none
+returns-in_ok-widened_to_end-in-Some-clause-none c =
     if_any c.fault_of-fault.result
     (none_of c.args.program.now c.args.env.now c.args.entry c.in_ok-cert.cert _ _ c.in_ok-cert.ensures.some c.in_ok-cert.ensures.found c.in-Some.ensures.some)

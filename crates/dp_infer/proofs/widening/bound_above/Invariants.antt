@@ -1,7 +1,7 @@
 -- The bounds so far, and the rest.
 use Rattle.std.proofs.Common.{◌≡◌, drop}
 use Rattle.dp_model.specs.Arithmetic.{greatest}
-use Rattle.dp_infer.specs.Settling.{bound_from}
+use Rattle.dp_infer.specs.Widening.{bound_from}
 use Rattle.dp_infer.proofs.widening.bound_above.Given as goal
 
 abbrev pub invariant-loop-instr : goal.invariant-loop-instr

@@ -1,6 +1,6 @@
 -- The counts so far, and the rest.
 use Rattle.std.proofs.Common.{◌≡◌, drop}
-use Rattle.dp_infer.specs.Settling.{count_from}
+use Rattle.dp_infer.specs.Widening.{count_from}
 use Rattle.dp_infer.proofs.widening.count_below.Given as goal
 
 abbrev pub invariant-loop-instr : goal.invariant-loop-instr

@@ -1,7 +1,7 @@
 -- The indexes so far are done.
 use Rattle.std.proofs.Common.{◌≡◌, ◌++◌, take, drop, length}
 use Rattle.dp_infer.specs.Joins.{paired}
-use Rattle.dp_infer.specs.Settling as spec
+use Rattle.dp_infer.specs.Widening as spec
 use Rattle.dp_infer.proofs.widening.raised_bounds.Given as goal
 
 abbrev pub invariant-loop-i : goal.invariant-loop-i

@@ -1,14 +1,14 @@
 -- One label more.
 use Rattle.std.proofs.Common.{ap, arith, length, ◌<◌}
-use Rattle.dp_infer.specs.Settling.{Passed}
-use Rattle.dp_infer.proofs.RowLists.{there_is}
-use Rattle.dp_infer.proofs.Settled.{as_they_are, spread_again_more, spread_again_done}
+use Rattle.dp_model.specs.Laws.Lists.{get_within}
+use Rattle.dp_infer.specs.Widening.{Passed}
+use Rattle.dp_infer.proofs.Widened.{as_they_are, spread_again_more, spread_again_done}
 use Rattle.dp_infer.proofs.widening.spread_again.Goals as goal
 
 pub loop-label-preserved : goal.loop-label-preserved
 loop-label-preserved c =
     let within : c.loop-label.label < length c.args.program.now = omega arith in
-    let (i, at_i) = there_is c.args.program.now c.loop-label.label within in
+    let (i, at_i) = get_within c.args.program.now c.loop-label.label within in
     record {
       passed = rw (c.pass_again-again.ensures.rows i at_i, c.pass_again-again.ensures.changed i at_i)
           (spread_again_more c.args.program.now c.args.env.now c.args.slow c.loop-label.label i (as_they_are c.loop-label.rows c.loop-label.changed) _ at_i

@@ -2,8 +2,8 @@
 use Rattle.std.proofs.Common.{◌≡◌, length, drop, IsTrue}
 use Rattle.std.specs.List.{list_all}
 use Rattle.dp_model.specs.Rows.{is_well_formed_row}
-use Rattle.dp_infer.specs.Settling.{spread_again, weakened_once}
-use Rattle.dp_infer.proofs.Settled.{as_they_are}
+use Rattle.dp_infer.specs.Widening.{spread_again, weakened_once}
+use Rattle.dp_infer.proofs.Widened.{as_they_are}
 use Rattle.dp_infer.proofs.widening.spread_again.Given as goal
 
 abbrev pub invariant-loop-label : goal.invariant-loop-label

@@ -1,6 +1,6 @@
 -- One more ring.
 use Rattle.dp_json.specs.Counts.{ring_at}
-use Rattle.dp_json.proofs.Lists.{each_next}
+use Rattle.dp_json.specs.Laws.{each_next}
 use Rattle.dp_json.proofs.counts.few_rings.Goals as goal
 
 pub loop-k-preserved : goal.loop-k-preserved

@@ -2,7 +2,7 @@
 use Rattle.std.proofs.Common.{refl}
 use Rattle.std.proofs.lemmas.Option.{slice_get_read}
 use Rattle.dp_json.specs.Counts.{program_data}
-use Rattle.dp_json.proofs.Lists.{map_next}
+use Rattle.dp_json.specs.Laws.{map_next}
 use Rattle.dp_json.proofs.counts.programs.Goals as goal
 
 pub loop-source-preserved : goal.loop-source-preserved

@@ -1,6 +1,6 @@
 -- One more table.
 use Rattle.dp_json.specs.Counts.{table_data}
-use Rattle.dp_json.proofs.Lists.{below_next}
+use Rattle.dp_json.specs.Laws.{below_next}
 use Rattle.dp_json.proofs.counts.tables.Goals as goal
 
 pub loop-k-preserved : goal.loop-k-preserved

@@ -1,7 +1,7 @@
 -- One more value.
 use Rattle.dp_engine.specs.declared.report.InputState.TheVariants.{Open}
 use Rattle.dp_json.specs.Reports.{port_data}
-use Rattle.dp_json.proofs.Lists.{each_next}
+use Rattle.dp_json.specs.Laws.{each_next}
 use Rattle.dp_json.proofs.report.ports.Goals as goal
 
 pub loop-k-preserved : goal.loop-k-preserved

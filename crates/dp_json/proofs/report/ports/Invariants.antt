@@ -1,7 +1,7 @@
 -- The values so far.
 use Rattle.std.proofs.Common.{◌≡◌, map, take}
 use Rattle.serde_json.specs.View.{view}
-use Rattle.dp_json.specs.Lists.{each_from}
+use Rattle.dp_counts.specs.Sources.{each_from}
 use Rattle.dp_json.specs.Reports.{port_data}
 use Rattle.dp_json.proofs.report.ports.Given as goal
 

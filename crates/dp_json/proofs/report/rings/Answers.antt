@@ -1,6 +1,6 @@
 -- One more value.
 use Rattle.dp_json.specs.Reports.{ring_data}
-use Rattle.dp_json.proofs.Lists.{each_next}
+use Rattle.dp_json.specs.Laws.{each_next}
 use Rattle.dp_json.proofs.report.rings.Goals as goal
 
 pub loop-k-preserved : goal.loop-k-preserved

@@ -1,7 +1,7 @@
 -- `each_argument`: one operand more, and the end.
 use Rattle.std.proofs.Common.{map, [], arith, length, ◌<◌}
 use Rattle.std.proofs.lemmas.List.{map_push}
-use Rattle.dp_lang.specs.declared.form.Kind.TheVariants as kinds
+use Rattle.dp_lang.specs.declared.form.OperandKind.TheVariants as kinds
 use Rattle.dp_lang.specs.Views.{argument}
 use Rattle.dp_lang.proofs.Loops.{ok_goes_on, err_goes_on}
 use Rattle.dp_lang.proofs.reader.each_argument.Goals as goal

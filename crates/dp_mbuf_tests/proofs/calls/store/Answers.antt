@@ -1,6 +1,7 @@
 use Rattle.std.proofs.Common.{◌≡◌, ap, rules, arith}
 use Rattle.dp_model.specs.Stores.{segments_of}
-use Rattle.dp_mbuf_tests.proofs.RowLemmas.{over_kept, head_sole}
+use Rattle.dp_model.specs.Laws.References.{head_sole}
+use Rattle.dp_mbuf_tests.proofs.RowLemmas.{over_kept}
 use Rattle.dp_mbuf_tests.proofs.calls.store.Goals as goal
 
 pub store-requires : goal.store-requires

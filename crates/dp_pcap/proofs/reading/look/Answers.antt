@@ -22,8 +22,8 @@ returns-in_default-fill-clause-ahead g c =
       c.in_ok-time.ensures.in_range.1,
     ))
 
-pub returns-in_default-fill-clause-behind : goal.returns-in_default-fill-clause-behind
-returns-in_default-fill-clause-behind g c =
+pub returns-in_default-fill-clause-beyond : goal.returns-in_default-fill-clause-beyond
+returns-in_default-fill-clause-beyond g c =
     as_it_was c.fill-2.new.buf c.args.buf.now c.in_ok-time.len 262144 (search rules) c.in_ok-time.ensures.in_range.1
 
 pub returns-then-came-len-clause-ahead : goal.returns-then-came-len-clause-ahead
@@ -38,8 +38,8 @@ returns-then-came-len-clause-ahead g c =
       c.in_ok-time.ensures.in_range.1,
     ))
 
-pub returns-then-came-len-clause-behind : goal.returns-then-came-len-clause-behind
-returns-then-came-len-clause-behind g c =
+pub returns-then-came-len-clause-beyond : goal.returns-then-came-len-clause-beyond
+returns-then-came-len-clause-beyond g c =
     as_it_was c.fill-2.new.buf c.args.buf.now c.in_ok-time.len 262144 (search rules) c.in_ok-time.ensures.in_range.1
 
 pub returns-clause-ahead : goal.returns-clause-ahead

@@ -8,9 +8,9 @@ use Rattle.dp_engine.specs.Needs.{bytes_needed}
 use Rattle.dp_engine.specs.Schemes.{AreNodes, nodes_of}
 use Rattle.dp_engine.specs.Steps.{setting_of}
 use Rattle.dp_pipe.proofs.Loaded.{few}
-use Rattle.dp_pipe.proofs.Planned.{are_nodes}
 use Rattle.dp_pipe.proofs.opening.engine_of.Goals as goal
 use Rattle.dp_pipe.proofs.opening.engine_of.Goals.{After-refuse}
+use Rattle.dp_pipe.specs.Laws.{are_nodes}
 
 -- its setting, from the parts of the pipeline
 setting : (g : _) (c : After-refuse g) → c.refuse.new.self.setting ≡ setting_of c.into_parts-env.result.0 c.into_parts-env.result.1.items c.args.pattern.items

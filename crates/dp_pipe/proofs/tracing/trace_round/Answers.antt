@@ -7,7 +7,7 @@ use Rattle.dp_pipe.proofs.tracing.trace_round.Goals.{After-trace_port}
 
 pub loop-port-init : goal.loop-port-init
 loop-port-init g c = (
-  some_none g.T.Watch.sees g.T.Tracer.told c.args.tracer.now c.args.tracer.now c.args.which.now.port c.args.engine.now c.args.engine.now
+  some_none g.T.Watch.sees g.T.Tracer.noted c.args.tracer.now c.args.tracer.now c.args.which.now.port c.args.engine.now c.args.engine.now
       c.args.which.now.records refl refl,
   refl,
   refl,
@@ -16,12 +16,12 @@ loop-port-init g c = (
 )
 
 -- what was traced with this port
-joined : (g : _) (c : After-trace_port g) → TracesSome g.T.Watch.sees g.T.Tracer.told c.args.tracer.now c.trace_port.new.tracer c.args.which.now.port
+joined : (g : _) (c : After-trace_port g) → TracesSome g.T.Watch.sees g.T.Tracer.noted c.args.tracer.now c.trace_port.new.tracer c.args.which.now.port
     c.args.engine.now c.trace_port.new.engine c.args.which.now.records c.trace_port.new.which.records
 joined g c =
     let l = c.loop-port in
     let t = c.trace_port in
-    some_join g.T.Watch.sees g.T.Tracer.told c.args.tracer.now l.tracer t.new.tracer c.args.which.now.port l.which.port c.args.engine.now l.engine t.new.engine
+    some_join g.T.Watch.sees g.T.Tracer.noted c.args.tracer.now l.tracer t.new.tracer c.args.which.now.port l.which.port c.args.engine.now l.engine t.new.engine
     c.args.which.now.records l.which.records t.new.which.records l.invariant.1 l.invariant.0 t.ensures.traced
 
 pub loop-port-preserved : goal.loop-port-preserved

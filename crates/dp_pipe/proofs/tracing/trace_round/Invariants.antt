@@ -5,7 +5,7 @@ use Rattle.dp_pipe.proofs.tracing.trace_round.Given as goal
 
 abbrev pub invariant-loop-port : goal.invariant-loop-port
 invariant-loop-port g l =
-    ((count : ℕ) × HasTraced g.T.Watch.sees g.T.Tracer.told l.fn.tracer l.tracer l.fn.which.port count l.fn.engine l.engine
+    ((count : ℕ) × HasTraced g.T.Watch.sees g.T.Tracer.noted l.fn.tracer l.tracer l.fn.which.port count l.fn.engine l.engine
     × (l.which.records + count ≡ l.fn.which.records))
     × (l.which.port ≡ l.fn.which.port)
     × (length l.inputs ≡ length l.fn.inputs) × (length l.ins ≡ length l.fn.ins) × (length l.buf ≡ length l.fn.buf)

@@ -1,6 +1,6 @@
 -- One more node.
 use Rattle.std.proofs.Common.{◌∙◌, ap}
-use Rattle.dp_json.proofs.Lists.{map_next}
+use Rattle.dp_json.specs.Laws.{map_next}
 use Rattle.dp_json.specs.Verdicts.{accepted_data}
 use Rattle.dp_cli.specs.DocumentedVerdicts.{accepted_node}
 use Rattle.dp_cli.proofs.documents.checks.nodes_of.Goals as goal

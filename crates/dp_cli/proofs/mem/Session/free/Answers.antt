@@ -11,12 +11,12 @@ pub returns-clause-held : goal.returns-clause-held
 returns-clause-held g c = (
   one_held c.args.number c.args.self.now.held.items c.in-Some.index c.remove-block.result (sym c.index_of.ensures.first ∙ c.in-Some.is)
       c.remove-block.ensures.value,
-  c.tell.ensures.status,
+  c.report_line.ensures.status,
 )
 
 pub returns-clause-freed : goal.returns-clause-freed
 returns-clause-freed g c done =
-    let own : c.tell.result ≡ 0 = same_Some c.tell.result 0 done in
+    let own : c.report_line.result ≡ 0 = same_Some c.report_line.result 0 done in
     is_freed c.args.number _ _ c.in-Some.index c.remove-block.result _ _ (sym c.index_of.ensures.first ∙ c.in-Some.is) c.remove-block.ensures.value
     c.remove-block.ensures.items
-    (ap (λ h. h.elements) c.free.ensures.merged) refl (c.tell.ensures.printed (λ bad. absurd (cc)) (λ bad. absurd (cc)))
+    (ap (λ h. h.elements) c.free.ensures.merged) refl (c.report_line.ensures.printed (λ bad. absurd (cc)) (λ bad. absurd (cc)))

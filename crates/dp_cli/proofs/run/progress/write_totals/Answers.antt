@@ -2,8 +2,8 @@
 use Rattle.std.proofs.Common.{ℕ, subst}
 use Rattle.std.specs.Io.KnownBytes.{Appends}
 use Rattle.dp_engine.specs.declared.report.InputState.TheVariants.{Open}
+use Rattle.dp_counts.specs.Laws.{appends_line}
 use Rattle.dp_cli.specs.Progress.{of_total, total_line}
-use Rattle.dp_cli.proofs.Lines.{appends_line}
 use Rattle.dp_cli.proofs.run.progress.write_totals.Goals as goal
 
 pub loop-port-preserved : goal.loop-port-preserved

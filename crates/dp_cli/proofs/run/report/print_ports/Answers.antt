@@ -1,8 +1,8 @@
 -- One more line, of two pieces.
 use Rattle.std.proofs.KnownBytes.{Appends-trans}
 use Rattle.dp_engine.specs.declared.report.InputState.TheVariants.{Open}
+use Rattle.dp_counts.specs.Laws.{appends_line}
 use Rattle.dp_cli.specs.Report.{port_line}
-use Rattle.dp_cli.proofs.Lines.{appends_line}
 use Rattle.dp_cli.proofs.run.report.print_ports.Goals as goal
 
 pub loop-k-preserved : goal.loop-k-preserved

@@ -1,7 +1,7 @@
 -- One more line.
 use Rattle.dp_cli.specs.Report.{ring_line}
-use Rattle.dp_cli.proofs.Lines.{appends_line}
 use Rattle.dp_cli.proofs.run.report.print_rings.Goals as goal
+use Rattle.dp_counts.specs.Laws.{appends_line}
 
 pub loop-k-preserved : goal.loop-k-preserved
 loop-k-preserved g c =

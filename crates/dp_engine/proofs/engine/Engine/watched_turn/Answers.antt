@@ -1,11 +1,11 @@
 -- A turn: what its port and the number of turns keep is derived once, and each goal is one step from there.
 use Rattle.std.proofs.Common.{rules, ◌+◌, ◌<◌, Bool, List, length, sym, ◌∙◌, ap, subst, arith}
-use Rattle.dp_model.specs.Runs.{Turn as IsTurn, Took, NeverStuck}
+use Rattle.dp_model.specs.Runs.{Turn as IsTurn, Consumed, NeverStuck}
 use Rattle.dp_model.specs.Safety.{Beginning, IsOfTurn}
 use Rattle.dp_model.specs.Laws.Runs.{safe_never_stuck}
 use Rattle.dp_engine.specs.Outcomes.{outcome_of}
 use Rattle.dp_engine.specs.declared.report.Tallies.{Tallies}
-use Rattle.dp_engine.specs.Engines.{EngineState, IsEngine, most_turns, records_of}
+use Rattle.dp_engine.specs.Engines.{EngineState, IsEngine, max_turns, records_of}
 use Rattle.dp_engine.proofs.Turning.{turn_is, port_small, one_of_all, turned}
 use Rattle.dp_engine.specs.Watching.{WatchesTurn}
 use Rattle.dp_engine.proofs.Shown.{watches_turn}
@@ -19,7 +19,7 @@ small g c =
     (subst (λ (v : EngineState). c.args.port < length v.setting.env.ports) (sym c.self.view_is) c.requires.exists)
 
 -- there can be one more turn
-few : (g : _) (c : After-arrive-outcome g) → c.self.inside.turns < most_turns
+few : (g : _) (c : After-arrive-outcome g) → c.self.inside.turns < max_turns
 few g c = omega (arith, ap (λ (v : EngineState). v.turns) c.self.view_is, c.requires.limit)
 
 pub count-requires-clause-there : goal.count-requires-clause-there
@@ -38,8 +38,8 @@ invariant_of-self g c =
     let m2 = c.serve-served.new.m in
     let a = c.arrive-outcome.ensures in
     let r = c.serve-served.ensures in
-    subst (λ (tallies : List Tallies). IsEngine engine.plan m2 engine.space (engine.turns + 1) tallies engine.left) (sym c.count.ensures)
-    (turned engine.plan engine.machine m2 engine.space engine.turns engine.tallies engine.left c.args.port (outcome_of c.arrive-outcome.result.0)
+    subst (λ (tallies : List Tallies). IsEngine engine.plan m2 engine.memory (engine.turns + 1) tallies engine.left) (sym c.count.ensures)
+    (turned engine.plan engine.machine m2 engine.memory engine.turns engine.tallies engine.left c.args.port (outcome_of c.arrive-outcome.result.0)
     c.self.invariant (few g here) (small g here) r.rests (r.frames ∙ a.frames) (omega (arith, a.calls, r.calls))
     (omega (arith, a.took.cuts_are, a.few_cuts, r.took.cuts_are, r.few_cuts)) (omega (arith, a.packets, r.packets)))
 
@@ -62,7 +62,7 @@ returns-clause-taken g c =
       took = search rules;
       few = search rules;
       short = λ most ports rings.
-          let took : Took c.args.self.now.world m2.state.world (c.arrive-outcome.result.1.steps + c.serve-served.result.steps)
+          let took : Consumed c.args.self.now.world m2.state.world (c.arrive-outcome.result.1.steps + c.serve-served.result.steps)
           (c.arrive-outcome.result.1.cuts + c.serve-served.result.cuts) = search rules in
           let (few, (steps, cuts, were, least, cut)) = c.budgets_are_as_they_read.ensures.turns c.args.self.now.setting c.args.self.now.nodes c.args.port
           c.args.bytes.now c.args.self.now.world m2.state.world outcome (c.runs_of.result + more) answers most ports rings turn in

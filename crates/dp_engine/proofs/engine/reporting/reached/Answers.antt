@@ -1,11 +1,12 @@
 use Rattle.std.proofs.Common.{◌∙◌, arith}
-use Rattle.dp_engine.proofs.Reporting.{get_there, reached_one, reached_none}
+use Rattle.std.proofs.lemmas.Option.{slice_get-get_or}
+use Rattle.dp_engine.proofs.Reporting.{reached_one, reached_none}
 use Rattle.dp_engine.proofs.engine.reporting.reached.Goals as goal
 use Rattle.dp_engine.proofs.engine.reporting.reached.Goals.{then-n-calls, else-n-calls}
 
 pub loop-n-preserved : goal.loop-n-preserved
 loop-n-preserved c =
-    let there = get_there c.args.pattern.now c.loop-n.n-index 0 c.loop-n-test.true in
+    let there = slice_get-get_or c.args.pattern.now c.loop-n.n-index 0 c.loop-n-test.true in
     elim c.if-n-calls.branch [
       | then-n-calls w ↦ (
         w.count-is

@@ -3,7 +3,7 @@ use Rattle.std.proofs.Common.{[], sym}
 use Rattle.dp_model.specs.Buffers.{ChangesOnly}
 use Rattle.dp_model.specs.Packets.{allocated}
 use Rattle.dp_engine.specs.Steps.{setting_of}
-use Rattle.dp_engine.specs.Handles.{ran, frames_of, lists_of}
+use Rattle.dp_engine.specs.Handles.{run_counts, frames_of, lists_of}
 use Rattle.dp_engine.proofs.Registers.{Taken, allocated_taken, too_few}
 use Rattle.dp_engine.proofs.machine.Machine.alloc.Goals as goal
 use Rattle.dp_engine.proofs.machine.Machine.alloc.Goals.{In-Some}
@@ -11,11 +11,11 @@ use Rattle.dp_engine.proofs.machine.Machine.alloc.Goals.{In-Some}
 -- the packet that is granted
 given : (c : In-Some) → Taken (setting_of c.args.env.now [] c.args.pattern.now) c.alloc.new.self.store
     (frames_of c.self.inside.mbufs.zones c.self.inside.rings c.self.inside.outboxes) c.self.inside.registers c.self.inside.numbers
-    (lists_of c.self.inside.rings c.self.inside.outboxes) c.self.inside.calls (ran c.self.inside.steps.count c.self.inside.cuts c.self.inside.jumps)
+    (lists_of c.self.inside.rings c.self.inside.outboxes) c.self.inside.calls (run_counts c.self.inside.steps.count c.self.inside.cuts c.self.inside.jumps)
     c.args.self.now c.args.into c.args.pool 1 c.in-Some.packet (allocated c.args.env.now.pools) ChangesOnly
 given c =
     allocated_taken (setting_of c.args.env.now [] c.args.pattern.now) _ _ _ c.self.inside.registers c.self.inside.numbers
-    (lists_of c.self.inside.rings c.self.inside.outboxes) c.self.inside.calls (ran c.self.inside.steps.count c.self.inside.cuts c.self.inside.jumps)
+    (lists_of c.self.inside.rings c.self.inside.outboxes) c.self.inside.calls (run_counts c.self.inside.steps.count c.self.inside.cuts c.self.inside.jumps)
     c.args.self.now c.args.into c.args.pool c.in-Some.packet c.self.view_is c.self.invariant c.requires.empty c.requires.pools
     (rw c.from.ensures at c.in-Some.ensures.packets)
 
@@ -38,6 +38,6 @@ returns-in-Some-clause-given c _ =
 pub returns-in-None-clause-denied : goal.returns-in-None-clause-denied
 returns-in-None-clause-denied c =
     sym (too_few (setting_of c.args.env.now [] c.args.pattern.now) _ _ _ c.self.inside.registers c.self.inside.numbers
-    (lists_of c.self.inside.rings c.self.inside.outboxes) c.self.inside.calls (ran c.self.inside.steps.count c.self.inside.cuts c.self.inside.jumps)
+    (lists_of c.self.inside.rings c.self.inside.outboxes) c.self.inside.calls (run_counts c.self.inside.steps.count c.self.inside.cuts c.self.inside.jumps)
     c.args.self.now c.args.pool 1 (allocated (c.self.inside.mbufs.store).pools) ChangesOnly c.self.view_is c.self.invariant c.requires.pools
     (sym c.if-is_listed.ensures) (rw c.from.ensures at c.in-None.ensures.packets))

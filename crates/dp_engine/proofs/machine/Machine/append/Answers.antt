@@ -1,5 +1,5 @@
 use Rattle.std.proofs.Common.{◌≤◌, subst, sym}
-use Rattle.dp_model.specs.Packets.{at_end, more_behind, tailroom, zeroed_behind}
+use Rattle.dp_model.specs.Packets.{at_end, more_after, tailroom, zeroed_after}
 use Rattle.dp_engine.proofs.Counts.{tail_sole}
 use Rattle.dp_engine.proofs.Receive.{pools_of}
 use Rattle.dp_engine.proofs.Registers.{handle, held, counts, stand_becomes, becomes}
@@ -26,11 +26,11 @@ pub invariant_of-self : goal.invariant_of-self
 invariant_of-self c =
     let (k, holds, le, sole) = c.requires in
     let there = held _ _ _ _ _ _ _ _ c.args.p c.handle_in-packet.result k c.self.view_is c.self.invariant c.handle_in-packet.ensures holds in
-    stand_becomes _ _ _ _ c.args.p c.handle_in-packet.result k (at_end (more_behind c.args.n)) (zeroed_behind c.args.n) c.self.invariant there
+    stand_becomes _ _ _ _ c.args.p c.handle_in-packet.result k (at_end (more_after c.args.n)) (zeroed_after c.args.n) c.self.invariant there
     c.append.ensures.packets
 
 pub returns : goal.returns
 returns c k holds =
     let there = held _ _ _ _ _ _ _ _ c.args.p c.handle_in-packet.result k c.self.view_is c.self.invariant c.handle_in-packet.ensures holds in
-    rw (c.append.ensures.zones) (becomes _ _ _ _ _ _ _ _ _ c.args.p c.handle_in-packet.result k (at_end (more_behind c.args.n)) (zeroed_behind c.args.n)
+    rw (c.append.ensures.zones) (becomes _ _ _ _ _ _ _ _ _ c.args.p c.handle_in-packet.result k (at_end (more_after c.args.n)) (zeroed_after c.args.n)
     c.self.view_is there c.append.ensures.packets)

@@ -3,7 +3,7 @@ use Rattle.std.proofs.Common.{[], ◌≡◌, length, sym}
 use Rattle.dp_model.specs.Packets.{Packet, cloned}
 use Rattle.dp_model.specs.Machine.{Holds}
 use Rattle.dp_engine.specs.Steps.{setting_of}
-use Rattle.dp_engine.specs.Handles.{ran, frames_of, lists_of}
+use Rattle.dp_engine.specs.Handles.{run_counts, frames_of, lists_of}
 use Rattle.dp_engine.proofs.Handles.{Held}
 use Rattle.dp_engine.proofs.Registers.{Taken, handle, held, taken, too_few, keeps_bytes, called}
 use Rattle.dp_engine.proofs.machine.Machine.clone_of.Goals as goal
@@ -19,11 +19,11 @@ given : (c : In-Some) (k : Packet) → Held c.self.inside.mbufs.store.slots c.se
     c.args.from c.handle_in-source.result k
     → Taken (setting_of c.args.env.now [] c.args.pattern.now) c.clone_of.new.self.store
     (frames_of c.self.inside.mbufs.zones c.self.inside.rings c.self.inside.outboxes) c.self.inside.registers c.self.inside.numbers
-    (lists_of c.self.inside.rings c.self.inside.outboxes) c.self.inside.calls (ran c.self.inside.steps.count c.self.inside.cuts c.self.inside.jumps)
+    (lists_of c.self.inside.rings c.self.inside.outboxes) c.self.inside.calls (run_counts c.self.inside.steps.count c.self.inside.cuts c.self.inside.jumps)
     c.args.self.now c.args.into c.args.pool (length k) c.in-Some.packet (λ ns. cloned ns k) (λ ns old new. new ≡ old)
 given c k h =
     taken (setting_of c.args.env.now [] c.args.pattern.now) _ _ _ c.self.inside.registers c.self.inside.numbers
-    (lists_of c.self.inside.rings c.self.inside.outboxes) c.self.inside.calls (ran c.self.inside.steps.count c.self.inside.cuts c.self.inside.jumps)
+    (lists_of c.self.inside.rings c.self.inside.outboxes) c.self.inside.calls (run_counts c.self.inside.steps.count c.self.inside.cuts c.self.inside.jumps)
     c.args.self.now c.args.into c.args.pool (length k) c.in-Some.packet (λ ns. cloned ns k) (λ ns old new. new ≡ old) c.self.view_is c.self.invariant
     c.requires.empty c.requires.pools (rw c.from.ensures at (c.in-Some.ensures.packets k h.has))
 
@@ -67,7 +67,7 @@ pub returns-in-None-clause-denied : goal.returns-in-None-clause-denied
 returns-in-None-clause-denied c k holds =
     let h = there (goal.at.returns-in-None-clause-denied c).After-handle_in-source k holds in
     sym (too_few (setting_of c.args.env.now [] c.args.pattern.now) _ _ _ c.self.inside.registers c.self.inside.numbers
-    (lists_of c.self.inside.rings c.self.inside.outboxes) c.self.inside.calls (ran c.self.inside.steps.count c.self.inside.cuts c.self.inside.jumps)
+    (lists_of c.self.inside.rings c.self.inside.outboxes) c.self.inside.calls (run_counts c.self.inside.steps.count c.self.inside.cuts c.self.inside.jumps)
     c.args.self.now c.args.pool (length k) (λ ns. cloned ns k) (λ ns old new. new
     ≡ old) c.self.view_is c.self.invariant c.requires.pools (sym c.if-is_listed.ensures) (rw c.from.ensures at (c.in-None.ensures.packets k h.has)))
 

@@ -3,10 +3,11 @@ use Rattle.std.proofs.Common.{◌≡◌, ◌+◌, ◌<◌, ◌≤◌, ◌++◌, 
 use Rattle.std.proofs.Common.{length-set}
 use Rattle.std.specs.Prelude.{slice_get}
 use Rattle.std.proofs.lemmas.Option.{same_Some}
+use Rattle.std.proofs.lemmas.List.{take_all}
 use Rattle.dp_model.specs.Packets.{Packet, packet_bytes}
+use Rattle.dp_model.specs.Laws.Lists.{get_within}
 use Rattle.dp_engine.specs.Batches.{Holds, frame_of, bytes_of_all}
 use Rattle.dp_engine.proofs.Batches.{bytes_long, holds_more, frames_next, packet_has_room}
-use Rattle.dp_engine.proofs.Writing.{at_slot, take_all}
 use Rattle.dp_engine.proofs.machine.Machine.copy_list.Goals as goal
 use Rattle.dp_engine.proofs.machine.Machine.copy_list.Goals.{After-copy_waiting-arg-1}
 
@@ -23,7 +24,7 @@ next c packets box =
     let (others, box', count) = c.queued-count.ensures.list in
     let same : length others ≡ length packets = ap length (same_Some _ _ (sym box' ∙ box)) in
     let lt : c.loop-at.at < length packets = omega (arith, c.loop-at-test.true, count, same) in
-    let (k, here) = at_slot packets c.loop-at.at lt in
+    let (k, here) = get_within packets c.loop-at.at lt in
     record {
       packet = k;
       here = here;
@@ -108,4 +109,4 @@ returns-clause-holds c = λ packets frames box was.
     let (others, box', count) = c.queued-count.ensures.list in
     let same : length others ≡ length packets = ap length (same_Some _ _ (sym box' ∙ box)) in
     subst (λ l. Holds c.args.time (frames ++ map (frame_of c.args.port c.args.self.now.state.world.buffers) l) c.loop-at.records c.loop-at.bytes c.loop-at.held)
-    (take_all packets c.loop-at.at (omega (arith, c.loop-at-test.false, count, same))) (c.loop-at.invariant.holds packets frames box was)
+    (take_all c.loop-at.at packets (omega (arith, c.loop-at-test.false, count, same))) (c.loop-at.invariant.holds packets frames box was)

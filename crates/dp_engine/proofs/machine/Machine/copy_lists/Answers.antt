@@ -1,12 +1,12 @@
 -- The list that is copied is found once, and each goal is one step from there.
 use Rattle.std.proofs.Common.{◌≡◌, ◌+◌, ◌≤◌, ◌++◌, List, length, map, take, Some, refl, sym, ◌∙◌, ap, subst, arith, add-one, zero-add}
 use Rattle.std.specs.Prelude.{slice_get}
-use Rattle.std.proofs.lemmas.List.{length-map}
+use Rattle.std.proofs.lemmas.List.{length-map, take_all}
 use Rattle.dp_model.specs.Packets.{Packet}
+use Rattle.dp_model.specs.Laws.Lists.{get_within}
 use Rattle.dp_engine.specs.Batches.{Holds, frame_of, frames_from, bytes_of_all}
 use Rattle.dp_engine.specs.Handles.{Core, entries_of, packet_at}
 use Rattle.dp_engine.proofs.Batches.{HasRoom, holds_none, frames_more, next_has_room}
-use Rattle.dp_engine.proofs.Writing.{at_slot, take_all}
 use Rattle.dp_engine.proofs.machine.Machine.copy_lists.Goals as goal
 use Rattle.dp_engine.proofs.machine.Machine.copy_lists.Goals.{After-len-port-end, In-loop-port}
 
@@ -51,7 +51,7 @@ pub loop-port-preserved : goal.loop-port-preserved
 loop-port-preserved c =
     let w = c.args.self.now.state.world in
     let n = c.loop-port.port in
-    let (packets, box) = at_slot w.outboxes n
+    let (packets, box) = get_within w.outboxes n
     (omega (arith, c.loop-port-test.true, c.len-port-end.ensures.value, long (goal.at.loop-port-preserved c).After-len-port-end)) in
     let front = frames_from 0 w.buffers (take n w.outboxes) in
     let more : front ++ map (frame_of n w.buffers) packets ≡ frames_from 0 w.buffers (take (n + 1) w.outboxes) =
@@ -67,6 +67,6 @@ loop-port-preserved c =
 pub returns-clause-holds : goal.returns-clause-holds
 returns-clause-holds c =
     let w = c.args.self.now.state.world in
-    let all = take_all w.outboxes c.loop-port.port
+    let all = take_all c.loop-port.port w.outboxes
     (omega (arith, c.loop-port-test.false, c.len-port-end.ensures.value, long (goal.at.returns-clause-holds c).After-len-port-end)) in
     subst (λ l. Holds c.args.time (frames_from 0 w.buffers l) c.loop-port.records c.loop-port.bytes c.loop-port.held) all c.loop-port.invariant.holds

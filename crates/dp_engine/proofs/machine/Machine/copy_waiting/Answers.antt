@@ -4,8 +4,9 @@ use Rattle.std.specs.Prelude.{slice_get}
 use Rattle.std.proofs.lemmas.Option.{same_Some}
 use Rattle.dp_model.specs.Buffers.{overwritten}
 use Rattle.dp_model.specs.Packets.{Packet, packet_bytes}
-use Rattle.dp_engine.specs.Handles.{Core, ran}
-use Rattle.dp_engine.proofs.Writing.{at_slot, waits_at}
+use Rattle.dp_model.specs.Laws.Lists.{get_within}
+use Rattle.dp_engine.specs.Handles.{Core, run_counts}
+use Rattle.dp_engine.proofs.Writing.{waits_at}
 use Rattle.dp_engine.proofs.machine.Machine.copy_waiting.Goals as goal
 use Rattle.dp_engine.proofs.machine.Machine.copy_waiting.Goals.{In-Some}
 
@@ -15,20 +16,20 @@ named : (c : In-Some) (packets : List Packet) (k : Packet) → slice_get c.args.
 named c packets k box here =
     let m = c.self.inside in
     let (h, at, has) = waits_at m.mbufs.store m.mbufs.zones m.registers m.numbers m.rings m.outboxes m.calls
-    (ran m.steps.count m.cuts m.jumps) c.args.self.now c.args.port c.args.at packets k c.self.view_is c.self.invariant c.requires.there box here in
+    (run_counts m.steps.count m.cuts m.jumps) c.args.self.now c.args.port c.args.at packets k c.self.view_is c.self.invariant c.requires.there box here in
     ap (slice_get m.mbufs.store.slots) (same_Some _ _ (sym c.in-Some.is ∙ c.peek.ensures ∙ at)) ∙ has
 
 pub copy_packet-requires-clause-live : goal.copy_packet-requires-clause-live
 copy_packet-requires-clause-live c =
     let (packets, box, less) = c.requires.waits in
-    let (k, here) = at_slot packets c.args.at less in
+    let (k, here) = get_within packets c.args.at less in
     let has = named (goal.at.copy_packet-requires-clause-live c).In-Some packets k box here in
     (k, ap (slice_get c.self.inside.mbufs.store.slots) c.of.ensures ∙ has, tt)
 
 pub copy_packet-requires-clause-room : goal.copy_packet-requires-clause-room
 copy_packet-requires-clause-room c = λ k has.
     let (packets, box, less) = c.requires.waits in
-    let (j, here) = at_slot packets c.args.at less in
+    let (j, here) = get_within packets c.args.at less in
     let its = named (goal.at.copy_packet-requires-clause-room c).In-Some packets j box here in
     let same : j ≡ k = same_Some j k (same_Some _ _ (sym its ∙ ap (slice_get c.self.inside.mbufs.store.slots) (sym c.of.ensures) ∙ has)) in
     subst (λ x. c.args.from + length (packet_bytes c.self.inside.mbufs.store.buffers x) ≤ length c.args.bytes.now) same
@@ -38,10 +39,10 @@ copy_packet-requires-clause-room c = λ k has.
 pub unreachable-requires : goal.unreachable-requires
 unreachable-requires c =
     let (packets, box, less) = c.requires.waits in
-    let (k, here) = at_slot packets c.args.at less in
+    let (k, here) = get_within packets c.args.at less in
     let m = c.self.inside in
     let (h, at, has) = waits_at m.mbufs.store m.mbufs.zones m.registers m.numbers m.rings m.outboxes m.calls
-    (ran m.steps.count m.cuts m.jumps) c.args.self.now c.args.port c.args.at packets k c.self.view_is c.self.invariant c.requires.there box here in
+    (run_counts m.steps.count m.cuts m.jumps) c.args.self.now c.args.port c.args.at packets k c.self.view_is c.self.invariant c.requires.there box here in
     let bad : None ≡ Some h = sym c.in-None.is ∙ c.peek.ensures ∙ at in
     cc
 

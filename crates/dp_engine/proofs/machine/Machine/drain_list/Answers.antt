@@ -4,13 +4,14 @@ use Rattle.std.specs.Prelude.{drop, slice_get}
 use Rattle.std.specs.Io.KnownBytes.{Appends}
 use Rattle.std.proofs.lemmas.Option.{same_Some}
 use Rattle.dp_model.specs.Packets.{Packet}
+use Rattle.dp_model.specs.Laws.Lists.{get_within}
 use Rattle.dp_pcap.specs.Text.{AppendsPart}
 use Rattle.dp_engine.specs.Drains.{record_of}
 use Rattle.dp_engine.specs.declared.place.Place.TheVariants.{Port}
 use Rattle.dp_engine.specs.Handles.{Core}
 use Rattle.dp_engine.proofs.Called.{called_piece, called_written, called_more}
 use Rattle.dp_engine.proofs.Clearing.{left_all, left_front, at_front, left_more, left_none, changed_again}
-use Rattle.dp_engine.proofs.Writing.{at_slot, appends_piece, all_written, part_written, on_err_at, on_ok_at}
+use Rattle.dp_engine.proofs.Writing.{appends_piece, all_written, part_written, on_err_at, on_ok_at}
 use Rattle.dp_engine.proofs.machine.Machine.drain_list.Goals as goal
 use Rattle.dp_engine.proofs.machine.Machine.drain_list.Goals.{After-put_first}
 
@@ -20,7 +21,7 @@ next : (g : _) (c : After-put_first g) (packets : List Packet) → slice_get c.a
 next g c packets box =
     let (others, box', count) = c.queued-count.ensures.list in
     let same : length others ≡ length packets = ap length (same_Some _ _ (sym box' ∙ box)) in
-    at_slot packets c.loop-sent.sent (omega (arith, count, same))
+    get_within packets c.loop-sent.sent (omega (arith, count, same))
 
 pub loop-sent-init : goal.loop-sent-init
 loop-sent-init g c = record {
@@ -39,7 +40,7 @@ put_first-requires-clause-there g c =
 pub put_first-requires-clause-some : goal.put_first-requires-clause-some
 put_first-requires-clause-some g c =
     let (packets, box, count) = c.queued-count.ensures.list in
-    let (k, here) = at_slot packets c.loop-sent.sent (omega (arith, count)) in
+    let (k, here) = get_within packets c.loop-sent.sent (omega (arith, count)) in
     (drop (suc c.loop-sent.sent) packets, k, left_front (Port c.args.port) _ _ c.loop-sent.sent packets k c.loop-sent.invariant.left box here)
 
 pub drop_rest-requires : goal.drop_rest-requires

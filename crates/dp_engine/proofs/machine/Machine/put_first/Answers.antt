@@ -7,7 +7,7 @@ use Rattle.std.proofs.lemmas.Result.{on_ok_weaker, on_err_weaker}
 use Rattle.dp_model.specs.Packets.{Packet}
 use Rattle.dp_pcap.specs.Text.{AppendsPart}
 use Rattle.dp_engine.specs.Drains.{record_of}
-use Rattle.dp_engine.specs.Handles.{Core, Lists, lists_of, ran}
+use Rattle.dp_engine.specs.Handles.{Core, Lists, lists_of, run_counts}
 use Rattle.dp_engine.specs.Queues.{ring_at}
 use Rattle.dp_engine.specs.declared.place.Place.TheVariants.{Port}
 use Rattle.dp_engine.proofs.Draining.{stand_less, waits_less, first_drops}
@@ -22,7 +22,7 @@ named : (g : _) (c : In-Some g) (packets : List Packet) (k : Packet) → slice_g
 named g c packets k box here =
     let m = c.self.inside in
     let (h, at, has) = waits_at m.mbufs.store m.mbufs.zones m.registers m.numbers m.rings m.outboxes m.calls
-    (ran m.steps.count m.cuts m.jumps) c.args.self.now c.args.port 0 packets k c.self.view_is c.self.invariant c.requires.there box here in
+    (run_counts m.steps.count m.cuts m.jumps) c.args.self.now c.args.port 0 packets k c.self.view_is c.self.invariant c.requires.there box here in
     ap (slice_get m.mbufs.store.slots) (same_Some _ _ (c.in-Some.ensures.first ∙ at)) ∙ has
 
 -- there is one

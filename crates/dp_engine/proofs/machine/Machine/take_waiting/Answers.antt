@@ -1,7 +1,7 @@
 use Rattle.std.proofs.Common.{sym, ap}
 use Rattle.dp_engine.specs.declared.place.Place.TheVariants.{Ring}
 use Rattle.dp_engine.specs.Queues.{ring_at}
-use Rattle.dp_engine.specs.Handles.{Core, lists_of, ran}
+use Rattle.dp_engine.specs.Handles.{Core, lists_of, run_counts}
 use Rattle.dp_engine.proofs.Clearing.{stand_first, starts_none, starts_first}
 use Rattle.dp_engine.proofs.Pushing.{popped, first_in}
 use Rattle.dp_engine.proofs.Receive.{idle_of}
@@ -27,7 +27,7 @@ invariant_of-self c =
 
 pub returns : goal.returns
 returns c =
-    let steps = ran c.self.inside.steps.count c.self.inside.cuts c.self.inside.jumps in
+    let steps = run_counts c.self.inside.steps.count c.self.inside.cuts c.self.inside.jumps in
     let rest = popped c.self.inside.rings c.pop.new.self c.in_ok-ring.ring c.pop.ensures.rest in
     let first = found c.self.inside.mbufs.store.slots c.self.inside.rings c.in_ok-ring.ring (sym c.in_ok-ring.ensures.value) in
     let at = first_of (ring_at c.self.inside.rings c.in_ok-ring.ring).entries c.in-Some.packet c.in-Some.ensures.first in

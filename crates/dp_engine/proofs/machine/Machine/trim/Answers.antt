@@ -1,4 +1,4 @@
-use Rattle.dp_model.specs.Packets.{at_end, less_behind}
+use Rattle.dp_model.specs.Packets.{at_end, less_after}
 use Rattle.dp_model.specs.Stores.{unwritten}
 use Rattle.dp_engine.proofs.Registers.{handle, held, stand_becomes, becomes}
 use Rattle.dp_engine.proofs.machine.Machine.trim.Goals as goal
@@ -18,10 +18,10 @@ pub invariant_of-self : goal.invariant_of-self
 invariant_of-self c =
     let (k, holds, le) = c.requires in
     let there = held _ _ _ _ _ _ _ _ c.args.p c.handle_in-packet.result k c.self.view_is c.self.invariant c.handle_in-packet.ensures holds in
-    stand_becomes _ _ _ _ c.args.p c.handle_in-packet.result k (at_end (less_behind c.args.n)) unwritten c.self.invariant there c.trim.ensures.packets
+    stand_becomes _ _ _ _ c.args.p c.handle_in-packet.result k (at_end (less_after c.args.n)) unwritten c.self.invariant there c.trim.ensures.packets
 
 pub returns : goal.returns
 returns c k holds =
     let there = held _ _ _ _ _ _ _ _ c.args.p c.handle_in-packet.result k c.self.view_is c.self.invariant c.handle_in-packet.ensures holds in
-    rw (c.trim.ensures.zones) (becomes _ _ _ _ _ _ _ _ _ c.args.p c.handle_in-packet.result k (at_end (less_behind c.args.n)) unwritten c.self.view_is there
+    rw (c.trim.ensures.zones) (becomes _ _ _ _ _ _ _ _ _ c.args.p c.handle_in-packet.result k (at_end (less_after c.args.n)) unwritten c.self.view_is there
     c.trim.ensures.packets)

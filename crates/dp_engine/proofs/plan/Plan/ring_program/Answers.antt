@@ -2,8 +2,8 @@
 use Rattle.std.proofs.Common.{◌<◌, length, ap, arith}
 use Rattle.dp_lang.specs.Programs.{IsProgram}
 use Rattle.dp_engine.specs.Schemes.{Scheme}
-use Rattle.dp_engine.proofs.Parting.{item_at}
 use Rattle.dp_engine.proofs.plan.Plan.ring_program.Goals as goal
+use Rattle.dp_engine.proofs.Filled.{all_at}
 
 pub returns-clause-program : goal.returns-clause-program
 returns-clause-program g c =
@@ -11,4 +11,4 @@ returns-clause-program g c =
     let env = ap (λ (s : Scheme). length s.setting.env.rings) c.self.view_is in
     let inside : c.args.ring < length kept = omega (arith, c.requires, env, c.self.invariant.pipeline.rings) in
     rw (c.index-deref-from.is, c.from.ensures, c.deref.ensures.0)
-    (item_at IsProgram kept c.args.ring c.index-deref-from.result inside c.self.invariant.rings)
+    (all_at IsProgram kept c.args.ring c.index-deref-from.result inside c.self.invariant.rings)

@@ -8,12 +8,13 @@ take_in-requires-clause-rule c =
     rule_is c.args.ip c.args.depth c.args.hop c.prefix_of.result c.prefix_of.ensures (omega arith) c.if-depth-lt1.false c.if-depth-gt-MAX_DEPTH.false
     c.if-hop-gt-MAX_HOP.false
 
-pub settle-requires-clause-deep : goal.settle-requires-clause-deep
-settle-requires-clause-deep c =
+pub overwrite_shallower-requires-clause-deep : goal.overwrite_shallower-requires-clause-deep
+overwrite_shallower-requires-clause-deep c =
     added_group c.args.self.now c.take_in.new.self c.args.ip c.args.depth c.args.hop c.prefix_of.result c.prefix_of.ensures c.if-depth-gt-MAX_DEPTH.false
     c.in_ok-take_in.ensures.0
 
 pub returns-clause-kept : goal.returns-clause-kept
 returns-clause-kept c =
-    added_keeps c.args.self.now c.take_in.new.self c.settle.new.self c.args.ip c.args.depth c.args.hop c.prefix_of.result c.prefix_of.ensures
-    c.if-depth-lt1.false c.if-depth-gt-MAX_DEPTH.false c.in_ok-take_in.ensures.0 c.settle.ensures.settled c.settle.ensures.rules c.settle.ensures.max_rules
+    added_keeps c.args.self.now c.take_in.new.self c.overwrite_shallower.new.self c.args.ip c.args.depth c.args.hop c.prefix_of.result c.prefix_of.ensures
+    c.if-depth-lt1.false c.if-depth-gt-MAX_DEPTH.false c.in_ok-take_in.ensures.0 c.overwrite_shallower.ensures.overwritten c.overwrite_shallower.ensures.rules
+    c.overwrite_shallower.ensures.max_rules

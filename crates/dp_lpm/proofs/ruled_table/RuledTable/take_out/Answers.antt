@@ -8,11 +8,11 @@ use Rattle.dp_lpm.specs.Kept.{routes_in}
 use Rattle.dp_lpm.proofs.Deleting.{entry_fits, deep_group, taken_out}
 use Rattle.dp_lpm.proofs.ruled_table.RuledTable.take_out.Goals as goal
 
-pub settle-requires-clause-deep : goal.settle-requires-clause-deep
-settle-requires-clause-deep c = deep_group c.args.self.now c.args.ip c.args.depth c.args.index c.requires.kept c.requires.most c.requires.found
+pub overwrite_shallower-requires-clause-deep : goal.overwrite_shallower-requires-clause-deep
+overwrite_shallower-requires-clause-deep c = deep_group c.args.self.now c.args.ip c.args.depth c.args.index c.requires.kept c.requires.most c.requires.found
 
-pub settle-requires-clause-storable : goal.settle-requires-clause-storable
-settle-requires-clause-storable c =
+pub overwrite_shallower-requires-clause-storable : goal.overwrite_shallower-requires-clause-storable
+overwrite_shallower-requires-clause-storable c =
     subst IsStorable (sym (c.entry_within-next.ensures ∙ ap (λ rules. entry_of (deepest_within (c.args.depth - 1) (routes_of rules) c.args.ip))
     c.deref.ensures.value))
     (entry_fits (routes_in c.args.self.now) (c.args.depth - 1) c.args.ip c.requires.kept.each)
@@ -21,7 +21,8 @@ pub returns : goal.returns
 returns c =
     let old = c.args.self.now in
     let mid : RuledTable = record old { rules = c.remove.new.rules } in
-    taken_out old mid c.settle.new.self c.args.index c.args.ip c.args.depth c.entry_within-next.result c.requires.kept c.requires.found c.requires.some
+    taken_out old mid c.overwrite_shallower.new.self c.args.index c.args.ip c.args.depth c.entry_within-next.result c.requires.kept c.requires.found
+    c.requires.some
     c.requires.most c.remove.ensures.items c.remove.ensures.capacity refl refl
     (c.entry_within-next.ensures ∙ ap (λ rules. entry_of (deepest_within (c.args.depth - 1) (routes_of rules) c.args.ip)) c.deref.ensures.value)
-    c.settle.ensures.settled c.settle.ensures.rules c.settle.ensures.max_rules
+    c.overwrite_shallower.ensures.overwritten c.overwrite_shallower.ensures.rules c.overwrite_shallower.ensures.max_rules

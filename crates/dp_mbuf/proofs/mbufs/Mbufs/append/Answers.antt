@@ -5,7 +5,7 @@ use Rattle.dp_mbuf.specs.Mbufs.{numbered}
 use Rattle.dp_mbuf.specs.Objects.{header_at, specs_of, HasObject}
 use Rattle.dp_mbuf.proofs.Live.{same_store, live_object, last_object}
 use Rattle.dp_mbuf.proofs.InHand.{object_after}
-use Rattle.dp_mbuf.proofs.Bytes.{behind_last, appended_done}
+use Rattle.dp_mbuf.proofs.Bytes.{after_last, appended_done}
 use Rattle.dp_mbuf.proofs.mbufs.Mbufs.append.Goals as goal
 use Rattle.dp_mbuf.proofs.mbufs.Mbufs.append.Goals.{After-header-tail}
 
@@ -18,7 +18,7 @@ free : (c : After-header-tail) →
     (c.header-tail.result.offset + c.header-tail.result.len + c.args.n ≤ room_at (specs_of c.self.inside.objects) c.header-tail.result.buffer.pool)
     × HasObject c.self.inside.objects c.header-tail.result.buffer
     × (room_at (specs_of c.self.inside.objects) c.header-tail.result.buffer.pool ≤ 4096)
-free c = behind_last _ _ c.args.packet.now (same_store c.self.view_is) c.self.invariant _ c.args.n (last c) (c.requires.0, c.requires.1, c.requires.2.0)
+free c = after_last _ _ c.args.packet.now (same_store c.self.view_is) c.self.invariant _ c.args.n (last c) (c.requires.0, c.requires.1, c.requires.2.0)
 
 pub first_header-last-requires : goal.first_header-last-requires
 first_header-last-requires c = live_object _ _ c.args.packet.now (same_store c.self.view_is) c.self.invariant (c.requires.0, c.requires.1, tt)

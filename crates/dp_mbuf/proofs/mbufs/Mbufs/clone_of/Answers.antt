@@ -78,18 +78,18 @@ loop-i-preserved c = record {
   zones = c.relink.ensures.zones ∙ (cloned_zones _ _ _ _ c.clone_segment-mbuf.ensures.cloned ∙ c.loop-i.invariant.zones);
 }
 
-pub hook-requires : goal.hook-requires
-hook-requires c =
-    end_object _ _ _ _ _ _ (found (goal.at.hook-requires c).After-first_number) _ _ _ _ _
+pub set_first-requires : goal.set_first-requires
+set_first-requires c =
+    end_object _ _ _ _ _ _ (found (goal.at.set_first-requires c).After-first_number) _ _ _ _ _
     (c.loop-i.invariant.packets c.requires.live.0 c.requires.live.1) c.loop-i-test.false
 
 pub invariant_of-self : goal.invariant_of-self
 invariant_of-self c =
     (end_done _ _ _ _ _ _ (found (goal.at.invariant_of-self c).After-first_number) _ _ _ _ _
     (c.loop-i.invariant.packets c.requires.live.0 c.requires.live.1)
-    c.loop-i-test.false _ _ c.packet_of.ensures c.hook.ensures).0
+    c.loop-i-test.false _ _ c.packet_of.ensures c.set_first.ensures).0
 
 pub returns-clause-packets : goal.returns-clause-packets
 returns-clause-packets c = λ p has.
     (end_done _ _ _ _ _ _ (opening (goal.at.returns-clause-packets c).After-first_number p has) _ _ _ _ _ (c.loop-i.invariant.packets p has)
-    c.loop-i-test.false _ _ c.packet_of.ensures c.hook.ensures).1
+    c.loop-i-test.false _ _ c.packet_of.ensures c.set_first.ensures).1

@@ -4,7 +4,7 @@ use Rattle.std.proofs.lemmas.Bool.{le-ltb}
 use Rattle.dp_mbuf.specs.Objects.{pool_in}
 use Rattle.dp_mbuf.specs.Mbufs.{numbered, is_positive}
 use Rattle.dp_mbuf.proofs.Live.{same_store}
-use Rattle.dp_mbuf.proofs.Unhooking.{no_head_past}
+use Rattle.dp_mbuf.proofs.ClearingFirst.{no_head_past}
 use Rattle.dp_mbuf.proofs.Starting.{live_iff, positive_is}
 use Rattle.dp_mbuf.proofs.mbufs.Mbufs.is_live.Goals as goal
 

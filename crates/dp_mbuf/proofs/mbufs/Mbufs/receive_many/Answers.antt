@@ -27,7 +27,7 @@ loop-i-init c = record {
   packets =
       let r = pool_ready (goal.at.loop-i-init c).After-fill_segment-first in
       receiving_start c.args.self.now.store c.args.pool (c.room-full.result - 128) c.args.bytes.now r.room r.some _ _ _ _ r.whole r.there
-      c.fill_segment-first.ensures.pool r.specs r.buffers r.in_pool c.fill_segment-first.ensures.filled (rw c.from.ensures at c.behind-rest.ensures);
+      c.fill_segment-first.ensures.pool r.specs r.buffers r.in_pool c.fill_segment-first.ensures.filled (rw c.from.ensures at c.beyond-rest.ensures);
   zones = filled_zones _ _ _ _ c.fill_segment-first.ensures.filled ∙ same_zones c.self.view_is;
 }
 
@@ -48,13 +48,13 @@ loop-i-preserved c = record {
   packets =
       let r = pool_ready (goal.at.loop-i-preserved c).After-fill_segment-first in
       fill_done c.args.self.now.store c.args.pool (c.room-full.result - 128) c.args.bytes.now r.room r.some _ _ _ _ _ c.loop-i.invariant.packets _ _ _ _
-      c.fill_segment-mbuf.ensures.pool c.fill_segment-mbuf.ensures.filled c.relink.ensures (rw c.from-in-loop-i.ensures at c.behind-rest-in-loop-i.ensures);
+      c.fill_segment-mbuf.ensures.pool c.fill_segment-mbuf.ensures.filled c.relink.ensures (rw c.from-in-loop-i.ensures at c.beyond-rest-in-loop-i.ensures);
   zones = c.relink.ensures.zones ∙ (filled_zones _ _ _ _ c.fill_segment-mbuf.ensures.filled ∙ c.loop-i.invariant.zones);
 }
 
-pub hook-requires : goal.hook-requires
-hook-requires c =
-    let r = pool_ready (goal.at.hook-requires c).After-fill_segment-first in
+pub set_first-requires : goal.set_first-requires
+set_first-requires c =
+    let r = pool_ready (goal.at.set_first-requires c).After-fill_segment-first in
     let need = c.count_needed-need.ensures in
     let same : c.loop-i.i ≡ c.count_needed-need.result = omega (arith, need, c.loop-i-test.false, c.loop-i.auto.i-end) in
     receive_object c.args.self.now.store c.args.pool (c.room-full.result - 128) c.args.bytes.now _ _ _ _ _ _ _ c.loop-i.invariant.packets r need
@@ -66,7 +66,7 @@ invariant_of-self c =
     let need = c.count_needed-need.ensures in
     let same : c.loop-i.i ≡ c.count_needed-need.result = omega (arith, need, c.loop-i-test.false, c.loop-i.auto.i-end) in
     (receive_done c.args.self.now.store c.args.pool (c.room-full.result - 128) c.args.bytes.now _ _ _ _ _ _ _ c.loop-i.invariant.packets r need
-    c.requires.fits same _ _ (enough (goal.at.invariant_of-self c).After-fill_segment-first) c.packet_of.ensures c.hook.ensures).0
+    c.requires.fits same _ _ (enough (goal.at.invariant_of-self c).After-fill_segment-first) c.packet_of.ensures c.set_first.ensures).0
 
 pub returns-clause-packets : goal.returns-clause-packets
 returns-clause-packets c =
@@ -74,4 +74,4 @@ returns-clause-packets c =
     let need = c.count_needed-need.ensures in
     let same : c.loop-i.i ≡ c.count_needed-need.result = omega (arith, need, c.loop-i-test.false, c.loop-i.auto.i-end) in
     (receive_done c.args.self.now.store c.args.pool (c.room-full.result - 128) c.args.bytes.now _ _ _ _ _ _ _ c.loop-i.invariant.packets r need
-    c.requires.fits same _ _ (enough (goal.at.returns-clause-packets c).After-fill_segment-first) c.packet_of.ensures c.hook.ensures).1
+    c.requires.fits same _ _ (enough (goal.at.returns-clause-packets c).After-fill_segment-first) c.packet_of.ensures c.set_first.ensures).1

@@ -1,6 +1,6 @@
 -- `pass`: one step more, and what it went by.
 use Rattle.std.proofs.Common.{rules, ◌++◌, take, subst, ◌∙◌, arith, append_assoc}
-use Rattle.dp_pcap.specs.Counting.{IsBehind}
+use Rattle.dp_pcap.specs.Counting.{IsAfter}
 use Rattle.dp_pcap.proofs.Pieces.{take_more-rest}
 use Rattle.dp_pcap.proofs.whole_records.WholeRecords.pass.Goals as goal
 
@@ -13,7 +13,7 @@ loop-at-preserved c =
       within = search rules;
       order = stepped.order ∙ c.loop-at.invariant.order;
       pieces = omega (arith, stepped.pieces, stepped.some, c.loop-at.invariant.pieces);
-      behind = λ few before b. rw (take_more-rest at c.step-at.result bytes)
-          (subst (λ l. IsBehind c.step-at.new.self l) (append_assoc before (take at bytes) _)
-          (stepped.behind (search rules) (before ++ take at bytes) (c.loop-at.invariant.behind few before b)));
+      beyond = λ few before b. rw (take_more-rest at c.step-at.result bytes)
+          (subst (λ l. IsAfter c.step-at.new.self l) (append_assoc before (take at bytes) _)
+          (stepped.beyond (search rules) (before ++ take at bytes) (c.loop-at.invariant.beyond few before b)));
     }

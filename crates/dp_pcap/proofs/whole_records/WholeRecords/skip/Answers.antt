@@ -1,6 +1,6 @@
 -- `skip`: the body ends here, or goes on.
 use Rattle.std.proofs.Common.{rules, ◌≡◌, ◌≤◌, ◌-◌, length, take, subst, sym, ap, arith}
-use Rattle.dp_pcap.specs.Counting.{Counted, IsBehind}
+use Rattle.dp_pcap.specs.Counting.{Counted, IsAfter}
 use Rattle.dp_pcap.proofs.Counting.{completes}
 use Rattle.dp_pcap.proofs.whole_records.WholeRecords.skip.Goals as goal
 
@@ -10,7 +10,7 @@ returns-then-self-eq0 c = record {
   most = search rules;
   order = search rules;
   pieces = search rules;
-  behind = λ few before b.
+  beyond = λ few before b.
       let same : c.self.inside.pieces ≡ c.args.self.now.pieces = ap (λ (v : Counted). v.pieces) c.self.view_is in
       let left : c.self.inside.left ≡ c.args.self.now.left = ap (λ (v : Counted). v.left) c.self.view_is in
       let none : c.self.inside.left - c.min-taken.result ≡ 0 = search rules in
@@ -19,5 +19,5 @@ returns-then-self-eq0 c = record {
       completes c.self.inside.order c.self.inside.pieces c.self.inside.left c.saturating_add-self-inside.result (c.self.inside.left - c.min-taken.result)
       c.min-taken.result
       (take c.self.inside.came c.self.inside.head) before c.args.bytes.now (omega (arith, c.saturating_add-self-inside.ensures, few, same)) none
-      (omega (arith, none, most)) within (omega (arith, left, c.requires.left)) (subst (λ v. IsBehind v before) (sym c.self.view_is) b);
+      (omega (arith, none, most)) within (omega (arith, left, c.requires.left)) (subst (λ v. IsAfter v before) (sym c.self.view_is) b);
 }

@@ -1,7 +1,7 @@
 -- `take_head`: the head is whole, and its record ends here or goes on.
 use Rattle.std.proofs.Common.{rules, refl, ◌≡◌, ◌∙◌, ◌+◌, ◌-◌, subst, sym, ap, arith}
 use Rattle.dp_pcap.specs.Capture.{number}
-use Rattle.dp_pcap.specs.Counting.{Counted, IsBehind}
+use Rattle.dp_pcap.specs.Counting.{Counted, IsAfter}
 use Rattle.dp_pcap.proofs.Counting.{IsHead, head_ends, head_goes_on}
 use Rattle.dp_pcap.proofs.whole_records.WholeRecords.take_head.Goals as goal
 use Rattle.dp_pcap.proofs.whole_records.WholeRecords.take_head.Goals.{After-body_length}
@@ -29,11 +29,11 @@ returns-then-self-eq0 c = record {
   most = search rules;
   order = search rules;
   pieces = search rules;
-  behind = λ few before b.
+  beyond = λ few before b.
       let same : c.self.inside.pieces ≡ c.args.self.now.pieces = ap (λ (v : Counted). v.pieces) c.self.view_is in
       let opened = (goal.at.returns-then-self-eq0 c).After-body_length in
       head_ends _ _ _ _ _ _ _ _ _ _ _ _ before (none opened) (omega (arith, c.saturating_add-self-inside.ensures, few, same)) (search rules) refl (head opened)
-      (subst (λ v. IsBehind v before) (sym c.self.view_is) b);
+      (subst (λ v. IsAfter v before) (sym c.self.view_is) b);
 }
 
 pub returns-else-self-eq0 : goal.returns-else-self-eq0
@@ -42,7 +42,7 @@ returns-else-self-eq0 c = record {
   most = search rules;
   order = search rules;
   pieces = search rules;
-  behind = λ few before b.
+  beyond = λ few before b.
       let opened = (goal.at.returns-else-self-eq0 c).After-body_length in
-      head_goes_on _ _ _ _ _ _ _ _ _ _ _ before (none opened) (search rules) refl (head opened) (subst (λ v. IsBehind v before) (sym c.self.view_is) b);
+      head_goes_on _ _ _ _ _ _ _ _ _ _ _ before (none opened) (search rules) refl (head opened) (subst (λ v. IsAfter v before) (sym c.self.view_is) b);
 }

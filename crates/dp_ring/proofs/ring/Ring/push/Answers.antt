@@ -15,11 +15,11 @@ few c =
     omega (arith, is, room)
 
 -- the slot lies in the zone
-fits : (c : goal.After-self-1) → 4 * c.slot_behind-slot.result + 4 ≤ length c.self.inside.zone.bytes
-fits c = let small = c.slot_behind-slot.ensures.bound in let room = c.self.invariant.3 in omega (arith, small, room)
+fits : (c : goal.After-self-1) → 4 * c.slot_after-slot.result + 4 ≤ length c.self.inside.zone.bytes
+fits c = let small = c.slot_after-slot.ensures.bound in let room = c.self.invariant.3 in omega (arith, small, room)
 
 long : (c : goal.After-self-1) → length c.store_one.new.zone.bytes ≡ length c.self.inside.zone.bytes
-long c = ap (λ z. length z.bytes) c.store_one.ensures ∙ length-with_number c.self.inside.zone.bytes (4 * c.slot_behind-slot.result) c.args.value (fits c)
+long c = ap (λ z. length z.bytes) c.store_one.ensures ∙ length-with_number c.self.inside.zone.bytes (4 * c.slot_after-slot.result) c.args.value (fits c)
 
 pub invariant_of-self : goal.invariant_of-self
 invariant_of-self c = (c.self.invariant.0, few c, c.self.invariant.2, let is = long c in let room = c.self.invariant.3 in omega (arith, is, room))
@@ -31,7 +31,7 @@ returns c =
     ≡ entries_from bytes c.self.inside.count c.self.inside.first c.self.inside.used ++ c.args.value ∷ [] =
     ap (λ z. entries_from z.bytes c.self.inside.count c.self.inside.first (c.self.inside.used + 1)) c.store_one.ensures
     ∙ (ap (λ p. entries_from (with_number bytes (4 * p) 4 c.args.value) c.self.inside.count c.self.inside.first (c.self.inside.used + 1))
-    c.slot_behind-slot.ensures.value
+    c.slot_after-slot.ensures.value
     ∙ entries_pushed bytes c.self.inside.count c.self.inside.first c.self.inside.used c.args.value c.self.invariant.0 (few c) c.self.invariant.3
     c.ranges.value.fits) in
     let name = ap (λ z. z.name) c.store_one.ensures in

@@ -22,8 +22,8 @@ overflow_sub-left c = there c
 pub overflow_cast-number : goal.overflow_cast-number
 overflow_cast-number c = omega (arith, there c, c.self.invariant.1, c.self.invariant.2)
 
-pub slot_behind-self-inside-requires : goal.slot_behind-self-inside-requires
-slot_behind-self-inside-requires c = (c.self.invariant.0, omega (arith, there c, c.self.invariant.1), c.self.invariant.2)
+pub slot_after-self-inside-requires : goal.slot_after-self-inside-requires
+slot_after-self-inside-requires c = (c.self.invariant.0, omega (arith, there c, c.self.invariant.1), c.self.invariant.2)
 
 pub returns : goal.returns
 returns c =
@@ -31,9 +31,9 @@ returns c =
     let number = c.args.number in
     let is = counted inside.zone.bytes inside.count inside.first inside.used in
     let all : number ≤ length (the_view inside).entries = subst (λ r. number ≤ length r.entries) (sym c.self.view_is) c.requires in
-    let rest : entries_from inside.zone.bytes inside.count c.slot_behind-self-inside.result (inside.used - number)
+    let rest : entries_from inside.zone.bytes inside.count c.slot_after-self-inside.result (inside.used - number)
     ≡ drop number (entries_from inside.zone.bytes inside.count inside.first inside.used) =
-    ap (λ p. entries_from inside.zone.bytes inside.count p (inside.used - number)) c.slot_behind-self-inside.ensures.value
+    ap (λ p. entries_from inside.zone.bytes inside.count p (inside.used - number)) c.slot_after-self-inside.ensures.value
     ∙ entries_left inside.zone.bytes inside.count inside.first inside.used number c.self.invariant.0 c.self.invariant.1 (omega (arith, is, all)) in
     (λ i. record {
       count = inside.count;

@@ -1,6 +1,6 @@
 -- The entry of the name is removed, if there is one.
 use Rattle.std.proofs.Common.{◌≡◌, position, Some, None, sym, ap, subst, ◌∙◌}
-use Rattle.dp_zone.specs.declared.zones.Entry.{Entry}
+use Rattle.dp_zone.specs.declared.zones.Reservation.{Reservation}
 use Rattle.dp_zone.specs.Names.{same_name}
 use Rattle.dp_zone.specs.Zones.{AreApart, zone_named, without_name}
 use Rattle.dp_zone.specs.Entries.{table_of}
@@ -37,7 +37,7 @@ returns-in_default c =
     let none : position (λ e. same_name e.name.bytes name) entries ≡ None =
     ap (λ es. position (λ e. same_name e.name.bytes name) es) (sym c.as_slice.ensures.value) ∙ (sym c.index_of.ensures ∙ c.in_default.is) in
     let left = sym c.self.view_is
-    ∙ (table_stays name entries (none_from_position (λ (e : Entry). same_name e.name.bytes name) entries none)
+    ∙ (table_stays name entries (none_from_position (λ (e : Reservation). same_name e.name.bytes name) entries none)
     ∙ ap (λ table. without_name name table) c.self.view_is) in
     record {
       table = left;
