@@ -7,7 +7,7 @@ ghost use Rattle.dp_host.specs.Hosts.{Answers, CloseAnswers, IsOpened, IsPool, I
 ghost use Rattle.dp_host.specs.Hosts.{NoPool, NoPort, NoRing, outcome_number};
 
 use crate::numbers::{MAX_REASON, PoolStats, PortStats, Reason, RingStats, Room, Totals};
-use crate::packed::files_in;
+use crate::packed::{Unread, files_in};
 use crate::refusal::Refusal;
 use crate::running::Running;
 use dp_copies::clones_are_copies;
@@ -56,8 +56,10 @@ fn running_of(alloc: Global, pipeline: Pipeline) -> Result<Running, RunCause>
 fn started(alloc: Global, toml: &[u8], packed: &[u8]) -> Result<Running, Fault>
     ensures { IfOk result (IsOpened toml.now packed.now) }
 {
-    let Some(files) = files_in(alloc, packed) else {
-        return Err(Fault::Files);
+    let files = match files_in(alloc, packed) {
+        Ok(files) => files,
+        Err(Unread::Form) => return Err(Fault::Files),
+        Err(Unread::Memory) => return Err(Fault::Open(RunCause::Memory)),
     };
     let mut listed = Listed {
         files: files.as_slice(),
@@ -103,6 +105,7 @@ fn reason_for(alloc: Global, fault: Fault) -> Reason
 {
     match fault {
         Fault::Files => reason_of(2, b"the files are not packed as they should be"),
+        Fault::Load(PipeError::Memory) | Fault::Open(RunCause::Memory) => reason_of(1, b"memory"),
         Fault::Load(error) => reason_in(alloc, error),
         Fault::Open(RunCause::NoRoom) => reason_of(3, b"the region is too small"),
         Fault::Open(_) => reason_of(1, b"memory"),

@@ -1,6 +1,6 @@
 //! Reads files packed in one buffer: for each the lengths of name and bytes, four bytes each, little-endian; then the name and the bytes.
 
-ghost use Rattle.std.specs.Prelude.{◌≡◌, ◌≤◌, length, IfSome};
+ghost use Rattle.std.specs.Prelude.{◌≡◌, ◌≤◌, length, IfOk, IfSome};
 ghost use Rattle.dp_host.specs.Packing.{AreFiles, BeginsWith, first_number};
 
 use dp_pipe::NamedBytes;
@@ -8,6 +8,15 @@ use std::alloc::Global;
 
 /// The maximum number of files in a buffer.
 pub const MAX_FILES: u32 = 64;
+
+/// Why a buffer's files are not read.
+#[derive(Clone, Copy, Debug, PartialEq, Eq)]
+pub enum Unread {
+    /// It is not packed as it should be.
+    Form,
+    /// Memory is refused.
+    Memory,
+}
 
 // The little-endian number in the first four bytes.
 fn number_in(bytes: &[u8]) -> u32
@@ -38,9 +47,13 @@ fn front(packed: &[u8]) -> Option<(NamedBytes<'_>, &[u8])>
     }
 }
 
-/// Reads the files of a buffer; none if it is not packed in this way, or memory is refused.
-pub fn files_in(alloc: Global, packed: &[u8]) -> Option<Vec<NamedBytes<'_>>>
-    ensures { IfSome result (λ files. AreFiles packed.now files.items) }
+/// Reads the files of a buffer.
+///
+/// # Errors
+///
+/// [`Unread`] if it is not packed in this way, or memory is refused.
+pub fn files_in(alloc: Global, packed: &[u8]) -> Result<Vec<NamedBytes<'_>>, Unread>
+    ensures { IfOk result (λ files. AreFiles packed.now files.items) }
 {
     let mut files = Vec::new(alloc);
     let mut rest = packed;
@@ -48,12 +61,16 @@ pub fn files_in(alloc: Global, packed: &[u8]) -> Option<Vec<NamedBytes<'_>>>
         match front(rest) {
             Some((file, after)) => {
                 if files.push(file).is_err() {
-                    return None;
+                    return Err(Unread::Memory);
                 }
                 rest = after;
             }
             None => break,
         }
     }
-    if rest.is_empty() { Some(files) } else { None }
+    if rest.is_empty() {
+        Ok(files)
+    } else {
+        Err(Unread::Form)
+    }
 }

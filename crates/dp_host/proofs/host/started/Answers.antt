@@ -6,9 +6,9 @@ use Rattle.dp_host.proofs.host.started.Goals as goal
 
 pub returns-in-Ok-running_of : goal.returns-in-Ok-running_of
 returns-in-Ok-running_of c = record {
-  files = c.in-Some.files.items;
-  are_files = c.in-Some.ensures;
-  plan = c.in-Ok.pipeline;
-  loaded = subst (λ l. IsLoadedFrom (Some (listed l)) Given c.args.toml.now c.in-Ok.pipeline) c.as_slice.ensures.value c.in-Ok.ensures.loaded;
+  files = c.in-Ok.files.items;
+  are_files = c.in-Ok.ensures;
+  plan = c.in-Ok-load.pipeline;
+  loaded = subst (λ l. IsLoadedFrom (Some (listed l)) Given c.args.toml.now c.in-Ok-load.pipeline) c.as_slice.ensures.value c.in-Ok-load.ensures.loaded;
   served = c.in-Ok-running_of.ensures;
 }
