@@ -6,6 +6,7 @@ pub mod Fitting
 pub mod Listed
 mod Lines
 mod Numbers
+pub mod Numbered
 pub mod Replacing
 pub mod Blocks
 pub mod Commands

@@ -1,19 +1,34 @@
--- What `dpv trace` prints of a traced run, and how it ends.
-use Rattle.std.specs.Prelude.{◌≡◌, ◌<◌, ◌⊎◌, ◌↔◌, ℕ, List, Option, None, Result, Err, IfErr, ⊤}
+-- What `dpv trace` reads and shows of a run, what it prints after it, and how it ends.
+use Rattle.std.specs.Prelude.{◌≡◌, ◌+◌, ◌<◌, ◌⊎◌, ◌↔◌, ℕ, min, List, Option, None, Result, Err, IfErr, ⊤}
 use Rattle.dp_engine.specs.Needs.{bytes_needed}
+use Rattle.dp_engine.specs.Watching.{Event}
 use Rattle.dp_pipe.specs.declared.forwarding.RunCause.{RunCause}
 use Rattle.dp_pipe.specs.declared.forwarding.RunCause.TheVariants.{Memory, NoRoom}
+use Rattle.dp_pipe.specs.Devices.{Device}
 use Rattle.dp_pipe.specs.Pipelines.{Plan}
+use Rattle.dp_pipe.specs.Tracing.{Note, Came, Ended, TracesFirst}
 use Rattle.dp_cli.specs.declared.error_text.Finding.{Finding}
 use Rattle.dp_cli.specs.declared.run.capture_errors.CaptureNames.{CaptureNames}
 use Rattle.dp_cli.specs.declared.run.watched.Seen.{Seen}
 use Rattle.dp_cli.specs.Printing.{Paper, IsEnded}
 use Rattle.dp_cli.specs.Run.{status_of_answer, IsFound, IsStopReported}
 
--- A traced run of a pipeline, the bytes that it read, and its result.
-pub record IsTraced (p : Plan) (olds news : List (Option (List ℕ))) (answer : Result ⊤ RunCause) : Type 0 where
-  pub no_room : (answer ≡ Err Memory) ⊎ ((answer ≡ Err NoRoom) ↔ (p.region < bytes_needed p.env))
-  pub untouched : IfErr answer (λ cause. (cause ≡ Memory) ⊎ (cause ≡ NoRoom) → news ≡ olds)
+-- the number of a record that is printed: the next one when a record comes, as far as 32 bits have it
+abbrev pub numbers_note : ℕ → Note → ℕ → Type 0
+numbers_note n (Came port time len) n' = n' ≡ min (n + 1) 4294967295
+numbers_note n (Ended turn world) n' = n' ≡ n
+
+-- no step of a record's turn changes that number
+abbrev pub numbers_event : ℕ → Event → ℕ → Type 0
+numbers_event n event n' = n' ≡ n
+
+-- A traced run of a pipeline with these calls refused, of the records of one port or of all: what each reader had and has left, and its result. What is
+-- shown is known by the number of records.
+pub record IsTraced (p : Plan) (pattern : List ℕ) (only : Option ℕ) (most : ℕ) (had left : List Device) (answer : Result ⊤ RunCause) : Type 0 where
+  pub no_room : answer ≡ Err NoRoom ↔ p.region < bytes_needed p.env
+  pub traced : (answer ≡ Err Memory) ⊎ (answer ≡ Err NoRoom)
+      ⊎ ((records : ℕ) × TracesFirst numbers_event numbers_note 0 records p pattern only most had left answer)
+  pub untouched : IfErr answer (λ cause. (cause ≡ Memory) ⊎ (cause ≡ NoRoom) → left ≡ had)
 
 -- a traced run was reported after its trace: why it stopped, if it did
 abbrev pub IsTraceReported : Result ⊤ RunCause → Option Finding → Paper → Paper → Paper → Paper → ℕ → Type 0
@@ -21,10 +36,10 @@ IsTraceReported answer found out out' err err' status =
     IsEnded (status_of_answer answer) ((out'.failed ≡ out.failed) × IsStopReported answer found err err') out' err err' status
 
 -- Such a run, and the text that was printed after its trace.
-pub record PrintsTrace (p : Plan) (olds news : List (Option (List ℕ))) (names : List CaptureNames) (saw : List (Option Seen)) (out out' err err' : Paper)
-    (status : ℕ) : Type 0 where
+pub record PrintsTrace (p : Plan) (pattern : List ℕ) (only : Option ℕ) (most : ℕ) (had left : List Device) (names : List CaptureNames)
+    (saw : List (Option Seen)) (out out' err err' : Paper) (status : ℕ) : Type 0 where
   pub answer : Result ⊤ RunCause
-  pub traced : IsTraced p olds news answer
+  pub traced : IsTraced p pattern only most had left answer
   pub found : Option Finding
   pub is_found : IsFound names saw answer None found
   pub reported : IsTraceReported answer found out out' err err' status

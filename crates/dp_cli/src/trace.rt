@@ -2,6 +2,7 @@
 
 ghost use Rattle.std.specs.Prelude.{◌≡◌, ◌≤◌, length, map, IsErr, IfOk};
 ghost use Rattle.dp_engine.specs.Engines.{IsAscending};
+ghost use Rattle.dp_pipe.specs.Devices.{seen};
 ghost use Rattle.dp_cli.specs.Printing.{paper};
 ghost use Rattle.dp_cli.specs.Tracing.{IsTraceReported, PrintsTrace, IsTraced};
 
@@ -20,7 +21,7 @@ use crate::run::{found_of, print_stop, status_of};
 use crate::trace::became::Picked;
 use crate::trace::tracer::{Listing, NodeListing, Printing};
 use dp_counts::NodeSource;
-use dp_engine::Known;
+use dp_engine::{Known, need};
 use dp_lang::print;
 use dp_pcap::Feed;
 use dp_pipe::{MAX_TURNS, Pipeline, RunCause, Traced, trace};
@@ -105,7 +106,8 @@ fn print_trace<K: Known, R: Feed, O: Write>(
     requires readers { length ins.old ≡ length pipeline.env.ports }
     requires pattern { IsAscending 0 pattern.items }
     requires limit { which.records ≤ MAX_TURNS }
-    ensures traced { IfOk result (λ run. IsTraced pipeline (map R.remaining ins.old) (map R.remaining ins.new) run.answer) }
+    ensures traced { IfOk result (λ run. IsTraced pipeline pattern.items which.port which.records (map (seen R.remaining R.calls) ins.old)
+        (map (seen R.remaining R.calls) ins.new) run.answer) }
     ensures untouched { IsErr result → ins.new ≡ ins.old }
 {
     let ports = pipeline.ports();
@@ -123,7 +125,8 @@ fn print_trace<K: Known, R: Feed, O: Write>(
     })
 }
 
-/// Traces as [`print_trace`] does. If there is no memory for the texts of instructions, the result is that of a run that ran out of memory.
+/// Traces as [`print_trace`] does, if the pipeline's region is large enough, which is known before any memory is asked for. If there is no memory for
+/// the texts of instructions, the result is that of a run that ran out of memory.
 fn traced<K: Known, R: Feed, O: Write>(
     alloc: Global,
     pipeline: Pipeline,
@@ -136,8 +139,15 @@ fn traced<K: Known, R: Feed, O: Write>(
     requires readers { length ins.old ≡ length pipeline.env.ports }
     requires pattern { IsAscending 0 pattern.items }
     requires limit { which.records ≤ MAX_TURNS }
-    ensures { IsTraced pipeline (map R.remaining ins.old) (map R.remaining ins.new) result.answer }
+    ensures { IsTraced pipeline pattern.items which.port which.records (map (seen R.remaining R.calls) ins.old)
+        (map (seen R.remaining R.calls) ins.new) result.answer }
 {
+    if u64::from(pipeline.region()) < need(pipeline.env()) {
+        return TracedRun {
+            answer: Err(RunCause::NoRoom),
+            written: Ok(()),
+        };
+    }
     match print_trace::<K, R, O>(alloc, pipeline, ins, pattern, which, shown, out) {
         Ok(run) => run,
         Err(AllocError) => TracedRun {
@@ -182,8 +192,9 @@ pub fn trace_line<K: Known, I: Inlet, O: Write, E: Write>(
     requires readers { length ins.old ≡ length pipeline.env.ports }
     requires pattern { IsAscending 0 pattern.items }
     requires limit { which.records ≤ MAX_TURNS }
-    ensures { PrintsTrace pipeline (map I.remaining ins.old) (map I.remaining ins.new) names.now (map I.saw ins.new) (paper O.contents out.old)
-        (paper O.contents out.new) (paper E.contents err.old) (paper E.contents err.new) result }
+    ensures { PrintsTrace pipeline pattern.items which.port which.records (map (seen I.remaining I.calls) ins.old)
+        (map (seen I.remaining I.calls) ins.new) names.now (map I.saw ins.new) (paper O.contents out.old) (paper O.contents out.new)
+        (paper E.contents err.old) (paper E.contents err.new) result }
 {
     let run = traced::<K, I, O>(alloc, pipeline, ins, pattern, which, shown, &mut out.to);
     let found = found_of(names, ins, run.answer, None);

@@ -83,7 +83,7 @@ arrivals_ended inputs p i state here =
     ∙ ap (option_map records_in) here))
 
 -- an input that was asked in turn has at most this many records
-given_few : (round port q : ℕ) (state : InputState) (count : ℕ) → AnswersSo state count (asked round port q) → count ≤ asked round port q
+pub given_few : (round port q : ℕ) (state : InputState) (count : ℕ) → AnswersSo state count (asked round port q) → count ≤ asked round port q
 given_few round port q Open count e = omega (arith, e)
 given_few round port q Whole count lt = omega (arith, lt)
 given_few round port q (Cut byte) count lt = omega (arith, lt)
@@ -95,15 +95,13 @@ asked_most round port q = go (nat_lt q port)
     go true = omega arith
     go false = omega arith
 
--- a record of the input that comes next is after all others
-pub arrivals_more : (inputs : List Input) (round p : ℕ) (i : Input) (r : PacketRecord) → AskedUntil round p inputs → slice_get inputs p ≡ Some i →
-    i.state ≡ Open
+-- a record of an input is after all others, if no input was asked more often than in turn
+pub arrivals_grown : (inputs : List Input) (round p : ℕ) (i : Input) (r : PacketRecord) → slice_get inputs p ≡ Some i → length i.records ≡ round
+    → ((q : ℕ) (j : Input) → slice_get inputs q ≡ Some j → length j.records ≤ asked round p q)
     → arrivals_of (slice_set inputs p (with_record r i)) ≡ arrivals_of inputs ++ arrival p r.time r.bytes ∷ []
-arrivals_more inputs round p i r order here goes =
+arrivals_grown inputs round p i r here count least =
     let xs = records_in i in
     let is : slice_get (map records_in inputs) p ≡ Some xs = slice_get-map records_in inputs p ∙ ap (option_map records_in) here in
-    let not_below : asked round p p ≡ round = ap (λ b. if b then round + 1 else round) (le-ltb p p (omega arith)) in
-    let count : length i.records ≡ round = rw (goes, not_below) at (order p i here) in
     let long : length xs ≡ round = length-map i.records timed ∙ count in
     let more : records_in (with_record r i) ≡ xs ++ timed r ∷ [] = map-append timed i.records (r ∷ []) in
     let few : AreFew (length xs + 1) (map records_in inputs) = λ q ys e. few_at q ys e (input_of inputs q ys e) long in
@@ -120,18 +118,26 @@ arrivals_more inputs round p i r order here goes =
 
     few_at : (q : ℕ) (ys : List (Time × List ℕ)) → slice_get (map records_in inputs) q ≡ Some ys →
         ((j : Input) × (slice_get inputs q ≡ Some j) × (ys ≡ records_in j)) → length (records_in i) ≡ round → length ys ≤ length (records_in i) + 1
-    few_at q ys e (j, at, is) long =
-        omega (arith, ap length is, length-map j.records timed, given_few round p q j.state (length j.records) (order q j at), asked_most round p q, long)
+    few_at q ys e (j, at, is) long = omega (arith, ap length is, length-map j.records timed, least q j at, asked_most round p q, long)
 
     beyond_at : (q : ℕ) (ys : List (Time × List ℕ)) → p < q → ((j : Input) × (slice_get inputs q ≡ Some j) × (ys ≡ records_in j)) →
         length (records_in i) ≡ round → length ys ≤ length (records_in i)
     beyond_at q ys lt (j, at, is) long =
         let none : asked round p q ≡ round = ap (λ b. if b then round + 1 else round) (le-ltb q p (omega (arith, lt))) in
-        omega (arith, ap length is, length-map j.records timed, given_few round p q j.state (length j.records) (order q j at), none, long)
+        omega (arith, ap length is, length-map j.records timed, least q j at, none, long)
+
+-- a record of the input that comes next is after all others
+pub arrivals_more : (inputs : List Input) (round p : ℕ) (i : Input) (r : PacketRecord) → AskedUntil round p inputs → slice_get inputs p ≡ Some i →
+    i.state ≡ Open
+    → arrivals_of (slice_set inputs p (with_record r i)) ≡ arrivals_of inputs ++ arrival p r.time r.bytes ∷ []
+arrivals_more inputs round p i r order here goes =
+    let not_below : asked round p p ≡ round = ap (λ b. if b then round + 1 else round) (le-ltb p p (omega arith)) in
+    let count : length i.records ≡ round = rw (goes, not_below) at (order p i here) in
+    arrivals_grown inputs round p i r here count (λ q j at. given_few round p q j.state (length j.records) (order q j at))
 
 -- ---- the order
 
-asked_next : (round port q : ℕ) → q ≢ port → asked round (port + 1) q ≡ asked round port q
+pub asked_next : (round port q : ℕ) → q ≢ port → asked round (port + 1) q ≡ asked round port q
 asked_next round port q d = ap (λ b. if b then round + 1 else round) (below_next q port d)
   where
     below_next : (q n : ℕ) → q ≢ n → nat_lt q (n + 1) ≡ nat_lt q n

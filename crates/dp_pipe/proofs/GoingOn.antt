@@ -74,11 +74,11 @@ wanted round port count Open e is = is ∙ ap (λ b. if b then round + 1 else ro
 wanted round port count Whole e lt = cc
 wanted round port count (Cut byte) e lt = cc
 
-whole_read : (s s' : SourceState) (records : List PacketRecord) (bytes : List ℕ) → s' ≡ over s → IsCapture bytes s.unit records capture.Ending.Whole →
+pub whole_read : (s s' : SourceState) (records : List PacketRecord) (bytes : List ℕ) → s' ≡ over s → IsCapture bytes s.unit records capture.Ending.Whole →
     IsCapture bytes s'.unit records capture.Ending.Whole
 whole_read s s' records bytes is h = rw is h
 
-cut_read : (byte : ℕ) (s s' : SourceState) (records : List PacketRecord) (bytes : List ℕ) → s' ≡ over s →
+pub cut_read : (byte : ℕ) (s s' : SourceState) (records : List PacketRecord) (bytes : List ℕ) → s' ≡ over s →
     IsCapture bytes s.unit records (capture.Ending.Cut byte) → IsCapture bytes s'.unit records (capture.Ending.Cut byte)
 cut_read byte s s' records bytes is h = rw is h
 

@@ -31,6 +31,7 @@ pub mod Stopping
 pub mod Rounding
 pub mod Through
 pub mod TracedTurns
+pub mod TracedReads
 pub mod Watched
 pub mod Regions
 pub mod Faring

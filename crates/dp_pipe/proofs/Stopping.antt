@@ -78,7 +78,7 @@ are_read olds news progress inputs stand q i at old new a b =
     read_as i p.source old new (stand.each q p i here at).unit (stand.read q p i here at old new a b)
 
 -- a fault takes no more calls than the largest record
-pulls_most : (error : PcapError) → max_pulls (Err error) ≤ 262160
+pub pulls_most : (error : PcapError) → max_pulls (Err error) ≤ 262160
 pulls_most BadMagic = omega arith
 pulls_most BadVersion = omega arith
 pulls_most BadLink = omega arith
@@ -90,7 +90,7 @@ pulls_most Read = omega arith
 pulls_most error = omega arith
 
 -- what a fault says of the bytes
-refuses_of : (error : PcapError) (s s' : SourceState) (unit : TimeUnit) (records : List PacketRecord) (bytes rest buf : List ℕ) → s.unit ≡ unit →
+pub refuses_of : (error : PcapError) (s s' : SourceState) (unit : TimeUnit) (records : List PacketRecord) (bytes rest buf : List ℕ) → s.unit ≡ unit →
     ReadsOn bytes records s s' rest buf (Err error) → Refuses unit records error bytes rest
 refuses_of BadMagic s s' unit records bytes rest buf same has = rw (← same) has
 refuses_of BadVersion s s' unit records bytes rest buf same has = rw (← same) has

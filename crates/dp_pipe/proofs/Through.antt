@@ -66,7 +66,7 @@ run_none e = record {
         let same : t.sent ≡ t.sent + length sent = omega (arith, long) in
         ap (λ n. record t { sent = n }) same
 
-asked_none : (q : ℕ) → asked 0 0 q ≡ 0
+pub asked_none : (q : ℕ) → asked 0 0 q ≡ 0
 asked_none q = rw (le-ltb q 0 (omega arith)) refl
 
 pub along_none : (unit : TimeUnit) (e : EngineState) (olds news mids : List Device) (progress : List Progress)

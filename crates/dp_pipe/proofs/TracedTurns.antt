@@ -1,5 +1,5 @@
 -- Records that are traced, one after the other.
-use Rattle.std.proofs.Common.{◌≡◌, ℕ, zero, suc, ◌+◌, ◌≤◌, List, [], ◌∷◌, ◌++◌, length, Option, refl, sym, ◌∙◌, ap, subst, arith}
+use Rattle.std.proofs.Common.{◌≡◌, ℕ, ◌+◌, List, [], ◌∷◌, ◌++◌, length, Option, refl, sym, ◌∙◌, ap, subst, arith}
 use Rattle.std.proofs.lemmas.List.{length-append}
 use Rattle.dp_model.specs.Machine.{Setting, World}
 use Rattle.dp_model.specs.Runs.{Arrival, Nodes, with_empty_outboxes}
@@ -8,6 +8,7 @@ use Rattle.dp_pcap.specs.declared.time.Time.{Time}
 use Rattle.dp_engine.specs.Engines.{EngineState}
 use Rattle.dp_engine.specs.Watching.{Event}
 use Rattle.dp_pipe.specs.Tracing.{Note, TracesTurn, Traces, IsTraced, HasTraced, TracesRead}
+use Rattle.dp_pipe.proofs.RunOn.{arrival}
 
 -- one record more
 traces_more : {V : Type 0} (sees : V → Event → V → Type 0) (noted : V → Note → V → Type 0) (v mid v' : V) (c : Setting) (nodes : Nodes)
@@ -26,7 +27,7 @@ traces_more sees noted v mid v' c nodes (b ∷ arrivals) a w0 w w' (next, turned
 -- ---- engines
 
 -- nothing yet
-pub traced_none : {V : Type 0} (sees : V → Event → V → Type 0) (noted : V → Note → V → Type 0) (v : V) (only : Option ℕ) (e : EngineState)
+abbrev pub traced_none : {V : Type 0} (sees : V → Event → V → Type 0) (noted : V → Note → V → Type 0) (v : V) (only : Option ℕ) (e : EngineState)
     → HasTraced sees noted v v only 0 e e
 traced_none sees noted v only e = record {
   arrivals = [];
@@ -39,22 +40,26 @@ traced_none sees noted v only e = record {
 }
 
 -- a record more, after which all transmit lists are emptied
-pub traced_more : {V : Type 0} (sees : V → Event → V → Type 0) (noted : V → Note → V → Type 0) (v0 v v' : V) (only : Option ℕ) (count : ℕ)
-    (e0 e e' e'' : EngineState) (port : ℕ) (time : Time) → HasTraced sees noted v0 v only count e0 e → TracesRead sees noted v v' port time e e'
-    → IsTraced only port → e'' ≡ record e' { world = with_empty_outboxes e'.world } → HasTraced sees noted v0 v' only (count + 1) e0 e''
-traced_more sees noted v0 v v' only count e0 e e' e'' port time h r of is =
-    let a : Arrival Time = record { port = port; time = time; bytes = r.bytes } in
+pub traced_push : {V : Type 0} (sees : V → Event → V → Type 0) (noted : V → Note → V → Type 0) (v0 v v' : V) (only : Option ℕ) (count : ℕ)
+    (e0 e e' : EngineState) (port : ℕ) (time : Time) (h : HasTraced sees noted v0 v only count e0 e) (r : TracesRead sees noted v v' port time e e')
+    → IsTraced only port
+    → (t : HasTraced sees noted v0 v' only (count + 1) e0 (record e' { world = with_empty_outboxes e'.world }))
+    × (t.arrivals ≡ h.arrivals ++ arrival port time r.bytes ∷ [])
+traced_push sees noted v0 v v' only count e0 e e' port time h r of =
+    let a : Arrival Time = arrival port time r.bytes in
     let turn = subst (λ (c : Setting). TracesTurn sees noted v v' c e0.nodes a e.world e'.world) h.setting
-    (subst (λ (nodes : Nodes). TracesTurn sees noted v v' e.setting nodes a e.world e'.world) h.nodes r.traces) in
-    subst (HasTraced sees noted v0 v' only (count + 1) e0) (sym is) (record {
-      arrivals = h.arrivals ++ a ∷ [];
-      traces = traces_more sees noted v0 v v' e0.setting e0.nodes h.arrivals a e0.world e.world e'.world h.traces turn;
-      only_is = all_join (λ (x : Arrival Time). IsTraced only x.port) h.arrivals (a ∷ []) h.only_is (of, tt);
-      many = length-append h.arrivals (a ∷ []) ∙ ap (λ n. n + 1) h.many;
-      setting = r.setting ∙ h.setting;
-      nodes = r.nodes ∙ h.nodes;
-      turns = omega (arith, r.turns, h.turns);
-    })
+    (subst (λ (nodes : Nodes). TracesTurn sees noted v v' e.setting nodes a e.world e'.world) h.nodes r.traces) in (
+      record {
+        arrivals = h.arrivals ++ a ∷ [];
+        traces = traces_more sees noted v0 v v' e0.setting e0.nodes h.arrivals a e0.world e.world e'.world h.traces turn;
+        only_is = all_join (λ (x : Arrival Time). IsTraced only x.port) h.arrivals (a ∷ []) h.only_is (of, tt);
+        many = length-append h.arrivals (a ∷ []) ∙ ap (λ n. n + 1) h.many;
+        setting = r.setting ∙ h.setting;
+        nodes = r.nodes ∙ h.nodes;
+        turns = omega (arith, r.turns, h.turns);
+      },
+      refl,
+    )
 
 -- nothing more
 pub traced_same : {V : Type 0} (sees : V → Event → V → Type 0) (noted : V → Note → V → Type 0) (v0 v v' : V) (only : Option ℕ) (count : ℕ)
@@ -86,32 +91,3 @@ traced_join sees noted v0 v v' only count more e0 e e' h r =
       nodes = r.nodes ∙ h.nodes;
       turns = omega (arith, r.turns, h.turns);
     }
-
--- ---- a port
-
--- some records were traced, and that many fewer are left
-abbrev pub TracesSome : {V : Type 0} → (V → Event → V → Type 0) → (V → Note → V → Type 0) → V → V → Option ℕ → EngineState → EngineState → ℕ → ℕ → Type 0
-TracesSome sees noted v v' only e e' left left' = (count : ℕ) × HasTraced sees noted v v' only count e e' × (left' + count ≡ left)
-
--- none
-pub some_none : {V : Type 0} (sees : V → Event → V → Type 0) (noted : V → Note → V → Type 0) (v v' : V) (only : Option ℕ) (e e' : EngineState) (left : ℕ)
-    → v' ≡ v → e' ≡ e → TracesSome sees noted v v' only e e' left left
-some_none sees noted v v' only e e' left same is =
-    (0, traced_same sees noted v v v' only 0 e e e' (traced_none sees noted v only e) same is, omega arith)
-
--- one
-pub some_one : {V : Type 0} (sees : V → Event → V → Type 0) (noted : V → Note → V → Type 0) (v v' : V) (only : Option ℕ) (e e' e'' : EngineState)
-    (port : ℕ) (time : Time) (left left' : ℕ) → left' + 1 ≡ left → TracesRead sees noted v v' port time e e' → IsTraced only port
-    → e'' ≡ record e' { world = with_empty_outboxes e'.world } → TracesSome sees noted v v' only e e'' left left'
-some_one sees noted v v' only e e' e'' port time left left' fewer r of is =
-    (1, traced_more sees noted v v v' only 0 e e e' e'' port time (traced_none sees noted v only e) r of is, fewer)
-
--- and more
-pub some_join : {V : Type 0} (sees : V → Event → V → Type 0) (noted : V → Note → V → Type 0) (v0 v v' : V) (only only' : Option ℕ) (e0 e e' : EngineState)
-    (left left' left'' : ℕ) → only' ≡ only → TracesSome sees noted v0 v only e0 e left left' → TracesSome sees noted v v' only' e e' left' left''
-    → TracesSome sees noted v0 v' only e0 e' left left''
-some_join sees noted v0 v v' only only' e0 e e' left left' left'' same (count, h, now) (more, r, then_now) = (
-  count + more,
-  traced_join sees noted v0 v v' only count more e0 e e' h (subst (λ o. HasTraced sees noted v v' o more e e') same r),
-  omega (arith, now, then_now),
-)

@@ -1,17 +1,20 @@
 //! Traces runs: shows the turns of the first records of a pipeline's captures to a tracer.
 
-ghost use Rattle.std.specs.Prelude.{◌≡◌, ℕ, ◌+◌, ◌<◌, ◌≤◌, ◌⊎◌, ◌↔◌, [], Err, length, MatchResult, IfErr, IsTrue, vec_len};
+ghost use Rattle.std.specs.Prelude.{◌≡◌, ℕ, ◌+◌, ◌<◌, ◌≤◌, ◌⊎◌, ◌↔◌, true, false, [], List, Err, length, map, IfErr, IsTrue, vec_len};
 ghost use Rattle.std.specs.Vec.{vec_capacity};
+ghost use Rattle.dp_pcap.specs.Source.{IsInRange, Moves, max_pulls};
+ghost use Rattle.dp_engine.specs.Engines.{EngineState, IsAscending};
 ghost use Rattle.dp_engine.specs.Needs.{bytes_needed};
-ghost use Rattle.dp_engine.specs.Engines.{IsAscending};
-ghost use Rattle.dp_pipe.specs.Tracing.{IsTraced, HasTraced, TracesFirst, TracesOne, IsOfInput};
+ghost use Rattle.dp_pipe.specs.Devices.{Device, seen};
+ghost use Rattle.dp_pipe.specs.Tracing.{IsTraced, TracesNext, TracesStep, TracesUntil, TracesRound, TracesRecords, TracesFirst, NoneIsWanted};
+ghost use Rattle.dp_pipe.specs.Tracing.{IsOfInput};
 
 use crate::forwarding::{MAX_TURNS, Progress, ROUNDS, RunCause, is_open};
 use crate::opening::opened;
 use crate::pipeline::Pipeline;
 use crate::running::read_headers;
 use dp_engine::{Engine, InputState, Known, Turn, View, Watch};
-use dp_pcap::{Feed, MAX_RECORD, Next, PcapError, Time, next_record};
+use dp_pcap::{Feed, MAX_RECORD, Next, PcapError, Source, Time, next_record};
 use std::alloc::Global;
 
 /// Watches a traced run: each record, each node run and each instruction.
@@ -44,7 +47,7 @@ pub struct Traced {
 impl Traced {
     // Whether the records of a port are traced.
     fn is_of(self, port: u8) -> bool
-        ensures { IsTrue result → IsTraced self.port port }
+        ensures { IsTrue result ↔ IsTraced self.port port }
     {
         match self.port {
             Some(only) => only == port,
@@ -53,37 +56,34 @@ impl Traced {
     }
 }
 
-// Reads what comes next in an input and, if it is a record, takes a turn with it. Returns the time of that record.
+// Reads what comes next in an input and, if it is a record, takes a turn with it that is traced.
 fn trace_next<K: Known, R: Feed, T: Tracer>(
     engine: &mut Engine<K>,
     port: u8,
-    input: &mut Progress,
     r: &mut R,
+    source: &mut Source,
     buf: &mut [u8],
     tracer: &mut T,
-) -> Result<Option<Time>, PcapError>
+) -> Result<Next, PcapError>
     requires exists { port < length engine.old.setting.env.ports }
     requires buf { MAX_RECORD ≤ length buf.old }
     requires limit { engine.old.turns < MAX_TURNS }
-    ensures traced { MatchResult result (λ time. TracesOne T.Watch.sees T.noted tracer.old tracer.new port time engine.old engine.new)
-        (λ _. (tracer.new ≡ tracer.old) × (engine.new ≡ engine.old)) }
+    requires open { source.old.is_open ≡ true }
+    ensures turn { TracesNext T.Watch.sees T.noted tracer.old tracer.new port engine.old engine.new source.old source.new (R.remaining r.old)
+        (R.remaining r.new) result }
+    ensures in_range { IsInRange source.old result }
+    ensures source { Moves source.old source.new result }
+    ensures counted { R.calls r.new ≤ R.calls r.old + max_pulls result }
     ensures buf { length buf.new ≡ length buf.old }
 {
-    match next_record(r, &mut input.source, buf)? {
-        Next::Record(time, len) => {
+    match next_record(r, source, buf) {
+        Ok(Next::Record(time, len)) => {
             tracer.record(port, time, len);
             let turn = engine.watched_turn(port, &buf[..len], tracer);
             tracer.turned(turn, engine.view());
-            Ok(Some(time))
+            Ok(Next::Record(time, len))
         }
-        Next::End => {
-            input.state = InputState::Whole;
-            Ok(None)
-        }
-        Next::Cut(byte) => {
-            input.state = InputState::Cut(byte);
-            Ok(None)
-        }
+        other => other,
     }
 }
 
@@ -100,24 +100,35 @@ fn trace_port<K: Known, R: Feed, T: Tracer>(
     requires exists { port < length engine.old.setting.env.ports }
     requires buf { MAX_RECORD ≤ length buf.old }
     requires limit { engine.old.turns + which.old.records ≤ MAX_TURNS }
-    ensures traced { (count : ℕ) × HasTraced T.Watch.sees T.noted tracer.old tracer.new which.old.port count engine.old engine.new
-        × (which.new.records + count ≡ which.old.records) }
+    requires open { input.old.state ≡ InputState.Open → input.old.source.is_open ≡ true }
+    ensures step { TracesStep T.Watch.sees T.noted tracer.old tracer.new which.old.port port engine.old engine.new input.old input.new
+        (seen R.remaining R.calls) r.old r.new which.old.records which.new.records result }
     ensures port { which.new.port ≡ which.old.port }
     ensures buf { length buf.new ≡ length buf.old }
 {
-    if which.records == 0 || !is_open(input) {
+    if which.records == 0 {
+        return Ok(());
+    }
+    if !is_open(input) {
         return Ok(());
     }
     if !which.is_of(port) {
         return Ok(());
     }
-    match trace_next(engine, port, input, r, buf, tracer) {
-        Ok(Some(_time)) => {
+    match trace_next(engine, port, r, &mut input.source, buf, tracer) {
+        Ok(Next::Record(_, _)) => {
             which.records -= 1;
             engine.flush_lists();
             Ok(())
         }
-        Ok(None) => Ok(()),
+        Ok(Next::End) => {
+            input.state = InputState::Whole;
+            Ok(())
+        }
+        Ok(Next::Cut(byte)) => {
+            input.state = InputState::Cut(byte);
+            Ok(())
+        }
         Err(error) => Err(error),
     }
 }
@@ -136,15 +147,23 @@ fn trace_round<K: Known, R: Feed, T: Tracer>(
     requires few { length ins.old ≤ 8 }
     requires buf { MAX_RECORD ≤ length buf.old }
     requires limit { engine.old.turns + which.old.records ≤ MAX_TURNS }
-    ensures traced { (count : ℕ) × HasTraced T.Watch.sees T.noted tracer.old tracer.new which.old.port count engine.old engine.new
-        × (which.new.records + count ≡ which.old.records) }
+    requires until { (v0 : T) × (e0 : EngineState) × (most : ℕ) × (had : List Device) × (k : ℕ)
+        × TracesUntil T.Watch.sees T.noted v0 tracer.old which.old.port most e0 engine.old had (map (seen R.remaining R.calls) ins.old) inputs.old k 0
+        which.old.records }
+    ensures goes { (v0 : T) (e0 : EngineState) (most : ℕ) (had : List Device) (k : ℕ)
+        → TracesUntil T.Watch.sees T.noted v0 tracer.old which.old.port most e0 engine.old had (map (seen R.remaining R.calls) ins.old) inputs.old k 0
+        which.old.records
+        → TracesRound T.Watch.sees T.noted v0 tracer.new which.old.port most e0 engine.new had (map (seen R.remaining R.calls) ins.new) inputs.new k
+        which.new.records result }
+    ensures turns { engine.new.turns + which.new.records ≡ engine.old.turns + which.old.records }
+    ensures setting { engine.new.setting ≡ engine.old.setting }
     ensures port { which.new.port ≡ which.old.port }
     ensures many { (length inputs.new ≡ length inputs.old) × (length ins.new ≡ length ins.old) × (length buf.new ≡ length buf.old) }
     ensures cause { IfErr result IsOfInput }
 {
     let ports = ins.len() as u8;
     for port in 0..ports {
-        let k = usize::from(port);
+        let k = port as usize;
         match trace_port(
             engine,
             port,
@@ -161,12 +180,20 @@ fn trace_round<K: Known, R: Feed, T: Tracer>(
     Ok(())
 }
 
-// Whether more records may come.
-fn is_any_left(inputs: &[Progress], which: Traced) -> bool {
-    which.records > 0
-        && (0..8u8)
-            .zip(inputs)
-            .any(|(port, input)| which.is_of(port) && is_open(input))
+// Whether more records are wanted, and a traced input may have them.
+fn is_any_left(inputs: &[Progress], which: Traced) -> bool
+    requires few { length inputs.now ≤ 8 }
+    ensures none { result ≡ false → NoneIsWanted which.port inputs.now which.records }
+{
+    if which.records == 0 {
+        return false;
+    }
+    for port in 0..inputs.len() as u8 {
+        if which.is_of(port) && is_open(&inputs[port as usize]) {
+            return true;
+        }
+    }
+    false
 }
 
 // Traces the records of inputs whose headers were read, round by round.
@@ -183,7 +210,13 @@ fn trace_rounds<K: Known, R: Feed, T: Tracer>(
     requires few { length ins.old ≤ 8 }
     requires buf { MAX_RECORD ≤ length buf.old }
     requires limit { engine.old.turns + which.records ≤ MAX_TURNS }
-    ensures traced { (count : ℕ) × HasTraced T.Watch.sees T.noted tracer.old tracer.new which.port count engine.old engine.new × (count ≤ which.records) }
+    requires until { (v0 : T) × (e0 : EngineState) × (most : ℕ) × (had : List Device)
+        × TracesUntil T.Watch.sees T.noted v0 tracer.old which.port most e0 engine.old had (map (seen R.remaining R.calls) ins.old) inputs.old 0 0
+        which.records }
+    ensures goes { (v0 : T) (e0 : EngineState) (most : ℕ) (had : List Device)
+        → TracesUntil T.Watch.sees T.noted v0 tracer.old which.port most e0 engine.old had (map (seen R.remaining R.calls) ins.old) inputs.old 0 0
+        which.records
+        → TracesRecords T.Watch.sees T.noted v0 tracer.new which.port most e0 engine.new had (map (seen R.remaining R.calls) ins.new) result }
     ensures cause { IfErr result IsOfInput }
 {
     let mut which = which;
@@ -212,7 +245,8 @@ fn trace_records<K: Known, R: Feed, T: Tracer>(
     requires room { 8 ≤ vec_capacity inputs.old }
     requires buf { MAX_RECORD ≤ length buf.old }
     requires limit { which.records ≤ MAX_TURNS }
-    ensures traced { (count : ℕ) × HasTraced T.Watch.sees T.noted tracer.old tracer.new which.port count engine.old engine.new × (count ≤ which.records) }
+    ensures traced { TracesRecords T.Watch.sees T.noted tracer.old tracer.new which.port which.records engine.old engine.new
+        (map (seen R.remaining R.calls) ins.old) (map (seen R.remaining R.calls) ins.new) result }
     ensures cause { IfErr result IsOfInput }
 {
     read_headers(ins, inputs)?;
@@ -241,9 +275,11 @@ pub fn trace<K: Known, R: Feed, T: Tracer>(
     requires limit { which.records ≤ MAX_TURNS }
     // Whether there is room is known before memory is asked for.
     ensures no_room { result ≡ Err RunCause.NoRoom ↔ pipeline.region < bytes_needed pipeline.env }
-    // It is shown the first turns of a run, and nothing else.
+    // It is shown the first turns of a run, and nothing else. These records are what the readers gave, and no fewer than are wanted unless each traced
+    // input has ended or one has a fault.
     ensures traced { (result ≡ Err RunCause.Memory) ⊎ (result ≡ Err RunCause.NoRoom)
-        ⊎ TracesFirst T.Watch.sees T.noted tracer.old tracer.new pipeline pattern.items which.port which.records }
+        ⊎ TracesFirst T.Watch.sees T.noted tracer.old tracer.new pipeline pattern.items which.port which.records
+        (map (seen R.remaining R.calls) ins.old) (map (seen R.remaining R.calls) ins.new) result }
     ensures untouched { IfErr result (λ cause. (cause ≡ RunCause.Memory) ⊎ (cause ≡ RunCause.NoRoom) → (ins.new ≡ ins.old) × (tracer.new ≡ tracer.old)) }
 {
     let (mut engine, mut inputs, mut buf) = opened::<K>(alloc, pipeline, pattern)?;

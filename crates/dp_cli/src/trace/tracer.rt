@@ -75,6 +75,7 @@ impl<'a, W: Write + Drop> Printing<'a, W> {
     /// Makes a tracer for a run of these programs.
     pub fn new(alloc: Global, out: W, listing: Listing<'a>, picked: Picked<'a>) -> Printing<'a, W>
         ensures out { result.out ≡ out }
+        ensures records { result.records ≡ 0 }
     {
         Printing {
             out,
@@ -96,7 +97,9 @@ impl<'a, W: Write + Drop> Printing<'a, W> {
     }
 
     /// Prints what changed.
-    fn print_changes(&mut self, view: &View<'_>, now: &Snapshot, is_made: bool) -> io::Result<()> {
+    fn print_changes(&mut self, view: &View<'_>, now: &Snapshot, is_made: bool) -> io::Result<()>
+        ensures { self.new.records ≡ self.old.records }
+    {
         print_call(&mut self.text, &self.before, now, is_made)?;
         print_numbers(&mut self.text, &self.before.numbers, &now.numbers)?;
         print_packets(&mut self.text, view, &self.before.packets, &now.packets)?;
@@ -105,7 +108,9 @@ impl<'a, W: Write + Drop> Printing<'a, W> {
     }
 
     /// Prints the head of a node run and the registers. If a node run begins, the call for its record was not refused.
-    fn print_begin(&mut self, view: &View<'_>, now: &Snapshot) -> io::Result<()> {
+    fn print_begin(&mut self, view: &View<'_>, now: &Snapshot) -> io::Result<()>
+        ensures { self.new.records ≡ self.old.records }
+    {
         writeln!(self.text, "{}", NodeName(self.node))?;
         let is_made = matches!(self.node, Entry::Port(_));
         self.print_changes(view, now, is_made)
@@ -118,7 +123,9 @@ impl<'a, W: Write + Drop> Printing<'a, W> {
         way: Way,
         view: &View<'_>,
         now: &Snapshot,
-    ) -> io::Result<()> {
+    ) -> io::Result<()>
+        ensures { self.new.records ≡ self.old.records }
+    {
         let text = self.listing.text(self.node, label);
         writeln!(self.text, "{label:>4}  {text}")?;
         let is_made = now.has_new_packet(&self.before);
@@ -133,7 +140,9 @@ impl<'a, W: Write + Drop> Printing<'a, W> {
     }
 
     /// Reads the bytes that the instruction at a label is going to overwrite.
-    fn look_ahead(&mut self, label: Option<u16>, view: &View<'_>) {
+    fn look_ahead(&mut self, label: Option<u16>, view: &View<'_>)
+        ensures { self.new.records ≡ self.old.records }
+    {
         self.next = match label {
             Some(label) => match self.listing.instr(self.node, label) {
                 Some(instr) => bytes_before(view, instr),
@@ -144,7 +153,9 @@ impl<'a, W: Write + Drop> Printing<'a, W> {
     }
 
     /// Prints the outcome of a record, and the packets that are then sent.
-    fn print_turn(&mut self, turn: Turn, now: &Snapshot) -> io::Result<()> {
+    fn print_turn(&mut self, turn: Turn, now: &Snapshot) -> io::Result<()>
+        ensures { self.new.records ≡ self.old.records }
+    {
         print_call(&mut self.text, &self.before, now, false)?;
         let outcome = outcome_text(turn.outcome);
         write!(self.text, "turn {outcome} runs {}", turn.runs)?;
@@ -157,7 +168,9 @@ impl<'a, W: Write + Drop> Printing<'a, W> {
     }
 
     /// Prints the record if it is selected, and forgets it.
-    fn end_record(&mut self, turn: Turn, now: &Snapshot) -> io::Result<()> {
+    fn end_record(&mut self, turn: Turn, now: &Snapshot) -> io::Result<()>
+        ensures { self.new.records ≡ self.old.records }
+    {
         self.print_turn(turn, now)?;
         let is_received = matches!(turn.outcome, Outcome::Got);
         if self
@@ -190,10 +203,10 @@ fn label_after(label: u16, way: Way) -> Option<u16> {
 }
 
 impl<W: Write + Drop> Watch for Printing<'_, W> {
-    ghost use Rattle.std.specs.Prelude.{⊤};
+    ghost use Rattle.dp_cli.specs.Tracing.{numbers_event};
 
-    // What it prints is tested, not proved.
-    ghost sees = { λ p e p'. ⊤ };
+    // What it prints is tested, not proved; that it counts the records is.
+    ghost sees = { λ p e p'. numbers_event p.records e p'.records };
 
     fn begin(&mut self, node: Entry, view: View<'_>) {
         let now = Snapshot::of(&view);
@@ -219,9 +232,9 @@ impl<W: Write + Drop> Watch for Printing<'_, W> {
 }
 
 impl<W: Write + Drop> Tracer for Printing<'_, W> {
-    ghost use Rattle.std.specs.Prelude.{⊤};
+    ghost use Rattle.dp_cli.specs.Tracing.{numbers_note};
 
-    ghost noted = { λ p note p'. ⊤ };
+    ghost noted = { λ p note p'. numbers_note p.records note p'.records };
 
     fn record(&mut self, port: u8, time: Time, len: usize) {
         self.records = self.records.saturating_add(1);

@@ -1,39 +1,118 @@
--- `trace_round`: what a port's record adds to what was traced.
-use Rattle.std.proofs.Common.{◌≡◌, length, refl, ◌∙◌, arith}
+-- `trace_round`: one more input, and the first with a fault. What a call needs is derived where tracing has come.
+use Rattle.std.proofs.Common.{◌≡◌, ◌≤◌, length, refl, ap, ◌∙◌, arith}
+use Rattle.std.specs.Prelude.{slice_get, slice_index_or, Some}
 use Rattle.std.proofs.lemmas.List.{length-set}
-use Rattle.dp_pipe.proofs.TracedTurns.{TracesSome, some_none, some_join}
+use Rattle.std.proofs.lemmas.Option.{slice_get-get_or}
+use Rattle.dp_pcap.specs.declared.format.TheConstants.{MAX_RECORD}
+use Rattle.dp_pipe.specs.Devices.{seen}
+use Rattle.dp_pipe.specs.Tracing.{TracesStep}
+use Rattle.dp_pipe.proofs.TracedReads.{open_until, round_over, step_counts, step_on, step_stops}
 use Rattle.dp_pipe.proofs.tracing.trace_round.Goals as goal
-use Rattle.dp_pipe.proofs.tracing.trace_round.Goals.{After-trace_port}
+use Rattle.dp_pipe.proofs.tracing.trace_round.Goals.{After-index-ins-k, After-trace_port}
 
-pub loop-port-init : goal.loop-port-init
-loop-port-init g c = (
-  some_none g.T.Watch.sees g.T.Tracer.noted c.args.tracer.now c.args.tracer.now c.args.which.now.port c.args.engine.now c.args.engine.now
-      c.args.which.now.records refl refl,
-  refl,
-  refl,
-  refl,
-  refl,
-)
+-- the input of the port, and its reader
+input_here : (g : _) (c : After-index-ins-k g)
+    → slice_get c.loop-port.inputs c.loop-port.port ≡ Some (slice_index_or c.loop-port.inputs c.loop-port.port c.index-inputs-k.result)
+input_here g c =
+    slice_get-get_or c.loop-port.inputs c.loop-port.port c.index-inputs-k.result
+    (omega (arith, c.loop-port.invariant.inputs, c.loop-port-test.true, c.requires.inputs, c.requires.ins))
 
--- what was traced with this port
-joined : (g : _) (c : After-trace_port g) → TracesSome g.T.Watch.sees g.T.Tracer.noted c.args.tracer.now c.trace_port.new.tracer c.args.which.now.port
-    c.args.engine.now c.trace_port.new.engine c.args.which.now.records c.trace_port.new.which.records
-joined g c =
-    let l = c.loop-port in
-    let t = c.trace_port in
-    some_join g.T.Watch.sees g.T.Tracer.noted c.args.tracer.now l.tracer t.new.tracer c.args.which.now.port l.which.port c.args.engine.now l.engine t.new.engine
-    c.args.which.now.records l.which.records t.new.which.records l.invariant.1 l.invariant.0 t.ensures.traced
+reader_here : (g : _) (c : After-index-ins-k g)
+    → slice_get c.loop-port.ins c.loop-port.port ≡ Some (slice_index_or c.loop-port.ins c.loop-port.port c.index-ins-k.result)
+reader_here g c =
+    slice_get-get_or c.loop-port.ins c.loop-port.port c.index-ins-k.result (omega (arith, c.loop-port.invariant.ins, c.loop-port-test.true))
+
+pub trace_port-requires : goal.trace_port-requires
+trace_port-requires g c =
+    let inv = c.loop-port.invariant in
+    let (v0, e0, most, had, k, until) = c.requires.until in
+    let ports = ap (λ (s : _). length s.env.ports) inv.setting in
+    let buf : MAX_RECORD ≤ length c.loop-port.buf = rw inv.buf c.requires.buf in (
+      omega arith,
+      (
+        omega (arith, ports, c.loop-port-test.true, c.requires.ins),
+        (
+          buf,
+          (
+            omega (arith, inv.turns, c.requires.limit),
+            open_until _ _ v0 _ _ most e0 _ had _ c.loop-port.inputs k c.loop-port.port _ c.loop-port.port _ (inv.goes v0 e0 most had k until)
+                (input_here g (goal.at.trace_port-requires g c).After-index-ins-k),
+          ),
+        ),
+      ),
+    )
+
+-- the call for the input, of the port that is traced
+step : (g : _) (c : After-trace_port g)
+    → TracesStep g.T.Watch.sees g.T.Tracer.noted c.loop-port.tracer c.trace_port.new.tracer c.args.which.now.port c.loop-port.port c.loop-port.engine
+    c.trace_port.new.engine (slice_index_or c.loop-port.inputs c.loop-port.port c.index-inputs-k.result) c.trace_port.new.input
+    (seen g.R.Feed.remaining g.R.Feed.calls) (slice_index_or c.loop-port.ins c.loop-port.port c.index-ins-k.result) c.trace_port.new.r
+    c.loop-port.which.records c.trace_port.new.which.records c.trace_port.result
+step g c = rw (← c.loop-port.invariant.only) c.trace_port.ensures.step
 
 pub loop-port-preserved : goal.loop-port-preserved
 loop-port-preserved g c =
-    let l = c.loop-port in
-    let t = c.trace_port in (
-      joined g (goal.at.loop-port-preserved g c).After-trace_port,
-      t.ensures.port ∙ l.invariant.1,
-      length-set l.inputs c.from-k.result t.new.input ∙ l.invariant.2,
-      length-set l.ins c.from-k.result t.new.r ∙ l.invariant.3,
-      t.ensures.buf ∙ l.invariant.4,
-    )
+    let inv = c.loop-port.invariant in
+    let t = c.trace_port in
+    let after = (goal.at.loop-port-preserved g c).After-trace_port in
+    let (turns, setting) = step_counts _ _ _ _ _ _ _ _ _ _ (seen g.R.Feed.remaining g.R.Feed.calls) _ _ _ _ _ (step g after) in
+    record {
+      inputs = length-set c.loop-port.inputs c.loop-port.port t.new.input ∙ inv.inputs;
+      ins = length-set c.loop-port.ins c.loop-port.port t.new.r ∙ inv.ins;
+      buf = t.ensures.buf ∙ inv.buf;
+      only = t.ensures.port ∙ inv.only;
+      turns = turns ∙ inv.turns;
+      setting = setting ∙ inv.setting;
+      goes = λ v0 e0 most had k until.
+          step_on _ _ _ _ _ _ _ _ _ _ (seen g.R.Feed.remaining g.R.Feed.calls) _ _ _ _ _ (step g after) v0 most e0 had c.loop-port.ins c.loop-port.inputs k
+          (inv.goes v0 e0 most had k until) (input_here g (goal.at.loop-port-preserved g c).After-index-ins-k)
+          (reader_here g (goal.at.loop-port-preserved g c).After-index-ins-k) c.in-Ok.is;
+    }
 
-pub returns-in-Err-clause-traced : goal.returns-in-Err-clause-traced
-returns-in-Err-clause-traced g c = joined g (goal.at.returns-in-Err-clause-traced g c).After-trace_port
+pub returns-in-Err-clause-goes : goal.returns-in-Err-clause-goes
+returns-in-Err-clause-goes g c v0 e0 most had k until =
+    let inv = c.loop-port.invariant in
+    step_stops _ _ _ _ _ _ _ _ _ _ (seen g.R.Feed.remaining g.R.Feed.calls) _ _ _ _ _ (step g (goal.at.returns-in-Err-clause-goes g c).After-trace_port)
+    v0 most e0 had c.loop-port.ins c.loop-port.inputs k (inv.goes v0 e0 most had k until)
+    (input_here g (goal.at.returns-in-Err-clause-goes g c).After-index-ins-k) (reader_here g (goal.at.returns-in-Err-clause-goes g c).After-index-ins-k)
+    c.in-Err.error c.in-Err.is
+
+pub returns-in-Err-clause-turns : goal.returns-in-Err-clause-turns
+returns-in-Err-clause-turns g c =
+    let counts = step_counts _ _ _ _ _ _ _ _ _ _ (seen g.R.Feed.remaining g.R.Feed.calls) _ _ _ _ _
+    (step g (goal.at.returns-in-Err-clause-turns g c).After-trace_port) in
+    counts.0 ∙ c.loop-port.invariant.turns
+
+pub returns-in-Err-clause-setting : goal.returns-in-Err-clause-setting
+returns-in-Err-clause-setting g c =
+    let counts = step_counts _ _ _ _ _ _ _ _ _ _ (seen g.R.Feed.remaining g.R.Feed.calls) _ _ _ _ _
+    (step g (goal.at.returns-in-Err-clause-setting g c).After-trace_port) in
+    counts.1 ∙ c.loop-port.invariant.setting
+
+pub returns-clause-goes : goal.returns-clause-goes
+returns-clause-goes g c v0 e0 most had k until =
+    round_over _ _ v0 _ _ most e0 _ had _ c.loop-port.inputs k c.loop-port.port _ (c.loop-port.invariant.goes v0 e0 most had k until)
+    (omega (arith, c.loop-port.invariant.inputs, c.loop-port-test.false, c.requires.inputs, c.requires.ins))
+
+pub loop-port-init : goal.loop-port-init
+loop-port-init g c = record {
+  inputs = refl;
+  ins = refl;
+  buf = refl;
+  only = refl;
+  turns = refl;
+  setting = refl;
+  goes = λ v0 e0 most had k until. until;
+}
+
+pub returns-in-Err-clause-port : goal.returns-in-Err-clause-port
+returns-in-Err-clause-port g c = c.trace_port.ensures.port ∙ c.loop-port.invariant.only
+
+pub returns-clause-turns : goal.returns-clause-turns
+returns-clause-turns g c = c.loop-port.invariant.turns
+
+pub returns-clause-setting : goal.returns-clause-setting
+returns-clause-setting g c = c.loop-port.invariant.setting
+
+pub returns-clause-port : goal.returns-clause-port
+returns-clause-port g c = c.loop-port.invariant.only

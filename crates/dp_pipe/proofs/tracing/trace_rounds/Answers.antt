@@ -1,39 +1,82 @@
--- `trace_rounds`: what a round adds to what was traced.
-use Rattle.std.proofs.Common.{refl, ◌∙◌, arith}
-use Rattle.dp_pipe.proofs.TracedTurns.{TracesSome, some_none, some_join}
+-- `trace_rounds`: one more round, the end, and a fault.
+use Rattle.std.proofs.Common.{rules, ◌≡◌, ◌≤◌, length, map, refl, sym, ap, ◌∙◌, arith}
+use Rattle.std.specs.Prelude.{Err}
+use Rattle.dp_pcap.specs.declared.format.TheConstants.{MAX_RECORD}
+use Rattle.dp_pipe.specs.Devices.{seen}
+use Rattle.dp_pipe.specs.Tracing.{TracesRound, TracesUntil}
+use Rattle.dp_pipe.proofs.TracedReads.{all_traced, none_wanted, round_done, round_stopped}
 use Rattle.dp_pipe.proofs.tracing.trace_rounds.Goals as goal
-use Rattle.dp_pipe.proofs.tracing.trace_rounds.Goals.{After-trace_round}
+use Rattle.dp_pipe.proofs.tracing.trace_rounds.Goals.{In-loop-k, After-trace_round}
 
--- what was traced with this round
-joined : (g : _) (c : After-trace_round g) → TracesSome g.T.Watch.sees g.T.Tracer.noted c.args.tracer.now c.trace_round.new.tracer c.args.which.port
-    c.args.engine.now c.trace_round.new.engine c.args.which.records c.trace_round.new.which.records
-joined g c =
-    let l = c.loop-k in
-    let t = c.trace_round in
-    some_join g.T.Watch.sees g.T.Tracer.noted c.args.tracer.now l.tracer t.new.tracer c.args.which.port l.which.port c.args.engine.now l.engine t.new.engine
-    c.args.which.records l.which.records t.new.which.records l.invariant.1 l.invariant.0 t.ensures.traced
+-- the result where tracing stops
+gone : (g : _) (c : goal.After-from_residual g) → c.from_residual.result ≡ Err c.in_err-trace_round.field-0.0
+gone g c = search rules
 
-pub loop-k-init : goal.loop-k-init
-loop-k-init g c = (
-  some_none g.T.Watch.sees g.T.Tracer.noted c.args.tracer.now c.args.tracer.now c.args.which.port c.args.engine.now c.args.engine.now
-      c.args.which.records refl refl,
-  refl,
-  refl,
-  refl,
-  refl,
-)
+pub trace_round-requires : goal.trace_round-requires
+trace_round-requires g c =
+    let inv = c.loop-k.invariant in
+    let (v0, e0, most, had, until) = c.requires.until in
+    let ports = ap (λ (s : _). length s.env.ports) inv.setting in
+    let buf : MAX_RECORD ≤ length c.loop-k.buf = rw inv.buf c.requires.buf in (
+      omega arith,
+      (
+        inv.inputs ∙ c.requires.inputs ∙ sym ports,
+        (
+          inv.ins ∙ c.requires.ins ∙ sym ports,
+          (
+            omega (arith, inv.ins, c.requires.few),
+            (
+              buf,
+              (
+                omega (arith, inv.turns, c.requires.limit),
+                (v0, e0, most, had, c.loop-k.k, rw inv.only (inv.goes v0 e0 most had until)),
+              ),
+            ),
+          ),
+        ),
+      ),
+    )
 
-pub returns-in_err-trace_round-clause-traced : goal.returns-in_err-trace_round-clause-traced
-returns-in_err-trace_round-clause-traced g c =
-    let (count, h, left) = joined g (goal.at.returns-in_err-trace_round-clause-traced g c).After-trace_round in (count, h, omega (arith, left))
+-- the round that was made
+went : (g : _) (c : After-trace_round g) (v0 : _) (e0 : _) (most : _) (had : _)
+    → TracesUntil g.T.Watch.sees g.T.Tracer.noted v0 c.args.tracer.now c.args.which.port most e0 c.args.engine.now had
+    (map (seen g.R.Feed.remaining g.R.Feed.calls) c.args.ins.now) c.args.inputs.now 0 0 c.args.which.records
+    → TracesRound g.T.Watch.sees g.T.Tracer.noted v0 c.trace_round.new.tracer c.args.which.port most e0 c.trace_round.new.engine had
+    (map (seen g.R.Feed.remaining g.R.Feed.calls) c.trace_round.new.ins) c.trace_round.new.inputs c.loop-k.k c.trace_round.new.which.records
+    c.trace_round.result
+went g c v0 e0 most had until =
+    rw (← c.loop-k.invariant.only) (c.trace_round.ensures.goes v0 e0 most had c.loop-k.k
+    (rw c.loop-k.invariant.only (c.loop-k.invariant.goes v0 e0 most had until)))
 
 pub loop-k-preserved : goal.loop-k-preserved
 loop-k-preserved g c =
-    let l = c.loop-k in
-    let t = c.trace_round in (
-      joined g (goal.at.loop-k-preserved g c).After-trace_round,
-      t.ensures.port ∙ l.invariant.1,
-      t.ensures.many.0 ∙ l.invariant.2,
-      t.ensures.many.1 ∙ l.invariant.3,
-      t.ensures.many.2 ∙ l.invariant.4,
-    )
+    let inv = c.loop-k.invariant in
+    let t = c.trace_round in
+    let (inputs, ins, buf) = t.ensures.many in
+    record {
+      inputs = inputs ∙ inv.inputs;
+      ins = ins ∙ inv.ins;
+      buf = buf ∙ inv.buf;
+      only = t.ensures.port ∙ inv.only;
+      turns = t.ensures.turns ∙ inv.turns;
+      setting = t.ensures.setting ∙ inv.setting;
+      goes = λ v0 e0 most had until.
+          round_done _ _ v0 _ _ most e0 _ had _ t.new.inputs c.loop-k.k _ t.result c.in_ok-trace_round.was
+          (went g (goal.at.loop-k-preserved g c).After-trace_round v0 e0 most had until);
+    }
+
+pub returns-then-not-is_any_left-clause-goes : goal.returns-then-not-is_any_left-clause-goes
+returns-then-not-is_any_left-clause-goes g c v0 e0 most had until =
+    all_traced _ _ v0 _ _ most e0 _ had _ c.loop-k.inputs c.loop-k.k 0 _ (c.loop-k.invariant.goes v0 e0 most had until)
+    (rw (← c.loop-k.invariant.only) (c.if-not-is_any_left.ensures.none refl))
+
+pub returns-in_err-trace_round-clause-goes : goal.returns-in_err-trace_round-clause-goes
+returns-in_err-trace_round-clause-goes g c v0 e0 most had until =
+    rw (gone g c) (round_stopped _ _ v0 _ _ most e0 _ had _ c.trace_round.new.inputs c.loop-k.k _ c.trace_round.result c.in_err-trace_round.field-0.0
+    c.in_err-trace_round.was (went g (goal.at.returns-in_err-trace_round-clause-goes g c).After-trace_round v0 e0 most had until))
+
+pub returns-clause-goes : goal.returns-clause-goes
+returns-clause-goes g c v0 e0 most had until =
+    let here = c.loop-k.invariant.goes v0 e0 most had until in
+    all_traced _ _ v0 _ _ most e0 _ had _ c.loop-k.inputs c.loop-k.k 0 _ here
+    (none_wanted _ _ v0 _ _ most e0 _ had _ c.loop-k.inputs c.loop-k.k _ here (omega (arith, c.loop-k-test.false)))
