@@ -19,3 +19,4 @@ pub mod Found
 pub mod Names
 pub mod Opened
 pub mod Guarding
+pub mod Words

@@ -2,14 +2,17 @@
 use Rattle.std.specs.Prelude.{◌≡◌, ℕ, List, [], ◌∷◌, ◌++◌, Option, None, Bool, false, ◌==◌, ◌&&◌, find, map, string_bytes, ⊤}
 use Rattle.std.specs.Option.{option_map_or}
 use Rattle.std.specs.Str.{bytes_eq}
+use Rattle.dp_pcap.specs.declared.of_buf_writer.OfBufWriter.{OfBufWriter}
 use Rattle.dp_cli.specs.declared.run.capture_errors.CaptureNames.{CaptureNames}
+use Rattle.dp_cli.specs.declared.run.guarded.Guarded.{Guarded}
+use Rattle.dp_cli.specs.declared.run.output_file.Destination.{Destination}
 use Rattle.dp_cli.specs.declared.run.same_file.FileId.{FileId}
 use Rattle.dp_cli.specs.declared.run.same_file.ReadFile.{ReadFile}
 use Rattle.dp_cli.specs.declared.run.same_file.Target.{Target}
 use Rattle.dp_cli.specs.declared.run.same_file.Target.TheVariants.{There, New, Other}
 use Rattle.dp_cli.specs.declared.run.same_file.Written.{Written}
 use Rattle.dp_cli.specs.declared.run.replaced.Place.{Place}
-use Rattle.dp_cli.specs.Names.{input_name, output_capture}
+use Rattle.dp_cli.specs.Names.{AreOutputs, input_name, output_capture}
 
 -- whether two files or folders are the same: of the same device, and with the same number there
 abbrev pub is_same_file : FileId → FileId → Bool
@@ -57,3 +60,9 @@ written_capture output = (output.place, output.name.now)
 pub record AreApart (reads : List ReadFile) (names : List CaptureNames) (outputs : List Written) : Type 0 where
   pub captures_are : map written_capture outputs ≡ map output_capture names
   pub apart : AllApart reads [] outputs
+
+-- the outputs that are made are those of a run, each apart from the files that the run reads and from the earlier outputs
+pub record AreGuarded {F : Type 0} (reads : List ReadFile) (names : List CaptureNames) (outputs : List (OfBufWriter (Guarded (Destination F)))) : Type 0 where
+  pub written : List Written
+  pub apart : AreApart reads names written
+  pub made : AreOutputs outputs (map written_capture written)

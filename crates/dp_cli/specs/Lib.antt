@@ -1,4 +1,5 @@
 pub mod Closing
+pub mod CommandRuns
 pub mod Commands
 pub mod CountedRuns
 pub mod Counting
@@ -13,6 +14,7 @@ pub mod Inferring
 pub mod Inputs
 pub mod Judging
 pub mod LinkTypes
+pub mod LoadedFiles
 pub mod Names
 pub mod OpenedRuns
 pub mod Operands

@@ -1,9 +1,12 @@
 -- Words of the command line.
-use Rattle.std.specs.Prelude.{ℕ, ◌+◌, ◌^◌, List, ◌∷◌, [], ◌++◌, ◌==◌, ◌&&◌, Option, Some, None, codes, length, nat_le, nat_lt, option_map, option_and_then}
-use Rattle.std.specs.Prelude.{if◌then◌else◌}
+use Rattle.std.specs.Prelude.{◌≡◌, ℕ, ◌+◌, ◌^◌, List, ◌∷◌, [], ◌++◌, Bool, true, false, ◌==◌, ◌&&◌, Option, Some, None, codes, length, nat_le, nat_lt}
+use Rattle.std.specs.Prelude.{option_map, option_and_then, if◌then◌else◌}
 use Rattle.std.specs.Char.{is_ascii_digit}
 use Rattle.std.specs.List.{list_all, slice_split}
+use Rattle.std.specs.Option.{unwrap_or}
 use Rattle.std.specs.Str.Parse.{digits_value}
+use Rattle.clap.specs.declared.parser.matches.Found.{Found}
+use Rattle.clap.specs.Matches.{first_value, one_text}
 use Rattle.dp_model.specs.declared.env.Entry.{Entry}
 use Rattle.dp_model.specs.declared.env.Entry.TheVariants.{Port, Ring}
 use Rattle.dp_pipe.specs.declared.forwarding.TheConstants.{MAX_TURNS}
@@ -49,3 +52,12 @@ numbers_in list = ascending_in 0 (words_in list)
 abbrev pub calls_refused : Option (List ℕ) → Option (List ℕ)
 calls_refused None = Some []
 calls_refused (Some list) = numbers_in list
+
+-- an operand of the command line; empty if it is not there
+abbrev pub operand : Found → List ℕ → List ℕ
+operand found id = unwrap_or (first_value found id) []
+
+-- whether a flag of the command line is set
+abbrev pub IsFlag : Found → List ℕ → Bool → Type 0
+IsFlag found id value = (one_text found id ≡ None → value ≡ false) × (one_text found id ≡ Some (codes "true") → value ≡ true)
+    × (one_text found id ≡ Some (codes "false") → value ≡ false)

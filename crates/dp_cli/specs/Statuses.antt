@@ -23,6 +23,10 @@ abbrev pub status_of_fault : Fault → ℕ
 status_of_fault fault.Memory = 4
 status_of_fault _ = 3
 
+-- a fault ended a command
+abbrev pub IsFaultStatus : ℕ → Type 0
+IsFaultStatus status = (status ≡ 3) ⊎ (status ≡ 4)
+
 -- the line of a fault, without its newline
 abbrev pub text_of_fault : Fault → List ℕ
 text_of_fault fault.Memory = codes "fault: memory"

@@ -1,6 +1,8 @@
 //! A command that runs: its words, and the host on which it runs.
 
-ghost use Rattle.std.specs.Prelude.{◌≡◌};
+ghost use Rattle.std.specs.Prelude.{◌≡◌, codes};
+ghost use Rattle.clap.specs.Matches.{found_of};
+ghost use Rattle.dp_cli.specs.Operands.{IsFlag, operand};
 ghost use Rattle.dp_cli.specs.Replacing.{is_on_error};
 
 use crate::run::progress::ToStderr;
@@ -63,18 +65,23 @@ pub struct Call<'a, 'w, R> {
 
 impl<'w, R> Call<'_, 'w, R> {
     /// Returns a required operand.
-    pub fn word(&self, name: &str) -> &'w str {
+    pub fn word(&self, name: &str) -> &'w str
+        ensures { result.now ≡ operand (found_of self.now.words.now) name.now }
+    {
         self.words.get_str(name).unwrap_or("")
     }
 
     /// Whether a JSON document is printed instead of text.
-    pub fn is_json(&self) -> bool {
+    pub fn is_json(&self) -> bool
+        ensures { IsFlag (found_of self.now.words.now) (codes "json") result }
+    {
         self.words.get_flag("json")
     }
 
     /// The same command, with `gives_stdout` replaced.
     pub fn giving_stdout(&self, gives_stdout: bool) -> Call<'_, 'w, R>
-        ensures { result.gives_stdout ≡ gives_stdout }
+        ensures gives { result.gives_stdout ≡ gives_stdout }
+        ensures words { result.words.now ≡ self.now.words.now }
     {
         Call {
             rt: self.rt,

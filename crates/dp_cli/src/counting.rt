@@ -1,9 +1,12 @@
 //! `dpv run --counts`: prints the programs of a run as in their sources, with how often each instruction ran.
 
-ghost use Rattle.std.specs.Prelude.{◌≡◌, OnOk, false, length, map, true};
+ghost use Rattle.std.specs.Prelude.{◌≡◌, IfOk, OnOk, false, length, map, true};
 ghost use Rattle.std.specs.Io.KnownBytes.{Appends};
+ghost use Rattle.clap.specs.Matches.{found_of};
+ghost use Rattle.dp_counts.specs.Counting.{HasNone};
 ghost use Rattle.dp_engine.specs.Engines.{IsAscending};
 ghost use Rattle.dp_pipe.specs.Devices.{seen};
+ghost use Rattle.dp_cli.specs.CommandRuns.{AreCountsBegun};
 ghost use Rattle.dp_cli.specs.Counting.{AreCounts, AreCountsEnded, IsReportedWithCounts, counts_text};
 ghost use Rattle.dp_cli.specs.CountedRuns.{IsCountedRun};
 ghost use Rattle.dp_cli.specs.Documents.{IsRunDocumented};
@@ -45,7 +48,9 @@ impl<'a> Counting<'a> {
         alloc: Global,
         pipeline: &Pipeline,
         programs: &'a [ProgramText],
-    ) -> Result<Counting<'a>, AllocError> {
+    ) -> Result<Counting<'a>, AllocError>
+        ensures { IfOk result (λ counting. HasNone counting.counts) }
+    {
         Ok(Counting {
             sources: sources_of(alloc, pipeline, programs)?,
             counts: Counts::new(alloc)?,
@@ -74,7 +79,9 @@ pub fn counting_in<'a, R>(
     call: &Call<'_, '_, R>,
     pipeline: &Pipeline,
     programs: &'a [ProgramText],
-) -> Result<Option<Counting<'a>>, AllocError> {
+) -> Result<Option<Counting<'a>>, AllocError>
+    ensures { IfOk result (AreCountsBegun (found_of call.now.words.now)) }
+{
     if call.words.get_flag("counts") {
         Ok(Some(Counting::of(call.alloc, pipeline, programs)?))
     } else {

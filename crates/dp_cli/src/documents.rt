@@ -5,7 +5,7 @@ ghost use Rattle.serde_json.specs.View.{view};
 ghost use Rattle.dp_json.specs.Documents as json;
 ghost use Rattle.dp_cli.specs.Documents.{IsPrinted, IsTextIn, PrintsDocument, memory_printed, view_of_fault};
 ghost use Rattle.dp_cli.specs.Printing.{IsEnded, Notes, Prints, PrintsFault, paper};
-ghost use Rattle.dp_cli.specs.Statuses.{status_of_fault};
+ghost use Rattle.dp_cli.specs.Statuses.{IsExitStatus, IsFaultStatus, status_of_fault};
 
 pub mod checks;
 pub mod loads;
@@ -178,7 +178,10 @@ pub fn document_fault<O: Write, E: Write>(
 }
 
 /// Reports a fault that ends a command: its lines, and with `--json` its document too. Returns the status.
-pub fn end_with<R: Print, E: Write>(call: &Call<'_, '_, R>, fault: Fault<'_>, err: &mut E) -> u8 {
+pub fn end_with<R: Print, E: Write>(call: &Call<'_, '_, R>, fault: Fault<'_>, err: &mut E) -> u8
+    ensures status { IsExitStatus (status_of_fault fault.entry) result }
+    ensures fault { IsFaultStatus result }
+{
     if !call.is_json() {
         return fail_with(err, fault);
     }

@@ -1,7 +1,11 @@
 //! Loads pipelines, and reports the first fault of one.
 
-ghost use Rattle.std.specs.Prelude.{◌≡◌, IfOk, IfErr, OnOk};
+ghost use Rattle.std.specs.Prelude.{◌≡◌, ◌≢◌, ◌∷◌, ◌++◌, [], ℕ, List, None, IfOk, IfErr, OnOk, codes, map};
+ghost use Rattle.clap.specs.Matches.{found_of};
 ghost use Rattle.dp_pipe.specs.Loads.{IsLoadedFrom};
+ghost use Rattle.dp_cli.specs.Guarding.{read_name};
+ghost use Rattle.dp_cli.specs.LoadedFiles.{IsLoadedPlan};
+ghost use Rattle.dp_cli.specs.Operands.{operand};
 ghost use Rattle.dp_cli.specs.Pipelines as spec;
 ghost use Rattle.dp_cli.specs.Printing.{IsEnded, Prints, PrintsFault, paper};
 ghost use Rattle.dp_cli.specs.Statuses.{refusal_line, status_of_fault};
@@ -144,7 +148,9 @@ pub fn load_line<F: Files, O: Write, E: Write>(
 pub fn bytes_of<R: rt::Files + Print, E: Write>(
     call: &Call<'_, '_, R>,
     err: &mut E,
-) -> Result<Vec<u8>, u8> {
+) -> Result<Vec<u8>, u8>
+    ensures { IfErr result (λ status. status ≢ 0) }
+{
     let file = call.word("FILE");
     match files::read(call.rt, call.alloc, file) {
         Ok(bytes) => Ok(bytes),
@@ -159,7 +165,10 @@ fn load_as<R: rt::Files + Print, F: Files, E: Write>(
     files: &mut F,
     how: How,
     err: &mut Printer<E>,
-) -> Result<Pipeline, Unloaded> {
+) -> Result<Pipeline, Unloaded>
+    ensures loaded { IfOk result (IsLoadedFrom (F.known files.old) how text.now) }
+    ensures fails { IfErr result (λ unloaded. unloaded.status ≢ 0) }
+{
     let mut out = Printer::new(call.paper());
     if call.is_json() {
         load_or_document(call.alloc, text, files, how, &mut out, err)
@@ -185,7 +194,10 @@ fn load_keeping<R: rt::Files + Print, E: Write>(
     how: How,
     is_kept: bool,
     err: &mut E,
-) -> Result<Loaded, u8> {
+) -> Result<Loaded, u8>
+    ensures loaded { IfOk result (λ loaded. IsLoadedFrom None how text.now loaded.pipeline) }
+    ensures fails { IfErr result (λ status. status ≢ 0) }
+{
     let mut files = HostFiles::new(call.rt, call.alloc, naming);
     files.keep(is_kept);
     let mut faults = Printer::new(err);
@@ -218,7 +230,10 @@ pub fn load_text<R: rt::Files + Print, E: Write>(
     naming: Naming<'_>,
     how: How,
     err: &mut E,
-) -> Result<Loaded, u8> {
+) -> Result<Loaded, u8>
+    ensures loaded { IfOk result (λ loaded. IsLoadedFrom None how text.now loaded.pipeline) }
+    ensures fails { IfErr result (λ status. status ≢ 0) }
+{
     load_keeping(call, text, naming, how, call.words.get_flag("counts"), err)
 }
 
@@ -227,7 +242,10 @@ pub fn load_with_programs<R: rt::Files + Print, E: Write>(
     call: &Call<'_, '_, R>,
     how: How,
     err: &mut E,
-) -> Result<Loaded, u8> {
+) -> Result<Loaded, u8>
+    ensures loaded { IfOk result (λ loaded. IsLoadedPlan how loaded.pipeline) }
+    ensures fails { IfErr result (λ status. status ≢ 0) }
+{
     let text = bytes_of(call, err)?;
     load_keeping(call, text.as_slice(), Naming::AsWritten, how, true, err)
 }
@@ -237,7 +255,12 @@ pub fn load_with_reads<R: rt::Files + Print, E: Write>(
     call: &Call<'_, '_, R>,
     how: How,
     err: &mut E,
-) -> Result<Loaded, u8> {
+) -> Result<Loaded, u8>
+    ensures loaded { IfOk result (λ loaded. IsLoadedPlan how loaded.pipeline) }
+    ensures reads { IfOk result (λ loaded. (first : List (List ℕ)) × (map read_name loaded.reads.items ≡ first ++ operand (found_of call.now.words.now)
+        (codes "FILE") ∷ [])) }
+    ensures fails { IfErr result (λ status. status ≢ 0) }
+{
     let text = bytes_of(call, err)?;
     let mut loaded = load_text(call, text.as_slice(), Naming::AsWritten, how, err)?;
     match note_read(call.rt, call.alloc, &mut loaded.reads, call.word("FILE")) {
@@ -251,7 +274,10 @@ pub fn load_file<R: rt::Files + Print, E: Write>(
     call: &Call<'_, '_, R>,
     how: How,
     err: &mut E,
-) -> Result<Pipeline, u8> {
+) -> Result<Pipeline, u8>
+    ensures loaded { IfOk result (IsLoadedPlan how) }
+    ensures fails { IfErr result (λ status. status ≢ 0) }
+{
     let text = bytes_of(call, err)?;
     let loaded = load_text(call, text.as_slice(), Naming::AsWritten, how, err)?;
     Ok(loaded.pipeline)

@@ -1,5 +1,10 @@
 //! `dpv infer` and `dpv infer-one` over the host's files.
 
+ghost use Rattle.std.specs.Prelude.{◌≡◌, ◌≢◌, IfErr, IfOk};
+ghost use Rattle.clap.specs.Matches.{found_of};
+ghost use Rattle.dp_cli.specs.LoadedFiles.{InfersFile};
+ghost use Rattle.dp_cli.specs.Operands.{word_of};
+
 use crate::call::Call;
 use crate::fault::{Status, write_usage_error};
 use crate::host_files::HostFiles;
@@ -15,7 +20,10 @@ use std::io::{self, Write};
 use std::rt::Files;
 
 /// Parses a word as a node; or reports that it names none, and returns the status.
-pub fn node_in<E: Write>(which: &str, err: &mut E) -> Result<Entry, u8> {
+pub fn node_in<E: Write>(which: &str, err: &mut E) -> Result<Entry, u8>
+    ensures named { IfOk result (λ node. which.now ≡ word_of node) }
+    ensures fails { IfErr result (λ status. status ≢ 0) }
+{
     match node_named(which) {
         Some(node) => Ok(node),
         None => Err(write_usage_error(
@@ -26,7 +34,10 @@ pub fn node_in<E: Write>(which: &str, err: &mut E) -> Result<Entry, u8> {
 }
 
 /// Prints the certificate of a program of a pipeline file.
-pub fn infer_file<R: Files + Print, E: Write>(call: &Call<'_, '_, R>, err: &mut E) -> Status {
+pub fn infer_file<R: Files + Print, E: Write>(call: &Call<'_, '_, R>, err: &mut E) -> Status
+    ensures infers { IfOk result (InfersFile (found_of call.now.words.now)) }
+    ensures fails { IfErr result (λ status. status ≢ 0) }
+{
     let node = node_in(call.word("WHICH"), err)?;
     let pipeline = load_file(call, How::Inferred, err)?;
     let mut out = Printer::new(io::writer(call.rt));

@@ -1,11 +1,13 @@
 //! `dpv run` and `dpv one` over the host's files: opens the captures, and reports the run.
 
-ghost use Rattle.std.specs.Prelude.{◌≡◌, ◌++◌, IfOk, None, OnOk, Some, codes, length, map, option_map};
+ghost use Rattle.std.specs.Prelude.{◌≡◌, ◌≢◌, ◌++◌, IfErr, IfOk, None, OnOk, Some, codes, length, map, option_map};
 ghost use Rattle.clap.specs.Matches.{first_value, found_of};
-ghost use Rattle.dp_cli.specs.Guarding.{ReadsInputs, read_name};
+ghost use Rattle.dp_cli.specs.CommandRuns.{EndsNamed, RunsFile, RunsOne};
+ghost use Rattle.dp_cli.specs.Guarding.{AreGuarded, ReadsInputs, read_name};
 ghost use Rattle.dp_cli.specs.Names.{AreInputs, AreOutputs, input_name, output_capture};
-ghost use Rattle.dp_cli.specs.OpenedRuns.{IsOpenedRun};
+ghost use Rattle.dp_cli.specs.OpenedRuns.{IsOpenedRun, passage};
 ghost use Rattle.dp_cli.specs.Operands.{calls_refused};
+ghost use Rattle.dp_cli.specs.Printing.{paper};
 ghost use Rattle.dp_cli.specs.Replacing.{missing};
 ghost use Rattle.dp_engine.specs.Engines.{IsAscending};
 
@@ -38,6 +40,7 @@ use std::rt::Files;
 fn refused_by<E: Write>(alloc: Global, list: Option<&str>, err: &mut E) -> Result<Vec<u64>, u8>
     ensures calls { IfOk result (λ pattern. Some pattern.items ≡ calls_refused (option_map (λ word. word.now) list.entry)) }
     ensures ascending { IfOk result (λ pattern. IsAscending 0 pattern.items) }
+    ensures fails { IfErr result (λ status. status ≢ 0) }
 {
     let Some(list) = list else {
         return Ok(Vec::new(alloc));
@@ -58,6 +61,7 @@ fn refused_by<E: Write>(alloc: Global, list: Option<&str>, err: &mut E) -> Resul
 pub fn refused_in<R, E: Write>(call: &Call<'_, '_, R>, err: &mut E) -> Result<Vec<u64>, u8>
     ensures calls { IfOk result (λ pattern. Some pattern.items ≡ calls_refused (first_value (found_of call.now.words.now) (codes "refuse"))) }
     ensures ascending { IfOk result (λ pattern. IsAscending 0 pattern.items) }
+    ensures fails { IfErr result (λ status. status ≢ 0) }
 {
     refused_by(call.alloc, call.words.get_str("refuse"), err)
 }
@@ -75,6 +79,7 @@ fn open_captures<'a, R: Files>(
     requires { ReadsInputs reads.now names.now }
     ensures inputs { IfOk result (λ captures. AreInputs captures.0.items names.now) }
     ensures outputs { IfOk result (λ captures. AreOutputs captures.1.items (map output_capture names.now)) }
+    ensures guarded { IfOk result (λ captures. AreGuarded reads.now names.now captures.1.items) }
     ensures many { IfOk result (λ captures. (length captures.0.items ≡ length names.now) × (length captures.1.items ≡ length names.now)) }
 {
     let (rt, alloc) = (call.rt, call.alloc);
@@ -124,39 +129,38 @@ fn note_inputs<R: Files>(
 
 /// Runs a pipeline over its open captures, and counts its steps if requested. Then prints a cure if records were dropped or the region is too small. The
 /// status is that of the run, or that of a text that could not be written.
-fn run_opened<K: Known, R: Files + Print, E: Write>(
-    call: &Call<'_, '_, R>,
+fn run_opened<K: Known, R: Files, P: Write, E: Write>(
+    alloc: Global,
     pipeline: Pipeline,
-    captures: Captures<R::File>,
+    ins: &mut [InputOf<R::File>],
+    outs: &mut [OutputOf<R::File>],
     pattern: Vec<u64>,
     counting: &mut Option<Counting<'_>>,
     is_json: bool,
     reporting: Reporting<'_>,
-    err: &mut E,
+    out: &mut Printer<P>,
+    err: &mut Printer<E>,
 ) -> u8
-    requires inputs { length captures.0.items ≡ length pipeline.env.ports }
-    requires outputs { length captures.1.items ≡ length pipeline.env.ports }
+    requires inputs { length ins.old ≡ length pipeline.env.ports }
+    requires outputs { length outs.old ≡ length pipeline.env.ports }
     requires pattern { IsAscending 0 pattern.items }
-    ensures { IsOpenedRun pipeline pattern.items reporting.entry.names.now reporting.entry.counts is_json counting.old counting.new result }
+    ensures { IsOpenedRun pipeline pattern.items (passage R.File.remaining ins.old ins.new outs.old outs.new) reporting.entry.names.now
+        reporting.entry.counts is_json counting.old counting.new (paper P.contents out.old) (paper P.contents out.new) (paper E.contents err.old)
+        err.new.has_failed result }
 {
     let env = pipeline.env().copy();
     let (region, needed) = (u64::from(pipeline.region()), need(&env));
-    let (mut inputs, mut outputs) = captures;
-    let (ins, outs) = (inputs.as_mut_slice(), outputs.as_mut_slice());
-    let mut out = Printer::new(call.paper());
-    let mut faults = Printer::new(err);
-    let (out, faults, alloc) = (&mut out, &mut faults, call.alloc);
     let ended = run_and_report::<K, _, _, _, _>(
-        alloc, pipeline, ins, outs, pattern, counting, &env, is_json, reporting, out, faults,
+        alloc, pipeline, ins, outs, pattern, counting, &env, is_json, reporting, out, err,
     );
     // If these lines cannot be written, the status is not changed.
-    let err = &mut faults.to;
+    let to = &mut err.to;
     let _written = if region < needed {
-        write_region(needed, err)
+        write_region(needed, to)
     } else {
-        drops_of(&ended.flushed.answer).write(&env, err)
+        drops_of(&ended.flushed.answer).write(&env, to)
     };
-    let _written = write_truncated(inputs.as_slice(), err);
+    let _written = write_truncated(ins, to);
     ended.status
 }
 
@@ -170,6 +174,8 @@ fn run_pipeline<K: Known, R: Files + Print, E: Write>(
     err: &mut E,
 ) -> u8
     requires { IsAscending 0 pattern.items }
+    ensures { EndsNamed R.File.remaining (found_of call.now.words.now) loaded.pipeline naming.entry given.now.inputs.items given.now.outputs.items
+        pattern.items (map read_name loaded.reads.items) result }
 {
     let Loaded {
         pipeline,
@@ -199,21 +205,30 @@ fn run_pipeline<K: Known, R: Files + Print, E: Write>(
         names,
         counts: notices.is_on,
     };
-    run_opened::<K, R, E>(
-        call,
+    let is_json = call.is_json();
+    let (mut inputs, mut outputs) = captures;
+    let (ins, outs) = (inputs.as_mut_slice(), outputs.as_mut_slice());
+    let mut out = Printer::new(call.paper());
+    let mut faults = Printer::new(err);
+    let (out, faults) = (&mut out, &mut faults);
+    run_opened::<K, R, _, _>(
+        call.alloc,
         pipeline,
-        captures,
+        ins,
+        outs,
         pattern,
         &mut counting,
-        call.is_json(),
+        is_json,
         reporting,
-        err,
+        out,
+        faults,
     )
 }
 
 /// Refuses captures of ports that a pipeline with this number of ports does not have. Reports the first of them, and returns the status.
 fn refuse_missing<E: Write>(given: &Replacements<'_>, ports: usize, err: &mut E) -> Result<(), u8>
-    ensures { OnOk result (missing ports given.now.inputs.items given.now.outputs.items ≡ None) }
+    ensures none { OnOk result (missing ports given.now.inputs.items given.now.outputs.items ≡ None) }
+    ensures fails { IfErr result (λ status. status ≢ 0) }
 {
     match given.missing(ports) {
         Some(port) => Err(write_no_node(Entry::Port(port), err)),
@@ -226,7 +241,10 @@ pub fn run_file<K: Known, R: Files + Print, E: Write>(
     call: &Call<'_, '_, R>,
     reports_interpreted: bool,
     err: &mut E,
-) -> Status {
+) -> Status
+    ensures runs { IfOk result (RunsFile R.File.remaining (found_of call.now.words.now)) }
+    ensures fails { IfErr result (λ status. status ≢ 0) }
+{
     let pattern = refused_in(call, err)?;
     let given = replacements_in(call, err)?;
     let call = &call.giving_stdout(given.take_stdout());
@@ -241,7 +259,10 @@ pub fn run_file<K: Known, R: Files + Print, E: Write>(
 }
 
 /// Runs one node program on one port, from a file to a file.
-pub fn run_one_port<R: Files + Print, E: Write>(call: &Call<'_, '_, R>, err: &mut E) -> Status {
+pub fn run_one_port<R: Files + Print, E: Write>(call: &Call<'_, '_, R>, err: &mut E) -> Status
+    ensures runs { IfOk result (RunsOne R.File.remaining ONE_PORT.now (found_of call.now.words.now)) }
+    ensures fails { IfErr result (λ status. status ≢ 0) }
+{
     let (input, output) = (call.word("IN"), call.word("OUT"));
     let naming = Naming::One(OneFiles {
         node: call.word("NODE"),

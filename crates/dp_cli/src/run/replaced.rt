@@ -285,7 +285,9 @@ impl fmt::Display for WordProblem<'_> {
 }
 
 /// Reports why words give no captures, and returns the status.
-fn write_word_fault<E: Write>(way: Way, fault: WordFault<'_>, err: &mut E) -> u8 {
+fn write_word_fault<E: Write>(way: Way, fault: WordFault<'_>, err: &mut E) -> u8
+    ensures { result ≢ 0 }
+{
     match fault {
         WordFault::Memory => fail_with(err, Fault::Memory),
         _ => write_usage_error(err, WordProblem { way, fault }),
@@ -298,7 +300,8 @@ fn given_in<'w, R, E: Write>(
     way: Way,
     err: &mut E,
 ) -> Result<Vec<Replaced<'w>>, u8>
-    ensures { IfOk result (λ given. Some (map row_of given.items) ≡ spec.given_in (found_of call.now.words.now) way) }
+    ensures given { IfOk result (λ given. Some (map row_of given.items) ≡ spec.given_in (found_of call.now.words.now) way) }
+    ensures fails { IfErr result (λ status. status ≢ 0) }
 {
     match captures_in(call.alloc, call.words, way) {
         Ok(given) => Ok(given),
@@ -398,6 +401,7 @@ pub fn replacements_in<'w, R, E: Write>(
 ) -> Result<Replacements<'w>, u8>
     ensures inputs { IfOk result (λ given. Some (map row_of given.inputs.items) ≡ spec.given_in (found_of call.now.words.now) Way.In) }
     ensures outputs { IfOk result (λ given. Some (map row_of given.outputs.items) ≡ spec.given_in (found_of call.now.words.now) Way.Out) }
+    ensures fails { IfErr result (λ status. status ≢ 0) }
 {
     Ok(Replacements {
         inputs: given_in(call, Way::In, err)?,
