@@ -108,7 +108,7 @@ TracedSo only most had left arrivals (Err (In port error)) =
     ((arrivals ≡ []) × HasHeaderFault had left port error) ⊎ TracedToFault only most had left arrivals port error
 TracedSo only most had left arrivals (Err cause) = ⊥
 
--- from one engine to a later one a tracer was shown at most so many records, which the readers gave
+-- from one engine to a later one a tracer was shown at most `most` records, which the readers gave
 pub record TracesRecords {V : Type 0} (sees : V → Event → V → Type 0) (noted : V → Note → V → Type 0) (v v' : V) (only : Option ℕ) (most : ℕ)
     (before after : EngineState) (had left : List Device) (answer : Result ⊤ RunCause) : Type 0 where
   pub count : ℕ
@@ -116,7 +116,7 @@ pub record TracesRecords {V : Type 0} (sees : V → Event → V → Type 0) (not
   pub traced : HasTraced sees noted v v' only count before after
   pub read : TracedSo only most had left traced.arrivals answer
 
--- A traced run of a pipeline takes the first turns of a run: those of at most so many records, each of which a reader of a traced port gave.
+-- A traced run of a pipeline takes the first turns of a run: those of at most `most` records, each of which a reader of a traced port gave.
 pub record TracesFirst {V : Type 0} (sees : V → Event → V → Type 0) (noted : V → Note → V → Type 0) (v v' : V) (p : Plan) (pattern : List ℕ) (only : Option ℕ)
     (most : ℕ) (had left : List Device) (answer : Result ⊤ RunCause) : Type 0 where
   pub first : EngineState
