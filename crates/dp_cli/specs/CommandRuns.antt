@@ -11,11 +11,11 @@ use Rattle.dp_pipe.specs.Pipelines.{Plan}
 use Rattle.dp_cli.specs.declared.counting.Counting.{Counting}
 use Rattle.dp_cli.specs.declared.run.capture_errors.CaptureNames.{CaptureNames}
 use Rattle.dp_cli.specs.declared.run.guarded.Guarded.{Guarded}
-use Rattle.dp_cli.specs.declared.run.input_file.Source.{Source}
+use Rattle.dp_cli.specs.declared.run.input_file.InputSource.{InputSource}
 use Rattle.dp_cli.specs.declared.run.output_file.Destination.{Destination}
 use Rattle.dp_cli.specs.declared.run.progress.ToStderr.{ToStderr}
 use Rattle.dp_cli.specs.declared.run.replaced.Replaced.{Replaced}
-use Rattle.dp_cli.specs.declared.run.replaced.Way.TheVariants.{In, Out}
+use Rattle.dp_cli.specs.declared.run.replaced.Direction.TheVariants.{In, Out}
 use Rattle.dp_cli.specs.declared.run.same_file.ReadFile.{ReadFile}
 use Rattle.dp_cli.specs.declared.run.watched.Watched.{Watched}
 use Rattle.dp_cli.specs.declared.single_port.Naming.{Naming}
@@ -45,8 +45,8 @@ pub record RunsNamed {F : Type 0} (remaining : F → Option (List ℕ)) (found :
   pub reads : List ReadFile
   pub read : map read_name reads ≡ files ++ map input_name names
   -- the captures, before the run and after it
-  pub ins : List (OfBufReader (Watched (Source F) ToStderr))
-  pub ins' : List (OfBufReader (Watched (Source F) ToStderr))
+  pub ins : List (OfBufReader (Watched (InputSource F) ToStderr))
+  pub ins' : List (OfBufReader (Watched (InputSource F) ToStderr))
   pub outs : List (OfBufWriter (Guarded (Destination F)))
   pub outs' : List (OfBufWriter (Guarded (Destination F)))
   pub opened : AreInputs ins names

@@ -7,8 +7,8 @@ use Rattle.dp_pcap.specs.declared.of_buf_writer.OfBufWriter.{OfBufWriter}
 use Rattle.dp_pcap.specs.OfStd.{buffered_reader, buffered_writer}
 use Rattle.dp_cli.specs.declared.run.capture_errors.CaptureNames.{CaptureNames}
 use Rattle.dp_cli.specs.declared.run.guarded.Guarded.{Guarded}
-use Rattle.dp_cli.specs.declared.run.input_file.Source.{Source}
-use Rattle.dp_cli.specs.declared.run.input_file.Source.TheVariants as source
+use Rattle.dp_cli.specs.declared.run.input_file.InputSource.{InputSource}
+use Rattle.dp_cli.specs.declared.run.input_file.InputSource.TheVariants as source
 use Rattle.dp_cli.specs.declared.run.output_file.Destination.{Destination}
 use Rattle.dp_cli.specs.declared.run.output_file.Destination.TheVariants as destination
 use Rattle.dp_cli.specs.declared.run.replaced.Place.{Place}
@@ -42,13 +42,13 @@ captures_from naming given port [] = []
 captures_from naming given port (name ∷ names) = capture_at given port (file_named naming name) ∷ captures_from naming given (suc port) names
 
 -- where an input is read
-abbrev pub source_place : {F : Type 0} → Source F → Place
+abbrev pub source_place : {F : Type 0} → InputSource F → Place
 source_place (source.File file) = File
 source_place (source.Stream stdin) = Stream
 source_place (source.Nowhere left) = Nowhere
 
 -- the bytes that are left of an input, if they are known: those of a file, or of the capture without records
-abbrev pub source_left : {F : Type 0} → (F → Option (List ℕ)) → Source F → Option (List ℕ)
+abbrev pub source_left : {F : Type 0} → (F → Option (List ℕ)) → InputSource F → Option (List ℕ)
 source_left remaining (source.File file) = remaining file
 source_left remaining (source.Stream stdin) = None
 source_left remaining (source.Nowhere left) = Some left.now
@@ -59,7 +59,7 @@ empty_capture =
     212 ∷ 195 ∷ 178 ∷ 161 ∷ 2 ∷ 0 ∷ 4 ∷ 0 ∷ 0 ∷ 0 ∷ 0 ∷ 0 ∷ 0 ∷ 0 ∷ 0 ∷ 0 ∷ 0 ∷ 0 ∷ 4 ∷ 0 ∷ 1 ∷ 0 ∷ 0 ∷ 0 ∷ []
 
 -- the whole capture without records is left of an input that is nowhere
-abbrev pub IsFresh : {F : Type 0} → Source F → Type 0
+abbrev pub IsFresh : {F : Type 0} → InputSource F → Type 0
 IsFresh (source.File file) = ⊤
 IsFresh (source.Stream stdin) = ⊤
 IsFresh (source.Nowhere left) = left.now ≡ empty_capture
@@ -77,10 +77,10 @@ destination_contents contents (destination.Stream stdout) = None
 destination_contents contents destination.Nowhere = None
 
 -- where an input is read, and the name under which it was opened
-abbrev pub read_from : {F P : Type 0} → OfBufReader (Watched (Source F) P) → Place × List (List ℕ)
+abbrev pub read_from : {F P : Type 0} → OfBufReader (Watched (InputSource F) P) → Place × List (List ℕ)
 read_from {F} {P} input = (
-  source_place (reader_inner {T = Watched (Source F) P} (buffered_reader input)).inner,
-  (reader_inner {T = Watched (Source F) P} (buffered_reader input)).of.pieces,
+  source_place (reader_inner {T = Watched (InputSource F) P} (buffered_reader input)).inner,
+  (reader_inner {T = Watched (InputSource F) P} (buffered_reader input)).of.pieces,
 )
 
 -- where an output is written, and the name under which it was opened
@@ -94,7 +94,7 @@ abbrev pub one_name : Place × List ℕ → Place × List (List ℕ)
 one_name capture = (capture.0, capture.1 ∷ [])
 
 -- the inputs are these captures, and the outputs those
-abbrev pub AreInputs : {F P : Type 0} → List (OfBufReader (Watched (Source F) P)) → List CaptureNames → Type 0
+abbrev pub AreInputs : {F P : Type 0} → List (OfBufReader (Watched (InputSource F) P)) → List CaptureNames → Type 0
 AreInputs inputs names = map read_from inputs ≡ map (λ port. one_name (input_capture port)) names
 
 abbrev pub AreOutputs : {F : Type 0} → List (OfBufWriter (Guarded (Destination F))) → List (Place × List ℕ) → Type 0

@@ -10,7 +10,7 @@ use Rattle.dp_cli.specs.declared.counting.Counting.{Counting}
 use Rattle.dp_cli.specs.declared.run.closing.Flushed.{Flushed}
 use Rattle.dp_cli.specs.declared.run.capture_errors.CaptureNames.{CaptureNames}
 use Rattle.dp_cli.specs.declared.run.guarded.Guarded.{Guarded}
-use Rattle.dp_cli.specs.declared.run.input_file.Source.{Source}
+use Rattle.dp_cli.specs.declared.run.input_file.InputSource.{InputSource}
 use Rattle.dp_cli.specs.declared.run.output_file.Destination.{Destination}
 use Rattle.dp_cli.specs.declared.run.progress.ToStderr.{ToStderr}
 use Rattle.dp_cli.specs.declared.run.watched.Seen.{Seen}
@@ -25,9 +25,9 @@ use Rattle.dp_cli.specs.Outputs.{file_took}
 use Rattle.dp_cli.specs.Printing.{Paper}
 
 -- what a run sees of an input: the bytes that are left of it, if they are known, and the number of its calls
-abbrev pub input_device : {F : Type 0} → (F → Option (List ℕ)) → OfBufReader (Watched (Source F) ToStderr) → Device
+abbrev pub input_device : {F : Type 0} → (F → Option (List ℕ)) → OfBufReader (Watched (InputSource F) ToStderr) → Device
 input_device {F} remaining input = record {
-  bytes = reader_remaining {T = Watched (Source F) ToStderr} (λ watched. source_left remaining watched.inner) (buffered_reader input);
+  bytes = reader_remaining {T = Watched (InputSource F) ToStderr} (λ watched. source_left remaining watched.inner) (buffered_reader input);
   calls = (buffered_feed_health input).calls;
 }
 
@@ -50,7 +50,8 @@ pub record Passage : Type 0 where
   pub saw : List (Option Seen)
 
 -- the passage from inputs to outputs, each before the run and after it
-abbrev pub passage : {F : Type 0} → (F → Option (List ℕ)) → List (OfBufReader (Watched (Source F) ToStderr)) → List (OfBufReader (Watched (Source F) ToStderr))
+abbrev pub passage : {F : Type 0} → (F → Option (List ℕ))
+    → List (OfBufReader (Watched (InputSource F) ToStderr)) → List (OfBufReader (Watched (InputSource F) ToStderr))
     → List (OfBufWriter (Guarded (Destination F))) → List (OfBufWriter (Guarded (Destination F))) → Passage
 passage remaining ins ins' outs outs' = record {
   had = map (input_device remaining) ins;

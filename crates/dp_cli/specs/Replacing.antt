@@ -8,13 +8,13 @@ use Rattle.clap.specs.declared.parser.matches.Found.{Found}
 use Rattle.clap.specs.Matches.{matched_of, raw_values}
 use Rattle.dp_cli.specs.declared.call.Paper.{Paper}
 use Rattle.dp_cli.specs.declared.call.Paper.TheVariants.{Output, Error}
-use Rattle.dp_cli.specs.declared.run.replaced.Form.{Form}
-use Rattle.dp_cli.specs.declared.run.replaced.Form.TheVariants.{Named, Bare}
+use Rattle.dp_cli.specs.declared.run.replaced.WordForm.{WordForm}
+use Rattle.dp_cli.specs.declared.run.replaced.WordForm.TheVariants.{Named, Bare}
 use Rattle.dp_cli.specs.declared.run.replaced.Place.{Place}
 use Rattle.dp_cli.specs.declared.run.replaced.Place.TheVariants.{File, Stream, Nowhere}
 use Rattle.dp_cli.specs.declared.run.replaced.Replaced.{Replaced}
-use Rattle.dp_cli.specs.declared.run.replaced.Way.{Way}
-use Rattle.dp_cli.specs.declared.run.replaced.Way.TheVariants.{In, Out}
+use Rattle.dp_cli.specs.declared.run.replaced.Direction.{Direction}
+use Rattle.dp_cli.specs.declared.run.replaced.Direction.TheVariants.{In, Out}
 
 -- the capture that a word gives a port: where it is, and its name
 pub record Row : Type 0 where
@@ -56,7 +56,7 @@ replaced_in word = option_and_then (λ (parts : List ℕ × List ℕ). option_an
 abbrev pub nowhere_in : List ℕ → Option Row
 nowhere_in word = option_map (λ port. record { word = word; port = port; place = Nowhere; name = [] }) (port_digit word)
 
-abbrev pub given_by : Form → List ℕ → Option Row
+abbrev pub given_by : WordForm → List ℕ → Option Row
 given_by Named word = replaced_in word
 given_by Bare word = nowhere_in word
 
@@ -74,11 +74,11 @@ unless_found one None = Some one
 unless_found one (Some other) = None
 
 -- the capture that a word gives besides earlier ones
-abbrev pub added : Form → List Row → List ℕ → Option Row
+abbrev pub added : WordForm → List Row → List ℕ → Option Row
 added form earlier word = option_and_then (λ one. unless_found one (find (λ other. clashes other one) earlier)) (given_by form word)
 
 -- the captures that words give after earlier ones; none if a word gives none, or one that cannot be given together with an earlier one
-abbrev pub rows_from : Form → List Row → List (List ℕ) → Option (List Row)
+abbrev pub rows_from : WordForm → List Row → List (List ℕ) → Option (List Row)
 rows_from form earlier [] = Some earlier
 rows_from form earlier (word ∷ words) = option_and_then (λ one. rows_from form (earlier ++ one ∷ []) words) (added form earlier word)
 
@@ -87,7 +87,7 @@ abbrev pub rows_of : List (List ℕ) → List (List ℕ) → Option (List Row)
 rows_of named bare = option_and_then (λ rows. rows_from Bare rows bare) (rows_from Named [] named)
 
 -- the options whose words these are
-abbrev pub option_of : Way → Form → List ℕ
+abbrev pub option_of : Direction → WordForm → List ℕ
 option_of In Named = codes "in"
 option_of In Bare = codes "no-in"
 option_of Out Named = codes "out"
@@ -98,8 +98,8 @@ abbrev pub words_of : Found → List ℕ → List (List ℕ)
 words_of found option = option_map_or raw_values (matched_of found option) []
 
 -- the captures that the command line gives the ports of a pipeline
-abbrev pub given_in : Found → Way → Option (List Row)
-given_in found way = rows_of (words_of found (option_of way Named)) (words_of found (option_of way Bare))
+abbrev pub given_in : Found → Direction → Option (List Row)
+given_in found direction = rows_of (words_of found (option_of direction Named)) (words_of found (option_of direction Bare))
 
 -- whether a command prints on standard error
 abbrev pub is_on_error : {R : Type 0} → Paper R → Bool

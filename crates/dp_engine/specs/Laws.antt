@@ -23,7 +23,7 @@ use Rattle.dp_lang.specs.Programs.{IsProgram}
 use Rattle.dp_lpm.specs.Routes.{RouteTable}
 use Rattle.dp_check.specs.Faults.{IsChecked}
 use Rattle.dp_engine.specs.Steps.{setting_of, routes_of}
-use Rattle.dp_engine.specs.Schemes.{programs_of, nodes_of, scheme_of, AreNodes, IsPlan}
+use Rattle.dp_engine.specs.Schemes.{programs_of, nodes_of, scheme_of, AreNodes, IsScheme}
 use Rattle.dp_model.specs.Laws.{Checked, AreChecked}
 use Rattle.dp_model.specs.Laws.Limits.{if_none, or_none, map_none, not_false, ports_have_room, step_none}
 use Rattle.dp_model.specs.Laws.Lists.{each_at, each_slot}
@@ -170,11 +170,11 @@ are_checked env tables questions pattern limits nodes checked = record {
   facts = λ ring spec h. each_at (λ r. is_well_formed_fact r.fact ≡ true) env.rings ring spec (known env limits).facts h;
 }
 
--- programs that are checked for the entries of an environment, with its tables, make a plan
+-- programs that are checked for the entries of an environment, with its tables, make a context
 pub plan_of : (env : Environment) (tables : List RouteTable) (questions : List Question) (pattern : List ℕ) → fault_of env ≡ None → AreNodes env questions
     → length tables ≡ env.tables → ((k : ℕ) (q : Question) → slice_get questions k ≡ Some q → IsChecked q)
     → ((k : ℕ) (t : RouteTable) → slice_get tables k ≡ Some t → AllByRecursion (λ (route : Route). route.hop ≤ max_hop) t.routes)
-    → IsPlan (scheme_of env tables questions pattern)
+    → IsScheme (scheme_of env tables questions pattern)
 plan_of env tables questions pattern limits nodes many checked hops =
     let all : length (programs_of questions) ≡ length env.ports + length env.rings = length-map questions (λ (q : Question). q.program) ∙ nodes.many in
     record {

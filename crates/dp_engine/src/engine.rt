@@ -12,11 +12,11 @@ mod pass;
 mod reporting;
 mod turns;
 
+use crate::context::Context;
 use crate::known::{Known, Nothing};
 use crate::lists::Lists;
 use crate::machine::Machine;
 use crate::memory::{EngineMemory, Parts};
-use crate::plan::Plan;
 use crate::queues::Queues;
 use crate::report::{NO_TALLIES, Report, Tallies};
 use dp_check::Checked;
@@ -71,7 +71,7 @@ pub struct OpenFault {
 /// An engine: pools of mbufs, rings and transmit lists in one region, tables, and a checked program for each port and ring. `finish` ends it.
 /// Programs that are among `K` run as machine code, others are interpreted; nothing else depends on `K`.
 pub struct Engine<K: Known = Nothing> {
-    plan: Plan<K>,
+    context: Context<K>,
     machine: Machine,
     memory: EngineMemory,
     turns: u64,
@@ -84,9 +84,9 @@ impl<K: Known> Model for Engine<K> {
 
     ghost Value = { EngineState };
 
-    ghost view = { λ e. engine_of e.plan e.machine e.memory e.turns e.tallies e.left };
+    ghost view = { λ e. engine_of e.context e.machine e.memory e.turns e.tallies e.left };
 
-    ghost invariant = { λ e. IsEngine e.plan e.machine e.memory e.turns e.tallies e.left };
+    ghost invariant = { λ e. IsEngine e.context e.machine e.memory e.turns e.tallies e.left };
 }
 
 impl<K: Known> Engine<K> {
@@ -121,12 +121,12 @@ impl<K: Known> Engine<K> {
             rings,
             lists,
         } = parts;
-        let plan = Plan::new(env, tables, nodes);
+        let context = Context::new(env, tables, nodes);
         let mbufs = Mbufs::over(pools);
         mbufs.is_well_formed();
         let machine = Machine::over(mbufs, Queues::over(rings), Lists::over(lists));
         Ok(Engine {
-            plan,
+            context,
             machine,
             memory,
             turns: 0,
@@ -141,7 +141,7 @@ impl<K: Known> Engine<K> {
         requires first { self.old.turns ≡ 0 }
         ensures { self.new ≡ record self.old { setting = record self.old.setting { pattern = pattern.items } } }
     {
-        self.plan.refuse(pattern);
+        self.context.refuse(pattern);
     }
 
     /// The number of turns so far.
@@ -182,7 +182,7 @@ impl<K: Known> Engine<K> {
         ensures heap { IsOneFree result.bytes }
     {
         let Engine {
-            plan: _,
+            context: _,
             machine,
             memory,
             turns: _,

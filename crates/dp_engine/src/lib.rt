@@ -36,6 +36,7 @@
 
 mod batch;
 mod builder;
+mod context;
 mod control;
 mod copying;
 mod engine;
@@ -47,7 +48,6 @@ mod names;
 mod needs;
 mod node;
 mod place;
-mod plan;
 mod put;
 mod queues;
 mod report;

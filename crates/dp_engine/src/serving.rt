@@ -8,10 +8,10 @@ ghost use Rattle.dp_engine.specs.Outcomes.{outcome_of, max_steps};
 ghost use Rattle.dp_engine.specs.Tallies.{packet_count};
 ghost use Rattle.dp_engine.specs.Serving.{ArrivesAt, ServesOne, Rests, WatchesArrival, WatchesOne, WatchesServing};
 
+use crate::context::Context;
 use crate::engine::Outcome;
 use crate::known::Known;
 use crate::machine::Machine;
-use crate::plan::Plan;
 use crate::run::NodeRun;
 use crate::view::View;
 use crate::watch::Watch;
@@ -24,64 +24,68 @@ const NO_RUN: NodeRun = NodeRun { steps: 0, cuts: 0 };
 
 // Receives or drops a record at a port, and runs the port's node on it if it is received.
 pub(crate) fn arrive<K: Known, W: Watch>(
-    plan: &Plan<K>,
+    context: &Context<K>,
     m: &mut Machine,
     port: u8,
     bytes: &[u8],
     watch: &mut W,
 ) -> (Outcome, NodeRun)
-    requires exists { port < length plan.now.setting.env.ports }
+    requires exists { port < length context.now.setting.env.ports }
     requires size { length bytes.now ≤ MAX_RECORD }
-    requires rests { Rests plan.now m.old }
+    requires rests { Rests context.now m.old }
     requires few { m.old.state.world.calls + max_steps + 1 < 2 ^ 64 }
     requires few_cuts { m.old.state.world.cuts + 1 < 2 ^ 64 }
-    ensures arrives { (answers : List Bool) × ArrivesAt plan.now port bytes.now m.old.state.world (outcome_of result.0) answers m.new.state.world }
+    ensures arrives { (answers : List Bool) × ArrivesAt context.now port bytes.now m.old.state.world (outcome_of result.0) answers m.new.state.world }
     ensures took { Consumed m.old.state.world m.new.state.world result.1.steps result.1.cuts }
     ensures few_steps { result.1.steps ≤ runs_of (outcome_of result.0) * max_steps }
     ensures few_cuts { result.1.cuts ≤ 1 }
     // There is one call for the record, and at most one for each step.
     ensures calls { m.new.state.world.calls ≤ m.old.state.world.calls + max_steps + 1 }
     ensures packets { packet_count m.new.state + m.old.state.world.calls ≤ packet_count m.old.state + m.new.state.world.calls }
-    ensures rests { Rests plan.now m.new }
+    ensures rests { Rests context.now m.new }
     ensures frames { m.new.frames ≡ m.old.frames }
-    ensures watched { WatchesArrival W.sees watch.old watch.new plan.now port bytes.now m.old.state.world (outcome_of result.0) m.new.state.world }
-    ensures pipeline { IsPipeline plan.now.setting plan.now.nodes }
-    ensures safe { KeepsSafe plan.now.setting plan.now.nodes }
+    ensures watched { WatchesArrival W.sees watch.old watch.new context.now port bytes.now m.old.state.world (outcome_of result.0) m.new.state.world }
+    ensures pipeline { IsPipeline context.now.setting context.now.nodes }
+    ensures safe { KeepsSafe context.now.setting context.now.nodes }
 {
-    let env = plan.env();
+    let env = context.env();
     let spec = env.ports()[usize::from(port)];
     if m.needed(spec.pool, bytes.len()) > spec.segs as usize {
         return (Outcome::Oversize, NO_RUN);
     }
-    if !m.receive(env, plan.pattern(), spec.pool, bytes, port) {
+    if !m.receive(env, context.pattern(), spec.pool, bytes, port) {
         return (Outcome::NoBuffer, NO_RUN);
     }
     watch.begin(Entry::Port(port), View::of(m));
-    let program = plan.port_program(port);
+    let program = context.port_program(port);
     (
         Outcome::Got,
-        program.run(m, env, plan.tables(), plan.pattern(), watch),
+        program.run(m, env, context.tables(), context.pattern(), watch),
     )
 }
 
 // Runs the node of the first ring that has a packet on its front packet, if there is one.
-fn serve_one<K: Known, W: Watch>(plan: &Plan<K>, m: &mut Machine, watch: &mut W) -> Option<NodeRun>
-    requires rests { Rests plan.now m.old }
+fn serve_one<K: Known, W: Watch>(
+    context: &Context<K>,
+    m: &mut Machine,
+    watch: &mut W,
+) -> Option<NodeRun>
+    requires rests { Rests context.now m.old }
     requires few { m.old.state.world.calls + max_steps < 2 ^ 64 }
     requires few_cuts { m.old.state.world.cuts + 1 < 2 ^ 64 }
-    ensures serves { ServesOne plan.now m.old.state.world result m.new.state.world }
+    ensures serves { ServesOne context.now m.old.state.world result m.new.state.world }
     ensures few_steps { IfSome result (λ r. (r.steps ≤ max_steps) × (r.cuts ≤ 1)) }
     ensures calls { m.new.state.world.calls ≤ m.old.state.world.calls + max_steps }
     ensures packets { packet_count m.new.state + m.old.state.world.calls ≤ packet_count m.old.state + m.new.state.world.calls }
-    ensures rests { Rests plan.now m.new }
+    ensures rests { Rests context.now m.new }
     ensures frames { m.new.frames ≡ m.old.frames }
-    ensures watched { WatchesOne W.sees watch.old watch.new plan.now m.old.state.world result m.new.state.world }
+    ensures watched { WatchesOne W.sees watch.old watch.new context.now m.old.state.world result m.new.state.world }
 {
     let ring = m.take_waiting()?;
-    let env = plan.env();
+    let env = context.env();
     watch.begin(Entry::Ring(ring), View::of(m));
-    let program = plan.ring_program(ring);
-    Some(program.run(m, env, plan.tables(), plan.pattern(), watch))
+    let program = context.ring_program(ring);
+    Some(program.run(m, env, context.tables(), context.pattern(), watch))
 }
 
 /// The node runs on packets from rings.
@@ -96,11 +100,15 @@ pub(crate) struct Served {
 }
 
 // Up to 32 node runs, each on the front packet of the first ring that has one.
-pub(crate) fn serve<K: Known, W: Watch>(plan: &Plan<K>, m: &mut Machine, watch: &mut W) -> Served
-    requires rests { Rests plan.now m.old }
+pub(crate) fn serve<K: Known, W: Watch>(
+    context: &Context<K>,
+    m: &mut Machine,
+    watch: &mut W,
+) -> Served
+    requires rests { Rests context.now m.old }
     requires few { m.old.state.world.calls + max_ring_runs * max_steps < 2 ^ 64 }
     requires few_cuts { m.old.state.world.cuts + max_ring_runs < 2 ^ 64 }
-    ensures serves { (answers : List Bool) × Serves plan.now.setting plan.now.nodes.rings max_ring_runs m.old.state.world
+    ensures serves { (answers : List Bool) × Serves context.now.setting context.now.nodes.rings max_ring_runs m.old.state.world
         answers result.runs m.new.state.world }
     ensures took { Consumed m.old.state.world m.new.state.world result.steps result.cuts }
     ensures few_runs { result.runs ≤ max_ring_runs }
@@ -108,9 +116,9 @@ pub(crate) fn serve<K: Known, W: Watch>(plan: &Plan<K>, m: &mut Machine, watch: 
     ensures few_cuts { result.cuts ≤ max_ring_runs }
     ensures calls { m.new.state.world.calls ≤ m.old.state.world.calls + max_ring_runs * max_steps }
     ensures packets { packet_count m.new.state + m.old.state.world.calls ≤ packet_count m.old.state + m.new.state.world.calls }
-    ensures rests { Rests plan.now m.new }
+    ensures rests { Rests context.now m.new }
     ensures frames { m.new.frames ≡ m.old.frames }
-    ensures watched { WatchesServing W.sees watch.old watch.new plan.now m.old.state.world result.runs m.new.state.world }
+    ensures watched { WatchesServing W.sees watch.old watch.new context.now m.old.state.world result.runs m.new.state.world }
 {
     let mut served = Served {
         runs: 0,
@@ -118,7 +126,7 @@ pub(crate) fn serve<K: Known, W: Watch>(plan: &Plan<K>, m: &mut Machine, watch: 
         cuts: 0,
     };
     for i in 0..MAX_RING_RUNS {
-        let Some(NodeRun { steps, cuts }) = serve_one(plan, m, watch) else {
+        let Some(NodeRun { steps, cuts }) = serve_one(context, m, watch) else {
             return served;
         };
         served.runs += 1;

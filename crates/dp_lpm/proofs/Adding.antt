@@ -1,6 +1,6 @@
 -- Adding a rule, and overwriting the entries.
 use Rattle.std.proofs.Common.{◌≡◌, ℕ, ◌-◌, ◌/◌, ◌^◌, ◌<◌, ◌≤◌, Some, sym, ◌∙◌, ap, subst}
-use Rattle.dp_lpm.specs.declared.cell.Entry.TheVariants.{Hop}
+use Rattle.dp_lpm.specs.declared.cell.TableEntry.TheVariants.{Hop}
 use Rattle.dp_lpm.specs.declared.rule.Rule.{Rule}
 use Rattle.dp_lpm.specs.declared.ruled_table.RuledTable.{RuledTable}
 use Rattle.dp_lpm.specs.Routes.{IsRoute, prefix_of, ChangesAt}

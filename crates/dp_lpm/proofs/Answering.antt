@@ -5,7 +5,7 @@ use Rattle.std.specs.List.{AllByRecursion}
 use Rattle.std.specs.Option.{option_or}
 use Rattle.std.proofs.lemmas.Bool.{cases_eq, cases_lt}
 use Rattle.dp_model.specs.Prefixes.{Route}
-use Rattle.dp_lpm.specs.declared.cell.Entry.{Entry}
+use Rattle.dp_lpm.specs.declared.cell.TableEntry.{TableEntry}
 use Rattle.dp_lpm.specs.declared.ruled_table.RuledTable.{RuledTable}
 use Rattle.dp_lpm.specs.Cells.{depth_of, overwritten}
 use Rattle.dp_lpm.specs.Routes.{IsRoute, prefix_of, ChangesAt, deepest_within}
@@ -26,7 +26,7 @@ overwritten_answers : (before after : List Route) (old new : RuledTable) (ip dep
 overwritten_answers before after old new ip depth route changes some most answers so a = ⊎_elim inside outside
     (cases_eq (prefix_of a depth) (prefix_of ip depth))
   where
-    to : Entry
+    to : TableEntry
     to = entry_of (option_or route (deepest_within (depth - 1) before ip))
 
     inside : prefix_of a depth ≡ prefix_of ip depth → entry_for new.table a ≡ entry_of (deepest_within 32 after a)

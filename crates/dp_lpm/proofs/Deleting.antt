@@ -7,7 +7,7 @@ use Rattle.std.specs.Option.{option_or}
 use Rattle.std.proofs.lemmas.Bool.{le-ltb}
 use Rattle.std.proofs.lemmas.Option.{same_Some}
 use Rattle.dp_model.specs.Prefixes.{Route}
-use Rattle.dp_lpm.specs.declared.cell.Entry.{Entry}
+use Rattle.dp_lpm.specs.declared.cell.TableEntry.{TableEntry}
 use Rattle.dp_lpm.specs.declared.error.LpmError.TheVariants.{BadDepth, NoRule}
 use Rattle.dp_lpm.specs.declared.ruled_table.RuledTable.{RuledTable}
 use Rattle.dp_lpm.specs.Cells.{IsStorable}
@@ -77,7 +77,8 @@ deep_group s ip depth index kept most found deep = either_group (group_at s.tabl
 
 -- ---- what remains
 
-module _ (old mid new : RuledTable) (index ip depth : ℕ) (to : Entry) (kept : IsKept old) (found : IsFound old.rules.items depth (prefix_of ip depth) index)
+module _ (old mid new : RuledTable) (index ip depth : ℕ) (to : TableEntry) (kept : IsKept old)
+    (found : IsFound old.rules.items depth (prefix_of ip depth) index)
     (some : 1 ≤ depth) (most : depth ≤ 32) (rules : mid.rules.items ≡ take index old.rules.items
     ++ drop (suc index) old.rules.items) (room : vec_capacity mid.rules ≡ vec_capacity old.rules) (max : mid.max_rules ≡ old.max_rules) (table : mid.table
     ≡ old.table) (next : to ≡ entry_of (deepest_within (depth - 1) (routes_in old) ip))

@@ -2,7 +2,7 @@
 use Rattle.std.proofs.Common.{◌≡◌, ℕ, zero, suc, ◌*◌, ◌/◌, ◌≤◌, length, replicate, None, refl, sym, ◌∙◌, ap, arith}
 use Rattle.std.proofs.lemmas.List.{length-replicate}
 use Rattle.dp_lpm.specs.declared.cell.Cell.{Cell}
-use Rattle.dp_lpm.specs.declared.cell.Entry.TheVariants.{Empty}
+use Rattle.dp_lpm.specs.declared.cell.TableEntry.TheVariants.{Empty}
 use Rattle.dp_lpm.specs.declared.table.Table.{Table}
 use Rattle.dp_lpm.specs.Cells.{at, entry_in, group_in}
 use Rattle.dp_lpm.specs.Tables.{group_at, IsEmptyTable}

@@ -4,8 +4,8 @@ use Rattle.std.proofs.Common.{ap, arith}
 use Rattle.std.specs.Prelude.{nat_le, slice_index, slice_index_or}
 use Rattle.std.specs.Option.{option_map_or}
 use Rattle.dp_lpm.specs.declared.cell.Cell.{Cell}
-use Rattle.dp_lpm.specs.declared.cell.Entry.{Entry}
-use Rattle.dp_lpm.specs.declared.cell.Entry.TheVariants.{Empty, Hop, Group}
+use Rattle.dp_lpm.specs.declared.cell.TableEntry.{TableEntry}
+use Rattle.dp_lpm.specs.declared.cell.TableEntry.TheVariants.{Empty, Hop, Group}
 use Rattle.dp_lpm.specs.declared.table.Table.{Table}
 use Rattle.dp_lpm.specs.Cells.{at, entry_in, group_in, overwritten, depth_of}
 use Rattle.dp_lpm.specs.Tables.{IsTable, first_at, group_at, entry_for}
@@ -30,7 +30,7 @@ entry_same old new ip first cells = either_group (group_at old (ip / 256))
     (λ g named. entry_grouped new ip g (ap group_in first ∙ named) ∙ (cells g named ∙ sym (entry_grouped old ip g named)))
 
 -- an entry that is overwritten with one that is no group is none itself
-pub overwritten_leaf : (depth : ℕ) (to e : Entry) → group_in to ≡ None → group_in e ≡ None → group_in (overwritten depth to e) ≡ None
+pub overwritten_leaf : (depth : ℕ) (to e : TableEntry) → group_in to ≡ None → group_in e ≡ None → group_in (overwritten depth to e) ≡ None
 overwritten_leaf depth to e leaf other = go (nat_le (depth_of e) depth)
   where
     go : (b : Bool) → group_in (cond b to e) ≡ None
@@ -38,10 +38,10 @@ overwritten_leaf depth to e leaf other = go (nat_le (depth_of e) depth)
     go false = other
 
 -- an entry that names a group has that group
-pub named_group : (e : Entry) (g : ℕ) → Group g ≡ e → group_in e ≡ Some g
+pub named_group : (e : TableEntry) (g : ℕ) → Group g ≡ e → group_in e ≡ Some g
 named_group e g is = sym (ap group_in is)
 
-pub unnamed_group : (e : Entry) → ((g : ℕ) → e ≡ Group g → ⊥) → group_in e ≡ None
+pub unnamed_group : (e : TableEntry) → ((g : ℕ) → e ≡ Group g → ⊥) → group_in e ≡ None
 unnamed_group Empty other = refl
 unnamed_group (Hop hop depth) other = refl
 unnamed_group (Group g) other = absurd (other g refl)

@@ -4,8 +4,8 @@ use Rattle.std.specs.Prelude.{◌==◌, find, option_map}
 use Rattle.std.specs.Option.{option_or}
 use Rattle.std.proofs.lemmas.Bool.{eqb-true}
 use Rattle.dp_model.specs.Prefixes.{Route, is_match, hop_or, hop_within, hop_for}
-use Rattle.dp_lpm.specs.declared.cell.Entry.{Entry}
-use Rattle.dp_lpm.specs.declared.cell.Entry.TheVariants.{Hop}
+use Rattle.dp_lpm.specs.declared.cell.TableEntry.{TableEntry}
+use Rattle.dp_lpm.specs.declared.cell.TableEntry.TheVariants.{Hop}
 use Rattle.dp_lpm.specs.Routes.{prefix_of, is_at, route_at, deepest_within}
 use Rattle.dp_lpm.specs.Rules.{entry_of}
 use Rattle.dp_lpm.proofs.Within.{within_zero, within_suc}
@@ -44,7 +44,7 @@ hop_answered routes ip hop depth is = hop_is routes ip 32 ∙ go (deepest_within
     go None e = cc
     go (Some r) e = cc
 
-pub none_answered : (routes : List Route) (ip : ℕ) (e : Entry) → ((hop depth : ℕ) → e ≡ Hop hop depth → ⊥) → e ≡ entry_of (deepest_within 32 routes ip) →
+pub none_answered : (routes : List Route) (ip : ℕ) (e : TableEntry) → ((hop depth : ℕ) → e ≡ Hop hop depth → ⊥) → e ≡ entry_of (deepest_within 32 routes ip) →
     hop_for routes ip ≡ None
 none_answered routes ip e other is = hop_is routes ip 32 ∙ go (deepest_within 32 routes ip) is
   where

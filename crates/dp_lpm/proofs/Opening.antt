@@ -7,7 +7,7 @@ use Rattle.std.proofs.lemmas.Bool.{cases_eq, cases_lt, eqb-true}
 use Rattle.std.proofs.lemmas.Option.{same_Some}
 use Rattle.std.proofs.lemmas.Iterator.Adapters.{position_from-zero}
 use Rattle.dp_lpm.specs.declared.cell.Cell.{Cell}
-use Rattle.dp_lpm.specs.declared.cell.Entry.TheVariants.{Group}
+use Rattle.dp_lpm.specs.declared.cell.TableEntry.TheVariants.{Group}
 use Rattle.dp_lpm.specs.declared.table.Table.{Table}
 use Rattle.dp_lpm.specs.Cells.{at, entry_in, group_in}
 use Rattle.dp_lpm.specs.Tables.{IsTable, first_at, group_at, entry_for, Opened}

@@ -4,12 +4,12 @@ use Rattle.std.specs.Prelude.{◌==◌, nat_lt, slice_set, slice_index_or, if◌
 use Rattle.std.proofs.lemmas.Bool.{eqb-true, ltb-false, le-leb, lt-leb, cases_eq}
 use Rattle.std.proofs.lemmas.List.{get_or-set_same, get_or-set_other}
 use Rattle.dp_lpm.specs.declared.cell.Cell.{Cell}
-use Rattle.dp_lpm.specs.declared.cell.Entry.{Entry}
-use Rattle.dp_lpm.specs.declared.cell.Entry.TheVariants.{Empty, Hop, Group}
+use Rattle.dp_lpm.specs.declared.cell.TableEntry.{TableEntry}
+use Rattle.dp_lpm.specs.declared.cell.TableEntry.TheVariants.{Empty, Hop, Group}
 use Rattle.dp_lpm.specs.Cells.{at, overwritten, depth_of, entry_in}
 
 -- those from one index up to k are overwritten if shallow enough, and the others stay
-pub record OverwrittenUpTo (from k depth : ℕ) (to : Entry) (old new : List Cell) : Type 0 where
+pub record OverwrittenUpTo (from k depth : ℕ) (to : TableEntry) (old new : List Cell) : Type 0 where
   pub inside : (i : ℕ) → from ≤ i → i < k → at new i ≡ overwritten depth to (at old i)
   pub below : (i : ℕ) → i < from → at new i ≡ at old i
   pub above : (i : ℕ) → k ≤ i → at new i ≡ at old i
@@ -40,10 +40,10 @@ at-set_same cells k c there = ap entry_in (get_or-set_same cells k c (record { b
 pub at-set_other : (cells : List Cell) (k i : ℕ) (c : Cell) → i ≢ k → at (slice_set cells k c) i ≡ at cells i
 at-set_other cells k i c other = ap entry_in (get_or-set_other cells k i c (record { bits = 0 }) other)
 
-overwritten_yes : (depth : ℕ) (to e : Entry) → depth_of e ≤ depth → overwritten depth to e ≡ to
+overwritten_yes : (depth : ℕ) (to e : TableEntry) → depth_of e ≤ depth → overwritten depth to e ≡ to
 overwritten_yes depth to e le = ap (λ b. if b then to else e) (le-leb (depth_of e) depth le)
 
-overwritten_no : (depth : ℕ) (to e : Entry) → depth < depth_of e → overwritten depth to e ≡ e
+overwritten_no : (depth : ℕ) (to e : TableEntry) → depth < depth_of e → overwritten depth to e ≡ e
 overwritten_no depth to e lt = ap (λ b. if b then to else e) (lt-leb (depth_of e) depth lt)
 
 -- one more: it is shallow enough, and set
@@ -65,7 +65,7 @@ overwrite_set from k depth to old cells so after there shallow most = record {
         ap (at (slice_set cells k to)) is ∙ (at-set_same cells k to there ∙ sym (overwritten_yes depth (entry_in to) (at old i) (omega (arith, same, few))))
 
 -- one more: it is deeper, and stays
-pub overwrite_keep : (from k depth : ℕ) (to : Entry) (old cells : List Cell) → OverwrittenUpTo from k depth to old cells →
+pub overwrite_keep : (from k depth : ℕ) (to : TableEntry) (old cells : List Cell) → OverwrittenUpTo from k depth to old cells →
     depth < (slice_index_or cells k (record { bits = 0 })).bits / 16777216 → depth ≤ 32 → OverwrittenUpTo from (k + 1) depth to old cells
 overwrite_keep from k depth to old cells so deeper most = record {
   inside = λ i le lt. ⊎_elim (here i) (λ other. so.inside i le (omega (arith, lt, other))) (cases_eq i k);
@@ -81,7 +81,8 @@ overwrite_keep from k depth to old cells so deeper most = record {
         was ∙ sym (overwritten_no depth to (at old i) (omega (arith, same, many)))
 
 -- the same for equal lists
-pub overwritten_between : (from k depth : ℕ) (to : Entry) (old old' new new' : List Cell) → old ≡ old' → new ≡ new' → OverwrittenUpTo from k depth to old new →
+pub overwritten_between : (from k depth : ℕ) (to : TableEntry) (old old' new new' : List Cell) → old ≡ old' → new ≡ new'
+    → OverwrittenUpTo from k depth to old new →
     OverwrittenUpTo from k depth to old' new'
 overwritten_between from k depth to old old' new new' e f so =
     subst (λ xs. OverwrittenUpTo from k depth to old' xs) f (subst (λ xs. OverwrittenUpTo from k depth to xs new) e so)

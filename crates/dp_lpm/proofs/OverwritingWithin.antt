@@ -2,7 +2,7 @@
 use Rattle.std.proofs.Common.{◌≡◌, ◌≢◌, ℕ, ◌+◌, ◌*◌, ◌/◌, ◌%◌, ◌<◌, ◌≤◌, ◌⊎◌, length, Some, None, refl, sym, ◌∙◌, ap, subst, arith, ⊎_elim, inl, inr}
 use Rattle.std.specs.Prelude.{slice_index}
 use Rattle.std.proofs.lemmas.Bool.{cases_eq, cases_lt}
-use Rattle.dp_lpm.specs.declared.cell.Entry.{Entry}
+use Rattle.dp_lpm.specs.declared.cell.TableEntry.{TableEntry}
 use Rattle.dp_lpm.specs.declared.table.Table.{Table}
 use Rattle.dp_lpm.specs.Cells.{at, group_in, overwritten}
 use Rattle.dp_lpm.specs.Tables.{IsTable, first_at, group_at, Overwritten}
@@ -10,7 +10,7 @@ use Rattle.dp_lpm.proofs.Overwriting.{OverwrittenUpTo}
 use Rattle.dp_lpm.proofs.Entries.{entry_grouped, entry_plain, entry_same, overwritten_leaf}
 
 -- the prefix has a group: entries of it are overwritten
-pub overwritten_group : (old new : Table) (first low count depth g : ℕ) (to : Entry) → IsTable old → low + count ≤ 256 → group_in to ≡ None →
+pub overwritten_group : (old new : Table) (first low count depth g : ℕ) (to : TableEntry) → IsTable old → low + count ≤ 256 → group_in to ≡ None →
     group_at old first ≡ Some g → new.first.items ≡ old.first.items → new.counts.items ≡ old.counts.items → length new.cells.items ≡ length old.cells.items →
     OverwrittenUpTo (g * 256 + low) (g * 256 + low + count) depth to old.cells.items new.cells.items → Overwritten (first * 256 + low) count depth to old new
 overwritten_group old new first low count depth g to table fits leaf named firsts counts lengths so = record {
@@ -63,7 +63,7 @@ overwritten_group old new first low count depth g to table fits leaf named first
         index e (inr over) = so.above (h * 256 + j) (omega (arith, e, over))
 
 -- the prefix has no group: its one entry is overwritten
-pub overwritten_plain : (old new : Table) (first depth : ℕ) (to : Entry) → IsTable old → depth ≤ 32 → group_in to ≡ None → group_at old first ≡ None →
+pub overwritten_plain : (old new : Table) (first depth : ℕ) (to : TableEntry) → IsTable old → depth ≤ 32 → group_in to ≡ None → group_at old first ≡ None →
     new.cells.items ≡ old.cells.items → new.counts.items ≡ old.counts.items → length new.first.items ≡ length old.first.items →
     OverwrittenUpTo first (first + 1) depth to old.first.items new.first.items → Overwritten (first * 256) 256 depth to old new
 overwritten_plain old new first depth to table small leaf none cells counts lengths so = record {
@@ -99,7 +99,7 @@ overwritten_plain old new first depth to table small leaf none cells counts leng
         (cases_eq i first)
 
 -- one range after another
-pub overwritten_joined : (start size more depth : ℕ) (to : Entry) (old mid new : Table) → Overwritten start size depth to old mid →
+pub overwritten_joined : (start size more depth : ℕ) (to : TableEntry) (old mid new : Table) → Overwritten start size depth to old mid →
     Overwritten (start + size) more depth to mid new → Overwritten start (size + more) depth to old new
 overwritten_joined start size more depth to old mid new one other = record {
   table = other.table;
@@ -114,7 +114,7 @@ overwritten_joined start size more depth to old mid new one other = record {
 }
 
 -- no range
-pub overwritten_none : (start depth : ℕ) (to : Entry) (t : Table) → IsTable t → Overwritten start 0 depth to t t
+pub overwritten_none : (start depth : ℕ) (to : TableEntry) (t : Table) → IsTable t → Overwritten start 0 depth to t t
 overwritten_none start depth to t table = record {
   table = table;
   inside = λ ip le lt. absurd (omega (arith, le, lt));
@@ -125,7 +125,7 @@ overwritten_none start depth to t table = record {
 }
 
 -- the same, in terms of a call's arguments
-pub overwritten_whole : (old new : Table) (first low count depth : ℕ) (to : Entry) → (low ≡ 0) × (count ≡ 256) → Overwritten (first * 256) 256 depth to old
+pub overwritten_whole : (old new : Table) (first low count depth : ℕ) (to : TableEntry) → (low ≡ 0) × (count ≡ 256) → Overwritten (first * 256) 256 depth to old
     new →
     Overwritten (first * 256 + low) count depth to old new
 overwritten_whole old new first low count depth to (none, all) overwritten =

@@ -3,7 +3,7 @@ use Rattle.std.proofs.Common.{◌≡◌, ℕ, zero, suc, ◌-◌, ◌<◌, cond,
 use Rattle.std.specs.Prelude.{◌==◌}
 use Rattle.std.specs.Option.{option_or}
 use Rattle.dp_model.specs.Prefixes.{Route}
-use Rattle.dp_lpm.specs.declared.cell.Entry.TheVariants.{Hop}
+use Rattle.dp_lpm.specs.declared.cell.TableEntry.TheVariants.{Hop}
 use Rattle.dp_lpm.specs.declared.rule.Rule.{Rule}
 use Rattle.dp_lpm.specs.Routes.{prefix_of, route_at, deepest_within}
 use Rattle.dp_lpm.specs.Rules.{rank, rule_at, route_of, routes_of, entry_of, IsFound, IsMissing}

@@ -3,8 +3,8 @@ use Rattle.std.specs.Prelude.{◌≡◌, ℕ, suc, ◌+◌, ◌*◌, ◌<◌, �
 use Rattle.std.specs.List.{AllByRecursion}
 use Rattle.dp_model.specs.Prefixes.{Route}
 use Rattle.dp_lpm.specs.declared.limits.TheConstants.{ADDRESSES}
-use Rattle.dp_lpm.specs.declared.cell.Entry.{Entry}
-use Rattle.dp_lpm.specs.declared.cell.Entry.TheVariants.{Empty, Hop}
+use Rattle.dp_lpm.specs.declared.cell.TableEntry.{TableEntry}
+use Rattle.dp_lpm.specs.declared.cell.TableEntry.TheVariants.{Empty, Hop}
 use Rattle.dp_lpm.specs.declared.rule.Rule.{Rule}
 
 -- the route of a rule
@@ -15,7 +15,7 @@ abbrev pub routes_of : List Rule → List Route
 routes_of rules = map route_of rules
 
 -- the entry of a route
-abbrev pub entry_of : Option Route → Entry
+abbrev pub entry_of : Option Route → TableEntry
 entry_of None = Empty
 entry_of (Some route) = Hop route.hop route.depth
 

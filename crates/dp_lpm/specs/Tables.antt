@@ -3,21 +3,21 @@ use Rattle.std.specs.Prelude.{◌≡◌, ◌≢◌, ℕ, ◌+◌, ◌-◌, ◌*�
 use Rattle.std.specs.Prelude.{slice_set, vec_capacity}
 use Rattle.std.specs.Option.{option_map_or}
 use Rattle.dp_lpm.specs.declared.limits.TheConstants.{ADDRESSES, FIRST_ENTRIES, GROUP_ENTRIES, MAX_DEPTH, MAX_GROUPS}
-use Rattle.dp_lpm.specs.declared.cell.Entry.{Entry}
-use Rattle.dp_lpm.specs.declared.cell.Entry.TheVariants.{Empty}
+use Rattle.dp_lpm.specs.declared.cell.TableEntry.{TableEntry}
+use Rattle.dp_lpm.specs.declared.cell.TableEntry.TheVariants.{Empty}
 use Rattle.dp_lpm.specs.declared.table.Table.{Table}
 use Rattle.dp_lpm.specs.Cells.{at, group_in, overwritten}
 use Rattle.dp_lpm.specs.Routes.{prefix_of}
 
 -- the first-level entry of first bits; their group, if they have one
-abbrev pub first_at : Table → ℕ → Entry
+abbrev pub first_at : Table → ℕ → TableEntry
 first_at t i = at t.first.items i
 
 abbrev pub group_at : Table → ℕ → Option ℕ
 group_at t i = group_in (first_at t i)
 
 -- the entry for an address
-abbrev pub entry_for : Table → ℕ → Entry
+abbrev pub entry_for : Table → ℕ → TableEntry
 entry_for t ip =
     option_map_or (λ g. at t.cells.items (g * GROUP_ENTRIES + ip % GROUP_ENTRIES)) (group_at t (ip / GROUP_ENTRIES)) (first_at t (ip / GROUP_ENTRIES))
 
@@ -46,7 +46,7 @@ pub record IsEven (start size : ℕ) : Type 0 where
   pub whole : GROUP_ENTRIES ≤ size → (start % GROUP_ENTRIES ≡ 0) × (size % GROUP_ENTRIES ≡ 0)
 
 -- the entries of these addresses that are no deeper than that are overwritten
-pub record Overwritten (start size depth : ℕ) (to : Entry) (old new : Table) : Type 0 where
+pub record Overwritten (start size depth : ℕ) (to : TableEntry) (old new : Table) : Type 0 where
   pub table : IsTable new
   pub inside : (ip : ℕ) → start ≤ ip → ip < start + size → entry_for new ip ≡ overwritten depth to (entry_for old ip)
   pub below : (ip : ℕ) → ip < start → entry_for new ip ≡ entry_for old ip

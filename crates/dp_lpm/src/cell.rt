@@ -7,7 +7,7 @@ use crate::limits::{FIRST_GROUP, GROUP_DEPTH, HOPS, MAX_DEPTH, MAX_GROUPS};
 
 /// What an entry says about its addresses.
 #[derive(Clone, Copy, Debug, PartialEq, Eq)]
-pub enum Entry {
+pub enum TableEntry {
     /// No rule matches them.
     Empty,
     /// The deepest rule that matches them has this hop and depth.
@@ -24,32 +24,32 @@ pub struct Cell {
 
 impl Cell {
     /// Encodes an entry.
-    pub fn of(entry: Entry) -> Cell
+    pub fn of(entry: TableEntry) -> Cell
         requires { IsStorable entry }
         ensures { entry_in result ≡ entry }
     {
         let bits = match entry {
-            Entry::Empty => 0,
-            Entry::Hop { hop, depth } => u32::from(depth) * HOPS + hop,
-            Entry::Group(group) => GROUP_DEPTH * HOPS + u32::from(group),
+            TableEntry::Empty => 0,
+            TableEntry::Hop { hop, depth } => u32::from(depth) * HOPS + hop,
+            TableEntry::Group(group) => GROUP_DEPTH * HOPS + u32::from(group),
         };
         Cell { bits }
     }
 
     /// Decodes the entry.
-    pub fn entry(self) -> Entry
+    pub fn entry(self) -> TableEntry
         ensures { result ≡ entry_in self }
     {
         if self.bits != 0 && self.bits < FIRST_GROUP {
-            return Entry::Hop {
+            return TableEntry::Hop {
                 hop: self.bits % HOPS,
                 depth: (self.bits / HOPS) as u8,
             };
         }
         if self.bits == 0 {
-            return Entry::Empty;
+            return TableEntry::Empty;
         }
-        Entry::Group((self.bits % MAX_GROUPS) as u8)
+        TableEntry::Group((self.bits % MAX_GROUPS) as u8)
     }
 
     /// The depth of the entry's rule; 0 if it is empty, and at least 128 for a group.

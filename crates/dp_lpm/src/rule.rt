@@ -5,7 +5,7 @@ ghost use Rattle.std.specs.List.{copy_within};
 ghost use Rattle.dp_lpm.specs.Rules.{rank, rank_of, IsOrdered, IsLowerBound, IsFound, IsMissing, routes_of, entry_of};
 ghost use Rattle.dp_lpm.specs.Routes.{prefix_of, deepest_within};
 
-use crate::cell::Entry;
+use crate::cell::TableEntry;
 use crate::limits::MAX_DEPTH;
 
 /// The number of rules that are moved down at once: `memmove` is slow on a long run that moves down by a few bytes.
@@ -57,16 +57,16 @@ pub fn search(rules: &[Rule], depth: u8, prefix: u32) -> Result<usize, usize>
 }
 
 /// The entry of the deepest rule for an address among those no deeper than `depth`.
-pub fn entry_within(rules: &[Rule], ip: u32, depth: u8) -> Entry
+pub fn entry_within(rules: &[Rule], ip: u32, depth: u8) -> TableEntry
     requires order { IsOrdered rules.now }
     requires most { depth ≤ MAX_DEPTH }
     ensures { result ≡ entry_of (deepest_within depth (routes_of rules.now) ip) }
 {
     if depth == 0 {
-        return Entry::Empty;
+        return TableEntry::Empty;
     }
     match search(rules, depth, prefix_of(ip, depth)) {
-        Ok(index) => Entry::Hop {
+        Ok(index) => TableEntry::Hop {
             hop: rules[index].hop,
             depth,
         },

@@ -4,7 +4,7 @@ ghost use Rattle.std.specs.Prelude.{◌≡◌, ℕ, ◌<◌, ◌≤◌, [], leng
 ghost use Rattle.dp_model.specs.Prefixes.{hop_for, LooksUp};
 ghost use Rattle.dp_lpm.specs.Faults.{add_fault, delete_fault, added};
 
-use crate::cell::{Cell, Entry};
+use crate::cell::{Cell, TableEntry};
 use crate::error::{LpmError, Memory};
 use crate::limits::{FIRST_BITS, GROUP_ENTRIES, MAX_DEPTH, MAX_GROUPS, MAX_HOP, MAX_RULES};
 use crate::rule::{Rule, entry_within, insert, prefix_of, remove, search};
@@ -70,7 +70,7 @@ impl RuledTable {
         ensures low { IfSome result (λ hop. hop ≤ MAX_HOP) }
     {
         match self.table.entry_for(ip) {
-            Entry::Hop { hop, .. } => Some(hop),
+            TableEntry::Hop { hop, .. } => Some(hop),
             _ => None,
         }
     }
@@ -85,7 +85,7 @@ impl RuledTable {
     }
 
     /// Overwrites the entries of a prefix that are no deeper than the rule.
-    fn overwrite_shallower(&mut self, ip: u32, depth: u8, to: Entry)
+    fn overwrite_shallower(&mut self, ip: u32, depth: u8, to: TableEntry)
         requires table { IsTable self.old.table }
         requires some { 1 ≤ depth }
         requires most { depth ≤ MAX_DEPTH }
@@ -170,7 +170,7 @@ impl RuledTable {
             depth,
             hop,
         })?;
-        self.overwrite_shallower(ip, depth, Entry::Hop { hop, depth });
+        self.overwrite_shallower(ip, depth, TableEntry::Hop { hop, depth });
         Ok(())
     }
 

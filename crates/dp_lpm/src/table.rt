@@ -3,7 +3,7 @@
 ghost use Rattle.std.specs.Prelude.{◌≡◌, ℕ, ◌+◌, ◌*◌, ◌/◌, ◌==◌, ◌<◌, ◌≤◌, length, slice_index, position, IfOk, MatchBool};
 ghost use Rattle.dp_lpm.specs.Cells.{entry_in, group_in};
 
-use crate::cell::{Cell, Entry, fill, overwrite_shallower};
+use crate::cell::{Cell, TableEntry, fill, overwrite_shallower};
 use crate::error::Memory;
 use crate::limits::{FIRST_ENTRIES, GROUP_ENTRIES, MAX_DEPTH, MAX_GROUPS, MAX_RULES};
 use std::alloc::Global;
@@ -40,7 +40,7 @@ impl Table {
         requires { groups ≤ MAX_GROUPS }
         ensures { IfOk result (λ t. IsEmptyTable groups t) }
     {
-        let empty = Cell::of(Entry::Empty);
+        let empty = Cell::of(TableEntry::Empty);
         let Ok(first) = Vec::from_elem(alloc, empty, FIRST_ENTRIES) else {
             return Err(Memory);
         };
@@ -58,13 +58,13 @@ impl Table {
     }
 
     /// The entry for an address, after one or two reads.
-    pub fn entry_for(&self, ip: u32) -> Entry
+    pub fn entry_for(&self, ip: u32) -> TableEntry
         requires { IsTable self.now }
         ensures { result ≡ entry_for self.now ip }
     {
         let entry = self.first[ip as usize / GROUP_ENTRIES].entry();
         match entry {
-            Entry::Group(group) => self.cells[usize::from(group) * GROUP_ENTRIES
+            TableEntry::Group(group) => self.cells[usize::from(group) * GROUP_ENTRIES
                 + ip as usize % GROUP_ENTRIES].entry(),
             _ => entry,
         }
@@ -81,7 +81,7 @@ impl Table {
         ensures { Overwritten (first * GROUP_ENTRIES + low) count depth (entry_in to) self.old self.new }
     {
         match self.first[first].entry() {
-            Entry::Group(group) => {
+            TableEntry::Group(group) => {
                 let from = usize::from(group) * GROUP_ENTRIES + low;
                 overwrite_shallower(&mut self.cells, from, from + count, depth, to);
             }
@@ -123,7 +123,7 @@ impl Table {
         ensures { MatchBool result (Opened first self.old self.new) (IsFull first self.old self.new) }
     {
         let cell = self.first[first];
-        if let Entry::Group(group) = cell.entry() {
+        if let TableEntry::Group(group) = cell.entry() {
             self.counts[usize::from(group)] += 1;
             return true;
         }
@@ -132,7 +132,7 @@ impl Table {
         };
         let start = group * GROUP_ENTRIES;
         fill(&mut self.cells, start, start + GROUP_ENTRIES, cell);
-        self.first[first] = Cell::of(Entry::Group(group as u8));
+        self.first[first] = Cell::of(TableEntry::Group(group as u8));
         self.counts[group] = 1;
         true
     }
@@ -143,7 +143,7 @@ impl Table {
         requires can { CanClose first self.old }
         ensures { Closed first self.old self.new }
     {
-        if let Entry::Group(group) = self.first[first].entry() {
+        if let TableEntry::Group(group) = self.first[first].entry() {
             let group = usize::from(group);
             self.counts[group] -= 1;
             if self.counts[group] == 0 {

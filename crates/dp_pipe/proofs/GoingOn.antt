@@ -20,7 +20,7 @@ use Rattle.dp_model.specs.Runs.{records_at, joined}
 use Rattle.dp_engine.specs.declared.report.InputState.{InputState}
 use Rattle.dp_engine.specs.declared.report.InputState.TheVariants.{Open, Whole, Cut}
 use Rattle.dp_engine.specs.Engines.{EngineState}
-use Rattle.dp_pipe.specs.declared.forwarding.Progress.{Progress}
+use Rattle.dp_pipe.specs.declared.forwarding.InputProgress.{InputProgress}
 use Rattle.dp_pipe.specs.Devices.{Device, transfer}
 use Rattle.dp_pipe.specs.Forwarding.{Input, HasReadSo, Stands, ReadsTurn, TakesTurn, DrainedAll, DrainedFirst, Follows}
 use Rattle.dp_pipe.specs.Forwarding.{Advances, Along, AnswersSo, asked, arrivals_of, HasRun, last_pulls, records_many, unit_for}
@@ -82,9 +82,9 @@ pub cut_read : (byte : ℕ) (s s' : SourceState) (records : List PacketRecord) (
     IsCapture bytes s.unit records (capture.Ending.Cut byte) → IsCapture bytes s'.unit records (capture.Ending.Cut byte)
 cut_read byte s s' records bytes is h = rw is h
 
-module _ (unit : TimeUnit) (e0 e : EngineState) (olds news held mids : List Device) (progress : List Progress) (inputs : List Input) (round port : ℕ)
+module _ (unit : TimeUnit) (e0 e : EngineState) (olds news held mids : List Device) (progress : List InputProgress) (inputs : List Input) (round port : ℕ)
     (along : Along unit e0 e (transfer olds news held mids) progress inputs round port) (many : AreMany e0 olds news held mids)
-    (p p' : Progress) (here : slice_get progress port ≡ Some p) (open_p : p.state ≡ Open) (there : port < length e0.setting.env.ports)
+    (p p' : InputProgress) (here : slice_get progress port ≡ Some p) (open_p : p.state ≡ Open) (there : port < length e0.setting.env.ports)
     (a b : Device) (left_a : slice_get news port ≡ Some a) where
   abbrev i : Input
   i = (input_at olds news progress inputs port p along.stand here).0
@@ -177,8 +177,8 @@ module _ (unit : TimeUnit) (e0 e : EngineState) (olds news held mids : List Devi
       less (Cut byte) closed = omega (arith, count)
 
 -- the run continues, whatever the answer was, if it did not stop
-pub goes_on : (unit : TimeUnit) (e0 e e' : EngineState) (olds news held mids holds : List Device) (progress : List Progress) (inputs : List Input)
-    (round port : ℕ) (p p' : Progress) (a b : Device)
+pub goes_on : (unit : TimeUnit) (e0 e e' : EngineState) (olds news held mids holds : List Device) (progress : List InputProgress) (inputs : List Input)
+    (round port : ℕ) (p p' : InputProgress) (a b : Device)
     → Along unit e0 e (transfer olds news held mids) progress inputs round port → AreMany e0 olds news held mids → slice_get progress port ≡ Some p
     → p.state ≡ Open →
     port < length e0.setting.env.ports → slice_get news port ≡ Some a

@@ -15,22 +15,22 @@ use Rattle.dp_pcap.specs.SourceState.{SourceState}
 use Rattle.dp_engine.specs.declared.report.InputState.{InputState}
 use Rattle.dp_engine.specs.declared.report.InputState.TheVariants.{Open}
 use Rattle.dp_engine.specs.declared.report.PortReport.{PortReport}
-use Rattle.dp_pipe.specs.declared.forwarding.Progress.{Progress}
+use Rattle.dp_pipe.specs.declared.forwarding.InputProgress.{InputProgress}
 use Rattle.dp_pipe.specs.Devices.{Device, IsGiven, IsGivenPart, Fared}
 use Rattle.dp_pipe.specs.Forwarding.{is_nano, units_of, Stands, IsGoingOn, AllStand, IsReadBy, IsRead, AreRead}
 use Rattle.dp_pipe.specs.Running.{all_begun, with_states, AreUnread, HeadersStopped, IsBadHeader, HasHeaderFault, IsBegun, begun}
 use Rattle.dp_pipe.proofs.Giving.{length_none, read_as}
 
 -- an input has nanoseconds where its source has
-pub any_nano : (inputs : List Progress) → list_any is_nano (units_of (all_begun inputs)) ≡ list_any (λ (p : Progress). is_nano p.source.unit) inputs
+pub any_nano : (inputs : List InputProgress) → list_any is_nano (units_of (all_begun inputs)) ≡ list_any (λ (p : InputProgress). is_nano p.source.unit) inputs
 any_nano [] = refl
 any_nano (p ∷ inputs) = rw (any_nano inputs) refl
 
-abbrev pub states_of : List Progress → List InputState
-states_of inputs = map (λ (p : Progress). p.state) inputs
+abbrev pub states_of : List InputProgress → List InputState
+states_of inputs = map (λ (p : InputProgress). p.state) inputs
 
 -- the state of one more input is reported
-pub more_answers : (inputs : List Progress) (ports : List PortReport) (k : ℕ) (p : Progress) (d : PortReport) → k < length inputs
+pub more_answers : (inputs : List InputProgress) (ports : List PortReport) (k : ℕ) (p : InputProgress) (d : PortReport) → k < length inputs
     → with_states (take (suc k) (states_of inputs)) ports
     ≡ slice_set (with_states (take k (states_of inputs)) ports) k (record (slice_index_or (with_states (take k (states_of inputs)) ports) k d)
     { state = (slice_index_or inputs k p).state })
@@ -179,11 +179,11 @@ pub record HeaderRead (s : SourceState) (old new : Device) : Type 0 where
 
 -- what was read of the first n inputs: a header each
 pub record ReadFirst {R : Type 0} (device : R → Device) (failures : R → ℕ) (is_broken : R →
-    Bool) (n : ℕ) (olds news : List R) (inputs : List Progress) : Type 0 where
+    Bool) (n : ℕ) (olds news : List R) (inputs : List InputProgress) : Type 0 where
   pub changed : Changed (λ r r'. Fared is_broken failures false r r' × (is_broken r' ≡ false)) n olds news
   pub many : length inputs ≡ n
   pub begun : AllByRecursion IsBegun inputs
-  pub read : (q : ℕ) (p : Progress) (r r' : R) → slice_get inputs q ≡ Some p → slice_get olds q ≡ Some r → slice_get news q ≡ Some r'
+  pub read : (q : ℕ) (p : InputProgress) (r r' : R) → slice_get inputs q ≡ Some p → slice_get olds q ≡ Some r → slice_get news q ≡ Some r'
       → HeaderRead p.source (device r) (device r')
 
 pub get_front : {A : Type 0} (xs : List A) (y : A) (q : ℕ) (x : A) → slice_get (xs ++ y ∷ []) q ≡ Some x →
@@ -200,7 +200,7 @@ get_front (z ∷ xs) y (suc q) x e = go (get_front xs y q x e)
 
 -- one header more
 pub read_more : {R : Type 0} (device : R → Device) (failures : R → ℕ) (is_broken : R →
-    Bool) (n : ℕ) (olds news : List R) (inputs : List Progress) (r u : R) (p : Progress)
+    Bool) (n : ℕ) (olds news : List R) (inputs : List InputProgress) (r u : R) (p : InputProgress)
     → ReadFirst device failures is_broken n olds news inputs → slice_get news n ≡ Some r → Fared is_broken failures false r u → is_broken u ≡ false →
     IsBegun p
     → HeaderRead p.source (device r) (device u) →
@@ -212,7 +212,8 @@ read_more {R = R} device failures is_broken n olds news inputs r u p c at fared 
   read = read;
 }
   where
-    read : (q : ℕ) (i : Progress) (x x' : R) → slice_get (inputs ++ p ∷ []) q ≡ Some i → slice_get olds q ≡ Some x → slice_get (slice_set news n u) q ≡ Some x'
+    read : (q : ℕ) (i : InputProgress) (x x' : R) → slice_get (inputs ++ p ∷ []) q ≡ Some i → slice_get olds q ≡ Some x
+        → slice_get (slice_set news n u) q ≡ Some x'
         → HeaderRead i.source (device x) (device x')
     read q i x x' there_i here there = go (get_front inputs p q i there_i)
       where
@@ -225,7 +226,7 @@ read_more {R = R} device failures is_broken n olds news inputs r u p c at fared 
             rw (old, new, is) known
 
 -- all headers were read: the inputs are at their first records
-pub stand_begun : (p : Progress) → IsBegun p → Stands p (begun p)
+pub stand_begun : (p : InputProgress) → IsBegun p → Stands p (begun p)
 stand_begun p is = record {
   unit = refl;
   state = refl;
@@ -234,13 +235,13 @@ stand_begun p is = record {
 }
 
 -- so its source has read no record yet
-unread_by : (p : Progress) (a b : Device) → p.state ≡ Open → HeaderRead p.source a b → IsReadBy (begun p) p.source a b
+unread_by : (p : InputProgress) (a b : Device) → p.state ≡ Open → HeaderRead p.source a b → IsReadBy (begun p) p.source a b
 unread_by p a b is h = record {
   has = rw is h.has;
   calls = rw is (omega (arith, h.calls, length_none p.source.unit));
 }
 
-pub all_stand : {R : Type 0} (device : R → Device) (failures : R → ℕ) (is_broken : R → Bool) (n : ℕ) (olds news : List R) (inputs : List Progress)
+pub all_stand : {R : Type 0} (device : R → Device) (failures : R → ℕ) (is_broken : R → Bool) (n : ℕ) (olds news : List R) (inputs : List InputProgress)
     → ReadFirst device failures is_broken n olds news inputs → AllStand (map device olds) (map device news) inputs (all_begun inputs)
 all_stand {R = R} device failures is_broken n olds news inputs c = record {
   many = sym (length-map inputs begun);
@@ -256,7 +257,7 @@ all_stand {R = R} device failures is_broken n olds news inputs c = record {
 
 -- what was read of inputs whose headers were read
 pub read_begun : {R : Type 0} (device : R → Device) (failures : R → ℕ) (is_broken : R →
-    Bool) (n : ℕ) (olds news : List R) (inputs : List Progress) (u : R)
+    Bool) (n : ℕ) (olds news : List R) (inputs : List InputProgress) (u : R)
     → ReadFirst device failures is_broken n olds news inputs → AreRead (map device olds) (map device (slice_set news n u)) (all_begun inputs)
 read_begun {R = R} device failures is_broken n olds news inputs u c q i at =
     let (p, there_p, is) = answers_at begun inputs q i at in
@@ -267,13 +268,13 @@ read_begun {R = R} device failures is_broken n olds news inputs u c q i at =
     (c.read q p x x' there_p here (sym (get_set_other news n q u (λ e. absurd (omega (arith, below, e)))) ∙ there)))))
 
 -- inputs of which no record was read
-pub none_read : (progress : List Progress) → AllByRecursion IsBegun progress → AreUnread (all_begun progress)
+pub none_read : (progress : List InputProgress) → AllByRecursion IsBegun progress → AreUnread (all_begun progress)
 none_read [] begun = tt
 none_read (x ∷ progress) begun = ((refl, begun.0.state), none_read progress begun.1)
 
 -- the header of an input is at fault
 pub header_fault : {R : Type 0} (device : R → Device) (failures : R → ℕ) (is_broken : R →
-    Bool) (n : ℕ) (olds news : List R) (inputs : List Progress) (r u : R) (error : PcapError)
+    Bool) (n : ℕ) (olds news : List R) (inputs : List InputProgress) (r u : R) (error : PcapError)
     → ReadFirst device failures is_broken n olds news inputs → slice_get news n ≡ Some r → IsBadHeader error (device r) (device u)
     → HasHeaderFault (map device olds) (map device (slice_set news n u)) n error
 header_fault device failures is_broken n olds news inputs r u error c at bad = record {

@@ -5,7 +5,7 @@ use Rattle.dp_pcap.specs.declared.time.Unit.{Unit as TimeUnit}
 use Rattle.dp_engine.specs.Engines.{EngineState}
 use Rattle.dp_engine.specs.declared.report.Report.{Report}
 use Rattle.dp_model.specs.Machine.{Setting}
-use Rattle.dp_pipe.specs.declared.forwarding.Progress.{Progress}
+use Rattle.dp_pipe.specs.declared.forwarding.InputProgress.{InputProgress}
 use Rattle.dp_pipe.specs.declared.running.RunFault.{RunFault}
 use Rattle.dp_pipe.specs.Devices.{Device, transfer}
 use Rattle.dp_pipe.specs.Forwarding.{Input, Went, arrivals_of, capture_at, unit_for, units_of}
@@ -29,9 +29,9 @@ pub record Done (p : Plan) (pattern : List ℕ) (held holds : List Device) (inpu
   pub numbers : HasNumbers p pattern (arrivals_of inputs) run inputs (λ port. length (capture_at run.captures port)) r
 
 pub went_on : (p : Plan) (pattern : List ℕ) (first last : EngineState) (unit : TimeUnit) (olds news held mids holds : List Device)
-    (inputs : List Input) (progress : List Progress) (r : Report)
+    (inputs : List Input) (progress : List InputProgress) (r : Report)
     → IsReady p pattern → IsFirst p pattern first → length mids ≡ length held → HeadersWritten unit held mids → Went unit first last mids holds inputs
-    → map (λ (i : Input). i.state) inputs ≡ map (λ (x : Progress). x.state) progress → IsReportOf last progress r → Done p pattern held holds inputs r
+    → map (λ (i : Input). i.state) inputs ≡ map (λ (x : InputProgress). x.state) progress → IsReportOf last progress r → Done p pattern held holds inputs r
 went_on p pattern first last unit olds news held mids holds inputs progress r ready is many headers went states reported =
     let (few_ports, few_rings, few_tables) = few p.env ready.limits in
     let ports = ports_in p pattern first is in

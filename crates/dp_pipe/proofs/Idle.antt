@@ -15,21 +15,21 @@ use Rattle.dp_engine.specs.declared.report.Tallies.{Tallies}
 use Rattle.dp_engine.specs.Engines.{EngineState, IsAscending, no_tallies, with_left}
 use Rattle.dp_engine.specs.Reports.{port_report, IsWhole}
 use Rattle.dp_engine.specs.Tallies.{refused_of}
-use Rattle.dp_pipe.specs.declared.forwarding.Progress.{Progress}
+use Rattle.dp_pipe.specs.declared.forwarding.InputProgress.{InputProgress}
 use Rattle.dp_pipe.specs.Pipelines.{Plan}
 use Rattle.dp_pipe.specs.Running.{IsBegun, IsFirst, IsIdle, IsReportOf, with_states}
 use Rattle.dp_pipe.proofs.Numbers.{left_only}
 
 -- open inputs leave the counts of their ports as they are
-open_ports : (progress : List Progress) (specs : List PortSpec) (most : ℕ) → AllByRecursion IsBegun progress → length specs ≤ most
-    → with_states (map (λ (x : Progress). x.state) progress) (map (port_report Open) (take (length specs) (replicate most no_tallies)))
+open_ports : (progress : List InputProgress) (specs : List PortSpec) (most : ℕ) → AllByRecursion IsBegun progress → length specs ≤ most
+    → with_states (map (λ (x : InputProgress). x.state) progress) (map (port_report Open) (take (length specs) (replicate most no_tallies)))
     ≡ map (λ _. port_report Open no_tallies) specs
 open_ports [] [] most begun few = refl
 open_ports (x ∷ progress) [] most begun few = refl
 open_ports progress (spec ∷ specs) zero begun few = absurd (omega (arith, few))
 open_ports [] (spec ∷ specs) (suc most) begun few = ap (λ l. port_report Open no_tallies ∷ l) (open_ports [] specs most tt (omega (arith, few)))
 open_ports (x ∷ progress) (spec ∷ specs) (suc most) begun few =
-    ap (λ (s : InputState). port_report s no_tallies ∷ with_states (map (λ (y : Progress). y.state) progress)
+    ap (λ (s : InputState). port_report s no_tallies ∷ with_states (map (λ (y : InputProgress). y.state) progress)
     (map (port_report Open) (take (length specs) (replicate most no_tallies)))) begun.0.state
     ∙ ap (λ l. port_report Open no_tallies ∷ l) (open_ports progress specs most begun.1 (omega (arith, few)))
 
@@ -43,11 +43,11 @@ none_refused least [] ascends = refl
 none_refused least (n ∷ pattern) (more, ascends) =
     ap (λ b. (if b then 1 else 0) + refused_of pattern 0) (lt-leb n 0 (omega (arith, more))) ∙ zero-add (refused_of pattern 0) ∙ none_refused n pattern ascends
 
-pub idle_reported : (p : Plan) (pattern : List ℕ) (first : EngineState) (progress : List Progress) (r : Report) → IsFirst p pattern first
+pub idle_reported : (p : Plan) (pattern : List ℕ) (first : EngineState) (progress : List InputProgress) (r : Report) → IsFirst p pattern first
     → IsAscending 0 pattern
     → length p.env.ports ≤ 8 → length p.env.rings ≤ 8 → AllByRecursion IsBegun progress → IsReportOf first progress r → IsIdle p.env r
 idle_reported p pattern first progress r is ascends few_ports few_rings begun reported =
-    let states = map (λ (x : Progress). x.state) progress in
+    let states = map (λ (x : InputProgress). x.state) progress in
     let none : RingSpec → ℕ = λ _. 0 in
     record {
       ports = reported.ports

@@ -15,7 +15,7 @@ use Rattle.dp_engine.specs.declared.report.Tallies.{Tallies}
 use Rattle.dp_engine.specs.Engines.{EngineState, no_tallies, tallies_at, with_left}
 use Rattle.dp_engine.specs.Reports.{port_report, IsWhole}
 use Rattle.dp_engine.specs.Tallies.{Tallied, counted, how_many, is_got, is_nobuf, is_oversize, refused_of}
-use Rattle.dp_pipe.specs.declared.forwarding.Progress.{Progress}
+use Rattle.dp_pipe.specs.declared.forwarding.InputProgress.{InputProgress}
 use Rattle.dp_pipe.specs.Forwarding.{Input, tally_of}
 use Rattle.dp_pipe.specs.Headline.{PacketRun, HasNumbers, outcomes_at, port_numbers}
 use Rattle.dp_pipe.specs.Pipelines.{Plan}
@@ -125,16 +125,16 @@ pub record IsCounted (p : Plan) (pattern : List ℕ) (arrivals : List (Arrival T
   pub cuts : e.world.cuts ≡ run.last.cuts
 
 pub numbers_reported : (p : Plan) (pattern : List ℕ) (arrivals : List (Arrival Time)) (run : PacketRun p pattern arrivals) (e : EngineState)
-    (progress : List Progress) (inputs : List Input) (sent : ℕ → ℕ) (r : Report)
+    (progress : List InputProgress) (inputs : List Input) (sent : ℕ → ℕ) (r : Report)
     → length p.env.ports ≤ 8 → length p.env.rings ≤ 8 → length inputs ≡ length p.env.ports → map (λ (i : Input). i.state) inputs
-    ≡ map (λ (x : Progress). x.state) progress
+    ≡ map (λ (x : InputProgress). x.state) progress
     → IsCounted p pattern arrivals run e sent → IsReportOf e progress r → HasNumbers p pattern arrivals run inputs sent r
 numbers_reported p pattern arrivals run e progress inputs sent r few_ports few_rings many states c is_report =
     let ports_same : length e.setting.env.ports ≡ length p.env.ports = ap (λ (s : Setting). length s.env.ports) c.setting in
     let rings_same : length e.setting.env.rings ≡ length p.env.rings = ap (λ (s : Setting). length s.env.rings) c.setting in
     let answers = map (port_report Open) (take (length e.setting.env.ports) e.tallies) in
     record {
-      many = ap length is_report.ports ∙ states_many (map (λ (x : Progress). x.state) progress) answers
+      many = ap length is_report.ports ∙ states_many (map (λ (x : InputProgress). x.state) progress) answers
           ∙ length-map (take (length e.setting.env.ports) e.tallies) (port_report Open)
           ∙ length-take-le (length e.setting.env.ports) e.tallies (omega (arith, ports_same, few_ports, c.tallies_many)) ∙ ports_same;
       ports = λ q i at.
@@ -143,7 +143,7 @@ numbers_reported p pattern arrivals run e progress inputs sent r few_ports few_r
           (omega (arith, ports_same, few_ports, c.tallies_many)) in
           let numbers = reported q arrivals run.outcomes (tallies_at e.tallies q) (sent q) (c.tallies q within) in
           ap (λ l. slice_get l q) is_report.ports
-          ∙ states_at (map (λ (x : Progress). x.state) progress) answers q i.state (port_report Open (tallies_at e.tallies q))
+          ∙ states_at (map (λ (x : InputProgress). x.state) progress) answers q i.state (port_report Open (tallies_at e.tallies q))
           (ap (λ l. slice_get l q) (sym states) ∙ state_at inputs q i at) here
           ∙ ap (λ (x : PortReport). Some (record x { state = i.state })) numbers;
       rings = is_report.rings ∙ ap (λ l. take (length e.setting.env.rings) (with_left l (left_in_rings e.world))) c.left

@@ -11,7 +11,7 @@ use Rattle.dp_pcap.specs.declared.time.Unit.{Unit as TimeUnit}
 use Rattle.dp_engine.specs.declared.report.InputState.{InputState}
 use Rattle.dp_engine.specs.declared.report.InputState.TheVariants.{Open, Whole, Cut}
 use Rattle.dp_engine.specs.Engines.{EngineState}
-use Rattle.dp_pipe.specs.declared.forwarding.Progress.{Progress}
+use Rattle.dp_pipe.specs.declared.forwarding.InputProgress.{InputProgress}
 use Rattle.dp_pipe.specs.Devices.{Device, transfer}
 use Rattle.dp_pipe.specs.declared.forwarding.RunCause.{RunCause}
 use Rattle.dp_pipe.specs.Forwarding.{Input, Stands, Along, Advances, Stops, AreRounds, IsRound, NoneIsOpen, AreOver, asked, AnswersSo}
@@ -26,8 +26,8 @@ decide Open = inl refl
 decide Whole = inr (λ e. cc)
 decide (Cut byte) = inr (λ e. cc)
 
-module _ (unit : TimeUnit) (e0 e : EngineState) (olds news held mids : List Device) (progress : List Progress) (inputs : List Input)
-    (round port : ℕ) (p : Progress)
+module _ (unit : TimeUnit) (e0 e : EngineState) (olds news held mids : List Device) (progress : List InputProgress) (inputs : List Input)
+    (round port : ℕ) (p : InputProgress)
     (along : Along unit e0 e (transfer olds news held mids) progress inputs round port) (here : slice_get progress port ≡ Some p)
     (open_p : p.state ≡ Open) where
   abbrev pub i : Input
@@ -47,15 +47,15 @@ module _ (unit : TimeUnit) (e0 e : EngineState) (olds news held mids : List Devi
       let least = many_least inputs port i i_here (λ q j at. small q j at) in
       omega (arith, along.run.turns, along.first, along.total, least, open_source.1, few, along.stand.many)
     where
-      at_progress : (q : ℕ) (j : Input) → slice_get inputs q ≡ Some j → (x : Progress) × (slice_get progress q ≡ Some x)
+      at_progress : (q : ℕ) (j : Input) → slice_get inputs q ≡ Some j → (x : InputProgress) × (slice_get progress q ≡ Some x)
       at_progress q j at = get_within progress q (omega (arith, slice_get_within inputs q j at, along.stand.many))
 
       small : (q : ℕ) (j : Input) → slice_get inputs q ≡ Some j → length j.records ≤ 16777216
       small q j at = let (x, there) = at_progress q j at in (along.stand.each q x j there at).few
 
 -- an input that has ended is skipped
-over_on : (unit : TimeUnit) (e0 e : EngineState) (olds news held mids : List Device) (progress : List Progress) (inputs : List Input)
-    (round port : ℕ) (p : Progress)
+over_on : (unit : TimeUnit) (e0 e : EngineState) (olds news held mids : List Device) (progress : List InputProgress) (inputs : List Input)
+    (round port : ℕ) (p : InputProgress)
     → Along unit e0 e (transfer olds news held mids) progress inputs round port → slice_get progress port ≡ Some p →
     (p.state ≡ Open → ⊥) → Along unit e0 e (transfer olds news held mids) progress inputs round (port + 1)
 over_on unit e0 e olds news held mids progress inputs round port p along here closed =
@@ -76,7 +76,7 @@ over_on unit e0 e olds news held mids progress inputs round port p along here cl
 
 -- A round has reached the input `p` of a port and its reader `r`.
 pub record Comes {R W : Type 0} (remaining : R → Device) (contents : W → Device) (unit : TimeUnit) (e0 e : EngineState)
-    (olds held : List Device) (ins : List R) (outs : List W) (progress : List Progress) (round port : ℕ) (p : Progress) (r : R) : Type 0 where
+    (olds held : List Device) (ins : List R) (outs : List W) (progress : List InputProgress) (round port : ℕ) (p : InputProgress) (r : R) : Type 0 where
   pub inputs : List Input
   pub along : Along unit e0 e (transfer olds (map remaining ins) held (map contents outs)) progress inputs round port
   pub input : slice_get progress port ≡ Some p
@@ -87,7 +87,7 @@ pub record Comes {R W : Type 0} (remaining : R → Device) (contents : W → Dev
   pub counted : length e0.tallies ≡ 8
 
 module _ {R W : Type 0} {remaining : R → Device} {contents : W → Device} {unit : TimeUnit} {e0 e : EngineState}
-    {olds held : List Device} {ins : List R} {outs : List W} {progress : List Progress} {round port : ℕ} {p : Progress} {r : R}
+    {olds held : List Device} {ins : List R} {outs : List W} {progress : List InputProgress} {round port : ℕ} {p : InputProgress} {r : R}
     (c : Comes remaining contents unit e0 e olds held ins outs progress round port p r) where
   same_ports : length e.setting.env.ports ≡ length e0.setting.env.ports
   same_ports = ap (λ (x : EngineState). length x.setting.env.ports) c.along.run.stays
@@ -112,7 +112,7 @@ module _ {R W : Type 0} {remaining : R → Device} {contents : W → Device} {un
 
 -- the run after it
 module _ {R W : Type 0} {remaining : R → Device} {contents : W → Device} {unit : TimeUnit} {e0 e e' : EngineState}
-    {olds held : List Device} {ins : List R} {outs outs' : List W} {progress : List Progress} {round port : ℕ} {p p' : Progress} {r r' : R}
+    {olds held : List Device} {ins : List R} {outs outs' : List W} {progress : List InputProgress} {round port : ℕ} {p p' : InputProgress} {r r' : R}
     {answer : Result ⊤ RunCause} (c : Comes remaining contents unit e0 e olds held ins outs progress round port p r)
     (step : p.state ≡ Open → Advances port unit e e' p p' (remaining r) (remaining r') (map contents outs) (map contents outs') answer)
     (over : (p.state ≡ Open → ⊥) → (answer ≡ Ok tt) × (e' ≡ e) × (p' ≡ p) × (r' ≡ r) × (outs' ≡ outs)) where
@@ -154,7 +154,7 @@ module _ {R W : Type 0} {remaining : R → Device} {contents : W → Device} {un
       go (inr closed) = let bad : Err cause ≡ Ok tt = sym err ∙ (over closed).0 in cc
 
 -- after all ports the next round begins
-pub round_over : (unit : TimeUnit) (e0 e : EngineState) (olds news held mids : List Device) (progress : List Progress) (inputs : List Input)
+pub round_over : (unit : TimeUnit) (e0 e : EngineState) (olds news held mids : List Device) (progress : List InputProgress) (inputs : List Input)
     (round n : ℕ) → Along unit e0 e (transfer olds news held mids) progress inputs round n → length progress ≤ n
     → Along unit e0 e (transfer olds news held mids) progress inputs (round + 1) 0
 round_over unit e0 e olds news held mids progress inputs round n along most = record {
@@ -171,8 +171,8 @@ round_over unit e0 e olds news held mids progress inputs round n along most = re
   wrote = along.wrote;
 }
 
-all_closed : (progress : List Progress) (inputs : List Input) → length progress ≡ length inputs →
-    ((q : ℕ) (p : Progress) (j : Input) → slice_get progress q ≡ Some p → slice_get inputs q ≡ Some j → p.state ≡ j.state) → NoneIsOpen progress
+all_closed : (progress : List InputProgress) (inputs : List Input) → length progress ≡ length inputs →
+    ((q : ℕ) (p : InputProgress) (j : Input) → slice_get progress q ≡ Some p → slice_get inputs q ≡ Some j → p.state ≡ j.state) → NoneIsOpen progress
     → AreOver inputs
 all_closed [] [] many same none = tt
 all_closed [] (j ∷ inputs) many same none = absurd (omega (arith, many))
@@ -183,7 +183,7 @@ all_closed (p ∷ progress) (j ∷ inputs) many same none = (
 )
 
 -- every input has ended: the run went all the way
-pub went_all : (unit : TimeUnit) (e0 e : EngineState) (olds news held mids : List Device) (progress : List Progress) (inputs : List Input)
+pub went_all : (unit : TimeUnit) (e0 e : EngineState) (olds news held mids : List Device) (progress : List InputProgress) (inputs : List Input)
     (round port : ℕ) → Along unit e0 e (transfer olds news held mids) progress inputs round port → NoneIsOpen progress
     → AreRounds unit e0 e (transfer olds news held mids) progress (Ok tt)
 went_all unit e0 e olds news held mids progress inputs round port along none = (
@@ -202,7 +202,7 @@ went_all unit e0 e olds news held mids progress inputs round port along none = (
 )
 
 -- no input has enough records to be still open
-pub none_left : (unit : TimeUnit) (e0 e : EngineState) (olds news held mids : List Device) (progress : List Progress) (inputs : List Input)
+pub none_left : (unit : TimeUnit) (e0 e : EngineState) (olds news held mids : List Device) (progress : List InputProgress) (inputs : List Input)
     (round : ℕ) → Along unit e0 e (transfer olds news held mids) progress inputs round 0 → 16777217 ≤ round → NoneIsOpen progress
 none_left unit e0 e olds news held mids progress inputs round along most q p at open_p =
     let (j, here, stands) = input_at olds news progress inputs q p along.stand at in
@@ -215,12 +215,12 @@ none_left unit e0 e olds news held mids progress inputs round along most q p at 
     exact Whole count many e lt = cc
     exact (Cut byte) count many e lt = cc
 
-pub round_ok : (unit : TimeUnit) (e0 e e' : EngineState) (olds news held holds : List Device) (progress : List Progress) (round : ℕ)
+pub round_ok : (unit : TimeUnit) (e0 e e' : EngineState) (olds news held holds : List Device) (progress : List InputProgress) (round : ℕ)
     (r : Result ⊤ RunCause) → r ≡ Ok tt → IsRound unit e0 e e' (transfer olds news held holds) progress round r
     → (now : List Input) × Along unit e0 e' (transfer olds news held holds) progress now (round + 1) 0
 round_ok unit e0 e e' olds news held holds progress round r is h = rw is at h
 
-pub round_err : (unit : TimeUnit) (e0 e e' : EngineState) (olds news held holds : List Device) (progress : List Progress) (round : ℕ)
+pub round_err : (unit : TimeUnit) (e0 e e' : EngineState) (olds news held holds : List Device) (progress : List InputProgress) (round : ℕ)
     (r : Result ⊤ RunCause) (cause : RunCause) → r ≡ Err cause → IsRound unit e0 e e' (transfer olds news held holds) progress round r
     → AreRounds unit e0 e' (transfer olds news held holds) progress (Err cause)
 round_err unit e0 e e' olds news held holds progress round r cause is h = rw is at h

@@ -13,7 +13,7 @@ use Rattle.dp_pcap.specs.Text.{text}
 use Rattle.dp_model.specs.Laws.Lists.{get_set_other, get_within}
 use Rattle.dp_engine.specs.declared.report.InputState.{InputState}
 use Rattle.dp_engine.specs.declared.report.InputState.TheVariants.{Open, Whole, Cut}
-use Rattle.dp_pipe.specs.declared.forwarding.Progress.{Progress}
+use Rattle.dp_pipe.specs.declared.forwarding.InputProgress.{InputProgress}
 use Rattle.dp_pipe.specs.Devices.{Device}
 use Rattle.dp_pipe.specs.Forwarding.{Input, HasReadSo, IsReadBy, IsGoingOn, Stands, AllStand, last_pulls}
 use Rattle.dp_pipe.proofs.Giving.{length_more}
@@ -24,14 +24,14 @@ use Rattle.dp_pipe.proofs.Advancing.{with_record, ended}
 -- ---- inputs and the sources that read them
 
 -- the input of a progress
-pub input_at : (olds news : List Device) (progress : List Progress) (inputs : List Input) (q : ℕ) (p : Progress) →
+pub input_at : (olds news : List Device) (progress : List InputProgress) (inputs : List Input) (q : ℕ) (p : InputProgress) →
     AllStand olds news progress inputs → slice_get progress q ≡ Some p → (i : Input) × (slice_get inputs q ≡ Some i) × Stands p i
 input_at olds news progress inputs q p stand at =
     let (i, here) = get_within inputs q (omega (arith, slice_get_within progress q p at, stand.many)) in
     (i, here, stand.each q p i at here)
 
 -- one input, its source and what its reader has left have changed
-pub all_stand : (olds news : List Device) (progress : List Progress) (inputs : List Input) (n : ℕ) (p' : Progress) (i' : Input) (b : Device)
+pub all_stand : (olds news : List Device) (progress : List InputProgress) (inputs : List Input) (n : ℕ) (p' : InputProgress) (i' : Input) (b : Device)
     → AllStand olds news progress inputs → Stands p' i' → ((old : Device) → slice_get olds n ≡ Some old → IsReadBy i' p'.source old b)
     → AllStand olds (slice_set news n b) (slice_set progress n p') (slice_set inputs n i')
 all_stand olds news progress inputs n p' i' b stand stands read = record {
@@ -40,7 +40,7 @@ all_stand olds news progress inputs n p' i' b stand stands read = record {
   read = λ q p i a c old new d e. reads q p i old new a c d e (split q n);
 }
   where
-    each : (q : ℕ) (p : Progress) (i : Input) → slice_get (slice_set progress n p') q ≡ Some p → slice_get (slice_set inputs n i') q ≡ Some i →
+    each : (q : ℕ) (p : InputProgress) (i : Input) → slice_get (slice_set progress n p') q ≡ Some p → slice_get (slice_set inputs n i') q ≡ Some i →
         (q ≡ n) ⊎ (q ≢ n) → Stands p i
     each q p i a c (inl same) =
         let x = set_here progress n p' p (ap (slice_get (slice_set progress n p')) (sym same) ∙ a) in
@@ -48,7 +48,7 @@ all_stand olds news progress inputs n p' i' b stand stands read = record {
         rw (← x, ← y) stands
     each q p i a c (inr other) = stand.each q p i (sym (get_set_other progress n q p' other) ∙ a) (sym (get_set_other inputs n q i' other) ∙ c)
 
-    reads : (q : ℕ) (p : Progress) (i : Input) (old new : Device) → slice_get (slice_set progress n p') q ≡ Some p →
+    reads : (q : ℕ) (p : InputProgress) (i : Input) (old new : Device) → slice_get (slice_set progress n p') q ≡ Some p →
         slice_get (slice_set inputs n i') q ≡ Some i → slice_get olds q ≡ Some old → slice_get (slice_set news n b) q ≡ Some new
         → (q ≡ n) ⊎ (q ≢ n) → IsReadBy i p.source old new
     reads q p i old new a c d e (inl same) =
@@ -99,7 +99,7 @@ pub calls_ended : (i : Input) (a b c more : ℕ) → i.state ≡ Open → b ≤ 
 calls_ended i a b c more is before now = let none : last_pulls i.state ≡ 0 = rw is refl in omega (arith, before, now, none)
 
 -- after a record
-pub stands_more : (p p' : Progress) (i : Input) (time : Time) (len : ℕ) (buf : List ℕ) → Stands p i → p.state ≡ Open → p'.state ≡ Open →
+pub stands_more : (p p' : InputProgress) (i : Input) (time : Time) (len : ℕ) (buf : List ℕ) → Stands p i → p.state ≡ Open → p'.state ≡ Open →
     p'.source ≡ advanced p.source len → p.source.given < 16777216
     → Stands p' (with_record (record { time = time; bytes = take len buf }) i)
 stands_more p p' i time len buf stands was is moved less =
@@ -114,7 +114,7 @@ stands_more p p' i time len buf stands was is moved less =
     }
 
 -- after the last
-pub stands_ended : (p p' : Progress) (i : Input) (state : InputState) → Stands p i → p'.state ≡ state → p'.source ≡ over p.source →
+pub stands_ended : (p p' : InputProgress) (i : Input) (state : InputState) → Stands p i → p'.state ≡ state → p'.source ≡ over p.source →
     (state ≡ Open → ⊥) → Stands p' (ended state i)
 stands_ended p p' i state stands is moved closed = record {
   unit = ap (λ (s : SourceState). s.unit) moved ∙ stands.unit;

@@ -9,7 +9,7 @@ use Rattle.dp_engine.specs.declared.report.InputState.TheVariants.{Open}
 use Rattle.dp_engine.specs.declared.report.Report.{Report}
 use Rattle.dp_engine.specs.Engines.{EngineState, IsAscending}
 use Rattle.dp_engine.specs.Needs.{bytes_needed}
-use Rattle.dp_pipe.specs.declared.forwarding.Progress.{Progress}
+use Rattle.dp_pipe.specs.declared.forwarding.InputProgress.{InputProgress}
 use Rattle.dp_pipe.specs.declared.forwarding.RunCause.{RunCause}
 use Rattle.dp_pipe.specs.declared.forwarding.RunCause.TheVariants.{Memory, NoRoom, In, Out}
 use Rattle.dp_pipe.specs.declared.running.RunFault.{RunFault}
@@ -29,10 +29,10 @@ use Rattle.dp_pipe.proofs.Through.{not_before}
 
 -- a writer failed after a turn
 stopped_writing : (p : Plan) (pattern : List ℕ) (first last : EngineState) (unit : TimeUnit) (olds news held hdr holds : List Device)
-    (inputs : List Input) (progress : List Progress) (port : ℕ) (r : Report)
+    (inputs : List Input) (progress : List InputProgress) (port : ℕ) (r : Report)
     → IsReady p pattern → IsFirst p pattern first → length held ≡ length p.env.ports → length hdr ≡ length held →
     HeadersWritten unit held hdr → FailedAt unit first last (transfer olds news hdr holds) inputs port
-    → map (λ (i : Input). i.state) inputs ≡ map (λ (x : Progress). x.state) progress → IsReportOf last progress r →
+    → map (λ (i : Input). i.state) inputs ≡ map (λ (x : InputProgress). x.state) progress → IsReportOf last progress r →
     StoppedWriting p pattern (transfer olds news held holds) port r
 stopped_writing p pattern first last unit olds news held hdr holds inputs progress port r ready is held_many many headers f states reported =
     let (few_ports, few_rings, few_tables) = few p.env ready.limits in
@@ -76,7 +76,7 @@ stopped_writing p pattern first last unit olds news held hdr holds inputs progre
     there = ap (λ (e : EngineState). length e.setting.env.ports) f.turn.is ∙ ap (λ (e : EngineState). length e.setting.env.ports) f.run.stays
         ∙ ports_in p pattern first is
 
-stopped_by : (p : Plan) (pattern : List ℕ) (first last : EngineState) (olds news held holds : List Device) (progress : List Progress)
+stopped_by : (p : Plan) (pattern : List ℕ) (first last : EngineState) (olds news held holds : List Device) (progress : List InputProgress)
     (cause : RunCause) (r : Report)
     → IsReady p pattern → IsAscending 0 pattern → IsFirst p pattern first → length held ≡ length p.env.ports →
     GoesForward first last (transfer olds news held holds) progress (Err cause) → IsReportOf last progress r

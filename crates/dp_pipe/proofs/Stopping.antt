@@ -18,7 +18,7 @@ use Rattle.dp_model.specs.Laws.Lists.{get_set_other, get_within, set_itself}
 use Rattle.dp_engine.specs.declared.report.InputState.{InputState}
 use Rattle.dp_engine.specs.declared.report.InputState.TheVariants.{Open, Whole, Cut}
 use Rattle.dp_engine.specs.Engines.{EngineState}
-use Rattle.dp_pipe.specs.declared.forwarding.Progress.{Progress}
+use Rattle.dp_pipe.specs.declared.forwarding.InputProgress.{InputProgress}
 use Rattle.dp_pipe.specs.Devices.{Device, transfer}
 use Rattle.dp_pipe.specs.declared.forwarding.RunCause.{RunCause}
 use Rattle.dp_pipe.specs.declared.forwarding.RunCause.TheVariants.{In, Out}
@@ -38,11 +38,11 @@ use Rattle.dp_pipe.proofs.Giving.{read_as}
 abbrev state_of : Input → InputState
 state_of i = i.state
 
-abbrev state_at : Progress → InputState
+abbrev state_at : InputProgress → InputState
 state_at p = p.state
 
-states_each : (progress : List Progress) (inputs : List Input) → length progress ≡ length inputs →
-    ((q : ℕ) (p : Progress) (i : Input) → slice_get progress q ≡ Some p → slice_get inputs q ≡ Some i → p.state ≡ i.state) →
+states_each : (progress : List InputProgress) (inputs : List Input) → length progress ≡ length inputs →
+    ((q : ℕ) (p : InputProgress) (i : Input) → slice_get progress q ≡ Some p → slice_get inputs q ≡ Some i → p.state ≡ i.state) →
     map state_of inputs ≡ map state_at progress
 states_each [] [] many each = refl
 states_each [] (i ∷ inputs) many each = absurd (omega (arith, many))
@@ -51,27 +51,27 @@ states_each (p ∷ progress) (i ∷ inputs) many each =
     ap (λ x. x ∷ map state_of inputs) (sym (each 0 p i refl refl)) ∙ ap
     (λ l. p.state ∷ l) (states_each progress inputs (omega (arith, many)) (λ q a b c d. each (suc q) a b c d))
 
-pub states_same : (olds news : List Device) (progress : List Progress) (inputs : List Input) → AllStand olds news progress inputs →
+pub states_same : (olds news : List Device) (progress : List InputProgress) (inputs : List Input) → AllStand olds news progress inputs →
     map state_of inputs ≡ map state_at progress
 states_same olds news progress inputs stand = states_each progress inputs stand.many (λ q p i a b. (stand.each q p i a b).state)
 
-states_set : (progress : List Progress) (n : ℕ) (p : Progress) → map state_at (slice_set progress n p) ≡ slice_set (map state_at progress) n p.state
+states_set : (progress : List InputProgress) (n : ℕ) (p : InputProgress) → map state_at (slice_set progress n p) ≡ slice_set (map state_at progress) n p.state
 states_set [] n p = refl
 states_set (x ∷ progress) zero p = refl
 states_set (x ∷ progress) (suc n) p = ap (λ l. x.state ∷ l) (states_set progress n p)
 
-states_get : (progress : List Progress) (n : ℕ) (p : Progress) → slice_get progress n ≡ Some p → slice_get (map state_at progress) n ≡ Some p.state
+states_get : (progress : List InputProgress) (n : ℕ) (p : InputProgress) → slice_get progress n ≡ Some p → slice_get (map state_at progress) n ≡ Some p.state
 states_get [] n p e = cc
 states_get (x ∷ progress) zero p e = ap (λ y. Some (state_at y)) (same_Some x p e)
 states_get (x ∷ progress) (suc n) p e = states_get progress n p e
 
 -- ---- what was read
 
-progress_at : (progress : List Progress) (inputs : List Input) (q : ℕ) (i : Input) → length progress ≡ length inputs → slice_get inputs q ≡ Some i →
-    (p : Progress) × (slice_get progress q ≡ Some p)
+progress_at : (progress : List InputProgress) (inputs : List Input) (q : ℕ) (i : Input) → length progress ≡ length inputs → slice_get inputs q ≡ Some i →
+    (p : InputProgress) × (slice_get progress q ≡ Some p)
 progress_at progress inputs q i many at = get_within progress q (omega (arith, slice_get_within inputs q i at, many))
 
-pub are_read : (olds news : List Device) (progress : List Progress) (inputs : List Input) → AllStand olds news progress inputs →
+pub are_read : (olds news : List Device) (progress : List InputProgress) (inputs : List Input) → AllStand olds news progress inputs →
     AreRead olds news inputs
 are_read olds news progress inputs stand q i at old new a b =
     let (p, here) = progress_at progress inputs q i stand.many at in
@@ -103,8 +103,8 @@ refuses_of Read s s' unit records bytes rest buf same has = (s, same, has)
 refuses_of error s s' unit records bytes rest buf same has = rw (← same) has
 
 -- an open input, whose source answers, in a run that continues
-module _ (unit : TimeUnit) (e0 e : EngineState) (olds news held mids : List Device) (progress : List Progress) (inputs : List Input) (round port : ℕ)
-    (along : Along unit e0 e (transfer olds news held mids) progress inputs round port) (p p' : Progress) (here : slice_get progress port ≡ Some p)
+module _ (unit : TimeUnit) (e0 e : EngineState) (olds news held mids : List Device) (progress : List InputProgress) (inputs : List Input) (round port : ℕ)
+    (along : Along unit e0 e (transfer olds news held mids) progress inputs round port) (p p' : InputProgress) (here : slice_get progress port ≡ Some p)
     (open_p : p.state ≡ Open) (a b : Device) (left_a : slice_get news port ≡ Some a) where
   abbrev i : Input
   i = (input_at olds news progress inputs port p along.stand here).0
@@ -205,8 +205,8 @@ module _ (unit : TimeUnit) (e0 e : EngineState) (olds news held mids : List Devi
     },
   )
 
-pub stops_at : (unit : TimeUnit) (e0 e e' : EngineState) (olds news held mids holds : List Device) (progress : List Progress) (inputs : List Input)
-    (round port : ℕ) (p p' : Progress) (a b : Device) (cause : RunCause)
+pub stops_at : (unit : TimeUnit) (e0 e e' : EngineState) (olds news held mids holds : List Device) (progress : List InputProgress) (inputs : List Input)
+    (round port : ℕ) (p p' : InputProgress) (a b : Device) (cause : RunCause)
     → Along unit e0 e (transfer olds news held mids) progress inputs round port → length mids ≡ length e0.setting.env.ports → slice_get progress port ≡ Some p →
     p.state ≡ Open → slice_get news port ≡ Some a
     → Advances port unit e e' p p' a b mids holds (Err cause)

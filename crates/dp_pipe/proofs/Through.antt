@@ -12,7 +12,7 @@ use Rattle.dp_engine.specs.Engines.{EngineState, tallies_at}
 use Rattle.dp_engine.specs.declared.report.Tallies.{Tallies}
 use Rattle.std.proofs.lemmas.Bool.{le-ltb}
 use Rattle.dp_model.specs.Laws.Lists.{each_at}
-use Rattle.dp_pipe.specs.declared.forwarding.Progress.{Progress}
+use Rattle.dp_pipe.specs.declared.forwarding.InputProgress.{InputProgress}
 use Rattle.dp_pipe.specs.Devices.{Device, transfer}
 use Rattle.dp_pipe.specs.declared.forwarding.RunCause.{RunCause}
 use Rattle.dp_pipe.specs.declared.forwarding.RunCause.TheVariants.{Memory, NoRoom, In, Out}
@@ -24,15 +24,15 @@ use Rattle.dp_pipe.proofs.Heading.{answers_at}
 
 -- ---- before the first round
 
-longest_none : (inputs : List Progress) → longest (map records_in (all_begun inputs)) ≡ 0
+longest_none : (inputs : List InputProgress) → longest (map records_in (all_begun inputs)) ≡ 0
 longest_none [] = refl
 longest_none (p ∷ inputs) = rw (longest_none inputs) refl
 
-many_none : (inputs : List Progress) → records_many (all_begun inputs) ≡ 0
+many_none : (inputs : List InputProgress) → records_many (all_begun inputs) ≡ 0
 many_none [] = refl
 many_none (p ∷ inputs) = zero-add (records_many (all_begun inputs)) ∙ many_none inputs
 
-pub no_arrivals : (inputs : List Progress) → arrivals_of (all_begun inputs) ≡ []
+pub no_arrivals : (inputs : List InputProgress) → arrivals_of (all_begun inputs) ≡ []
 no_arrivals inputs = rw (longest_none inputs) refl
 
 nothing_at : {A : Type 0} (n q : ℕ) (xs : List A) → slice_get (replicate n []) q ≡ Some xs → xs ≡ []
@@ -69,7 +69,7 @@ run_none e = record {
 pub asked_none : (q : ℕ) → asked 0 0 q ≡ 0
 asked_none q = rw (le-ltb q 0 (omega arith)) refl
 
-pub along_none : (unit : TimeUnit) (e : EngineState) (olds news mids : List Device) (progress : List Progress)
+pub along_none : (unit : TimeUnit) (e : EngineState) (olds news mids : List Device) (progress : List InputProgress)
     → e.turns ≡ 0 → length mids ≡ length e.setting.env.ports → length progress ≡ length e.setting.env.ports →
     unit ≡ unit_for (units_of (all_begun progress)) → AllStand olds news progress (all_begun progress) → AllByRecursion IsBegun progress
     → Along unit e e (transfer olds news mids mids) progress (all_begun progress) 0 0
@@ -99,14 +99,14 @@ back {A = A} n new old e = rw e (front new)
 
 -- ---- headers that fail
 
-pub fail_read : (e : EngineState) (olds news held : List Device) (progress : List Progress) (cause : RunCause) → AllByRecursion IsBegun progress
+pub fail_read : (e : EngineState) (olds news held : List Device) (progress : List InputProgress) (cause : RunCause) → AllByRecursion IsBegun progress
     → IsHeaderCause olds news cause → HeadersFail e e (transfer olds news held held) progress (Err cause)
 fail_read e olds news held progress Memory begins is = absurd is
 fail_read e olds news held progress NoRoom begins is = absurd is
 fail_read e olds news held progress (Out port) begins is = absurd is
 fail_read e olds news held progress (In port error) begins is = (is, refl, begins, refl)
 
-pub fail_write : (e : EngineState) (olds news held holds : List Device) (progress : List Progress) (cause : RunCause) →
+pub fail_write : (e : EngineState) (olds news held holds : List Device) (progress : List InputProgress) (cause : RunCause) →
     length progress ≡ length e.setting.env.ports → AreRead olds news (all_begun progress) → AllByRecursion IsBegun progress
     → IsWriteCause (unit_for (units_of (all_begun progress))) held holds cause → HeadersFail e e (transfer olds news held holds) progress (Err cause)
 fail_write e olds news held holds progress Memory many read begins is = absurd is
@@ -138,7 +138,7 @@ stays_failed unit e e' olds news held holds inputs port f =
           ∙ ap (λ (x : EngineState). length x.tallies) turn ∙ length-set f.engine.tallies f.last.port _ ∙ ran.each;
     }
 
-pub stays_rounds : (unit : TimeUnit) (e e' : EngineState) (olds news held holds : List Device) (progress : List Progress)
+pub stays_rounds : (unit : TimeUnit) (e e' : EngineState) (olds news held holds : List Device) (progress : List InputProgress)
     (answer : Result ⊤ RunCause) → AreRounds unit e e' (transfer olds news held holds) progress answer → Stays e e'
 stays_rounds unit e e' olds news held holds progress (Ok done) (inputs, states, went, read, over) = stays_run e e' _ _ went.run
 stays_rounds unit e e' olds news held holds progress (Err (In port error)) (inputs, states, went, fault) = stays_run e e' _ _ went.run
@@ -147,7 +147,7 @@ stays_rounds unit e e' olds news held holds progress (Err Memory) stops = absurd
 stays_rounds unit e e' olds news held holds progress (Err NoRoom) stops = absurd stops
 
 -- the run of an open engine stops neither for memory nor for room
-pub not_before : (e e' : EngineState) (olds news held holds : List Device) (progress : List Progress) (cause : RunCause)
+pub not_before : (e e' : EngineState) (olds news held holds : List Device) (progress : List InputProgress) (cause : RunCause)
     → GoesForward e e' (transfer olds news held holds) progress (Err cause) → (cause ≡ Memory) ⊎ (cause ≡ NoRoom) → ⊥
 not_before e e' olds news held holds progress Memory (inl fails) why = absurd fails
 not_before e e' olds news held holds progress Memory (inr made) why = absurd made.rounds

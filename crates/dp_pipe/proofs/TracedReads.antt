@@ -26,7 +26,7 @@ use Rattle.dp_pipe.specs.Forwarding.{Input, AllStand, AnswersSo, HasReadSo, IsRe
 use Rattle.dp_pipe.specs.Running.{IsBegun, IsHeaderCause, all_begun, begun}
 use Rattle.dp_pipe.specs.Tracing.{Note, IsTraced, HasTraced, TracesRead, TracedUntil, TracesRecords, TracesNext, FollowsTraced, TracesInput}
 use Rattle.dp_pipe.specs.Tracing.{IsNotAsked, TracesStep, TracesUntil, TracesRound, NoneIsWanted}
-use Rattle.dp_pipe.specs.declared.forwarding.Progress.{Progress}
+use Rattle.dp_pipe.specs.declared.forwarding.InputProgress.{InputProgress}
 use Rattle.dp_pipe.specs.declared.forwarding.RunCause.{RunCause}
 use Rattle.dp_pipe.specs.declared.forwarding.RunCause.TheVariants.{Memory, NoRoom, In, Out}
 use Rattle.dp_pipe.proofs.Advancing.{with_record, ended, arrivals_grown, arrivals_ended, given_few, asked_next}
@@ -141,7 +141,7 @@ until_round only inputs round n many order q i at =
 -- ---- one input
 
 module _ {V : Type 0} (sees : V → Event → V → Type 0) (noted : V → Note → V → Type 0) (v0 v v' : V) (only : Option ℕ) (most : ℕ) (e0 e e' : EngineState)
-    (had left : List Device) (progress : List Progress) (round port need need' : ℕ) (p p' : Progress) (a b : Device)
+    (had left : List Device) (progress : List InputProgress) (round port need need' : ℕ) (p p' : InputProgress) (a b : Device)
     (until : TracesUntil sees noted v0 v only most e0 e had left progress round port need)
     (here : slice_get progress port ≡ Some p) (left_a : slice_get left port ≡ Some a) where
   abbrev i : Input
@@ -360,7 +360,7 @@ module _ {V : Type 0} (sees : V → Event → V → Type 0) (noted : V → Note 
 -- ---- the call for one input
 
 module _ {V R : Type 0} (sees : V → Event → V → Type 0) (noted : V → Note → V → Type 0) (v v' : V) (only : Option ℕ) (port : ℕ) (e e' : EngineState)
-    (p p' : Progress) (device : R → Device) (r r' : R) (need need' : ℕ) (answer : Result ⊤ PcapError)
+    (p p' : InputProgress) (device : R → Device) (r r' : R) (need need' : ℕ) (answer : Result ⊤ PcapError)
     (step : TracesStep sees noted v v' only port e e' p p' device r r' need need' answer) where
   -- each record takes one turn
   pub step_counts : (e'.turns + need' ≡ e.turns + need) × (e'.setting ≡ e.setting)
@@ -388,7 +388,7 @@ module _ {V R : Type 0} (sees : V → Event → V → Type 0) (noted : V → Not
           (omega (arith, turns, need_is), ap (λ (x : EngineState). x.setting) e_is)
       go (inr input) = of_next input.next input.engine input.read input.follows
 
-  module _ (v0 : V) (most : ℕ) (e0 : EngineState) (had : List Device) (ins : List R) (progress : List Progress) (round : ℕ)
+  module _ (v0 : V) (most : ℕ) (e0 : EngineState) (had : List Device) (ins : List R) (progress : List InputProgress) (round : ℕ)
       (until : TracesUntil sees noted v0 v only most e0 e had (map device ins) progress round port need)
       (here : slice_get progress port ≡ Some p) (reader : slice_get ins port ≡ Some r) where
     pub step_on : answer ≡ Ok tt
@@ -421,9 +421,9 @@ module _ {V R : Type 0} (sees : V → Event → V → Type 0) (noted : V → Not
 -- ---- rounds
 
 module _ {V : Type 0} (sees : V → Event → V → Type 0) (noted : V → Note → V → Type 0) (v0 v : V) (only : Option ℕ) (most : ℕ) (e0 e : EngineState)
-    (had left : List Device) (progress : List Progress) where
+    (had left : List Device) (progress : List InputProgress) where
   -- a source is open as long as its input is
-  pub open_until : (round port need q : ℕ) (p : Progress) → TracesUntil sees noted v0 v only most e0 e had left progress round port need
+  pub open_until : (round port need q : ℕ) (p : InputProgress) → TracesUntil sees noted v0 v only most e0 e had left progress round port need
       → slice_get progress q ≡ Some p → p.state ≡ Open → p.source.is_open ≡ true
   open_until round port need q p until here open_p =
       let (i, i_here, stands) = input_at had left progress until.inputs q p until.stand here in
@@ -502,13 +502,13 @@ module _ {V : Type 0} (sees : V → Event → V → Type 0) (noted : V → Note 
           over q p here of ((until.stand.each q p i here at).state ∙ open_i))
 
 pub round_done : {V : Type 0} (sees : V → Event → V → Type 0) (noted : V → Note → V → Type 0) (v0 v : V) (only : Option ℕ) (most : ℕ) (e0 e : EngineState)
-    (had left : List Device) (progress : List Progress) (round need : ℕ) (r : Result ⊤ RunCause) → r ≡ Ok tt
+    (had left : List Device) (progress : List InputProgress) (round need : ℕ) (r : Result ⊤ RunCause) → r ≡ Ok tt
     → TracesRound sees noted v0 v only most e0 e had left progress round need r
     → TracesUntil sees noted v0 v only most e0 e had left progress (round + 1) 0 need
 round_done sees noted v0 v only most e0 e had left progress round need r is h = rw is at h
 
 pub round_stopped : {V : Type 0} (sees : V → Event → V → Type 0) (noted : V → Note → V → Type 0) (v0 v : V) (only : Option ℕ) (most : ℕ)
-    (e0 e : EngineState) (had left : List Device) (progress : List Progress) (round need : ℕ) (r : Result ⊤ RunCause) (cause : RunCause) → r ≡ Err cause
+    (e0 e : EngineState) (had left : List Device) (progress : List InputProgress) (round need : ℕ) (r : Result ⊤ RunCause) (cause : RunCause) → r ≡ Err cause
     → TracesRound sees noted v0 v only most e0 e had left progress round need r → TracesRecords sees noted v0 v only most e0 e had left (Err cause)
 round_stopped sees noted v0 v only most e0 e had left progress round need r cause is h = rw is at h
 
@@ -516,7 +516,7 @@ round_stopped sees noted v0 v only most e0 e had left progress round need r caus
 
 -- tracing begins
 pub until_none : {V : Type 0} (sees : V → Event → V → Type 0) (noted : V → Note → V → Type 0) (v : V) (only : Option ℕ) (most : ℕ) (e : EngineState)
-    (had left : List Device) (progress : List Progress) → length progress ≡ length had → AllStand had left progress (all_begun progress)
+    (had left : List Device) (progress : List InputProgress) → length progress ≡ length had → AllStand had left progress (all_begun progress)
     → AllByRecursion IsBegun progress → TracesUntil sees noted v v only most e e had left progress 0 0 most
 until_none sees noted v only most e had left progress many stand begins =
     let none = ap length (no_arrivals progress) in

@@ -29,7 +29,7 @@ use Rattle.dp_engine.specs.Engines.{EngineState, tallies_at, counted_at, drained
 use Rattle.dp_pipe.specs.Devices.{Device, Transfer, IsGiven, At}
 use Rattle.dp_pipe.specs.declared.forwarding.RunCause.{RunCause}
 use Rattle.dp_pipe.specs.declared.forwarding.RunCause.TheVariants.{In, Out}
-use Rattle.dp_pipe.specs.declared.forwarding.Progress.{Progress}
+use Rattle.dp_pipe.specs.declared.forwarding.InputProgress.{InputProgress}
 
 -- ---- inputs
 
@@ -244,7 +244,7 @@ IsGoingOn Whole source count = ⊤
 IsGoingOn (Cut byte) source count = ⊤
 
 -- an input, and the source that reads it
-pub record Stands (p : Progress) (i : Input) : Type 0 where
+pub record Stands (p : InputProgress) (i : Input) : Type 0 where
   pub unit : p.source.unit ≡ i.unit
   pub state : p.state ≡ i.state
   pub goes_on : IsGoingOn i.state p.source (length i.records)
@@ -255,10 +255,10 @@ pub record IsReadBy (i : Input) (source : SourceState) (old new : Device) : Type
   pub has : WhereKnown old.bytes new.bytes (HasReadSo i.state source i.records)
   pub calls : new.calls ≤ old.calls + length (text i.unit i.records) + last_pulls i.state
 
-pub record AllStand (had left : List Device) (progress : List Progress) (inputs : List Input) : Type 0 where
+pub record AllStand (had left : List Device) (progress : List InputProgress) (inputs : List Input) : Type 0 where
   pub many : length progress ≡ length inputs
-  pub each : (q : ℕ) (p : Progress) (i : Input) → slice_get progress q ≡ Some p → slice_get inputs q ≡ Some i → Stands p i
-  pub read : (q : ℕ) (p : Progress) (i : Input) → slice_get progress q ≡ Some p → slice_get inputs q ≡ Some i → At had left q (IsReadBy i p.source)
+  pub each : (q : ℕ) (p : InputProgress) (i : Input) → slice_get progress q ≡ Some p → slice_get inputs q ≡ Some i → Stands p i
+  pub read : (q : ℕ) (p : InputProgress) (i : Input) → slice_get progress q ≡ Some p → slice_get inputs q ≡ Some i → At had left q (IsReadBy i p.source)
 
 -- how many records all inputs have given
 abbrev pub records_many : List Input → ℕ
@@ -266,7 +266,8 @@ records_many [] = 0
 records_many (i ∷ inputs) = length i.records + records_many inputs
 
 -- a run from an engine before its first turn to another one, in a round in which a port comes next
-pub record Along (unit : TimeUnit) (before after : EngineState) (t : Transfer) (progress : List Progress) (inputs : List Input) (round port : ℕ) : Type 0 where
+pub record Along (unit : TimeUnit) (before after : EngineState) (t : Transfer) (progress : List InputProgress) (inputs : List Input)
+    (round port : ℕ) : Type 0 where
   pub first : before.turns ≡ 0
   pub held_many : length t.held ≡ length before.setting.env.ports
   pub inputs_many : length inputs ≡ length before.setting.env.ports
@@ -292,7 +293,7 @@ Follows port unit before after state held holds (Ok (next.Cut byte)) answer = (s
 Follows port unit before after state held holds (Err error) answer = (state ≡ Open) × (answer ≡ Err (In port error)) × (after ≡ before) × (holds ≡ held)
 
 -- an open input is read
-pub record Advances (port : ℕ) (unit : TimeUnit) (before after : EngineState) (p p' : Progress) (old new : Device) (held holds : List Device)
+pub record Advances (port : ℕ) (unit : TimeUnit) (before after : EngineState) (p p' : InputProgress) (old new : Device) (held holds : List Device)
     (answer : Result ⊤ RunCause) : Type 0 where
   pub next : Result Next PcapError
   -- after the turn
@@ -326,30 +327,30 @@ pub record FailedAt (unit : TimeUnit) (e e' : EngineState) (t : Transfer) (input
   pub stopped : DrainsStopped unit last.time beyond e' mids t.holds port
 
 -- a run stops in a round
-abbrev pub Stops : TimeUnit → EngineState → EngineState → Transfer → List Progress → RunCause → Type 0
+abbrev pub Stops : TimeUnit → EngineState → EngineState → Transfer → List InputProgress → RunCause → Type 0
 Stops unit before after t progress (In port error) =
-    (inputs : List Input) × (map (λ (i : Input). i.state) inputs ≡ map (λ (p : Progress). p.state) progress)
+    (inputs : List Input) × (map (λ (i : Input). i.state) inputs ≡ map (λ (p : InputProgress). p.state) progress)
     × Went unit before after t.held t.holds inputs × HasFault t.had t.left inputs port error
 Stops unit before after t progress (Out port) =
-    (inputs : List Input) × (map (λ (i : Input). i.state) inputs ≡ map (λ (p : Progress). p.state) progress) × FailedAt unit before after t inputs port
+    (inputs : List Input) × (map (λ (i : Input). i.state) inputs ≡ map (λ (p : InputProgress). p.state) progress) × FailedAt unit before after t inputs port
 Stops unit before after t progress cause = ⊥
 
 -- a round, from a run in which its first port comes next
-abbrev pub IsRound : TimeUnit → EngineState → EngineState → EngineState → Transfer → List Progress → ℕ → Result ⊤ RunCause → Type 0
+abbrev pub IsRound : TimeUnit → EngineState → EngineState → EngineState → Transfer → List InputProgress → ℕ → Result ⊤ RunCause → Type 0
 IsRound unit e0 before after t progress round (Ok done) = (inputs : List Input) × Along unit e0 after t progress inputs (round + 1) 0
 IsRound unit e0 before after t progress round (Err cause) = Stops unit e0 after t progress cause
 
 -- all rounds: at the end every input has ended
-abbrev pub AreRounds : TimeUnit → EngineState → EngineState → Transfer → List Progress → Result ⊤ RunCause → Type 0
+abbrev pub AreRounds : TimeUnit → EngineState → EngineState → Transfer → List InputProgress → Result ⊤ RunCause → Type 0
 AreRounds unit before after t progress (Ok done) =
-    (inputs : List Input) × (map (λ (i : Input). i.state) inputs ≡ map (λ (p : Progress). p.state) progress)
+    (inputs : List Input) × (map (λ (i : Input). i.state) inputs ≡ map (λ (p : InputProgress). p.state) progress)
     × Went unit before after t.held t.holds inputs × AreRead t.had t.left inputs × AreOver inputs
 AreRounds unit before after t progress (Err cause) = Stops unit before after t progress cause
 
 -- every input has ended
-abbrev pub NoneIsOpen : List Progress → Type 0
-NoneIsOpen progress = (q : ℕ) (p : Progress) → slice_get progress q ≡ Some p → p.state ≡ Open → ⊥
+abbrev pub NoneIsOpen : List InputProgress → Type 0
+NoneIsOpen progress = (q : ℕ) (p : InputProgress) → slice_get progress q ≡ Some p → p.state ≡ Open → ⊥
 
 -- an input has not ended
-abbrev pub SomeIsOpen : List Progress → Type 0
-SomeIsOpen progress = (q : ℕ) × (p : Progress) × (slice_get progress q ≡ Some p) × (p.state ≡ Open)
+abbrev pub SomeIsOpen : List InputProgress → Type 0
+SomeIsOpen progress = (q : ℕ) × (p : InputProgress) × (slice_get progress q ≡ Some p) × (p.state ≡ Open)

@@ -23,7 +23,7 @@ use Rattle.dp_engine.specs.Tallies.{refused_of}
 use Rattle.dp_pipe.specs.Devices.{Device, Transfer, IsGiven, IsGivenPart, At}
 use Rattle.dp_pipe.specs.declared.forwarding.RunCause.{RunCause}
 use Rattle.dp_pipe.specs.declared.forwarding.RunCause.TheVariants.{Memory, NoRoom, In, Out}
-use Rattle.dp_pipe.specs.declared.forwarding.Progress.{Progress}
+use Rattle.dp_pipe.specs.declared.forwarding.InputProgress.{InputProgress}
 use Rattle.dp_pipe.specs.declared.running.RunFault.{RunFault}
 use Rattle.dp_pipe.specs.Forwarding.{Input, AreRead, unit_for, units_of, AreRounds}
 use Rattle.dp_pipe.specs.Pipelines.{Plan}
@@ -62,10 +62,10 @@ AllFree env (Err fault) = IsWhole env fault.report
 -- ---- headers
 
 -- the inputs of sources that have read no record yet
-abbrev pub begun : Progress → Input
+abbrev pub begun : InputProgress → Input
 begun p = record { unit = p.source.unit; records = []; state = p.state }
 
-abbrev pub all_begun : List Progress → List Input
+abbrev pub all_begun : List InputProgress → List Input
 all_begun progress = map begun progress
 
 -- no record was read of these inputs, which are open
@@ -102,7 +102,7 @@ pub record HeadersStopped (unit : TimeUnit) (held holds : List Device) (port : �
   pub after : (q : ℕ) → port < q → slice_get holds q ≡ slice_get held q
 
 -- a source that has read no record yet, of an input that is open
-pub record IsBegun (p : Progress) : Type 0 where
+pub record IsBegun (p : InputProgress) : Type 0 where
   pub source : IsStart p.source
   pub state : p.state ≡ Open
 
@@ -118,7 +118,7 @@ IsWriteCause unit held holds cause = ⊥
 -- ---- an open engine
 
 -- A header was at fault, or not written whole, and no record was read.
-abbrev pub HeadersFail : EngineState → EngineState → Transfer → List Progress → Result ⊤ RunCause → Type 0
+abbrev pub HeadersFail : EngineState → EngineState → Transfer → List InputProgress → Result ⊤ RunCause → Type 0
 HeadersFail before after t progress (Err (In port error)) =
     HasHeaderFault t.had t.left port error × (t.holds ≡ t.held) × AllByRecursion IsBegun progress × (after ≡ before)
 HeadersFail before after t progress (Err (Out port)) =
@@ -127,7 +127,7 @@ HeadersFail before after t progress (Err (Out port)) =
 HeadersFail before after t progress answer = ⊥
 
 -- All headers were written, in the one unit of the records, and then all rounds were taken.
-pub record RoundsMade (before after : EngineState) (t : Transfer) (progress : List Progress) (answer : Result ⊤ RunCause) : Type 0 where
+pub record RoundsMade (before after : EngineState) (t : Transfer) (progress : List InputProgress) (answer : Result ⊤ RunCause) : Type 0 where
   pub unit : TimeUnit
   pub mids : List Device
   pub mids_many : length mids ≡ length t.held
@@ -135,12 +135,12 @@ pub record RoundsMade (before after : EngineState) (t : Transfer) (progress : Li
   pub rounds : AreRounds unit before after (record t { held = mids }) progress answer
 
 -- what is known after the headers are read and written and all rounds are taken, by the result
-abbrev pub GoesForward : EngineState → EngineState → Transfer → List Progress → Result ⊤ RunCause → Type 0
+abbrev pub GoesForward : EngineState → EngineState → Transfer → List InputProgress → Result ⊤ RunCause → Type 0
 GoesForward before after t progress answer = HeadersFail before after t progress answer ⊎ RoundsMade before after t progress answer
 
 -- the counts of an engine whose inputs were read so far
-pub record IsReportOf (e : EngineState) (progress : List Progress) (r : Report) : Type 0 where
-  pub ports : r.ports.items ≡ with_states (map (λ (p : Progress). p.state) progress) (map (port_report Open) (take (length e.setting.env.ports) e.tallies))
+pub record IsReportOf (e : EngineState) (progress : List InputProgress) (r : Report) : Type 0 where
+  pub ports : r.ports.items ≡ with_states (map (λ (p : InputProgress). p.state) progress) (map (port_report Open) (take (length e.setting.env.ports) e.tallies))
   pub rings : r.rings.items ≡ take (length e.setting.env.rings) (flushed e).left
   pub pools : IsWhole e.setting.env r
   pub calls : r.calls ≡ e.world.calls
@@ -173,7 +173,7 @@ pub record RanOn (p : Plan) (pattern : List ℕ) (t : Transfer) (answer : Result
   pub first : EngineState
   pub is_first : IsFirst p pattern first
   pub last : EngineState
-  pub progress : List Progress
+  pub progress : List InputProgress
   pub went : GoesForward first last t progress (answer_of answer)
   pub reported : IsReportOf last progress (report_of answer)
 

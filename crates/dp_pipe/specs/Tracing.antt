@@ -20,7 +20,7 @@ use Rattle.dp_pipe.specs.Devices.{Device, At}
 use Rattle.dp_pipe.specs.Forwarding.{Input, AreRead, IsRead, IsReadTo, AllStand, AnswersSo, arrivals_of, asked}
 use Rattle.dp_pipe.specs.Pipelines.{Plan}
 use Rattle.dp_pipe.specs.Running.{IsFirst, HasHeaderFault}
-use Rattle.dp_pipe.specs.declared.forwarding.Progress.{Progress}
+use Rattle.dp_pipe.specs.declared.forwarding.InputProgress.{InputProgress}
 use Rattle.dp_pipe.specs.declared.forwarding.RunCause.{RunCause}
 use Rattle.dp_pipe.specs.declared.forwarding.RunCause.TheVariants.{In}
 
@@ -158,7 +158,7 @@ FollowsTraced before after state wanted wanted' (Err error) answer = (state ≡ 
 
 -- an open input that is traced was asked for one of the records that are wanted
 pub record TracesInput {V : Type 0} (sees : V → Event → V → Type 0) (noted : V → Note → V → Type 0) (v v' : V) (only : Option ℕ) (port : ℕ)
-    (before after : EngineState) (p p' : Progress) (old new : Device) (wanted wanted' : ℕ) (answer : Result ⊤ PcapError) : Type 0 where
+    (before after : EngineState) (p p' : InputProgress) (old new : Device) (wanted wanted' : ℕ) (answer : Result ⊤ PcapError) : Type 0 where
   pub some : 1 ≤ wanted
   pub is_open : p.state ≡ Open
   pub is_traced : IsTraced only port
@@ -172,19 +172,19 @@ pub record TracesInput {V : Type 0} (sees : V → Event → V → Type 0) (noted
   pub follows : FollowsTraced engine after p'.state wanted wanted' next answer
 
 -- an input is not asked: no record is wanted, or it has ended, or it is not traced
-abbrev pub IsNotAsked : Option ℕ → ℕ → Progress → ℕ → Type 0
+abbrev pub IsNotAsked : Option ℕ → ℕ → InputProgress → ℕ → Type 0
 IsNotAsked only port p wanted = (wanted ≡ 0) ⊎ (p.state ≢ Open) ⊎ (IsTraced only port → ⊥)
 
 -- an input comes next: it is not asked, and nothing changes, or it is
 abbrev pub TracesStep : {V R : Type 0} → (V → Event → V → Type 0) → (V → Note → V → Type 0) → V → V → Option ℕ → ℕ → EngineState → EngineState →
-    Progress → Progress → (R → Device) → R → R → ℕ → ℕ → Result ⊤ PcapError → Type 0
+    InputProgress → InputProgress → (R → Device) → R → R → ℕ → ℕ → Result ⊤ PcapError → Type 0
 TracesStep sees noted v v' only port before after p p' device r r' wanted wanted' answer =
     (IsNotAsked only port p wanted × (answer ≡ Ok tt) × (v' ≡ v) × (after ≡ before) × (p' ≡ p) × (r' ≡ r) × (wanted' ≡ wanted))
     ⊎ TracesInput sees noted v v' only port before after p p' (device r) (device r') wanted wanted' answer
 
 -- Tracing goes on: from an engine before its first turn to another one, in a round in which a port comes next, if more records are wanted.
 pub record TracesUntil {V : Type 0} (sees : V → Event → V → Type 0) (noted : V → Note → V → Type 0) (v v' : V) (only : Option ℕ) (most : ℕ)
-    (before after : EngineState) (had left : List Device) (progress : List Progress) (round port wanted : ℕ) : Type 0 where
+    (before after : EngineState) (had left : List Device) (progress : List InputProgress) (round port wanted : ℕ) : Type 0 where
   pub inputs : List Input
   pub many : length inputs ≡ length had
   pub stand : AllStand had left progress inputs
@@ -198,16 +198,16 @@ pub record TracesUntil {V : Type 0} (sees : V → Event → V → Type 0) (noted
 
 -- a round, by its result
 abbrev pub TracesRound : {V : Type 0} → (V → Event → V → Type 0) → (V → Note → V → Type 0) → V → V → Option ℕ → ℕ → EngineState → EngineState →
-    List Device → List Device → List Progress → ℕ → ℕ → Result ⊤ RunCause → Type 0
+    List Device → List Device → List InputProgress → ℕ → ℕ → Result ⊤ RunCause → Type 0
 TracesRound sees noted v v' only most before after had left progress round wanted (Ok done) =
     TracesUntil sees noted v v' only most before after had left progress (round + 1) 0 wanted
 TracesRound sees noted v v' only most before after had left progress round wanted (Err cause) =
     TracesRecords sees noted v v' only most before after had left (Err cause)
 
 -- no more records are wanted, or each input that is traced has ended
-abbrev pub NoneIsWanted : Option ℕ → List Progress → ℕ → Type 0
+abbrev pub NoneIsWanted : Option ℕ → List InputProgress → ℕ → Type 0
 NoneIsWanted only progress wanted =
-    (wanted ≡ 0) ⊎ ((q : ℕ) (p : Progress) → slice_get progress q ≡ Some p → IsTraced only q → p.state ≢ Open)
+    (wanted ≡ 0) ⊎ ((q : ℕ) (p : InputProgress) → slice_get progress q ≡ Some p → IsTraced only q → p.state ≢ Open)
 
 -- a fault of an input
 abbrev pub IsOfInput : RunCause → Type 0

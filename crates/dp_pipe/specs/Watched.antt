@@ -9,7 +9,7 @@ use Rattle.dp_engine.specs.Watching.{Event}
 use Rattle.dp_pipe.specs.Pipelines.{Plan}
 use Rattle.dp_pipe.specs.Running.{IsFirst, IsReportOf, answer_of, report_of}
 use Rattle.dp_pipe.specs.Tracing.{Note, HasTraced, TracesRead}
-use Rattle.dp_pipe.specs.declared.forwarding.Progress.{Progress}
+use Rattle.dp_pipe.specs.declared.forwarding.InputProgress.{InputProgress}
 use Rattle.dp_pipe.specs.declared.forwarding.RunCause.{RunCause}
 use Rattle.dp_pipe.specs.declared.running.RunFault.{RunFault}
 
@@ -39,7 +39,7 @@ pub record WatchesRun {V : Type 0} (sees : V → Event → V → Type 0) (v v' :
   pub is_first : IsFirst p pattern first
   pub last : EngineState
   pub shown : ShowsTurns sees v v' first last (answer_of answer)
-  pub progress : List Progress
+  pub progress : List InputProgress
   pub reported : IsReportOf last progress (report_of answer)
 
 -- ---- Internal

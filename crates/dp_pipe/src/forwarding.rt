@@ -38,7 +38,7 @@ pub enum RunCause {
 
 /// How far an input was read.
 #[derive(Drop)]
-pub(crate) struct Progress {
+pub(crate) struct InputProgress {
     pub source: Source,
     pub state: InputState,
 }
@@ -127,7 +127,7 @@ fn drain_all<K: Known, W: Sink>(
 }
 
 // Whether an input has not ended.
-pub(crate) fn is_open(input: &Progress) -> bool
+pub(crate) fn is_open(input: &InputProgress) -> bool
     ensures { IsTrue result ↔ (input.now.state ≡ InputState.Open) }
 {
     input.state == InputState::Open
@@ -137,7 +137,7 @@ pub(crate) fn is_open(input: &Progress) -> bool
 fn ask<K: Known, R: Feed, W: Sink, V: Watch>(
     engine: &mut Engine<K>,
     port: u8,
-    input: &mut Progress,
+    input: &mut InputProgress,
     r: &mut R,
     outs: &mut [W],
     unit: Unit,
@@ -186,7 +186,7 @@ fn ask<K: Known, R: Feed, W: Sink, V: Watch>(
 // Takes one turn for each open input, in port order, each followed by the drains.
 fn round<K: Known, R: Feed, W: Sink, V: Watch>(
     engine: &mut Engine<K>,
-    inputs: &mut [Progress],
+    inputs: &mut [InputProgress],
     ins: &mut [R],
     outs: &mut [W],
     unit: Unit,
@@ -228,7 +228,7 @@ fn round<K: Known, R: Feed, W: Sink, V: Watch>(
 }
 
 // Whether an input has not ended.
-fn is_any_open(inputs: &[Progress]) -> bool
+fn is_any_open(inputs: &[InputProgress]) -> bool
     ensures none { result ≡ false → NoneIsOpen inputs.now }
     ensures some { IsTrue result → SomeIsOpen inputs.now }
 {
@@ -243,7 +243,7 @@ fn is_any_open(inputs: &[Progress]) -> bool
 // Takes rounds until every input has ended.
 pub(crate) fn rounds<K: Known, R: Feed, W: Sink, V: Watch>(
     engine: &mut Engine<K>,
-    inputs: &mut [Progress],
+    inputs: &mut [InputProgress],
     ins: &mut [R],
     outs: &mut [W],
     unit: Unit,

@@ -6,7 +6,7 @@ ghost use Rattle.std.specs.Vec.{vec_capacity};
 ghost use Rattle.dp_engine.specs.Engines.{IsAscending};
 ghost use Rattle.dp_pipe.specs.Running.{IsFirst, IsUnopened};
 
-use crate::forwarding::{Progress, RunCause};
+use crate::forwarding::{InputProgress, RunCause};
 use crate::pipeline::Pipeline;
 use dp_engine::{Engine, Known, need};
 use dp_pcap::MAX_RECORD;
@@ -63,7 +63,7 @@ pub(crate) fn opened<K: Known>(
     alloc: Global,
     pipeline: Pipeline,
     pattern: Vec<u64>,
-) -> Result<(Engine<K>, Vec<Progress>, Vec<u8>), RunCause>
+) -> Result<(Engine<K>, Vec<InputProgress>, Vec<u8>), RunCause>
     requires pattern { IsAscending 0 pattern.items }
     ensures engine { IfOk result (λ r. IsFirst pipeline pattern.items r.0) }
     ensures few { IfOk result (λ r. length r.0.setting.env.ports ≤ 8) }

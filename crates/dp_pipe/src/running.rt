@@ -17,7 +17,7 @@ ghost use Rattle.dp_pipe.specs.Pipelines.{IsPlan};
 ghost use Rattle.dp_pipe.specs.Running as spec;
 ghost use Rattle.dp_pipe.specs.Watched.{ShowsTurns, WatchesRun};
 
-use crate::forwarding::{Progress, RunCause, rounds};
+use crate::forwarding::{InputProgress, RunCause, rounds};
 use crate::opening::opened;
 use crate::pipeline::Pipeline;
 use arrayvec::ArrayVec;
@@ -39,7 +39,7 @@ pub struct RunFault {
 }
 
 // Adds an open source to a list with room for it.
-fn keep(inputs: &mut Vec<Progress>, input: Progress)
+fn keep(inputs: &mut Vec<InputProgress>, input: InputProgress)
     requires room { vec_len inputs.old < vec_capacity inputs.old }
     ensures items { inputs.new.items ≡ inputs.old.items ++ input ∷ [] }
     ensures len { vec_len inputs.new ≡ vec_len inputs.old + 1 }
@@ -54,7 +54,7 @@ fn keep(inputs: &mut Vec<Progress>, input: Progress)
 // Reads the headers of the inputs, in port order, and adds a source for each.
 pub(crate) fn read_headers<R: Feed>(
     ins: &mut [R],
-    inputs: &mut Vec<Progress>,
+    inputs: &mut Vec<InputProgress>,
 ) -> Result<(), RunCause>
     requires few { length ins.old ≤ 8 }
     requires none { (inputs.old.items ≡ []) × (vec_len inputs.old ≡ 0) }
@@ -73,7 +73,7 @@ pub(crate) fn read_headers<R: Feed>(
         match read_header(&mut ins[port]) {
             Ok(source) => keep(
                 inputs,
-                Progress {
+                InputProgress {
                     source,
                     state: InputState::Open,
                 },
@@ -94,14 +94,14 @@ fn is_nano(unit: Unit) -> bool
 }
 
 // Whether an input has nanoseconds.
-fn has_nano(inputs: &[Progress]) -> bool
+fn has_nano(inputs: &[InputProgress]) -> bool
     ensures { result ≡ list_any (λ p. forwarding.is_nano p.source.unit) inputs.now }
 {
     inputs.iter().any(|input| is_nano(input.source.unit()))
 }
 
 // The time unit of the outputs: nanoseconds if any input has them, else microseconds.
-fn unit_for(inputs: &[Progress]) -> Unit
+fn unit_for(inputs: &[InputProgress]) -> Unit
     ensures { result ≡ forwarding.unit_for (units_of (spec.all_begun inputs.now)) }
 {
     if has_nano(inputs) {
@@ -131,7 +131,7 @@ fn put_headers<W: Sink>(outs: &mut [W], unit: Unit) -> Result<(), RunCause>
 // Runs an open engine: headers in, headers out, then record by record.
 fn forward<K: Known, R: Feed, W: Sink, V: Watch>(
     engine: &mut Engine<K>,
-    inputs: &mut Vec<Progress>,
+    inputs: &mut Vec<InputProgress>,
     ins: &mut [R],
     outs: &mut [W],
     buf: &mut [u8],
@@ -162,7 +162,7 @@ fn forward<K: Known, R: Feed, W: Sink, V: Watch>(
 }
 
 // Sets how far each input was read.
-fn set_states(ports: &mut [PortReport], inputs: &[Progress])
+fn set_states(ports: &mut [PortReport], inputs: &[InputProgress])
     requires { length inputs.now ≤ length ports.old }
     ensures { ports.new ≡ spec.with_states (map (λ p. p.state) inputs.now) ports.old }
 {
@@ -187,7 +187,7 @@ fn answer_with(outcome: Result<(), RunCause>, report: Report) -> Result<Report, 
 // Runs an engine to its end.
 fn run_through<K: Known, R: Feed, W: Sink, V: Watch>(
     engine: Engine<K>,
-    inputs: &mut Vec<Progress>,
+    inputs: &mut Vec<InputProgress>,
     ins: &mut [R],
     outs: &mut [W],
     buf: &mut [u8],

@@ -9,7 +9,7 @@ ghost use Rattle.dp_pipe.specs.Devices.{Device, seen};
 ghost use Rattle.dp_pipe.specs.Tracing.{IsTraced, TracesNext, TracesStep, TracesUntil, TracesRound, TracesRecords, TracesFirst, NoneIsWanted};
 ghost use Rattle.dp_pipe.specs.Tracing.{IsOfInput};
 
-use crate::forwarding::{MAX_TURNS, Progress, ROUNDS, RunCause, is_open};
+use crate::forwarding::{InputProgress, MAX_TURNS, ROUNDS, RunCause, is_open};
 use crate::opening::opened;
 use crate::pipeline::Pipeline;
 use crate::running::read_headers;
@@ -91,7 +91,7 @@ fn trace_next<K: Known, R: Feed, T: Tracer>(
 fn trace_port<K: Known, R: Feed, T: Tracer>(
     engine: &mut Engine<K>,
     port: u8,
-    input: &mut Progress,
+    input: &mut InputProgress,
     r: &mut R,
     buf: &mut [u8],
     which: &mut Traced,
@@ -136,7 +136,7 @@ fn trace_port<K: Known, R: Feed, T: Tracer>(
 // Takes one traced turn for each input that is traced and open, in port order.
 fn trace_round<K: Known, R: Feed, T: Tracer>(
     engine: &mut Engine<K>,
-    inputs: &mut [Progress],
+    inputs: &mut [InputProgress],
     ins: &mut [R],
     buf: &mut [u8],
     which: &mut Traced,
@@ -181,7 +181,7 @@ fn trace_round<K: Known, R: Feed, T: Tracer>(
 }
 
 // Whether more records are wanted, and a traced input may have them.
-fn is_any_left(inputs: &[Progress], which: Traced) -> bool
+fn is_any_left(inputs: &[InputProgress], which: Traced) -> bool
     requires few { length inputs.now ≤ 8 }
     ensures none { result ≡ false → NoneIsWanted which.port inputs.now which.records }
 {
@@ -199,7 +199,7 @@ fn is_any_left(inputs: &[Progress], which: Traced) -> bool
 // Traces the records of inputs whose headers were read, round by round.
 fn trace_rounds<K: Known, R: Feed, T: Tracer>(
     engine: &mut Engine<K>,
-    inputs: &mut [Progress],
+    inputs: &mut [InputProgress],
     ins: &mut [R],
     buf: &mut [u8],
     which: Traced,
@@ -232,7 +232,7 @@ fn trace_rounds<K: Known, R: Feed, T: Tracer>(
 // Traces an open engine: headers in, then record by record, round by round.
 fn trace_records<K: Known, R: Feed, T: Tracer>(
     engine: &mut Engine<K>,
-    inputs: &mut Vec<Progress>,
+    inputs: &mut Vec<InputProgress>,
     ins: &mut [R],
     buf: &mut [u8],
     which: Traced,

@@ -8,7 +8,7 @@ use crate::fault::Fault;
 use crate::files::ReadFault;
 use crate::run::capture_errors::CaptureNames;
 use crate::run::guarded::Guarded;
-use crate::run::input_file::{Source, open_source};
+use crate::run::input_file::{InputSource, open_source};
 use crate::run::output_file::{Destination, open_destination};
 use crate::run::progress::{Progress, ProgressNotices, ToStderr};
 use crate::run::same_file::Written;
@@ -25,7 +25,7 @@ pub const BUFFER: usize = 65_536;
 pub const UNBUFFERED: usize = 0;
 
 /// The type of an input: a reader of a capture.
-pub type InputOf<F> = OfBufReader<Watched<Source<F>, ToStderr>>;
+pub type InputOf<F> = OfBufReader<Watched<InputSource<F>, ToStderr>>;
 
 /// The type of an output: a writer of a capture.
 pub type OutputOf<F> = OfBufWriter<Guarded<Destination<F>>>;

@@ -10,7 +10,7 @@ use std::rt::Files;
 
 /// Where an input is read.
 #[derive(Drop)]
-pub enum Source<F> {
+pub enum InputSource<F> {
     /// A file.
     File(F),
     /// Standard input.
@@ -36,18 +36,18 @@ pub fn open_source<R: Files>(
     stdin: Stdin,
     place: Place,
     name: &str,
-) -> Result<Source<R::File>>
+) -> Result<InputSource<R::File>>
     ensures place { IfOk result (λ source. source_place source ≡ place) }
     ensures fresh { IfOk result IsFresh }
 {
     match place {
-        Place::File => Ok(Source::File(fs::open(rt, name)?)),
-        Place::Stream => Ok(Source::Stream(stdin)),
-        Place::Nowhere => Ok(Source::Nowhere(empty())),
+        Place::File => Ok(InputSource::File(fs::open(rt, name)?)),
+        Place::Stream => Ok(InputSource::Stream(stdin)),
+        Place::Nowhere => Ok(InputSource::Nowhere(empty())),
     }
 }
 
-impl<F: Read> Read for Source<F> {
+impl<F: Read> Read for InputSource<F> {
     ghost use Rattle.std.specs.Prelude.{◌≡◌};
     ghost use Rattle.std.specs.Io.{ReadsAtMost};
     ghost use Rattle.std.specs.Io.KnownBytes.{ReadConsumes};
@@ -61,9 +61,9 @@ impl<F: Read> Read for Source<F> {
         ensures place { source_place self.new ≡ source_place self.old }
     {
         match self {
-            Source::File(file) => file.read(buf),
-            Source::Stream(stdin) => stdin.read(buf),
-            Source::Nowhere(left) => left.read(buf),
+            InputSource::File(file) => file.read(buf),
+            InputSource::Stream(stdin) => stdin.read(buf),
+            InputSource::Nowhere(left) => left.read(buf),
         }
     }
 }

@@ -41,7 +41,7 @@ pub struct Replaced<'a> {
 
 /// Whether captures are read or written.
 #[derive(Clone, Copy, Debug)]
-pub enum Way {
+pub enum Direction {
     /// They are read.
     In,
     /// They are written.
@@ -50,7 +50,7 @@ pub enum Way {
 
 /// How words give captures.
 #[derive(Clone, Copy, Debug)]
-pub enum Form {
+pub enum WordForm {
     /// As PORT=NAME.
     Named,
     /// As PORT, whose capture is nowhere.
@@ -63,18 +63,18 @@ pub enum WordFault<'a> {
     /// Memory was refused.
     Memory,
     /// This word does not have its form.
-    Unread(&'a str, Form),
+    Unread(&'a str, WordForm),
     /// The first of these captures cannot be given together with the second, of an earlier word.
     Clash(Replaced<'a>, Replaced<'a>),
 }
 
 /// The capture that a word of this form gives.
-fn given_by<'a>(form: Form, word: &'a str) -> Option<Replaced<'a>>
+fn given_by<'a>(form: WordForm, word: &'a str) -> Option<Replaced<'a>>
     ensures { option_map row_of result ≡ spec.given_by form word.now }
 {
     match form {
-        Form::Named => replaced_in(word),
-        Form::Bare => nowhere_in(word),
+        WordForm::Named => replaced_in(word),
+        WordForm::Bare => nowhere_in(word),
     }
 }
 
@@ -104,7 +104,7 @@ fn first_clash<'b, 'a>(one: Replaced<'_>, earlier: &'b [Replaced<'a>]) -> Option
 
 /// The capture that a word gives besides earlier ones.
 fn added<'a>(
-    form: Form,
+    form: WordForm,
     word: &'a str,
     earlier: &[Replaced<'a>],
 ) -> Result<Replaced<'a>, WordFault<'a>>
@@ -138,7 +138,7 @@ pub fn capture_at<'a>(given: &[Replaced<'a>], port: usize, name: &'a str) -> (Pl
 
 /// Adds the captures that words give.
 fn add_words<'a>(
-    form: Form,
+    form: WordForm,
     words: &[&'a str],
     given: &mut Vec<Replaced<'a>>,
 ) -> Result<(), WordFault<'a>>
@@ -170,20 +170,20 @@ pub fn captures_of<'a>(
         ≡ None) }
 {
     let mut given = Vec::new(alloc);
-    add_words(Form::Named, named, &mut given)?;
-    add_words(Form::Bare, bare, &mut given)?;
+    add_words(WordForm::Named, named, &mut given)?;
+    add_words(WordForm::Bare, bare, &mut given)?;
     Ok(given)
 }
 
 /// The option that takes words of this form.
-fn option_of(way: Way, form: Form) -> &'static str
-    ensures { result.now ≡ spec.option_of way form }
+fn option_of(direction: Direction, form: WordForm) -> &'static str
+    ensures { result.now ≡ spec.option_of direction form }
 {
-    match (way, form) {
-        (Way::In, Form::Named) => "in",
-        (Way::In, Form::Bare) => "no-in",
-        (Way::Out, Form::Named) => "out",
-        (Way::Out, Form::Bare) => "no-out",
+    match (direction, form) {
+        (Direction::In, WordForm::Named) => "in",
+        (Direction::In, WordForm::Bare) => "no-in",
+        (Direction::Out, WordForm::Named) => "out",
+        (Direction::Out, WordForm::Bare) => "no-out",
     }
 }
 
@@ -217,16 +217,16 @@ fn words_of<'w>(
 fn captures_in<'w>(
     alloc: Global,
     words: &ArgMatches<'w>,
-    way: Way,
+    direction: Direction,
 ) -> Result<Vec<Replaced<'w>>, WordFault<'w>>
-    ensures given { IfOk result (λ given. Some (map row_of given.items) ≡ spec.given_in (found_of words.now) way) }
-    ensures none { IfErr result (λ fault. fault ≢ WordFault.Memory → spec.given_in (found_of words.now) way ≡ None) }
+    ensures given { IfOk result (λ given. Some (map row_of given.items) ≡ spec.given_in (found_of words.now) direction) }
+    ensures none { IfErr result (λ fault. fault ≢ WordFault.Memory → spec.given_in (found_of words.now) direction ≡ None) }
 {
-    let option = option_of(way, Form::Named);
+    let option = option_of(direction, WordForm::Named);
     let Ok(named) = words_of(alloc, words, option) else {
         return Err(WordFault::Memory);
     };
-    let option = option_of(way, Form::Bare);
+    let option = option_of(direction, WordForm::Bare);
     let Ok(bare) = words_of(alloc, words, option) else {
         return Err(WordFault::Memory);
     };
@@ -236,32 +236,32 @@ fn captures_in<'w>(
 /// What is reported of a word that gives no capture, or one that cannot be given together with an earlier one.
 #[derive(Clone, Copy)]
 struct WordProblem<'a> {
-    way: Way,
+    direction: Direction,
     fault: WordFault<'a>,
 }
 
 /// Writes which other word gives the same port a capture, or the same stream.
 fn write_clash<W: fmt::Write>(
     f: &mut fmt::Formatter<W>,
-    way: Way,
+    direction: Direction,
     one: Replaced<'_>,
     other: Replaced<'_>,
 ) -> fmt::Result {
     let (word, earlier, port) = (one.word, other.word, one.port);
-    match (way, other.port == port) {
-        (Way::In, true) => write!(
+    match (direction, other.port == port) {
+        (Direction::In, true) => write!(
             f,
             "error: '{word}' gives port {port} another input than '{earlier}': one --in or --no-in for each port"
         ),
-        (Way::Out, true) => write!(
+        (Direction::Out, true) => write!(
             f,
             "error: '{word}' gives port {port} another output than '{earlier}': one --out or --no-out for each port"
         ),
-        (Way::In, false) => write!(
+        (Direction::In, false) => write!(
             f,
             "error: '{earlier}' and '{word}' both read standard input: one port alone can"
         ),
-        (Way::Out, false) => write!(
+        (Direction::Out, false) => write!(
             f,
             "error: '{earlier}' and '{word}' both write standard output: one port alone can"
         ),
@@ -272,40 +272,40 @@ impl fmt::Display for WordProblem<'_> {
     fn fmt<W: fmt::Write>(&self, f: &mut fmt::Formatter<W>) -> fmt::Result {
         match self.fault {
             WordFault::Memory => write!(f, "fault: memory"),
-            WordFault::Unread(word, Form::Named) => write!(
+            WordFault::Unread(word, WordForm::Named) => write!(
                 f,
                 "error: '{word}' is not PORT=NAME: PORT a digit from 0 to 7, NAME a capture, or - for the standard stream"
             ),
-            WordFault::Unread(word, Form::Bare) => {
+            WordFault::Unread(word, WordForm::Bare) => {
                 write!(f, "error: '{word}' is not a port: a digit from 0 to 7")
             }
-            WordFault::Clash(one, other) => write_clash(f, self.way, one, other),
+            WordFault::Clash(one, other) => write_clash(f, self.direction, one, other),
         }
     }
 }
 
 /// Reports why words give no captures, and returns the status.
-fn write_word_fault<E: Write>(way: Way, fault: WordFault<'_>, err: &mut E) -> u8
+fn write_word_fault<E: Write>(direction: Direction, fault: WordFault<'_>, err: &mut E) -> u8
     ensures { result ≢ 0 }
 {
     match fault {
         WordFault::Memory => fail_with(err, Fault::Memory),
-        _ => write_usage_error(err, WordProblem { way, fault }),
+        _ => write_usage_error(err, WordProblem { direction, fault }),
     }
 }
 
 /// Reads the captures that the command line gives a pipeline's ports to read, or to write; or reports the fault, and returns the status.
 fn given_in<'w, R, E: Write>(
     call: &Call<'_, 'w, R>,
-    way: Way,
+    direction: Direction,
     err: &mut E,
 ) -> Result<Vec<Replaced<'w>>, u8>
-    ensures given { IfOk result (λ given. Some (map row_of given.items) ≡ spec.given_in (found_of call.now.words.now) way) }
+    ensures given { IfOk result (λ given. Some (map row_of given.items) ≡ spec.given_in (found_of call.now.words.now) direction) }
     ensures fails { IfErr result (λ status. status ≢ 0) }
 {
-    match captures_in(call.alloc, call.words, way) {
+    match captures_in(call.alloc, call.words, direction) {
         Ok(given) => Ok(given),
-        Err(fault) => Err(write_word_fault(way, fault, err)),
+        Err(fault) => Err(write_word_fault(direction, fault, err)),
     }
 }
 
@@ -399,12 +399,12 @@ pub fn replacements_in<'w, R, E: Write>(
     call: &Call<'_, 'w, R>,
     err: &mut E,
 ) -> Result<Replacements<'w>, u8>
-    ensures inputs { IfOk result (λ given. Some (map row_of given.inputs.items) ≡ spec.given_in (found_of call.now.words.now) Way.In) }
-    ensures outputs { IfOk result (λ given. Some (map row_of given.outputs.items) ≡ spec.given_in (found_of call.now.words.now) Way.Out) }
+    ensures inputs { IfOk result (λ given. Some (map row_of given.inputs.items) ≡ spec.given_in (found_of call.now.words.now) Direction.In) }
+    ensures outputs { IfOk result (λ given. Some (map row_of given.outputs.items) ≡ spec.given_in (found_of call.now.words.now) Direction.Out) }
     ensures fails { IfErr result (λ status. status ≢ 0) }
 {
     Ok(Replacements {
-        inputs: given_in(call, Way::In, err)?,
-        outputs: given_in(call, Way::Out, err)?,
+        inputs: given_in(call, Direction::In, err)?,
+        outputs: given_in(call, Direction::Out, err)?,
     })
 }

@@ -70,7 +70,7 @@ impl<K: Known> Engine<K> {
     fn flush_rings(&mut self)
         ensures { self.new ≡ record self.old { world = with_empty_rings self.old.world; left = with_left self.old.left (left_in_rings self.old.world) } }
     {
-        let rings = self.plan.env().rings().len();
+        let rings = self.context.env().rings().len();
         for ring in 0..rings as u8 {
             self.leave(ring);
         }
@@ -80,7 +80,7 @@ impl<K: Known> Engine<K> {
     pub fn flush_lists(&mut self)
         ensures { self.new ≡ record self.old { world = with_empty_outboxes self.old.world } }
     {
-        let ports = self.plan.env().ports().len();
+        let ports = self.context.env().ports().len();
         for port in 0..ports as u8 {
             self.drop_sent(port);
         }

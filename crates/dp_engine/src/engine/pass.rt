@@ -49,7 +49,7 @@ impl<K: Known> Engine<K> {
     pub fn batch_size(&self) -> BatchSize
         ensures { result ≡ max_batch self.now.setting.env }
     {
-        let pools = self.plan.env().pools();
+        let pools = self.context.env().pools();
         let records = buffers_in(pools);
         BatchSize {
             records,
@@ -62,7 +62,7 @@ impl<K: Known> Engine<K> {
         ensures some { IfSome result (AreWaiting self.now.world.rings ring) }
         ensures none { IfNone result (length self.now.setting.env.rings ≤ ring) }
     {
-        if usize::from(ring) < self.plan.env().rings().len() {
+        if usize::from(ring) < self.context.env().rings().len() {
             Some(self.machine.waiting(ring))
         } else {
             None
@@ -92,7 +92,7 @@ impl<K: Known> Engine<K> {
     fn clear_lists(&mut self)
         ensures { self.new ≡ all_drained self.old }
     {
-        let ports = self.plan.env().ports().len();
+        let ports = self.context.env().ports().len();
         for port in 0..ports as u8 {
             self.count_sent(port);
         }

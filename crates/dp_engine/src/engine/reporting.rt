@@ -79,14 +79,14 @@ impl<K: Known> Engine<K> {
     pub fn report(&self) -> Report
         ensures { IsReport self.now result }
     {
-        let env = self.plan.env();
+        let env = self.context.env();
         let calls = self.machine.calls();
         Report {
             ports: port_reports(&self.tallies[..env.ports().len()]),
             rings: ring_reports(&self.left[..env.rings().len()]),
             pools: pool_reports(&self.machine, env.pools()),
             calls,
-            refused: reached(self.plan.pattern(), calls),
+            refused: reached(self.context.pattern(), calls),
             cut: self.machine.cuts(),
         }
     }

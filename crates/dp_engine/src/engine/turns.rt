@@ -53,9 +53,9 @@ impl<K: Known> Engine<K> {
     {
         budgets_are_as_they_read();
         self.turns += 1;
-        let (outcome, own) = arrive(&self.plan, &mut self.machine, port, bytes, watch);
+        let (outcome, own) = arrive(&self.context, &mut self.machine, port, bytes, watch);
         count(&mut self.tallies, port, outcome);
-        let served = serve(&self.plan, &mut self.machine, watch);
+        let served = serve(&self.context, &mut self.machine, watch);
         Turn {
             outcome,
             runs: runs_of(outcome) + served.runs,

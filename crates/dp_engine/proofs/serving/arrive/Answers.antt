@@ -23,26 +23,26 @@ abbrev spec_of : List PortSpec → ℕ → PortSpec
 spec_of ports port = slice_index_or ports port (record { pool = 0; segs = 0; queue = 0 })
 
 -- the port
-there : (g : _) (c : After-from g) → AtPort c.args.plan.now.setting c.args.plan.now.nodes c.args.port (spec_of c.ports.result.now c.from.result)
+there : (g : _) (c : After-from g) → AtPort c.args.context.now.setting c.args.context.now.nodes c.args.port (spec_of c.ports.result.now c.from.result)
 there g c =
-    let p = c.args.plan.now in
+    let p = c.args.context.now in
     rw c.from.ensures (at_port p.setting p.nodes c.ports.result.now c.args.port (record { pool = 0; segs = 0; queue = 0 }) c.env-env.ensures.pipeline
     (c.ports.ensures ∙ ap (λ (x : Environment). x.ports) c.env-env.ensures.same) c.requires.exists)
 
 -- the record has room in its segments
-fits : (g : _) (c : After-pattern g) → segments_needed c.args.plan.now.setting.env.pools (spec_of c.ports.result.now c.from.result).pool
+fits : (g : _) (c : After-pattern g) → segments_needed c.args.context.now.setting.env.pools (spec_of c.ports.result.now c.from.result).pool
     (length c.args.bytes.now) ≤ (spec_of c.ports.result.now c.from.result).segs
 fits g c =
     omega (arith, rw c.requires.rests.pools at c.needed.ensures, c.if-needed-spec.false)
 
 -- what is received, and that the port's program can run on it
-came : (g : _) (c : After-tables g) → AtPort c.args.plan.now.setting c.args.plan.now.nodes c.args.port (spec_of c.ports.result.now c.from.result)
-    → segments_needed c.args.plan.now.setting.env.pools (spec_of c.ports.result.now c.from.result).pool (length c.args.bytes.now)
+came : (g : _) (c : After-tables g) → AtPort c.args.context.now.setting c.args.context.now.nodes c.args.port (spec_of c.ports.result.now c.from.result)
+    → segments_needed c.args.context.now.setting.env.pools (spec_of c.ports.result.now c.from.result).pool (length c.args.bytes.now)
     ≤ (spec_of c.ports.result.now c.from.result).segs
-    → Received c.args.plan.now.setting c.port_program-program.result.now c.args.port (spec_of c.ports.result.now c.from.result) c.args.bytes.now
+    → Received c.args.context.now.setting c.port_program-program.result.now c.args.port (spec_of c.ports.result.now c.from.result) c.args.bytes.now
     c.args.m.now.state.world c.receive.new.self.state
 came g c at fits =
-    let p = c.args.plan.now in
+    let p = c.args.context.now in
     let spec = spec_of c.ports.result.now c.from.result in
     let bytes = c.args.bytes.now in
     let w = c.args.m.now.state.world in
@@ -55,12 +55,12 @@ came g c at fits =
     c.port_program-program.ensures.same c.requires.rests.rest fits (sym denied) got
 
 -- what its run made
-went : (g : _) (c : After-run g) → Received c.args.plan.now.setting c.port_program-program.result.now c.args.port (spec_of c.ports.result.now c.from.result)
+went : (g : _) (c : After-run g) → Received c.args.context.now.setting c.port_program-program.result.now c.args.port (spec_of c.ports.result.now c.from.result)
     c.args.bytes.now c.args.m.now.state.world c.receive.new.self.state
-    → (answers : List Bool) × Receives c.args.plan.now.setting c.port_program-program.result.now c.args.port (spec_of c.ports.result.now c.from.result)
+    → (answers : List Bool) × Receives c.args.context.now.setting c.port_program-program.result.now c.args.port (spec_of c.ports.result.now c.from.result)
     c.args.bytes.now c.args.m.now.state.world answers c.run.new.m.state.world
 went g c r =
-    let setting = setting_is c.args.plan.now.setting c.env-env.result.now c.tables.result.now c.pattern-2.result.now c.env-env.ensures.same c.tables.ensures
+    let setting = setting_is c.args.context.now.setting c.env-env.result.now c.tables.result.now c.pattern-2.result.now c.env-env.ensures.same c.tables.ensures
     c.pattern-2.ensures in
     r.receives c.run.new.m.state
     (subst (λ (x : Setting). Runs x c.port_program-program.result.now c.receive.new.self.state c.run.new.m.state) setting c.run.ensures.runs)
@@ -68,7 +68,7 @@ went g c r =
 pub returns-then-needed-spec-clause-arrives : goal.returns-then-needed-spec-clause-arrives
 returns-then-needed-spec-clause-arrives g c =
     let at = there g (goal.at.returns-then-needed-spec-clause-arrives g c).After-from in
-    let need : c.needed.result ≡ segments_needed c.args.plan.now.setting.env.pools (spec_of c.ports.result.now c.from.result).pool (length c.args.bytes.now)
+    let need : c.needed.result ≡ segments_needed c.args.context.now.setting.env.pools (spec_of c.ports.result.now c.from.result).pool (length c.args.bytes.now)
     = rw c.requires.rests.pools at c.needed.ensures in
     ([], (spec_of c.ports.result.now c.from.result, at.program, at.spec_is, at.program_is, (omega (arith, need, c.if-needed-spec.true), refl, refl)))
 
@@ -100,12 +100,12 @@ returns-then-not-receive-clause-arrives g c =
     )
 
 pub begin-requires : goal.begin-requires
-begin-requires g c = port_small c.args.plan.now c.args.port c.env-env.ensures.pipeline c.requires.exists
+begin-requires g c = port_small c.args.context.now c.args.port c.env-env.ensures.pipeline c.requires.exists
 
 pub run-requires-clause-sound : goal.run-requires-clause-sound
 run-requires-clause-sound g c =
     let here = goal.at.run-requires-clause-sound g c in
-    let setting = setting_is c.args.plan.now.setting c.env-env.result.now c.tables.result.now c.pattern-2.result.now c.env-env.ensures.same c.tables.ensures
+    let setting = setting_is c.args.context.now.setting c.env-env.result.now c.tables.result.now c.pattern-2.result.now c.env-env.ensures.same c.tables.ensures
     c.pattern-2.ensures in
     subst (λ (x : Setting). CanRun x c.port_program-program.result.now c.receive.new.self.state) (sym setting)
     (came g here.After-tables (there g here.After-from) (fits g here.After-pattern)).can_run
@@ -133,7 +133,7 @@ returns-clause-rests g c =
     record {
       idle = c.run.ensures.idle;
       pools = c.run.ensures.pools ∙ (c.receive.ensures.pools ∙ c.requires.rests.pools);
-      fits = subst (FitsIn c.args.plan.now.setting.env) (sym (c.run.ensures.frames ∙ c.receive.ensures.frames)) c.requires.rests.fits;
+      fits = subst (FitsIn c.args.context.now.setting.env) (sym (c.run.ensures.frames ∙ c.receive.ensures.frames)) c.requires.rests.fits;
       rest = c.env-env.ensures.safe.arrives c.port_program-program.result.now c.args.port (spec_of c.ports.result.now c.from.result) c.args.bytes.now
           c.args.m.now.state.world c.run.new.m.state.world Got answers c.port_program-program.ensures.same at.spec_is c.requires.rests.rest receives;
     }
@@ -141,7 +141,7 @@ returns-clause-rests g c =
 pub returns-then-needed-spec-clause-watched : goal.returns-then-needed-spec-clause-watched
 returns-then-needed-spec-clause-watched g c =
     let at = there g (goal.at.returns-then-needed-spec-clause-watched g c).After-from in
-    let need : c.needed.result ≡ segments_needed c.args.plan.now.setting.env.pools (spec_of c.ports.result.now c.from.result).pool (length c.args.bytes.now)
+    let need : c.needed.result ≡ segments_needed c.args.context.now.setting.env.pools (spec_of c.ports.result.now c.from.result).pool (length c.args.bytes.now)
     = rw c.requires.rests.pools at c.needed.ensures in
     record {
       answers = [];
@@ -180,7 +180,7 @@ returns-then-not-receive-clause-watched g c =
 pub returns-clause-watched : goal.returns-clause-watched
 returns-clause-watched g c =
     let here = goal.at.returns-clause-watched g c in
-    let p = c.args.plan.now in
+    let p = c.args.context.now in
     let spec = spec_of c.ports.result.now c.from.result in
     let program = c.port_program-program.result.now in
     let s1 = c.receive.new.self.state in

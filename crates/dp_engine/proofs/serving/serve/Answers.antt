@@ -5,20 +5,20 @@ use Rattle.dp_engine.proofs.serving.serve.Goals as goal
 
 pub loop-i-init : goal.loop-i-init
 loop-i-init g c = (
-  no_round c.args.plan.now c.args.m.now c.requires.rests,
-  nothing_seen g.W.Watch.sees c.args.watch.now c.args.plan.now c.args.m.now,
+  no_round c.args.context.now c.args.m.now c.requires.rests,
+  nothing_seen g.W.Watch.sees c.args.watch.now c.args.context.now c.args.m.now,
 )
 
 pub returns-in_default-clause-serves : goal.returns-in_default-clause-serves
 returns-in_default-clause-serves g c =
     let l = c.loop-i in
-    rounds_none c.args.plan.now c.args.m.now l.m l.i l.served.runs l.served.steps l.served.cuts c.serve_one.new.m.state.world l.invariant.0
-    (none_of c.args.plan.now c.loop-i.m.state.world c.serve_one.new.m.state.world c.serve_one.result c.in_default.not-Some c.serve_one.ensures.serves)
+    rounds_none c.args.context.now c.args.m.now l.m l.i l.served.runs l.served.steps l.served.cuts c.serve_one.new.m.state.world l.invariant.0
+    (none_of c.args.context.now c.loop-i.m.state.world c.serve_one.new.m.state.world c.serve_one.result c.in_default.not-Some c.serve_one.ensures.serves)
 
 pub returns-in_default-clause-watched : goal.returns-in_default-clause-watched
 returns-in_default-clause-watched g c =
     let l = c.loop-i in
-    let p = c.args.plan.now in
+    let p = c.args.context.now in
     let w2 = c.serve_one.new.m.state.world in
     let (none, is) = none_of p l.m.state.world w2 c.serve_one.result c.in_default.not-Some c.serve_one.ensures.serves in
     seen_none g.W.Watch.sees c.args.watch.now l.watch c.serve_one.new.watch p c.args.m.now l.m l.i l.served.runs w2 l.invariant.1 none is
@@ -27,7 +27,7 @@ returns-in_default-clause-watched g c =
 pub loop-i-preserved : goal.loop-i-preserved
 loop-i-preserved g c =
     let l = c.loop-i in
-    let p = c.args.plan.now in
+    let p = c.args.context.now in
     let o = c.in-Some.ensures in
     let less : l.i < 32 = omega (arith, c.loop-i-test.true) in (
       one_round p c.args.m.now l.m c.serve_one.new.m l.i l.served.runs l.served.steps l.served.cuts c.in-Some.field-0 less l.invariant.0 o.serves
@@ -39,10 +39,10 @@ loop-i-preserved g c =
 
 pub returns-clause-serves : goal.returns-clause-serves
 returns-clause-serves g c =
-    rounds_all c.args.plan.now c.args.m.now c.loop-i.m c.loop-i.i c.loop-i.served.runs c.loop-i.served.steps c.loop-i.served.cuts
+    rounds_all c.args.context.now c.args.m.now c.loop-i.m c.loop-i.i c.loop-i.served.runs c.loop-i.served.steps c.loop-i.served.cuts
     (omega (arith, c.loop-i-test.false)) c.loop-i.invariant.0
 
 pub returns-clause-watched : goal.returns-clause-watched
 returns-clause-watched g c =
-    seen_all g.W.Watch.sees c.args.watch.now c.loop-i.watch c.args.plan.now c.args.m.now c.loop-i.m c.loop-i.i c.loop-i.served.runs
+    seen_all g.W.Watch.sees c.args.watch.now c.loop-i.watch c.args.context.now c.args.m.now c.loop-i.m c.loop-i.i c.loop-i.served.runs
     (omega (arith, c.loop-i-test.false)) c.loop-i.invariant.1

@@ -4,4 +4,4 @@ use Rattle.dp_engine.proofs.serving.serve.Given as goal
 
 abbrev pub invariant-loop-i : goal.invariant-loop-i
 invariant-loop-i g l =
-    Rounds l.plan l.fn.m l.m l.i l.served.runs l.served.steps l.served.cuts × Seen g.W.Watch.sees l.fn.watch l.watch l.plan l.fn.m l.m l.i l.served.runs
+    Rounds l.context l.fn.m l.m l.i l.served.runs l.served.steps l.served.cuts × Seen g.W.Watch.sees l.fn.watch l.watch l.context l.fn.m l.m l.i l.served.runs

@@ -15,17 +15,17 @@ use Rattle.dp_engine.proofs.serving.serve_one.Goals as goal
 use Rattle.dp_engine.proofs.serving.serve_one.Goals.{After-env-env, After-run}
 
 -- what is served
-next : (g : _) (c : After-env-env g) → Next c.args.plan.now.setting c.args.plan.now.nodes c.args.m.now c.take_waiting.new.self c.in_ok-ring.ring
+next : (g : _) (c : After-env-env g) → Next c.args.context.now.setting c.args.context.now.nodes c.args.m.now c.take_waiting.new.self c.in_ok-ring.ring
 next g c =
-    let p = c.args.plan.now in
+    let p = c.args.context.now in
     next_is p.setting p.nodes c.args.m.now c.take_waiting.new.self c.in_ok-ring.ring c.requires.rests.rest c.in_ok-ring.ensures
 
 -- and that
 serves : (g : _) (c : After-run g)
-    → Next c.args.plan.now.setting c.args.plan.now.nodes c.args.m.now c.take_waiting.new.self c.in_ok-ring.ring
-    → ServesOne c.args.plan.now c.args.m.now.state.world (Some c.run.result) c.run.new.m.state.world
+    → Next c.args.context.now.setting c.args.context.now.nodes c.args.m.now c.take_waiting.new.self c.in_ok-ring.ring
+    → ServesOne c.args.context.now c.args.m.now.state.world (Some c.run.result) c.run.new.m.state.world
 serves g c n =
-    let p = c.args.plan.now in
+    let p = c.args.context.now in
     let m1 = c.take_waiting.new.self in
     let program = c.ring_program-program.result.now in
     let setting =
@@ -39,11 +39,11 @@ ring_program-program-requires g c = (omega arith, (next g (goal.at.ring_program-
 pub begin-requires : goal.begin-requires
 begin-requires g c =
     let n = next g (goal.at.begin-requires g c).After-env-env in
-    ring_small c.args.plan.now c.in_ok-ring.ring c.env-env.ensures.pipeline n.there
+    ring_small c.args.context.now c.in_ok-ring.ring c.env-env.ensures.pipeline n.there
 
 pub run-requires-clause-sound : goal.run-requires-clause-sound
 run-requires-clause-sound g c =
-    let p = c.args.plan.now in
+    let p = c.args.context.now in
     let m1 = c.take_waiting.new.self in
     let program = c.ring_program-program.result.now in
     let setting =
@@ -59,7 +59,7 @@ returns-clause-serves g c = serves g c (next g (goal.at.returns-clause-serves g 
 
 pub returns-clause-packets : goal.returns-clause-packets
 returns-clause-packets g c =
-    let p = c.args.plan.now in
+    let p = c.args.context.now in
     let n = next g (goal.at.returns-clause-packets g c).After-env-env in
     let calls : c.take_waiting.new.self.state.world.calls ≡ c.args.m.now.state.world.calls = ap (λ (x : Core). x.state.world.calls) n.taken in
     omega (
@@ -71,7 +71,7 @@ returns-clause-packets g c =
 
 pub returns-clause-rests : goal.returns-clause-rests
 returns-clause-rests g c =
-    let p = c.args.plan.now in
+    let p = c.args.context.now in
     let n = next g (goal.at.returns-clause-rests g c).After-env-env in
     record {
       idle = c.run.ensures.idle;
@@ -82,7 +82,7 @@ returns-clause-rests g c =
 
 pub returns-clause-watched : goal.returns-clause-watched
 returns-clause-watched g c =
-    let p = c.args.plan.now in
+    let p = c.args.context.now in
     let m1 = c.take_waiting.new.self in
     let program = c.ring_program-program.result.now in
     let setting =

@@ -2,8 +2,8 @@
 use Rattle.std.proofs.Common.{◌≡◌, ◌<◌, ℕ, Some}
 use Rattle.std.specs.Prelude.{slice_get}
 use Rattle.dp_engine.specs.declared.report.InputState.TheVariants.{Open}
-use Rattle.dp_pipe.specs.declared.forwarding.Progress.{Progress}
+use Rattle.dp_pipe.specs.declared.forwarding.InputProgress.{InputProgress}
 use Rattle.dp_pipe.proofs.forwarding.is_any_open.Given as goal
 
 abbrev pub invariant-loop-input : goal.invariant-loop-input
-invariant-loop-input l = (q : ℕ) (p : Progress) → q < l.input-index → slice_get l.inputs q ≡ Some p → p.state ≡ Open → ⊥
+invariant-loop-input l = (q : ℕ) (p : InputProgress) → q < l.input-index → slice_get l.inputs q ≡ Some p → p.state ≡ Open → ⊥

@@ -9,7 +9,7 @@ use Rattle.dp_engine.proofs.engine.Engine.batch_size.Goals as goal
 
 pub overflow_mul-result : goal.overflow_mul-result
 overflow_mul-result g c =
-    let env = c.self.inside.plan.setting.env in
+    let env = c.self.inside.context.setting.env in
     let same = c.pools-pools.ensures.same ∙ ap (λ (e : Environment). e.pools) c.env.ensures.same in
     let k = known env c.self.invariant.within in
     let most : all_buffers env.pools * widest env.pools ≤ 65535 * 4096 = mul-le-mul k.mbufs (widest_small env.pools k.pools_fit) in

@@ -16,7 +16,7 @@ loop-port-preserved g c =
     let i = c.self.inside in
     let e = c.args.self.now in
     let n = c.loop-port.port in
-    let all = has_all i.plan i.machine i.memory i.turns i.tallies i.left c.self.invariant e c.self.view_is in
+    let all = has_all i.context i.machine i.memory i.turns i.tallies i.left c.self.invariant e c.self.view_is in
     let env = c.ports-ports.ensures ∙ ap (λ (x : Environment). x.ports) c.env.ensures.same ∙ ap (λ (x : EngineState). x.setting.env.ports) c.self.view_is in
     let (packets, there) = get_within e.world.outboxes n (omega (arith, c.loop-port-test.true, all.ports, ap length env)) in
     let now = ap (λ (x : EngineState). slice_get x.world.outboxes n) c.loop-port.invariant ∙ emptied_at n e.world.outboxes ∙ there in
@@ -27,6 +27,6 @@ pub returns : goal.returns
 returns g c =
     let i = c.self.inside in
     let e = c.args.self.now in
-    let all = has_all i.plan i.machine i.memory i.turns i.tallies i.left c.self.invariant e c.self.view_is in
+    let all = has_all i.context i.machine i.memory i.turns i.tallies i.left c.self.invariant e c.self.view_is in
     let env = c.ports-ports.ensures ∙ ap (λ (x : Environment). x.ports) c.env.ensures.same ∙ ap (λ (x : EngineState). x.setting.env.ports) c.self.view_is in
     c.loop-port.invariant ∙ drained_all c.loop-port.port e (omega (arith, c.loop-port-test.false, all.ports, ap length env))

@@ -10,13 +10,13 @@ small : (g : _) (c : After-queued g) → c.args.port < 8
 small g c =
     let e = c.self.inside in
     let long = ap (λ (x : EngineState). length x.setting.env.ports) c.self.view_is in
-    port_within e.plan e.machine e.memory e.turns e.tallies e.left c.self.invariant c.args.port (omega (arith, c.requires, long))
+    port_within e.context e.machine e.memory e.turns e.tallies e.left c.self.invariant c.args.port (omega (arith, c.requires, long))
 
 pub overflow_add-self : goal.overflow_add-self
 overflow_add-self g c =
     let e = c.self.inside in
     let (packets, box, count) = c.queued.ensures.list in
-    let few = sent_fits e.plan e.machine e.memory e.turns e.tallies e.left c.self.invariant c.args.port c.queued.result packets
+    let few = sent_fits e.context e.machine e.memory e.turns e.tallies e.left c.self.invariant c.args.port c.queued.result packets
     (small g (goal.at.overflow_add-self g c).After-queued) box (omega (arith, count)) in
     rw c.from-2.ensures (omega (arith, c.from.ensures, few))
 
@@ -24,5 +24,5 @@ pub invariant_of-self : goal.invariant_of-self
 invariant_of-self g c =
     let e = c.self.inside in
     let (packets, box, count) = c.queued.ensures.list in
-    rw (c.clear.ensures, c.from-2.ensures, c.from.ensures) (sent_kept e.plan e.machine e.memory e.turns e.tallies e.left c.self.invariant
+    rw (c.clear.ensures, c.from-2.ensures, c.from.ensures) (sent_kept e.context e.machine e.memory e.turns e.tallies e.left c.self.invariant
     c.args.port c.queued.result packets (small g (goal.at.invariant_of-self g c).After-queued) box (omega (arith, count)))

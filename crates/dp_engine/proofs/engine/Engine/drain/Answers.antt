@@ -13,16 +13,16 @@ its_list : (g : _) (c : After-drain_list g)
 its_list g c =
     let e = c.self.inside in
     let long = ap (λ (x : EngineState). length x.setting.env.ports) c.self.view_is in
-    let here : c.args.port < length e.plan.setting.env.ports = omega (arith, c.requires.exists, long) in (
-      port_within e.plan e.machine e.memory e.turns e.tallies e.left c.self.invariant c.args.port here,
-      box_at e.plan e.machine e.memory e.turns e.tallies e.left c.self.invariant c.args.port here,
+    let here : c.args.port < length e.context.setting.env.ports = omega (arith, c.requires.exists, long) in (
+      port_within e.context e.machine e.memory e.turns e.tallies e.left c.self.invariant c.args.port here,
+      box_at e.context e.machine e.memory e.turns e.tallies e.left c.self.invariant c.args.port here,
     )
 
 pub overflow_add-self : goal.overflow_add-self
 overflow_add-self g c =
     let e = c.self.inside in
     let (lt, (packets, box)) = its_list g (goal.at.overflow_add-self g c).After-drain_list in
-    let few = sent_fits e.plan e.machine e.memory e.turns e.tallies e.left c.self.invariant c.args.port c.in-Ok.sent packets lt box
+    let few = sent_fits e.context e.machine e.memory e.turns e.tallies e.left c.self.invariant c.args.port c.in-Ok.sent packets lt box
     (c.in-Ok.ensures.most packets box) in
     rw c.from-in-Ok.ensures (omega (arith, c.from.ensures, few))
 
@@ -30,7 +30,7 @@ pub overflow_add-self-in-Err : goal.overflow_add-self-in-Err
 overflow_add-self-in-Err g c =
     let e = c.self.inside in
     let (lt, (packets, box)) = its_list g (goal.at.overflow_add-self-in-Err g c).After-drain_list in
-    let few = sent_fits e.plan e.machine e.memory e.turns e.tallies e.left c.self.invariant c.args.port c.in-Err.sent packets lt box
+    let few = sent_fits e.context e.machine e.memory e.turns e.tallies e.left c.self.invariant c.args.port c.in-Err.sent packets lt box
     (c.in-Err.ensures.most packets box) in
     rw c.from-in-Err-2.ensures (omega (arith, c.from-in-Err.ensures, few))
 
@@ -38,12 +38,12 @@ pub invariant_of-self : goal.invariant_of-self
 invariant_of-self g c =
     let e = c.self.inside in
     let (lt, (packets, box)) = its_list g (goal.at.invariant_of-self g c).After-drain_list in
-    rw (c.drain_list.ensures.empty, c.from.ensures, c.from-in-Ok.ensures) (sent_kept e.plan e.machine e.memory e.turns e.tallies e.left c.self.invariant
+    rw (c.drain_list.ensures.empty, c.from.ensures, c.from-in-Ok.ensures) (sent_kept e.context e.machine e.memory e.turns e.tallies e.left c.self.invariant
     c.args.port c.in-Ok.sent packets lt box (c.in-Ok.ensures.most packets box))
 
 pub invariant_of-self-in-Err : goal.invariant_of-self-in-Err
 invariant_of-self-in-Err g c =
     let e = c.self.inside in
     let (lt, (packets, box)) = its_list g (goal.at.invariant_of-self-in-Err g c).After-drain_list in
-    rw (c.drain_list.ensures.empty, c.from-in-Err.ensures, c.from-in-Err-2.ensures) (sent_kept e.plan e.machine e.memory e.turns e.tallies e.left
+    rw (c.drain_list.ensures.empty, c.from-in-Err.ensures, c.from-in-Err-2.ensures) (sent_kept e.context e.machine e.memory e.turns e.tallies e.left
     c.self.invariant c.args.port c.in-Err.sent packets lt box (c.in-Err.ensures.most packets box))

@@ -7,9 +7,9 @@ pub invariant_of-self : goal.invariant_of-self
 invariant_of-self g c =
     let e = c.self.inside in
     let long = ap (λ (x : EngineState). length x.setting.env.ports) c.self.view_is in
-    rw c.clear.ensures (dropped_kept e.plan e.machine e.memory e.turns e.tallies e.left c.args.port c.self.invariant (omega (arith, c.requires, long)))
+    rw c.clear.ensures (dropped_kept e.context e.machine e.memory e.turns e.tallies e.left c.args.port c.self.invariant (omega (arith, c.requires, long)))
 
 pub returns : goal.returns
 returns g c =
     let e = c.self.inside in
-    drops e.plan e.machine c.clear.new.self e.memory e.turns e.tallies e.left c.args.self.now c.args.port c.self.view_is c.clear.ensures
+    drops e.context e.machine c.clear.new.self e.memory e.turns e.tallies e.left c.args.self.now c.args.port c.self.view_is c.clear.ensures

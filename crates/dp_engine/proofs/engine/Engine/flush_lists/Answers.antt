@@ -14,6 +14,6 @@ pub returns : goal.returns
 returns g c =
     let i = c.self.inside in
     let e = c.args.self.now in
-    let all = has_all i.plan i.machine i.memory i.turns i.tallies i.left c.self.invariant e c.self.view_is in
+    let all = has_all i.context i.machine i.memory i.turns i.tallies i.left c.self.invariant e c.self.view_is in
     let env = c.ports-ports.ensures ∙ ap (λ (x : Environment). x.ports) c.env.ensures.same ∙ ap (λ (x : EngineState). x.setting.env.ports) c.self.view_is in
     c.loop-port.invariant ∙ all_dropped c.loop-port.port e (omega (arith, c.loop-port-test.false, all.ports, ap length env))

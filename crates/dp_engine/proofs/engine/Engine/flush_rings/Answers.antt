@@ -8,7 +8,7 @@ pub loop-ring-preserved : goal.loop-ring-preserved
 loop-ring-preserved g c =
     let i = c.self.inside in
     let e = c.args.self.now in
-    let all = has_all i.plan i.machine i.memory i.turns i.tallies i.left c.self.invariant e c.self.view_is in
+    let all = has_all i.context i.machine i.memory i.turns i.tallies i.left c.self.invariant e c.self.view_is in
     let env = c.rings-rings.ensures ∙ ap (λ (x : Environment). x.rings) c.env.ensures.same ∙ ap (λ (x : EngineState). x.setting.env.rings) c.self.view_is in
     let lt : c.loop-ring.ring < length e.world.rings = omega (arith, c.loop-ring-test.true, all.rings, ap length env) in
     c.leave.ensures ∙ ap (left_at c.loop-ring.ring) c.loop-ring.invariant ∙ left_next c.loop-ring.ring e lt ∙ ap (λ n. left_to n e)
@@ -18,6 +18,6 @@ pub returns : goal.returns
 returns g c =
     let i = c.self.inside in
     let e = c.args.self.now in
-    let all = has_all i.plan i.machine i.memory i.turns i.tallies i.left c.self.invariant e c.self.view_is in
+    let all = has_all i.context i.machine i.memory i.turns i.tallies i.left c.self.invariant e c.self.view_is in
     let env = c.rings-rings.ensures ∙ ap (λ (x : Environment). x.rings) c.env.ensures.same ∙ ap (λ (x : EngineState). x.setting.env.rings) c.self.view_is in
     c.loop-ring.invariant ∙ all_left c.loop-ring.ring e (omega (arith, c.loop-ring-test.false, all.rings, ap length env))

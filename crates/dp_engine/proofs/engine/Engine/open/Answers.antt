@@ -30,10 +30,10 @@ invariant_of-result g c =
     let core : c.over-machine.result ≡ first_core c.over-mbufs.result (rings_in parts.rings) (rings_in parts.lists) =
     c.over-machine.ensures ∙ (ap (λ (rs : List RingView). first_core c.over-mbufs.result rs c.over-2.result) c.over.ensures ∙ ap
     (λ (ls : List RingView). first_core c.over-mbufs.result (rings_in parts.rings) ls) c.over-2.ensures) in
-    let env : c.new-plan.result.setting.env ≡ c.args.env.now = ap (λ (s : Scheme). s.setting.env) c.new-plan.ensures.plan in
-    subst (λ (core : Core). IsEngine c.new-plan.result core c.in-Ok.opened.0 0 (replicate 8 no_tallies) (replicate 8 0)) (sym core)
+    let env : c.new-context.result.setting.env ≡ c.args.env.now = ap (λ (s : Scheme). s.setting.env) c.new-context.ensures.context in
+    subst (λ (core : Core). IsEngine c.new-context.result core c.in-Ok.opened.0 0 (replicate 8 no_tallies) (replicate 8 0)) (sym core)
     (engine_first c.args.region.home (length c.args.region.bytes) c.args.env.now c.in-Ok.opened.0 parts c.over-mbufs.result c.in-Ok.ensures.opened
-    c.over-mbufs.ensures c.is_well_formed.ensures.world c.new-plan.result env c.new-plan.ensures.pipeline.limits c.new-plan.ensures.tables)
+    c.over-mbufs.ensures c.is_well_formed.ensures.world c.new-context.result env c.new-context.ensures.pipeline.limits c.new-context.ensures.tables)
 
 pub returns-clause-opened : goal.returns-clause-opened
 returns-clause-opened g c =
@@ -42,11 +42,11 @@ returns-clause-opened g c =
     let core : c.over-machine.result ≡ first =
     c.over-machine.ensures ∙ (ap (λ (rs : List RingView). first_core c.over-mbufs.result rs c.over-2.result) c.over.ensures ∙ ap
     (λ (ls : List RingView). first_core c.over-mbufs.result (rings_in parts.rings) ls) c.over-2.ensures) in
-    let plan : c.new-plan.result ≡ scheme_of c.args.env.now c.args.tables.items c.args.nodes.items [] =
-    c.new-plan.ensures.plan in
+    let context : c.new-context.result ≡ scheme_of c.args.env.now c.args.tables.items c.args.nodes.items [] =
+    c.new-context.ensures.context in
     let Opened : Scheme → Core → Type 0 = λ s core. IsOpened c.args.region.home (length c.args.region.bytes) c.args.env.now c.args.tables.items
     c.args.nodes.items (engine_of s core c.in-Ok.opened.0 0 (replicate 8 no_tallies) (replicate 8 0)) in
-    subst (λ (core : Core). Opened c.new-plan.result core) (sym core)
-    (subst (λ (s : Scheme). Opened s first) (sym plan)
+    subst (λ (core : Core). Opened c.new-context.result core) (sym core)
+    (subst (λ (s : Scheme). Opened s first) (sym context)
     (is_opened c.args.region.home (length c.args.region.bytes) c.args.env.now c.in-Ok.opened.0 parts c.over-mbufs.result c.in-Ok.ensures.opened
     c.over-mbufs.ensures c.is_well_formed.ensures.world c.args.tables.items c.args.nodes.items))

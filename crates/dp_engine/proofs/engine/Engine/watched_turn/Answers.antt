@@ -15,7 +15,7 @@ use Rattle.dp_engine.proofs.engine.Engine.watched_turn.Goals.{After-arrive-outco
 -- the port is one of eight
 small : (g : _) (c : After-arrive-outcome g) → c.args.port < 8
 small g c =
-    port_small c.self.inside.plan c.args.port c.arrive-outcome.ensures.pipeline
+    port_small c.self.inside.context c.args.port c.arrive-outcome.ensures.pipeline
     (subst (λ (v : EngineState). c.args.port < length v.setting.env.ports) (sym c.self.view_is) c.requires.exists)
 
 -- there can be one more turn
@@ -38,8 +38,8 @@ invariant_of-self g c =
     let m2 = c.serve-served.new.m in
     let a = c.arrive-outcome.ensures in
     let r = c.serve-served.ensures in
-    subst (λ (tallies : List Tallies). IsEngine engine.plan m2 engine.memory (engine.turns + 1) tallies engine.left) (sym c.count.ensures)
-    (turned engine.plan engine.machine m2 engine.memory engine.turns engine.tallies engine.left c.args.port (outcome_of c.arrive-outcome.result.0)
+    subst (λ (tallies : List Tallies). IsEngine engine.context m2 engine.memory (engine.turns + 1) tallies engine.left) (sym c.count.ensures)
+    (turned engine.context engine.machine m2 engine.memory engine.turns engine.tallies engine.left c.args.port (outcome_of c.arrive-outcome.result.0)
     c.self.invariant (few g here) (small g here) r.rests (r.frames ∙ a.frames) (omega (arith, a.calls, r.calls))
     (omega (arith, a.took.cuts_are, a.few_cuts, r.took.cuts_are, r.few_cuts)) (omega (arith, a.packets, r.packets)))
 
@@ -50,14 +50,14 @@ returns-clause-taken g c =
     let more = c.serve-served.result.runs in
     let (answers, turn) = subst (λ (v : EngineState). (answers : List Bool) × IsTurn v.setting v.nodes c.args.port c.args.bytes.now v.world outcome
     (c.runs_of.result + more) answers m2.state.world) c.self.view_is
-    (turn_is c.self.inside.plan c.args.port c.args.bytes.now c.self.inside.machine.state.world c.arrive-outcome.new.m.state.world m2.state.world outcome
+    (turn_is c.self.inside.context c.args.port c.args.bytes.now c.self.inside.machine.state.world c.arrive-outcome.new.m.state.world m2.state.world outcome
     more (c.runs_of.result + more)
     (ap (λ n. n + more) c.runs_of.ensures.value) c.arrive-outcome.ensures.arrives c.serve-served.ensures.serves) in
     record {
       turn = (answers, turn);
       never_stuck = subst (λ (v : EngineState). (b : Beginning) → IsOfTurn v.setting v.nodes c.args.port c.args.bytes.now v.world b
           → NeverStuck v.setting b.program b.packet b.number b.world) c.self.view_is
-          (λ b of. safe_never_stuck c.self.inside.plan.setting b
+          (λ b of. safe_never_stuck c.self.inside.context.setting b
           (c.arrive-outcome.ensures.safe.turn_runs c.args.port c.args.bytes.now c.self.inside.machine.state.world b c.self.invariant.rests.rest of));
       took = search rules;
       few = search rules;
@@ -73,7 +73,7 @@ returns-clause-taken g c =
 
 pub returns-clause-watched : goal.returns-clause-watched
 returns-clause-watched g c =
-    let p = c.self.inside.plan in
+    let p = c.self.inside.context in
     let outcome = outcome_of c.arrive-outcome.result.0 in
     let more = c.serve-served.result.runs in
     subst (λ

@@ -7,7 +7,7 @@ use Rattle.dp_model.specs.Rules.{Question}
 use Rattle.dp_model.specs.Laws.Lists.{all_join}
 use Rattle.dp_engine.specs.Schemes.{programs_of}
 use Rattle.dp_engine.proofs.Parting.{port_more, ring_more}
-use Rattle.dp_engine.proofs.plan.parted.Goals as goal
+use Rattle.dp_engine.proofs.context.parted.Goals as goal
 
 pub loop-node-preserved-then-len-ports : goal.loop-node-preserved-then-len-ports
 loop-node-preserved-then-len-ports g c =

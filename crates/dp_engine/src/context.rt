@@ -22,7 +22,7 @@ type Programs<K> = ArrayVec<Node<K>, 8, Global>;
 
 /// What node runs need and never change.
 #[derive(Drop)]
-pub(crate) struct Plan<K: Known> {
+pub(crate) struct Context<K: Known> {
     env: Env,
     tables: Tables,
     ports: Programs<K>,
@@ -30,14 +30,14 @@ pub(crate) struct Plan<K: Known> {
     pattern: Vec<u64>,
 }
 
-impl<K: Known> Model for Plan<K> {
-    ghost use Rattle.dp_engine.specs.Schemes.{Scheme, scheme_in, IsPlan};
+impl<K: Known> Model for Context<K> {
+    ghost use Rattle.dp_engine.specs.Schemes.{Scheme, scheme_in, IsScheme};
 
     ghost Value = { Scheme };
 
     ghost view = { λ p. scheme_in p.env p.tables p.ports.items p.rings.items p.pattern.items };
 
-    ghost invariant = { λ p. IsPlan (scheme_in p.env p.tables p.ports.items p.rings.items p.pattern.items) };
+    ghost invariant = { λ p. IsScheme (scheme_in p.env p.tables p.ports.items p.rings.items p.pattern.items) };
 }
 
 // Splits the programs into those of the ports, which come first, and those of the rings.
@@ -62,19 +62,19 @@ fn parted<K: Known>(nodes: Vec<Checked>, ports: usize) -> (Programs<K>, Programs
     (of_ports, of_rings)
 }
 
-impl<K: Known> Plan<K> {
-    // A plan in which no call is refused.
-    pub(crate) fn new(env: &Env, tables: Vec<Lpm>, nodes: Vec<Checked>) -> Plan<K>
+impl<K: Known> Context<K> {
+    // A context in which no call is refused.
+    pub(crate) fn new(env: &Env, tables: Vec<Lpm>, nodes: Vec<Checked>) -> Context<K>
         requires tables { length tables.items ≡ env.now.tables }
         requires nodes { AreNodes env.now nodes.items }
-        ensures plan { result ≡ scheme_of env.now tables.items nodes.items [] }
+        ensures context { result ≡ scheme_of env.now tables.items nodes.items [] }
         ensures pipeline { IsPipeline result.setting result.nodes }
         ensures tables { TablesFit result.setting }
     {
         let env = env.copy();
         let pattern = Vec::new(*nodes.allocator());
         let (ports, rings) = parted(nodes, env.ports().len());
-        Plan {
+        Context {
             env,
             tables: Tables::of(tables),
             ports,
@@ -90,7 +90,7 @@ impl<K: Known> Plan<K> {
         self.pattern = pattern;
     }
 
-    // The environment. The contract of this call says what holds of every plan.
+    // The environment. The contract of this call says what holds of every context.
     pub(crate) fn env(&self) -> &Env
         ensures same { result.now ≡ self.now.setting.env }
         ensures pipeline { IsPipeline self.now.setting self.now.nodes }

@@ -1,10 +1,10 @@
--- A new plan: that it is one is derived once.
+-- A new context: that it is one is derived once.
 use Rattle.std.proofs.Common.{[], length, ◌∙◌, ap}
 use Rattle.dp_model.specs.Laws.Lists.{each_at}
 use Rattle.dp_lpm.specs.Routes.{HasSmallHops}
 use Rattle.dp_check.specs.Faults.{IsChecked}
 use Rattle.dp_engine.specs.Laws.{plan_of}
-use Rattle.dp_engine.proofs.plan.Plan.new.Goals as goal
+use Rattle.dp_engine.proofs.context.Context.new.Goals as goal
 
 pub invariant_of-result : goal.invariant_of-result
 invariant_of-result g c =

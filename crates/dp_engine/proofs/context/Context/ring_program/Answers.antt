@@ -1,8 +1,8 @@
--- What a plan keeps for a ring is a program.
+-- What a context keeps for a ring is a program.
 use Rattle.std.proofs.Common.{◌<◌, length, ap, arith}
 use Rattle.dp_lang.specs.Programs.{IsProgram}
 use Rattle.dp_engine.specs.Schemes.{Scheme}
-use Rattle.dp_engine.proofs.plan.Plan.ring_program.Goals as goal
+use Rattle.dp_engine.proofs.context.Context.ring_program.Goals as goal
 use Rattle.dp_engine.proofs.Filled.{all_at}
 
 pub returns-clause-program : goal.returns-clause-program
