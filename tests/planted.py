@@ -361,6 +361,8 @@ def try_crate(crate: Crate, edits: list[Edit], is_alone: bool) -> Tally:
     tally = Tally()
     left = fit(edits, tally)
     with tempfile.TemporaryDirectory(prefix="planted-kept-") as kept:
+        if (crate.folder / "out/incremental").is_dir():
+            shutil.copytree(crate.folder / "out/incremental", kept, dirs_exist_ok=True)
         for most in () if is_alone else SHARING[:-1]:
             left = try_beside(crate, left, most, tally, kept)
     left = try_beside(crate, left, SHARING[-1], tally, None)
