@@ -5,14 +5,15 @@ use Rattle.dp_region.specs.Ownership.{Home}
 use Rattle.dp_pool.specs.Pools.{PoolZones}
 use Rattle.dp_ring.specs.Rings.{RingView}
 use Rattle.dp_lpm.specs.Routes.{RouteTable}
+use Rattle.dp_model.specs.declared.instr.Instr.{Instr}
 use Rattle.dp_model.specs.Limits.{max_ring_runs}
 use Rattle.dp_model.specs.Environments.{Environment, fault_of}
 use Rattle.dp_model.specs.Packets.{Packet}
 use Rattle.dp_model.specs.Rules.{Question}
-use Rattle.dp_model.specs.Machine.{Setting, World, jump_budget}
+use Rattle.dp_model.specs.Machine.{Setting, World}
 use Rattle.dp_model.specs.Runs as runs
 use Rattle.dp_model.specs.Runs.{Turn as IsTurn, Consumed, NeverStuck, Nodes, with_empty_outboxes, with_empty_rings, left_in_rings}
-use Rattle.dp_model.specs.Safety.{Beginning, IsOfTurn, AreShort}
+use Rattle.dp_model.specs.Safety.{Beginning, IsOfTurn, AreProgramsOf, max_steps_of}
 use Rattle.dp_model.specs.Starts.{IsStart}
 use Rattle.dp_engine.specs.declared.engine.Turn.{Turn}
 use Rattle.dp_engine.specs.declared.report.Tallies.{Tallies}
@@ -126,8 +127,8 @@ pub record TakesTurn (old new : EngineState) (port : ℕ) (bytes : List ℕ) (an
   pub never_stuck : (b : Beginning) → IsOfTurn old.setting old.nodes port bytes old.world b → NeverStuck old.setting b.program b.packet b.number b.world
   pub took : Consumed old.world new.world answer.steps answer.cuts
   pub few : answer.steps ≤ answer.runs * max_steps
-  -- each node run takes at most 257 times as many steps as the longest program has instructions
-  pub short : (most : ℕ) → AreShort most old.nodes.ports → AreShort most old.nodes.rings → answer.steps ≤ answer.runs * ((jump_budget + 1) * most)
+  -- it takes at most 257 times as many steps as the programs that ran have instructions
+  pub short : (ran : List (List Instr)) × AreProgramsOf turn.1 ran × (answer.steps ≤ max_steps_of ran)
   pub lists : length new.world.outboxes ≡ length new.setting.env.ports
   pub rest : new ≡ record old { world = new.world; turns = old.turns + 1; tallies = counted_at port (outcome_of answer.outcome) old.tallies }
 

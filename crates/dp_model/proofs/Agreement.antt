@@ -37,7 +37,7 @@ receives_again c nodes port bytes w w' b answers r run = record {
 pub serves_is : (c : Setting) (programs : List (List Instr)) (n : ℕ) (w : World) (answers : List Bool) (runs : ℕ) (w' : World) →
     Serves c programs n w answers runs w' → IsServed c programs n w runs w'
 serves_is c programs zero w answers runs w' (_, none, is) =
-    subst (λ r. IsServed c programs zero w r w') (sym none) (record { served = is; few = omega arith; why = inl refl })
+    subst (λ r. IsServed c programs zero w r w') (sym none) (record { ran = []; served = is; count = refl; few = omega arith; why = inl refl })
 serves_is c programs (suc n) w answers runs w' serves = go (first_waiting w.rings) refl serves (λ mid answers more. serves_is c programs n mid answers more w')
   where
     go : (o : Option (Waiting Packet)) → first_waiting w.rings ≡ o → MatchOption o ((answers ≡ []) × (runs ≡ 0) × (w' ≡ w)) (λ next. (program : List Instr)
@@ -47,12 +47,18 @@ serves_is c programs (suc n) w answers runs w' serves = go (first_waiting w.ring
         IsServed c programs (suc n) w runs w'
     go None e (_, none, is) on =
         subst (λ r. IsServed c programs (suc n) w r w') (sym none)
-        (record { served = is; few = omega arith; why = inr (ap (λ (x : World). first_waiting x.rings) is ∙ e) })
+        (record { ran = []; served = is; count = refl; few = omega arith; why = inr (ap (λ (x : World). first_waiting x.rings) is ∙ e) })
     go (Some next) e (program, now, later, mid, more, is_program, run, serves, _, count) on =
         let rest = on mid later more serves in
         let one_more : runs ≡ suc more = omega (arith, count) in
         subst (λ r. IsServed c programs (suc n) w r w') (sym one_more)
-        (record { served = (next, program, now, mid, e, is_program, run, rest.served); few = omega (arith, rest.few); why = either more rest.why })
+        (record {
+          ran = program ∷ rest.ran;
+          served = (next, now, mid, e, is_program, run, rest.served);
+          count = ap suc rest.count;
+          few = omega (arith, rest.few);
+          why = either more rest.why;
+        })
       where
         either : (more : ℕ) → (more ≡ n) ⊎ (first_waiting w'.rings ≡ None) → (suc more ≡ suc n) ⊎ (first_waiting w'.rings ≡ None)
         either more (inl same) = inl (ap suc same)

@@ -1,7 +1,7 @@
 -- The budget of backward jumps works as documented.
-use Rattle.std.proofs.Common.{◌≡◌, ◌⊎◌, ℕ, zero, suc, ◌+◌, ◌*◌, ◌≤◌, Bool, true, false, cond, List, [], ◌++◌, Option, Some, None, refl, sym, ap}
+use Rattle.std.proofs.Common.{◌≡◌, ◌⊎◌, ℕ, zero, suc, ◌+◌, ◌*◌, ◌≤◌, Bool, true, false, cond, List, [], ◌∷◌, ◌++◌, length, Some, refl, sym, ◌∙◌, ap}
 use Rattle.std.proofs.Common.{subst, arith}
-use Rattle.std.specs.Prelude.{slice_get, nat_lt, MatchOption}
+use Rattle.std.specs.Prelude.{slice_get, nat_lt, replicate}
 use Rattle.std.proofs.lemmas.Bool.{ltb-true}
 use Rattle.std.proofs.lemmas.Option.{slice_get_within}
 use Rattle.dp_model.specs.declared.env.PortSpec.{PortSpec}
@@ -10,11 +10,11 @@ use Rattle.dp_model.specs.Packets.{Packet}
 use Rattle.dp_model.specs.Jumps.{label_of}
 use Rattle.dp_model.specs.Machine.{Setting, World, State, Next, At, Ended, Move, Acts, Step, with_jump}
 use Rattle.dp_model.specs.Machine.{cut_off, budgeted, with_step}
-use Rattle.dp_model.specs.Runs.{Then, StepsTo, first_state, NodeRun, max_steps, ConsumedAtMost, Outcome, Got, NoBuffer, Oversize, Arrives, Waiting}
-use Rattle.dp_model.specs.Runs.{first_waiting}
-use Rattle.dp_model.specs.Runs.{Serves, Nodes, runs_of, Turn}
-use Rattle.dp_model.specs.Safety.{AreShort}
+use Rattle.dp_model.specs.Runs.{Then, StepsTo, first_state, NodeRun, max_steps, ConsumedAtMost, Outcome, Got, NoBuffer, Oversize, Arrives}
+use Rattle.dp_model.specs.Runs.{Nodes, runs_of, Turn}
+use Rattle.dp_model.specs.Safety.{HasServed, AreProgramsOf, max_steps_of, AreShort}
 use Rattle.dp_model.specs.Laws.Effects.{LeadsOn, did_of}
+use Rattle.dp_model.proofs.Agreement.{serves_is}
 use Rattle.dp_model.proofs.CountSteps.{goes_short}
 use Rattle.dp_model.specs.Laws.Steps.{acts_counts, goes_counts}
 
@@ -104,73 +104,81 @@ took_both w v w' a b x y (steps, cuts, took, le, few) (steps', cuts', took', le'
 took_more : (w w' : World) (a x b : ℕ) → a ≤ x → ConsumedAtMost w w' a b → ConsumedAtMost w w' x b
 took_more w w' a x b more (steps, cuts, took, le, few) = (steps, cuts, took, omega (arith, le, more), few)
 
-arrives_took : (c : Setting) (nodes : Nodes) (most port : ℕ) (program : List Instr) (spec : PortSpec) (bytes : List ℕ) (w w' : World) (outcome : Outcome)
-    (answers : List Bool) → AreShort most nodes.ports → slice_get nodes.ports port ≡ Some program → Arrives c program port spec bytes w outcome answers w' →
-    ConsumedAtMost w w' (runs_of outcome * (257 * most)) (runs_of outcome)
-arrives_took c nodes most port program spec bytes w w' Oversize answers short is_program (_, _, is) =
-    none_took w w' (0 * (257 * most)) (ap (λ (w : World). w.steps) is) (ap (λ (w : World). w.cuts) is)
-arrives_took c nodes most port program spec bytes w w' NoBuffer answers short is_program (_, _, _, is) =
-    none_took w w' (0 * (257 * most)) (ap (λ (w : World). w.steps) is) (ap (λ (w : World). w.cuts) is)
-arrives_took c nodes most port program spec bytes w w' Got answers short is_program r =
+-- the port's node run, if the record is received
+arrives_took : (c : Setting) (program : List Instr) (port : ℕ) (spec : PortSpec) (bytes : List ℕ) (w w' : World) (outcome : Outcome) (answers : List Bool) →
+    Arrives c program port spec bytes w outcome answers w' →
+    ConsumedAtMost w w' (max_steps_of (replicate (runs_of outcome) program)) (runs_of outcome)
+arrives_took c program port spec bytes w w' Oversize answers (_, _, is) =
+    none_took w w' 0 (ap (λ (w : World). w.steps) is) (ap (λ (w : World). w.cuts) is)
+arrives_took c program port spec bytes w w' NoBuffer answers (_, _, _, is) =
+    none_took w w' 0 (ap (λ (w : World). w.steps) is) (ap (λ (w : World). w.cuts) is)
+arrives_took c program port spec bytes w w' Got answers r =
     let (steps, cuts, took, le, few) = node_took c program r.packet port (record w { buffers = r.buffers; calls = w.calls + 1 }) w' r.later r.run in
-    (steps, cuts, record { steps_are = took.steps_are; cuts_are = took.cuts_are }, omega (arith, le, short port program is_program), few)
+    (steps, cuts, record { steps_are = took.steps_are; cuts_are = took.cuts_are }, omega (arith, le), few)
 
-serves_took : (c : Setting) (nodes : Nodes) (most n : ℕ) (w w' : World) (answers : List Bool) (runs : ℕ) → AreShort most nodes.rings →
-    Serves c nodes.rings n w answers runs w' → (runs ≤ n) × ConsumedAtMost w w' (runs * (257 * most)) runs
-serves_took c nodes most zero w w' answers runs short (_, none, is) =
-    subst (λ r. (r ≤ 0) × ConsumedAtMost w w' (r * (257 * most)) r) (sym none) (
-      omega arith,
-      none_took w w' (0 * (257 * most)) (ap (λ (w : World). w.steps) is) (ap (λ (w : World). w.cuts) is),
-    )
-serves_took c nodes most (suc n) w w' answers runs short serves = go (first_waiting w.rings) refl serves
-    (λ mid answers more. serves_took c nodes most n mid w' answers more short)
-  where
-    go : (o : Option (Waiting Packet)) → first_waiting w.rings ≡ o → MatchOption o ((answers ≡ []) × (runs ≡ 0) × (w' ≡ w)) (λ next. (program : List Instr)
-        × (now later : List Bool) × (mid : World) × (more : ℕ) × (slice_get nodes.rings next.ring ≡ Some program)
-        × NodeRun c program next.packet next.ring (record w { rings = next.rings }) now mid × Serves c nodes.rings n mid later more w'
-        × (answers ≡ now ++ later)
-        × (runs ≡ more + 1)) → ((mid : World) (answers : List Bool) (more : ℕ) → Serves c nodes.rings n mid answers more w' →
-        (more ≤ n) × ConsumedAtMost mid w' (more * (257 * most)) more) → (runs ≤ suc n) × ConsumedAtMost w w' (runs * (257 * most)) runs
-    go None e (_, none, is) on =
-        subst (λ r. (r ≤ suc n) × ConsumedAtMost w w' (r * (257 * most)) r) (sym none) (
-          omega arith,
-          none_took w w' (0 * (257 * most)) (ap (λ (w : World). w.steps) is) (ap (λ (w : World). w.cuts) is),
-        )
-    go (Some next) e (program, now, later, mid, more, is_program, run, serves, _, count) on =
-        let one_more : runs ≡ 1 + more = omega (arith, count) in
-        let (within, others) = on mid later more serves in
-        let (steps, cuts, took, le, few) = node_took c program next.packet next.ring (record w { rings = next.rings }) mid now run in
-        let first : ConsumedAtMost w mid (257 * most) 1 = (
-          steps,
-          cuts,
-          record { steps_are = took.steps_are; cuts_are = took.cuts_are },
-          omega (arith, le, short next.ring program is_program),
-          few,
-        ) in
-        subst (λ r. (r ≤ suc n) × ConsumedAtMost w w' (r * (257 * most)) r) (sym one_more) (
-          omega (arith, within),
-          took_more w w' (257 * most + more * (257 * most)) ((1 + more) * (257 * most)) (1 + more) (omega arith)
-              (took_both w mid w' (257 * most) 1 (more * (257 * most)) more first others),
-        )
+-- node runs on packets of rings
+served_took : (c : Setting) (programs ran : List (List Instr)) (w w' : World) → HasServed c programs ran w w' →
+    ConsumedAtMost w w' (max_steps_of ran) (length ran)
+served_took c programs [] w w' is = none_took w w' 0 (ap (λ (w : World). w.steps) is) (ap (λ (w : World). w.cuts) is)
+served_took c programs (program ∷ later) w w' (next, answers, mid, e, is_program, run, served) =
+    let (steps, cuts, took, le, few) = node_took c program next.packet next.ring (record w { rings = next.rings }) mid answers run in
+    let one_more : 1 + length later ≡ length (program ∷ later) = omega arith in
+    subst (ConsumedAtMost w w' (max_steps_of (program ∷ later))) one_more
+    (took_both w mid w' (max_steps program) 1 (max_steps_of later) (length later)
+    (steps, cuts, record { steps_are = took.steps_are; cuts_are = took.cuts_are }, le, few) (served_took c programs later mid w' served))
 
-pub turn_took : (c : Setting) (nodes : Nodes) (port : ℕ) (bytes : List ℕ) (w w' : World) (outcome : Outcome) (runs : ℕ) (answers : List Bool) (most : ℕ) →
-    AreShort most nodes.ports → AreShort most nodes.rings → Turn c nodes port bytes w outcome runs answers w' →
-    (runs ≤ 33) × ConsumedAtMost w w' (runs * (257 * most)) runs
-turn_took c nodes port bytes w w' outcome runs answers most ports rings t =
-    let first = arrives_took c nodes most port t.program t.spec bytes w t.mid outcome t.now ports t.program_is t.arrives in
-    let (within, others) = serves_took c nodes most 32 t.mid w' t.later t.more rings t.serves in
-    subst (λ r. (r ≤ 33) × ConsumedAtMost w w' (r * (257 * most)) r) (sym t.runs_is) (
-      few_runs outcome t.more within,
-      took_more w w' (runs_of outcome * (257 * most) + t.more * (257 * most)) ((runs_of outcome + t.more) * (257 * most)) (runs_of outcome + t.more)
-          (joins outcome t.more) (took_both w t.mid w' (runs_of outcome * (257 * most)) (runs_of outcome) (t.more * (257 * most)) t.more first others),
+-- a turn, and the programs of its node runs
+pub turn_took : (c : Setting) (nodes : Nodes) (port : ℕ) (bytes : List ℕ) (w w' : World) (outcome : Outcome) (runs : ℕ) (answers : List Bool) →
+    (t : Turn c nodes port bytes w outcome runs answers w') →
+    (runs ≤ 33) × (ran : List (List Instr)) × AreProgramsOf t ran × ConsumedAtMost w w' (max_steps_of ran) runs
+turn_took c nodes port bytes w w' outcome runs answers t =
+    let s = serves_is c nodes.rings 32 t.mid t.later t.more w' t.serves in
+    let all = counted outcome s.ran t.more s.count in
+    let first = arrives_took c t.program port t.spec bytes w t.mid outcome t.now t.arrives in
+    let others = subst (ConsumedAtMost t.mid w' (max_steps_of s.ran)) s.count (served_took c nodes.rings s.ran t.mid w' s.served) in (
+      omega (arith, few outcome t.more s.few, t.runs_is),
+      replicate (runs_of outcome) t.program ++ s.ran,
+      record { served = s.ran; has_served = s.served; ran_are = refl; count = all ∙ sym t.runs_is },
+      subst (ConsumedAtMost w w' (max_steps_of (replicate (runs_of outcome) t.program ++ s.ran))) (sym t.runs_is)
+          (took_more w w' (max_steps_of (replicate (runs_of outcome) t.program) + max_steps_of s.ran)
+          (max_steps_of (replicate (runs_of outcome) t.program ++ s.ran)) (runs_of outcome + t.more) (joins outcome s.ran)
+          (took_both w t.mid w' (max_steps_of (replicate (runs_of outcome) t.program)) (runs_of outcome) (max_steps_of s.ran) t.more first others)),
     )
   where
-    few_runs : (o : Outcome) (more : ℕ) → more ≤ 32 → runs_of o + more ≤ 33
-    few_runs Got more le = omega (arith, le)
-    few_runs NoBuffer more le = omega (arith, le)
-    few_runs Oversize more le = omega (arith, le)
+    few : (o : Outcome) (more : ℕ) → more ≤ 32 → runs_of o + more ≤ 33
+    few Got more le = omega (arith, le)
+    few NoBuffer more le = omega (arith, le)
+    few Oversize more le = omega (arith, le)
 
-    joins : (o : Outcome) (more : ℕ) → runs_of o * (257 * most) + more * (257 * most) ≤ (runs_of o + more) * (257 * most)
-    joins Got more = omega arith
-    joins NoBuffer more = omega arith
-    joins Oversize more = omega arith
+    counted : (o : Outcome) (served : List (List Instr)) (more : ℕ) → length served ≡ more →
+        length (replicate (runs_of o) t.program ++ served) ≡ runs_of o + more
+    counted Got served more e = omega (arith, e)
+    counted NoBuffer served more e = omega (arith, e)
+    counted Oversize served more e = omega (arith, e)
+
+    joins : (o : Outcome) (served : List (List Instr)) →
+        max_steps_of (replicate (runs_of o) t.program) + max_steps_of served ≤ max_steps_of (replicate (runs_of o) t.program ++ served)
+    joins Got served = omega arith
+    joins NoBuffer served = omega arith
+    joins Oversize served = omega arith
+
+-- ---- by the longest program of a pipeline
+served_short : (c : Setting) (programs : List (List Instr)) (most : ℕ) (ran : List (List Instr)) (w w' : World) → AreShort most programs →
+    HasServed c programs ran w w' → max_steps_of ran ≤ length ran * (257 * most)
+served_short c programs most [] w w' short is = omega arith
+served_short c programs most (program ∷ later) w w' short (next, answers, mid, e, is_program, run, served) =
+    omega (arith, short next.ring program is_program, served_short c programs most later mid w' short served)
+
+pub turn_short : (c : Setting) (nodes : Nodes) (port : ℕ) (bytes : List ℕ) (w w' : World) (outcome : Outcome) (runs : ℕ) (answers : List Bool) (most : ℕ)
+    (ran : List (List Instr)) (t : Turn c nodes port bytes w outcome runs answers w') → AreProgramsOf t ran → AreShort most nodes.ports →
+    AreShort most nodes.rings → max_steps_of ran ≤ runs * (257 * most)
+turn_short c nodes port bytes w w' outcome runs answers most ran t h ports rings =
+    subst (λ n. max_steps_of ran ≤ n * (257 * most)) h.count
+    (subst (λ x. max_steps_of x ≤ length x * (257 * most)) (sym h.ran_are)
+    (both outcome (served_short c nodes.rings most h.served t.mid w' rings h.has_served)))
+  where
+    both : (o : Outcome) → max_steps_of h.served ≤ length h.served * (257 * most) →
+        max_steps_of (replicate (runs_of o) t.program ++ h.served) ≤ length (replicate (runs_of o) t.program ++ h.served) * (257 * most)
+    both Got le = omega (arith, le, ports port t.program t.program_is)
+    both NoBuffer le = le
+    both Oversize le = le

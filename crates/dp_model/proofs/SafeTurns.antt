@@ -205,10 +205,11 @@ waiting_safe c nodes next program w checked rest e is_program =
     safe_beginning c (Ring next.ring) program next.packet next.ring (record w { rings = next.rings }) node
     (waiting_begins c node.question next w (checked.checked.facts next.ring) (sym node.env_is) node.entry_is e rest)
 
-pub served_rest : (c : Setting) (nodes : Nodes) (n : ℕ) (w w' : World) → IsPipeline c nodes → IsAtRest c w → HasServed c nodes.rings n w w' → IsAtRest c w'
-served_rest c nodes zero w w' checked rest is = subst (IsAtRest c) (sym is) rest
-served_rest c nodes (suc n) w w' checked rest (next, program, answers, mid, e, is_program, run, served) =
-    served_rest c nodes n mid w' checked
+pub served_rest : (c : Setting) (nodes : Nodes) (ran : List (List Instr)) (w w' : World) → IsPipeline c nodes → IsAtRest c w →
+    HasServed c nodes.rings ran w w' → IsAtRest c w'
+served_rest c nodes [] w w' checked rest is = subst (IsAtRest c) (sym is) rest
+served_rest c nodes (program ∷ later) w w' checked rest (next, answers, mid, e, is_program, run, served) =
+    served_rest c nodes later mid w' checked
     (safe_rests c (record { entry = Ring next.ring; program = program; packet = next.packet; number = next.ring; world = record w { rings = next.rings } })
     answers mid (waiting_safe c nodes next program w checked rest e is_program) run)
     served

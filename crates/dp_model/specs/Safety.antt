@@ -1,5 +1,6 @@
 -- What is promised of the node runs, turns and whole runs of checked nodes.
-use Rattle.std.specs.Prelude.{◌≡◌, ◌⊎◌, ℕ, zero, suc, ◌+◌, ◌<◌, ◌≤◌, Bool, false, nat_lt, if◌then◌else◌, List, ◌∷◌, ◌++◌, length, Option, Some, None, slice_get}
+use Rattle.std.specs.Prelude.{◌≡◌, ◌⊎◌, ℕ, ◌+◌, ◌<◌, ◌≤◌, Bool, false, nat_lt, if◌then◌else◌, List, [], ◌∷◌, ◌++◌, length, replicate}
+use Rattle.std.specs.Prelude.{Option, Some, None, slice_get}
 use Rattle.std.specs.List.{AllByRecursion, AllZip}
 use Rattle.dp_model.specs.declared.env.Entry.{Entry}
 use Rattle.dp_model.specs.declared.env.Entry.TheVariants.{Port, Ring}
@@ -15,7 +16,7 @@ use Rattle.dp_model.specs.Rules.{Question, IsCertified}
 use Rattle.dp_model.specs.Machine.{Setting, World, State, live, Next, At, Move, Acts, IsLabel, Step, with_step, is_denied}
 use Rattle.dp_model.specs.Meaning.{RowHolds, RingHolds}
 use Rattle.dp_model.specs.Runs.{StepsTo, first_state, NodeRun, max_steps, NeverStuck, between, Outcome, Got, NoBuffer, Oversize, Arrives, Waiting}
-use Rattle.dp_model.specs.Runs.{first_waiting, Nodes, Turn, Arrival, Observed, Run}
+use Rattle.dp_model.specs.Runs.{first_waiting, Nodes, runs_of, Turn, Arrival, Observed, Run}
 use Rattle.dp_model.specs.Laws.{RowHoldsAt, Ready, Begins, AreChecked}
 
 -- ---- packets
@@ -103,17 +104,19 @@ pub record IsOfRecord (setting : Setting) (nodes : Nodes) (port : ℕ) (bytes : 
     world = record w { buffers = buffers; calls = w.calls + 1 };
   }
 
--- n whole node runs, in sequence, on packets that wait in rings
-abbrev pub HasServed : Setting → List (List Instr) → ℕ → World → World → Type 0
-HasServed setting programs zero w w' = w' ≡ w
-HasServed setting programs (suc n) w w' =
-    (next : Waiting Packet) × (program : List Instr) × (answers : List Bool) × (mid : World)
+-- whole node runs of these programs, in sequence, on packets that wait in rings
+abbrev pub HasServed : Setting → List (List Instr) → List (List Instr) → World → World → Type 0
+HasServed setting programs [] w w' = w' ≡ w
+HasServed setting programs (program ∷ later) w w' =
+    (next : Waiting Packet) × (answers : List Bool) × (mid : World)
     × (first_waiting w.rings ≡ Some next) × (slice_get programs next.ring ≡ Some program)
-    × NodeRun setting program next.packet next.ring (record w { rings = next.rings }) answers mid × HasServed setting programs n mid w'
+    × NodeRun setting program next.packet next.ring (record w { rings = next.rings }) answers mid × HasServed setting programs later mid w'
 
 -- rings are served until none has a packet, or n times
 pub record IsServed (setting : Setting) (programs : List (List Instr)) (n : ℕ) (w : World) (runs : ℕ) (w' : World) : Type 0 where
-  pub served : HasServed setting programs runs w w'
+  pub ran : List (List Instr)
+  pub served : HasServed setting programs ran w w'
+  pub count : length ran ≡ runs
   pub few : runs ≤ n
   pub why : (runs ≡ n) ⊎ (first_waiting w'.rings ≡ None)
 
@@ -127,8 +130,8 @@ pub record IsOfRing (setting : Setting) (nodes : Nodes) (port : ℕ) (bytes : Li
   pub answers : List Bool
   pub mid : World
   pub arrives : Arrives setting own port spec bytes w outcome answers mid
-  pub served : ℕ
-  pub few : served < max_ring_runs
+  pub served : List (List Instr)
+  pub few : length served < max_ring_runs
   pub last : World
   pub has_served : HasServed setting nodes.rings served mid last
   pub next : Waiting Packet
@@ -211,6 +214,19 @@ pub record KeepsSafe (setting : Setting) (nodes : Nodes) : Type 0 where
 -- no program has more instructions than this
 abbrev pub AreShort : ℕ → List (List Instr) → Type 0
 AreShort most programs = (i : ℕ) (program : List Instr) → slice_get programs i ≡ Some program → length program ≤ most
+
+-- the programs of a turn's node runs, in order: the port's, if the record is received, and then those of the rings
+pub record AreProgramsOf {setting : Setting} {nodes : Nodes} {port : ℕ} {bytes : List ℕ} {w : World} {outcome : Outcome} {runs : ℕ} {answers : List Bool}
+    {w' : World} (turn : Turn setting nodes port bytes w outcome runs answers w') (ran : List (List Instr)) : Type 0 where
+  pub served : List (List Instr)
+  pub has_served : HasServed setting nodes.rings served turn.mid w'
+  pub ran_are : ran ≡ replicate (runs_of outcome) turn.program ++ served
+  pub count : length ran ≡ runs
+
+-- the maximum number of steps of node runs of these programs together
+abbrev pub max_steps_of : List (List Instr) → ℕ
+max_steps_of [] = 0
+max_steps_of (program ∷ programs) = max_steps program + max_steps_of programs
 
 -- a record can come: its port exists, and it consists of bytes
 pub record CanArrive {T : Type 0} (setting : Setting) (a : Arrival T) : Type 0 where

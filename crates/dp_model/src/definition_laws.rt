@@ -15,7 +15,7 @@ ghost use Rattle.dp_model.specs.Packets.{stored, loaded};
 ghost use Rattle.dp_model.specs.Prefixes.{Route, IsTable, LooksUp, hop_for};
 ghost use Rattle.dp_model.specs.Runs.{StepsTo, first_state, NodeRun, max_steps, ConsumedAtMost, Receives, Serves, Nodes, Outcome, Turn, Arrival};
 ghost use Rattle.dp_model.specs.Runs.{Observed, WholeRun, between, with_empty_outboxes, with_empty_rings, of_port, interleaved};
-ghost use Rattle.dp_model.specs.Safety.{ArePackets, IsAtRest, Beginning, IsOfRecord, IsServed, AreShort};
+ghost use Rattle.dp_model.specs.Safety.{ArePackets, IsAtRest, Beginning, IsOfRecord, IsServed, AreShort, AreProgramsOf, max_steps_of};
 ghost use Rattle.dp_model.specs.Starts.{IsStart};
 ghost use Rattle.dp_model.specs.declared.env.PoolSpec.{PoolSpec};
 ghost use Rattle.dp_model.specs.declared.instr.Instr.{Instr};
@@ -78,7 +78,8 @@ pub fn whole_runs_end_with_whole_pools<T>()
 
 /// The budget of backward jumps works as documented, for every program, accepted or not. After an instruction comes the next label, or the label that
 /// it names: so only a jump that is taken leads backward. A cut frees register by register, p0 first. A node run takes at most 256 backward jumps,
-/// and at most 257 times as many steps as its program has instructions; only its last step can cut it. A turn has at most 33 node runs.
+/// and at most 257 times as many steps as its program has instructions; only its last step can cut it. A turn has at most 33 node runs, and takes at
+/// most 257 times as many steps as the programs that ran have instructions.
 pub fn budgets_are_as_they_read()
     ensures jumps { (c : Setting) (label to : ℕ) (s : State) (i : Instr) (m : Move) → Acts c label s i m → m.next ≡ At to →
         (to ≡ label + 1) ⊎ (label_of i ≡ Some to) }
@@ -90,7 +91,10 @@ pub fn budgets_are_as_they_read()
         (s.jumps ≤ jump_budget) × (s.world.steps ≡ w.steps + n) × (s.world.cuts ≡ w.cuts) }
     ensures node_runs { (c : Setting) (program : List Instr) (k : Packet) (number : ℕ) (w w' : World) (answers : List Bool) →
         NodeRun c program k number w answers w' → ConsumedAtMost w w' (max_steps program) 1 }
-    ensures turns { (c : Setting) (nodes : Nodes) (port : ℕ) (bytes : List ℕ) (w w' : World) (outcome : Outcome) (runs : ℕ) (answers : List Bool) (most : ℕ) →
-        AreShort most nodes.ports → AreShort most nodes.rings → Turn c nodes port bytes w outcome runs answers w' →
-        (runs ≤ max_ring_runs + 1) × ConsumedAtMost w w' (runs * ((jump_budget + 1) * most)) runs }
+    ensures turns { (c : Setting) (nodes : Nodes) (port : ℕ) (bytes : List ℕ) (w w' : World) (outcome : Outcome) (runs : ℕ) (answers : List Bool) →
+        (t : Turn c nodes port bytes w outcome runs answers w') →
+        (runs ≤ max_ring_runs + 1) × (ran : List (List Instr)) × AreProgramsOf t ran × ConsumedAtMost w w' (max_steps_of ran) runs }
+    ensures longest { (c : Setting) (nodes : Nodes) (port : ℕ) (bytes : List ℕ) (w w' : World) (outcome : Outcome) (runs : ℕ) (answers : List Bool) (most : ℕ)
+        (ran : List (List Instr)) (t : Turn c nodes port bytes w outcome runs answers w') → AreProgramsOf t ran → AreShort most nodes.ports →
+        AreShort most nodes.rings → max_steps_of ran ≤ runs * ((jump_budget + 1) * most) }
 {}

@@ -61,12 +61,12 @@ returns-clause-taken g c =
           (c.arrive-outcome.ensures.safe.turn_runs c.args.port c.args.bytes.now c.self.inside.machine.state.world b c.self.invariant.rests.rest of));
       took = search rules;
       few = search rules;
-      short = λ most ports rings.
+      short =
           let took : Consumed c.args.self.now.world m2.state.world (c.arrive-outcome.result.1.steps + c.serve-served.result.steps)
           (c.arrive-outcome.result.1.cuts + c.serve-served.result.cuts) = search rules in
-          let (few, (steps, cuts, were, least, cut)) = c.budgets_are_as_they_read.ensures.turns c.args.self.now.setting c.args.self.now.nodes c.args.port
-          c.args.bytes.now c.args.self.now.world m2.state.world outcome (c.runs_of.result + more) answers most ports rings turn in
-          omega (arith, took.steps_are, were.steps_are, least);
+          let (few, ran, those, (steps, cuts, were, least, cut)) = c.budgets_are_as_they_read.ensures.turns c.args.self.now.setting c.args.self.now.nodes
+          c.args.port c.args.bytes.now c.args.self.now.world m2.state.world outcome (c.runs_of.result + more) answers turn in
+          (ran, those, omega (arith, took.steps_are, were.steps_are, least));
       lists = c.serve-served.ensures.rests.rest.ready.world.outboxes;
       rest = search rules;
     }
