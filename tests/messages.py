@@ -280,7 +280,7 @@ def drops() -> Iterator[Case]:
     yield Case(["one", "strip.dpv", "strip.cert", "snapped.pcap", "out"], 0, snap)
 
 
-def nothing_told() -> Iterator[Case]:
+def nothing_reported() -> Iterator[Case]:
     """Runs without messages; devices are not emptied."""
     yield Case(["one", "strip.dpv", "strip.cert", "in.pcap", "out"], 0, "")
     yield Case(["one", "strip.dpv", "strip.cert", "in.pcap", "/dev/null"], 0, "")
@@ -378,11 +378,11 @@ def main() -> int:
         folder.mkdir()
         make_files(folder)
         make_more(folder)
-        kinds = (files, captures, links, unfit, full_disks, pipelines, same_files, no_text, traces, progress, drops, nothing_told)
+        kinds = (files, captures, links, unfit, full_disks, pipelines, same_files, no_text, traces, progress, drops, nothing_reported)
         passed = [ends_so(program, case, folder) for kind in kinds for case in kind()]
         passed.append(goes_on(program, folder))
         passed += as_nobody(program, folder)
-    print(f"reported: {len(passed)} cases, {passed.count(False)} went another way")
+    print(f"messages: {len(passed)} cases, {passed.count(False)} went another way")
     return 0 if all(passed) else 1
 
 

@@ -414,7 +414,7 @@ def first_faults() -> list[Fault]:
     ]
 
 
-def is_told(tried: Tried, fault: Fault) -> bool:
+def is_reported(tried: Tried, fault: Fault) -> bool:
     """Whether a run ends with this fault, and no file changes or is made."""
     (tried.folder / "case.toml").write_text(tried.text)
     before = {file.name: file.read_bytes() for file in tried.folder.iterdir()}
@@ -460,7 +460,7 @@ def main() -> int:
             passed.append(as_edited(given)(folder, program))
     with new_folder() as folder:
         tried = Tried(program, folder)
-        passed += [is_told(tried, fault) for fault in forms() + twice() + missing() + clashes() + first_faults()]
+        passed += [is_reported(tried, fault) for fault in forms() + twice() + missing() + clashes() + first_faults()]
     print(f"pipes: {len(passed)} cases, {passed.count(False)} went another way")
     return 0 if all(passed) else 1
 

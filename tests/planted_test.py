@@ -50,8 +50,8 @@ def wrongly_judged() -> int:
             said, tally = why_unfit(file), Tally()
             with contextlib.redirect_stdout(io.StringIO()) as printed:
                 tried = fit([Edit(CRATES["dp_ring"], file)], tally)
-            is_told = printed.getvalue() == f"dp_ring/it.edit: NOT TRIED: {why}\n"
-            if said != why or tried or tally.unfit != ["dp_ring/it.edit"] or not is_told:
+            is_reported = printed.getvalue() == f"dp_ring/it.edit: NOT TRIED: {why}\n"
+            if said != why or tried or tally.unfit != ["dp_ring/it.edit"] or not is_reported:
                 print(f"{text!r}: expected {why!r}, came {said!r}")
                 failed += 1
     several = HEAD + "old: a\nnew: b\nold: c\nnew:\nfile: src/lib.rt\nold: d\nnew:  e\n"

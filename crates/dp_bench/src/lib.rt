@@ -1,6 +1,9 @@
 //! The benchmarks that C programs call. Each call makes something in memory of its own, does `rounds` rounds of one operation on it, gives everything
 //! back, and returns how many rounds succeeded: 0 if there is no memory. The cost of a round is the difference between two calls with different
 //! numbers of rounds.
+//!
+//! What callers must not assume: fewer rounds than asked for is no error, where there is no room for a block, a packet or a rule. A call includes
+//! what it makes and gives back, so a single call shows no cost. Nothing is kept from one call to the next.
 #![tactic(auto)]
 
 mod blocks;

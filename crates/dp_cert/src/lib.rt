@@ -1,7 +1,13 @@
-//! Certificates: a row for each instruction of a program, with `decode` from text and `encode` back.
+//! Certificates: a row for each instruction of a program, with `decode` from text and `encode` back. docs/reference/certificate.md of the repository
+//! describes the text.
 //!
-//! A `Cert` owns its rows, each of which is well formed. `decode`, `Cert::new` and the inferrer make one; whether a program is accepted with it
-//! is for dp_check to say. docs/reference/certificate.md of the repository describes the text.
+//! Who owns what: a `Cert` owns its rows, each of which is well formed. `decode` keeps no part of the text.
+//!
+//! What to call: `decode` with the number of the program's instructions, `encode` for the one text of a certificate, `Cert::new` for rows that were
+//! inferred, `raise` for the same rows in version 2.
+//!
+//! What not to do: do not take a `Cert` for one that fits a program. A row may say anything that is well formed; whether the program is accepted with
+//! it is for dp_check to say. `Cert::new` requires well-formed rows, and tests nothing.
 #![tactic(auto)]
 
 mod cert;

@@ -1,10 +1,17 @@
 //! The checker of node programs: decides whether a program and its certificate pass the rules J1 to J11, which docs/reference/certificate.md of the
-//! repository describes. Only `check` makes a `Checked`, and only a `Checked` reaches an engine, so the engine need not test what the rules
-//! establish. `diagnose` says why a program is refused. Nothing here takes memory, and each instruction is visited once.
+//! repository describes. Nothing here takes memory, and each instruction is visited once.
 //!
-//! Where each rule is: `diagnosis.rt` has J1 and J2 and goes through the labels, `rules.rt` applies J3 to J11 to one label,
-//! `requirements.rt` has what each kind of instruction needs for J3 to J10, and `transfer.rt` where it leads and which facts hold there.
-//! The definitions are in dp_model, `specs/Rules.antt` and `specs/Rows.antt`.
+//! Who owns what: `check` takes the program and the certificate; `Checked` owns both, with a copy of the environment, and `Refused` gives both back.
+//! Only `check` makes a `Checked`, and only a `Checked` reaches an engine, so the engine need not test what the rules establish.
+//!
+//! What to call: `check`; `diagnose`, which says why a program is refused; `fault_of`, which decides without taking the program.
+//!
+//! What not to do: do not use a `Checked` in another environment or at another entry than its own (`env`, `entry`). `leads_of` and `entails` are
+//! parts of the rules, public for the inferrer; they decide nothing.
+//!
+//! Where each rule is: `diagnosis.rt` has J1 and J2 and goes through the labels, `rules.rt` applies J3 to J11 to one label, `requirements.rt` has
+//! what each kind of instruction needs for J3 to J10, and `transfer.rt` where it leads and which facts hold there. The definitions are in dp_model,
+//! `specs/Rules.antt` and `specs/Rows.antt`.
 #![tactic(auto)]
 
 mod bounds;

@@ -42,7 +42,7 @@ const CASES: [Case; 10] = [
         rows: &[],
         status: 1,
         printed: "port 0 not inferred at 0 by J3\nnode.dpv:1: alloc p1,1,out\n  \
-            J3: the pool, the table, the ring and each label are there\n  \
+            J3: the pool, the table, the ring and each label exist\n  \
             known:  the number of pools is 1\n  wanted: a pool with the number 1, from 0\n  \
             help:   declare one more in the pipeline, or name another\n",
         reported: "",
@@ -72,7 +72,7 @@ const CASES: [Case; 10] = [
         rows: &[],
         status: 1,
         printed: "port 0 not inferred at 0 by J6\nnode.dpv:3: adj p0,14   # a header\n  \
-            J6: the bytes or the room that it takes are there\n  \
+            J6: the packet has the bytes or the room that the instruction needs\n  \
             known:  p0 first 0\n  wanted: p0 first 14\n  \
             help:   iflen p0,14,L before it\n",
         reported: "",
@@ -92,7 +92,7 @@ const CASES: [Case; 10] = [
         rows: &[],
         status: 1,
         printed: "port 0 not inferred at 2 by J9\nnode.dpv:3: tx p0,r1,out\n  \
-            J9: the port is there, and the packet is as the ring declares\n  \
+            J9: the port exists, and the packet satisfies what the ring declares\n  \
             known:  r1 <= 255\n  wanted: r1 below 1, the number of ports\n  \
             help:   jlt r1,1,L before it, and at L the tx\n",
         reported: "",
@@ -145,12 +145,12 @@ const LONG: &str =
 /// What is printed of the nodes of the pipeline.
 const NODES: [&str; 4] = [
     "port 0 refused at 0 by J11\npass.dpv:1: tx p0,r0,d\n  \
-        J11: what is known afterwards is enough where control goes\n  \
+        J11: the facts after the instruction satisfy the row of each successor\n  \
         known:  p0 sole, headroom 128, at most 1 segment\n  \
         wanted: at 2, d: p0 sole, headroom 128, first 1, at most 1 segment\n  \
         help:   let dpv infer write the certificate, or test for more before it\n",
     "port 1 not inferred at 0 by J9\nqueue.dpv:1: enq p0,0,d\n  \
-        J9: the port is there, and the packet is as the ring declares\n  \
+        J9: the port exists, and the packet satisfies what the ring declares\n  \
         known:  p0 sole, headroom 128, at most 1 segment\n  \
         wanted: p0 sole, first 20, at most 64 segments\n  \
         help:   test for what is missing before it, or let the ring declare less\n",

@@ -249,9 +249,9 @@ fn explanations_are_documents(rt: HostRuntime) -> Result<(), Fail> {
     let refused = "{\"fault\":null,\"nodes\":[{\"comment\":\"four bytes\",\"file\":\"node.dpv\",\
         \"help\":\"iflen p0,4,L before it\",\"instruction\":\"load r1,p0,0,4\",\"known\":\"p0 first 0\",\"label\":0,\"line\":1,\
         \"node\":\"port 0\",\"reason\":[\"port 0 not inferred at 0 by J6\",\"node.dpv:1: load r1,p0,0,4   # four bytes\",\
-        \"  J6: the bytes or the room that it takes are there\",\"  known:  p0 first 0\",\"  wanted: p0 first 4\",\
+        \"  J6: the packet has the bytes or the room that the instruction needs\",\"  known:  p0 first 0\",\"  wanted: p0 first 4\",\
         \"  help:   iflen p0,4,L before it\"],\"rule\":\"J6\",\
-        \"states\":\"J6: the bytes or the room that it takes are there\",\"verdict\":\"not inferred\",\
+        \"states\":\"J6: the packet has the bytes or the room that the instruction needs\",\"verdict\":\"not inferred\",\
         \"wanted\":\"p0 first 4\"}]}\n";
     assert!(&rt; explained(alloc, REFUSED, &[])?.is_just(1, refused, ""));
     let fault =

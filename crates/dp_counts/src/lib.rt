@@ -5,6 +5,11 @@
 //! runs, taken jumps, ends and cuts are counted, and how often an instruction ran is their sum up to its label. An event takes no memory.
 //! After the run, `print_programs` prints the programs in the words of their source with their counts, and `print_tables` and `print_rings`
 //! the sums for each table and ring.
+//!
+//! Who owns what: the caller owns the `Counts` and lends them to the run; `NodeCounts` borrows them. Only `Counts::new` takes memory, 512 kB.
+//!
+//! What not to assume: a number wraps at 2^64, which no run of captures reaches. `step` adds up from label 0 each time: use `Counts::node` to read
+//! many labels of a node. A step that was cut counts as one that ran and not as a jump. `levels` are tested, not proved.
 #![tactic(auto)]
 
 mod counts;

@@ -20,7 +20,7 @@ pub record EngineMemoryView : Type 0 where
 abbrev pub IsOneFree : List ℕ → Type 0
 IsOneFree bytes = elements_in bytes ≡ record { offset = 0; size = length bytes; state = Free; pad = 0 } ∷ []
 
--- n zones of the space have been given back
+-- n zones of the engine's memory have been given back
 pub record Returns (n : ℕ) (old new : EngineMemoryView) : Type 0 where
   pub home : new.home ≡ old.home
   pub size : new.size ≡ old.size

@@ -30,7 +30,7 @@ ServesOne s w (Some run) w' =
     × NodeRun s.setting program next.packet next.ring (record w { rings = next.rings }) answers w'
     × Consumed w w' run.steps run.cuts
 
--- a machine between two node runs of a scheme
+-- a machine between two node runs of a context
 pub record Rests (s : Scheme) (core : Core) : Type 0 where
   pub idle : AllByRecursion (λ o. o ≡ None) core.state.packets
   pub pools : core.pools ≡ s.setting.env.pools

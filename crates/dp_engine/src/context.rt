@@ -1,4 +1,4 @@
-//! What node runs need and never change: an environment, its tables, a checked program for each port and each ring, and the pattern of refused calls.
+//! The read-only context of node runs: an environment, its tables, a checked program for each port and each ring, and the pattern of refused calls.
 ghost use Rattle.std.specs.Prelude.{◌≡◌, ◌+◌, ◌<◌, ◌≤◌, [], drop, length, slice_get, take, Some};
 ghost use Rattle.std.specs.List.{AllByRecursion};
 ghost use Rattle.dp_check.specs.Faults.{IsChecked};
@@ -20,7 +20,7 @@ use std::marker::Model;
 // The programs of the ports or of the rings.
 type Programs<K> = ArrayVec<Node<K>, 8, Global>;
 
-/// What node runs need and never change.
+/// The read-only context of node runs.
 #[derive(Drop)]
 pub(crate) struct Context<K: Known> {
     env: Env,

@@ -2,8 +2,8 @@
 ghost use Rattle.std.specs.Prelude.{◌≡◌, ◌+◌, Some, IfSome, option_map, if◌then◌else◌};
 ghost use Rattle.dp_engine.specs.Steps.{label_after, IsOnOrTo};
 
-/// Where control goes after an instruction that does not end its node run. An instruction without a label is known to go on, so only jumps are
-/// tested for leading backward.
+/// Where control goes after an instruction that does not end its node run. An instruction without a label always continues, so only jumps are
+/// checked against the budget.
 #[derive(Clone, Copy)]
 pub(crate) enum Control {
     /// To the next instruction.

@@ -92,7 +92,7 @@ impl<K: Known> Model for Engine<K> {
 impl<K: Known> Engine<K> {
     /// Opens an engine in a region with nothing lent. The tables are as many as the environment has; the checked programs are one for each
     /// port and then one for each ring, each of this environment and its own entry. No allocation call is refused at first. It fails exactly
-    /// if the region has fewer bytes than `need` returns; the error then has everything.
+    /// if the region has fewer bytes than `need` returns; the error returns the region, tables and programs.
     pub fn open(
         region: Region,
         env: &Env,

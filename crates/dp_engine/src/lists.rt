@@ -1,4 +1,4 @@
-//! Rings by their numbers, without the search for one that has an entry.
+//! Up to eight rings, by number.
 
 ghost use Rattle.std.specs.Prelude.{◌≡◌, ◌<◌, ◌≤◌, ◌∷◌, [], length, nat_lt, if◌then◌else◌, slice_get, slice_set, is_none, IsSome};
 ghost use Rattle.std.specs.List.{position};
@@ -8,7 +8,7 @@ ghost use Rattle.dp_engine.specs.Queues.{rings_in, RingsFirst, ring_at, ring_of}
 use dp_ring::Ring;
 use std::marker::Model;
 
-/// At most eight rings of packet handles, by number from 0. Transmit lists are kept in one, and rings in `Queues`, which is made of one.
+/// At most eight rings of packet handles, by number from 0. `Lists` holds the transmit lists; `Queues` wraps one for rings.
 pub struct Lists {
     rings: [Option<Ring>; 8],
     // The number of rings.

@@ -146,7 +146,7 @@ impl Machine {
         self.mbufs.needed(pool, len)
     }
 
-    // Receives bytes into the first packet register, and puts the port's number into the first number register. Answers false where the call is
+    // Receives bytes into the first packet register, and puts the port's number into the first number register. Returns false if the call is
     // refused.
     #[inline(always)]
     pub(crate) fn receive(
@@ -399,7 +399,7 @@ impl Machine {
         }
     }
 
-    // Removes the first packet of a transmit list, which must have one, writes its record and frees it, also if the writer fails.
+    // Removes the first packet of a transmit list, which must have one, writes its record and frees it, even if the writer fails.
     #[inline(always)]
     fn put_first<W: Sink>(
         &mut self,
@@ -434,7 +434,7 @@ impl Machine {
         }
     }
 
-    // Frees what a transmit list has left after a failure. Not inlined, so a drain has the code that frees a packet only once.
+    // Frees what a transmit list has left after a failure. Not inlined, so that the free path is inlined once per drain.
     #[cold]
     #[inline(never)]
     fn drop_rest(&mut self, port: u8)

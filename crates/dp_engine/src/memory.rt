@@ -17,7 +17,7 @@ use dp_ring::Ring;
 use dp_zone::Zones;
 use std::marker::Model;
 
-/// What lies in the zones of a space: pools of mbufs, rings, and the transmit lists of ports. In each list the first slots are filled.
+/// What lies in the zones of the engine's memory: pools of mbufs, rings, and the transmit lists of ports. In each list the first slots are filled.
 pub struct Parts {
     pub pools: [Option<Pool>; MAX_POOLS],
     pub rings: [Option<Ring>; 8],
@@ -66,8 +66,8 @@ fn lay_out(region: Region, env: &Env) -> (EngineMemory, Parts)
 }
 
 impl EngineMemory {
-    /// Lays out the space of an engine in a region with nothing lent: a pool of mbufs for each pool of the environment, and an empty ring for
-    /// each ring and each port, in order, all in zones of the space. Returns the region if it has fewer bytes than the engine needs.
+    /// Lays out the memory of an engine in a region with nothing lent: a pool of mbufs for each pool of the environment, and an empty ring for
+    /// each ring and each port, in order, all in zones of the engine's memory. Returns the region if it has fewer bytes than the engine needs.
     pub fn open(region: Region, env: &Env) -> Result<(EngineMemory, Parts), Region>
         requires { region.lent ≡ [] }
         ensures opened { IfOk result (λ s. IsLaidOut region.home (length region.bytes) env.now s.0 s.1) }
@@ -132,7 +132,7 @@ impl EngineMemory {
         self.end_pool(h);
     }
 
-    /// Returns the region, given all that lies in zones of this space: nothing of it is lent, and the heap was one free element.
+    /// Returns the region, given all that lies in zones of the engine's memory: nothing of it is lent, and the heap was one free element.
     pub fn close(self, parts: Parts) -> Region
         requires home { PartsIn self.home parts }
         requires all { zones_in parts ≡ self.out }

@@ -1,4 +1,4 @@
-//! Rings by number, with the lowest one that has an entry.
+//! `Lists` plus the number of the lowest non-empty ring.
 
 ghost use Rattle.std.specs.Prelude.{◌≡◌, ◌<◌, ◌≤◌, ◌∷◌, [], length, nat_lt, if◌then◌else◌, slice_get, slice_set, true, IfSome, IfNone};
 ghost use Rattle.std.specs.List.{position, position_or_len};
@@ -9,7 +9,7 @@ use crate::lists::Lists;
 use dp_ring::Ring;
 use std::marker::Model;
 
-/// `Lists` that track the lowest ring that has an entry.
+/// Rings by number, and which is the lowest non-empty one.
 pub struct Queues {
     rings: Lists,
     // The least number of a ring that has an entry; the number of rings if none has.

@@ -64,7 +64,7 @@ pub(crate) fn arrive<K: Known, W: Watch>(
     )
 }
 
-// Runs the node of the first ring that has a packet on its front packet, if there is one.
+// Runs the lowest non-empty ring's program on its front packet, if there is such a ring.
 fn serve_one<K: Known, W: Watch>(
     context: &Context<K>,
     m: &mut Machine,
@@ -88,10 +88,10 @@ fn serve_one<K: Known, W: Watch>(
     Some(program.run(m, env, context.tables(), context.pattern(), watch))
 }
 
-/// The node runs on packets from rings.
+/// Counts of a turn's ring runs.
 #[derive(Clone, Copy, Debug, PartialEq, Eq)]
 pub(crate) struct Served {
-    /// Their number, at most 32.
+    /// Runs, at most 32.
     pub runs: u8,
     /// How many instructions they ran.
     pub steps: u32,
@@ -99,7 +99,7 @@ pub(crate) struct Served {
     pub cuts: u8,
 }
 
-// Up to 32 node runs, each on the front packet of the first ring that has one.
+// Runs the lowest non-empty ring's program on its front packet, up to 32 times.
 pub(crate) fn serve<K: Known, W: Watch>(
     context: &Context<K>,
     m: &mut Machine,

@@ -1,7 +1,11 @@
-//! Explains what is wrong with a text that a user wrote: its line, the word at fault, what is expected there, and a cure.
+//! Explains what is wrong with a text that a user wrote: its line, the word at fault, what is expected there, and a cure. The texts are pipeline
+//! files, node programs and certificates.
 //!
-//! The texts are pipeline files, node programs and certificates. Each function takes a text that was refused and finds the
-//! fault again with its own reading. Nothing depends on the result: it is printed after the line of a fault.
+//! What it is given and returns: each function takes a text that was refused, its fault and a writer, finds the fault again with its own reading, and
+//! writes the lines that follow the line of the fault. Its error is the writer's.
+//!
+//! What callers must not assume: that anything is written. If memory runs out, or the fault is not in the text alone, there is no line. Nothing
+//! depends on the result, and no contract has its wording. A text that was accepted, or one that the fault is not of, gets lines that mean nothing.
 #![tactic(auto)]
 
 mod nearest;

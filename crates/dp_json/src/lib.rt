@@ -1,8 +1,11 @@
 //! The documents that `--json` prints: what `dpv run`, `dpv one`, `dpv check` and `dpv explain` print as text, as JSON.
 //!
-//! Each function makes a `Value` of `serde_json` of one part of a document, and its contract says which: the definitions in specs/ give each field's
-//! value. docs/reference/json.md lists the fields. A number above 2^53 is a string of its digits, since many readers of JSON keep numbers as floats
-//! of 64 bits.
+//! What it is given and returns: each function takes a part of a result (a report, counts, a verdict, a fault) and returns a `Value` of `serde_json`,
+//! whose memory is the caller's; `line_of` makes the one line that is printed. Each contract says which value: the definitions in specs/ give each
+//! field. docs/reference/json.md lists the fields.
+//!
+//! What not to assume: a number above 2^53 is a string of its digits, since many readers of JSON keep numbers as floats of 64 bits. The order of
+//! members has no meaning. Nothing is printed here, and the status is the command's.
 //!
 //! `json!` sorts the members of an object. Here they are written from the last to the first, so each is inserted before the others, and the proof
 //! compares one name for each.

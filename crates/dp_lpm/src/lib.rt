@@ -24,6 +24,10 @@
 //! four tables for an engine, which reads them and never changes them.
 //!
 //! What to call: `add` and `delete` before the engine opens, `lookup` for an address. A refused call changes nothing.
+//!
+//! What not to do: do not call `add` or `delete` for each packet. A rule of depth 8 covers 65,536 entries, and both go through all entries of its
+//! prefix; `lookup` alone reads two at most. `Tables::lookup` requires that the table exists, and tests nothing. No rules can change once `Tables`
+//! has the table.
 #![tactic(auto)]
 
 mod cell;

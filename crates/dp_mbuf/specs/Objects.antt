@@ -107,7 +107,7 @@ pub record ArePools (pools : List PoolView) : Type 0 where
   pub few : length pools ≤ MAX_POOLS
   pub rooms : (k : ℕ) → k < length pools → HasRooms (pool_in pools k)
 
--- ---- what calls on objects do: all that is not named stays, and these are pools of mbufs afterwards
+-- ---- what calls on objects do: everything else is unchanged; `ArePools` still holds
 
 -- the header of n becomes h
 pub record HeaderSet (pools : List PoolView) (n : Number) (h : Header) (pools' : List PoolView) : Type 0 where

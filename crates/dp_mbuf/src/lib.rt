@@ -33,8 +33,8 @@
 //! when no live segment has it as its mbuf or its buffer, so B keeps 0:5 and 0:9 after A is freed.
 //!
 //! What to call: `alloc` or `receive` makes a packet, `clone_of` a clone, `prepend`, `adj`, `append`, `trim` and `chain` change one, `load` and
-//! `store` read and write its first segment, `free` ends it. `park` gives the number to keep in a ring, and `unpark` turns it back; neither
-//! changes anything.
+//! `store` read and write its first segment, `free` ends it. `park` and `unpark` convert a handle to a `u32` and back, and change nothing;
+//! the engine uses `Packet::number` and `Packet::of`.
 //!
 //! What not to do: no call tests what its contract requires. `store` and `prepend` require a sole first segment, `append` a sole last one;
 //! the program checker makes sure of that, so the calls need no branch. An `Mbufs` cannot be dropped: free every packet, then call

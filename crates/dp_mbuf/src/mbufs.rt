@@ -83,7 +83,7 @@ fn last_header(objects: &Objects, packet: &Packet) -> Header
     objects.header(first_header(objects, packet).last)
 }
 
-// The number of parts of at most `full` bytes that `len` bytes make; one if there are none.
+// `max(1, ceil(len / full))`.
 fn count_needed(len: usize, full: u16) -> usize
     requires { 1 ≤ full }
     ensures { result ≡ max 1 ((len + (full - 1)) / full) }
@@ -153,7 +153,7 @@ impl Mbufs {
         }
     }
 
-    /// Whether there is no packet, neither live nor parked.
+    /// Whether no packet is live.
     pub fn is_empty(&self) -> bool
         ensures { IsTrue result ↔ HasNone self.now.store }
     {
@@ -178,7 +178,7 @@ impl Mbufs {
         packet.number()
     }
 
-    /// The packet that was parked with this number.
+    /// The packet with this number, which must be live.
     pub fn unpark(&mut self, number: u32) -> Packet
         requires { IsLive self.old.store number }
         ensures packet { result ≡ number }
@@ -187,7 +187,7 @@ impl Mbufs {
         Packet::of(number)
     }
 
-    /// Whether the packet is live or parked here.
+    /// Whether the handle is live.
     pub fn is_live(&self, packet: &Packet) -> bool
         ensures { IsTrue result ↔ IsLive self.now.store packet.now }
     {

@@ -81,7 +81,7 @@ fn drop_reference(objects: &mut Objects, b: MbufNumber)
     drop_one_of(objects, b, refs);
 }
 
-/// Releases a segment of this buffer. `refs` is its number of references if the buffer is the segment's own.
+/// Releases mbuf `n`, whose buffer is `buffer`. `refs` is the refcnt in the header of `n`, used if `n` is direct.
 #[inline(always)]
 pub(crate) fn release_only(objects: &mut Objects, n: MbufNumber, buffer: MbufNumber, refs: u32)
     requires can { CanRelease objects.old n buffer }
@@ -125,7 +125,7 @@ pub(crate) fn fresh_header(n: MbufNumber, offset: u16, len: u16) -> Header
     }
 }
 
-/// Takes an object of a pool that has one in.
+/// Takes a free object; the pool must have one.
 #[inline(always)]
 pub(crate) fn take_one(objects: &mut Objects, pool: u16) -> MbufNumber
     requires there { pool < length objects.old }

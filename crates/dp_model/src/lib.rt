@@ -1,5 +1,14 @@
 //! Defines the packet forwarder: its instructions, the facts about packets, the rows of certificates, the environments of programs, and, in specs/,
-//! the machine that runs programs and the rules that accept them. Nothing here owns memory; every other crate's contracts cite these definitions.
+//! the machine that runs programs and the rules that accept them. Every other crate's contracts cite these definitions.
+//!
+//! Who owns what: nothing here owns heap memory, or a buffer. An `Instr`, a `Row` and a `Packet` are values that anyone may copy; an `Env` is copied
+//! by `Env::copy`. Whether a packet is live is for `Mbufs` of dp_mbuf to say.
+//!
+//! What to call: `Env::new`, which makes an environment or returns the first cause that refuses it, and its readers; of a row `fact`, `bound_of` and
+//! `is_well_formed`. The laws, such as `runs_keep_safe`, do nothing when they run: a function calls one to have its clause in its proof.
+//!
+//! What not to do: do not take a `Row` or a `Fact` for well formed, since its parts are public: ask `is_well_formed`. A proof knows that an `Env` has
+//! no fault only after a call of `pools` or `copy`.
 #![tactic(auto)]
 
 mod definition_laws;

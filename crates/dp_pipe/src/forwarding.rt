@@ -58,8 +58,8 @@ fn bytes_of<'a, R: Feed>(r: &'a R, buf: &'a [u8], is_held: bool, len: usize) -> 
     }
 }
 
-// Reads what comes next in an input and, if it is a record, takes a watched turn with it. Usually the reader has buffered the record, and the mbuf's
-// is the only copy of its bytes.
+// Reads what comes next in an input and, if it is a record, takes a watched turn with it. Usually the reader has buffered the record: then the
+// bytes are copied once, into the mbuf.
 #[inline(always)]
 fn next_turn<K: Known, R: Feed, V: Watch>(
     engine: &mut Engine<K>,
@@ -227,7 +227,7 @@ fn round<K: Known, R: Feed, W: Sink, V: Watch>(
     Ok(())
 }
 
-// Whether an input has not ended.
+// Whether any input is open.
 fn is_any_open(inputs: &[InputProgress]) -> bool
     ensures none { result ≡ false → NoneIsOpen inputs.now }
     ensures some { IsTrue result → SomeIsOpen inputs.now }

@@ -178,7 +178,7 @@ pub fn region_in(top: &Table) -> Option<u32>
 
 /// A part that a file has an array of: a pool, a table, a ring or a port.
 pub trait ArrayPart<'a>: Sized {
-    // What such a part is in the definitions, and how it is read from its table.
+    // The part's specification value, and its parser.
     ghost Meaning: { Type 0 };
 
     ghost meaning: { Self → Meaning };

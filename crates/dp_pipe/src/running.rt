@@ -387,9 +387,14 @@ pub fn run_watched<K: Known, R: Feed, W: Sink, V: Watch>(
 /// [`RunCause::NoRoom`] exactly if the pipeline's region is smaller than its engine needs, which is known before memory is asked for, and
 /// [`RunCause::Memory`] if memory is refused; nothing was read or written then. [`RunCause::In`] names the first input with a fault, in the
 /// order in which they are read: the outputs are those of the run on the records before it, and nothing if the fault is in a header.
-/// [`RunCause::Out`] names the port whose writer failed. After a record, that writer was given a part of its output of the run through that
-/// record, the writers before it all of theirs, and those after it theirs of the run before that record; at a header, the writers before it
-/// have their headers, and those after it nothing. A reader or writer that failed is not called again.
+/// [`RunCause::Out`] names the port whose writer failed. If that was in its header, the writers before it have their headers, and those after
+/// it nothing. If it was after record k of the run:
+///
+/// - ports below it have everything through record k;
+/// - this port has a proper prefix of that, with everything through record k - 1;
+/// - ports above it have everything through record k - 1.
+///
+/// A reader or writer that failed is not called again.
 pub fn run<R: Feed, W: Sink>(
     alloc: Global,
     pipeline: Pipeline,

@@ -9,7 +9,7 @@ use toml::Value;
 /// The largest number of bytes in a fact.
 pub(crate) const MAX_COUNT: u32 = 65_535;
 
-/// The largest share, and the most segments.
+/// The largest `share` or `segs` that the reader accepts; `Env::new` tests the real ranges.
 pub(crate) const MAX_SMALL: u32 = 255;
 
 /// The file names of a node.

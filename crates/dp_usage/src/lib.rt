@@ -1,4 +1,11 @@
 //! The commands of `dpv`, with their operands and options.
+//!
+//! What it is given and returns: `command` takes an allocator and returns the one `Command` of `clap` by which dp_cli reads the words of the command
+//! line, and from which help and usage are printed.
+//!
+//! What callers must not assume: words that are accepted here may still be wrong. A list, a port or the name of a node is tested where it is used, in
+//! dp_cli, and ends with the same status. An option is looked up by its name (`get_str`, `get_flag`), which no type checks: a new one is added here
+//! and read there.
 #![tactic(auto)]
 
 use clap::{Arg, ArgAction, Command};

@@ -18,15 +18,15 @@ impl fmt::Display for RuleText {
         let words = match self.0 {
             Rule::J1 => "the certificate has a row for each instruction",
             Rule::J2 => "what is known at the entry is enough for the first row",
-            Rule::J3 => "the pool, the table, the ring and each label are there",
+            Rule::J3 => "the pool, the table, the ring and each label exist",
             Rule::J4 => "each packet register that is used holds a packet",
             Rule::J5 => "the target of alloc and clone is empty, and those of chain differ",
-            Rule::J6 => "the bytes or the room that it takes are there",
+            Rule::J6 => "the packet has the bytes or the room that the instruction needs",
             Rule::J7 => "what it writes is not shared",
             Rule::J8 => "chained packets have at most 64 segments",
-            Rule::J9 => "the port is there, and the packet is as the ring declares",
+            Rule::J9 => "the port exists, and the packet satisfies what the ring declares",
             Rule::J10 => "at exit no register holds a packet",
-            Rule::J11 => "what is known afterwards is enough where control goes",
+            Rule::J11 => "the facts after the instruction satisfy the row of each successor",
         };
         write!(f, "J{}: {words}", self.0.number())
     }
@@ -410,7 +410,7 @@ fn write_of_rows<W: fmt::Write>(
     match freed_there(gap) {
         Some(packet) => write!(
             f,
-            "free p{packet} before control goes there, where it also comes without it"
+            "free p{packet} before control goes there: another path arrives with p{packet} empty"
         ),
         None => write!(
             f,
