@@ -37,6 +37,21 @@ def new_folder() -> Iterator[pathlib.Path]:
         yield pathlib.Path(name)
 
 
+@contextmanager
+def nested_folder() -> Iterator[pathlib.Path]:
+    """A folder in a temporary folder of its own, which has nothing else."""
+    with new_folder() as outer:
+        folder = outer / "files"
+        folder.mkdir()
+        yield folder
+
+
+def report_cases(name: str, passed: list[bool]) -> int:
+    """Prints how many cases there were and how many went another way; returns the status for the script to exit with."""
+    print(f"{name}: {len(passed)} cases, {passed.count(False)} went another way")
+    return 0 if all(passed) else 1
+
+
 def fixed(reported: str) -> str:
     """The output on standard error, without the details after a fault's line and the lines on dropped packets."""
     return re.sub(r"(?m)^(?:(?:port|ring) \d+: |\d+ node runs were cut|note: (?:port|ring) \d is not compiled).*\n", "", re.sub(r"(?ms)^  (?:file|because|at|help): .*", "", reported))

@@ -95,30 +95,10 @@ free p0
 exit
 """
 PIPELINE = """region = 262144
-[[pool]]
-count = 16
-cache = 0
-room = 2176
-[[table]]
-rules = 1
-groups = 1
-routes = []
-[[ring]]
-count = 4
-share = 0
-head = 4
-tail = 0
-first = 34
-last = 0
-segs = 1
-node = "ring.dpv"
-[[port]]
-pool = 0
-segs = 1
-queue = 4
-node = "all.dpv"
-in = "in.pcap"
-out = "out.pcap"
+pool = [{count = 16, cache = 0, room = 2176}]
+table = [{rules = 1, groups = 1, routes = []}]
+ring = [{count = 4, share = 0, head = 4, tail = 0, first = 34, last = 0, segs = 1, node = "ring.dpv"}]
+port = [{pool = 0, segs = 1, queue = 4, node = "all.dpv", in = "in.pcap", out = "out.pcap"}]
 """
 
 

@@ -14,7 +14,7 @@ import subprocess
 import sys
 from typing import NamedTuple
 
-from command import STRIP, asked, fixed, new_folder
+from command import STRIP, asked, fixed, new_folder, report_cases
 
 LONGEST = 1_048_576
 OPEN = "port 0 received 0 nobuf 0 oversize 0 sent 0 input open\npool 0 free 64 of 64\ncalls 0 refused 0\n"
@@ -424,8 +424,7 @@ def main() -> int:
         passed += stream_cases(program, folder)
         passed += capture_cases(program, folder)
         passed += largest_cases(program, folder)
-    print(f"faults: {len(passed)} cases, {passed.count(False)} went another way")
-    return 0 if all(passed) else 1
+    return report_cases("faults", passed)
 
 
 if __name__ == "__main__":

@@ -32,7 +32,7 @@ from collections import Counter
 from collections.abc import Callable, Iterator, Sequence
 from dataclasses import dataclass, field
 from random import Random
-from typing import Any, NamedTuple, TypeVar
+from typing import Any, NamedTuple, Self, TypeVar
 
 from cases import MAKERS, Case, Family
 from command import fixed, program_of, put_library
@@ -58,25 +58,33 @@ class Ended(NamedTuple):
 
 
 @dataclass
-class Tally:
-    """The number of cases of each kind and status, the number of findings, and the time and memory of the worst."""
+class Sums:
+    """What each fuzzer counts: its cases by kind, the records that ran, and the findings."""
 
     cases: Counter[str] = field(default_factory=Counter)
-    statuses: Counter[str] = field(default_factory=Counter)
-    again: Counter[str] = field(default_factory=Counter)
     records: int = 0
     findings: int = 0
+
+    def add(self, other: Self) -> None:
+        """Adds what another counted."""
+        for name in vars(self):
+            setattr(self, name, getattr(self, name) + getattr(other, name))
+
+
+@dataclass
+class Tally(Sums):
+    """The cases by status too, those that ran once more by how, and the time and memory of the worst."""
+
+    statuses: Counter[str] = field(default_factory=Counter)
+    again: Counter[str] = field(default_factory=Counter)
     seconds: float = 0.0
     memory: int = 0
 
-    def add(self, other: "Tally") -> None:
-        """Adds what another counted."""
-        self.cases += other.cases
-        self.statuses += other.statuses
-        self.again += other.again
-        self.records += other.records
-        self.findings += other.findings
-        self.seconds, self.memory = max(self.seconds, other.seconds), max(self.memory, other.memory)
+    def add(self, other: Self) -> None:
+        """Adds what another counted; of the worst it keeps the larger."""
+        worst = max(self.seconds, other.seconds), max(self.memory, other.memory)
+        super().add(other)
+        self.seconds, self.memory = worst
 
 
 class TooLong(Exception):

@@ -29,7 +29,7 @@ from random import Random
 from typing import NamedTuple
 
 from command import TOP
-from fuzz import Place, all_jobs, own_place, parser_of, shown, words
+from fuzz import Place, Sums, all_jobs, own_place, parser_of, shown, words
 from model import captures
 from model.machine import Input, Pool, Port, Ring, run
 from model.machine import Env
@@ -59,26 +59,13 @@ class Finding(NamedTuple):
 
 
 @dataclass
-class Tally:
-    """Counts: cases by outcome, errors of the compiler by kind, programs and records that ran, packets sent, findings."""
+class Tally(Sums):
+    """The errors of the compiler by kind too, the programs that ran, the records left out, and the packets sent."""
 
-    cases: Counter[str] = field(default_factory=Counter)
     refusals: Counter[str] = field(default_factory=Counter)
     programs: int = 0
-    records: int = 0
     left_out: int = 0
     sent: int = 0
-    findings: int = 0
-
-    def add(self, other: "Tally") -> None:
-        """Adds what another counted."""
-        self.cases += other.cases
-        self.refusals += other.refusals
-        self.programs += other.programs
-        self.records += other.records
-        self.left_out += other.left_out
-        self.sent += other.sent
-        self.findings += other.findings
 
 
 class Refused(NamedTuple):

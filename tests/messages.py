@@ -19,7 +19,7 @@ import sys
 from collections.abc import Iterator
 from typing import NamedTuple
 
-from command import asked, new_folder
+from command import asked, nested_folder, report_cases
 from faults import HEADER, ONE, POOL, capture, make_files, pipeline, run_of
 
 PCAPNG = "it is a pcapng file; editcap -F pcap IN OUT converts it to a capture"
@@ -132,19 +132,13 @@ def captures() -> Iterator[Case]:
 # Link types with their names, and what helps; the commands were tried with editcap 4.0.17 and tcprewrite 4.4.3.
 HERE, HEADERS = "capture on an Ethernet interface", "tcprewrite --dlt=enet --enet-smac=MAC --enet-dmac=MAC -i IN -o OUT"
 IN_PLACE_OF_ANY, IS_ETHERNET = "capture on one Ethernet interface in place of any", "if each record really is an Ethernet frame: editcap -F pcap -T ether IN OUT"
+NO_HEADERS, WIRELESS = f"{HERE}: these records have no Ethernet headers", f"{HERE}, or on a wireless one that is not in monitor mode"
 LINKS = {
-    0: ("0 NULL", f"{HERE}: these records have no Ethernet headers"),
-    9: ("9 PPP", f"{HERE}: these records have no Ethernet headers"),
+    **{int(name.split()[0]): (name, NO_HEADERS) for name in ("0 NULL", "9 PPP", "108 LOOP", "228 IPV4", "229 IPV6")},
+    **{int(name.split()[0]): (name, WIRELESS) for name in ("105 IEEE802_11", "127 IEEE802_11_RADIOTAP")},
+    **{int(name.split()[0]): (name, f"{IS_ETHERNET}; else {HERE}") for name in ("146", "147 USER", "162 USER")},
     101: ("101 RAW", f"{HERE}, or add Ethernet headers: {HEADERS}"),
-    105: ("105 IEEE802_11", f"{HERE}, or on a wireless one that is not in monitor mode"),
-    108: ("108 LOOP", f"{HERE}: these records have no Ethernet headers"),
     113: ("113 LINUX_SLL", f"{IN_PLACE_OF_ANY}, or replace the headers: {HEADERS}"),
-    127: ("127 IEEE802_11_RADIOTAP", f"{HERE}, or on a wireless one that is not in monitor mode"),
-    146: ("146", f"{IS_ETHERNET}; else {HERE}"),
-    147: ("147 USER", f"{IS_ETHERNET}; else {HERE}"),
-    162: ("162 USER", f"{IS_ETHERNET}; else {HERE}"),
-    228: ("228 IPV4", f"{HERE}: these records have no Ethernet headers"),
-    229: ("229 IPV6", f"{HERE}: these records have no Ethernet headers"),
     276: ("276 LINUX_SLL2", IN_PLACE_OF_ANY),
 }
 
@@ -373,17 +367,14 @@ def goes_on(program: str, folder: pathlib.Path) -> bool:
 def main() -> int:
     """All of it."""
     program = asked()
-    with new_folder() as outer:
-        folder = outer / "files"
-        folder.mkdir()
+    with nested_folder() as folder:
         make_files(folder)
         make_more(folder)
         kinds = (files, captures, links, unfit, full_disks, pipelines, same_files, no_text, traces, progress, drops, nothing_reported)
         passed = [ends_so(program, case, folder) for kind in kinds for case in kind()]
         passed.append(goes_on(program, folder))
         passed += as_nobody(program, folder)
-    print(f"messages: {len(passed)} cases, {passed.count(False)} went another way")
-    return 0 if all(passed) else 1
+    return report_cases("messages", passed)
 
 
 if __name__ == "__main__":

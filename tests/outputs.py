@@ -15,7 +15,7 @@ import subprocess
 import sys
 from typing import NamedTuple
 
-from command import STRIP, asked, new_folder
+from command import STRIP, asked, nested_folder, report_cases
 
 HEADER = struct.pack("<IHHIIII", 0xA1B2C3D4, 2, 4, 0, 0, 262144, 1)
 FORWARD = "tx p0,r0,drop\nexit\ndrop: free p0\nexit\n"
@@ -96,7 +96,6 @@ def early_ends() -> list[Case]:
 
 def make_files(folder: pathlib.Path, program: str) -> None:
     """The files that the cases name."""
-    folder.mkdir()
     (folder / "folder").mkdir()
     data = {
         "forward.dpv": FORWARD.encode(),
@@ -159,14 +158,12 @@ def writes(program: str, folder: pathlib.Path) -> list[bool]:
 def main() -> int:
     """All of it."""
     program = asked()
-    with new_folder() as outer:
-        folder = outer / "files"
+    with nested_folder() as folder:
         make_files(folder, program)
         passed = [is_kept(program, case, folder, True) for case in clashes()]
         passed += [is_kept(program, case, folder, False) for case in early_ends()]
         passed += writes(program, folder)
-    print(f"outputs: {len(passed)} cases, {passed.count(False)} went another way")
-    return 0 if all(passed) else 1
+    return report_cases("outputs", passed)
 
 
 if __name__ == "__main__":

@@ -19,7 +19,7 @@ import time
 from collections.abc import Callable
 from typing import NamedTuple
 
-from command import MULTICAST, STRIP, asked, new_folder
+from command import MULTICAST, STRIP, asked, new_folder, report_cases
 from model import captures
 
 READ = "the run reads this file, so it is not overwritten"
@@ -461,8 +461,7 @@ def main() -> int:
     with new_folder() as folder:
         tried = Tried(program, folder)
         passed += [is_reported(tried, fault) for fault in forms() + twice() + missing() + clashes() + first_faults()]
-    print(f"pipes: {len(passed)} cases, {passed.count(False)} went another way")
-    return 0 if all(passed) else 1
+    return report_cases("pipes", passed)
 
 
 if __name__ == "__main__":

@@ -1,28 +1,15 @@
 /* l2fwd EAL-OPTIONS: what DPDK's example l2fwd does with a frame, with no engine: from device k to its neighbour, with new Ethernet addresses,
    32 frames at once; for bench/live.py. SIGUSR1 prints how many frames came to each device; SIGTERM ends it. */
+#include "../../examples/live/signals.h"
 #include <rte_eal.h>
 #include <rte_ethdev.h>
 #include <rte_ether.h>
 #include <rte_mbuf.h>
-#include <signal.h>
 
 #define BURST 32
 #define DEVICES 2
 
-static volatile sig_atomic_t is_stopped, is_asked;
 static uint64_t received[DEVICES];
-
-static void on_stop(int number)
-{
-    (void)number;
-    is_stopped = 1;
-}
-
-static void on_ask(int number)
-{
-    (void)number;
-    is_asked = 1;
-}
 
 static int open_device(uint16_t port, struct rte_mempool *pool)
 {

@@ -6,13 +6,13 @@
    cc -O2 af_packet.c $(pkg-config --cflags --libs dpv) -o af_packet */
 #define _GNU_SOURCE
 #include "load.h"
+#include "signals.h"
 #include <arpa/inet.h>
 #include <errno.h>
 #include <linux/if_packet.h>
 #include <net/ethernet.h>
 #include <net/if.h>
 #include <poll.h>
-#include <signal.h>
 #include <sys/socket.h>
 #include <time.h>
 #include <unistd.h>
@@ -21,22 +21,9 @@
 #define BURST 64
 #define MAX_FRAME 65536
 
-static volatile sig_atomic_t is_stopped, is_asked;
 static int sockets[MAX_PORTS];
 static uint64_t unsent[MAX_PORTS], truncated;
 static uint8_t frames[BURST][MAX_FRAME];
-
-static void on_stop(int number)
-{
-    (void)number;
-    is_stopped = 1;
-}
-
-static void on_ask(int number)
-{
-    (void)number;
-    is_asked = 1;
-}
 
 /* A packet socket on an interface, which receives incoming frames and no outgoing ones. */
 static int open_interface(const char *name)

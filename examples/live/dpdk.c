@@ -6,11 +6,11 @@
    dpdk --no-huge --no-pci -m 256 --vdev net_pcap0,rx_pcap=in.pcap,tx_pcap=out.pcap -- pipeline.toml 1 1000
    cc -O2 dpdk.c $(pkg-config --cflags --libs libdpdk dpv) -o dpdk */
 #include "load.h"
+#include "signals.h"
 #include <rte_cycles.h>
 #include <rte_eal.h>
 #include <rte_ethdev.h>
 #include <rte_mbuf.h>
-#include <signal.h>
 
 #define MAX_PORTS 8
 #define MAX_BURST 64
@@ -19,24 +19,11 @@
 #define POOL_CACHE 256
 #define MAX_FRAME 65536
 
-static volatile sig_atomic_t is_stopped, is_asked;
 static uint64_t unsent[MAX_PORTS];
 static struct rte_mbuf *waiting[MAX_PORTS][MAX_BURST];
 static uint16_t waits[MAX_PORTS];
 static uint8_t flat[MAX_FRAME];
 static struct rte_mempool *pool;
-
-static void on_stop(int number)
-{
-    (void)number;
-    is_stopped = 1;
-}
-
-static void on_ask(int number)
-{
-    (void)number;
-    is_asked = 1;
-}
 
 /* Ends the host if a call of DPDK failed. */
 static void check(int answer, const char *what)

@@ -130,7 +130,7 @@ module _ (r : RegionView) (laid : IsLaid r) (before : List Element) (e : Element
 pub emptied_listed : (r : RegionView) → IsLaid r → (d : ℕ) (x : Element) (ys : List ℕ) → Emptied d x (elements_in r.bytes) (elements_in ys) →
     Outside x.offset (end_of x) r.bytes ys → (heads : List ℕ) → Listed r.bytes heads (elements_in r.bytes) []
     → Listed ys heads (elements_in ys) (x ∷ [])
-emptied_listed r laid d x ys h same heads w =
-    let busy : is_free h.1 ≡ false = not-true (is_free h.1) (and_parts (not (is_free h.1)) (eqb (data_of h.1) d) h.4).0 in
-    swapped r laid h.0 h.1 h.2 h.3 ys (freed h.1 ∷ []) h.6 (subst (λ (e : Element). Outside e.offset (end_of e) r.bytes ys) h.5 same) heads [] (x ∷ [])
-    (busy_none h.1 busy) (λ c p. ap (λ (e : Element). belong c p (e ∷ [])) (sym h.5)) w
+emptied_listed r laid d x ys (before, e, after, was, block, is, now) same heads w =
+    let busy : is_free e ≡ false = not-true (is_free e) (and_parts (not (is_free e)) (eqb (data_of e) d) block).0 in
+    swapped r laid before e after was ys (freed e ∷ []) now (subst (λ (z : Element). Outside z.offset (end_of z) r.bytes ys) is same) heads [] (x ∷ [])
+    (busy_none e busy) (λ c p. ap (λ (z : Element). belong c p (z ∷ [])) (sym is)) w

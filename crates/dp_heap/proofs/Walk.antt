@@ -66,21 +66,26 @@ count_bound xs (e ∷ es) low high l =
     let n : length (e ∷ es) ≡ suc (length es) = refl in omega arith
 
 -- the walk over the list c has come to p: those at `seen` cannot hold the block, and `left` are to come
-abbrev pub Walked : List ℕ → ℕ → ℕ → ℕ → ℕ → Type 0
-Walked xs c n a p =
-    (seen : List ℕ) × (left : List ℕ) × (before : ℕ) × Linked xs before p left × ((q : ℕ) → times q seen + times q left ≡ belong c q (elements_in xs))
-    × ((q : ℕ) → 1 ≤ times q seen → (d : ℕ) → CanHold (element_at xs q) n a d → ⊥)
+pub record Walked (xs : List ℕ) (c n a p : ℕ) : Type 0 where
+  pub seen : List ℕ
+  pub left : List ℕ
+  pub before : ℕ
+  pub linked : Linked xs before p left
+  pub all : (q : ℕ) → times q seen + times q left ≡ belong c q (elements_in xs)
+  pub never : (q : ℕ) → 1 ≤ times q seen → (d : ℕ) → CanHold (element_at xs q) n a d → ⊥
 
 pub walk_begins : (xs heads : List ℕ) (c n a : ℕ) → c < 5 → Listed xs heads (elements_in xs) [] → Walked xs c n a (slice_index heads c)
-walk_begins xs heads c n a small w = (
-  [],
-  w.0 c,
-  none,
-  w.2 c small,
-  λ q. let count = w.3 c q in let z : times q [] ≡ 0 = refl in
-      let y : belong c q [] ≡ 0 = refl in omega arith,
-  λ q h. absurd (let h' : 1 ≤ 0 = h in omega arith),
-)
+walk_begins xs heads c n a small w =
+    record {
+      seen = [];
+      left = w.0 c;
+      before = none;
+      linked = w.2 c small;
+      all =
+          λ q. let count = w.3 c q in let z : times q [] ≡ 0 = refl in
+          let y : belong c q [] ≡ 0 = refl in omega arith;
+      never = λ q h. absurd (let h' : 1 ≤ 0 = h in omega arith);
+    }
 
 -- the element that the walk has reached
 pub record Free_at (r : RegionView) (c p : ℕ) : Type 0 where
@@ -108,49 +113,51 @@ free_at r laid c p h =
     }
 
 module _ (r : RegionView) (laid : IsLaid r) (c n a p : ℕ) (w : Walked r.bytes c n a p) where
-  left_far : (q : ℕ) → 1 ≤ times q w.1 → q < none
-  left_far q h = let count = w.4 q in let room = (free_at r laid c q (omega arith)).header.room in let most = laid.0.1 in omega arith
+  left_far : (q : ℕ) → 1 ≤ times q w.left → q < none
+  left_far q h = let count = w.all q in let room = (free_at r laid c q (omega arith)).header.room in let most = laid.0.1 in omega arith
 
-  left_few : length w.1 ≤ length r.bytes
+  left_few : length w.left ≤ length r.bytes
   left_few =
-      let few = few_enough c (elements_in r.bytes) w.1 (λ q. let count = w.4 q in omega arith) in
+      let few = few_enough c (elements_in r.bytes) w.left (λ q. let count = w.all q in omega arith) in
       let bound = count_bound r.bytes (elements_in r.bytes) 0 (length r.bytes) laid.1 in omega arith
 
   pub found_at : (p ≡ none → ⊥) → Free_at r c p
-  found_at differ = at w.1 w.3 (λ k. let count = w.4 p in omega arith)
+  found_at differ = at w.left w.linked (λ k. let count = w.all p in omega arith)
     where
-      at : (ps : List ℕ) → Linked r.bytes w.2 p ps → (1 ≤ times p ps → 1 ≤ belong c p (elements_in r.bytes)) → Free_at r c p
+      at : (ps : List ℕ) → Linked r.bytes w.before p ps → (1 ≤ times p ps → 1 ≤ belong c p (elements_in r.bytes)) → Free_at r c p
       at [] l some = absurd (differ l)
       at (q ∷ ps) l some = let one : bit (eqb q p) ≡ 1 = ap (λ (k : ℕ). bit (eqb q k)) l.0 ∙ same_one q in free_at r laid c p (some (omega arith))
 
   -- one step leaves one element less
   pub record Onward : Type 0 where
     pub more : Walked r.bytes c n a (number_at r.bytes (p + 16) 4)
-    pub less : length more.1 < length w.1
+    pub less : length more.left < length w.left
 
   pub onward : (p ≡ none → ⊥) → ((d : ℕ) → CanHold (element_at r.bytes p) n a d → ⊥) → Onward
-  onward differ never = at w.1 w.3 refl
+  onward differ never = at w.left w.linked refl
     where
-      at : (ps : List ℕ) → Linked r.bytes w.2 p ps → w.1 ≡ ps → Onward
+      at : (ps : List ℕ) → Linked r.bytes w.before p ps → w.left ≡ ps → Onward
       at [] l is = absurd (differ l)
       at (q ∷ ps) l is =
           let same = l.0 in record {
-            more = (
-              p ∷ w.0,
-              ps,
-              p,
-              subst (λ (k : ℕ). Linked r.bytes k (number_at r.bytes (k + 16) 4) ps) (sym same) l.2,
-              λ m. let count = w.4 m in let all = ap (times m) is in let one : bit (eqb p m) ≡ bit (eqb q m) = ap (λ (k : ℕ). bit (eqb k m)) same in
-                  omega arith,
-              λ m h d can. by_test (eqb p m)
+            more = record {
+              seen = p ∷ w.seen;
+              left = ps;
+              before = p;
+              linked = subst (λ (k : ℕ). Linked r.bytes k (number_at r.bytes (k + 16) 4) ps) (sym same) l.2;
+              all =
+                  λ m. let count = w.all m in let rest = ap (times m) is in let one : bit (eqb p m) ≡ bit (eqb q m) = ap (λ (k : ℕ). bit (eqb k m)) same in
+                  omega arith;
+              never =
+                  λ m h d can. by_test (eqb p m)
                   (λ t. never d (subst (λ (k : ℕ). CanHold (element_at r.bytes k) n a d) (sym (eqb-true p m t)) can))
-                  (λ t. let no : bit (eqb p m) ≡ 0 = ap bit t in w.5 m (omega arith) d can),
-            );
+                  (λ t. let no : bit (eqb p m) ≡ 0 = ap bit t in w.never m (omega arith) d can);
+            };
             less = let all = ap length is in let n' : length (q ∷ ps) ≡ suc (length ps) = refl in omega arith;
           }
 
-  pub steps_of : steps_left (length r.bytes) r.bytes p ≡ length w.1
-  steps_of = steps_are (length r.bytes) r.bytes w.2 p w.1 w.3 left_far left_few
+  pub steps_of : steps_left (length r.bytes) r.bytes p ≡ length w.left
+  steps_of = steps_are (length r.bytes) r.bytes w.before p w.left w.linked left_far left_few
 
   -- at the end no element of the list has room for the block
   pub walk_ended : p ≡ none → NoneHolds c n a (elements_in r.bytes)
@@ -159,10 +166,10 @@ module _ (r : RegionView) (laid : IsLaid r) (c n a p : ℕ) (w : Walked r.bytes 
       let some : 1 ≤ belong c e.offset (elements_in r.bytes) =
       subst (λ (k : ℕ). 1 ≤ belong k e.offset (elements_in r.bytes)) class
       (subst (λ (es : List Element). 1 ≤ belong (class_of e.size) e.offset es) (sym in_it.2) (belongs_of in_it.0 e in_it.1 can.0)) in
-      let count = w.4 e.offset in let nothing = empty w.1 w.3 left_far e.offset in
-      w.5 e.offset (omega arith) d (subst (λ (x : Element). CanHold x n a d) ((h.0)) can)
+      let count = w.all e.offset in let nothing = empty w.left w.linked left_far e.offset in
+      w.never e.offset (omega arith) d (subst (λ (x : Element). CanHold x n a d) ((h.0)) can)
     where
-      empty : (ps : List ℕ) → Linked r.bytes w.2 p ps → ((q : ℕ) → 1 ≤ times q ps → q < none) → (m : ℕ) → times m ps ≡ 0
+      empty : (ps : List ℕ) → Linked r.bytes w.before p ps → ((q : ℕ) → 1 ≤ times q ps → q < none) → (m : ℕ) → times m ps ≡ 0
       empty [] l far m = refl
       empty (q ∷ ps) l far m = let one = same_one q in let low = far q (omega arith) in let at = l.0 in absurd (omega arith)
 

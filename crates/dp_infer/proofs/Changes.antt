@@ -14,7 +14,7 @@ use Rattle.std.proofs.lemmas.Option.{same_Some}
 use Rattle.dp_model.specs.Laws.Groups.{group_at_is, group_at_belongs, group_at_none, dissolved_out, dissolved_stays, groups_of_row, least_belongs, unnamed}
 use Rattle.dp_model.specs.Laws.Groups.{fact_at, changed_is, belongs_at, belongs_there, belongs_set, belongs_other, belongs_in, belongs_out, in_one, size_same}
 use Rattle.dp_model.specs.Laws.Groups.{other_group, sole_no_group, loose_no_group, left_name, chained_no_group, reshared_at}
-use Rattle.dp_infer.proofs.Stronger.{StrongerFact, AtMost, zip_length, StrongerHolding, StrongerOption, Stronger}
+use Rattle.dp_infer.proofs.Stronger.{StrongerFact, zip_length, StrongerHolding, StrongerOption, Stronger}
 use Rattle.dp_model.specs.declared.row.Holding.{Holding}
 use Rattle.dp_model.specs.Rows.{is_empty, shared, twin, twin_share, joins, holding, held, held_at, with_fact, emptied, changed}
 use Rattle.dp_model.specs.Rows.{entails_share, after_chain, group_at, with_shares, renamed, dissolved, after_free, after_leave, after_chained}
@@ -135,12 +135,8 @@ one_both g n (Held share head tail first last segs) (Held s h t f l k) m same =
     record { share = go (share == share_of_group g) refl; head = m.head; tail = m.tail; first = m.first; last = m.last; segs = m.segs }
   where
     go : (b : Bool) → (share == share_of_group g) ≡ b → entails_share (cond (share == share_of_group g) n share) (cond (s == share_of_group g) n s) ≡ true
-    go true e =
-        subst (λ b. entails_share (cond b n share) (cond (s == share_of_group g) n s) ≡ true) (sym e)
-        (subst (λ b. entails_share n (cond b n s) ≡ true) (sym (sym same ∙ e)) (share_same n))
-    go false e =
-        subst (λ b. entails_share (cond b n share) (cond (s == share_of_group g) n s) ≡ true) (sym e)
-        (subst (λ b. entails_share share (cond b n s) ≡ true) (sym (sym same ∙ e)) m.share)
+    go true e = rw (e, sym same ∙ e) (share_same n)
+    go false e = rw (e, sym same ∙ e) m.share
 one_both g n Empty (Held s h t f l k) m same = absurd m
 one_both g n (Held share head tail first last segs) Empty m same = absurd m
 
@@ -156,8 +152,7 @@ dissolved_keeps a b p s = go (group_at a p) (group_at b p) refl refl
   where
     fact_of : (o o' : Option ℕ) → AllZip StrongerFact (option_map_or (λ g. with_shares a g 0) o a).facts (option_map_or (λ g. with_shares b g 0) o' b).facts →
         group_at a p ≡ o → group_at b p ≡ o' → AllZip StrongerFact (dissolved a p).facts (dissolved b p).facts
-    fact_of o o' z e e' = subst (λ x. AllZip StrongerFact (option_map_or (λ g. with_shares a g 0) x a).facts (dissolved b p).facts) (sym e)
-        (subst (λ x. AllZip StrongerFact (option_map_or (λ g. with_shares a g 0) o a).facts (option_map_or (λ g. with_shares b g 0) x b).facts) (sym e') z)
+    fact_of o o' z e e' = rw (e, e') z
 
     made : AllZip StrongerFact (dissolved a p).facts (dissolved b p).facts → (x y : Option ℕ) → group_at a p ≡ x → group_at b p ≡ y →
         Stronger (dissolved a p) (dissolved b p)
@@ -166,8 +161,7 @@ dissolved_keeps a b p s = go (group_at a p) (group_at b p) refl refl
       other_live = live b y e' ∙ s.other_live;
       facts = z;
       groups = keeps_dissolved a b p s.groups;
-      bounds = subst (λ ms. AllZip AtMost ms (dissolved b p).bounds) (sym (bounds a x e))
-          (subst (λ ns. AllZip AtMost a.bounds ns) (sym (bounds b y e')) s.bounds);
+      bounds = rw (bounds a x e, bounds b y e') s.bounds;
     }
       where
         live : (r : Row) (o : Option ℕ) → group_at r p ≡ o → (dissolved r p).live ≡ r.live
@@ -184,11 +178,11 @@ dissolved_keeps a b p s = go (group_at a p) (group_at b p) refl refl
 
     go : (x y : Option ℕ) → group_at a p ≡ x → group_at b p ≡ y → Stronger (dissolved a p) (dissolved b p)
     go None None e e' = made (fact_of None None s.facts e e') None None e e'
-    go None (Some g) e e' = let wrong : false ≡ true = sym (group_at_none a p e g) ∙ (both g e' p ∙ group_at_belongs b p g e') in cc
+    go None (Some g) e e' = cc (group_at_none a p e g, both g e' p, group_at_belongs b p g e')
     go (Some g) None e e' =
         made (fact_of (Some g) None (reshared_left g 0 a.facts b.facts s.facts
         (λ i inside. by_cases (belongs b.facts g i)
-        (λ here. let wrong : true ≡ false = sym (group_at_belongs a p g e) ∙ (s.groups i g here p ∙ group_at_none b p e' g) in cc)
+        (λ here. cc (group_at_belongs a p g e, s.groups i g here p, group_at_none b p e' g))
         (λ away. away))) e e') (Some g) None e e'
     go (Some g) (Some x) e e' =
         let there : belongs a.facts x p ≡ true = both x e' p ∙ group_at_belongs b p x e' in
@@ -325,9 +319,7 @@ free_keeps a b p s fits fits' = go (group_at a p) (group_at b p) refl refl
 
     made : (o o' : Option ℕ) → Stronger (option_map_or (λ g. renamed (emptied a p) g) o (emptied a p))
         (option_map_or (λ g. renamed (emptied b p) g) o' (emptied b p)) → group_at a p ≡ o → group_at b p ≡ o' → Stronger (after_free a p) (after_free b p)
-    made o o' z ea eb = subst (λ x. Stronger (option_map_or (λ g. renamed (emptied a p) g) x (emptied a p)) (after_free b p)) (sym ea)
-        (subst (λ x. Stronger (option_map_or (λ g. renamed (emptied a p) g) o (emptied a p)) (option_map_or (λ g. renamed (emptied b p) g) x (emptied b p)))
-        (sym eb) z)
+    made o o' z ea eb = rw (ea, eb) z
 
     both : (g : ℕ) → group_at b p ≡ Some g → (j : ℕ) → belongs a.facts g j ≡ belongs b.facts g j
     both g eb = s.groups p g (group_at_belongs b p g eb)
@@ -338,13 +330,13 @@ free_keeps a b p s fits fits' = go (group_at a p) (group_at b p) refl refl
         (λ is. ap (belongs (emptied b p).facts g) is ∙ set_out b.facts p g Empty refl)
         (λ ne.
         let before : belongs b.facts g i ≡ true = sym (belongs_other b.facts g p i Empty ne) ∙ inside in
-        let wrong : true ≡ false = sym here ∙ (s.groups i g before p ∙ group_at_none b p eb g) in cc)
+        cc (s.groups i g before p, group_at_none b p eb g))
         (cases_eq i p))
         (λ away. away)
 
     go : (x y : Option ℕ) → group_at a p ≡ x → group_at b p ≡ y → Stronger (after_free a p) (after_free b p)
     go None None ea eb = made None None e ea eb
-    go None (Some g) ea eb = let wrong : false ≡ true = sym (group_at_none a p ea g) ∙ (both g eb p ∙ group_at_belongs b p g eb) in cc
+    go None (Some g) ea eb = cc (group_at_none a p ea g, both g eb p, group_at_belongs b p g eb)
     go (Some g) None ea eb =
         let here = group_at_belongs a p g ea in
         let (f, at, is) = belongs_there a.facts g p here in
@@ -353,16 +345,13 @@ free_keeps a b p s fits fits' = go (group_at a p) (group_at b p) refl refl
         let there : belongs a.facts x p ≡ true = both x eb p ∙ group_at_belongs b p x eb in
         let same : g ≡ x = same_Some g x (sym ea ∙ group_at_is a p x there) in
         let left : (j : ℕ) → belongs (emptied a p).facts x j ≡ belongs (emptied b p).facts x j = λ j. ⊎_elim
-        (λ is. ap (belongs (emptied a p).facts x) is ∙ (set_out a.facts p x Empty refl
-        ∙ (sym (set_out b.facts p x Empty refl) ∙ ap (belongs (emptied b p).facts x) (sym is))))
-        (λ ne. belongs_other a.facts x p j Empty ne ∙ (both x eb j ∙ sym (belongs_other b.facts x p j Empty ne)))
+        (λ is. cc (set_out a.facts p x Empty refl, set_out b.facts p x Empty refl))
+        (λ ne. cc (belongs_other a.facts x p j Empty ne, both x eb j, belongs_other b.facts x p j Empty ne))
         (cases_eq j p) in
         let names = share_left_same (emptied a p).facts (emptied b p).facts x (zip_length StrongerFact (emptied a p).facts (emptied b p).facts e.facts) left in
         made (Some g) (Some x)
-        (subst (λ n. Stronger (renamed (emptied a p) n) (renamed (emptied b p) x)) (sym same)
-        (subst (λ n. Stronger (renamed (emptied a p) x) (with_shares (emptied b p) x n)) names
-        (renamed_both (emptied a p) (emptied b p) x (share_left (emptied a p).facts x) e left
-        (λ y i inside ne. let (f, at, is) = belongs_there a.facts x p there in left_share a p x y i fits f at inside ne))))
+        (rw (same, ← names) (renamed_both (emptied a p) (emptied b p) x (share_left (emptied a p).facts x) e left
+        (λ y i inside ne. let (f, at, is) = belongs_there a.facts x p there in left_share a p x y i fits f at inside ne)))
         ea eb
 
 -- ---- cloning a packet into an empty register
@@ -420,13 +409,11 @@ twin_keeps : (a b : Row) (p q n n' : ℕ) (x y : Holding) → Stronger a b → T
 twin_keeps a b p q n n' x y s t = record {
   live = ap (λ r. r.live) (changed_is a q (shared n) x t.first) ∙ s.live;
   other_live = ap (λ r. r.live) (changed_is b q (shared n') y t.second) ∙ s.other_live;
-  facts = subst (λ fs. AllZip StrongerFact fs (twin b p q y n').facts) (sym (twin_facts a p q n x t.first))
-      (subst (λ gs. AllZip StrongerFact (slice_set (slice_set a.facts q (held (shared n x))) p (held (shared n x))) gs) (sym (twin_facts b p q n' y t.second))
+  facts = rw (twin_facts a p q n x t.first, twin_facts b p q n' y t.second)
       (zip_set StrongerFact (slice_set a.facts q (held (shared n x))) (slice_set b.facts q (held (shared n' y))) p (held (shared n x)) (held (shared n' y))
-      (zip_set StrongerFact a.facts b.facts q (held (shared n x)) (held (shared n' y)) s.facts more) more));
+      (zip_set StrongerFact a.facts b.facts q (held (shared n x)) (held (shared n' y)) s.facts more) more);
   groups = λ i g inside j. by_cases (n' == share_of_group g) (fresh g j) (λ out. stale i g j out inside);
-  bounds = subst (λ ms. AllZip AtMost ms (twin b p q y n').bounds) (sym (ap (λ r. r.bounds) (changed_is a q (shared n) x t.first)))
-      (subst (λ ns. AllZip AtMost a.bounds ns) (sym (ap (λ r. r.bounds) (changed_is b q (shared n') y t.second))) s.bounds);
+  bounds = rw (changed_is a q (shared n) x t.first, changed_is b q (shared n') y t.second) s.bounds;
 }
   where
     more : StrongerHolding (shared n x) (shared n' y)
@@ -435,12 +422,10 @@ twin_keeps a b p q n n' x y s t = record {
     both : (g j : ℕ) → (n == share_of_group g) ≡ (n' == share_of_group g) → belongs a.facts g j ≡ belongs b.facts g j → belongs (twin a p q x n).facts g j
         ≡ belongs (twin b p q y n').facts g j
     both g j name same = ⊎_elim
-        (λ is. ap (belongs (twin a p q x n).facts g) is ∙ (twin_p a p q n x t.fa g t.first t.at t.apart
-        ∙ (name ∙ (sym (twin_p b p q n' y t.fb g t.second t.at' t.apart) ∙ ap (belongs (twin b p q y n').facts g) (sym is)))))
+        (λ is. cc (twin_p a p q n x t.fa g t.first t.at t.apart, twin_p b p q n' y t.fb g t.second t.at' t.apart))
         (λ np. ⊎_elim
-        (λ is. ap (belongs (twin a p q x n).facts g) is ∙ (twin_q a p q n x g t.first t.apart
-        ∙ (name ∙ (sym (twin_q b p q n' y g t.second t.apart) ∙ ap (belongs (twin b p q y n').facts g) (sym is)))))
-        (λ nq. twin_else a p q n x g j t.first np nq ∙ (same ∙ sym (twin_else b p q n' y g j t.second np nq)))
+        (λ is. cc (twin_q a p q n x g t.first t.apart, twin_q b p q n' y g t.second t.apart))
+        (λ nq. cc (twin_else a p q n x g j t.first np nq, twin_else b p q n' y g j t.second np nq))
         (cases_eq j q))
         (cases_eq j p)
 
@@ -450,7 +435,7 @@ twin_keeps a b p q n n' x y s t = record {
     stale : (i g j : ℕ) → (n' == share_of_group g) ≡ false → belongs (twin b p q y n').facts g i ≡ true → belongs (twin a p q x n).facts g j
         ≡ belongs (twin b p q y n').facts g j
     stale i g j out inside = ⊎_elim
-        (λ one. let wrong : true ≡ false = sym inside ∙ (one g ∙ out) in cc)
+        (λ one. cc (one g))
         (λ (np, nq).
         let before : belongs b.facts g i ≡ true = sym (twin_else b p q n' y g i t.second np nq) ∙ inside in
         both g j (t.old g i before out ∙ sym out) (s.groups i g before j))
@@ -581,14 +566,14 @@ clone_left a b p q g x y c t t' =
     -- no register belongs to it in the second
     none : (i : ℕ) → belongs b.facts g i ≡ false
     none i = by_cases (belongs b.facts g i)
-        (λ here. let wrong : true ≡ false = sym (group_at_belongs a q g t) ∙ (c.stronger.groups i g here q ∙ group_at_none b q t' g) in cc)
+        (λ here. cc (group_at_belongs a q g t, c.stronger.groups i g here q, group_at_none b q t' g))
         (λ away. away)
 
     before : (i z : ℕ) → belongs b.facts z i ≡ true → belongs a.facts z i ≡ true
     before i z inside = c.stronger.groups i z inside i ∙ inside
 
     other : (i z : ℕ) → belongs b.facts z i ≡ true → z ≢ g
-    other i z inside same = let wrong : true ≡ false = sym inside ∙ (ap (λ y. belongs b.facts y i) same ∙ none i) in cc
+    other i z inside same = cc (none i)
 
     s : Stronger r b
     s = record {
@@ -635,9 +620,7 @@ clone_begun a b p q x y c t t' = go (x.share == 2) (y.share == 2) refl refl
     no_new m z is = absurd (let wrong : true ≡ false = sym is ∙ loose_no_group z in cc)
 
     go : (u v : Bool) → (x.share == 2) ≡ u → (y.share == 2) ≡ v → Stronger (twin a p q x (cond (x.share == 2) n 0)) (twin b p q y (cond (y.share == 2) n 0))
-    go u v eu ev =
-        subst (λ d. Stronger (twin a p q x (cond d n 0)) (twin b p q y (cond (y.share == 2) n 0))) (sym eu)
-        (subst (λ d. Stronger (twin a p q x (cond u n 0)) (twin b p q y (cond d n 0))) (sym ev) (each u v eu ev))
+    go u v eu ev = rw (eu, ev) (each u v eu ev)
       where
         each : (u v : Bool) → (x.share == 2) ≡ u → (y.share == 2) ≡ v → Stronger (twin a p q x (cond u n 0)) (twin b p q y (cond v n 0))
         each true true eu ev = made n n (share_same n)
@@ -674,7 +657,7 @@ clone_keeps a b p q s fits fits' target = go (held_at a q) (held_at b q) refl re
     at = empty_more a.facts b.facts p s.facts at'
 
     both : (x y : Row) → after_clone a p q ≡ x → after_clone b p q ≡ y → Stronger x y → Stronger (after_clone a p q) (after_clone b p q)
-    both x y e e' z = subst (λ r. Stronger r (after_clone b p q)) (sym e) (subst (λ r. Stronger x r) (sym e') z)
+    both x y e e' z = rw (e, e') z
 
     groups : (x y : Holding) → Sources a b p q x y → (o o' : Option ℕ) → group_at a q ≡ o → group_at b q ≡ o' → Stronger (after_clone a p q) (after_clone b p q)
     groups x y c None None t t' =
@@ -685,8 +668,7 @@ clone_keeps a b p q s fits fits' target = go (held_at a q) (held_at b q) refl re
         (omega (arith, sole_more x.share y.share c.more.share two, eqb-true x.share (8 + g) (held_group a q g x c.first t)))) in
         both (joins a p q x g) (twin b p q y (twin_share p q y)) (clone_is a p q x (Some g) c.first t) (clone_is b p q y None c.second t')
         (subst (λ d. Stronger (joins a p q x g) (twin b p q y (cond d (share_of_group (min p q)) 0))) (sym ne) (clone_left a b p q g x y c t t'))
-    groups x y c None (Some g) t t' = let wrong : false ≡ true = sym (group_at_none a q t g)
-        ∙ (s.groups q g (group_at_belongs b q g t') q ∙ group_at_belongs b q g t') in cc
+    groups x y c None (Some g) t t' = cc (group_at_none a q t g, s.groups q g (group_at_belongs b q g t') q, group_at_belongs b q g t')
     groups x y c (Some g) (Some h) t t' =
         let there : belongs a.facts h q ≡ true = s.groups q h (group_at_belongs b q h t') q ∙ group_at_belongs b q h t' in
         let same : group_at a q ≡ Some h = group_at_is a q h there in

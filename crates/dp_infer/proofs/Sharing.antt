@@ -55,7 +55,7 @@ keeps_further fs gs hs one two i x inside j =
 -- rows in which the same registers belong to the same groups
 pub keeps_moved : (fs fs' gs gs' : List Fact) → ((x i : ℕ) → belongs fs' x i ≡ belongs fs x i) → ((x i : ℕ) → belongs gs' x i ≡ belongs gs x i) →
     KeepsGroups fs gs → KeepsGroups fs' gs'
-keeps_moved fs fs' gs gs' first second keeps i x inside j = first x j ∙ (keeps i x (sym (second x i) ∙ inside) j ∙ sym (second x j))
+keeps_moved fs fs' gs gs' first second keeps i x inside j = cc (first x j, second x j, keeps i x (sym (second x i) ∙ inside) j)
 
 -- ---- the order of shares
 
@@ -75,7 +75,7 @@ pub share_is : (a b : ℕ) → a ≡ b → entails_share a b ≡ true
 share_is a b e = subst (λ n. entails_share a n ≡ true) e (share_same a)
 
 pub share_two : (a b : ℕ) → a ≡ 2 → b ≡ 1 → entails_share a b ≡ true
-share_two a b two one = subst (λ n. entails_share n b ≡ true) (sym two) (subst (λ n. entails_share 2 n ≡ true) (sym one) refl)
+share_two a b two one = rw (two, one) refl
 
 -- any share with a sole first buffer entails 1
 pub one_of : (a : ℕ) → owns_head a ≡ true → entails_share a 1 ≡ true
@@ -99,9 +99,8 @@ sole_more a b e two = ⊎_elim (λ z. absurd (omega (arith, z, two))) (⊎_elim 
 
 pub owns_more : (a b : ℕ) → entails_share a b ≡ true → owns_head b ≡ true → owns_head a ≡ true
 owns_more a b e owns = ⊎_elim
-    (λ one. ⊎_elim (λ z. absurd (omega (arith, z, eqb-true b 1 one))) (⊎_elim (λ same. subst (λ n. owns_head n ≡ true) (sym same) owns)
-    (λ (x, y). subst (λ n. owns_head n ≡ true) (sym x) refl)) (share_cases a b e))
-    (λ two. subst (λ n. owns_head n ≡ true) (sym (sole_more a b e (eqb-true b 2 two))) refl)
+    (λ one. ⊎_elim (λ z. absurd (omega (arith, z, eqb-true b 1 one))) (⊎_elim (λ same. rw same owns) (λ (x, y). rw x refl)) (share_cases a b e))
+    (λ two. rw (sole_more a b e (eqb-true b 2 two)) refl)
     (or_cases (b == 1) (b == 2) owns)
 
 -- the same for two chained packets
@@ -109,7 +108,7 @@ pub share_chained : (a b a' b' : ℕ) → entails_share a a' ≡ true → entail
 share_chained a b a' b' h k = by_cases ((a' == 2) && (b' == 2)) both (λ less. by_cases (owns_head a') (first less) (none less))
   where
     sole : a ≡ 2 → b ≡ 2 → chained_share a b ≡ 2
-    sole x y = subst (λ n. chained_share n b ≡ 2) (sym x) (subst (λ n. chained_share 2 n ≡ 2) (sym y) refl)
+    sole x y = rw (x, y) refl
 
     both : ((a' == 2) && (b' == 2)) ≡ true → entails_share (chained_share a b) (chained_share a' b') ≡ true
     both e =
@@ -137,14 +136,13 @@ set_out (g ∷ fs) (suc p) x f out = set_out fs p x f out
 pub keeps_out : (fs gs : List Fact) (p : ℕ) (f g : Fact) → ((x : ℕ) → is_in x f ≡ false) → ((x : ℕ) → is_in x g ≡ false) → KeepsGroups fs gs →
     KeepsGroups (slice_set fs p f) (slice_set gs p g)
 keeps_out fs gs p f g first second keeps i x inside j = ⊎_elim
-    (λ is. ap (belongs (slice_set fs p f) x) is ∙ (set_out fs p x f (first x)
-    ∙ (sym (set_out gs p x g (second x)) ∙ ap (belongs (slice_set gs p g) x) (sym is))))
-    (λ ne. belongs_other fs x p j f ne ∙ (keeps i x before j ∙ sym (belongs_other gs x p j g ne)))
+    (λ is. cc (set_out fs p x f (first x), set_out gs p x g (second x)))
+    (λ ne. cc (belongs_other fs x p j f ne, keeps i x before j, belongs_other gs x p j g ne))
     (cases_eq j p)
   where
     before : belongs gs x i ≡ true
     before = ⊎_elim
-        (λ is. let wrong : true ≡ false = sym inside ∙ (ap (belongs (slice_set gs p g) x) is ∙ set_out gs p x g (second x)) in cc)
+        (λ is. cc (set_out gs p x g (second x)))
         (λ ne. sym (belongs_other gs x p i g ne) ∙ inside)
         (cases_eq i p)
 
@@ -160,18 +158,17 @@ dissolved_other : (row : Row) (p x i : ℕ) → belongs row.facts x p ≡ false 
 dissolved_other row p x i outside = go (group_at row p) refl
   where
     go : (o : Option ℕ) → group_at row p ≡ o → belongs (dissolved row p).facts x i ≡ belongs row.facts x i
-    go None e = ap (λ o. belongs (option_map_or (λ g. with_shares row g 0) o row).facts x i) e
+    go None e = rw e refl
     go (Some g) e =
-        let ne : x ≢ g = λ same. let wrong : false ≡ true = sym outside ∙ (ap (λ n. belongs row.facts n p) same ∙ group_at_belongs row p g e) in cc in
-        ap (λ o. belongs (option_map_or (λ g. with_shares row g 0) o row).facts x i) e
-        ∙ by_cases (belongs row.facts g i)
-        (λ here. belongs_in row.facts x g 0 i here ∙ (loose_no_group x ∙ sym (in_one row.facts g x i ne here)))
-        (λ away. belongs_out row.facts x g 0 i away)
+        let ne : x ≢ g = λ same. cc (group_at_belongs row p g e) in
+        rw e (by_cases (belongs row.facts g i)
+        (λ here. cc (belongs_in row.facts x g 0 i here, loose_no_group x, in_one row.facts g x i ne here))
+        (λ away. belongs_out row.facts x g 0 i away))
 
 pub keeps_dissolved : (a b : Row) (p : ℕ) → KeepsGroups a.facts b.facts → KeepsGroups (dissolved a p).facts (dissolved b p).facts
 keeps_dissolved a b p keeps i x inside j = by_cases (belongs b.facts x p)
-    (λ here. let wrong : true ≡ false = sym inside ∙ dissolved_gone b p x i here in cc)
+    (λ here. cc (dissolved_gone b p x i here))
     (λ away.
     let before : belongs b.facts x i ≡ true = sym (dissolved_other b p x i away) ∙ inside in
     let out : belongs a.facts x p ≡ false = keeps i x before p ∙ away in
-    dissolved_other a p x j out ∙ (keeps i x before j ∙ sym (dissolved_other b p x j away)))
+    cc (dissolved_other a p x j out, keeps i x before j, dissolved_other b p x j away))
