@@ -210,9 +210,8 @@ def is_fast(program: str, made: str, pipeline: pathlib.Path) -> bool:
     return each[0] - each[1] >= GAIN
 
 
-def is_built(program: str, pipeline: pathlib.Path) -> list[bool]:
+def does_the_same(program: str, made: str, pipeline: pathlib.Path) -> list[bool]:
     """Whether a program with this pipeline's node program compiled does the same, faster, and reports what it interprets."""
-    made = nodes.with_machine_code(program, pipeline)
     passed = [is_run(made, pipeline, ""), is_fast(program, made, pipeline)]
     node = pipeline.parent / tomllib.loads(pipeline.read_text())["port"][0]["node"]
     node.write_text(node.read_text() + "exit\n")
@@ -228,7 +227,8 @@ def main() -> int:
         pipelines = [*(it for it in sorted((name / "examples").glob("*/*.toml")) if it.parent.name != "refused"), all_forms(name / "all")]
         passed = [is_module(program, it) for it in pipelines]
         if len(words) < len(sys.argv) - 1:
-            passed += is_built(program, name / "examples" / "ttl" / "ttl.toml")
+            pipeline = name / "examples" / "ttl" / "ttl.toml"
+            passed += does_the_same(program, nodes.with_machine_code(program, pipeline), pipeline)
     return 0 if all(passed) else 1
 
 

@@ -1,20 +1,24 @@
 #!/usr/bin/env python3
 """Runs random cases of tests/fuzz.py with a program dpv in which their node programs are compiled to machine code.
 
-Usage: tests/fuzz_compiled.py [--seed N] [--families N] [--cases N] [PROGRAM]
+Usage: tests/fuzz_compiled.py [--seed N] [--families N] [--cases N] [--gate] [PROGRAM]
 The programs of N families of cases (by default 12) are built into a program, once, as `./dpv --compiled` does with those of a pipeline;
 that takes some minutes. It then runs cases of these families, each with other captures and other calls refused, and compares them with
-tests/model, as tests/fuzz.py does. Prints what tests/fuzz.py prints, and ends as it does.
+tests/model, as tests/fuzz.py does. Prints what tests/fuzz.py prints, and ends as it does. With --gate the program is built over the crates
+as `rt ci` left them, with the node program of examples/ttl beside the others, and first tested with that example, as by tests/compiled.py
+--build.
 """
 import argparse
+import shutil
 import subprocess
 import sys
 
 import compiled
-from command import TOP, new_folder, program_of
+from command import HERE, TOP, new_folder, program_of
 from fuzz import Dice, Maker
 
 KINDS = ["one", "run"]
+TTL = TOP / "examples/ttl"
 
 
 def texts(seed: str, families: int) -> list[bytes]:
@@ -24,6 +28,22 @@ def texts(seed: str, families: int) -> list[bytes]:
     return [text for case in cases for name, text in sorted(case.files.items()) if name[0] == "n"]
 
 
+def with_machine_code(program: str, nodes: list[bytes], *builder: str) -> str:
+    """The program that has these node programs as machine code, which is built where it has to be."""
+    with new_folder() as folder:
+        module = folder / "programs.rt"
+        module.write_text(compiled.module(compiled.programs_of(nodes)))
+        words = [str(TOP / "tools/compiled"), program, str(module), *builder]
+        return subprocess.run(words, check=True, stdout=subprocess.PIPE, text=True).stdout.strip()
+
+
+def does_ttl(program: str, made: str) -> bool:
+    """Whether the program passes the test of tests/compiled.py with examples/ttl."""
+    with new_folder() as folder:
+        shutil.copytree(TTL, folder / "ttl")
+        return all(compiled.does_the_same(program, made, folder / "ttl/ttl.toml"))
+
+
 def main() -> int:
     """All of it."""
     parser = argparse.ArgumentParser(description="Runs random cases of tests/fuzz.py with compiled node programs.")
@@ -31,12 +51,15 @@ def main() -> int:
     parser.add_argument("--seed", default="1")
     parser.add_argument("--families", type=int, default=12)
     parser.add_argument("--cases", type=int, default=100_000)
+    parser.add_argument("--gate", action="store_true")
     asked = parser.parse_args()
-    with new_folder() as folder:
-        module = folder / "programs.rt"
-        module.write_text(compiled.module(compiled.programs_of(texts(asked.seed, asked.families))))
-        words = [str(TOP / "tools/compiled"), program_of(asked.program), str(module)]
-        made = subprocess.run(words, check=True, stdout=subprocess.PIPE, text=True).stdout.strip()
+    program, nodes = program_of(asked.program), texts(asked.seed, asked.families)
+    if asked.gate:
+        made = with_machine_code(program, [*nodes, (TTL / "ttl.dpv").read_bytes()], str(HERE / "over_gate.py"))
+        if not does_ttl(program, made):
+            return 1
+    else:
+        made = with_machine_code(program, nodes)
     words = ["--seed", asked.seed, "--families", str(asked.families), "--only", ",".join(KINDS), "--cases", str(asked.cases), made]
     return subprocess.run([sys.executable, str(TOP / "tests/fuzz.py"), *words], check=False).returncode
 

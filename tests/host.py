@@ -27,10 +27,11 @@ import tomllib
 from random import Random
 from typing import Any, BinaryIO, NamedTuple
 
+import over_gate
 from cases.pipelines import pipeline_files
 from command import HERE, TOP
 from model import captures, machine, pipelines
-from planted import CRATES, toolchain
+from planted import CRATES
 
 CROSS = TOP / "examples/live"
 # The words with which DPDK needs no privileges, no huge pages and no card.
@@ -42,12 +43,8 @@ def put_library(folder: pathlib.Path, over_gate: bool) -> None:
     words = [str(TOP / "tools/library"), str(folder)]
     folder.mkdir()
     if over_gate:
-        crate = CRATES["dp_host"]
         made = folder / "libdp_host.a"
-        over = ["--toolchain", f"{toolchain()}/toolchain", "--backend", "llvm", "--incremental", "out/incremental", "-o", str(made)]
-        run = subprocess.run([f"{toolchain()}/bin/rattle", "build", *crate.words(), *over], cwd=crate.folder, capture_output=True, text=True)
-        if run.returncode != 0:
-            sys.exit(f"{run.stdout}{run.stderr}host: the library was not built")
+        over_gate.build(CRATES["dp_host"], made)
         words.append(str(made))
     subprocess.run(words, check=True)
 

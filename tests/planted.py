@@ -1,7 +1,7 @@
 #!/usr/bin/env python3
 """Tries wrong bodies that the prover must refuse: crates/NAME/planted/*.edit and planted/always/*.edit, each written as an edit of
 must-fail/ is. Those of planted/always are the ones that matter most: the gate tries them each time, as `rt ci` tries those of must-fail/,
-which are in crates that are proved in a minute, since that check proves the whole crate once more.
+which only crates that are proved in less than a minute have, since `rt ci` proves the whole crate once more before the first.
 
 Usage: tests/planted.py [--jobs N] [--alone] [--must-fail] [--since COMMIT] [--part N OF] [--most N] [CRATE ..]
        tests/planted.py [--jobs N] [--alone] FILE.edit ..
@@ -17,7 +17,7 @@ Where nothing says which, all are tried.
                are left for another time, and counted
   --must-fail  those of must-fail/ as well, which `rt ci` tries each time
   --gate       what the gate tries at this commit: all of planted/always; and of the others --since the commit 8 changes back,
-               --part N 8, where N is the number of changes so far by 8, and --most 40; where there is no such history every crate
+               --part N 8, where N is the number of changes so far by 8, and --most 16; where there is no such history every crate
                counts as changed, and the day is N
   --count      tries none: writes how many each crate has into the table of docs/notes/wrong_bodies.md
   --alone      each in a check of its own
@@ -50,7 +50,7 @@ from collections.abc import Iterable
 
 TOP = pathlib.Path(__file__).resolve().parent.parent
 # Where the gate's turn comes round, and how many more edits than those of its turn it tries at most.
-PARTS, MOST = 8, 40
+PARTS, MOST = 8, 16
 # The folders of wrong bodies: those that `rt ci` tries, those that the gate tries each time, and those that have a turn.
 MUST_FAIL, ALWAYS, PLANTED = FOLDERS = ("must-fail", "planted/always", "planted")
 # How many edits share a check at first, and again if something else hid the result of one.

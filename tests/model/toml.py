@@ -13,6 +13,8 @@ STRING = r'"""(?:[^\\]|\\.)*?"{3,5}|"(?:[^"\\\n]|\\.)*"|' + r"'''.*?'{3,5}|'[^'\
 TIME = r"(?<![\d:.+-])\d\d:\d\d(?::60(?!\d)|(?![:\d]))"
 # Strings, comments, such times, and each other character by itself.
 PARTS = re.compile(rf"{STRING}|#[^\n]*|{TIME}|.", re.S)
+# Without an inline table, an escape or such a time, a text of 1.1 is one of 1.0.
+NEW = re.compile(rf"[{{\\]|{TIME}")
 # What no comment may have.
 CONTROL = re.compile(r"[\x00-\x08\x0b-\x1f\x7f]")
 
@@ -32,6 +34,8 @@ def older(text: str) -> str:
     text = text.replace("\r\n", "\n")
     if "\r" in text:
         raise ValueError("a carriage return without a newline")
+    if not NEW.search(text):
+        return text
     parts, out, open_ = PARTS.findall(text), [], []
     meant = [k for k, part in enumerate(parts) if not is_blank(part)]
     after = dict(zip([-1, *meant], [*(parts[k] for k in meant), ""]))

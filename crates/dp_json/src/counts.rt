@@ -46,10 +46,11 @@ fn table(
 ) -> Result<Value, AllocError>
     ensures { IfOk result (λ v. view v ≡ spec.table_data counts.now sources.now table) }
 {
-    let index = number(alloc, u64::from(table))?;
-    let hits = number(alloc, total_of(counts, Total::Hits(table), sources))?;
-    let misses = number(alloc, total_of(counts, Total::Misses(table), sources))?;
-    json!(in alloc; {"table": index, "misses": misses, "hits": hits})
+    json!(in alloc; {
+        "table": number(alloc, u64::from(table))?,
+        "misses": number(alloc, total_of(counts, Total::Misses(table), sources))?,
+        "hits": number(alloc, total_of(counts, Total::Hits(table), sources))?
+    })
 }
 
 /// The tables, in order.
@@ -80,11 +81,12 @@ fn ring(
 ) -> Result<Value, AllocError>
     ensures { IfOk result (λ v. view v ≡ spec.ring_data counts.now sources.now ring waited own) }
 {
-    let index = number(alloc, u64::from(ring))?;
-    let most = number(alloc, u64::from(waited))?;
-    let capacity = number(alloc, u64::from(own.count.saturating_sub(1)))?;
-    let full = number(alloc, total_of(counts, Total::Full(ring), sources))?;
-    json!(in alloc; {"ring": index, "most": most, "full": full, "capacity": capacity})
+    json!(in alloc; {
+        "ring": number(alloc, u64::from(ring))?,
+        "most": number(alloc, u64::from(waited))?,
+        "full": number(alloc, total_of(counts, Total::Full(ring), sources))?,
+        "capacity": number(alloc, u64::from(own.count.saturating_sub(1)))?
+    })
 }
 
 /// At most eight rings, in order.
@@ -119,10 +121,11 @@ fn first_rings(rings: &[RingSpec]) -> &[RingSpec]
 fn pool(alloc: Global, pool: u64, free: u32, own: PoolSpec) -> Result<Value, AllocError>
     ensures { IfOk result (λ v. view v ≡ spec.pool_data pool free own) }
 {
-    let index = number(alloc, pool)?;
-    let least = number(alloc, u64::from(free.min(own.count)))?;
-    let count = number(alloc, u64::from(own.count))?;
-    json!(in alloc; {"pool": index, "least": least, "count": count})
+    json!(in alloc; {
+        "pool": number(alloc, pool)?,
+        "least": number(alloc, u64::from(free.min(own.count)))?,
+        "count": number(alloc, u64::from(own.count))?
+    })
 }
 
 /// At most eight pools, in order.
@@ -160,9 +163,10 @@ pub fn counts_of(
 ) -> Result<Value, AllocError>
     ensures { IfOk result (λ v. view v ≡ spec.counts_data counts.now levels.now env.now sources.now) }
 {
-    let nodes = programs(alloc, counts, sources)?;
-    let tables = tables(alloc, counts, sources, env.tables())?;
-    let rings = few_rings(alloc, counts, levels, sources, first_rings(env.rings()))?;
-    let pools = few_pools(alloc, levels, first_pools(env.pools()))?;
-    json!(in alloc; {"tables": tables, "rings": rings, "pools": pools, "nodes": nodes})
+    json!(in alloc; {
+        "tables": tables(alloc, counts, sources, env.tables())?,
+        "rings": few_rings(alloc, counts, levels, sources, first_rings(env.rings()))?,
+        "pools": few_pools(alloc, levels, first_pools(env.pools()))?,
+        "nodes": programs(alloc, counts, sources)?
+    })
 }

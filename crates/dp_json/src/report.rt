@@ -37,21 +37,14 @@ fn cut_at(alloc: Global, state: InputState) -> Result<Value, AllocError>
 fn port(alloc: Global, index: u64, port: PortReport) -> Result<Value, AllocError>
     ensures { IfOk result (λ v. view v ≡ spec.port_data index port) }
 {
-    let index = number(alloc, index)?;
-    let received = number(alloc, port.received)?;
-    let nobuf = number(alloc, port.nobuf)?;
-    let oversize = number(alloc, port.oversize)?;
-    let sent = number(alloc, port.sent)?;
-    let input = state_word(port.state);
-    let cut_at = cut_at(alloc, port.state)?;
     json!(in alloc; {
-        "sent": sent,
-        "received": received,
-        "port": index,
-        "oversize": oversize,
-        "nobuf": nobuf,
-        "input": input,
-        "cut_at": cut_at
+        "sent": number(alloc, port.sent)?,
+        "received": number(alloc, port.received)?,
+        "port": number(alloc, index)?,
+        "oversize": number(alloc, port.oversize)?,
+        "nobuf": number(alloc, port.nobuf)?,
+        "input": state_word(port.state),
+        "cut_at": cut_at(alloc, port.state)?
     })
 }
 
@@ -92,10 +85,11 @@ pub fn rings(alloc: Global, rings: &[u64]) -> Result<Value, AllocError>
 fn pool(alloc: Global, index: u64, pool: PoolReport) -> Result<Value, AllocError>
     ensures { IfOk result (λ v. view v ≡ spec.pool_data index pool) }
 {
-    let index = number(alloc, index)?;
-    let free = number(alloc, pool.free)?;
-    let count = number(alloc, pool.count)?;
-    json!(in alloc; {"pool": index, "free": free, "count": count})
+    json!(in alloc; {
+        "pool": number(alloc, index)?,
+        "free": number(alloc, pool.free)?,
+        "count": number(alloc, pool.count)?
+    })
 }
 
 /// The free buffers of the pools, in order.

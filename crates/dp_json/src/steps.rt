@@ -44,21 +44,14 @@ fn instruction(
 ) -> Result<Value, AllocError>
     ensures { IfOk result (λ v. view v ≡ spec.instruction_data step counts line.now) }
 {
-    let label = number(alloc, step.label as u64)?;
-    let code = text(alloc, code_of(line))?;
-    let comment = comment(alloc, line)?;
-    let ran = number(alloc, counts.ran)?;
-    let taken = taken(alloc, step.role, counts)?;
-    let cut = number(alloc, counts.cut)?;
-    let ends = ends(alloc, step.role)?;
     json!(in alloc; {
-        "text": code,
-        "taken": taken,
-        "ran": ran,
-        "label": label,
-        "ends": ends,
-        "cut": cut,
-        "comment": comment
+        "text": text(alloc, code_of(line))?,
+        "taken": taken(alloc, step.role, counts)?,
+        "ran": number(alloc, counts.ran)?,
+        "label": number(alloc, step.label as u64)?,
+        "ends": ends(alloc, step.role)?,
+        "cut": number(alloc, counts.cut)?,
+        "comment": comment(alloc, line)?
     })
 }
 

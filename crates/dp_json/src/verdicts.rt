@@ -85,11 +85,12 @@ fn rule_name(alloc: Global, rule: u8) -> Result<Value, AllocError>
 pub fn refused(alloc: Global, refusal: Refusal) -> Result<Value, AllocError>
     ensures { IfOk result (λ v. view v ≡ spec.refused_data refusal) }
 {
-    let name = node_name(alloc, refusal.node)?;
-    let label = number(alloc, u64::from(refusal.label))?;
-    let rule = rule_name(alloc, refusal.rule)?;
-    let verdict = verdict_word(refusal.given);
-    json!(in alloc; {"verdict": verdict, "rule": rule, "node": name, "label": label})
+    json!(in alloc; {
+        "verdict": verdict_word(refusal.given),
+        "rule": rule_name(alloc, refusal.rule)?,
+        "node": node_name(alloc, refusal.node)?,
+        "label": number(alloc, u64::from(refusal.label))?
+    })
 }
 
 /// The lines of a text.

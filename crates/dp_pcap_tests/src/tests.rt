@@ -1,6 +1,7 @@
 //! Captures that were spelled by hand, and devices that fail.
 mod devices;
 mod reading;
+mod whole_records;
 mod writing;
 
 use crate::copy;

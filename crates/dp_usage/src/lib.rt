@@ -64,6 +64,14 @@ fn unbuffered<'a>(alloc: Global) -> Arg<'a> {
     flag(alloc, "unbuffered", help).short('U')
 }
 
+/// Adds the options of what a run prints, and when it writes.
+fn with_reports<'a>(alloc: Global, run: Command<'a>) -> Result<Command<'a>, AllocError> {
+    run.arg(counts(alloc))?
+        .arg(json(alloc))?
+        .arg(progress(alloc))?
+        .arg(unbuffered(alloc))
+}
+
 /// `dpv one NODE CERT IN OUT [--counts] [--json] [--progress] [-U]`.
 fn one<'a>(alloc: Global) -> Result<Command<'a>, AllocError> {
     let about = "Runs one node program on one port, from a capture to a capture";
@@ -71,10 +79,7 @@ fn one<'a>(alloc: Global) -> Result<Command<'a>, AllocError> {
     for (name, help) in ONE {
         one = one.arg(needed(alloc, name, help))?;
     }
-    one.arg(counts(alloc))?
-        .arg(json(alloc))?
-        .arg(progress(alloc))?
-        .arg(unbuffered(alloc))
+    with_reports(alloc, one)
 }
 
 /// A command on a pipeline file.
@@ -199,12 +204,8 @@ fn with_captures<'a>(alloc: Global, run: Command<'a>) -> Result<Command<'a>, All
 fn run<'a>(alloc: Global) -> Result<Command<'a>, AllocError> {
     let about = "Runs a pipeline, from its captures to its captures";
     let run = on_pipeline(alloc, "run", about)?;
-    with_captures(alloc, run)?
-        .arg(refuse(alloc))?
-        .arg(counts(alloc))?
-        .arg(json(alloc))?
-        .arg(progress(alloc))?
-        .arg(unbuffered(alloc))
+    let run = with_captures(alloc, run)?.arg(refuse(alloc))?;
+    with_reports(alloc, run)
 }
 
 /// Adds the options by which records of a trace are picked.
@@ -245,20 +246,28 @@ fn check<'a>(alloc: Global) -> Result<Command<'a>, AllocError> {
         .arg(json(alloc))
 }
 
+/// Adds a command, if it could be made.
+fn with<'a>(
+    dpv: Command<'a>,
+    made: Result<Command<'a>, AllocError>,
+) -> Result<Command<'a>, AllocError> {
+    dpv.subcommand(made?)
+}
+
 /// Adds the commands that judge one program, or all of a pipeline.
 fn with_judging<'a>(alloc: Global, dpv: Command<'a>) -> Result<Command<'a>, AllocError> {
-    dpv.subcommand(one(alloc)?)?
-        .subcommand(check(alloc)?)?
-        .subcommand(infer(alloc)?)?
-        .subcommand(infer_one(alloc)?)
+    let dpv = with(dpv, one(alloc))?;
+    let dpv = with(dpv, check(alloc))?;
+    let dpv = with(dpv, infer(alloc))?;
+    with(dpv, infer_one(alloc))
 }
 
 /// Adds the commands that explain a verdict.
 fn with_reasons<'a>(alloc: Global, dpv: Command<'a>) -> Result<Command<'a>, AllocError> {
-    dpv.subcommand(explain(alloc)?)?
-        .subcommand(explain_one(alloc)?)?
-        .subcommand(show(alloc)?)?
-        .subcommand(show_one(alloc)?)
+    let dpv = with(dpv, explain(alloc))?;
+    let dpv = with(dpv, explain_one(alloc))?;
+    let dpv = with(dpv, show(alloc))?;
+    with(dpv, show_one(alloc))
 }
 
 /// `dpv compile FILE`.
@@ -269,10 +278,10 @@ fn compile<'a>(alloc: Global) -> Result<Command<'a>, AllocError> {
 
 /// Adds the commands that run a pipeline or a script.
 fn with_runs<'a>(alloc: Global, dpv: Command<'a>) -> Result<Command<'a>, AllocError> {
-    dpv.subcommand(compile(alloc)?)?
-        .subcommand(run(alloc)?)?
-        .subcommand(trace(alloc)?)?
-        .subcommand(mem(alloc)?)
+    let dpv = with(dpv, compile(alloc))?;
+    let dpv = with(dpv, run(alloc))?;
+    let dpv = with(dpv, trace(alloc))?;
+    with(dpv, mem(alloc))
 }
 
 /// The program with its commands.

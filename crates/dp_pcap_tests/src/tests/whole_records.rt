@@ -1,6 +1,12 @@
 //! A capture that goes by in two pieces, cut at each of its bytes.
-use crate::WholeRecords;
-use crate::byte_order::Order;
+use dp_pcap::WholeRecords;
+
+/// The byte order of the capture's numbers.
+#[derive(Clone, Copy)]
+enum Order {
+    Little,
+    Big,
+}
 
 // The bytes of the capture: a header, a record of 3 bytes, one of none, one of 2, and the head of one more.
 const LEN: usize = 24 + 16 + 3 + 16 + 16 + 2 + 16;
