@@ -59,7 +59,8 @@ struct dpv_batch_size {
     uint64_t bytes;   /* their bytes in all */
 };
 
-/* What one pass sent: records[0 .. filled.records], port by port, each port's in the order of sending. The caller owns both arrays. */
+/* What one pass sent: records[0 .. filled.records], port by port, each port's in the order of sending, and their bytes in
+   bytes[0 .. filled.bytes]. The caller owns both arrays; a pass changes nothing else of them. */
 struct dpv_batch {
     struct dpv_record *records;
     uint8_t *bytes;
@@ -67,8 +68,9 @@ struct dpv_batch {
     struct dpv_batch_size filled;
 };
 
-/* Why a pipeline was not loaded. cause is 0 (it was loaded), 1 (memory), 2 (the packed files), 3 (the region is too small), or 10 plus
-   the cause that `dpv check` names. The text is what `dpv check` prints after `fault: pipeline`, without a terminating zero. */
+/* Why a pipeline was not loaded. cause is 0 (it was loaded), 1 (memory was refused), 2 (the packed files), 3 (the region is too small), or
+   10 plus the cause that `dpv check` names, 11 to 19. From 11 on the text is what `dpv check` prints after `fault: pipeline`. Zeros follow
+   it, at least one. */
 struct dpv_reason {
     uint32_t cause;
     uint32_t length;
@@ -104,7 +106,8 @@ struct dpv_totals {
 
 /* The bytes that an engine needs in the caller's memory, apart from its region. Align them to 16. */
 size_t dpv_size(void);
-/* Opens an engine in memory of dpv_size() bytes; dpv_open calls it. */
+/* Opens an engine in memory of dpv_size() bytes; dpv_open calls it. If it opens none, dpv_why has the reason, and later calls return
+   DPV_NOT_OPEN. */
 void dpv_begin(dpv_t *engine, const uint8_t *toml, size_t toml_length, const uint8_t *packed, size_t packed_length);
 /* Passes in a frame; dpv_pass calls it. */
 uint32_t dpv_pass_into(dpv_t *engine, uint32_t port, uint64_t time, const uint8_t *frame, size_t length, struct dpv_record *records,
@@ -141,8 +144,8 @@ static inline size_t dpv_pack(uint8_t *to, const char *name, const uint8_t *byte
     return 8 + (size_t)lengths[0] + length;
 }
 
-/* Opens an engine for a pipeline file and the files that it names, packed one after the other. NULL if it is not loaded; the reason
-   says why. Free it by dpv_free after dpv_close. */
+/* Opens an engine for a pipeline file and the files that it names, packed one after the other, at most 64, with names in UTF-8. NULL if it
+   is not loaded; the reason says why. Free it by dpv_free after dpv_close. */
 static inline dpv_t *dpv_open(const uint8_t *toml, size_t toml_length, const uint8_t *packed, size_t packed_length, struct dpv_reason *reason)
 {
     dpv_t *engine = (dpv_t *)malloc((dpv_size() + 15) / 16 * 16);

@@ -1,13 +1,13 @@
 -- What a pass copies: how frames lie in a batch, and that a batch of the largest size has room for them.
 use Rattle.std.proofs.Common.{◌≡◌, ℕ, zero, suc, ◌+◌, ◌-◌, ◌*◌, ◌<◌, ◌≤◌, max, min, List, [], ◌∷◌, ◌++◌, length}
-use Rattle.std.proofs.Common.{take, drop, map, Some, refl, sym, ◌∙◌, ap, arith}
+use Rattle.std.proofs.Common.{take, drop, drop-drop, map, Some, refl, sym, ◌∙◌, ap, arith}
 use Rattle.std.proofs.Common.{append_assoc, append-nil, length-append, add-one, add-zero, zero-add}
 use Rattle.std.specs.Prelude.{slice_get, slice_set, flat_map, true, ◌&&◌, nat_le}
 use Rattle.std.specs.List.{AllByRecursion}
 use Rattle.std.proofs.Math.Nat.{le-max_left, le-max_right, mul-le-mul_right}
 use Rattle.std.proofs.Math.Seq.{take-append_seam, take-append-add}
 use Rattle.std.proofs.lemmas.Bool.{leb-true, and_parts}
-use Rattle.std.proofs.lemmas.List.{length-take, length-take-le, map-append, take-append-drop, take_more_set}
+use Rattle.std.proofs.lemmas.List.{drop-set-lt, length-take, length-take-le, map-append, take-append-drop, take_more_set}
 use Rattle.std.proofs.lemmas.Slice.{drop-append-drop}
 use Rattle.std.proofs.lemmas.List.Concat.{flat_map-append}
 use Rattle.std.proofs.lemmas.List.Sums.{sum_by-cons}
@@ -23,7 +23,7 @@ use Rattle.dp_model.specs.Laws.Lists.{all_left, all_right, take_more}
 use Rattle.dp_model.specs.Laws.Within.{parts}
 use Rattle.dp_engine.specs.declared.batch.SentRecord.{SentRecord}
 use Rattle.dp_engine.specs.declared.batch.BatchSize.{BatchSize}
-use Rattle.dp_engine.specs.Batches.{Frame, frame_of, frames_from, frames_in, bytes_of_all, records_for, Holds, all_buffers, widest}
+use Rattle.dp_engine.specs.Batches.{Frame, frame_of, frames_from, frames_in, bytes_of_all, records_for, Holds, KeepsRest, all_buffers, widest}
 use Rattle.dp_model.specs.Laws.Few.{live_few}
 
 -- ---- what was written
@@ -91,6 +91,49 @@ holds_more time frames f records bytes held room fits was = record {
 -- nothing is held at first
 pub holds_none : (time : ℕ) (records : List SentRecord) (bytes : List ℕ) → Holds time [] records bytes (record { records = 0; bytes = 0 })
 holds_none time records bytes = record { count = refl; size = refl; records_are = refl; bytes_are = refl }
+
+-- ---- what is not filled
+
+-- what is the same from one place on is the same from a later one on
+drop_on : {X : Type 0} (n m : ℕ) (xs ys : List X) → n ≤ m → drop n ys ≡ drop n xs → drop m ys ≡ drop m xs
+drop_on {X = X} n m xs ys le same =
+    let later : (l : List X) → drop m l ≡ drop (m - n) (drop n l) = λ l. ap (λ k. drop k l) (omega (arith, le)) ∙ sym (drop-drop (m - n) n l) in
+    later ys ∙ ap (drop (m - n)) same ∙ sym (later xs)
+
+drop_written : (bytes : List ℕ) (start : ℕ) (new : List ℕ) → start + length new ≤ length bytes
+    → drop (start + length new) (overwritten bytes start new) ≡ drop (start + length new) bytes
+drop_written bytes start new fits =
+    let front = take start bytes in
+    let long : length (front ++ new) ≡ start + length new = length-append front new
+    ∙ ap (λ n. n + length new) (length-take-le start bytes (omega (arith, fits))) in
+    ap (drop (start + length new)) (sym (append_assoc front new (drop (start + length new) bytes)))
+    ∙ drop-append-drop (start + length new) bytes (front ++ new) (start + length new) (omega arith) long
+
+pub keeps_more : (held : BatchSize) (records now : List SentRecord) (bytes there : List ℕ) (r : SentRecord) (new : List ℕ)
+    → held.records < length now → held.bytes + length new ≤ length there → KeepsRest held records now bytes there
+    → KeepsRest (record { records = held.records + 1; bytes = held.bytes + length new }) records (slice_set now held.records r) bytes
+    (overwritten there held.bytes new)
+keeps_more held records now bytes there r new room fits was = record {
+  records_rest = drop-set-lt (held.records + 1) now held.records r (omega arith)
+      ∙ drop_on held.records (held.records + 1) records now (omega arith) was.records_rest;
+  bytes_rest = drop_written there held.bytes new fits ∙ drop_on held.bytes (held.bytes + length new) bytes there (omega arith) was.bytes_rest;
+}
+
+-- what a list keeps after those before it
+pub keeps_on : (time : ℕ) (front own : List Frame) (held result : BatchSize) (records now last : List SentRecord) (bytes there end : List ℕ)
+    → Holds time front now there held → Holds time (front ++ own) last end result → KeepsRest held records now bytes there → KeepsRest result now last there end
+    → KeepsRest result records last bytes end
+keeps_on time front own held result records now last bytes there end had has was is = record {
+  records_rest = is.records_rest ∙ drop_on held.records result.records records now (omega (arith, had.count, has.count, length-append front own))
+      was.records_rest;
+  bytes_rest = is.bytes_rest ∙ drop_on held.bytes result.bytes bytes there (omega (
+    arith,
+    had.size,
+    has.size,
+    ap length (flat_map-append (λ (x : Frame). x.1) front own),
+    length-append (bytes_of_all front) (bytes_of_all own),
+  )) was.bytes_rest;
+}
 
 -- ---- the frames of lists, and their parts
 

@@ -1,5 +1,5 @@
 -- What a pass hands out: the records that the ports sent, in order, and how large a batch has to be.
-use Rattle.std.specs.Prelude.{◌≡◌, ℕ, ◌+◌, ◌*◌, max, List, [], ◌∷◌, ◌++◌, length, map, take, flat_map, sum_by}
+use Rattle.std.specs.Prelude.{◌≡◌, ℕ, ◌+◌, ◌*◌, max, List, [], ◌∷◌, ◌++◌, length, map, take, drop, flat_map, sum_by}
 use Rattle.dp_model.specs.declared.env.PoolSpec.{PoolSpec}
 use Rattle.dp_model.specs.Environments.{Environment}
 use Rattle.dp_model.specs.Buffers.{Buffers}
@@ -49,6 +49,11 @@ pub record Holds (time : ℕ) (frames : List Frame) (records : List SentRecord) 
   pub size : filled.bytes ≡ length (bytes_of_all frames)
   pub records_are : take filled.records records ≡ records_for time 0 frames
   pub bytes_are : take filled.bytes bytes ≡ bytes_of_all frames
+
+-- the arrays of a batch are changed in what is filled alone
+pub record KeepsRest (filled : BatchSize) (records records' : List SentRecord) (bytes bytes' : List ℕ) : Type 0 where
+  pub records_rest : drop filled.records records' ≡ drop filled.records records
+  pub bytes_rest : drop filled.bytes bytes' ≡ drop filled.bytes bytes
 
 -- ---- the size of a batch
 

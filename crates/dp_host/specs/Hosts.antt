@@ -1,5 +1,5 @@
 -- The effects and the results of the calls of a C host.
-use Rattle.std.specs.Prelude.{◌≡◌, ℕ, ◌<◌, ◌≤◌, ◌⊎◌, List, [], ◌∷◌, ◌++◌, length, take, Option, Some, None, slice_get}
+use Rattle.std.specs.Prelude.{◌≡◌, ℕ, ◌+◌, ◌-◌, ◌<◌, ◌≤◌, ◌⊎◌, min, List, [], ◌∷◌, ◌++◌, length, take, replicate, Option, Some, None, slice_get, codes}
 use Rattle.dp_pcap.specs.declared.format.TheConstants.{MAX_RECORD}
 use Rattle.dp_model.specs.declared.env.PoolSpec.{PoolSpec}
 use Rattle.dp_model.specs.Packets.{available}
@@ -11,23 +11,33 @@ use Rattle.dp_engine.specs.declared.engine.Turn.{Turn}
 use Rattle.dp_engine.specs.declared.engine.Outcome.{Outcome}
 use Rattle.dp_engine.specs.declared.engine.Outcome.TheVariants.{Got, NoBuffer, Oversize}
 use Rattle.dp_engine.specs.declared.report.Tallies.{Tallies}
-use Rattle.dp_engine.specs.Batches.{Holds, Passes, max_batch}
+use Rattle.dp_engine.specs.Batches.{Holds, KeepsRest, Passes, max_batch}
 use Rattle.dp_engine.specs.Engines.{EngineState, max_turns}
 use Rattle.dp_engine.specs.Shapes.{AreWaiting}
+use Rattle.dp_pipe.specs.declared.error.PipeError.{PipeError}
+use Rattle.dp_pipe.specs.declared.forwarding.RunCause.{RunCause}
+use Rattle.dp_pipe.specs.declared.forwarding.RunCause.TheVariants as run_cause
 use Rattle.dp_pipe.specs.declared.nodes.How.TheVariants.{Given}
 use Rattle.dp_pipe.specs.declared.listed.NamedBytes.{NamedBytes}
+use Rattle.dp_pipe.specs.Causes.{number_of, text_of}
 use Rattle.dp_pipe.specs.Listed.{listed}
-use Rattle.dp_pipe.specs.Loads.{IsLoadedFrom}
+use Rattle.dp_pipe.specs.Loads.{IsLoadedFrom, IsUnloaded}
 use Rattle.dp_pipe.specs.Pipelines.{Plan}
+use Rattle.dp_pipe.specs.Running.{IsUnopened}
+use Rattle.dp_host.specs.declared.host.Fault.{Fault}
+use Rattle.dp_host.specs.declared.host.Fault.TheVariants.{Unread, Load, Open}
+use Rattle.dp_host.specs.declared.numbers.TheConstants.{MAX_REASON}
+use Rattle.dp_host.specs.declared.numbers.Reason.{Reason}
 use Rattle.dp_host.specs.declared.numbers.Room.{Room}
 use Rattle.dp_host.specs.declared.numbers.PortStats.{PortStats}
 use Rattle.dp_host.specs.declared.numbers.PoolStats.{PoolStats}
 use Rattle.dp_host.specs.declared.numbers.RingStats.{RingStats}
 use Rattle.dp_host.specs.declared.numbers.Totals.{Totals}
+use Rattle.dp_host.specs.declared.packed.Unread.TheVariants as unread
 use Rattle.dp_host.specs.declared.refusal.Refusal.{Refusal}
 use Rattle.dp_host.specs.declared.refusal.Refusal.TheVariants as refusal
 use Rattle.dp_host.specs.Calls.{Call, HasServed, Promised, frames_from}
-use Rattle.dp_host.specs.Packing.{AreFiles}
+use Rattle.dp_host.specs.Packing.{AreFiles, NotPacked}
 
 -- ---- the numbers of answers
 
@@ -48,18 +58,69 @@ outcome_number Oversize = 2
 
 -- ---- opening
 
--- the engine of a pipeline's text and packed files, before its first call
-pub record IsOpened (text packed : List ℕ) (e : EngineState) : Type 0 where
+-- the pipeline of a text and packed files is loaded, and this is so of it
+pub record HasPlan (text packed : List ℕ) (P : Plan → Type 0) : Type 0 where
   pub files : List NamedBytes
   pub are_files : AreFiles packed files
   pub plan : Plan
   pub loaded : IsLoadedFrom (Some (listed files)) Given text plan
-  pub served : HasServed plan [] e
+  pub holds : P plan
 
--- an engine is open and there is no reason, or none is open, for this reason
-abbrev pub Opens : List ℕ → List ℕ → Option EngineState → Refusal → ℕ → Type 0
-Opens text packed (Some e) missing cause = IsOpened text packed e × (missing ≡ refusal.Closed) × (cause ≡ 0)
-Opens text packed None missing cause = (missing ≡ refusal.NotOpen) × (0 < cause)
+-- the engine of a pipeline's text and packed files, before its first call
+abbrev pub IsOpened : List ℕ → List ℕ → EngineState → Type 0
+IsOpened text packed e = HasPlan text packed (λ plan. HasServed plan [] e)
+
+-- why no engine is open: the files are not packed, the pipeline is not loaded, or its region is too small; but memory can be refused before each
+abbrev pub IsFaultIn : List ℕ → List ℕ → Fault → Type 0
+IsFaultIn text packed (Unread unread.Form) = NotPacked packed
+IsFaultIn text packed (Unread unread.Memory) = Unit {0}
+IsFaultIn text packed (Load error) = (files : List NamedBytes) × AreFiles packed files × IsUnloaded (Some (listed files)) Given text error
+IsFaultIn text packed (Open cause) = HasPlan text packed (λ plan. IsUnopened plan cause)
+
+-- the length of a text in a reason: a zero has to fit after it
+abbrev pub cut_length : List ℕ → ℕ
+cut_length text = min (length text) (MAX_REASON - 1)
+
+-- a text before zeros
+abbrev pub padded : List ℕ → List ℕ
+padded text = take (cut_length text) text ++ replicate (MAX_REASON - cut_length text) 0
+
+-- a reason with this cause and this text
+abbrev pub reason_with : ℕ → List ℕ → Reason
+reason_with cause text = record { cause = cause; length = cut_length text; text = padded text }
+
+-- that of an engine that was opened
+abbrev pub no_reason : Reason
+no_reason = reason_with 0 []
+
+-- memory was refused
+abbrev pub no_memory : Reason
+no_memory = reason_with 1 (codes "memory")
+
+-- the files are not read
+abbrev pub not_packed : Reason
+not_packed = reason_with 2 (codes "the files are not packed as they should be")
+
+-- the region has too few bytes
+abbrev pub too_small : Reason
+too_small = reason_with 3 (codes "the region is too small")
+
+-- the reason for a pipeline that is not loaded; without memory for its text, or if that was the cause, memory
+abbrev pub IsReasonIn : PipeError → Reason → Type 0
+IsReasonIn error r = (r ≡ no_memory) ⊎ (0 < number_of error) × (r ≡ reason_with (10 + number_of error) (text_of error))
+
+-- the reason for a fault
+abbrev pub IsReasonFor : Fault → Reason → Type 0
+IsReasonFor (Unread unread.Form) r = r ≡ not_packed
+IsReasonFor (Unread unread.Memory) r = r ≡ no_memory
+IsReasonFor (Load error) r = IsReasonIn error r
+IsReasonFor (Open run_cause.NoRoom) r = r ≡ too_small
+IsReasonFor (Open cause) r = r ≡ no_memory
+
+-- an engine is open and there is no reason, or none is open, and this is the reason
+abbrev pub Opens : List ℕ → List ℕ → Option EngineState → Refusal → Reason → Type 0
+Opens text packed (Some e) missing reason = IsOpened text packed e × (missing ≡ refusal.Closed) × (reason ≡ no_reason)
+Opens text packed None missing reason = (missing ≡ refusal.NotOpen) × ((fault : Fault) × IsFaultIn text packed fault × IsReasonFor fault reason)
 
 -- ---- a pass
 
@@ -78,27 +139,27 @@ size_of filled = record { records = filled.records; bytes = filled.bytes }
 abbrev pub nothing : Room
 nothing = record { records = 0; bytes = 0 }
 
--- A pass of an engine that returned a number below 16, the outcome of its turn. The batch has what was sent, port by port. Whatever calls the engine
--- had served before, it has now served this one too.
-pub record Passed (old new : EngineState) (port time : ℕ) (frame : List ℕ) (records : List SentRecord) (bytes : List ℕ) (filled : Room) (n : ℕ) : Type
-    0 where
-  pub turn : Turn
-  pub number : n ≡ outcome_number turn.outcome
-  pub passes : Passes old new port frame turn time records bytes (size_of filled)
-  pub sent : List (List (List ℕ))
-  pub batch : Holds time (frames_from 0 sent) records bytes (size_of filled)
-  pub serves : (p : Plan) (calls : List Call) → HasServed p calls old →
-      HasServed p (calls ++ record { port = port; time = time; bytes = frame; sent = sent } ∷ []) new
-
 -- the arrays of a batch
 pub record Arrays : Type 0 where
   pub records : List SentRecord
   pub bytes : List ℕ
 
+-- A pass of an engine that returned a number below 16, the outcome of its turn. The batch has what was sent, port by port, and nothing else of its
+-- arrays changes. Whatever calls the engine had served before, it has now served this one too.
+pub record Passed (old new : EngineState) (port time : ℕ) (frame : List ℕ) (had has : Arrays) (filled : Room) (n : ℕ) : Type 0 where
+  pub turn : Turn
+  pub number : n ≡ outcome_number turn.outcome
+  pub passes : Passes old new port frame turn time has.records has.bytes (size_of filled)
+  pub sent : List (List (List ℕ))
+  pub batch : Holds time (frames_from 0 sent) has.records has.bytes (size_of filled)
+  pub rest : KeepsRest (size_of filled) had.records has.records had.bytes has.bytes
+  pub serves : (p : Plan) (calls : List Call) → HasServed p calls old →
+      HasServed p (calls ++ record { port = port; time = time; bytes = frame; sent = sent } ∷ []) new
+
 -- what a pass returns: a turn's outcome; or why it was refused, and nothing changes
 abbrev pub PassAnswers : Option EngineState → Refusal → Option EngineState → ℕ → ℕ → List ℕ → Arrays → Arrays → Room → ℕ → Type 0
 PassAnswers (Some e) missing (Some e') port time frame old new filled n =
-    Passed e e' port time frame new.records new.bytes filled n
+    Passed e e' port time frame old new filled n
     ⊎ ((why : Refusal) × (n ≡ refusal_number why) × RefusesPass e port (length frame) (length old.records) (length old.bytes) why × (e' ≡ e)
     × (new ≡ old) × (filled ≡ nothing))
 PassAnswers None missing None port time frame old new filled n = (n ≡ refusal_number missing) × (new ≡ old) × (filled ≡ nothing)

@@ -1,7 +1,10 @@
 -- How the files that a pipeline names are packed into one buffer.
-use Rattle.std.specs.Prelude.{◌≡◌, ℕ, List, [], ◌∷◌, ◌++◌, length, drop, slice_index_or}
+use Rattle.std.specs.Prelude.{◌≡◌, ℕ, ◌≤◌, List, [], ◌∷◌, ◌++◌, length, drop, slice_index_or}
 use Rattle.std.specs.Int.{w32, from_le_bytes}
+use Rattle.std.specs.List.{AllByRecursion}
+use Rattle.std.specs.Str.{IsUtf8}
 use Rattle.dp_pipe.specs.declared.listed.NamedBytes.{NamedBytes}
+use Rattle.dp_host.specs.declared.packed.TheConstants.{MAX_FILES}
 
 -- the little-endian number in the first four bytes
 abbrev pub first_number : List ℕ → ℕ
@@ -20,3 +23,17 @@ pub record BeginsWith (bytes : List ℕ) (file : NamedBytes) (more : List ℕ) :
 abbrev pub AreFiles : List ℕ → List NamedBytes → Type 0
 AreFiles bytes [] = bytes ≡ []
 AreFiles bytes (file ∷ files) = (more : List ℕ) × BeginsWith bytes file more × AreFiles more files
+
+-- the bytes are files, at most 64, whose names are UTF-8
+pub record ArePacked (bytes : List ℕ) (files : List NamedBytes) : Type 0 where
+  pub are_files : AreFiles bytes files
+  pub few : length files ≤ MAX_FILES
+  pub names : AllByRecursion (λ (file : NamedBytes). IsUtf8 file.name.now) files
+
+-- the bytes are not packed as files should be
+abbrev pub NotPacked : List ℕ → Type 0
+NotPacked bytes = (files : List NamedBytes) → ArePacked bytes files → ⊥
+
+-- the bytes begin with no file
+abbrev pub BeginsWithNone : List ℕ → Type 0
+BeginsWithNone bytes = (file : NamedBytes) (more : List ℕ) → IsUtf8 file.name.now → BeginsWith bytes file more → ⊥

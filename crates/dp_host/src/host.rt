@@ -1,10 +1,11 @@
 //! The contents of a caller's memory: an open engine, or none, with the reason.
 
-ghost use Rattle.std.specs.Prelude.{◌≡◌, ◌<◌, ◌≤◌, [], length, IfOk};
+ghost use Rattle.std.specs.Prelude.{◌≡◌, ◌≤◌, [], ◌++◌, drop, length, IfErr, IfOk};
 ghost use Rattle.dp_pipe.specs.Pipelines.{IsPlan};
+ghost use Rattle.dp_pipe.specs.Running.{IsUnopened};
 ghost use Rattle.dp_host.specs.Calls.{HasServed};
-ghost use Rattle.dp_host.specs.Hosts.{Answers, CloseAnswers, IsOpened, IsPool, IsPort, IsRing, IsRoom, Opens, PassAnswers};
-ghost use Rattle.dp_host.specs.Hosts.{NoPool, NoPort, NoRing, outcome_number};
+ghost use Rattle.dp_host.specs.Hosts.{Answers, CloseAnswers, IsFaultIn, IsOpened, IsPool, IsPort, IsReasonFor, IsReasonIn, IsRing, IsRoom, Opens, PassAnswers};
+ghost use Rattle.dp_host.specs.Hosts.{NoPool, NoPort, NoRing, outcome_number, padded, reason_with};
 
 use crate::numbers::{MAX_REASON, PoolStats, PortStats, Reason, RingStats, Room, Totals};
 use crate::packed::{Unread, files_in};
@@ -23,11 +24,14 @@ pub struct Host {
     pub(crate) reason: Reason,
 }
 
-// Why no engine is open.
+/// Why no engine is open.
 #[derive(Clone, Copy)]
-enum Fault {
-    Files,
+pub enum Fault {
+    /// The files are not read.
+    Unread(Unread),
+    /// The pipeline is not loaded.
     Load(PipeError),
+    /// Its engine is not opened.
     Open(RunCause),
 }
 
@@ -43,7 +47,8 @@ fn counts_of(pipeline: &Pipeline) -> (u32, u32)
 
 // Opens the engine of a pipeline.
 fn running_of(alloc: Global, pipeline: Pipeline) -> Result<Running, RunCause>
-    ensures { IfOk result (HasServed pipeline []) }
+    ensures ok { IfOk result (HasServed pipeline []) }
+    ensures err { IfErr result (IsUnopened pipeline) }
 {
     let (ports, rings) = counts_of(&pipeline);
     match engine_of(alloc, pipeline, Vec::new(alloc)) {
@@ -54,12 +59,12 @@ fn running_of(alloc: Global, pipeline: Pipeline) -> Result<Running, RunCause>
 
 // Opens the engine of a pipeline's text and its files.
 fn started(alloc: Global, toml: &[u8], packed: &[u8]) -> Result<Running, Fault>
-    ensures { IfOk result (IsOpened toml.now packed.now) }
+    ensures ok { IfOk result (IsOpened toml.now packed.now) }
+    ensures err { IfErr result (IsFaultIn toml.now packed.now) }
 {
     let files = match files_in(alloc, packed) {
         Ok(files) => files,
-        Err(Unread::Form) => return Err(Fault::Files),
-        Err(Unread::Memory) => return Err(Fault::Open(RunCause::Memory)),
+        Err(why) => return Err(Fault::Unread(why)),
     };
     let mut listed = Listed {
         files: files.as_slice(),
@@ -74,38 +79,56 @@ fn started(alloc: Global, toml: &[u8], packed: &[u8]) -> Result<Running, Fault>
     }
 }
 
-// A reason with this text, cut to the room for it.
-fn reason_of(cause: u32, text: &[u8]) -> Reason
-    ensures { result.cause ≡ cause }
+// Writes a text over the first bytes of a room.
+fn put_front(room: &mut [u8], text: &[u8])
+    requires { length text.now ≤ length room.old }
+    ensures { room.new ≡ text.now ++ drop (length text.now) room.old }
 {
-    let mut reason = Reason {
-        cause,
-        length: 0,
-        text: [0; MAX_REASON],
-    };
-    let length = text.len().min(MAX_REASON);
-    reason.text[..length].copy_from_slice(&text[..length]);
-    reason.length = length as u32;
-    reason
+    room[..text.len()].copy_from_slice(text);
 }
 
-// The reason for a fault in a pipeline, as `dpv check` prints it.
-fn reason_in(alloc: Global, error: PipeError) -> Reason
-    ensures { 0 < result.cause }
+// A text before zeros, cut so that a zero follows it.
+fn padded(text: &[u8]) -> [u8; MAX_REASON]
+    ensures { result ≡ padded text.now }
 {
+    let mut room = [0; MAX_REASON];
+    let (front, _) = text.split_at(text.len().min(MAX_REASON - 1));
+    put_front(&mut room, front);
+    room
+}
+
+// A reason with this cause and this text.
+fn reason_of(cause: u32, text: &[u8]) -> Reason
+    ensures { result ≡ reason_with cause text.now }
+{
+    Reason {
+        cause,
+        length: text.len().min(MAX_REASON - 1) as u32,
+        text: padded(text),
+    }
+}
+
+// The reason for a pipeline that is not loaded, as `dpv check` prints it.
+fn reason_in(alloc: Global, error: PipeError) -> Reason
+    ensures { IsReasonIn error result }
+{
+    let number = error.number();
+    if number == 0 {
+        return reason_of(1, b"memory");
+    }
     match format!(in alloc; "{error}") {
-        Ok(text) => reason_of(10 + u32::from(error.number()), text.as_bytes()),
+        Ok(text) => reason_of(10 + u32::from(number), text.as_bytes()),
         Err(_) => reason_of(1, b"memory"),
     }
 }
 
 // The reason for a fault.
 fn reason_for(alloc: Global, fault: Fault) -> Reason
-    ensures { 0 < result.cause }
+    ensures { IsReasonFor fault result }
 {
     match fault {
-        Fault::Files => reason_of(2, b"the files are not packed as they should be"),
-        Fault::Load(PipeError::Memory) | Fault::Open(RunCause::Memory) => reason_of(1, b"memory"),
+        Fault::Unread(Unread::Form) => reason_of(2, b"the files are not packed as they should be"),
+        Fault::Unread(Unread::Memory) => reason_of(1, b"memory"),
         Fault::Load(error) => reason_in(alloc, error),
         Fault::Open(RunCause::NoRoom) => reason_of(3, b"the region is too small"),
         Fault::Open(_) => reason_of(1, b"memory"),
@@ -114,7 +137,7 @@ fn reason_for(alloc: Global, fault: Fault) -> Reason
 
 /// Opens the engine of a pipeline's text and its files, or keeps the reason why not.
 pub(crate) fn opened(alloc: Global, toml: &[u8], packed: &[u8]) -> Host
-    ensures { Opens toml.now packed.now result.running result.missing result.reason.cause }
+    ensures { Opens toml.now packed.now result.running result.missing result.reason }
 {
     match started(alloc, toml, packed) {
         Ok(running) => Host {

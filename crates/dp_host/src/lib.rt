@@ -14,8 +14,10 @@ mod packed;
 mod refusal;
 mod running;
 
-ghost use Rattle.std.specs.Prelude.{◌≡◌, ℕ};
+ghost use Rattle.std.specs.Prelude.{◌≡◌, ◌%◌, ℕ};
+ghost use Rattle.std.specs.Align.{type_align};
 ghost use Rattle.std.specs.Borrow.{full_share};
+ghost use Rattle.std.specs.Mem.{type_size};
 ghost use Rattle.std.specs.Ptr.{lies_at, room_at};
 ghost use types.Logic.{sem};
 ghost use Rattle.dp_host.specs.contracts.host.Host.{the_row};
@@ -29,7 +31,10 @@ use std::alloc::Global;
 
 /// Returns the number of bytes that an engine takes in its caller's memory, besides its region. They begin at a multiple of 16.
 #[unsafe(no_mangle)]
-pub extern "C" fn dpv_size() -> usize {
+pub extern "C" fn dpv_size() -> usize
+    ensures size { result ≡ type_size the_row }
+    ensures alignment { 16 % type_align the_row ≡ 0 }
+{
     std::mem::size_of::<Host>()
 }
 
@@ -37,7 +42,7 @@ pub extern "C" fn dpv_size() -> usize {
 #[unsafe(no_mangle)]
 pub unsafe extern "C" fn dpv_begin(alloc: Global, at: *mut u8, toml: &[u8], packed: &[u8])
     requires* { sem 𝓛 (room_at the_row at) }
-    ensures* { ∃ₛ (λ (h : Host). sem 𝓛 (lies_at the_row full_share at h) ∗ ⌜ Opens toml.now packed.now h.running h.missing h.reason.cause ⌝) }
+    ensures* { ∃ₛ (λ (h : Host). sem 𝓛 (lies_at the_row full_share at h) ∗ ⌜ Opens toml.now packed.now h.running h.missing h.reason ⌝) }
 {
     (at as *mut Host).write(host::opened(alloc, toml, packed))
 }

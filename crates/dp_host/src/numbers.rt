@@ -1,6 +1,6 @@
 //! What a caller in C gets, as structs of numbers. `dpv.h` has the same structs.
 
-/// The maximum size of a reason's text, in bytes.
+/// The size of a reason's text with the zeros after it, in bytes.
 pub const MAX_REASON: usize = 128;
 
 /// The size of a batch: how large one must be, or how much of one is filled.
@@ -21,7 +21,7 @@ pub struct Reason {
     pub cause: u32,
     /// The length of the text.
     pub length: u32,
-    /// The text, in the first `length` bytes.
+    /// The text, in the first `length` bytes, and zeros after it, at least one.
     pub text: [u8; MAX_REASON],
 }
 

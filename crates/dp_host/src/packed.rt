@@ -1,7 +1,7 @@
 //! Reads files packed in one buffer: for each the lengths of name and bytes, four bytes each, little-endian; then the name and the bytes.
 
-ghost use Rattle.std.specs.Prelude.{◌≡◌, ◌≤◌, length, IfOk, IfSome};
-ghost use Rattle.dp_host.specs.Packing.{AreFiles, BeginsWith, first_number};
+ghost use Rattle.std.specs.Prelude.{◌≡◌, ◌≢◌, ◌≤◌, [], length, IfErr, IfNone, IfOk, IfSome};
+ghost use Rattle.dp_host.specs.Packing.{AreFiles, BeginsWith, BeginsWithNone, NotPacked, first_number};
 
 use dp_pipe::NamedBytes;
 use std::alloc::Global;
@@ -28,14 +28,16 @@ fn number_in(bytes: &[u8]) -> u32
 
 // Splits off the first file; returns it and the bytes after it.
 fn front(packed: &[u8]) -> Option<(NamedBytes<'_>, &[u8])>
-    ensures { IfSome result (λ r. BeginsWith packed.now r.0 r.1.now) }
+    ensures some { IfSome result (λ r. BeginsWith packed.now r.0 r.1.now) }
+    ensures none { IfNone result (BeginsWithNone packed.now) }
 {
     if packed.len() < 8 {
         return None;
     }
     let (head, rest) = packed.split_at(8);
+    let (_, second) = head.split_at(4);
     let name_length = number_in(head) as usize;
-    let length = number_in(&head[4..]) as usize;
+    let length = number_in(second) as usize;
     if rest.len() < name_length || rest.len() - name_length < length {
         return None;
     }
@@ -47,17 +49,30 @@ fn front(packed: &[u8]) -> Option<(NamedBytes<'_>, &[u8])>
     }
 }
 
+// The files, if no bytes are left.
+fn whole<'a>(files: Vec<NamedBytes<'a>>, rest: &[u8]) -> Result<Vec<NamedBytes<'a>>, Unread>
+    ensures ok { IfOk result (λ all. (all.items ≡ files.entry.items) × (rest.now ≡ [])) }
+    ensures err { IfErr result (λ why. rest.now ≢ []) }
+{
+    if rest.is_empty() {
+        Ok(files)
+    } else {
+        Err(Unread::Form)
+    }
+}
+
 /// Reads the files of a buffer.
 ///
 /// # Errors
 ///
-/// [`Unread`] if it is not packed in this way, or memory is refused.
+/// [`Unread::Form`] only if it is not packed in this way, or has more than [`MAX_FILES`] files; [`Unread::Memory`] if memory is refused.
 pub fn files_in(alloc: Global, packed: &[u8]) -> Result<Vec<NamedBytes<'_>>, Unread>
-    ensures { IfOk result (λ files. AreFiles packed.now files.items) }
+    ensures ok { IfOk result (λ files. AreFiles packed.now files.items) }
+    ensures form { IfErr result (λ why. why ≡ Unread.Form → NotPacked packed.now) }
 {
     let mut files = Vec::new(alloc);
     let mut rest = packed;
-    for _ in 0..MAX_FILES {
+    for _count in 0..MAX_FILES {
         match front(rest) {
             Some((file, after)) => {
                 if files.push(file).is_err() {
@@ -65,12 +80,8 @@ pub fn files_in(alloc: Global, packed: &[u8]) -> Result<Vec<NamedBytes<'_>>, Unr
                 }
                 rest = after;
             }
-            None => break,
+            None => return whole(files, rest),
         }
     }
-    if rest.is_empty() {
-        Ok(files)
-    } else {
-        Err(Unread::Form)
-    }
+    whole(files, rest)
 }

@@ -1,7 +1,7 @@
 //! An open engine, with a test for each condition of its calls.
 
 ghost use Rattle.std.specs.Prelude.{◌≡◌, ◌+◌, ◌<◌, ◌≤◌, length, None, IfOk, IfErr, IfSome, IfNone};
-ghost use Rattle.dp_engine.specs.Batches.{Passes, max_batch};
+ghost use Rattle.dp_engine.specs.Batches.{KeepsRest, Passes, max_batch};
 ghost use Rattle.dp_engine.specs.Engines.{flushed};
 ghost use Rattle.dp_engine.specs.Reports.{IsReport, IsWhole};
 ghost use Rattle.dp_engine.specs.Shapes.{AreWaiting};
@@ -72,6 +72,7 @@ impl Running {
         bytes: &mut [u8],
     ) -> Result<Pass, Refusal>
         ensures ok { IfOk result (λ p. Passes self.old self.new port frame.now p.turn time records.new bytes.new p.sent) }
+        ensures rest { IfOk result (λ p. KeepsRest p.sent records.old records.new bytes.old bytes.new) }
         ensures err { IfErr result (λ why. (self.new ≡ self.old) × (records.new ≡ records.old) × (bytes.new ≡ bytes.old)
             × RefusesPass self.old port (length frame.now) (length records.old) (length bytes.old) why) }
     {

@@ -2,7 +2,7 @@
 ghost use Rattle.std.specs.Prelude.{◌≡◌, ◌<◌, ◌≤◌, List, length, slice_get, Some, IfSome, IfNone};
 ghost use Rattle.dp_model.specs.Packets.{Packet};
 ghost use Rattle.dp_pcap.specs.declared.format.TheConstants.{MAX_RECORD};
-ghost use Rattle.dp_engine.specs.Batches.{Holds, Passes, all_buffers, all_drained, frames_in, max_batch, widest};
+ghost use Rattle.dp_engine.specs.Batches.{Holds, KeepsRest, Passes, all_buffers, all_drained, frames_in, max_batch, widest};
 ghost use Rattle.dp_engine.specs.Engines.{drained, max_turns};
 ghost use Rattle.dp_engine.specs.Shapes.{AreWaiting};
 
@@ -75,6 +75,7 @@ impl<K: Known> Engine<K> {
         requires bytes { (max_batch self.now.setting.env).bytes ≤ length bytes.old }
         ensures holds { Holds time (frames_in self.now.world) records.new bytes.new result }
         ensures many { (length records.new ≡ length records.old) × (length bytes.new ≡ length bytes.old) }
+        ensures rest { KeepsRest result records.old records.new bytes.old bytes.new }
     {
         self.machine.copy_lists(time, records, bytes)
     }
@@ -116,6 +117,7 @@ impl<K: Known> Engine<K> {
         requires bytes { (max_batch self.old.setting.env).bytes ≤ length bytes.old }
         ensures passes { Passes self.old self.new port frame.now result.turn time records.new bytes.new result.sent }
         ensures many { (length records.new ≡ length records.old) × (length bytes.new ≡ length bytes.old) }
+        ensures rest { KeepsRest result.sent records.old records.new bytes.old bytes.new }
     {
         let turn = self.turn(port, frame);
         let sent = self.copy_sent(time, records, bytes);

@@ -2,7 +2,7 @@
 ghost use Rattle.std.specs.Prelude.{◌≡◌, ◌+◌, ◌<◌, ◌≤◌, ℕ, List, ◌++◌, length, map, slice_get, Some};
 ghost use Rattle.dp_model.specs.Buffers.{overwritten};
 ghost use Rattle.dp_model.specs.Packets.{Packet, packet_bytes};
-ghost use Rattle.dp_engine.specs.Batches.{Frame, Holds, frame_of, frames_in, bytes_of_all};
+ghost use Rattle.dp_engine.specs.Batches.{Frame, Holds, KeepsRest, frame_of, frames_in, bytes_of_all};
 ghost use Rattle.dp_engine.specs.Drains.{AtPacket};
 
 use crate::batch::{BatchSize, SentRecord};
@@ -44,6 +44,7 @@ impl Machine {
             Holds time frames records.old bytes.old held
             → Holds time (frames ++ map (frame_of port self.now.state.world.buffers) packets) records.new bytes.new result }
         ensures many { (length records.new ≡ length records.old) × (length bytes.new ≡ length bytes.old) }
+        ensures rest { KeepsRest result records.old records.new bytes.old bytes.new }
     {
         let count = self.queued(port);
         let mut held = held;
@@ -72,6 +73,7 @@ impl Machine {
         requires bytes { length (bytes_of_all (frames_in self.now.state.world)) ≤ length bytes.old }
         ensures holds { Holds time (frames_in self.now.state.world) records.new bytes.new result }
         ensures many { (length records.new ≡ length records.old) × (length bytes.new ≡ length bytes.old) }
+        ensures rest { KeepsRest result records.old records.new bytes.old bytes.new }
     {
         let mut held = BatchSize {
             records: 0,

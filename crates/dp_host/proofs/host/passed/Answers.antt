@@ -1,6 +1,6 @@
 -- A pass that was taken is one call more; a refused one has the returned reason.
 use Rattle.std.proofs.Common.{◌≡◌, inl, inr, Some, refl, sym, ap, subst}
-use Rattle.dp_engine.specs.Batches.{Holds, Passes}
+use Rattle.dp_engine.specs.Batches.{Holds, KeepsRest, Passes}
 use Rattle.dp_host.specs.Calls.{frames_from, sent_in}
 use Rattle.dp_host.specs.Hosts.{PassAnswers, size_of}
 use Rattle.dp_host.proofs.Serving.{batch_is, served_more}
@@ -24,6 +24,7 @@ returns-in-Ok c =
             sent = sent_in p.mid.world;
             batch = subst (Holds c.args.time (frames_from 0 (sent_in p.mid.world)) records bytes) (sym size)
                 (batch_is c.args.time p.mid.world records bytes c.in-Ok.pass.sent p.batch);
+            rest = subst (λ filled. KeepsRest filled c.args.records.now records c.args.bytes.now bytes) (sym size) c.in-Ok.ensures.rest;
             serves = λ plan calls was. served_more plan calls e e' c.args.port c.args.frame.now turn c.args.time records bytes c.in-Ok.pass.sent p was;
           })),
       refl,

@@ -24,7 +24,7 @@ of-requires-clause-rings c =
 pub of-requires-clause-few_rings : goal.of-requires-clause-few_rings
 of-requires-clause-few_rings c = c.counts_of-ports.ensures.rings.1
 
-pub returns-in-Ok : goal.returns-in-Ok
-returns-in-Ok c =
+pub returns-in-Ok-clause-ok : goal.returns-in-Ok-clause-ok
+returns-in-Ok-clause-ok c =
     subst (HasServed c.args.pipeline []) (sym c.of.ensures)
-    (first_served c.args.pipeline c.in-Ok.engine c.counts_of-ports.ensures.plan (first (goal.at.returns-in-Ok c).In-Ok))
+    (first_served c.args.pipeline c.in-Ok.engine c.counts_of-ports.ensures.plan (first (goal.at.returns-in-Ok-clause-ok c).In-Ok))

@@ -4,11 +4,11 @@ use Rattle.dp_pipe.specs.Listed.{listed}
 use Rattle.dp_pipe.specs.Loads.{IsLoadedFrom}
 use Rattle.dp_host.proofs.host.started.Goals as goal
 
-pub returns-in-Ok-running_of : goal.returns-in-Ok-running_of
-returns-in-Ok-running_of c = record {
+pub returns-in-Ok-running_of-clause-ok : goal.returns-in-Ok-running_of-clause-ok
+returns-in-Ok-running_of-clause-ok c = record {
   files = c.in-Ok.files.items;
-  are_files = c.in-Ok.ensures;
+  are_files = c.in-Ok.ensures.ok;
   plan = c.in-Ok-load.pipeline;
   loaded = subst (λ l. IsLoadedFrom (Some (listed l)) Given c.args.toml.now c.in-Ok-load.pipeline) c.as_slice.ensures.value c.in-Ok-load.ensures.loaded;
-  served = c.in-Ok-running_of.ensures;
+  holds = c.in-Ok-running_of.ensures.ok;
 }

@@ -6,8 +6,8 @@ use Rattle.std.proofs.lemmas.Option.{same_Some}
 use Rattle.std.proofs.lemmas.List.{take_all}
 use Rattle.dp_model.specs.Packets.{Packet, packet_bytes}
 use Rattle.dp_model.specs.Laws.Lists.{get_within}
-use Rattle.dp_engine.specs.Batches.{Holds, frame_of, bytes_of_all}
-use Rattle.dp_engine.proofs.Batches.{bytes_long, holds_more, frames_next, packet_has_room}
+use Rattle.dp_engine.specs.Batches.{Holds, KeepsRest, frame_of, bytes_of_all}
+use Rattle.dp_engine.proofs.Batches.{bytes_long, holds_more, frames_next, keeps_more, packet_has_room}
 use Rattle.dp_engine.proofs.machine.Machine.copy_list.Goals as goal
 use Rattle.dp_engine.proofs.machine.Machine.copy_list.Goals.{After-copy_waiting-arg-1}
 
@@ -43,6 +43,7 @@ loop-at-init c = record {
   count = omega arith;
   size = λ packets box. omega arith;
   holds = λ packets frames box was. subst (λ fs. Holds c.args.time fs c.args.records.now c.args.bytes.now c.args.held) (sym (append-nil frames)) was;
+  rest = record { records_rest = refl; bytes_rest = refl };
   records = refl;
   bytes = refl;
 }
@@ -96,6 +97,16 @@ loop-at-preserved c =
           ∙ ap (λ l. frames ++ l) (sym (frames_next c.args.port b packets at n.packet n.here)) in
           rw (
             ← same,
+            c.from.ensures,
+            c.copy_waiting-length.ensures.length packets n.packet box n.here,
+            c.copy_waiting-length.ensures.copied packets n.packet box n.here,
+          ) more;
+      rest =
+          let (packets, box, _) = c.queued-count.ensures.list in
+          let n = next here packets box in
+          let more = keeps_more c.loop-at.held c.args.records.now c.loop-at.records c.args.bytes.now c.loop-at.bytes _
+          (packet_bytes b n.packet) n.few n.fits i.rest in
+          rw (
             c.from.ensures,
             c.copy_waiting-length.ensures.length packets n.packet box n.here,
             c.copy_waiting-length.ensures.copied packets n.packet box n.here,

@@ -1,7 +1,7 @@
 use Rattle.std.proofs.Common.{◌≡◌, ◌+◌, ◌++◌, List, length, map, take, Some}
 use Rattle.std.specs.Prelude.{slice_get}
 use Rattle.dp_model.specs.Packets.{Packet}
-use Rattle.dp_engine.specs.Batches.{Frame, Holds, frame_of, bytes_of_all}
+use Rattle.dp_engine.specs.Batches.{Frame, Holds, KeepsRest, frame_of, bytes_of_all}
 use Rattle.dp_engine.proofs.machine.Machine.copy_list.Given as goal
 
 abbrev pub invariant-loop-at : goal.invariant-loop-at
@@ -12,6 +12,7 @@ invariant-loop-at l = record {
   holds : (packets : List Packet) (frames : List Frame) → slice_get l.self.state.world.outboxes l.port ≡ Some packets → Holds l.time frames
       l.fn.records l.fn.bytes l.fn.held →
       Holds l.time (frames ++ map (frame_of l.port l.self.state.world.buffers) (take l.at packets)) l.records l.bytes l.held;
+  rest : KeepsRest l.held l.fn.records l.records l.fn.bytes l.bytes;
   records : length l.records ≡ length l.fn.records;
   bytes : length l.bytes ≡ length l.fn.bytes;
 }

@@ -6,7 +6,7 @@ use Rattle.dp_model.specs.Packets.{Packet}
 use Rattle.dp_model.specs.Laws.Lists.{get_within}
 use Rattle.dp_engine.specs.Batches.{Holds, frame_of, frames_from, bytes_of_all}
 use Rattle.dp_engine.specs.Handles.{Core, entries_of, packet_at}
-use Rattle.dp_engine.proofs.Batches.{HasRoom, holds_none, frames_more, next_has_room}
+use Rattle.dp_engine.proofs.Batches.{HasRoom, holds_none, frames_more, keeps_on, next_has_room}
 use Rattle.dp_engine.proofs.machine.Machine.copy_lists.Goals as goal
 use Rattle.dp_engine.proofs.machine.Machine.copy_lists.Goals.{After-len-port-end, In-loop-port}
 
@@ -26,7 +26,12 @@ room c packets box =
     next_has_room c.loop-port.port w.buffers w.outboxes packets (length c.args.records.now) (length c.args.bytes.now) box c.requires.records c.requires.bytes
 
 pub loop-port-init : goal.loop-port-init
-loop-port-init c = record { holds = holds_none c.args.time c.args.records.now c.args.bytes.now; records = refl; bytes = refl }
+loop-port-init c = record {
+  holds = holds_none c.args.time c.args.records.now c.args.bytes.now;
+  rest = record { records_rest = refl; bytes_rest = refl };
+  records = refl;
+  bytes = refl;
+}
 
 pub copy_list-held-requires-clause-records : goal.copy_list-held-requires-clause-records
 copy_list-held-requires-clause-records c = λ packets box.
@@ -60,6 +65,9 @@ loop-port-preserved c =
     record {
       holds = subst (λ fs. Holds c.args.time fs c.copy_list-held.new.records c.copy_list-held.new.bytes c.copy_list-held.result) more
           (c.copy_list-held.ensures.holds packets front box c.loop-port.invariant.holds);
+      rest = keeps_on c.args.time front (map (frame_of n w.buffers) packets) c.loop-port.held c.copy_list-held.result c.args.records.now c.loop-port.records
+          c.copy_list-held.new.records c.args.bytes.now c.loop-port.bytes c.copy_list-held.new.bytes c.loop-port.invariant.holds
+          (c.copy_list-held.ensures.holds packets front box c.loop-port.invariant.holds) c.loop-port.invariant.rest c.copy_list-held.ensures.rest;
       records = c.copy_list-held.ensures.many.0 ∙ c.loop-port.invariant.records;
       bytes = c.copy_list-held.ensures.many.1 ∙ c.loop-port.invariant.bytes;
     }
