@@ -27,10 +27,10 @@ import tomllib
 from random import Random
 from typing import Any, BinaryIO, NamedTuple
 
-import over_gate
 from cases.pipelines import pipeline_files
 from command import HERE, TOP
 from model import captures, machine, pipelines
+from over_gate import build
 from planted import CRATES
 
 CROSS = TOP / "examples/live"
@@ -44,7 +44,7 @@ def put_library(folder: pathlib.Path, over_gate: bool) -> None:
     folder.mkdir()
     if over_gate:
         made = folder / "libdp_host.a"
-        over_gate.build(CRATES["dp_host"], made)
+        build(CRATES["dp_host"], made)
         words.append(str(made))
     subprocess.run(words, check=True)
 
