@@ -104,7 +104,8 @@ int main(int argc, char **argv)
     for (size_t cut = 0; cut < packed_length; cut++) {
         dpv_t *engine = dpv_open(text, text_length, packed, cut, &reason);
         expect(engine != NULL, 0, "an engine of packed files that are cut");
-        expect(reason.cause == 0 || reason.length == 0 || reason.length > DPV_MAX_REASON, 0, "the reason of packed files that are cut");
+        expect(reason.cause == 0 || reason.length == 0 || reason.length >= DPV_MAX_REASON, 0, "the reason of packed files that are cut");
+        expect(reason.text[reason.length], 0, "what follows the text of a reason");
     }
     printf("wrong callers: %s\n", wrong ? "not as they have to be" : "as they have to be");
     return wrong;

@@ -3,20 +3,4 @@
 #![tactic(auto)]
 
 #[cfg(test)]
-mod bytes;
-#[cfg(test)]
-mod given;
-#[cfg(test)]
-mod groups;
-#[cfg(test)]
-mod inferences;
-#[cfg(test)]
-mod loops;
-#[cfg(test)]
-mod programs;
-#[cfg(test)]
-mod refusals;
-#[cfg(test)]
-mod rows;
-#[cfg(test)]
-mod texts;
+mod tests;

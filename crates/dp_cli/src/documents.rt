@@ -31,7 +31,7 @@ pub fn print_memory<O: Write>(out: &mut Printer<O>) -> io::Result<()>
     out.line(NO_MEMORY)
 }
 
-/// Prints that document in place of one for which there was no memory, and notes that the other was not printed. Returns the error.
+/// Prints `NO_MEMORY` in place of a document for which there was no memory, marks the printer as failed, and returns the error.
 fn note_no_memory<O: Write>(out: &mut Printer<O>) -> io::Error
     ensures { (paper O.contents out.new).failed ≡ true }
 {

@@ -106,7 +106,7 @@ impl fmt::Display for PipeWords {
     }
 }
 
-/// The reason for a pipeline's fault; none for that of a file, whose reason the files keep.
+/// The reason for a pipeline's fault; none for `File`, whose reason `HostFiles` has.
 pub fn reason_of(error: PipeError) -> Option<Reason>
     ensures { result ≡ reason_of error }
 {
@@ -116,7 +116,7 @@ pub fn reason_of(error: PipeError) -> Option<Reason>
     }
 }
 
-/// Why something is at fault, and the file that is.
+/// A reason, and the file it concerns.
 #[derive(Clone, Copy, Debug)]
 pub struct Finding<'a> {
     /// The file's name, if it is to be reported.

@@ -6,7 +6,7 @@
 //!
 //! Who owns what: the caller owns readers and writers, and lends them. `run_line` and `trace_line` consume the pipeline, so what is needed
 //! after a run, such as the names of its captures, is copied before. An `Outlet` may buffer bytes: `run_line` flushes them before it prints
-//! the report, so a caller must not close an output itself.
+//! the report, so a caller must not flush an output itself.
 //!
 //! What not to do: do not print to the writers of a `Printer` directly, as it remembers a failed write for the status; and do not open an
 //! output before `keep_apart` has compared it with the files that the run reads.

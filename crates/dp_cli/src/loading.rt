@@ -26,7 +26,7 @@ use std::alloc::{AllocError, Global};
 use std::io::Write;
 use std::rt;
 
-/// Why a pipeline was not loaded, and the status after that is reported.
+/// Why a pipeline was not loaded, which is reported already, and the exit status.
 #[derive(Clone, Copy, Debug, Drop)]
 pub struct Unloaded {
     pub status: u8,

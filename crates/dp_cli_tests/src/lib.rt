@@ -2,28 +2,4 @@
 #![tactic(auto)]
 
 #[cfg(test)]
-mod certifying;
-#[cfg(test)]
-mod counted;
-#[cfg(test)]
-mod explain;
-#[cfg(test)]
-mod fault_reasons;
-#[cfg(test)]
-mod json;
-#[cfg(test)]
-mod pipelines;
-#[cfg(test)]
-mod run;
-#[cfg(test)]
-mod show;
-#[cfg(test)]
-mod sizes;
-#[cfg(test)]
-mod testing;
-#[cfg(test)]
-mod texts;
-#[cfg(test)]
-mod trace;
-#[cfg(test)]
-mod unfit;
+mod tests;

@@ -220,7 +220,7 @@ pub(crate) fn batch_size(host: &mut Host, size: &mut Room) -> u32
     0
 }
 
-/// Sets the counts of a port.
+/// Writes the counts of a port to `stats`.
 pub(crate) fn port_stats(host: &mut Host, port: u32, stats: &mut PortStats) -> u32
     ensures { (host.new ≡ host.old) × Answers (IsPort port) (NoPort port) Refusal.NoPort host.old.running host.old.missing stats.old stats.new result }
 {
@@ -241,7 +241,7 @@ pub(crate) fn port_stats(host: &mut Host, port: u32, stats: &mut PortStats) -> u
     }
 }
 
-/// Sets the counts of a pool.
+/// Writes the counts of a pool to `stats`.
 pub(crate) fn pool_stats(host: &mut Host, pool: u32, stats: &mut PoolStats) -> u32
     ensures { (host.new ≡ host.old) × Answers (IsPool pool) (NoPool pool) Refusal.NoPool host.old.running host.old.missing stats.old stats.new result }
 {
@@ -260,7 +260,7 @@ pub(crate) fn pool_stats(host: &mut Host, pool: u32, stats: &mut PoolStats) -> u
     }
 }
 
-/// Sets the counts of a ring.
+/// Writes the counts of a ring to `stats`.
 pub(crate) fn ring_stats(host: &mut Host, ring: u32, stats: &mut RingStats) -> u32
     ensures { (host.new ≡ host.old) × Answers (IsRing ring) (NoRing ring) Refusal.NoRing host.old.running host.old.missing stats.old stats.new result }
 {

@@ -1,8 +1,12 @@
 //! The engine for a caller in C, in the caller's own memory, of `dpv_size` bytes. `dpv_begin` makes an engine there, and the other calls
-//! take that memory, one call at a time. `include/dpv.h` declares these functions.
+//! take a pointer to it; calls on one engine must not overlap. `include/dpv.h` declares these functions.
 //!
 //! Who owns what: the memory is the caller's; the engine in it owns its region until `dpv_close`. Frames and batches are the caller's, and no
 //! call keeps a pointer to them.
+//!
+//! What to call: `dpv_begin`, once; `dpv_why`, which has the reason if there is no engine; `dpv_pass_into` for each frame, with a batch of the
+//! size that `dpv_batch_size` returns; `dpv_port`, `dpv_pool` and `dpv_ring` for counts; `dpv_close` at the end. The six inline functions of
+//! `include/dpv.h` are C, and not in this crate.
 //!
 //! What not to do: the memory may not move or be freed between `dpv_begin` and `dpv_close`, two calls may not run at once, and a call must
 //! get memory that `dpv_begin` has filled. Everything else is tested, and a call that is refused changes nothing.
@@ -38,7 +42,7 @@ pub extern "C" fn dpv_size() -> usize
     std::mem::size_of::<Host>()
 }
 
-/// Makes the engine of a pipeline's text and its packed files, or none; then `dpv_why` returns the reason.
+/// Opens the engine of a pipeline's text and its packed files. If it fails, `dpv_why` returns the reason.
 #[unsafe(no_mangle)]
 pub unsafe extern "C" fn dpv_begin(alloc: Global, at: *mut u8, toml: &[u8], packed: &[u8])
     requires* { sem 𝓛 (room_at the_row at) }
@@ -47,9 +51,8 @@ pub unsafe extern "C" fn dpv_begin(alloc: Global, at: *mut u8, toml: &[u8], pack
     (at as *mut Host).write(host::opened(alloc, toml, packed))
 }
 
-/// Takes a frame that came to a port at a time, and hands out all that the ports send for it: `records` says where in `bytes` each record
-/// is. Returns 0 if the frame was received, 1 if too few buffers were free, 2 if it is too large for its port, or the number of a
-/// refusal.
+/// Passes in one frame, received on `port` at `time`, and returns all frames sent for it: `records` says where in `bytes` each one is.
+/// Returns 0 if the frame was received, 1 if too few buffers were free, 2 if it is too large for its port, or the number of a refusal.
 #[unsafe(no_mangle)]
 pub unsafe extern "C" fn dpv_pass_into(
     at: *mut u8,

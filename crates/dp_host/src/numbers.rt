@@ -1,4 +1,4 @@
-//! What a caller in C gets, as structs of numbers. `dpv.h` has the same structs.
+//! The `repr(C)` structs of dpv.h. `dpv.h` has the same structs.
 
 /// The size of a reason's text with the zeros after it, in bytes.
 pub const MAX_REASON: usize = 128;

@@ -12,7 +12,7 @@ pub const MAX_FILES: u32 = 64;
 /// Why a buffer's files are not read.
 #[derive(Clone, Copy, Debug, PartialEq, Eq)]
 pub enum Unread {
-    /// It is not packed as it should be.
+    /// The buffer is malformed.
     Form,
     /// Memory is refused.
     Memory,

@@ -2,12 +2,4 @@
 #![tactic(auto)]
 
 #[cfg(test)]
-mod calls;
-#[cfg(test)]
-mod rows;
-#[cfg(test)]
-mod setup;
-#[cfg(test)]
-mod small;
-#[cfg(test)]
-mod walk;
+mod tests;

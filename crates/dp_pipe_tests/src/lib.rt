@@ -3,12 +3,4 @@
 #![tactic(auto)]
 
 #[cfg(test)]
-mod causes;
-#[cfg(test)]
-mod given;
-#[cfg(test)]
-mod limits;
-#[cfg(test)]
-mod nodes;
-#[cfg(test)]
-mod texts;
+mod tests;

@@ -110,7 +110,7 @@ impl<W: Write> Write for Guarded<W> {
     ghost use Rattle.std.specs.Io.KnownBytes.{Keeps, WriteAppends};
     ghost use Rattle.dp_cli.specs.Outlets.{joined};
 
-    // The bytes that the inner writer took since it is guarded.
+    // The bytes that the inner writer took since it was wrapped.
     ghost contents = { λ w. Some (joined w.took.pieces) };
 
     #[tactic(auto, using(crate::proofs::Took::joined_more))]

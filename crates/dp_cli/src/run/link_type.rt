@@ -14,23 +14,23 @@ pub enum LinkKind {
     Ethernet,
     /// A point-to-point link.
     Ppp,
-    /// IP packets without a header of a link.
+    /// Raw IP.
     Raw,
-    /// Frames of a wireless network.
+    /// 802.11 frames.
     Wireless,
     /// A loopback of OpenBSD.
     Loop,
-    /// The interface `any` of Linux.
+    /// Linux cooked capture (SLL).
     Cooked,
-    /// Frames of a wireless network, each after a header of its reception.
+    /// 802.11 frames, each after a radiotap header.
     Radiotap,
     /// A link type that its users define.
     User,
-    /// IPv4 packets without a header of a link.
+    /// Raw IPv4.
     Ipv4,
-    /// IPv6 packets without a header of a link.
+    /// Raw IPv6.
     Ipv6,
-    /// The interface `any` of Linux, in its second version.
+    /// Linux cooked capture, version 2 (SLL2).
     Cooked2,
     /// Any other.
     Other,

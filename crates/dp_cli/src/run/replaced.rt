@@ -48,7 +48,7 @@ pub enum Direction {
     Out,
 }
 
-/// How words give captures.
+/// The syntax of a capture argument.
 #[derive(Clone, Copy, Debug)]
 pub enum WordForm {
     /// As PORT=NAME.
@@ -57,7 +57,7 @@ pub enum WordForm {
     Bare,
 }
 
-/// Why words give no captures.
+/// Why capture arguments are rejected.
 #[derive(Clone, Copy, Debug)]
 pub enum WordFault<'a> {
     /// Memory was refused.

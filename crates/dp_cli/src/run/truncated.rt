@@ -1,4 +1,4 @@
-//! Reports, after a run, the records of which the capture had only the front.
+//! Reports truncated records after a run.
 
 ghost use Rattle.std.specs.Prelude.{OnOk};
 ghost use Rattle.std.specs.Io.KnownBytes.{Appends};

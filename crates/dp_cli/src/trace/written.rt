@@ -5,7 +5,7 @@ use dp_model::{Instr, PacketRegister, Width};
 use std::io::{self, Write};
 
 /// The maximum number of bytes that an instruction writes.
-const MOST: usize = 8;
+const MAX_BYTES: usize = 8;
 
 /// Bytes that an instruction writes, before it runs.
 #[derive(Clone, Copy, Debug)]
@@ -13,7 +13,7 @@ pub struct BytesBefore {
     packet: PacketRegister,
     offset: usize,
     count: usize,
-    bytes: [u8; MOST],
+    bytes: [u8; MAX_BYTES],
 }
 
 /// The bytes that an instruction is going to overwrite, if it is a store.
@@ -48,7 +48,7 @@ fn bytes_at(
 ) -> Option<BytesBefore> {
     let offset = offset as usize;
     let count = usize::from(width.bytes());
-    let mut bytes = [0; MOST];
+    let mut bytes = [0; MAX_BYTES];
     let segment = view.segment(packet, 0)?;
     let rest = segment.bytes.get(offset..)?;
     for (to, from) in bytes.iter_mut().zip(rest) {

@@ -1,0 +1,10 @@
+use Rattle.std.proofs.Common.{rules}
+use Rattle.dp_mbuf_tests.proofs.RowLemmas.{over_kept, chain_kept}
+use Rattle.dp_mbuf_tests.proofs.tests.calls.chain.Goals as goal
+
+pub returns : goal.returns
+returns g c = record {
+  over = over_kept c.args.m.now.store c.chain.new.self.store
+      (chain_kept c.args.m.now.store c.chain.new.self.store c.args.head.now c.args.tail c.alive.ensures c.alive-2.ensures c.chain.ensures.packets) c.requires;
+  zones = search rules;
+}
