@@ -18,5 +18,6 @@ pub mod Devices
 pub mod Found
 pub mod Names
 pub mod Opened
+pub mod Papers
 pub mod Guarding
 pub mod Words

@@ -25,8 +25,8 @@ use Rattle.dp_cli.specs.declared.fault.Fault.TheVariants as fault
 use Rattle.dp_cli.specs.DocumentedLoads.{IsUnloadedDocumented, fault_for}
 use Rattle.dp_cli.specs.Documents.{PrintsDocument, view_of_fault}
 use Rattle.dp_cli.specs.Judging.{IsJudged, IsUnjudged, entry_at, node_in}
-use Rattle.dp_cli.specs.Printing.{IsEnded, Paper, PrintsFault}
-use Rattle.dp_cli.specs.Statuses.{IsExitStatus, status_of_fault}
+use Rattle.dp_cli.specs.Printing.{IsEnded, Paper, Prints, PrintsFault}
+use Rattle.dp_cli.specs.Statuses.{no_node_line, status_of_fault}
 
 -- ---- check
 
@@ -142,7 +142,8 @@ pub record AreAllDocumented (known : Option FileMap) (config : Config) (out out'
 -- the document of the node with this entry was printed, or it was reported that there is none
 abbrev pub IsDocumentedAt : Option FileMap → Config → Entry → Paper → Paper → Paper → Paper → ℕ → Type 0
 IsDocumentedAt known config entry out out' err err' status = MatchOption (node_in config entry)
-    (IsExitStatus 2 status × (out' ≡ out)) (λ node. IsNodeDocumented known config.env node out out' err err' status)
+    (IsEnded 2 (Prints err err' (no_node_line entry) × (out' ≡ out)) out' err err' status)
+    (λ node. IsNodeDocumented known config.env node out out' err err' status)
 
 -- the document of a text's pipeline was printed: its fault; or the verdicts on its nodes, or on the one that is named
 abbrev pub IsOf : Option FileMap → Config → Option Entry → Paper → Paper → Paper → Paper → ℕ → Type 0

@@ -1,5 +1,6 @@
 pub mod Closing
 pub mod CommandRuns
+pub mod CommandTraces
 pub mod Commands
 pub mod CountedRuns
 pub mod Counting
@@ -22,7 +23,9 @@ pub mod Outlets
 pub mod Outputs
 pub mod Pipelines
 pub mod Printing
+pub mod Program
 pub mod Progress
+pub mod Refusals
 pub mod Replacing
 pub mod Report
 pub mod Run

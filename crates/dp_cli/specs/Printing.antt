@@ -3,7 +3,7 @@ use Rattle.std.specs.Prelude.{◌≡◌, ℕ, ◌⊎◌, List, [], ◌∷◌, �
 use Rattle.std.specs.Io.KnownBytes.{Appends}
 use Rattle.dp_cli.specs.declared.printer.Printer.{Printer}
 use Rattle.dp_cli.specs.declared.fault.Fault.{Fault}
-use Rattle.dp_cli.specs.Statuses.{text_of_fault, finding_of, lines_after, PrintsMemory}
+use Rattle.dp_cli.specs.Statuses.{text_of_fault, finding_of, lines_after, status_of_fault, PrintsMemory}
 
 -- a printer notes whether its writer failed
 abbrev pub Notes : {W A E : Type 0} → Printer W → Printer W → Result A E → Type 0
@@ -51,3 +51,15 @@ pub record Reports (out out' err err' : Paper) : Type 0 where
   pub text : List ℕ
   pub reported : Prints err err' text
   pub silent : out' ≡ out
+
+-- a command ended with the report of a fault, before it printed anything
+abbrev pub IsFaultEnded : Fault → Paper → Paper → Paper → Paper → ℕ → Type 0
+IsFaultEnded fault out out' err err' status = IsEnded (status_of_fault fault) (PrintsFault fault err err' × (out' ≡ out)) out' err err' status
+
+-- a command ended with these words on what is wrong with its words, before it printed anything
+abbrev pub EndsWithUsage : List ℕ → Paper → Paper → Paper → Paper → ℕ → Type 0
+EndsWithUsage words out out' err err' status = IsEnded 2 (Prints err err' (words ++ 10 ∷ []) × (out' ≡ out)) out' err err' status
+
+-- with some words
+abbrev pub IsUsageEnded : Paper → Paper → Paper → Paper → ℕ → Type 0
+IsUsageEnded out out' err err' status = (words : List ℕ) × EndsWithUsage words out out' err err' status

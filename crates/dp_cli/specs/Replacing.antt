@@ -6,8 +6,8 @@ use Rattle.std.specs.Option.{option_map_or, unwrap_or}
 use Rattle.std.specs.Str.{bytes_eq}
 use Rattle.clap.specs.declared.parser.matches.Found.{Found}
 use Rattle.clap.specs.Matches.{matched_of, raw_values}
-use Rattle.dp_cli.specs.declared.call.Paper.{Paper}
-use Rattle.dp_cli.specs.declared.call.Paper.TheVariants.{Output, Error}
+use Rattle.dp_cli.specs.declared.call.HostOutput.{HostOutput}
+use Rattle.dp_cli.specs.declared.call.HostOutput.TheVariants.{Output, Error}
 use Rattle.dp_cli.specs.declared.run.replaced.WordForm.{WordForm}
 use Rattle.dp_cli.specs.declared.run.replaced.WordForm.TheVariants.{Named, Bare}
 use Rattle.dp_cli.specs.declared.run.replaced.Place.{Place}
@@ -101,8 +101,8 @@ words_of found option = option_map_or raw_values (matched_of found option) []
 abbrev pub given_in : Found → Direction → Option (List Row)
 given_in found direction = rows_of (words_of found (option_of direction Named)) (words_of found (option_of direction Bare))
 
--- whether a command prints on standard error
-abbrev pub is_on_error : {R : Type 0} → Paper R → Bool
+-- whether the program prints on standard error
+abbrev pub is_on_error : {R : Type 0} → HostOutput R → Bool
 is_on_error (Output out) = false
 is_on_error (Error err) = true
 

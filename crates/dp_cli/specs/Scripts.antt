@@ -17,7 +17,7 @@ use Rattle.dp_cli.specs.declared.mem.script.Command.{Command}
 use Rattle.dp_cli.specs.declared.mem.script.Command.TheVariants as command
 use Rattle.dp_cli.specs.Commands.{command_in}
 use Rattle.dp_cli.specs.Heaps.{element_at, block_line, refusal_line, freed_line, list_text, stats_line}
-use Rattle.dp_cli.specs.Statuses.{PrintsMemory, text_of_fault}
+use Rattle.dp_cli.specs.Printing.{IsFaultEnded, Paper}
 
 -- the state of a script: the elements of its heap, the blocks that it holds, and how many it allocated
 pub record Stage : Type 0 where
@@ -135,18 +135,21 @@ IsEnding plays before after ending.Done = IsPrinted (λ text. plays text None) b
 IsEnding plays before after (ending.Line line) = IsPrinted (λ text. plays text (Some line)) before after
 IsEnding plays before after _ = ⊤
 
--- the status of an ending, and the line that is reported: none at the end of a script, otherwise that of its fault
-abbrev pub PrintsEnding : Ending → Option (List ℕ) → Option (List ℕ) → ℕ → Type 0
-PrintsEnding ending.Done old new status = (status ≡ 0) × (new ≡ old)
-PrintsEnding ending.Memory old new status = (status ≡ 4) × PrintsMemory old new
-PrintsEnding (ending.Line line) old new status = (status ≡ 3) × Appends old new (text_of_fault (fault.Line line) ++ 10 ∷ [])
-PrintsEnding ending.Unwritten old new status = ⊥
+-- the status of an ending, and what is reported: nothing at the end of a script, otherwise its fault; or the output could not be written
+abbrev pub PrintsEnding : Ending → Paper → Paper → Paper → Paper → ℕ → Type 0
+PrintsEnding ending.Done out out' err err' status = (status ≡ 0) × (out' ≡ out) × (err' ≡ err)
+PrintsEnding ending.Memory out out' err err' status = IsFaultEnded fault.Memory out out' err err' status
+PrintsEnding (ending.Line line) out out' err err' status = IsFaultEnded (fault.Line line) out out' err err' status
+PrintsEnding ending.Unwritten out out' err err' status = (status ≡ 3) × (out'.failed ≡ true) × (err' ≡ err)
 
--- how a script ended, from its first line on, the line that was reported, and the status
-pub record PrintsScript (script : List ℕ) (before after old new : Option (List ℕ)) (status : ℕ) : Type 0 where
+-- how a script ended, from its first line on, what was reported, and the status
+pub record PrintsScript (script : List ℕ) (out out' err err' : Paper) (status : ℕ) : Type 0 where
   pub ending : Ending
-  pub is : IsEnding (Runs 1 (script_lines script)) before after ending
-  pub is_printed : PrintsEnding ending old new status
+  pub is : IsEnding (Runs 1 (script_lines script)) out.bytes out'.bytes ending
+  -- once its commands ran
+  pub between : Paper
+  pub sound : between.failed ≡ out.failed
+  pub is_printed : PrintsEnding ending between out' err err' status
 
 -- the lines of the rest of a script, if there is more
 abbrev pub lines_left : Option (List ℕ) → List (List ℕ)

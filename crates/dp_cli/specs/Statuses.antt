@@ -23,10 +23,6 @@ abbrev pub status_of_fault : Fault → ℕ
 status_of_fault fault.Memory = 4
 status_of_fault _ = 3
 
--- a fault ended a command
-abbrev pub IsFaultStatus : ℕ → Type 0
-IsFaultStatus status = (status ≡ 3) ⊎ (status ≡ 4)
-
 -- the line of a fault, without its newline
 abbrev pub text_of_fault : Fault → List ℕ
 text_of_fault fault.Memory = codes "fault: memory"
@@ -84,6 +80,6 @@ refusal_line error = text_of error ++ 10 ∷ []
 abbrev pub no_node_line : Entry → List ℕ
 no_node_line node = (codes "error: the pipeline has no " ++ node_text node) ++ 10 ∷ []
 
--- the line for a command line with an argument that is not UTF-8
-abbrev pub unread_text : List ℕ
-unread_text = codes "error: an argument is not UTF-8" ++ 10 ∷ []
+-- what is wrong with a command line with an argument that is not UTF-8
+abbrev pub unread_words : List ℕ
+unread_words = codes "error: an argument is not UTF-8"

@@ -3,7 +3,6 @@
 ghost use Rattle.std.specs.Prelude.{◌≡◌, codes};
 ghost use Rattle.clap.specs.Matches.{found_of};
 ghost use Rattle.dp_cli.specs.Operands.{IsFlag, operand};
-ghost use Rattle.dp_cli.specs.Replacing.{is_on_error};
 
 use crate::run::progress::ToStderr;
 use clap::ArgMatches;
@@ -21,28 +20,51 @@ pub struct Streams {
     pub error: Stderr,
 }
 
-/// Where a command prints: standard output, or standard error if a capture goes to standard output.
+/// Where a command prints its text, until it is turned to standard error.
+pub trait TextOutput: Write {
+    ghost use Rattle.std.specs.Prelude.{◌≡◌, Bool, true};
+
+    // Whether it is standard error.
+    ghost is_error: { Self → Bool };
+
+    /// Prints on standard error from now on.
+    fn use_error(&mut self, to: ToStderr)
+        ensures turned { is_error self.new ≡ true }
+        ensures same { Self.contents self.new ≡ Self.contents self.old };
+}
+
+/// Where the program prints on the host: standard output, or standard error if a capture goes to standard output.
 #[derive(Drop)]
-pub enum Paper<'a, R> {
+pub enum HostOutput<'a, R> {
     /// Standard output.
     Output(io::Printer<'a, R>),
     /// Standard error.
     Error(ToStderr),
 }
 
-impl<R: Print> Write for Paper<'_, R> {
+impl<R: Print> Write for HostOutput<'_, R> {
     fn write(&mut self, buf: &[u8]) -> Result<usize> {
         match self {
-            Paper::Output(out) => out.write(buf),
-            Paper::Error(err) => err.write(buf),
+            HostOutput::Output(out) => out.write(buf),
+            HostOutput::Error(err) => err.write(buf),
         }
     }
 
     fn flush(&mut self) -> Result<()> {
         match self {
-            Paper::Output(out) => out.flush(),
-            Paper::Error(err) => err.flush(),
+            HostOutput::Output(out) => out.flush(),
+            HostOutput::Error(err) => err.flush(),
         }
+    }
+}
+
+impl<R: Print> TextOutput for HostOutput<'_, R> {
+    ghost use Rattle.dp_cli.specs.Replacing.{is_on_error};
+
+    ghost is_error = { λ out. is_on_error out };
+
+    fn use_error(&mut self, to: ToStderr) {
+        *self = HostOutput::Error(to);
     }
 }
 
@@ -59,8 +81,6 @@ pub struct Call<'a, 'w, R> {
     pub to: ToStderr,
     /// Standard input and standard output, for captures.
     pub streams: Streams,
-    /// Whether a capture goes to standard output, so that everything is printed on standard error.
-    pub gives_stdout: bool,
 }
 
 impl<'w, R> Call<'_, 'w, R> {
@@ -76,33 +96,5 @@ impl<'w, R> Call<'_, 'w, R> {
         ensures { IsFlag (found_of self.now.words.now) (codes "json") result }
     {
         self.words.get_flag("json")
-    }
-
-    /// The same command, with `gives_stdout` replaced.
-    pub fn giving_stdout(&self, gives_stdout: bool) -> Call<'_, 'w, R>
-        ensures gives { result.gives_stdout ≡ gives_stdout }
-        ensures words { result.words.now ≡ self.now.words.now }
-    {
-        Call {
-            rt: self.rt,
-            alloc: self.alloc,
-            words: self.words,
-            to: self.to,
-            streams: self.streams,
-            gives_stdout,
-        }
-    }
-}
-
-impl<R: Print> Call<'_, '_, R> {
-    /// Returns where the command prints.
-    pub fn paper(&self) -> Paper<'_, R>
-        ensures { is_on_error result ≡ self.now.gives_stdout }
-    {
-        if self.gives_stdout {
-            Paper::Error(self.to)
-        } else {
-            Paper::Output(io::writer(self.rt))
-        }
     }
 }

@@ -1,11 +1,13 @@
 //! `dpv compile`: the Rattle module of a pipeline's programs.
 
-ghost use Rattle.std.specs.Prelude.{◌≡◌};
-ghost use Rattle.dp_cli.specs.Statuses.{IsExitStatus, PrintsMemory};
+ghost use Rattle.dp_cli.specs.Judging.{IsSaid};
+ghost use Rattle.dp_cli.specs.Printing.{paper};
 
 pub mod files;
 
-use crate::fault::{DONE, Fault, MEMORY, fail_with, report_if_memory, status_of_write};
+use crate::fault::DONE;
+use crate::printer::Printer;
+use crate::verdicts::saying::{report_memory, say};
 use dp_compile::Module;
 use dp_engine::Known;
 use dp_pipe::{NodeName, Pipeline};
@@ -25,18 +27,15 @@ fn module_of(alloc: Global, pipeline: &Pipeline) -> Result<String, AllocError> {
 pub fn compile_line<O: Write, E: Write>(
     alloc: Global,
     pipeline: &Pipeline,
-    out: &mut O,
-    err: &mut E,
+    out: &mut Printer<O>,
+    err: &mut Printer<E>,
 ) -> u8
-    ensures status { IsExitStatus DONE result }
-    ensures silent { result ≡ DONE → err.new ≡ err.old }
-    ensures memory { result ≡ MEMORY → PrintsMemory (E.contents err.old) (E.contents err.new) }
+    ensures { IsSaid DONE (paper O.contents out.old) (paper O.contents out.new) (paper E.contents err.old) (paper E.contents err.new) result }
 {
-    let Ok(text) = module_of(alloc, pipeline) else {
-        return fail_with(err, Fault::Memory);
-    };
-    let status = status_of_write(out.write_all(text.as_str().as_bytes()), DONE);
-    report_if_memory(err, status)
+    match module_of(alloc, pipeline) {
+        Ok(text) => say(text.as_str(), DONE, out, err),
+        Err(AllocError) => report_memory(out, err),
+    }
 }
 
 /// Writes a line for each program of a pipeline that is not among `K`, and so is interpreted.

@@ -1,11 +1,13 @@
 //! `--json`: the documents that commands print instead of text.
 
 ghost use Rattle.std.specs.Prelude.{◌≡◌, ◌++◌, ◌∷◌, [], true, IfOk, OnOk, string_bytes};
+ghost use Rattle.clap.specs.Matches.{found_of};
 ghost use Rattle.serde_json.specs.View.{view};
 ghost use Rattle.dp_json.specs.Documents as json;
 ghost use Rattle.dp_cli.specs.Documents.{IsPrinted, IsTextIn, PrintsDocument, memory_printed, view_of_fault};
 ghost use Rattle.dp_cli.specs.Printing.{IsEnded, Notes, Prints, PrintsFault, paper};
-ghost use Rattle.dp_cli.specs.Statuses.{IsExitStatus, IsFaultStatus, status_of_fault};
+ghost use Rattle.dp_cli.specs.Refusals.{EndsWithFault};
+ghost use Rattle.dp_cli.specs.Statuses.{status_of_fault};
 
 pub mod checks;
 pub mod loads;
@@ -13,7 +15,7 @@ pub mod runs;
 pub mod verdicts;
 
 use crate::call::Call;
-use crate::fault::{FAULT, Fault, MEMORY, fail_with, print_fault, status_unwritten};
+use crate::fault::{FAULT, Fault, MEMORY, print_fault, report_fault, status_unwritten};
 use crate::printer::Printer;
 use dp_json::{FaultText, fault_document, line_of};
 use serde_json::Value;
@@ -178,13 +180,18 @@ pub fn document_fault<O: Write, E: Write>(
 }
 
 /// Reports a fault that ends a command: its lines, and with `--json` its document too. Returns the status.
-pub fn end_with<R: Print, E: Write>(call: &Call<'_, '_, R>, fault: Fault<'_>, err: &mut E) -> u8
-    ensures status { IsExitStatus (status_of_fault fault.entry) result }
-    ensures fault { IsFaultStatus result }
+pub fn end_with<R, O: Write, E: Write>(
+    call: &Call<'_, '_, R>,
+    fault: Fault<'_>,
+    out: &mut Printer<O>,
+    err: &mut Printer<E>,
+) -> u8
+    ensures { EndsWithFault (found_of call.now.words.now) fault.entry (paper O.contents out.old) (paper O.contents out.new) (paper E.contents err.old)
+        (paper E.contents err.new) result }
 {
-    if !call.is_json() {
-        return fail_with(err, fault);
+    if call.is_json() {
+        document_fault(call.alloc, fault, out, err)
+    } else {
+        report_fault(fault, out, err)
     }
-    let mut out = Printer::new(call.paper());
-    document_fault(call.alloc, fault, &mut out, &mut Printer::new(err))
 }

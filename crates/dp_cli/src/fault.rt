@@ -5,7 +5,7 @@ ghost use Rattle.std.specs.Fmt.{with_newline};
 ghost use Rattle.std.specs.Io.KnownBytes.{Appends};
 ghost use Rattle.dp_cli.specs.Statuses.{IsExitStatus, PrintsMemory, finding_of, lines_after, lines_of_fault};
 ghost use Rattle.dp_cli.specs.Statuses.{no_node_line, status_of_fault, text_of_fault};
-ghost use Rattle.dp_cli.specs.Printing.{Notes, PrintsFault, WritesFault, paper};
+ghost use Rattle.dp_cli.specs.Printing.{EndsWithUsage, IsEnded, IsFaultEnded, IsUsageEnded, Notes, Prints, PrintsFault, WritesFault, paper};
 
 use crate::error_text::{Finding, Reason, reason_of, write_finding};
 use crate::printer::Printer;
@@ -192,67 +192,49 @@ pub fn status_unwritten<W: Write>(error: io::Error, err: &mut Printer<W>) -> u8
     }
 }
 
-/// A text could not be written.
-#[derive(Clone, Copy, Debug, PartialEq, Eq, Drop)]
-pub struct Unwritten;
-
 /// Reports a fault with its reason, and returns its status.
-///
-/// # Errors
-///
-/// [`Unwritten`] if it cannot be written.
-pub fn try_fail_with<W: Write>(to: &mut W, fault: Fault<'_>) -> Result<u8, Unwritten>
-    ensures status { IfOk result (λ status. status ≡ status_of_fault fault.entry) }
-    ensures lines { OnOk result (IfSome (lines_of_fault fault.entry) (Appends (W.contents to.old) (W.contents to.new))) }
+pub fn report_fault<O: Write, E: Write>(
+    fault: Fault<'_>,
+    out: &mut Printer<O>,
+    err: &mut Printer<E>,
+) -> u8
+    ensures ended { IsFaultEnded fault.entry (paper O.contents out.old) (paper O.contents out.new) (paper E.contents err.old) (paper E.contents err.new)
+        result }
+    ensures silent { out.new ≡ out.old }
 {
-    match write_fault(to, fault) {
-        Ok(()) => Ok(fault.status()),
-        Err(_) => Err(Unwritten),
+    match print_fault(err, fault) {
+        Ok(()) => fault.status(),
+        Err(_) => FAULT,
     }
 }
 
-/// Reports a fault with its reason; returns its status, or 3 if it cannot be written. So 4 means that lack of memory was reported.
-pub fn fail_with<W: Write>(to: &mut W, fault: Fault<'_>) -> u8
-    ensures status { IsExitStatus (status_of_fault fault.entry) result }
-    ensures memory { result ≡ MEMORY → PrintsMemory (W.contents to.old) (W.contents to.new) }
+/// Reports what is wrong with the command line, and returns the status.
+pub fn report_usage<T: Display + Drop, O: Write, E: Write>(
+    text: T,
+    out: &mut Printer<O>,
+    err: &mut Printer<E>,
+) -> u8
+    ensures ended { IfSome (T.output text) (λ words. EndsWithUsage words (paper O.contents out.old) (paper O.contents out.new) (paper E.contents err.old)
+        (paper E.contents err.new) result) }
+    ensures silent { out.new ≡ out.old }
 {
-    match try_fail_with(to, fault) {
-        Ok(status) => status,
-        Err(Unwritten) => FAULT,
-    }
-}
-
-/// Reports what is wrong with the command line, and returns the status, or 3 if it cannot be written.
-pub fn write_usage_error<W: Write, T: Display + Drop>(to: &mut W, text: T) -> u8
-    ensures status { IsExitStatus USAGE result }
-    ensures printed { result ≡ USAGE → IfSome (with_newline (T.output text)) (Appends (W.contents to.old) (W.contents to.new)) }
-    ensures memory { result ≢ MEMORY }
-{
-    match writeln!(to, "{text}") {
+    match err.line(text) {
         Ok(()) => USAGE,
         Err(_) => FAULT,
     }
 }
 
-/// Reports that a pipeline has no such node.
-pub fn write_no_node<E: Write>(node: Entry, err: &mut E) -> u8
-    ensures status { IsExitStatus USAGE result }
-    ensures printed { result ≡ USAGE → Appends (E.contents err.old) (E.contents err.new) (no_node_line node) }
-    ensures memory { result ≢ MEMORY }
+/// Reports that a pipeline has no such node, and returns the status.
+pub fn report_no_node<O: Write, E: Write>(
+    node: Entry,
+    out: &mut Printer<O>,
+    err: &mut Printer<E>,
+) -> u8
+    ensures ended { IsEnded USAGE (Prints (paper E.contents err.old) (paper E.contents err.new) (no_node_line node)
+        × (paper O.contents out.new ≡ paper O.contents out.old)) (paper O.contents out.new) (paper E.contents err.old) (paper E.contents err.new) result }
+    ensures usage { IsUsageEnded (paper O.contents out.old) (paper O.contents out.new) (paper E.contents err.old) (paper E.contents err.new) result }
+    ensures silent { out.new ≡ out.old }
 {
     let name = NodeName(node);
-    write_usage_error(err, format_args!("error: the pipeline has no {name}"))
-}
-
-/// The status of a print. Lack of memory is reported.
-pub fn report_if_memory<W: Write>(to: &mut W, status: u8) -> u8
-    ensures status { IsExitStatus status result }
-    ensures silent { status ≢ MEMORY → to.new ≡ to.old }
-    ensures memory { result ≡ MEMORY → PrintsMemory (W.contents to.old) (W.contents to.new) }
-{
-    if status == MEMORY {
-        fail_with(to, Fault::Memory)
-    } else {
-        status
-    }
+    report_usage(format_args!("error: the pipeline has no {name}"), out, err)
 }

@@ -71,9 +71,8 @@ impl<'a, R> HostFiles<'a, R> {
         reads
     }
 
-    /// Reports, after a fault's line, why a file was not fetched, and returns the status.
-    pub fn write_unfetched<E: Write>(&self, status: u8, err: &mut E) -> u8
-        ensures status { result ≡ status }
+    /// Reports, after a fault's line, why a file was not fetched. If that cannot be written, the status is the same.
+    pub fn write_unfetched<E: Write>(&self, status: u8, err: &mut E)
         ensures silent { status ≢ FAULT → err.new ≡ err.old }
     {
         match &self.unfetched {
@@ -83,9 +82,8 @@ impl<'a, R> HostFiles<'a, R> {
                     reason: file.reason,
                 };
                 let _written = write_finding(err, finding);
-                status
             }
-            _ => status,
+            _ => {}
         }
     }
 }

@@ -3,18 +3,17 @@
 ghost use Rattle.std.specs.Prelude.{◌≡◌, option_map};
 ghost use Rattle.dp_cli.specs.Inferring.{IsNodeInferred};
 ghost use Rattle.dp_cli.specs.Pipelines as spec;
-ghost use Rattle.dp_cli.specs.Printing.{paper, IsEnded, Prints};
-ghost use Rattle.dp_cli.specs.Statuses.{no_node_line};
+ghost use Rattle.dp_cli.specs.Printing.{paper};
 
 pub mod certifying;
 pub mod files;
 
-use crate::fault::{FAULT, USAGE};
+use crate::fault::report_no_node;
 use crate::printer::Printer;
 use certifying::print_cert;
 use dp_check::Checked;
 use dp_model::Entry;
-use dp_pipe::{NodeName, Pipeline};
+use dp_pipe::Pipeline;
 use std::alloc::Global;
 use std::io::Write;
 
@@ -29,18 +28,6 @@ fn node_at(pipeline: &Pipeline, which: Entry) -> Option<&Checked>
             Some(pipeline.node(ports + usize::from(ring)))
         }
         _ => None,
-    }
-}
-
-/// Reports that a pipeline has no such node, and returns the status.
-fn report_no_node<O: Write, E: Write>(node: Entry, out: &mut Printer<O>, err: &mut Printer<E>) -> u8
-    ensures { IsEnded USAGE (Prints (paper E.contents err.old) (paper E.contents err.new) (no_node_line node)
-        × (paper O.contents out.new ≡ paper O.contents out.old)) (paper O.contents out.new) (paper E.contents err.old) (paper E.contents err.new) result }
-{
-    let name = NodeName(node);
-    match err.line(format_args!("error: the pipeline has no {name}")) {
-        Ok(()) => USAGE,
-        Err(_) => FAULT,
     }
 }
 

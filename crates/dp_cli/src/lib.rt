@@ -44,7 +44,7 @@ pub use documents::document_fault;
 pub use documents::loads::load_or_document;
 pub use documents::verdicts::{document_node, document_pipeline};
 pub use error_text::{Finding, Reason, reason_of};
-pub use fault::{DONE, FAULT, Fault, MEMORY, REFUSED, USAGE, Unwritten, fail_with};
+pub use fault::{DONE, FAULT, Fault, MEMORY, REFUSED, USAGE, report_fault};
 pub use infer::certifying::infer_node;
 pub use infer::infer_line;
 pub use loading::{Unloaded, load_line};

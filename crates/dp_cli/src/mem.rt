@@ -11,13 +11,15 @@ ghost use Rattle.dp_cli.specs.Heaps as spec;
 ghost use Rattle.dp_cli.specs.Scripts.{IsBad, IsDone, IsEnding, PrintsEnding, IsFilled, IsFreed, IsLineDone, IsNoRegion, IsPrinted, PrintsRefusal};
 ghost use Rattle.dp_cli.specs.Scripts.{PrintsScript, IsTaken};
 ghost use Rattle.dp_cli.specs.Scripts.{IsWrong, Plays, Runs, first_from, fresh, is_held, lines_left, script_lines, stage};
-ghost use Rattle.dp_cli.specs.Statuses.{IsExitStatus, PrintsMemory};
+ghost use Rattle.dp_cli.specs.Printing.{paper};
+ghost use Rattle.dp_cli.specs.Statuses.{IsExitStatus};
 
 pub mod files;
 pub mod script;
 
-use crate::fault::{DONE, Fault, MEMORY, Unwritten, report_line, try_fail_with};
+use crate::fault::{DONE, FAULT, Fault, MEMORY, report_fault, report_line};
 use crate::mem::script::{Command, command_of};
+use crate::printer::Printer;
 use dp_heap::{Element, Heap, HeapError, State};
 use dp_region::{Block, CACHE_LINE, MAX_REGION, MIN_REGION, Region};
 use std::alloc::Global;
@@ -402,34 +404,35 @@ fn ending_of<O: Write>(alloc: Global, script: &[u8], out: &mut O) -> Ending
 }
 
 /// Reports how a script ended, if not at its end, and returns the status.
-fn write_ending<E: Write>(ending: Ending, err: &mut E) -> Result<u8, Unwritten>
-    ensures ending { IfOk result (PrintsEnding ending (E.contents err.old) (E.contents err.new)) }
-    ensures silent { IfOk result (λ status. status ≡ DONE → err.new ≡ err.old) }
+fn report_ending<O: Write, E: Write>(
+    ending: Ending,
+    out: &mut Printer<O>,
+    err: &mut Printer<E>,
+) -> u8
+    ensures ended { PrintsEnding ending (paper O.contents out.old) (paper O.contents out.new) (paper E.contents err.old) (paper E.contents err.new) result }
+    ensures same { out.new.to ≡ out.old.to }
 {
     match ending {
-        Ending::Done => Ok(DONE),
-        Ending::Memory => try_fail_with(err, Fault::Memory),
-        Ending::Unwritten => Err(Unwritten),
-        Ending::Line(line) => try_fail_with(err, Fault::Line(line)),
+        Ending::Done => DONE,
+        Ending::Memory => report_fault(Fault::Memory, out, err),
+        Ending::Unwritten => {
+            out.fail();
+            FAULT
+        }
+        Ending::Line(line) => report_fault(Fault::Line(line), out, err),
     }
 }
 
 /// Runs a heap script, and returns the status: 0; 3 if a line is at fault, which is reported; 4 for lack of memory, which is reported
-/// too. The output of the commands before a fault is in `out`.
-///
-/// # Errors
-///
-/// [`Unwritten`] if a text could not be written.
+/// too. The output of the commands before a fault is in `out`. The status is 3 also if a text could not be written.
 pub fn mem_line<O: Write, E: Write>(
     alloc: Global,
     script: &[u8],
-    out: &mut O,
-    err: &mut E,
-) -> Result<u8, Unwritten>
-    ensures script { IfOk result (PrintsScript script.now (O.contents out.old) (O.contents out.new) (E.contents err.old) (E.contents err.new)) }
-    ensures silent { IfOk result (λ status. status ≡ DONE → err.new ≡ err.old) }
-    ensures memory { IfOk result (λ status. status ≡ MEMORY → PrintsMemory (E.contents err.old) (E.contents err.new)) }
+    out: &mut Printer<O>,
+    err: &mut Printer<E>,
+) -> u8
+    ensures { PrintsScript script.now (paper O.contents out.old) (paper O.contents out.new) (paper E.contents err.old) (paper E.contents err.new) result }
 {
-    let ending = ending_of(alloc, script, out);
-    write_ending(ending, err)
+    let ending = ending_of(alloc, script, &mut out.to);
+    report_ending(ending, out, err)
 }

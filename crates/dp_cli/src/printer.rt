@@ -1,6 +1,6 @@
 //! Writers of texts that remember whether a text could not be written.
 
-ghost use Rattle.std.specs.Prelude.{◌≡◌, false, IfSome, OnOk};
+ghost use Rattle.std.specs.Prelude.{◌≡◌, false, true, IfSome, OnOk};
 ghost use Rattle.std.specs.Fmt.{with_newline};
 ghost use Rattle.std.specs.Io.KnownBytes.{Appends};
 ghost use Rattle.dp_cli.specs.Printing.{Notes};
@@ -66,6 +66,14 @@ impl<W: Write> Printer<W> {
     {
         let written = self.to.write_all(text.as_bytes());
         self.note(written)
+    }
+
+    /// Remembers that a text could not be written.
+    pub(crate) fn fail(&mut self)
+        ensures to { self.new.to ≡ self.old.to }
+        ensures failed { self.new.has_failed ≡ true }
+    {
+        self.has_failed = true;
     }
 
     /// Remembers whether a write failed.

@@ -1,21 +1,27 @@
 //! The program `dpv`: finds the command, runs it, and returns the exit status.
 
-ghost use Rattle.std.specs.Prelude.{◌≡◌, ◌↔◌, IfOk, IsErr};
-ghost use Rattle.std.specs.Io.KnownBytes.{Appends};
+ghost use Rattle.std.specs.Prelude.{◌≡◌, ◌≢◌, ◌⊎◌, IfErr, IfOk, OnErr};
 ghost use Rattle.std.specs.declared.io.ErrorKind.TheVariants.{OutOfMemory};
-ghost use Rattle.dp_cli.specs.Statuses.{IsExitStatus, unread_text};
+ghost use Rattle.clap.specs.Matches.{found_of};
+ghost use Rattle.dp_cli.specs.LoadedFiles.{EndsUncounted};
+ghost use Rattle.dp_cli.specs.Printing.{EndsWithUsage, IsFaultEnded, paper};
+ghost use Rattle.dp_cli.specs.Refusals.{EndsAtWords};
+ghost use Rattle.dp_cli.specs.Program.{EndsHelped, EndsMatches, EndsProgram, EndsWords, JudgesCommand, RunsCommand};
+ghost use Rattle.dp_cli.specs.Statuses.{unread_words};
 
-use crate::call::{Call, Streams};
+use crate::call::{Call, HostOutput, Streams, TextOutput};
 use crate::check::files::check_file;
 use crate::compile::files::compile_file;
-use crate::fault::{DONE, FAULT, Fault, Status, USAGE, fail_with, write_usage_error};
+use crate::fault::{DONE, FAULT, Fault, Status, USAGE, report_fault, report_usage};
 use crate::files::fill_streams;
 use crate::infer::files::{infer_file, infer_program};
 use crate::mem::files::run_script;
+use crate::printer::Printer;
 use crate::run::files::{run_file, run_one_port};
 use crate::run::progress::ToStderr;
+use crate::single_port::ONE_PORT;
 use crate::trace::files::trace_file;
-use crate::verdicts::files::{explain_file, explain_one, print_one, show_file, shown_in};
+use crate::verdicts::files::{explain_file, explain_one, show_file, show_one};
 use clap::ArgMatches;
 use clap::error::ErrorKind;
 use dp_engine::{Known, Nothing};
@@ -24,64 +30,96 @@ use std::alloc::{AllocError, Global};
 use std::io::{self, Write};
 use std::rt::{Env, Files};
 
+/// The status for an error of the command line, which may be a request for help.
+fn status_for(error: &clap::Error) -> u8
+    ensures { (result ≡ DONE) ⊎ (result ≡ USAGE) }
+{
+    if error.exit_code() == 0 { DONE } else { USAGE }
+}
+
 /// Reports an error of the command line, or prints the requested help, and returns the status.
-fn wrong_words<R: Print + Eprint, E: Write>(rt: &R, error: &clap::Error, err: &mut E) -> u8 {
+fn wrong_words<R: Print + Eprint, O: Write, E: Write>(
+    rt: &R,
+    error: &clap::Error,
+    out: &mut Printer<O>,
+    err: &mut Printer<E>,
+) -> u8
+    ensures { EndsHelped (paper O.contents out.old) (paper O.contents out.new) (paper E.contents err.old) (paper E.contents err.new) result }
+{
     if error.kind() == ErrorKind::OutOfMemory {
-        return fail_with(err, Fault::Memory);
+        return report_fault(Fault::Memory, out, err);
     }
-    let status = if error.exit_code() == 0 { DONE } else { USAGE };
     match error.print(rt) {
-        Ok(()) => status,
-        Err(_) => FAULT,
+        Ok(()) => status_for(error),
+        Err(_) => {
+            err.fail();
+            FAULT
+        }
     }
 }
 
 /// Runs the command of this name among those that explain or show programs.
-fn judge_programs<R: Files + Print, E: Write>(
+fn judge_programs<R: Files, O: Write, E: Write>(
     call: &Call<'_, '_, R>,
     name: &str,
-    err: &mut E,
-) -> Status {
+    out: &mut Printer<O>,
+    err: &mut Printer<E>,
+) -> Status
+    ensures judges { IfOk result (JudgesCommand name.now (found_of call.now.words.now) (paper O.contents out.old) (paper O.contents out.new)
+        (paper E.contents err.old) (paper E.contents err.new)) }
+    ensures fails { IfErr result (EndsUncounted (found_of call.now.words.now) (paper O.contents out.old) (paper O.contents out.new) (paper E.contents err.old)
+        (paper E.contents err.new)) }
+{
     match name {
-        "check" => check_file(call, err),
-        "compile" => compile_file(call, err),
-        "infer" => infer_file(call, err),
-        "infer-one" => infer_program(call, err),
-        "explain" => explain_file(call, err),
-        "explain-one" => explain_one(call, err),
-        "show" => show_file(call, err),
-        "show-one" => print_one(call, shown_in(call.words), err),
-        _ => Err(USAGE),
+        "check" => check_file(call, out, err),
+        "compile" => compile_file(call, out, err),
+        "infer" => infer_file(call, out, err),
+        "infer-one" => Ok(infer_program(call, out, err)),
+        "explain" => explain_file(call, out, err),
+        "explain-one" => Ok(explain_one(call, out, err)),
+        "show" => show_file(call, out, err),
+        "show-one" => Ok(show_one(call, out, err)),
+        _ => Err(report_usage("error: there is no such command", out, err)),
     }
 }
 
 /// Runs the command of this name.
-fn run_command<K: Known, R: Files + Print, E: Write>(
+fn run_command<K: Known, R: Files, O: TextOutput, E: Write>(
     call: &Call<'_, '_, R>,
     name: &str,
     reports_interpreted: bool,
-    err: &mut E,
-) -> Status {
+    out: &mut Printer<O>,
+    err: &mut Printer<E>,
+) -> Status
+    ensures runs { IfOk result (RunsCommand R.File.remaining ONE_PORT.now name.now (found_of call.now.words.now) (paper O.contents out.old)
+        (paper O.contents out.new) (paper E.contents err.old) (paper E.contents err.new)) }
+    ensures fails { IfErr result (EndsUncounted (found_of call.now.words.now) (paper O.contents out.old) (paper O.contents out.new) (paper E.contents err.old)
+        (paper E.contents err.new)) }
+{
     match name {
-        "one" => run_one_port(call, err),
-        "run" => run_file::<K, R, E>(call, reports_interpreted, err),
-        "trace" => trace_file(call, err),
-        "mem" => run_script(call, err),
-        _ => judge_programs(call, name, err),
+        "one" => run_one_port(call, out, err),
+        "run" => run_file::<K, R, O, E>(call, reports_interpreted, out, err),
+        "trace" => trace_file(call, out, err),
+        "mem" => run_script(call, out, err),
+        _ => judge_programs(call, name, out, err),
     }
 }
 
 /// Runs the command of the command line, and returns the status.
-fn run_matches<'a, K: Known, R: Files + Print, E: Write>(
+fn run_matches<'a, K: Known, R: Files, O: TextOutput, E: Write>(
     rt: &'a R,
     alloc: Global,
     matches: &'a ArgMatches<'_>,
     streams: Streams,
     reports_interpreted: bool,
-    err: &mut E,
-) -> u8 {
+    out: &mut Printer<O>,
+    err: &mut Printer<E>,
+) -> u8
+    ensures { EndsMatches R.File.remaining ONE_PORT.now (paper O.contents out.old) (paper O.contents out.new) (paper E.contents err.old)
+        (paper E.contents err.new) result }
+{
     let Some((name, words)) = matches.subcommand() else {
-        return USAGE;
+        return report_usage("error: there is no command", out, err);
     };
     let call = Call {
         rt,
@@ -89,27 +127,28 @@ fn run_matches<'a, K: Known, R: Files + Print, E: Write>(
         words,
         to: ToStderr(streams.error),
         streams,
-        gives_stdout: false,
     };
-    match run_command::<K, R, E>(&call, name, reports_interpreted, err) {
+    match run_command::<K, R, O, E>(&call, name, reports_interpreted, out, err) {
         Ok(status) | Err(status) => status,
     }
 }
 
 /// Reports why the words of the command line cannot be read, such as one that is not UTF-8, and returns the status.
-///
-/// # Errors
-///
-/// `AllocError` if there is no memory for them.
-fn unread_words<E: Write>(kind: io::ErrorKind, err: &mut E) -> Result<u8, AllocError>
-    ensures status { IfOk result (IsExitStatus USAGE) }
-    ensures printed { IfOk result (λ status. status ≡ USAGE → Appends (E.contents err.old) (E.contents err.new) unread_text) }
-    ensures memory { IsErr result ↔ kind ≡ OutOfMemory }
+fn unread_words<O: Write, E: Write>(
+    kind: io::ErrorKind,
+    out: &mut Printer<O>,
+    err: &mut Printer<E>,
+) -> u8
+    ensures memory { kind ≡ OutOfMemory → IsFaultEnded Fault.Memory (paper O.contents out.old) (paper O.contents out.new) (paper E.contents err.old)
+        (paper E.contents err.new) result }
+    ensures ended { EndsAtWords (paper O.contents out.old) (paper O.contents out.new) (paper E.contents err.old) (paper E.contents err.new) result }
+    ensures unread { kind ≢ OutOfMemory → EndsWithUsage unread_words (paper O.contents out.old) (paper O.contents out.new) (paper E.contents err.old)
+        (paper E.contents err.new) result }
 {
     if kind == io::ErrorKind::OutOfMemory {
-        return Err(AllocError);
+        return report_fault(Fault::Memory, out, err);
     }
-    Ok(write_usage_error(err, "error: an argument is not UTF-8"))
+    report_usage("error: an argument is not UTF-8", out, err)
 }
 
 /// Runs the command that the words of the command line name, and returns the status.
@@ -117,16 +156,21 @@ fn unread_words<E: Write>(kind: io::ErrorKind, err: &mut E) -> Result<u8, AllocE
 /// # Errors
 ///
 /// `AllocError` if there is no memory for the words or for the commands that they are compared with.
-fn run_words<K: Known, R: Env + AllocGlobal + Files + Print + Eprint, E: Write>(
+fn run_words<K: Known, R: Env + AllocGlobal + Files + Print + Eprint, O: TextOutput, E: Write>(
     rt: &R,
     streams: Streams,
     reports_interpreted: bool,
-    err: &mut E,
-) -> Result<u8, AllocError> {
+    out: &mut Printer<O>,
+    err: &mut Printer<E>,
+) -> Result<u8, AllocError>
+    ensures ends { IfOk result (EndsWords R.File.remaining ONE_PORT.now (paper O.contents out.old) (paper O.contents out.new) (paper E.contents err.old)
+        (paper E.contents err.new)) }
+    ensures silent { OnErr result ((out.new ≡ out.old) × (err.new ≡ err.old)) }
+{
     let alloc = rt.alloc();
     let given = match std::env::args(rt) {
         Ok(given) => given,
-        Err(error) => return unread_words(error.kind(), err),
+        Err(error) => return Ok(unread_words(error.kind(), out, err)),
     };
     // Usage texts use this name, whatever the program's file is called.
     let mut words = Vec::new(alloc);
@@ -134,15 +178,36 @@ fn run_words<K: Known, R: Env + AllocGlobal + Files + Print + Eprint, E: Write>(
     words.extend(given.skip(1))?;
     let command = command(alloc)?;
     match command.try_get_matches_from(words.as_slice()) {
-        Ok(matches) => Ok(run_matches::<K, R, E>(
+        Ok(matches) => Ok(run_matches::<K, R, O, E>(
             rt,
             alloc,
             &matches,
             streams,
             reports_interpreted,
+            out,
             err,
         )),
-        Err(error) => Ok(wrong_words(rt, &error, err)),
+        Err(error) => Ok(wrong_words(rt, &error, out, err)),
+    }
+}
+
+/// Runs the command of the host's command line with these printers, and returns the status.
+fn run_printing<K: Known, R: Env + AllocGlobal + Files + Print + Eprint, O: TextOutput, E: Write>(
+    rt: &R,
+    streams: Streams,
+    reports_interpreted: bool,
+    out: &mut Printer<O>,
+    err: &mut Printer<E>,
+) -> u8
+    ensures { EndsWords R.File.remaining ONE_PORT.now (paper O.contents out.old) (paper O.contents out.new) (paper E.contents err.old)
+        (paper E.contents err.new) result }
+{
+    let Ok(_streams) = fill_streams(rt) else {
+        return report_fault(Fault::Memory, out, err);
+    };
+    match run_words::<K, R, O, E>(rt, streams, reports_interpreted, out, err) {
+        Ok(status) => status,
+        Err(AllocError) => report_fault(Fault::Memory, out, err),
     }
 }
 
@@ -151,22 +216,21 @@ fn run_with<K: Known, R: Env + AllocGlobal + Files + Print + Eprint>(
     rt: &R,
     streams: Streams,
     reports_interpreted: bool,
-) -> u8 {
-    let mut err = io::writer(&streams.error);
-    let Ok(_streams) = fill_streams(rt) else {
-        return fail_with(&mut err, Fault::Memory);
-    };
-    match run_words::<K, R, _>(rt, streams, reports_interpreted, &mut err) {
-        Ok(status) => status,
-        Err(AllocError) => fail_with(&mut err, Fault::Memory),
-    }
+) -> u8
+    ensures { EndsProgram R.File.remaining ONE_PORT.now result }
+{
+    let mut out = Printer::new(HostOutput::Output(io::writer(rt)));
+    let mut err = Printer::new(io::writer(&streams.error));
+    run_printing::<K, R, _, _>(rt, streams, reports_interpreted, &mut out, &mut err)
 }
 
 /// Runs the command of the host's command line over the host's files, and returns the status.
 pub fn run_command_line<R: Env + AllocGlobal + Files + Print + Eprint>(
     rt: &R,
     streams: Streams,
-) -> u8 {
+) -> u8
+    ensures { EndsProgram R.File.remaining ONE_PORT.now result }
+{
     run_with::<Nothing, R>(rt, streams, false)
 }
 
@@ -175,6 +239,8 @@ pub fn run_command_line<R: Env + AllocGlobal + Files + Print + Eprint>(
 pub fn run_compiled<K: Known, R: Env + AllocGlobal + Files + Print + Eprint>(
     rt: &R,
     streams: Streams,
-) -> u8 {
+) -> u8
+    ensures { EndsProgram R.File.remaining ONE_PORT.now result }
+{
     run_with::<K, R>(rt, streams, true)
 }

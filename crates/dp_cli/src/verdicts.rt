@@ -2,8 +2,7 @@
 
 ghost use Rattle.std.specs.Prelude.{◌≡◌};
 ghost use Rattle.dp_cli.specs.Judging.{asked_node, accepted_text, entry_at, PrintsNode, PrintsNth, PrintsAll, PrintsAt, PrintsPipeline};
-ghost use Rattle.dp_cli.specs.Printing.{IsEnded, Prints, paper};
-ghost use Rattle.dp_cli.specs.Statuses.{no_node_line};
+ghost use Rattle.dp_cli.specs.Printing.{Prints, paper};
 
 pub mod counted;
 pub mod draw;
@@ -14,14 +13,14 @@ pub mod saying;
 pub mod show;
 pub mod verdict;
 
-use crate::fault::{DONE, FAULT, REFUSED, USAGE};
+use crate::fault::{DONE, REFUSED, report_no_node};
 use crate::loading::report_unloaded;
 use crate::printer::Printer;
 use crate::verdicts::explain::explain;
 use crate::verdicts::node_source::{Asked, asked_of, judge};
 use crate::verdicts::show::{Form, show};
 use dp_model::{Entry, Env};
-use dp_pipe::{Files, NodeName, Survey, survey_of};
+use dp_pipe::{Files, Survey, survey_of};
 use std::alloc::Global;
 use std::io::Write;
 
@@ -116,18 +115,6 @@ pub fn print_all<F: Files, O: Write, E: Write>(
         }
     }
     worst
-}
-
-/// Reports that a pipeline has no such node, and returns the status.
-fn report_no_node<O: Write, E: Write>(node: Entry, out: &mut Printer<O>, err: &mut Printer<E>) -> u8
-    ensures { IsEnded USAGE (Prints (paper E.contents err.old) (paper E.contents err.new) (no_node_line node)
-        × (paper O.contents out.new ≡ paper O.contents out.old)) (paper O.contents out.new) (paper E.contents err.old) (paper E.contents err.new) result }
-{
-    let name = NodeName(node);
-    match err.line(format_args!("error: the pipeline has no {name}")) {
-        Ok(()) => USAGE,
-        Err(_) => FAULT,
-    }
 }
 
 /// Prints the verdict on the node of a pipeline with this entry.

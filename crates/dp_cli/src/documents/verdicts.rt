@@ -9,7 +9,7 @@ ghost use Rattle.dp_cli.specs.Printing.{paper};
 
 use crate::documents::loads::{document_unloaded, fault_for};
 use crate::documents::{document_fault, document_with, end_documented, value_of_fault};
-use crate::fault::{DONE, Fault, REFUSED, write_no_node};
+use crate::fault::{DONE, Fault, REFUSED, report_no_node};
 use crate::printer::Printer;
 use crate::verdicts::entry_at;
 use crate::verdicts::explain::{explanation_text, line_at, line_of};
@@ -376,7 +376,7 @@ fn document_at<F: Files, O: Write, E: Write>(
 {
     match asked_of(survey, node) {
         Some(asked) => document_node(alloc, files, survey.env(), asked, out, err),
-        None => write_no_node(node, &mut err.to),
+        None => report_no_node(node, out, err),
     }
 }
 

@@ -6,8 +6,8 @@ ghost use Rattle.dp_pipe.specs.Nodes.{Fails};
 ghost use Rattle.dp_cli.specs.Inferring.{by_itself, IsCertEnded, IsInferred, PrintsInferred};
 ghost use Rattle.dp_cli.specs.Printing.{Notes, paper, Prints};
 
-use crate::fault::{DONE, Fault, status_unwritten};
-use crate::loading::{report_fault, report_unloaded};
+use crate::fault::{DONE, Fault, report_fault, status_unwritten};
+use crate::loading::report_unloaded;
 use crate::printer::Printer;
 use crate::verdicts::node_source::program_of;
 use dp_cert::{Cert, encode};

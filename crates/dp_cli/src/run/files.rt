@@ -1,21 +1,24 @@
 //! `dpv run` and `dpv one` over the host's files: opens the captures, and reports the run.
 
-ghost use Rattle.std.specs.Prelude.{◌≡◌, ◌≢◌, ◌++◌, IfErr, IfOk, None, OnOk, Some, codes, length, map, option_map};
+ghost use Rattle.std.specs.Prelude.{◌≡◌, ◌++◌, ◌∷◌, [], IfErr, IfOk, List, None, OnOk, Some, codes, length, map, option_map, true, ℕ};
+ghost use Rattle.std.specs.List.{list_any};
 ghost use Rattle.clap.specs.Matches.{first_value, found_of};
 ghost use Rattle.dp_cli.specs.CommandRuns.{EndsNamed, RunsFile, RunsOne};
 ghost use Rattle.dp_cli.specs.Guarding.{AreGuarded, ReadsInputs, read_name};
+ghost use Rattle.dp_cli.specs.LoadedFiles.{IsLoadedPlan};
 ghost use Rattle.dp_cli.specs.Names.{AreInputs, AreOutputs, input_name, output_capture};
 ghost use Rattle.dp_cli.specs.OpenedRuns.{IsOpenedRun, passage};
-ghost use Rattle.dp_cli.specs.Operands.{calls_refused};
+ghost use Rattle.dp_cli.specs.Operands.{calls_refused, operand};
 ghost use Rattle.dp_cli.specs.Printing.{paper};
-ghost use Rattle.dp_cli.specs.Replacing.{missing};
+ghost use Rattle.dp_cli.specs.Refusals.{EndsAtWords, EndsRefused};
+ghost use Rattle.dp_cli.specs.Replacing.{is_stream, missing};
 ghost use Rattle.dp_engine.specs.Engines.{IsAscending};
 
-use crate::call::Call;
+use crate::call::{Call, TextOutput};
 use crate::compile::write_interpreted;
 use crate::counting::{Counting, counting_in, run_and_report};
 use crate::documents::end_with;
-use crate::fault::{Fault, Status, fail_with, write_no_node, write_usage_error};
+use crate::fault::{Fault, Status, report_fault, report_no_node, report_usage};
 use crate::loading::{Loaded, load_text, load_with_reads};
 use crate::operands::numbers_in;
 use crate::printer::Printer;
@@ -23,7 +26,7 @@ use crate::run::Reporting;
 use crate::run::capture_errors::{CaptureNames, names_of};
 use crate::run::captures::{BUFFER, InputOf, OutputOf, UNBUFFERED, create_outputs, open_inputs};
 use crate::run::drops::Drops;
-use crate::run::progress::ProgressNotices;
+use crate::run::progress::{ProgressNotices, ToStderr};
 use crate::run::replaced::{Replacements, replacements_in};
 use crate::run::same_file::{ReadFile, keep_apart, note_input};
 use crate::run::truncated::write_truncated;
@@ -37,33 +40,47 @@ use std::io::{self, Write};
 use std::rt::Files;
 
 /// Parses the list of allocation calls to refuse, if there is one; or reports the fault, and returns the status.
-fn refused_by<E: Write>(alloc: Global, list: Option<&str>, err: &mut E) -> Result<Vec<u64>, u8>
+fn refused_by<O: Write, E: Write>(
+    alloc: Global,
+    list: Option<&str>,
+    out: &mut Printer<O>,
+    err: &mut Printer<E>,
+) -> Result<Vec<u64>, u8>
     ensures calls { IfOk result (λ pattern. Some pattern.items ≡ calls_refused (option_map (λ word. word.now) list.entry)) }
     ensures ascending { IfOk result (λ pattern. IsAscending 0 pattern.items) }
-    ensures fails { IfErr result (λ status. status ≢ 0) }
+    ensures silent { OnOk result ((out.new ≡ out.old) × (err.new ≡ err.old)) }
+    ensures fails { IfErr result (EndsAtWords (paper O.contents out.old) (paper O.contents out.new) (paper E.contents err.old)
+        (paper E.contents err.new)) }
 {
     let Some(list) = list else {
         return Ok(Vec::new(alloc));
     };
     match numbers_in(alloc, list) {
         Ok(Some(pattern)) => Ok(pattern),
-        Ok(None) => Err(write_usage_error(
-            err,
+        Ok(None) => Err(report_usage(
             format_args!(
                 "error: '{list}' is not a list: numbers from 1 on, each above the one before it, joined by commas"
             ),
+            out,
+            err,
         )),
-        Err(_) => Err(fail_with(err, Fault::Memory)),
+        Err(_) => Err(report_fault(Fault::Memory, out, err)),
     }
 }
 
 /// Reads which allocation calls the command line refuses; or reports the fault, and returns the status.
-pub fn refused_in<R, E: Write>(call: &Call<'_, '_, R>, err: &mut E) -> Result<Vec<u64>, u8>
+pub fn refused_in<R, O: Write, E: Write>(
+    call: &Call<'_, '_, R>,
+    out: &mut Printer<O>,
+    err: &mut Printer<E>,
+) -> Result<Vec<u64>, u8>
     ensures calls { IfOk result (λ pattern. Some pattern.items ≡ calls_refused (first_value (found_of call.now.words.now) (codes "refuse"))) }
     ensures ascending { IfOk result (λ pattern. IsAscending 0 pattern.items) }
-    ensures fails { IfErr result (λ status. status ≢ 0) }
+    ensures silent { OnOk result ((out.new ≡ out.old) × (err.new ≡ err.old)) }
+    ensures fails { IfErr result (EndsAtWords (paper O.contents out.old) (paper O.contents out.new) (paper E.contents err.old)
+        (paper E.contents err.new)) }
 {
-    refused_by(call.alloc, call.words.get_str("refuse"), err)
+    refused_by(call.alloc, call.words.get_str("refuse"), out, err)
 }
 
 /// The captures that a run reads, and those that it writes.
@@ -165,17 +182,20 @@ fn run_opened<K: Known, R: Files, P: Write, E: Write>(
 }
 
 /// Opens the captures that a pipeline reads and writes, and runs it over them.
-fn run_pipeline<K: Known, R: Files + Print, E: Write>(
+fn run_pipeline<K: Known, R: Files, O: TextOutput, E: Write>(
     call: &Call<'_, '_, R>,
     loaded: Loaded,
     naming: Naming<'_>,
     given: &Replacements<'_>,
     pattern: Vec<u64>,
-    err: &mut E,
+    out: &mut Printer<O>,
+    err: &mut Printer<E>,
 ) -> u8
-    requires { IsAscending 0 pattern.items }
+    requires pattern { IsAscending 0 pattern.items }
+    requires apart { list_any (λ one. is_stream one.place) given.now.outputs.items ≡ true → O.is_error out.old.to ≡ true }
     ensures { EndsNamed R.File.remaining (found_of call.now.words.now) loaded.pipeline naming.entry given.now.inputs.items given.now.outputs.items
-        pattern.items (map read_name loaded.reads.items) result }
+        pattern.items (map read_name loaded.reads.items) (paper O.contents out.old) (paper O.contents out.new) (paper E.contents err.old)
+        (paper E.contents err.new) result }
 {
     let Loaded {
         pipeline,
@@ -184,22 +204,22 @@ fn run_pipeline<K: Known, R: Files + Print, E: Write>(
     } = loaded;
     let mut reads = reads;
     let Ok(names) = names_of(call.alloc, &pipeline, naming, given) else {
-        return end_with(call, Fault::Memory, err);
+        return end_with(call, Fault::Memory, out, err);
     };
     let names = names.as_slice();
     if let Err(fault) = note_inputs(call, &mut reads, names) {
-        return end_with(call, fault, err);
+        return end_with(call, fault, out, err);
     }
     let notices = ProgressNotices {
         is_on: call.words.get_flag("progress"),
         to: call.to,
     };
     let Ok(mut counting) = counting_in(call, &pipeline, programs.as_slice()) else {
-        return end_with(call, Fault::Memory, err);
+        return end_with(call, Fault::Memory, out, err);
     };
     let captures = match open_captures(call, reads.as_slice(), names, notices) {
         Ok(captures) => captures,
-        Err(fault) => return end_with(call, fault, err),
+        Err(fault) => return end_with(call, fault, out, err),
     };
     let reporting = Reporting {
         names,
@@ -208,9 +228,6 @@ fn run_pipeline<K: Known, R: Files + Print, E: Write>(
     let is_json = call.is_json();
     let (mut inputs, mut outputs) = captures;
     let (ins, outs) = (inputs.as_mut_slice(), outputs.as_mut_slice());
-    let mut out = Printer::new(call.paper());
-    let mut faults = Printer::new(err);
-    let (out, faults) = (&mut out, &mut faults);
     run_opened::<K, R, _, _>(
         call.alloc,
         pipeline,
@@ -221,47 +238,103 @@ fn run_pipeline<K: Known, R: Files + Print, E: Write>(
         is_json,
         reporting,
         out,
-        faults,
+        err,
     )
 }
 
 /// Refuses captures of ports that a pipeline with this number of ports does not have. Reports the first of them, and returns the status.
-fn refuse_missing<E: Write>(given: &Replacements<'_>, ports: usize, err: &mut E) -> Result<(), u8>
+fn refuse_missing<O: Write, E: Write>(
+    given: &Replacements<'_>,
+    ports: usize,
+    out: &mut Printer<O>,
+    err: &mut Printer<E>,
+) -> Result<(), u8>
     ensures none { OnOk result (missing ports given.now.inputs.items given.now.outputs.items ≡ None) }
-    ensures fails { IfErr result (λ status. status ≢ 0) }
+    ensures silent { OnOk result ((out.new ≡ out.old) × (err.new ≡ err.old)) }
+    ensures fails { IfErr result (EndsAtWords (paper O.contents out.old) (paper O.contents out.new) (paper E.contents err.old)
+        (paper E.contents err.new)) }
 {
     match given.missing(ports) {
-        Some(port) => Err(write_no_node(Entry::Port(port), err)),
+        Some(port) => Err(report_no_node(Entry::Port(port), out, err)),
         None => Ok(()),
     }
 }
 
+/// Prints on standard error from now on, if standard output is taken.
+fn leave_stdout<O: TextOutput>(is_taken: bool, to: ToStderr, out: &mut Printer<O>)
+    ensures left { is_taken ≡ true → O.is_error out.new.to ≡ true }
+    ensures same { O.contents out.new.to ≡ O.contents out.old.to }
+    ensures sound { out.new.has_failed ≡ out.old.has_failed }
+{
+    if is_taken {
+        out.to.use_error(to);
+    }
+}
+
+/// Reports each program of a pipeline that is not among `K`, if requested. If that cannot be written, the pipeline still runs.
+fn report_interpreted<K: Known, E: Write>(
+    is_requested: bool,
+    pipeline: &Pipeline,
+    err: &mut Printer<E>,
+)
+    ensures { err.new.has_failed ≡ err.old.has_failed }
+{
+    if is_requested {
+        let _written = write_interpreted::<K, E>(pipeline, &mut err.to);
+    }
+}
+
+/// Loads the pipeline of a run's file, which has the ports of these captures. Reports the first fault, and returns the status.
+fn load_for_run<R: Files, O: Write, E: Write>(
+    call: &Call<'_, '_, R>,
+    given: &Replacements<'_>,
+    out: &mut Printer<O>,
+    err: &mut Printer<E>,
+) -> Result<Loaded, u8>
+    ensures loaded { IfOk result (λ loaded. IsLoadedPlan How.Given loaded.pipeline) }
+    ensures reads { IfOk result (λ loaded. (first : List (List ℕ)) × (map read_name loaded.reads.items ≡ first ++ operand (found_of call.now.words.now)
+        (codes "FILE") ∷ [])) }
+    ensures ports { IfOk result (λ loaded. missing (length loaded.pipeline.env.ports) given.now.inputs.items given.now.outputs.items ≡ None) }
+    ensures silent { OnOk result ((out.new ≡ out.old) × (err.new ≡ err.old)) }
+    ensures fails { IfErr result (EndsRefused (found_of call.now.words.now) (paper O.contents out.old) (paper O.contents out.new) (paper E.contents err.old)
+        (paper E.contents err.new)) }
+{
+    let loaded = load_with_reads(call, How::Given, out, err)?;
+    refuse_missing(given, loaded.pipeline.ports(), out, err)?;
+    Ok(loaded)
+}
+
 /// Runs the pipeline of a file. If requested, each of its programs that is not among `K` is reported first.
-pub fn run_file<K: Known, R: Files + Print, E: Write>(
+pub fn run_file<K: Known, R: Files, O: TextOutput, E: Write>(
     call: &Call<'_, '_, R>,
     reports_interpreted: bool,
-    err: &mut E,
+    out: &mut Printer<O>,
+    err: &mut Printer<E>,
 ) -> Status
-    ensures runs { IfOk result (RunsFile R.File.remaining (found_of call.now.words.now)) }
-    ensures fails { IfErr result (λ status. status ≢ 0) }
+    ensures runs { IfOk result (RunsFile R.File.remaining (found_of call.now.words.now) (paper O.contents out.old) (paper O.contents out.new)
+        (paper E.contents err.old) (paper E.contents err.new)) }
+    ensures fails { IfErr result (EndsRefused (found_of call.now.words.now) (paper O.contents out.old) (paper O.contents out.new) (paper E.contents err.old)
+        (paper E.contents err.new)) }
 {
-    let pattern = refused_in(call, err)?;
-    let given = replacements_in(call, err)?;
-    let call = &call.giving_stdout(given.take_stdout());
-    let loaded = load_with_reads(call, How::Given, err)?;
-    refuse_missing(&given, loaded.pipeline.ports(), err)?;
-    if reports_interpreted {
-        // If this line cannot be written, the pipeline still runs.
-        let _written = write_interpreted::<K, E>(&loaded.pipeline, err);
-    }
+    let pattern = refused_in(call, out, err)?;
+    let given = replacements_in(call, out, err)?;
+    leave_stdout(given.take_stdout(), call.to, out);
+    let loaded = load_for_run(call, &given, out, err)?;
+    report_interpreted::<K, E>(reports_interpreted, &loaded.pipeline, err);
     let naming = Naming::AsWritten;
-    Ok(run_pipeline::<K, R, E>(call, loaded, naming, &given, pattern, err))
+    Ok(run_pipeline::<K, R, O, E>(call, loaded, naming, &given, pattern, out, err))
 }
 
 /// Runs one node program on one port, from a file to a file.
-pub fn run_one_port<R: Files + Print, E: Write>(call: &Call<'_, '_, R>, err: &mut E) -> Status
-    ensures runs { IfOk result (RunsOne R.File.remaining ONE_PORT.now (found_of call.now.words.now)) }
-    ensures fails { IfErr result (λ status. status ≢ 0) }
+pub fn run_one_port<R: Files, O: TextOutput, E: Write>(
+    call: &Call<'_, '_, R>,
+    out: &mut Printer<O>,
+    err: &mut Printer<E>,
+) -> Status
+    ensures runs { IfOk result (RunsOne R.File.remaining ONE_PORT.now (found_of call.now.words.now) (paper O.contents out.old) (paper O.contents out.new)
+        (paper E.contents err.old) (paper E.contents err.new)) }
+    ensures fails { IfErr result (EndsRefused (found_of call.now.words.now) (paper O.contents out.old) (paper O.contents out.new) (paper E.contents err.old)
+        (paper E.contents err.new)) }
 {
     let (input, output) = (call.word("IN"), call.word("OUT"));
     let naming = Naming::One(OneFiles {
@@ -271,10 +344,10 @@ pub fn run_one_port<R: Files + Print, E: Write>(call: &Call<'_, '_, R>, err: &mu
         output,
     });
     let Ok(given) = Replacements::of_one(call.alloc, input, output) else {
-        return Err(fail_with(err, Fault::Memory));
+        return Err(report_fault(Fault::Memory, out, err));
     };
-    let call = &call.giving_stdout(given.take_stdout());
-    let loaded = load_text(call, ONE_PORT.as_bytes(), naming, How::Given, err)?;
+    leave_stdout(given.take_stdout(), call.to, out);
+    let loaded = load_text(call, ONE_PORT.as_bytes(), naming, How::Given, out, err)?;
     let pattern = Vec::new(call.alloc);
-    Ok(run_pipeline::<Nothing, R, E>(call, loaded, naming, &given, pattern, err))
+    Ok(run_pipeline::<Nothing, R, O, E>(call, loaded, naming, &given, pattern, out, err))
 }

@@ -4,12 +4,15 @@ ghost use Rattle.std.specs.Prelude.{◌≡◌, ◌≢◌, ◌==◌, ◌∷◌, [
 ghost use Rattle.std.specs.List.{list_any};
 ghost use Rattle.std.specs.Result.{result_ok};
 ghost use Rattle.clap.specs.Matches.{found_of};
+ghost use Rattle.dp_cli.specs.Printing.{paper};
+ghost use Rattle.dp_cli.specs.Refusals.{EndsAtWords};
 ghost use Rattle.dp_cli.specs.Replacing as spec;
 ghost use Rattle.dp_cli.specs.Replacing.{row_of};
 
 use crate::call::Call;
-use crate::fault::{Fault, fail_with, write_usage_error};
+use crate::fault::{Fault, report_fault, report_usage};
 use crate::operands::{nowhere_in, place_named, replaced_in};
+use crate::printer::Printer;
 use clap::ArgMatches;
 use std::alloc::{AllocError, Global};
 use std::fmt;
@@ -284,28 +287,52 @@ impl fmt::Display for WordProblem<'_> {
     }
 }
 
-/// Reports why words give no captures, and returns the status.
-fn write_word_fault<E: Write>(direction: Direction, fault: WordFault<'_>, err: &mut E) -> u8
-    ensures { result ≢ 0 }
-{
+/// What is reported of words that give no captures.
+fn problem_text(
+    alloc: Global,
+    direction: Direction,
+    fault: WordFault<'_>,
+) -> Result<String, AllocError> {
     match fault {
-        WordFault::Memory => fail_with(err, Fault::Memory),
-        _ => write_usage_error(err, WordProblem { direction, fault }),
+        WordFault::Memory => Err(AllocError),
+        _ => {
+            let problem = WordProblem { direction, fault };
+            format!(in alloc; "{problem}")
+        }
+    }
+}
+
+/// Reports why words give no captures, and returns the status.
+fn report_word_fault<O: Write, E: Write>(
+    alloc: Global,
+    direction: Direction,
+    fault: WordFault<'_>,
+    out: &mut Printer<O>,
+    err: &mut Printer<E>,
+) -> u8
+    ensures { EndsAtWords (paper O.contents out.old) (paper O.contents out.new) (paper E.contents err.old) (paper E.contents err.new) result }
+{
+    match problem_text(alloc, direction, fault) {
+        Ok(text) => report_usage(text, out, err),
+        Err(AllocError) => report_fault(Fault::Memory, out, err),
     }
 }
 
 /// Reads the captures that the command line gives a pipeline's ports to read, or to write; or reports the fault, and returns the status.
-fn given_in<'w, R, E: Write>(
+fn given_in<'w, R, O: Write, E: Write>(
     call: &Call<'_, 'w, R>,
     direction: Direction,
-    err: &mut E,
+    out: &mut Printer<O>,
+    err: &mut Printer<E>,
 ) -> Result<Vec<Replaced<'w>>, u8>
     ensures given { IfOk result (λ given. Some (map row_of given.items) ≡ spec.given_in (found_of call.now.words.now) direction) }
-    ensures fails { IfErr result (λ status. status ≢ 0) }
+    ensures silent { OnOk result ((out.new ≡ out.old) × (err.new ≡ err.old)) }
+    ensures fails { IfErr result (EndsAtWords (paper O.contents out.old) (paper O.contents out.new) (paper E.contents err.old)
+        (paper E.contents err.new)) }
 {
     match captures_in(call.alloc, call.words, direction) {
         Ok(given) => Ok(given),
-        Err(fault) => Err(write_word_fault(direction, fault, err)),
+        Err(fault) => Err(report_word_fault(call.alloc, direction, fault, out, err)),
     }
 }
 
@@ -395,16 +422,19 @@ fn only<'a>(word: &'a str) -> Replaced<'a>
 }
 
 /// Reads the captures that the words of `dpv run` give the ports of its pipeline; or reports the fault, and returns the status.
-pub fn replacements_in<'w, R, E: Write>(
+pub fn replacements_in<'w, R, O: Write, E: Write>(
     call: &Call<'_, 'w, R>,
-    err: &mut E,
+    out: &mut Printer<O>,
+    err: &mut Printer<E>,
 ) -> Result<Replacements<'w>, u8>
     ensures inputs { IfOk result (λ given. Some (map row_of given.inputs.items) ≡ spec.given_in (found_of call.now.words.now) Direction.In) }
     ensures outputs { IfOk result (λ given. Some (map row_of given.outputs.items) ≡ spec.given_in (found_of call.now.words.now) Direction.Out) }
-    ensures fails { IfErr result (λ status. status ≢ 0) }
+    ensures silent { OnOk result ((out.new ≡ out.old) × (err.new ≡ err.old)) }
+    ensures fails { IfErr result (EndsAtWords (paper O.contents out.old) (paper O.contents out.new) (paper E.contents err.old)
+        (paper E.contents err.new)) }
 {
     Ok(Replacements {
-        inputs: given_in(call, Direction::In, err)?,
-        outputs: given_in(call, Direction::Out, err)?,
+        inputs: given_in(call, Direction::In, out, err)?,
+        outputs: given_in(call, Direction::Out, out, err)?,
     })
 }

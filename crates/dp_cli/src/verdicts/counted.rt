@@ -1,14 +1,22 @@
 //! The counts of a program, as `dpv run FILE --counts --json` printed them.
 
+ghost use Rattle.std.specs.Prelude.{◌≡◌, IfErr, OnOk};
+ghost use Rattle.clap.specs.Matches.{found_of};
+ghost use Rattle.dp_cli.specs.LoadedFiles.{EndsUncounted};
+ghost use Rattle.dp_cli.specs.Judging.{IsFaultSaid};
+ghost use Rattle.dp_cli.specs.Printing.{paper};
+
 use crate::call::Call;
-use crate::fault::{FAULT, Fault, fail_with};
+use crate::documents::end_with;
 use crate::files;
+use crate::printer::Printer;
+use crate::verdicts::saying::{report_memory, report_text};
 use dp_counted::{CountsError, counts_of};
 use dp_model::Entry;
 use dp_pipe::NodeName;
 use dp_words::StepCount;
 use std::alloc::{AllocError, Global};
-use std::io::{self, Write};
+use std::io::Write;
 use std::rt::Files;
 
 /// The counts of a program's instructions, and the file that has them.
@@ -39,53 +47,62 @@ pub fn misfit_text(
     Ok(text)
 }
 
-/// Writes why a file has no counts of a node.
-fn write_error<E: Write>(
+/// The lines that report why a file has no counts of a node.
+fn error_text(
+    alloc: Global,
     file: &str,
     node: Entry,
     error: CountsError,
-    err: &mut E,
-) -> io::Result<()> {
+) -> Result<String, AllocError> {
     let name = NodeName(node);
-    writeln!(err, "fault: file {file}")?;
+    let mut text = format!(in alloc; "fault: file {file}\n")?;
     match error {
-        CountsError::NoNode => writeln!(err, "  because: it has no counts of {name}")?,
-        _ => writeln!(err, "  because: {error}")?,
+        CountsError::Memory => return Err(AllocError),
+        CountsError::NoNode => write!(text, "  because: it has no counts of {name}\n")?,
+        _ => write!(text, "  because: {error}\n")?,
     }
-    writeln!(
-        err,
-        "  help: give the document that dpv run FILE --counts --json prints"
-    )
+    text.push_str("  help: give the document that dpv run FILE --counts --json prints\n")?;
+    Ok(text)
 }
 
 /// Reports why a file has no counts of a node, and returns the status.
-fn write_counts_error<E: Write>(file: &str, node: Entry, error: CountsError, err: &mut E) -> u8 {
-    match error {
-        CountsError::Memory => fail_with(err, Fault::Memory),
-        _ => {
-            // If these lines cannot be written, the status is the same.
-            let _written = write_error(file, node, error, err);
-            FAULT
-        }
+fn report_error<O: Write, E: Write>(
+    alloc: Global,
+    file: &str,
+    node: Entry,
+    error: CountsError,
+    out: &mut Printer<O>,
+    err: &mut Printer<E>,
+) -> u8
+    ensures { IsFaultSaid (paper O.contents out.old) (paper O.contents out.new) (paper E.contents err.old) (paper E.contents err.new) result }
+{
+    match error_text(alloc, file, node, error) {
+        Ok(text) => report_text(text.as_str(), out, err),
+        Err(AllocError) => report_memory(out, err),
     }
 }
 
 /// The counts of a node in a file; or the status, after reporting why there are none.
-pub fn steps_in<R: Files, E: Write>(
+pub fn steps_in<R: Files, O: Write, E: Write>(
     call: &Call<'_, '_, R>,
     file: &str,
     node: Entry,
-    err: &mut E,
-) -> Result<Vec<StepCount>, u8> {
+    out: &mut Printer<O>,
+    err: &mut Printer<E>,
+) -> Result<Vec<StepCount>, u8>
+    ensures silent { OnOk result ((out.new ≡ out.old) × (err.new ≡ err.old)) }
+    ensures fails { IfErr result (EndsUncounted (found_of call.now.words.now) (paper O.contents out.old) (paper O.contents out.new) (paper E.contents err.old)
+        (paper E.contents err.new)) }
+{
     let bytes = match files::read(call.rt, call.alloc, file) {
         Ok(bytes) => bytes,
-        Err(fault) => return Err(fail_with(err, fault.of_file(file))),
+        Err(fault) => return Err(end_with(call, fault.of_file(file), out, err)),
     };
     let Ok(name) = NodeName(node).to_string(call.alloc) else {
-        return Err(fail_with(err, Fault::Memory));
+        return Err(report_memory(out, err));
     };
     match counts_of(call.alloc, bytes.as_slice(), name.as_str()) {
         Ok(steps) => Ok(steps),
-        Err(error) => Err(write_counts_error(file, node, error, err)),
+        Err(error) => Err(report_error(call.alloc, file, node, error, out, err)),
     }
 }

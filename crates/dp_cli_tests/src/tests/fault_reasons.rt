@@ -1,8 +1,8 @@
 //! The reasons of faults, and what readers and writers keep of a failure.
 
 use dp_cli::{
-    Fault, Finding, Guarded, LinkType, MEMORY, Progress, Reason, Watched, fail_with, fault_of,
-    reason_of,
+    Fault, Finding, Guarded, LinkType, MEMORY, Printer, Progress, Reason, Watched, fault_of,
+    reason_of, report_fault,
 };
 use dp_model::{Entry, EnvError};
 use dp_pcap::PcapError;
@@ -20,8 +20,10 @@ const UNREADABLE: i32 = 5;
 
 /// Whether a fault is reported so, with this status.
 fn is_reported(alloc: Global, fault: Fault<'_>, status: u8, text: &str) -> bool {
-    let mut reported = Vec::new(alloc);
-    fail_with(&mut reported, fault) == status && reported.as_slice() == text.as_bytes()
+    let mut out = Printer::new(Vec::new(alloc));
+    let mut err = Printer::new(Vec::new(alloc));
+    let is_status = report_fault(fault, &mut out, &mut err) == status;
+    is_status && err.into_inner().as_slice() == text.as_bytes()
 }
 
 #[test]

@@ -3,7 +3,7 @@
 use super::testing::{
     Devices, Ended, HEADER, NONE, Ran, WHOLE, cert_text, file, front, joined, run_on,
 };
-use dp_cli::{FAULT, ONE_PORT, Printer, Unwritten, infer_line, load_line, mem_line};
+use dp_cli::{ONE_PORT, Printer, infer_line, load_line, mem_line};
 use dp_model::Entry;
 use dp_pipe::{How, Listed};
 use std::alloc::{AllocError, Global};
@@ -75,11 +75,11 @@ fn run(alloc: Global, node: &str, cert: &[u8], input: &[u8]) -> Result<Ran, Allo
 /// How a heap script ends.
 fn played(alloc: Global, script: &str) -> Ended {
     let mut ended = Ended::new(alloc);
-    let (out, err) = (&mut ended.printed, &mut ended.reported);
-    ended.status = match mem_line(alloc, script.as_bytes(), out, err) {
-        Ok(status) => status,
-        Err(Unwritten) => FAULT,
-    };
+    let mut out = Printer::new(Vec::new(alloc));
+    let mut err = Printer::new(Vec::new(alloc));
+    ended.status = mem_line(alloc, script.as_bytes(), &mut out, &mut err);
+    ended.printed = out.into_inner();
+    ended.reported = err.into_inner();
     ended
 }
 

@@ -1,5 +1,5 @@
 -- There are as many captures as ports, and the pipeline was run over those that were opened.
-use Rattle.std.proofs.Common.{◌≡◌, ◌∙◌, List, None, inr, length, map, ap, arith, subst, sym}
+use Rattle.std.proofs.Common.{◌≡◌, ◌∙◌, List, inr, length, map, ap, arith, subst, sym}
 use Rattle.dp_cli.specs.Guarding.{AreGuarded, read_name}
 use Rattle.dp_cli.specs.Names.{input_capture, output_capture, read_from}
 use Rattle.dp_cli.proofs.run.files.run_pipeline.Goals as goal
@@ -39,11 +39,5 @@ returns g c = inr (record {
   progress = (c.get_flag.ensures.none, c.get_flag.ensures.value, c.get_flag.ensures.other);
   is_json = c.is_json-is_json.result;
   json = c.is_json-is_json.ensures;
-  out = record { bytes = None; failed = c.new-out.result.has_failed };
-  out' = record { bytes = None; failed = c.run_opened.new.out.has_failed };
-  err = record { bytes = g.E.Write.contents c.new-faults.result.to.now; failed = c.new-faults.result.has_failed };
-  has_failed = c.run_opened.new.err.has_failed;
-  out_sound = c.new-out.ensures.sound;
-  err_sound = c.new-faults.ensures.sound;
   run = c.run_opened.ensures;
 })
