@@ -20,10 +20,10 @@ use Rattle.dp_cli.specs.declared.verdicts.Wanted.{Wanted}
 use Rattle.dp_cli.specs.declared.verdicts.Wanted.TheVariants as wanted
 use Rattle.dp_cli.specs.declared.verdicts.counted.Counted.{Counted}
 use Rattle.dp_cli.specs.declared.verdicts.show.Form.{Form}
-use Rattle.dp_cli.specs.Judging.{IsSaid, IsFaultSaid, PrintsVerdict, PrintsForm, PrintsWanted, PrintsNode, misfit_in}
+use Rattle.dp_cli.specs.Judging.{IsSaid, PrintsVerdict, PrintsForm, PrintsWanted, PrintsNode, misfit_fault, misfit_in}
 use Rattle.dp_cli.specs.Judging.{IsJudged, PrintsAll, PrintsAt, PrintsTextFault, PrintsPipeline}
 use Rattle.dp_cli.specs.Pipelines.{fault_of, IsUnloadedReported}
-use Rattle.dp_cli.specs.Printing.{Paper, Prints, PrintsFault, Says, Reports, IsEnded}
+use Rattle.dp_cli.specs.Printing.{Paper, Prints, PrintsFault, Says, IsEnded, IsFaultEnded}
 use Rattle.dp_cli.specs.Statuses.{refusal_line, status_of_fault}
 
 -- what holds of an error, if there is one
@@ -74,17 +74,17 @@ verdict_says : (q : Question) (out out' err err' : Paper) (s : ℕ) → IsZeroOn
 verdict_says q out out' err err' s few (inl (accepted, said)) = said_says 0 out out' err err' s few said
 verdict_says q out out' err err' s few (inr (diagnosis, is, said)) = said_says 1 out out' err err' s few said
 
-fault_not : (out out' err err' : Paper) (s : ℕ) → IsZeroOne s → IsFaultSaid out out' err err' s → ⊥
-fault_not out out' err err' s few (inl ended) =
-    not_above s 3 few (ended_said (Reports out out' err err') 3 out' err err' s few ended).0 (omega arith)
-fault_not out out' err err' s few (inr memory) = memory_not out out' err err' s few memory
+fault_not : (f : Fault) (out out' err err' : Paper) (s : ℕ) → IsZeroOne s → IsFaultEnded f out out' err err' s → ⊥
+fault_not f out out' err err' s few ended =
+    not_above s (status_of_fault f) few (ended_said (PrintsFault f err err' × (out' ≡ out)) (status_of_fault f) out' err err' s few ended).0 (fault_above f)
 
 form_says : (shown : Form) (q : Question) (out out' err err' : Paper) (s : ℕ) → IsZeroOne s → PrintsForm shown q out out' err err' s → Says out out' err err'
 form_says shown q out out' err err' s few is_printed = go (misfit_in shown (length q.program)) is_printed
   where
-    go : (m : Option Counted) → MatchOption m (PrintsVerdict q out out' err err' s) (λ counted. IsFaultSaid out out' err err' s) → Says out out' err err'
+    go : (m : Option Counted) → MatchOption m (PrintsVerdict q out out' err err' s)
+        (λ counted. IsFaultEnded (misfit_fault counted q.entry (length q.program)) out out' err err' s) → Says out out' err err'
     go None h = verdict_says q out out' err err' s few h
-    go (Some counted) h = absurd (fault_not out out' err err' s few h)
+    go (Some counted) h = absurd (fault_not (misfit_fault counted q.entry (length q.program)) out out' err err' s few h)
 
 wanted_says : (asked : Wanted) (q : Question) (out out' err err' : Paper) (s : ℕ) → IsZeroOne s → PrintsWanted asked q out out' err err' s
     → Says out out' err err'
@@ -116,14 +116,17 @@ says_more out mid out' err err' err'' first next = record {
 pub form_fits : (shown : Form) (q : Question) (count : ℕ) (out out' err err' : Paper) (s : ℕ) → None ≡ misfit_in shown count → count ≡ length q.program
     → PrintsVerdict q out out' err err' s → PrintsForm shown q out out' err err' s
 form_fits shown q count out out' err err' s none same is_printed =
-    subst (λ (m : Option Counted). MatchOption m (PrintsVerdict q out out' err err' s) (λ counted. IsFaultSaid out out' err err' s))
+    subst (λ (m : Option Counted). MatchOption m (PrintsVerdict q out out' err err' s)
+    (λ counted. IsFaultEnded (misfit_fault counted q.entry (length q.program)) out out' err err' s))
     (subst (λ (n : ℕ). None ≡ misfit_in shown n) same none) is_printed
 
 pub form_misfits : (shown : Form) (q : Question) (count : ℕ) (counted : Counted) (out out' err err' : Paper) (s : ℕ) → Some counted ≡ misfit_in shown count
-    → count ≡ length q.program → IsFaultSaid out out' err err' s → PrintsForm shown q out out' err err' s
+    → count ≡ length q.program → IsFaultEnded (misfit_fault counted q.entry count) out out' err err' s → PrintsForm shown q out out' err err' s
 form_misfits shown q count counted out out' err err' s some same is_printed =
-    subst (λ (m : Option Counted). MatchOption m (PrintsVerdict q out out' err err' s) (λ counted. IsFaultSaid out out' err err' s))
-    (subst (λ (n : ℕ). Some counted ≡ misfit_in shown n) same some) is_printed
+    subst (λ (m : Option Counted). MatchOption m (PrintsVerdict q out out' err err' s)
+    (λ counted. IsFaultEnded (misfit_fault counted q.entry (length q.program)) out out' err err' s))
+    (subst (λ (n : ℕ). Some counted ≡ misfit_in shown n) same some)
+    (subst (λ (n : ℕ). IsFaultEnded (misfit_fault counted q.entry n) out out' err err' s) same is_printed)
 
 -- what is wanted of a node that was judged was printed
 pub node_explained : (known : Option FileMap) (env : Environment) (node : Node) (text : List ℕ) (program : List Instr) (cert : Certificate) (asked : Wanted)

@@ -37,6 +37,15 @@ index_more g [] k d within = absurd (omega (arith, within))
 index_more g (b ∷ bs) zero d within = refl
 index_more g (b ∷ bs) (suc k) d within = ap (λ l. g b ∷ l) (index_more g bs k d (omega (arith, within)))
 
+-- one input more
+pub read_more : {I A N : Type 0} (opened : I → A) (h : N → A) (ins : List I) (names : List N) (k : ℕ) (more : I) (name d : N) → k < length names
+    → name ≡ slice_index_or names k d → opened more ≡ h name → map opened ins ≡ map h (take k names)
+    → map opened (ins ++ more ∷ []) ≡ map h (take (k + 1) names)
+read_more {I} {A} {N} opened h ins names k more name d within at here so_far =
+    map-append opened ins (more ∷ []) ∙ ap (λ (l : List A). l ++ opened more ∷ []) so_far
+    ∙ ap (λ (n : A). map h (take k names) ++ n ∷ []) (here ∙ ap h at) ∙ sym (index_more h names k d within)
+    ∙ ap (λ (n : ℕ). map h (take n names)) (sym (add-one k))
+
 -- one output more
 pub written_more : {O A : Type 0} (h : Place × List ℕ → A) (opened : O → A) (outs : List O) (files : List Written) (k : ℕ) (out : O) (d : Written)
     → k < length files → opened out ≡ h (written_capture (slice_index_or files k d)) → map opened outs ≡ map h (map written_capture (take k files))

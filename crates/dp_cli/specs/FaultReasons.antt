@@ -2,18 +2,20 @@
 use Rattle.std.specs.Prelude.{ℕ, List, [], ◌∷◌, ◌++◌, Option, Some, None, codes, option_map, option_and_then, slice_get, if◌then◌else◌}
 use Rattle.std.specs.Prelude.{string_bytes}
 use Rattle.std.specs.Option.{option_map_or}
-use Rattle.std.specs.Fmt.{with_newline}
+use Rattle.std.specs.Fmt.{decimal, with_newline}
 use Rattle.std.specs.declared.io.Error.{Error}
 use Rattle.dp_pcap.specs.declared.error.PcapError.{PcapError}
 use Rattle.dp_pcap.specs.declared.error.PcapError.TheVariants as pcap
 use Rattle.dp_pipe.specs.declared.error.PipeError.{PipeError}
 use Rattle.dp_pipe.specs.declared.error.PipeError.TheVariants as pipe
+use Rattle.dp_pipe.specs.Causes.{node_text}
 use Rattle.dp_pipe.specs.declared.forwarding.RunCause.{RunCause}
 use Rattle.dp_pipe.specs.declared.forwarding.RunCause.TheVariants.{In, Out}
 use Rattle.dp_cli.specs.declared.run.capture_errors.CaptureNames.{CaptureNames}
 use Rattle.dp_cli.specs.declared.run.watched.Seen.{Seen}
 use Rattle.dp_cli.specs.declared.error_text.Reason.{Reason}
 use Rattle.dp_cli.specs.declared.error_text.Reason.TheVariants.{System, TooLong, IsRead, IsOutput, Capture, IsPcapng, Link, Pipeline}
+use Rattle.dp_cli.specs.declared.error_text.Reason.TheVariants.{NoCounts, BadCounts, OtherCounts}
 use Rattle.dp_cli.specs.declared.error_text.Finding.{Finding}
 use Rattle.dp_cli.specs.LinkTypes.{link_text, cure_text}
 
@@ -24,11 +26,17 @@ reason_text IsRead = Some (codes "the run reads this file, so it is not overwrit
 reason_text IsOutput = Some (codes "another port writes this file, too")
 reason_text IsPcapng = Some (codes "it is a pcapng file; editcap -F pcap IN OUT converts it to a capture")
 reason_text (Link link) = Some (link_text link)
+reason_text (NoCounts node) = Some (codes "it has no counts of " ++ node_text node)
+reason_text (OtherCounts node known count) = Some (codes "it has counts of " ++ (decimal known ++ (codes " instructions for " ++ (node_text node
+    ++ (codes ", whose program has " ++ decimal count)))))
 reason_text _ = None
 
 -- what helps, if there is a line for it
 abbrev pub cure_of : Reason → Option (List ℕ)
 cure_of (Link link) = Some (cure_text link)
+cure_of (NoCounts node) = Some (codes "give the document that dpv run FILE --counts --json prints")
+cure_of (BadCounts error) = Some (codes "give the document that dpv run FILE --counts --json prints")
+cure_of (OtherCounts node known count) = Some (codes "count again with the program as it is now: dpv run FILE --counts --json")
 cure_of _ = None
 
 -- the line of a file's name, if it is reported

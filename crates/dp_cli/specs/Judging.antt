@@ -22,6 +22,9 @@ use Rattle.dp_pipe.specs.Files.{FileMap, IsFile}
 use Rattle.dp_pipe.specs.declared.nodes.How.TheVariants.{Given}
 use Rattle.dp_pipe.specs.Surveys.{files_at}
 use Rattle.dp_pipe.specs.Nodes.{Node, node_of, IsCertOf, IsMissing, IsBadCert, IsProgramOf, HasNoProgram}
+use Rattle.dp_cli.specs.declared.error_text.Reason.TheVariants.{OtherCounts}
+use Rattle.dp_cli.specs.declared.fault.Fault.{Fault}
+use Rattle.dp_cli.specs.declared.fault.Fault.TheVariants as fault
 use Rattle.dp_cli.specs.declared.verdicts.node_source.Asked.{Asked}
 use Rattle.dp_cli.specs.declared.verdicts.Wanted.{Wanted}
 use Rattle.dp_cli.specs.declared.verdicts.Wanted.TheVariants as wanted
@@ -29,7 +32,7 @@ use Rattle.dp_cli.specs.declared.verdicts.counted.Counted.{Counted}
 use Rattle.dp_cli.specs.declared.verdicts.show.Form.{Form}
 use Rattle.dp_cli.specs.declared.verdicts.show.Form.TheVariants as form
 use Rattle.dp_cli.specs.Pipelines.{IsUnloadedReported}
-use Rattle.dp_cli.specs.Printing.{Paper, Prints, Says, Reports, IsEnded}
+use Rattle.dp_cli.specs.Printing.{Paper, Prints, Says, IsEnded, IsFaultEnded}
 use Rattle.dp_cli.specs.Statuses.{no_node_line}
 
 -- the node that is asked about, with the names of its files
@@ -72,10 +75,6 @@ accepted_text entry = (node_text entry ++ codes " accepted") ++ 10 ∷ []
 abbrev pub IsSaid : ℕ → Paper → Paper → Paper → Paper → ℕ → Type 0
 IsSaid status out out' err err' ended = IsEnded status (Says out out' err err') out' err err' ended ⊎ IsUnloadedReported Memory out out' err err' ended
 
--- a fault was reported; or memory ran out for its words, which was reported
-abbrev pub IsFaultSaid : Paper → Paper → Paper → Paper → ℕ → Type 0
-IsFaultSaid out out' err err' ended = IsEnded 3 (Reports out out' err err') out' err err' ended ⊎ IsUnloadedReported Memory out out' err err' ended
-
 -- the verdict was printed: with 0 for an accepted program, with 1 for a refused one, of which there is a diagnosis
 abbrev pub PrintsVerdict : Question → Paper → Paper → Paper → Paper → ℕ → Type 0
 PrintsVerdict q out out' err err' status =
@@ -86,10 +85,14 @@ abbrev pub misfit_in : Form → ℕ → Option Counted
 misfit_in (form.Counted counted) count = if length counted.steps.now == count then None else Some counted
 misfit_in _ count = None
 
+-- the fault of counts of a node that are of a program with another number of instructions than this
+abbrev pub misfit_fault : Counted → Entry → ℕ → Fault
+misfit_fault counted node count = fault.File counted.file (OtherCounts node (length counted.steps.now) count)
+
 -- a program was shown in this form; or it was reported that its counts do not fit
 abbrev pub PrintsForm : Form → Question → Paper → Paper → Paper → Paper → ℕ → Type 0
 PrintsForm shown q out out' err err' status = MatchOption (misfit_in shown (length q.program))
-    (PrintsVerdict q out out' err err' status) (λ counted. IsFaultSaid out out' err err' status)
+    (PrintsVerdict q out out' err err' status) (λ counted. IsFaultEnded (misfit_fault counted q.entry (length q.program)) out out' err err' status)
 
 -- what is wanted of a program was printed or reported
 abbrev pub PrintsWanted : Wanted → Question → Paper → Paper → Paper → Paper → ℕ → Type 0

@@ -16,7 +16,7 @@ use Rattle.dp_cli.specs.declared.verdicts.show.Form.TheVariants.{Counted, Graph,
 use Rattle.dp_cli.specs.DocumentedVerdicts.{AreAcceptedDocumented, IsNodeDocumented, IsPipelineDocumented}
 use Rattle.dp_cli.specs.Drawing.{IsPipelineDrawn}
 use Rattle.dp_cli.specs.Inferring.{IsNodeInferred, PrintsInferred, by_itself}
-use Rattle.dp_cli.specs.Judging.{IsFaultSaid, IsSaid, PrintsNode, PrintsPipeline}
+use Rattle.dp_cli.specs.Judging.{IsSaid, PrintsNode, PrintsPipeline}
 use Rattle.dp_cli.specs.Operands.{IsFlag, operand, word_of}
 use Rattle.dp_cli.specs.Pipelines.{AreAccepted}
 use Rattle.dp_cli.specs.Printing.{Paper}
@@ -119,10 +119,6 @@ pub record PrintsCounted (found : Found) (node : Entry) (file : List ℕ) (out o
   pub counted : CountsOf
   pub named : counted.file.now ≡ file
   pub is_printed : PrintsFile (Some node) (Program (Counted counted)) out out' err err' status
-
--- there are no counts for a picture, which was reported
-abbrev pub EndsUncounted : Found → Paper → Paper → Paper → Paper → ℕ → Type 0
-EndsUncounted found out out' err err' status = EndsRefused found out out' err err' status ⊎ IsFaultSaid out out' err err' status
 
 -- the node of the words, the form and the counts that they ask for
 abbrev pub ShowsWhich : Found → Option Entry → Option (List ℕ) → Paper → Paper → Paper → Paper → ℕ → Type 0

@@ -46,12 +46,6 @@ pub record Says (out out' err err' : Paper) : Type 0 where
   pub printed : Prints out out' text
   pub silent : err' ≡ err
 
--- a fault was reported in words of its own, and nothing was printed
-pub record Reports (out out' err err' : Paper) : Type 0 where
-  pub text : List ℕ
-  pub reported : Prints err err' text
-  pub silent : out' ≡ out
-
 -- a command ended with the report of a fault, before it printed anything
 abbrev pub IsFaultEnded : Fault → Paper → Paper → Paper → Paper → ℕ → Type 0
 IsFaultEnded fault out out' err err' status = IsEnded (status_of_fault fault) (PrintsFault fault err err' × (out' ≡ out)) out' err err' status

@@ -4,9 +4,9 @@ use Rattle.clap.specs.declared.parser.matches.Found.{Found}
 use Rattle.dp_cli.specs.declared.fault.Fault.TheVariants as fault
 use Rattle.dp_cli.specs.CommandRuns.{RunsFile, RunsOne}
 use Rattle.dp_cli.specs.CommandTraces.{TracesFile}
-use Rattle.dp_cli.specs.LoadedFiles.{ChecksFile, CompilesFile, EndsUncounted, ExplainsFile, ExplainsOne, InfersFile, InfersOne, PlaysFile, ShowsFile, ShowsOne}
+use Rattle.dp_cli.specs.LoadedFiles.{ChecksFile, CompilesFile, ExplainsFile, ExplainsOne, InfersFile, InfersOne, PlaysFile, ShowsFile, ShowsOne}
 use Rattle.dp_cli.specs.Printing.{IsFaultEnded, Paper}
-use Rattle.dp_cli.specs.Refusals.{EndsAtWords}
+use Rattle.dp_cli.specs.Refusals.{EndsAtWords, EndsRefused}
 
 -- the command of this name judged programs
 abbrev pub JudgesCommand : List ℕ → Found → Paper → Paper → Paper → Paper → ℕ → Type 0
@@ -33,7 +33,7 @@ RunsCommand remaining text name found out out' err err' status =
 pub record EndsCommand {F : Type 0} (remaining : F → Option (List ℕ)) (text : List ℕ) (out out' err err' : Paper) (status : ℕ) : Type 0 where
   pub name : List ℕ
   pub found : Found
-  pub ends : RunsCommand remaining text name found out out' err err' status ⊎ EndsUncounted found out out' err err' status
+  pub ends : RunsCommand remaining text name found out out' err err' status ⊎ EndsRefused found out out' err err' status
 
 -- how the program ends with words that can be read: with a command, or with what is wrong
 abbrev pub EndsMatches : {F : Type 0} → (F → Option (List ℕ)) → List ℕ → Paper → Paper → Paper → Paper → ℕ → Type 0

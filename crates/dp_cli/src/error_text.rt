@@ -6,9 +6,11 @@ ghost use Rattle.dp_cli.specs.FaultReasons.{cure_of, file_line, finding_lines, h
 ghost use Rattle.dp_cli.specs.LinkTypes.{cure_text};
 
 use crate::run::link_type::LinkType;
+use dp_counted::CountsError;
 use dp_lang::Cause;
+use dp_model::Entry;
 use dp_pcap::PcapError;
-use dp_pipe::{PipeError, RouteError};
+use dp_pipe::{NodeName, PipeError, RouteError};
 use std::io::Write;
 use std::{fmt, io};
 
@@ -31,6 +33,16 @@ pub enum Reason {
     Link(LinkType),
     /// What is wrong with the pipeline.
     Pipeline(PipeError),
+    /// The file has no counts of this node.
+    NoCounts(Entry),
+    /// The file is no document with counts, with its first error.
+    BadCounts(CountsError),
+    /// The counts of a node are of a program with another number of instructions: there are `known` counts, and its program has `count` instructions.
+    OtherCounts {
+        node: Entry,
+        known: usize,
+        count: usize,
+    },
 }
 
 impl fmt::Display for Reason {
@@ -51,6 +63,15 @@ impl fmt::Display for Reason {
             ),
             Reason::Link(link) => write!(f, "{link}"),
             Reason::Pipeline(error) => PipeWords(*error).fmt(f),
+            Reason::NoCounts(node) => write!(f, "it has no counts of {}", NodeName(*node)),
+            Reason::BadCounts(error) => write!(f, "{error}"),
+            Reason::OtherCounts { node, known, count } => {
+                let name = NodeName(*node);
+                write!(
+                    f,
+                    "it has counts of {known} instructions for {name}, whose program has {count}"
+                )
+            }
         }
     }
 }
@@ -149,6 +170,14 @@ fn write_cure<W: Write>(to: &mut W, reason: Reason) -> io::Result<()>
 {
     match reason {
         Reason::Link(link) => write_link_cure(to, link),
+        Reason::NoCounts(_) | Reason::BadCounts(_) => writeln!(
+            to,
+            "  help: give the document that dpv run FILE --counts --json prints"
+        ),
+        Reason::OtherCounts { .. } => writeln!(
+            to,
+            "  help: count again with the program as it is now: dpv run FILE --counts --json"
+        ),
         _ => Ok(()),
     }
 }

@@ -39,7 +39,7 @@ pub type Status = Result<u8, u8>;
 pub enum Fault<'a> {
     /// Memory was refused.
     Memory,
-    /// A file cannot be opened, made or read, is too long, or may not be made, with the reason.
+    /// A file cannot be opened, made or read, is too long, may not be made, or has no counts that fit, with the reason.
     File(&'a str, Reason),
     /// An output is another file of the run, given by that file's name, with the reason.
     Clash {

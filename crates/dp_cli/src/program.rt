@@ -3,9 +3,8 @@
 ghost use Rattle.std.specs.Prelude.{◌≡◌, ◌≢◌, ◌⊎◌, IfErr, IfOk, OnErr};
 ghost use Rattle.std.specs.declared.io.ErrorKind.TheVariants.{OutOfMemory};
 ghost use Rattle.clap.specs.Matches.{found_of};
-ghost use Rattle.dp_cli.specs.LoadedFiles.{EndsUncounted};
 ghost use Rattle.dp_cli.specs.Printing.{EndsWithUsage, IsFaultEnded, paper};
-ghost use Rattle.dp_cli.specs.Refusals.{EndsAtWords};
+ghost use Rattle.dp_cli.specs.Refusals.{EndsAtWords, EndsRefused};
 ghost use Rattle.dp_cli.specs.Program.{EndsHelped, EndsMatches, EndsProgram, EndsWords, JudgesCommand, RunsCommand};
 ghost use Rattle.dp_cli.specs.Statuses.{unread_words};
 
@@ -67,7 +66,7 @@ fn judge_programs<R: Files, O: Write, E: Write>(
 ) -> Status
     ensures judges { IfOk result (JudgesCommand name.now (found_of call.now.words.now) (paper O.contents out.old) (paper O.contents out.new)
         (paper E.contents err.old) (paper E.contents err.new)) }
-    ensures fails { IfErr result (EndsUncounted (found_of call.now.words.now) (paper O.contents out.old) (paper O.contents out.new) (paper E.contents err.old)
+    ensures fails { IfErr result (EndsRefused (found_of call.now.words.now) (paper O.contents out.old) (paper O.contents out.new) (paper E.contents err.old)
         (paper E.contents err.new)) }
 {
     match name {
@@ -93,7 +92,7 @@ fn run_command<K: Known, R: Files, O: TextOutput, E: Write>(
 ) -> Status
     ensures runs { IfOk result (RunsCommand R.File.remaining ONE_PORT.now name.now (found_of call.now.words.now) (paper O.contents out.old)
         (paper O.contents out.new) (paper E.contents err.old) (paper E.contents err.new)) }
-    ensures fails { IfErr result (EndsUncounted (found_of call.now.words.now) (paper O.contents out.old) (paper O.contents out.new) (paper E.contents err.old)
+    ensures fails { IfErr result (EndsRefused (found_of call.now.words.now) (paper O.contents out.old) (paper O.contents out.new) (paper E.contents err.old)
         (paper E.contents err.new)) }
 {
     match name {

@@ -2,7 +2,7 @@
 
 ghost use Rattle.std.specs.Prelude.{◌≡◌, IfErr, IfOk, OnOk, option_map};
 ghost use Rattle.clap.specs.Matches.{found_of};
-ghost use Rattle.dp_cli.specs.LoadedFiles.{DocumentsFile, DocumentsOne, DrawsFile, EndsUncounted, ExplainsFile, ExplainsOne};
+ghost use Rattle.dp_cli.specs.LoadedFiles.{DocumentsFile, DocumentsOne, DrawsFile, ExplainsFile, ExplainsOne};
 ghost use Rattle.dp_cli.specs.LoadedFiles.{IsShownAs, IsWhich, PrintsCounted, PrintsFile, PrintsOne, ShowsFile, ShowsOne, ShowsWhich, node_of_one};
 ghost use Rattle.dp_cli.specs.Judging.{asked_node};
 ghost use Rattle.dp_cli.specs.Printing.{IsUsageEnded, paper};
@@ -121,7 +121,6 @@ fn draw_file<R: Files, O: Write, E: Write>(
 }
 
 /// Shows a node's program of a pipeline file, with the counts of a file.
-#[tactic(auto, using(crate::proofs::Papers::uncounted))]
 fn show_counted<R: Files, O: Write, E: Write>(
     call: &Call<'_, '_, R>,
     node: Entry,
@@ -131,7 +130,7 @@ fn show_counted<R: Files, O: Write, E: Write>(
 ) -> Status
     ensures shows { IfOk result (PrintsCounted (found_of call.now.words.now) node file.now (paper O.contents out.old) (paper O.contents out.new)
         (paper E.contents err.old) (paper E.contents err.new)) }
-    ensures fails { IfErr result (EndsUncounted (found_of call.now.words.now) (paper O.contents out.old) (paper O.contents out.new) (paper E.contents err.old)
+    ensures fails { IfErr result (EndsRefused (found_of call.now.words.now) (paper O.contents out.old) (paper O.contents out.new) (paper E.contents err.old)
         (paper E.contents err.new)) }
 {
     if !call.words.get_flag("dot") {
@@ -151,7 +150,6 @@ fn show_counted<R: Files, O: Write, E: Write>(
 }
 
 /// Shows this node's program of a pipeline file, with the counts of a file if they are given; or with `--dot` and no node, the whole pipeline.
-#[tactic(auto, using(crate::proofs::Papers::uncounted))]
 fn show_which<R: Files, O: Write, E: Write>(
     call: &Call<'_, '_, R>,
     which: Option<Entry>,
@@ -161,7 +159,7 @@ fn show_which<R: Files, O: Write, E: Write>(
 ) -> Status
     ensures shows { IfOk result (ShowsWhich (found_of call.now.words.now) which (option_map (λ file. file.now) counts.entry) (paper O.contents out.old)
         (paper O.contents out.new) (paper E.contents err.old) (paper E.contents err.new)) }
-    ensures fails { IfErr result (EndsUncounted (found_of call.now.words.now) (paper O.contents out.old) (paper O.contents out.new) (paper E.contents err.old)
+    ensures fails { IfErr result (EndsRefused (found_of call.now.words.now) (paper O.contents out.old) (paper O.contents out.new) (paper E.contents err.old)
         (paper E.contents err.new)) }
 {
     match (which, counts) {
@@ -189,7 +187,7 @@ pub fn show_file<R: Files, O: Write, E: Write>(
 ) -> Status
     ensures shows { IfOk result (ShowsFile (found_of call.now.words.now) (paper O.contents out.old) (paper O.contents out.new) (paper E.contents err.old)
         (paper E.contents err.new)) }
-    ensures fails { IfErr result (EndsUncounted (found_of call.now.words.now) (paper O.contents out.old) (paper O.contents out.new) (paper E.contents err.old)
+    ensures fails { IfErr result (EndsRefused (found_of call.now.words.now) (paper O.contents out.old) (paper O.contents out.new) (paper E.contents err.old)
         (paper E.contents err.new)) }
 {
     let which = which_in(call.words, out, err)?;

@@ -1,8 +1,8 @@
-//! Prints a verdict, or a fault in its own words, and returns the status.
+//! Prints a verdict, or reports lack of memory, and returns the status.
 
 ghost use Rattle.std.specs.Prelude.{◌≡◌, ◌⊎◌};
 ghost use Rattle.dp_cli.specs.Pipelines.{IsUnloadedReported};
-ghost use Rattle.dp_cli.specs.Printing.{IsEnded, Says, Reports, paper};
+ghost use Rattle.dp_cli.specs.Printing.{IsEnded, Says, paper};
 ghost use Rattle.dp_cli.specs.Statuses.{IsExitStatus};
 
 use crate::fault::{FAULT, Fault, MEMORY, print_fault, status_unwritten};
@@ -24,17 +24,6 @@ pub fn say<O: Write, E: Write>(
     match out.text(text) {
         Ok(()) => status,
         Err(failure) => status_unwritten(failure, err),
-    }
-}
-
-/// Reports a fault in these words, and returns the status.
-pub fn report_text<O: Write, E: Write>(text: &str, out: &mut Printer<O>, err: &mut Printer<E>) -> u8
-    ensures { IsEnded FAULT (Reports (paper O.contents out.old) (paper O.contents out.new) (paper E.contents err.old) (paper E.contents err.new))
-        (paper O.contents out.new) (paper E.contents err.old) (paper E.contents err.new) result }
-{
-    match err.text(text) {
-        Ok(()) => FAULT,
-        Err(_) => FAULT,
     }
 }
 

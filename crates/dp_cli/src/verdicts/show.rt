@@ -2,17 +2,18 @@
 
 ghost use Rattle.std.specs.Prelude.{◌≡◌};
 ghost use Rattle.dp_check.specs.Faults.{question};
-ghost use Rattle.dp_cli.specs.Judging.{IsFaultSaid, PrintsForm, IsSaid, PrintsVerdict, misfit_in};
+ghost use Rattle.dp_cli.specs.Judging.{IsSaid, PrintsForm, PrintsVerdict, misfit_fault, misfit_in};
 ghost use Rattle.dp_cli.specs.Printing.{paper};
 
-use crate::fault::{DONE, REFUSED};
+use crate::error_text::Reason;
+use crate::fault::{DONE, Fault, REFUSED, report_fault};
 use crate::printer::Printer;
-use crate::verdicts::counted::{Counted, misfit_text};
+use crate::verdicts::counted::Counted;
 use crate::verdicts::node_source::{Asked, Judged};
-use crate::verdicts::saying::{report_memory, report_text, say};
+use crate::verdicts::saying::{report_memory, say};
 use crate::verdicts::verdict::{RefusedAt, Verdict};
 use dp_check::diagnose;
-use dp_model::{Env, Instr, Row};
+use dp_model::{Entry, Env, Instr, Row};
 use dp_words::{
     Drawing, Heading, NodeDrawing, StepCount, Written, graph, listing, node_graph, written_in,
 };
@@ -144,21 +145,12 @@ fn misfit_in<'a>(form: Form<'a>, count: usize) -> Option<Counted<'a>>
     }
 }
 
-/// Reports that counts are of a program with another number of instructions, and returns the status.
-fn report_misfit<O: Write, E: Write>(
-    alloc: Global,
-    counted: Counted<'_>,
-    asked: Asked<'_>,
-    count: usize,
-    out: &mut Printer<O>,
-    err: &mut Printer<E>,
-) -> u8
-    ensures { IsFaultSaid (paper O.contents out.old) (paper O.contents out.new) (paper E.contents err.old) (paper E.contents err.new) result }
+/// The fault of counts that are of a program with another number of instructions.
+fn misfit_fault<'a>(counted: Counted<'a>, node: Entry, count: usize) -> Fault<'a>
+    ensures { result ≡ misfit_fault counted.entry node count }
 {
-    match misfit_text(alloc, counted, asked.node, count) {
-        Ok(text) => report_text(text.as_str(), out, err),
-        Err(AllocError) => report_memory(out, err),
-    }
+    let known = counted.steps.len();
+    Fault::File(counted.file, Reason::OtherCounts { node, known, count })
 }
 
 /// Prints a program with its rows and the verdict, and returns the status.
@@ -201,7 +193,7 @@ pub fn show<O: Write, E: Write>(
 {
     let count = judged.program.instrs().len();
     match misfit_in(form, count) {
-        Some(counted) => report_misfit(alloc, counted, asked, count, out, err),
+        Some(counted) => report_fault(misfit_fault(counted, asked.node, count), out, err),
         None => show_verdict(alloc, env, asked, judged, form, out, err),
     }
 }
