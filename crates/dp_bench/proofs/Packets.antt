@@ -29,10 +29,11 @@ put_back (y ∷ xs) (suc h) o x is = ap (λ l. y ∷ l) (put_back xs h o x is)
 module _ (s s' : Store) (pool need h : ℕ) (packet : List Number → Packet) (Changes : List Number → Buffers → Buffers →
     Type 0) (g : Gives s pool need packet Changes s' (Some h)) where
   given_back : (s'' : Store) → s'' ≡ with_slot h None s' → (s''.slots ≡ s.slots) × (s''.pools ≡ s.pools)
-  given_back s'' e = (
-    ap (λ (x : Store). x.slots) e ∙ (ap (λ (x : Store). slice_set x.slots h None) g.6 ∙ put_back s.slots h None (Some (packet g.2)) g.1),
-    ap (λ (x : Store). x.pools) e ∙ ap (λ (x : Store). x.pools) g.6,
-  )
+  given_back s'' e =
+      let (_, free, numbers, _, _, _, given) = g in (
+        ap (λ (x : Store). x.slots) e ∙ (ap (λ (x : Store). slice_set x.slots h None) given ∙ put_back s.slots h None (Some (packet numbers)) free),
+        ap (λ (x : Store). x.pools) e ∙ ap (λ (x : Store). x.pools) given,
+      )
 
 pub alloc_back : (s s' : Store) (pool h : ℕ) → Allocates s pool s' (Some h) → (s'' : Store) → s'' ≡ with_slot h None s' →
     (s''.slots ≡ s.slots) × (s''.pools ≡ s.pools)
@@ -42,7 +43,7 @@ pub alloc_none : (s s' : Store) (pool : ℕ) → Allocates s pool s' None → s'
 alloc_none s s' pool g = g.1
 
 pub alloc_pools : (s s' : Store) (pool h : ℕ) → Allocates s pool s' (Some h) → s'.pools ≡ s.pools
-alloc_pools s s' pool h g = ap (λ (x : Store). x.pools) g.6
+alloc_pools s s' pool h (_, _, _, _, _, _, given) = ap (λ (x : Store). x.pools) given
 
 module _ (s s' : Store) (q pool : ℕ) (live : IsLive s q) where
   pub clone_live : (h : ℕ) → Clones s q pool s' (Some h) → IsLive s' h
@@ -86,16 +87,17 @@ module _ (s s' : Store) (h n : ℕ) (some : 0 < n) (f : HasFront s h n) (b : Bec
   has_grown = ap (λ (x : Store). slice_get x.slots h) (b f.0 f.1) ∙ get_set_same s.slots h (Some grown) (Some f.0) f.1
 
   pub front_long : HasSome s' h (λ k. n ≤ first_len k)
-  front_long = (grown, has_grown, longer f.0 n some f.2.0)
+  front_long = let (k, has, (room, sole)) = f in (grown, has_grown, longer k n some room)
 
   pub front_back : (s'' : Store) → Becomes s' s'' h (at_front (less_before n)) unwritten → (s''.slots ≡ s.slots) × (s''.pools ≡ s.pools)
   front_back s'' c =
+      let (k, has, (room, sole)) = f in
       let cut = c grown has_grown in
-      let first = b f.0 f.1 in (
+      let first = b k has in (
         ap (λ (x : Store). x.slots) cut
-            ∙ (ap (λ (k : Packet). slice_set s'.slots h (Some k)) (as_before f.0 n f.2.0)
-            ∙ (ap (λ (x : Store). slice_set x.slots h (Some f.0)) first
-            ∙ put_back s.slots h (Some f.0) (Some grown) f.1)),
+            ∙ (ap (λ (k : Packet). slice_set s'.slots h (Some k)) (as_before k n room)
+            ∙ (ap (λ (x : Store). slice_set x.slots h (Some k)) first
+            ∙ put_back s.slots h (Some k) (Some grown) has)),
         ap (λ (x : Store). x.pools) cut ∙ ap (λ (x : Store). x.pools) first,
       )
 
@@ -105,7 +107,7 @@ pub live_kept : (s s' : Store) (h : ℕ) → s'.slots ≡ s.slots → IsLive s h
 live_kept s s' h e live = (live.0, ap (λ l. slice_get l h) e ∙ live.1, tt)
 
 pub front_kept : (s s' : Store) (h n : ℕ) → s'.slots ≡ s.slots → HasFront s h n → HasFront s' h n
-front_kept s s' h n e f = (f.0, ap (λ l. slice_get l h) e ∙ f.1, (f.2.0, subst (λ l. IsHeadSole (segments_held l) f.0) (sym e) f.2.1))
+front_kept s s' h n e (k, has, (room, sole)) = (k, ap (λ l. slice_get l h) e ∙ has, (room, subst (λ l. IsHeadSole (segments_held l) k) (sym e) sole))
 
 pub room_kept : (s s' : Store) → s'.pools ≡ s.pools → HasRoom s → HasRoom s'
 room_kept s s' e room = ap (λ ps. room_at ps 0) e ∙ room

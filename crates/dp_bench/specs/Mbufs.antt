@@ -27,9 +27,9 @@ pub record IsReadyPool (region : Home) (p : PoolView) : Type 0 where
   pub home : p.zones.home ≡ region
 
 -- if the slot has a pool, it lies in zones of the region
-abbrev pub IsIn : Home → Option PoolView → Type 0
-IsIn region None = Unit {0}
-IsIn region (Some p) = p.zones.home ≡ region
+abbrev pub IsInHome : Home → Option PoolView → Type 0
+IsInHome region None = Unit {0}
+IsInHome region (Some p) = p.zones.home ≡ region
 
 -- the number of zones of the slot's pool
 abbrev pub zones_in : Option PoolView → ℕ

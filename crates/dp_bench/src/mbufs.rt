@@ -2,7 +2,7 @@
 ghost use Rattle.std.specs.Prelude.{◌≡◌, ◌+◌, ◌<◌, ◌≤◌, length, true, IfSome, MatchOption};
 ghost use Rattle.dp_heap.specs.Elements.{count_of, is_busy};
 ghost use Rattle.dp_model.specs.Stores.{IsLive};
-ghost use Rattle.dp_bench.specs.Mbufs.{AreAsBefore, HasFront, HasRoom, IsReadyPool, IsIn, IsOnePool, zones_in};
+ghost use Rattle.dp_bench.specs.Mbufs.{AreAsBefore, HasFront, HasRoom, IsReadyPool, IsInHome, IsOnePool, zones_in};
 
 use crate::heaps::heap;
 use dp_heap::Heap;
@@ -219,7 +219,7 @@ fn make(heap: &mut Heap, zones: &mut Zones) -> Option<Pool>
 
 // Gives the zones of a slot's pool back.
 fn unmake_in(slot: Option<Pool>, heap: &mut Heap, zones: &mut Zones)
-    requires { IsIn heap.old.home slot }
+    requires { IsInHome heap.old.home slot }
     ensures home { heap.new.home ≡ heap.old.home }
     ensures counted { count_of is_busy heap.new.elements + zones_in slot ≡ count_of is_busy heap.old.elements }
 {

@@ -1,14 +1,14 @@
 //! Random numbers, the same in each run.
 /// A sequence of such numbers.
 #[derive(Clone, Copy)]
-pub struct Numbers {
+pub struct RandomNumbers {
     state: u64,
 }
 
-impl Numbers {
+impl RandomNumbers {
     /// The sequence that starts with a seed.
-    pub fn new(seed: u64) -> Numbers {
-        Numbers { state: seed }
+    pub fn new(seed: u64) -> RandomNumbers {
+        RandomNumbers { state: seed }
     }
 
     /// The next number. No clause says which: only safety is claimed.

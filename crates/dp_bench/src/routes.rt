@@ -2,7 +2,7 @@
 ghost use Rattle.std.specs.Prelude.{◌≡◌, ◌+◌, ◌≤◌, is_some};
 ghost use Rattle.dp_model.specs.Prefixes.{hop_for};
 
-use crate::random::Numbers;
+use crate::random::RandomNumbers;
 use dp_lpm::{Lpm, MAX_GROUPS, MAX_RULES};
 use std::alloc::Global;
 
@@ -30,7 +30,7 @@ fn depth_of(number: u32) -> u8 {
 }
 
 // The next rule. No clause says which: only safety is claimed.
-fn next_rule(numbers: &mut Numbers) -> Rule {
+fn next_rule(numbers: &mut RandomNumbers) -> Rule {
     let ip = numbers.next();
     let depth = depth_of(numbers.next());
     let hop = numbers.next() % 256;
@@ -41,7 +41,7 @@ fn next_rule(numbers: &mut Numbers) -> Rule {
 fn add_all(table: &mut Lpm, rules: u32) -> u32
     ensures { result ≤ rules }
 {
-    let mut numbers = Numbers::new(OF_RULES);
+    let mut numbers = RandomNumbers::new(OF_RULES);
     let mut added = 0;
     for _ in 0..rules {
         let Rule { ip, depth, hop } = next_rule(&mut numbers);
@@ -64,7 +64,7 @@ fn is_routed(table: &Lpm, ip: u32) -> bool
 fn look_up_all(table: &Lpm, addresses: u32) -> u32
     ensures { result ≤ addresses }
 {
-    let mut numbers = Numbers::new(OF_ADDRESSES);
+    let mut numbers = RandomNumbers::new(OF_ADDRESSES);
     let mut found = 0;
     for _ in 0..addresses {
         if is_routed(table, numbers.next()) {
@@ -78,7 +78,7 @@ fn look_up_all(table: &Lpm, addresses: u32) -> u32
 fn delete_all(table: &mut Lpm, rules: u32) -> u32
     ensures { result ≤ rules }
 {
-    let mut numbers = Numbers::new(OF_RULES);
+    let mut numbers = RandomNumbers::new(OF_RULES);
     let mut deleted = 0;
     for _ in 0..rules {
         let Rule { ip, depth, .. } = next_rule(&mut numbers);

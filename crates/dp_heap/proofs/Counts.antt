@@ -1,6 +1,6 @@
 -- The number of busy elements after a block is taken, and after one is freed.
 use Rattle.std.proofs.Common.{◌≡◌, ℕ, ◌+◌, ◌-◌, Bool, true, cond, ltb, ◌&&◌, List, [], ◌∷◌, ◌++◌, refl, ap, arith}
-use Rattle.std.specs.Prelude.{not, ◌==◌}
+use Rattle.std.specs.Prelude.{◌==◌}
 use Rattle.std.proofs.lemmas.Bool.{cond_both, and_parts}
 use Rattle.dp_heap.specs.declared.elements.Element.{Element}
 use Rattle.dp_heap.specs.declared.elements.State.TheVariants.{Free}
@@ -15,7 +15,7 @@ abbrev weight : Element → ℕ
 weight e = cond (is_busy e) 1 0
 
 weightless : (e : Element) → is_free e ≡ true → weight e ≡ 0
-weightless e free = ap (λ (b : Bool). cond (not b) 1 0) free
+weightless e free = rw free
 
 out-append : (xs ys : List Element) → out (xs ++ ys) ≡ out xs + out ys
 out-append [] ys = omega arith

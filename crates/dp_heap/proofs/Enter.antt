@@ -1,22 +1,22 @@
 -- A free element enters its list at the front.
-use Rattle.std.proofs.Common.{◌≡◌, ℕ, ◌+◌, ◌%◌, ◌<◌, ◌≤◌, Bool, true, cond, eqb, eqb-true, List, ◌∷◌, ◌++◌, length, set, refl, sym, ap, subst, ◌∙◌, arith}
+use Rattle.std.proofs.Common.{◌≡◌, ℕ, ◌+◌, ◌%◌, ◌<◌, ◌≤◌, Bool, true, cond, eqb, eqb-true, List, ◌∷◌, length, set, refl, sym, ap, ◌∙◌, arith}
 use Rattle.std.proofs.Common.{inl, inr, lit<}
 use Rattle.std.specs.Prelude.{◌⊎◌, slice_index}
 use mathlib.Core.Logic.{⊎_elim}
-use Rattle.std.proofs.lemmas.Bool.{eq-eqb, true≢false}
+use Rattle.std.proofs.lemmas.Bool.{eqb-false}
 use Rattle.std.proofs.lemmas.List.{get_or-set_same, get_or-set_other, length-set}
 use Rattle.dp_region.specs.Region.{RegionView, number_at}
 use Rattle.dp_region.specs.Laws.{by_test}
 use Rattle.dp_heap.specs.declared.elements.Element.{Element}
 use Rattle.dp_heap.specs.Elements.{is_free}
+use Rattle.dp_heap.specs.Edits.{IsIn}
 use Rattle.dp_heap.specs.Laid.{elements_in, IsLaid}
 use Rattle.dp_heap.specs.Lists.{none, class_of, with_link, Linked, times, belongs, belong, Listed}
 use Rattle.dp_heap.proofs.Belong.{class_small, belongs_here, belongs_is}
 use Rattle.dp_heap.proofs.Links.{length-with_link, link-same, link-other, link-apart, linked_stay, restart}
 use Rattle.dp_heap.proofs.Listing.{relinked, linking, Header, header_of, listed_header, few, other_list, head_of, link_header, link_listed, link_small}
 
-module _ (r : RegionView) (laid : IsLaid r) (before : List Element) (e : Element) (after : List Element) (split : elements_in r.bytes ≡ before
-    ++ e ∷ after) (free : is_free e ≡ true)
+module _ (r : RegionView) (laid : IsLaid r) (e : Element) (here : IsIn e (elements_in r.bytes)) (free : is_free e ≡ true)
     (heads : List ℕ) (off : List Element) (w : Listed r.bytes heads (elements_in r.bytes) (e ∷ off)) where
   abbrev xs : List ℕ
   xs = r.bytes
@@ -40,26 +40,26 @@ module _ (r : RegionView) (laid : IsLaid r) (before : List Element) (e : Element
   ys = with_link y2 20 h p
 
   pub own : Header r p
-  own = header_of r laid before e after split
+  own = header_of r laid here.before e here.after here.split
 
-  head : (h ≡ none) ⊎ (1 ≤ times h (w.0 c))
+  head : (h ≡ none) ⊎ (1 ≤ times h (w.lists c))
   head = head_of r laid heads (e ∷ off) w c (class_small e.size)
 
   pub first : h < length xs → Header r h
   first = link_header r laid heads (e ∷ off) w c h head
 
   -- it was in no list
-  absent : (d : ℕ) → times p (w.0 d) ≡ 0
+  absent : (d : ℕ) → times p (w.lists d) ≡ 0
   absent d = let one = belongs_here e free in by_test (eqb c d)
       (λ t. let is = eqb-true c d t in let f = few r laid heads (e ∷ off) w c p in
-      let no : times p (w.0 c) ≡ 0 = omega arith in ap (λ (k : ℕ). times p (w.0 k)) (sym is) ∙ no)
-      (λ t. other_list r laid heads (e ∷ off) w c d p (λ is. true≢false (sym (eq-eqb c d is) ∙ t)) (omega arith))
+      let no : times p (w.lists c) ≡ 0 = omega arith in rw (← is) no)
+      (λ t. other_list r laid heads (e ∷ off) w c d p (eqb-false c d t) (omega arith))
 
-  differs : (d q : ℕ) → 1 ≤ times q (w.0 d) → q ≡ p → ⊥
-  differs d q in_it is = let no : times q (w.0 d) ≡ 0 = ap (λ (k : ℕ). times k (w.0 d)) is ∙ absent d in absurd (omega arith)
+  differs : (d q : ℕ) → 1 ≤ times q (w.lists d) → q ≡ p → ⊥
+  differs d q in_it is = let no : times q (w.lists d) ≡ 0 = rw is (absent d) in absurd (omega arith)
 
   h_differs : h ≡ p → ⊥
-  h_differs is = let o = own.room in ⊎_elim (λ z. let most = laid.0.1 in absurd (omega arith)) (λ in_it. differs c h in_it is) head
+  h_differs is = let o = own.room in ⊎_elim (λ z. let most = laid.size.1 in absurd (omega arith)) (λ in_it. differs c h in_it is) head
 
   pub long1 : length y1 ≡ length xs
   long1 = let o = own.room in length-with_link xs 16 p h (λ _. o) (omega arith)
@@ -103,7 +103,7 @@ module _ (r : RegionView) (laid : IsLaid r) (before : List Element) (e : Element
 
   first_back : h < length xs → number_at ys (h + 20) 4 ≡ p
   first_back lt =
-      let o = own.room in let most = laid.0.1 in let n2 = long2 in let f = (first lt).room in
+      let o = own.room in let most = laid.size.1 in let n2 = long2 in let f = (first lt).room in
       link-same y2 20 h p (λ _. omega arith) (omega arith) (omega arith) (omega arith)
 
   pub entered_laid : IsLaid (record r { bytes = ys }) × (elements_in ys ≡ elements_in xs)
@@ -114,52 +114,48 @@ module _ (r : RegionView) (laid : IsLaid r) (before : List Element) (e : Element
       ∙ link-other xs 16 p h (λ lt. (p1 lt).1) (omega arith) k room (λ lt. linking p k 16 (p1 lt).0 low (omega arith) (omega arith)))
 
   abbrev lists : ℕ → List ℕ
-  lists d = cond (eqb d c) (p ∷ w.0 c) (w.0 d)
+  lists d = cond (eqb d c) (p ∷ w.lists c) (w.lists d)
 
   abbrev new : List ℕ
   new = set heads c p
 
-  front : Linked ys none p (p ∷ w.0 c)
-  front = (
-    refl,
-    back,
-    subst (λ (k : ℕ). Linked ys p k (w.0 c)) (sym next)
-        (restart xs ys none p h (w.0 c) (w.2 c (class_small e.size)) (let f = few r laid heads (e ∷ off) w c h in omega arith)
+  front : Linked ys none p (p ∷ w.lists c)
+  front = record {
+    first = refl;
+    back = back;
+    rest = rw next
+        (restart xs ys none p h (w.lists c) (w.linked c (class_small e.size)) (let f = few r laid heads (e ∷ off) w c h in omega arith)
         (λ in_it. first_back (let k = (listed_header r laid heads (e ∷ off) w c h in_it).room in omega arith))
         (λ q in_it differ. let k = listed_header r laid heads (e ∷ off) w c q in_it in
         stays q 20 k.step k.room (omega arith) (λ is. absurd (differs c q in_it is)) (λ is. absurd (differ is)))
         (λ q in_it. let k = listed_header r laid heads (e ∷ off) w c q in_it in
-        stays q 16 k.step k.room (omega arith) (λ is. absurd (differs c q in_it is)) (λ is. inl (omega arith)))),
-  )
+        stays q 16 k.step k.room (omega arith) (λ is. absurd (differs c q in_it is)) (λ is. inl (omega arith))));
+  }
 
   linked : (d : ℕ) → d < 5 → Linked ys none (slice_index new d) (lists d)
   linked d small = by_test (eqb d c)
-      (λ t. let is = eqb-true d c t in
-      subst (λ (b : Bool). Linked ys none (slice_index new d) (cond b (p ∷ w.0 c) (w.0 d))) (sym t)
-      (subst (λ (k : ℕ). Linked ys none k (p ∷ w.0 c)) (sym (ap (λ (k : ℕ). slice_index new k) is ∙ get_or-set_same heads c p 0 (let n = w.1 in
-      let s = class_small e.size in omega arith))) front))
-      (λ t. let differ : d ≡ c → ⊥ = (λ is. true≢false (sym (eq-eqb d c is) ∙ t)) in
-      subst (λ (b : Bool). Linked ys none (slice_index new d) (cond b (p ∷ w.0 c) (w.0 d))) (sym t)
-      (subst (λ (k : ℕ). Linked ys none k (w.0 d)) (sym (get_or-set_other heads c d p 0 differ))
-      (linked_stay xs ys none (slice_index heads d) (w.0 d) (w.2 d small) (λ q in_it.
+      (λ t. rw (t, eqb-true d c t, get_or-set_same heads c p 0 (let n = w.five in let s = class_small e.size in omega arith)) front)
+      (λ t. let differ = eqb-false d c t in
+      rw (t, get_or-set_other heads c d p 0 differ) (
+      (linked_stay xs ys none (slice_index heads d) (w.lists d) (w.linked d small) (λ q in_it.
       let k = listed_header r laid heads (e ∷ off) w d q in_it in let room = k.room in
       let far : q ≡ h → ⊥ = (λ is. let in_c = link_listed r laid heads (e ∷ off) w c h head (omega arith) in
       let no = other_list r laid heads (e ∷ off) w c d h (λ same. differ (sym same)) (omega arith) in
-      let no' : times q (w.0 d) ≡ 0 = ap (λ (m : ℕ). times m (w.0 d)) is ∙ no in absurd (omega arith)) in (
+      let no' : times q (w.lists d) ≡ 0 = rw is no in absurd (omega arith)) in (
         stays q 16 k.step room (omega arith) (λ is. absurd (differs d q in_it is)) (λ is. inl (omega arith)),
         stays q 20 k.step room (omega arith) (λ is. absurd (differs d q in_it is)) (λ is. absurd (far is)),
       )))))
 
   counted : (d q : ℕ) → times q (lists d) + belong d q off ≡ belong d q (elements_in ys)
   counted d q =
-      let old = w.3 d q in let is = belongs_is d q e free in
-      let new' : times q (lists d) ≡ belongs d q e + times q (w.0 d) = by_test (eqb d c)
-      (λ t. let same = eqb-true d c t in ap (λ (b : Bool). times q (cond b (p ∷ w.0 c) (w.0 d))) t
-      ∙ ap (λ (k : ℕ). cond (eqb p q) 1 0 + times q (w.0 k)) (sym same)
-      ∙ ap (λ (k : ℕ). k + times q (w.0 d)) (sym (is ∙ ap (λ (b : Bool). cond b (cond (eqb p q) 1 0) 0) t)))
-      (λ t. let no : belongs d q e ≡ 0 = is ∙ ap (λ (b : Bool). cond b (cond (eqb p q) 1 0) 0) t in
-      let kept : times q (lists d) ≡ times q (w.0 d) = ap (λ (b : Bool). times q (cond b (p ∷ w.0 c) (w.0 d))) t in omega arith) in
+      let old = w.counted d q in let is = belongs_is d q e free in
+      let new' : times q (lists d) ≡ belongs d q e + times q (w.lists d) = by_test (eqb d c)
+      (λ t. let same = eqb-true d c t in ap (λ (b : Bool). times q (cond b (p ∷ w.lists c) (w.lists d))) t
+      ∙ ap (λ (k : ℕ). cond (eqb p q) 1 0 + times q (w.lists k)) (sym same)
+      ∙ ap (λ (k : ℕ). k + times q (w.lists d)) (sym (is ∙ ap (λ (b : Bool). cond b (cond (eqb p q) 1 0) 0) t)))
+      (λ t. let no : belongs d q e ≡ 0 = rw t at is in
+      let kept : times q (lists d) ≡ times q (w.lists d) = rw t in omega arith) in
       let same = ap (belong d q) entered_laid.1 in omega arith
 
   pub entered : Listed ys new (elements_in ys) off
-  entered = (lists, length-set heads c p ∙ w.1, linked, counted)
+  entered = record { lists = lists; five = length-set heads c p ∙ w.five; linked = linked; counted = counted }

@@ -1,10 +1,10 @@
 -- Lists of offsets that are linked, after links were written.
-use Rattle.std.proofs.Common.{◌≡◌, ℕ, ◌+◌, ◌%◌, ◌^◌, ◌<◌, ◌≤◌, Bool, cond, eqb, eqb-true, ltb, List, [], ◌∷◌, ◌++◌, length, refl, sym, ap, subst, ◌∙◌, arith}
+use Rattle.std.proofs.Common.{◌≡◌, ℕ, ◌+◌, ◌%◌, ◌^◌, ◌<◌, ◌≤◌, Bool, cond, eqb, ltb, List, [], ◌∷◌, ◌++◌, length, refl, sym, ap, subst, ◌∙◌, arith}
 use Rattle.std.proofs.Common.{inl, inr}
 use Rattle.std.specs.Prelude.{◌⊎◌}
 use mathlib.Core.Logic.{⊎_elim}
-use Rattle.std.proofs.lemmas.Bool.{cond_both, ltb-true, ltb-false, lt-ltb, eq-eqb, true≢false}
-use Rattle.dp_region.specs.Laws.{length-with_number, number_at-same, number_at-other, by_test}
+use Rattle.std.proofs.lemmas.Bool.{cond_both, ltb-true, lt-ltb}
+use Rattle.dp_region.specs.Laws.{length-with_number, number_at-same, number_at-other}
 use Rattle.dp_region.specs.Region.{number_at, with_number}
 use Rattle.dp_heap.specs.Lists.{none, with_link, Linked, times}
 use Rattle.dp_heap.proofs.Belong.{bit, same_one, times-append}
@@ -29,12 +29,7 @@ module _ (xs : List ℕ) (k p n : ℕ) (fits : p < length xs → p + 64 ≤ leng
 
 -- words of different headers do not overlap
 pub apart_words : (p q k j : ℕ) → p % 64 ≡ 0 → q % 64 ≡ 0 → k ≤ 60 → j ≤ 60 → (p ≡ q → (j + 4 ≤ k) ⊎ (k + 4 ≤ j)) → (q + j + 4 ≤ p + k) ⊎ (p + k + 4 ≤ q + j)
-apart_words p q k j a b c d off = by_test (eqb p q)
-    (λ t. let is = eqb-true p q t in ⊎_elim (λ h. inl (omega arith)) (λ h. inr (omega arith)) (off is))
-    (λ t. by_test (ltb p q)
-    (λ s. let less = ltb-true p q s in inr (omega arith))
-    (λ s. let more = ltb-false p q s in let differ : p ≡ q → ⊥ = (λ is. true≢false (sym (eq-eqb p q is) ∙ t)) in
-    by_test (ltb q p) (λ w. let less = ltb-true q p w in inl (omega arith)) (λ w. let same = ltb-false q p w in absurd (differ (omega arith)))))
+apart_words p q k j a b c d off = grind arith
 
 -- the word at j of the header at q stays
 pub link-apart : (xs : List ℕ) (k p n q j : ℕ) → (p < length xs → (p % 64 ≡ 0) × (p + 64 ≤ length xs)) → k ≤ 60 → q % 64 ≡ 0 → q + 64 ≤ length xs → j ≤ 60
@@ -45,7 +40,7 @@ link-apart xs k p n q j fits small step room few off = link-other xs k p n (λ h
 -- the first is the head
 pub head_in : (xs : List ℕ) (w h : ℕ) (ps : List ℕ) → Linked xs w h ps → (h ≡ none) ⊎ (1 ≤ times h ps)
 head_in xs w h [] l = inl l
-head_in xs w h (p ∷ ps) l = let is = l.0 in let one : bit (eqb p h) ≡ 1 = ap (λ (k : ℕ). cond (eqb p k) 1 0) is ∙ same_one p in inr (omega arith)
+head_in xs w h (p ∷ ps) l = let is = l.first in let one : bit (eqb p h) ≡ 1 = ap (λ (k : ℕ). cond (eqb p k) 1 0) is ∙ same_one p in inr (omega arith)
 
 -- the last of ps, or w
 abbrev pub last_of : ℕ → List ℕ → ℕ
@@ -64,8 +59,8 @@ last_among w p ps = ⊎_elim (λ is. let one : bit (eqb p (last_of p ps)) ≡ 1 
 -- what the element at p holds of its neighbours in the list
 pub beside : (xs : List ℕ) (w h : ℕ) (b : List ℕ) (p : ℕ) (a : List ℕ) → Linked xs w h (b ++ p ∷ a) →
     (number_at xs (p + 20) 4 ≡ last_of w b) × Linked xs p (number_at xs (p + 16) 4) a
-beside xs w h [] p a l = (l.1, l.2)
-beside xs w h (q ∷ b) p a l = beside xs q (number_at xs (q + 16) 4) b p a l.2
+beside xs w h [] p a l = (l.back, l.rest)
+beside xs w h (q ∷ b) p a l = beside xs q (number_at xs (q + 16) 4) b p a l.rest
 
 module _ (xs ys : List ℕ) where
   pub linked_stay : (w h : ℕ) (ps : List ℕ) → Linked xs w h ps → ((p : ℕ) → 1 ≤ times p ps → (number_at ys (p + 16) 4 ≡ number_at xs (p + 16) 4)
@@ -73,7 +68,11 @@ module _ (xs ys : List ℕ) where
   linked_stay w h [] l same = l
   linked_stay w h (p ∷ ps) l same =
       let one = same_one p in let s = same p (omega arith) in
-      (l.0, s.1 ∙ l.1, subst (λ (n : ℕ). Linked ys p n ps) (sym s.0) (linked_stay p (number_at xs (p + 16) 4) ps l.2 (λ q h. same q (omega arith))))
+      record {
+        first = l.first;
+        back = s.1 ∙ l.back;
+        rest = rw s.0 (linked_stay p (number_at xs (p + 16) 4) ps l.rest (λ q h. same q (omega arith)));
+      }
 
   -- another element before the first
   pub restart : (w u h : ℕ) (ps : List ℕ) → Linked xs w h ps → times h ps ≤ 1 → (1 ≤ times h ps → number_at ys (h + 20) 4 ≡ u)
@@ -81,17 +80,17 @@ module _ (xs ys : List ℕ) where
       ((q : ℕ) → 1 ≤ times q ps → number_at ys (q + 16) 4 ≡ number_at xs (q + 16) 4) → Linked ys u h ps
   restart w u h [] l few first back next = l
   restart w u h (p ∷ ps) l few first back next =
-      let is = l.0 in let one = same_one p in let some : 1 ≤ times h (p ∷ ps) = subst (λ (k : ℕ). 1 ≤ times k (p ∷ ps)) (sym is) (omega arith) in
-      let few' : times p (p ∷ ps) ≤ 1 = subst (λ (k : ℕ). times k (p ∷ ps) ≤ 1) is few in (
-        is,
-        ap (λ (k : ℕ). number_at ys (k + 20) 4) (sym is) ∙ first some,
-        subst (λ (n : ℕ). Linked ys p n ps) (sym (next p (omega arith)))
-            (linked_stay p (number_at xs (p + 16) 4) ps l.2 (λ q in_it. (
+      let is = l.first in let one = same_one p in let some : 1 ≤ times h (p ∷ ps) = rw is (omega arith) in
+      let few' : times p (p ∷ ps) ≤ 1 = subst (λ (k : ℕ). times k (p ∷ ps) ≤ 1) is few in record {
+        first = is;
+        back = ap (λ (k : ℕ). number_at ys (k + 20) 4) (sym is) ∙ first some;
+        rest = rw (next p (omega arith))
+            (linked_stay p (number_at xs (p + 16) 4) ps l.rest (λ q in_it. (
               next q (omega arith),
               back q (omega arith) (λ same. let at : q ≡ p = same ∙ is in
                   let more : 1 ≤ times p ps = subst (λ (k : ℕ). 1 ≤ times k ps) at in_it in absurd (omega arith)),
-            ))),
-      )
+            )));
+      }
 
 -- h, or the last of the list before it
 abbrev pub first_or : ℕ → ℕ → List ℕ → ℕ
@@ -104,28 +103,28 @@ module _ (xs ys : List ℕ) (p u v : ℕ) (a : List ℕ) (next : number_at xs (p
       → ((q : ℕ) → 1 ≤ times q (b ++ a) → (q ≡ v → ⊥) → number_at ys (q + 20) 4 ≡ number_at xs (q + 20) 4)
       → (1 ≤ times u b → number_at ys (u + 16) 4 ≡ v) → (1 ≤ times v a → number_at ys (v + 20) 4 ≡ u) → Linked ys w (first_or v h b) (b ++ a)
   unlinked w h [] l last before few N B N' B' =
-      subst (λ (k : ℕ). Linked ys k v a) (sym last)
-      (restart xs ys p u v a (subst (λ (k : ℕ). Linked xs p k a) next l.2) (few v) B' B
+      rw last
+      (restart xs ys p u v a (rw next at l.rest) (few v) B' B
       (λ q h'. N q h' (λ is. let no : times q a ≡ 0 = ap (λ (k : ℕ). times k a) is ∙ past in absurd (omega arith))))
   unlinked w h (q ∷ []) l last before few N B N' B' =
       let one = same_one q in let here : 1 ≤ times q (q ∷ []) = omega arith in
-      let rest = unlinked q (number_at xs (q + 16) 4) [] l.2 last refl (λ k. let f = few k in
+      let rest = unlinked q (number_at xs (q + 16) 4) [] l.rest last refl (λ k. let f = few k in
       omega arith) (λ k h'. N k (omega arith)) (λ k h'. B k (omega arith)) (λ h'. absurd (let h'' : 1 ≤ 0 = h' in omega arith)) B' in
-      let to : number_at ys (q + 16) 4 ≡ v = ap (λ (k : ℕ). number_at ys (k + 16) 4) last ∙ N' (subst (λ (k : ℕ). 1 ≤ times k (q ∷ [])) last here) in (
-        l.0,
-        B q (omega arith) (λ is. let no : times q (q ∷ []) ≡ 0 = ap (λ (k : ℕ). times k (q ∷ [])) is ∙ before in absurd (omega arith))
-            ∙ l.1,
-        subst (λ (n : ℕ). Linked ys q n a) (sym to) rest,
-      )
+      let to : number_at ys (q + 16) 4 ≡ v = ap (λ (k : ℕ). number_at ys (k + 16) 4) last ∙ N' (subst (λ (k : ℕ). 1 ≤ times k (q ∷ [])) last here) in record {
+        first = l.first;
+        back = B q (omega arith) (λ is. let no : times q (q ∷ []) ≡ 0 = ap (λ (k : ℕ). times k (q ∷ [])) is ∙ before in absurd (omega arith))
+            ∙ l.back;
+        rest = rw to rest;
+      }
   unlinked w h (q ∷ r ∷ b) l last before few N B N' B' =
       let one = same_one q in
-      let rest = unlinked q (number_at xs (q + 16) 4) (r ∷ b) l.2 last (omega arith) (λ k. let f = few k in
+      let rest = unlinked q (number_at xs (q + 16) 4) (r ∷ b) l.rest last (omega arith) (λ k. let f = few k in
       omega arith) (λ k h'. N k (omega arith)) (λ k h'. B k (omega arith)) (λ h'. N' (omega arith)) B' in
       let inner : 1 ≤ times u (r ∷ b) = subst (λ (k : ℕ). 1 ≤ times k (r ∷ b)) last (last_among q r b) in
       let differ : q ≡ u → ⊥ = (λ is. let f = few q in let more : 1 ≤ times q (r ∷ b) = subst (λ (k : ℕ). 1 ≤ times k (r ∷ b)) (sym is) inner in
-      let s = times-append q (r ∷ b) a in absurd (omega arith)) in (
-        l.0,
-        B q (omega arith) (λ is. let no : times q (q ∷ r ∷ b) ≡ 0 = ap (λ (k : ℕ). times k (q ∷ r ∷ b)) is ∙ before in absurd (omega arith))
-            ∙ l.1,
-        subst (λ (n : ℕ). Linked ys q n ((r ∷ b) ++ a)) (sym (N q (omega arith) differ)) rest,
-      )
+      let s = times-append q (r ∷ b) a in absurd (omega arith)) in record {
+        first = l.first;
+        back = B q (omega arith) (λ is. let no : times q (q ∷ r ∷ b) ≡ 0 = ap (λ (k : ℕ). times k (q ∷ r ∷ b)) is ∙ before in absurd (omega arith))
+            ∙ l.back;
+        rest = rw (N q (omega arith) differ) rest;
+      }

@@ -19,35 +19,35 @@ use Rattle.dp_heap.proofs.Links.{linked_stay}
 between : (xs : List ℕ) (es before : List Element) (e : Element) (after : List Element) (low high : ℕ) → es ≡ before ++ e ∷ after → Laid xs low high es →
     (low ≤ e.offset) × (e.offset + 64 ≤ high)
 between xs es before e after low high split l =
-    let s = laid_split xs before (e ∷ after) low high (subst (Laid xs low high) split l) in
-    let at = first_offset xs e s.0 s.2.0 in let some = s.2.1 in let b1 = laid_bound xs before low s.0 s.1 in
-    let b2 = laid_bound xs after (end_of e) high s.2.2 in (omega arith, omega arith)
+    let s = laid_split xs before (e ∷ after) low high (rw split at l) in
+    let at = first_offset xs e s.middle s.above.read in let some = s.above.large in let b1 = laid_bound xs before low s.middle s.below in
+    let b2 = laid_bound xs after (end_of e) high s.above.rest in (omega arith, omega arith)
 
 module _ (xs ys : List ℕ) (before os after ps : List Element) (low high : ℕ) (ordered : low ≤ high) (below : Laid xs 0 low before)
     (above : Laid xs high (length xs) after) (same : Outside low high xs ys) where
   pub moved : (heads : List ℕ) (off next : List Element) → ((c p : ℕ) → belong c p os ≡ belong c p off) → ((c p : ℕ) → belong c p ps ≡ belong c p next)
       → Listed xs heads (before ++ (os ++ after)) off → Listed ys heads (before ++ (ps ++ after)) next
-  moved heads off next was is w = (
-    w.0,
-    w.1,
-    λ c small. linked_stay xs ys none (slice_index heads c) (w.0 c) (w.2 c small) (λ q in_it.
-        let count = w.3 c q in let a1 = belong-append c q before (os ++ after) in let a2 = belong-append c q os after in
+  moved heads off next was is w = record {
+    lists = w.lists;
+    five = w.five;
+    linked = λ c small. linked_stay xs ys none (slice_index heads c) (w.lists c) (w.linked c small) (λ q in_it.
+        let count = w.counted c q in let a1 = belong-append c q before (os ++ after) in let a2 = belong-append c q os after in
         let gone = was c q in by_test (ltb 0 (belong c q before))
-        (λ t. let some = ltb-true 0 (belong c q before) t in let m = member c q before (omega arith) in let at = m.at in
+        (λ t. let some = ltb-true 0 (belong c q before) t in let m = member c q before (omega arith) in let at = m.counted.at in
         let b = between xs before m.before m.it m.after 0 low m.split below in
         let b1 = b.1 in let end = laid_bound xs after high (length xs) above in
         (same (q + 16) (omega arith) (inl (omega arith)) (inl (omega arith)), same (q + 20) (omega arith) (inl (omega arith)) (inl (omega arith))))
-        (λ t. let none' = ltb-false 0 (belong c q before) t in let m = member c q after (omega arith) in let at = m.at in
+        (λ t. let none' = ltb-false 0 (belong c q before) t in let m = member c q after (omega arith) in let at = m.counted.at in
         let b = between xs after m.before m.it m.after high (length xs) m.split above in
         let b0 = b.0 in let b1 = b.1 in (
           same (q + 16) (omega arith) (inr (omega arith)) (inr (omega arith)),
           same (q + 20) (omega arith) (inr (omega arith)) (inr (omega arith)),
-        ))),
-    λ c p.
-        let count = w.3 c p in let a1 = belong-append c p before (os ++ after) in let a2 = belong-append c p os after in
+        )));
+    counted = λ c p.
+        let count = w.counted c p in let a1 = belong-append c p before (os ++ after) in let a2 = belong-append c p os after in
         let b1 = belong-append c p before (ps ++ after) in let b2 = belong-append c p ps after in
-        let gone = was c p in let come = is c p in omega arith,
-  )
+        let gone = was c p in let come = is c p in omega arith;
+  }
 
 -- ps in the place of e
 pub swapped : (r : RegionView) → IsLaid r → (before : List Element) (e : Element) (after : List Element) → elements_in r.bytes ≡ before ++ e ∷ after →
@@ -56,13 +56,12 @@ pub swapped : (r : RegionView) → IsLaid r → (before : List Element) (e : Ele
     ((c p : ℕ) → belong c p ps ≡ belong c p next)
     → Listed r.bytes heads (elements_in r.bytes) off → Listed ys heads (elements_in ys) next
 swapped r laid before e after split ys ps new same heads off next was is w =
-    subst (λ (es : List Element). Listed ys heads es next) (sym new)
-    (moved r.bytes ys before (e ∷ []) after ps e.offset (end_of e) (omega arith) (front r laid before e after split) (here r laid before e after split).2 same
-    heads off next was is
-    (subst (λ (es : List Element). Listed r.bytes heads es off) split w))
+    rw new (moved r.bytes ys before (e ∷ []) after ps e.offset (end_of e) (omega arith) (front r laid before e after split)
+    (here r laid before e after split).rest same heads off next was is
+    (rw split at w))
 
 pub busy_none : (e : Element) → is_free e ≡ false → (c p : ℕ) → belong c p (e ∷ []) ≡ belong c p []
-busy_none e busy c p = let no = belongs_off c p e (λ all. true≢false (sym all.0 ∙ busy)) in omega arith
+busy_none e busy c p = let no = belongs_off c p e (λ all. true≢false (sym all.free ∙ busy)) in omega arith
 
 -- e is split in two
 pub after_cut : (r : RegionView) → IsLaid r → (before : List Element) (e : Element) (after : List Element) → elements_in r.bytes ≡ before ++ e ∷ after →
@@ -85,18 +84,14 @@ pub after_join : (r : RegionView) → IsLaid r → (before : List Element) (x y 
     ((c p : ℕ) → belong c p (x ∷ y ∷ []) ≡ belong c p off) → Listed r.bytes heads (elements_in r.bytes) off
     → Listed ys heads (elements_in ys) (z ∷ [])
 after_join r laid before x y after split ys new z is same heads off was w =
-    let h = here r laid before x (y ∷ after) split in let at = first_offset r.bytes y (end_of x) h.2.0 in
-    let ends : end_of y ≡ end_of (both x y) = omega arith in let some = h.1 in
-    subst (λ (k : Element). Listed ys heads (elements_in ys) (k ∷ [])) (sym is)
-    (subst (λ (es : List Element). Listed ys heads es (both x y ∷ [])) (sym new)
-    (moved r.bytes ys before (x ∷ y ∷ []) after (both x y ∷ []) x.offset (end_of (both x y)) (omega arith) (front r laid before x (y ∷ after) split)
-    (subst (λ (k : ℕ). Laid r.bytes k (length r.bytes) after) ends h.2.2) (subst (λ (k : Element). Outside x.offset (end_of k) r.bytes ys) is same) heads off
-    (both x y ∷ []) was (λ c p. refl)
-    (subst (λ (es : List Element). Listed r.bytes heads es off) split w)))
+    let h = here r laid before x (y ∷ after) split in let at = first_offset r.bytes y (end_of x) h.rest.read in
+    let ends : end_of y ≡ end_of (both x y) = omega arith in let some = h.large in
+    rw is (rw new (moved r.bytes ys before (x ∷ y ∷ []) after (both x y ∷ []) x.offset (end_of (both x y)) (omega arith)
+    (front r laid before x (y ∷ after) split) (rw ends at h.rest.rest) (rw is at same) heads off (both x y ∷ []) was (λ c p. refl) (rw split at w)))
 
 -- x begins at another offset
 pub elsewhere : (e x : Element) → (e.offset ≡ x.offset → ⊥) → belong (class_of x.size) x.offset (e ∷ []) ≡ 0
-elsewhere e x differ = let no = belongs_off (class_of x.size) x.offset e (λ all. differ all.2) in omega arith
+elsewhere e x differ = let no = belongs_off (class_of x.size) x.offset e (λ all. differ all.at) in omega arith
 
 -- y lies right below e, and e alone is unlisted
 pub record Neighbour (r : RegionView) (before : List Element) (e : Element) (after : List Element) (y : Element) : Type 0 where
@@ -130,7 +125,7 @@ module _ (r : RegionView) (laid : IsLaid r) (before : List Element) (e : Element
 pub emptied_listed : (r : RegionView) → IsLaid r → (d : ℕ) (x : Element) (ys : List ℕ) → Emptied d x (elements_in r.bytes) (elements_in ys) →
     Outside x.offset (end_of x) r.bytes ys → (heads : List ℕ) → Listed r.bytes heads (elements_in r.bytes) []
     → Listed ys heads (elements_in ys) (x ∷ [])
-emptied_listed r laid d x ys (before, e, after, was, block, is, now) same heads w =
-    let busy : is_free e ≡ false = not-true (is_free e) (and_parts (not (is_free e)) (eqb (data_of e) d) block).0 in
-    swapped r laid before e after was ys (freed e ∷ []) now (subst (λ (z : Element). Outside z.offset (end_of z) r.bytes ys) is same) heads [] (x ∷ [])
-    (busy_none e busy) (λ c p. ap (λ (z : Element). belong c p (z ∷ [])) (sym is)) w
+emptied_listed r laid d x ys h same heads w =
+    let e = h.it in let busy : is_free e ≡ false = not-true (is_free e) (and_parts (not (is_free e)) (eqb (data_of e) d) h.block).0 in
+    swapped r laid h.before e h.after h.split ys (freed e ∷ []) h.now (rw h.is at same) heads []
+    (x ∷ []) (busy_none e busy) (λ c p. ap (λ (z : Element). belong c p (z ∷ [])) (sym h.is)) w

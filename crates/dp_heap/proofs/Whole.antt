@@ -24,9 +24,9 @@ module _ (xs : List ℕ) (some : 0 < length xs) where
       es ≡ record { offset = 0; size = length xs; state = Free; pad = 0 } ∷ []
   whole [] laid kept off none = absurd (let empty : 0 ≡ length xs = laid in omega arith)
   whole (e ∷ []) laid kept off none =
-      let free = (none_busy (is_free e) 0 none).0 in let offset = first_offset xs e 0 laid.0 in
-      let size : e.size ≡ length xs = (let end : e.offset + e.size ≡ length xs = laid.2 in omega arith) in
-      ap (λ (x : Element). x ∷ []) (is_open e free (kept.1.4 free) ∙ open_same e.offset e.size 0 (length xs) offset size)
+      let free = (none_busy (is_free e) 0 none).0 in let offset = first_offset xs e 0 laid.read in
+      let size : e.size ≡ length xs = (let end : e.offset + e.size ≡ length xs = laid.rest in omega arith) in
+      ap (λ (x : Element). x ∷ []) (is_open e free (kept.shape.no_pad free) ∙ open_same e.offset e.size 0 (length xs) offset size)
   whole (e ∷ x ∷ es) laid kept off none =
       let first = none_busy (is_free e) (count_of is_busy (x ∷ es)) none in let second = none_busy (is_free x) (count_of is_busy es) first.1 in
       absurd (not_two (is_free e) (is_free x) (apart (x ∷ es)) first.0 second.0 off)

@@ -5,8 +5,10 @@ use Rattle.dp_heap.specs.declared.elements.State.TheVariants.{Free, Busy}
 use Rattle.dp_heap.specs.Elements.{header_len, slack, is_busy, end_of, data_of, freed, joined}
 
 -- e is in the list
-abbrev pub IsIn : Element → List Element → Type 0
-IsIn e es = (before : List Element) × (after : List Element) × (es ≡ before ++ e ∷ after)
+pub record IsIn (e : Element) (es : List Element) : Type 0 where
+  pub before : List Element
+  pub after : List Element
+  pub split : es ≡ before ++ e ∷ after
 
 -- new is old with ps in the place of e, wherever e is
 abbrev pub Replaces : Element → List Element → List Element → List Element → Type 0
@@ -45,8 +47,12 @@ abbrev pub NoneAt : ℕ → List Element → Type 0
 NoneAt d [] = ⊤
 NoneAt d (e ∷ es) = (has_block d e ≡ false) × NoneAt d es
 
--- e had its block at d, and is free in new
-abbrev pub Emptied : ℕ → Element → List Element → List Element → Type 0
-Emptied d whole old new =
-    (before : List Element) × (e : Element) × (after : List Element) × (old ≡ before ++ e ∷ after) × (has_block d e ≡ true) × (whole ≡ freed e)
-    × (new ≡ before ++ freed e ∷ after)
+-- an element of old had its block at d, and is free in new
+pub record Emptied (d : ℕ) (whole : Element) (old new : List Element) : Type 0 where
+  pub before : List Element
+  pub it : Element
+  pub after : List Element
+  pub split : old ≡ before ++ it ∷ after
+  pub block : has_block d it ≡ true
+  pub is : whole ≡ freed it
+  pub now : new ≡ before ++ freed it ∷ after

@@ -25,7 +25,7 @@ with_link xs k p offset = if nat_lt p (length xs) then with_number xs (p + k) 4 
 -- ps are linked in both directions, starting at `head`, after `before`
 abbrev pub Linked : List ℕ → ℕ → ℕ → List ℕ → Type 0
 Linked xs before head [] = head ≡ none
-Linked xs before head (p ∷ ps) = (head ≡ p) × (number_at xs (p + 20) 4 ≡ before) × Linked xs p (number_at xs (p + 16) 4) ps
+Linked xs before head (p ∷ ps) = record { first : head ≡ p; back : number_at xs (p + 20) 4 ≡ before; rest : Linked xs p (number_at xs (p + 16) 4) ps }
 
 -- the number of times that p is in the list
 abbrev pub times : ℕ → List ℕ → ℕ
@@ -40,14 +40,16 @@ abbrev pub belong : ℕ → ℕ → List Element → ℕ
 belong c p = sum_of (belongs c p)
 
 -- the lists that begin at `heads` have each free element of es once, in the list of its size, except those of `off`
-abbrev pub Listed : List ℕ → List ℕ → List Element → List Element → Type 0
-Listed xs heads es off =
-    (lists : ℕ → List ℕ) × (length heads ≡ 5) × ((c : ℕ) → c < 5 → Linked xs none (slice_index heads c) (lists c))
-    × ((c p : ℕ) → times p (lists c) + belong c p off ≡ belong c p es)
+pub record Listed (xs heads : List ℕ) (es off : List Element) : Type 0 where
+  pub lists : ℕ → List ℕ
+  pub five : length heads ≡ 5
+  pub linked : (c : ℕ) → c < 5 → Linked xs none (slice_index heads c) (lists c)
+  pub counted : (c p : ℕ) → times p (lists c) + belong c p off ≡ belong c p es
 
 -- e is free, and in none of the lists that begin at `heads`
 pub record IsOff (r : RegionView) (heads : List ℕ) (e : Element) : Type 0 where
-  pub laid : IsLaid r × IsIn e (elements_in r.bytes)
+  pub laid : IsLaid r
+  pub inside : IsIn e (elements_in r.bytes)
   pub free : e.state ≡ Free
   pub listed : Listed r.bytes heads (elements_in r.bytes) (e ∷ [])
 

@@ -1,10 +1,10 @@
 -- A table whose entries are all empty.
-use Rattle.std.proofs.Common.{◌≡◌, ℕ, zero, suc, ◌*◌, ◌/◌, ◌≤◌, length, replicate, None, refl, sym, ◌∙◌, ap, arith}
+use Rattle.std.proofs.Common.{◌≡◌, ℕ, zero, suc, ◌*◌, ◌/◌, ◌≤◌, length, replicate, None, refl, arith}
 use Rattle.std.proofs.lemmas.List.{length-replicate}
 use Rattle.dp_lpm.specs.declared.cell.Cell.{Cell}
 use Rattle.dp_lpm.specs.declared.cell.TableEntry.TheVariants.{Empty}
 use Rattle.dp_lpm.specs.declared.table.Table.{Table}
-use Rattle.dp_lpm.specs.Cells.{at, entry_in, group_in}
+use Rattle.dp_lpm.specs.Cells.{at, entry_in}
 use Rattle.dp_lpm.specs.Tables.{group_at, IsEmptyTable}
 use Rattle.dp_lpm.proofs.Entries.{entry_plain}
 
@@ -18,24 +18,24 @@ pub emptied : (t : Table) (groups : ℕ) (c : Cell) → groups ≤ 256 → entry
     t.cells.items ≡ replicate (256 * groups) c → t.counts.items ≡ replicate groups 0 → IsEmptyTable groups t
 emptied t groups c few is firsts cells counts = record {
   table = record {
-    first = ap length firsts ∙ length-replicate 16777216 c;
-    cells = ap length cells ∙ (length-replicate (256 * groups) c ∙ omega (arith, len));
-    few = omega (arith, len, few);
-    named = λ i g named. let h = sym named ∙ plain i in cc;
-    used = λ i g named. let h = sym named ∙ plain i in cc;
-    apart = λ i j g named other. let h = sym named ∙ plain i in cc;
-    leaves = λ k. ap (λ xs. group_in (at xs k)) cells ∙ ap group_in (at-replicate (256 * groups) k c is);
+    first = rw firsts (length-replicate 16777216 c);
+    cells = rw (cells, len, length-replicate) (omega arith);
+    few = rw len few;
+    named = λ i g named. let none = plain i in cc;
+    used = λ i g named. let none = plain i in cc;
+    apart = λ i j g named other. let none = plain i in cc;
+    leaves = λ k. rw (cells, at-replicate (256 * groups) k c is);
   };
-  same = λ ip. entry_plain t ip (plain (ip / 256)) ∙ empty (ip / 256);
+  same = λ ip. rw (entry_plain t ip (plain (ip / 256))) (empty (ip / 256));
   plain = plain;
   counts = counts;
 }
   where
     len : length t.counts.items ≡ groups
-    len = ap length counts ∙ length-replicate {A = ℕ} groups 0
+    len = rw (counts, length-replicate)
 
     empty : (i : ℕ) → at t.first.items i ≡ Empty
-    empty i = ap (λ xs. at xs i) firsts ∙ at-replicate 16777216 i c is
+    empty i = rw firsts (at-replicate 16777216 i c is)
 
     plain : (i : ℕ) → group_at t i ≡ None
-    plain i = ap group_in (empty i)
+    plain i = rw (empty i)

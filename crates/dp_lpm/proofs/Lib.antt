@@ -8,7 +8,6 @@ pub mod Deepest
 pub mod Deleting
 pub mod Emptiness
 pub mod Entries
-pub mod Filling
 pub mod Grouping
 pub mod Groups
 pub mod Growing

@@ -1,5 +1,5 @@
 -- The order of rules after one is inserted, replaced or removed.
-use Rattle.std.proofs.Common.{◌≡◌, ℕ, zero, suc, ◌+◌, ◌<◌, List, [], ◌∷◌, ◌++◌, length, take, drop, subst, arith}
+use Rattle.std.proofs.Common.{◌≡◌, ℕ, zero, suc, ◌+◌, ◌<◌, List, [], ◌∷◌, ◌++◌, length, take, drop, arith}
 use Rattle.std.specs.Prelude.{slice_set}
 use Rattle.std.specs.List.{AllByRecursion}
 use Rattle.dp_model.specs.Prefixes.{Route}
@@ -37,11 +37,10 @@ ordered_put (x ∷ rules) (suc index) r ordered parts = (
 pub ordered_set : (rules : List Rule) (index : ℕ) (r : Rule) → IsOrdered rules → index < length rules → rank_of (rule_at rules index) ≡ rank_of r →
     IsOrdered (slice_set rules index r)
 ordered_set [] index r ordered there same = tt
-ordered_set (x ∷ rules) zero r ordered there same = (subst (λ n. AllByRecursion (λ q. n < rank_of q) rules) same ordered.0, ordered.1)
+ordered_set (x ∷ rules) zero r ordered there same = (rw (← same) ordered.0, ordered.1)
 ordered_set (x ∷ rules) (suc index) r ordered there same = (
-  all_set (λ q. rank_of x < rank_of q) rules index r ordered.0 (subst
-      (λ n. rank_of x < n) same (all_at (λ q. rank_of x < rank_of q) rules index ordered.0 (omega (arith, there)))),
-  ordered_set rules index r ordered.1 (omega (arith, there)) same,
+  all_set (λ q. rank_of x < rank_of q) rules index r ordered.0 (rw same at (all_at (λ q. rank_of x < rank_of q) rules index ordered.0 (omega arith))),
+  ordered_set rules index r ordered.1 (omega arith) same,
 )
 
 pub ordered_remove : (rules : List Rule) (index : ℕ) → IsOrdered rules → IsOrdered (take index rules ++ drop (suc index) rules)
@@ -58,9 +57,9 @@ length_put [] (suc index) r = omega arith
 length_put (x ∷ rules) (suc index) r = omega (arith, length_put rules index r)
 
 pub length_remove : (rules : List Rule) (index : ℕ) → index < length rules → length (take index rules ++ drop (suc index) rules) + 1 ≡ length rules
-length_remove [] index there = absurd (omega (arith, there))
+length_remove [] index there = absurd (omega arith)
 length_remove (x ∷ rules) zero there = omega arith
-length_remove (x ∷ rules) (suc index) there = omega (arith, length_remove rules index (omega (arith, there)))
+length_remove (x ∷ rules) (suc index) there = let rest = length_remove rules index (omega arith) in omega arith
 
 -- ---- rules and the routes that they stand for
 

@@ -4,7 +4,9 @@ use Rattle.std.specs.Prelude.{slice_index}
 use Rattle.std.specs.List.{AllByRecursion}
 use Rattle.dp_model.specs.Prefixes.{Route}
 use Rattle.dp_lpm.specs.declared.limits.TheConstants.{FIRST_BITS, GROUP_ENTRIES, MAX_DEPTH, MAX_RULES}
+use Rattle.dp_lpm.specs.declared.rule.Rule.{Rule}
 use Rattle.dp_lpm.specs.declared.ruled_table.RuledTable.{RuledTable}
+use Rattle.dp_lpm.specs.declared.table.Table.{Table}
 use Rattle.dp_lpm.specs.Routes.{RouteTable, deepest_within, is_deep_in, groups_needed, IsRoute, Puts, Drops, prefix_of}
 use Rattle.dp_lpm.specs.Rules.{routes_of, entry_of, IsOrdered}
 use Rattle.dp_lpm.specs.Tables.{IsTable, IsNoTable, group_at, entry_for}
@@ -33,21 +35,27 @@ routes_in s = routes_of s.rules.items
 abbrev pub shown : RuledTable → RouteTable
 shown s = record { routes = routes_in s; max_rules = s.max_rules; groups = length s.table.counts.items }
 
+-- rules in order, each with a route of a table, and room for all
+pub record HasRules (rules : List Rule) (max_rules capacity : ℕ) : Type 0 where
+  pub order : IsOrdered rules
+  pub each : AllByRecursion IsRoute (routes_of rules)
+  pub few : length rules ≤ max_rules
+  pub most : max_rules ≤ MAX_RULES
+  pub room : max_rules ≤ capacity
+
+-- first bits have a group exactly if a deep route begins with them
+pub record Grouped (t : Table) (counted : List Route) : Type 0 where
+  pub grouped : (i g : ℕ) → group_at t i ≡ Some g → slice_index t.counts.items g ≡ deep_count counted i
+  pub plain : (i : ℕ) → group_at t i ≡ None → deep_count counted i ≡ 0
+  pub needed : used_count t.counts.items ≡ groups_needed counted
+
 -- The entries follow from the first routes, and the groups from the second. Between calls both are the table's own
 pub record Keeps (answered counted : List Route) (s : RuledTable) : Type 0 where
-  pub order : IsOrdered s.rules.items
-  pub each : AllByRecursion IsRoute (routes_in s)
+  pub rules : HasRules s.rules.items s.max_rules (vec_capacity s.rules)
   pub table : IsTable s.table
   -- each address has the entry of its deepest route
   pub answers : (ip : ℕ) → entry_for s.table ip ≡ entry_of (deepest_within MAX_DEPTH answered ip)
-  -- first bits have a group exactly if a deep route begins with them
-  pub grouped : (i g : ℕ) → group_at s.table i ≡ Some g → slice_index s.table.counts.items g ≡ deep_count counted i
-  pub plain : (i : ℕ) → group_at s.table i ≡ None → deep_count counted i ≡ 0
-  pub needed : used_count s.table.counts.items ≡ groups_needed counted
-  -- there is room for all rules
-  pub few : length s.rules.items ≤ s.max_rules
-  pub most : s.max_rules ≤ MAX_RULES
-  pub room : s.max_rules ≤ vec_capacity s.rules
+  pub groups : Grouped s.table counted
 
 abbrev pub IsKept : RuledTable → Type 0
 IsKept s = Keeps (routes_in s) (routes_in s) s

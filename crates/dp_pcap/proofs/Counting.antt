@@ -1,5 +1,5 @@
 -- Counting whole records: the count after more bytes.
-use Rattle.std.proofs.Common.{◌≡◌, ◌≢◌, ℕ, zero, suc, ◌+◌, ◌^◌, ◌<◌, ◌≤◌, List, [], ◌++◌, length, take, refl, sym, ap, ◌∙◌, subst, inl, inr, arith}
+use Rattle.std.proofs.Common.{◌≡◌, ◌≢◌, ℕ, zero, suc, ◌+◌, ◌^◌, ◌<◌, ◌≤◌, List, [], ◌++◌, length, take, refl, sym, ◌∙◌, inl, inr, arith}
 use Rattle.std.proofs.Common.{length-append, length-take, append_assoc, append-nil, take_all, drop}
 use Rattle.std.proofs.lemmas.List.{take-append-drop, take-take, length-take-le, length-drop}
 use Rattle.std.proofs.lemmas.Slice.{take-put_mid}
@@ -17,7 +17,7 @@ use Rattle.std.proofs.Math.Seq.{take-add}
 pub version_big : (o : Order) (u : TimeUnit) (header : List ℕ) → number Big 2 (drop 4 header) ≡ 2 → IsHeader o u header → Big ≡ o
 unfolding number
 version_big Big u header two is = refl
-version_big Little u header two is = absurd (omega (arith, two, is.version.0))
+version_big Little u header two is = absurd (omega (arith, is.version.0))
 
 pub version_little : (o : Order) (u : TimeUnit) (header : List ℕ) → number Big 2 (drop 4 header) ≢ 2 → IsHeader o u header → Little ≡ o
 version_little Little u header other is = refl
@@ -26,23 +26,21 @@ version_little Big u header other is = absurd (other is.version.0)
 -- ---- inside the header, or after a record's head
 
 no_head : (o : Order) (n left : ℕ) (head part : List ℕ) → 0 < left → IsPart o n left head part → [] ≡ head
-no_head o zero left head part more (none, some, all) = sym none
-no_head o (suc n) left head part more (inl (none, few, same)) = absurd (omega (arith, none, more))
-no_head o (suc n) left head part more (inr (some, none, inside)) = sym none
+no_head o n left head part more is = grind arith
 
 one_more : (o : Order) (n left : ℕ) (head whole part before more : List ℕ) → ArePieces o n whole → IsPart o n left head part → before ≡ whole ++ part →
     length more ≡ left → 0 < left
     → ArePieces o (suc n) (before ++ more)
 one_more o zero left head whole part before more are (none, some, all) split size any =
-    omega (arith, ap length split, length-append whole part, ap length are, all, length-append before more, size)
-one_more o (suc n) left head whole part before more are (inl (none, few, same)) split size any = absurd (omega (arith, none, any))
+    rw (split, are, length-append, size) all
+one_more o (suc n) left head whole part before more are (inl (none, few, same)) split size any = absurd (omega arith)
 one_more o (suc n) left head whole part before more are (inr (some, none, (h, body, full, rest, inside))) split size any = (
   whole,
   h,
   body ++ more,
   are,
-  (full, omega (arith, rest, size, length-append body more)),
-  ap (λ l. l ++ more) split ∙ append_assoc whole part more ∙ ap (λ l. whole ++ l) (ap (λ l. l ++ more) inside ∙ append_assoc h body more),
+  (full, rw (length-append, size) rest),
+  rw (split, inside) (simp append_assoc),
 )
 
 -- all that is left
@@ -52,9 +50,9 @@ pub completed : (o : Order) (pieces left : ℕ) (head before more : List ℕ) �
 completed o pieces left head before more size any b = record {
   whole = before ++ more;
   part = [];
-  split = sym (append-nil (before ++ more));
+  split = rw append-nil;
   pieces = one_more o pieces left head b.whole b.part before more b.pieces b.is_part b.split size any;
-  is_part = inl (refl, omega (arith, ap length (no_head o pieces left head b.part any b.is_part)), no_head o pieces left head b.part any b.is_part);
+  is_part = let none = no_head o pieces left head b.part any b.is_part in inl (refl, rw (← none) (omega arith), none);
 }
 
 -- the same with the numbers of a call
@@ -63,29 +61,16 @@ pub completes : (o : Order) (pieces left pieces' left' n : ℕ) (head before byt
     → IsAfter (record { order = o; pieces = pieces; left = left; head = head }) before →
     IsAfter (record { order = o; pieces = pieces'; left = left'; head = head }) (before ++ take n bytes)
 completes o pieces left pieces' left' n head before bytes more none all within any b =
-    subst (λ m. IsAfter (record { order = o; pieces = m; left = left'; head = head }) (before ++ take n bytes)) (sym more)
-    (subst (λ m. IsAfter (record { order = o; pieces = suc pieces; left = m; head = head }) (before ++ take n bytes)) (sym none)
-    (completed o pieces left head before (take n bytes) (omega (arith, all, within, length-take n bytes)) any b))
+    rw (more, none) (completed o pieces left head before (take n bytes) (omega (arith, length-take n bytes)) any b)
 
 -- ---- inside a record's head
 
 part_begun : (o : Order) (n left : ℕ) (head part more : List ℕ) → length head + length more ≡ 16 → left ≡ captured o (head ++ more) → 0 < left →
     IsPart o n 0 head part → IsPart o n left [] (part ++ more)
-part_begun o zero left head part more full is_long any (none, some, all) = absurd (omega (arith, some))
+part_begun o zero left head part more full is_long any (none, some, all) = absurd (omega arith)
 part_begun o (suc n) left head part more full is_long any (inl (none, less, same)) =
-    inr (
-      any,
-      refl,
-      (
-        head ++ more,
-        [],
-        omega (arith, full, length-append head more),
-        omega (arith, is_long),
-        ap (λ l. l ++ more) same
-            ∙ sym (append-nil (head ++ more)),
-      ),
-    )
-part_begun o (suc n) left head part more full is_long any (inr (some, none, inside)) = absurd (omega (arith, some))
+    inr (any, refl, (head ++ more, [], rw length-append full, omega arith, rw (same, append-nil)))
+part_begun o (suc n) left head part more full is_long any (inr (some, none, inside)) = absurd (omega arith)
 
 -- all of it, and bytes are to follow
 pub head_whole : (o : Order) (pieces left : ℕ) (head before more : List ℕ) → length head + length more ≡ 16 → left ≡ captured o (head ++ more) → 0 < left
@@ -94,7 +79,7 @@ pub head_whole : (o : Order) (pieces left : ℕ) (head before more : List ℕ) �
 head_whole o pieces left head before more full is_long any b = record {
   whole = b.whole;
   part = b.part ++ more;
-  split = ap (λ l. l ++ more) b.split ∙ append_assoc b.whole b.part more;
+  split = rw b.split (append_assoc b.whole b.part more);
   pieces = b.pieces;
   is_part = part_begun o pieces left head b.part more full is_long any b.is_part;
 }
@@ -102,16 +87,16 @@ head_whole o pieces left head before more full is_long any b = record {
 one_empty : (o : Order) (n : ℕ) (head whole part before more : List ℕ) → ArePieces o n whole → IsPart o n 0 head part → before ≡ whole ++ part →
     length head + length more ≡ 16
     → 0 ≡ captured o (head ++ more) → ArePieces o (suc n) (before ++ more)
-one_empty o zero head whole part before more are (none, some, all) split full is_long = absurd (omega (arith, some))
+one_empty o zero head whole part before more are (none, some, all) split full is_long = absurd (omega arith)
 one_empty o (suc n) head whole part before more are (inl (none, less, same)) split full is_long = (
   whole,
   head ++ more,
   [],
   are,
-  (omega (arith, full, length-append head more), is_long),
-  ap (λ l. l ++ more) split ∙ append_assoc whole part more ∙ ap (λ l. whole ++ l) (ap (λ l. l ++ more) same ∙ sym (append-nil (head ++ more))),
+  (rw length-append full, is_long),
+  rw (split, same) (simp (append_assoc, append-nil)),
 )
-one_empty o (suc n) head whole part before more are (inr (some, none, inside)) split full is_long = absurd (omega (arith, some))
+one_empty o (suc n) head whole part before more are (inr (some, none, inside)) split full is_long = absurd (omega arith)
 
 -- all of it, of a record without bytes
 pub head_alone : (o : Order) (pieces : ℕ) (head before more : List ℕ) → length head + length more ≡ 16 → 0 ≡ captured o (head ++ more)
@@ -120,7 +105,7 @@ pub head_alone : (o : Order) (pieces : ℕ) (head before more : List ℕ) → le
 head_alone o pieces head before more full is_long b = record {
   whole = before ++ more;
   part = [];
-  split = sym (append-nil (before ++ more));
+  split = rw append-nil;
   pieces = one_empty o pieces head b.whole b.part before more b.pieces b.is_part b.split full is_long;
   is_part = inl (refl, omega arith, refl);
 }
@@ -129,16 +114,16 @@ head_alone o pieces head before more full is_long b = record {
 
 one_record : (o : Order) (n : ℕ) (whole part before more : List ℕ) → ArePieces o n whole → IsPart o n 0 [] part → before ≡ whole ++ part → 16 ≤ length more
     → length (drop 16 more) ≡ captured o (take 16 more) → ArePieces o (suc n) (before ++ more)
-one_record o zero whole part before more are (none, some, all) split full is_long = absurd (omega (arith, some))
+one_record o zero whole part before more are (none, some, all) split full is_long = absurd (omega arith)
 one_record o (suc n) whole part before more are (inl (none, less, same)) split full is_long = (
   whole,
   take 16 more,
   drop 16 more,
   are,
   (length-take-le 16 more full, is_long),
-  ap (λ l. l ++ more) (split ∙ (ap (λ l. whole ++ l) same ∙ append-nil whole)) ∙ ap (λ l. whole ++ l) (sym (take-append-drop 16 more)),
+  rw (split, same, append-nil, take-append-drop),
 )
-one_record o (suc n) whole part before more are (inr (some, none, inside)) split full is_long = absurd (omega (arith, some))
+one_record o (suc n) whole part before more are (inr (some, none, inside)) split full is_long = absurd (omega arith)
 
 -- its head and all of its bytes
 pub record_whole : (o : Order) (pieces : ℕ) (before more : List ℕ) → 16 ≤ length more → length (drop 16 more) ≡ captured o (take 16 more)
@@ -147,7 +132,7 @@ pub record_whole : (o : Order) (pieces : ℕ) (before more : List ℕ) → 16 �
 record_whole o pieces before more full is_long b = record {
   whole = before ++ more;
   part = [];
-  split = sym (append-nil (before ++ more));
+  split = rw append-nil;
   pieces = one_record o pieces b.whole b.part before more b.pieces b.is_part b.split full is_long;
   is_part = inl (refl, omega arith, refl);
 }
@@ -158,24 +143,17 @@ pub record_passed : (o : Order) (pieces none came pieces' size : ℕ) (xs before
     → size ≡ 16 + captured o (take 16 bytes) → IsAfter (record { order = o; pieces = pieces; left = none; head = take came xs }) before
     → IsAfter (record { order = o; pieces = pieces'; left = none; head = take came xs }) (before ++ take size bytes)
 record_passed o pieces none came pieces' size xs before bytes was begins more within is_long b =
-    let front : take 16 (take size bytes) ≡ take 16 bytes = take-take 16 size bytes (omega (arith, is_long)) in
+    let front : take 16 (take size bytes) ≡ take 16 bytes = take-take 16 size bytes (omega arith) in
     let long : length (take size bytes) ≡ size = length-take-le size bytes within in
-    subst (λ n. IsAfter (record { order = o; pieces = pieces'; left = n; head = take came xs }) (before ++ take size bytes)) (sym was)
-    (subst (λ n. IsAfter (record { order = o; pieces = pieces'; left = 0; head = take n xs }) (before ++ take size bytes)) (sym begins)
-    (subst (λ n. IsAfter (record { order = o; pieces = n; left = 0; head = [] }) (before ++ take size bytes)) (sym more)
-    (record_whole o pieces before (take size bytes) (omega (arith, long, is_long))
-    (omega (arith, length-drop 16 (take size bytes), long, is_long, ap (captured o) front))
-    (subst (λ n. IsAfter (record { order = o; pieces = pieces; left = 0; head = take n xs }) before) begins
-    (subst (λ n. IsAfter (record { order = o; pieces = pieces; left = n; head = take came xs }) before) was b)))))
+    rw (was, begins, more) (record_whole o pieces before (take size bytes) (omega (arith, long))
+    (rw (length-drop, long, front) (omega arith)) (rw (was, begins) at b))
 
 -- one more of the whole records at the front of these bytes
 pub front_passed : (o : Order) (n at size : ℕ) (before bytes rest : List ℕ) → rest ≡ drop at bytes → at ≤ length bytes → size ≤ length rest →
     size ≡ 16 + captured o (take 16 rest) → IsAfter (none_left o n) (before ++ take at bytes)
     → IsAfter (none_left o (n + 1)) (before ++ take (at + size) bytes)
 front_passed o n at size before bytes rest is there within is_long b =
-    subst (λ l. IsAfter (none_left o (n + 1)) l)
-    (append_assoc before (take at bytes) (take size rest) ∙ ap (λ l. before ++ l)
-    (ap (λ r. take at bytes ++ take size r) is ∙ sym (take-add at size bytes)))
+    rw (take-add at size bytes, ← is, ← append_assoc)
     (record_passed o n 0 0 (n + 1) size [] (before ++ take at bytes) rest refl refl (omega arith) within is_long b)
 
 -- n of them, with the numbers of a call
@@ -184,21 +162,15 @@ pub fronts_passed : (o : Order) (pieces none came count pieces' size : ℕ) (xs 
     → IsAfter (record { order = o; pieces = pieces; left = none; head = take came xs }) before
     → IsAfter (record { order = o; pieces = pieces'; left = none; head = take came xs }) (before ++ take size bytes)
 fronts_passed o pieces none came count pieces' size xs before bytes was begins more all b =
-    subst (λ n. IsAfter (record { order = o; pieces = pieces'; left = n; head = take came xs }) (before ++ take size bytes)) (sym was)
-    (subst (λ n. IsAfter (record { order = o; pieces = pieces'; left = 0; head = take n xs }) (before ++ take size bytes)) (sym begins)
-    (subst (λ n. IsAfter (none_left o n) (before ++ take size bytes)) (sym more)
-    (all pieces before
-    (subst (λ n. IsAfter (record { order = o; pieces = pieces; left = 0; head = take n xs }) before) begins
-    (subst (λ n. IsAfter (record { order = o; pieces = pieces; left = n; head = take came xs }) before) was b)))))
+    rw (was, begins, more) (all pieces before (rw (was, begins) at b))
 
 -- the bytes of a head that is now whole, of which those after the first `came` were written
 head_written : (came k n : ℕ) (xs ys bytes : List ℕ) → came + n ≡ 16 → n ≤ length bytes → came ≤ length xs → length (put_mid came k xs ys) ≡ 16 →
     ys ≡ take n bytes
     → put_mid came k xs ys ≡ take came xs ++ take n bytes
 head_written came k n xs ys bytes full within there long same =
-    sym (take_all 16 (put_mid came k xs ys) (omega (arith, long)))
-    ∙ take-put_mid came k xs ys 16 (omega (arith, full, within, ap length same, length-take n bytes)) there
-    ∙ ap (λ l. take came xs ++ l) same
+    sym (take_all 16 (put_mid came k xs ys) (omega arith))
+    ∙ rw (take-put_mid came k xs ys 16 (rw (same, length-take) (omega arith)) there, same)
 
 -- the bytes `ys` were written after the first `came` of `xs`, and now that is a whole head of a record with this many bytes
 pub record IsHead (o : Order) (came k n left : ℕ) (xs ys bytes : List ℕ) : Type 0 where
@@ -214,30 +186,23 @@ head_size : (o : Order) (came k n left : ℕ) (xs ys bytes : List ℕ) → IsHea
 head_size o came k n left xs ys bytes h = omega (arith, h.full, h.within, h.there, length-take came xs, length-take n bytes)
 
 captured_size : (o : Order) (came k n left : ℕ) (xs ys bytes : List ℕ) → IsHead o came k n left xs ys bytes → left ≡ captured o (take came xs ++ take n bytes)
-captured_size o came k n left xs ys bytes h = h.is_long ∙ ap (captured o) (head_written came k n xs ys bytes h.full h.within h.there h.long h.written)
+captured_size o came k n left xs ys bytes h = rw (← head_written came k n xs ys bytes h.full h.within h.there h.long h.written) h.is_long
 
--- with the numbers of a call: of a record without bytes
-pub head_ends : (o : Order) (pieces none came k n pieces' left : ℕ) (head' xs ys bytes before : List ℕ) → none ≡ 0 → pieces' ≡ suc pieces → left ≡ 0 →
-    head' ≡ [] → IsHead o came k n left xs ys bytes
-    → IsAfter (record { order = o; pieces = pieces; left = none; head = take came xs }) before →
-    IsAfter (record { order = o; pieces = pieces'; left = left; head = head' }) (before ++ take n bytes)
-head_ends o pieces none came k n pieces' left head' xs ys bytes before was more zero_left empty h b =
-    subst (λ m. IsAfter (record { order = o; pieces = m; left = left; head = head' }) (before ++ take n bytes)) (sym more)
-    (subst (λ m. IsAfter (record { order = o; pieces = suc pieces; left = m; head = head' }) (before ++ take n bytes)) (sym zero_left)
-    (subst (λ l. IsAfter (record { order = o; pieces = suc pieces; left = 0; head = l }) (before ++ take n bytes)) (sym empty)
-    (head_alone o pieces (take came xs) before (take n bytes) (head_size o came k n left xs ys bytes h)
-    (sym zero_left ∙ captured_size o came k n left xs ys bytes h)
-    (subst (λ m. IsAfter (record { order = o; pieces = pieces; left = m; head = take came xs }) before) was b))))
+-- with the numbers of a call
+module _ {o : Order} {pieces none came k n left : ℕ} {head' xs ys bytes : List ℕ} (before : List ℕ) (was : none ≡ 0) (empty : head' ≡ [])
+    (h : IsHead o came k n left xs ys bytes) (b : IsAfter (record { order = o; pieces = pieces; left = none; head = take came xs }) before) where
+  -- of a record without bytes
+  pub head_ends : {pieces' : ℕ} → pieces' ≡ suc pieces → left ≡ 0 →
+      IsAfter (record { order = o; pieces = pieces'; left = left; head = head' }) (before ++ take n bytes)
+  head_ends more zero_left =
+      rw (more, zero_left, empty) (head_alone o pieces (take came xs) before (take n bytes) (head_size o came k n left xs ys bytes h)
+      (sym zero_left ∙ captured_size o came k n left xs ys bytes h) (rw was at b))
 
--- and of one with bytes
-pub head_goes_on : (o : Order) (pieces none came k n left : ℕ) (head' xs ys bytes before : List ℕ) → none ≡ 0 → 0 < left → head' ≡ []
-    → IsHead o came k n left xs ys bytes
-    → IsAfter (record { order = o; pieces = pieces; left = none; head = take came xs }) before →
-    IsAfter (record { order = o; pieces = pieces; left = left; head = head' }) (before ++ take n bytes)
-head_goes_on o pieces none came k n left head' xs ys bytes before was any empty h b =
-    subst (λ l. IsAfter (record { order = o; pieces = pieces; left = left; head = l }) (before ++ take n bytes)) (sym empty)
-    (head_whole o pieces left (take came xs) before (take n bytes) (head_size o came k n left xs ys bytes h) (captured_size o came k n left xs ys bytes h) any
-    (subst (λ m. IsAfter (record { order = o; pieces = pieces; left = m; head = take came xs }) before) was b))
+  -- and of one with bytes
+  pub head_goes_on : 0 < left → IsAfter (record { order = o; pieces = pieces; left = left; head = head' }) (before ++ take n bytes)
+  head_goes_on any =
+      rw empty (head_whole o pieces left (take came xs) before (take n bytes) (head_size o came k n left xs ys bytes h)
+      (captured_size o came k n left xs ys bytes h) any (rw was at b))
 
 -- ---- piece by piece
 

@@ -1,26 +1,26 @@
 -- What a writer is offered of a piece, call by call.
-use Rattle.std.proofs.Common.{◌≡◌, ℕ, ◌+◌, ◌<◌, ◌≤◌, List, [], ◌∷◌, ◌++◌, length, drop, refl, sym, ap, subst, ◌∙◌, arith, append_assoc, length-drop}
+use Rattle.std.proofs.Common.{◌≡◌, ℕ, ◌+◌, ◌<◌, ◌≤◌, List, [], ◌∷◌, ◌++◌, length, drop, refl, arith, append_assoc, length-drop}
 use Rattle.std.proofs.lemmas.List.{drop-drop}
 use Rattle.dp_pcap.specs.Offering.{AreRests, OffersWhole, OffersPart}
 
 -- one rest more
 rests_more : (piece : List ℕ) (from : ℕ) (os : List (List ℕ)) (taken next : ℕ) → AreRests piece from os taken → taken < next →
     AreRests piece from (os ++ drop taken piece ∷ []) next
-rests_more piece from [] taken next is less = (ap (λ n. drop n piece) (sym is), (next, omega (arith, is, less), refl))
+rests_more piece from [] taken next is less = (rw is, (next, omega arith, refl))
 rests_more piece from (o ∷ os) taken next (is, (n, low, more)) less = (is, (n, low, rests_more piece n os taken next more less))
 
 -- the rests of a rest are those of the piece
 rests_after : (piece : List ℕ) (k from end : ℕ) (os : List (List ℕ)) → AreRests (drop k piece) from os end → AreRests piece (k + from) os (k + end)
-rests_after piece k from end [] is = ap (λ n. k + n) is
-rests_after piece k from end (o ∷ os) (is, (n, low, more)) = (is ∙ drop-drop from k piece, (k + n, omega (arith, low), rests_after piece k n end os more))
+rests_after piece k from end [] is = rw is
+rests_after piece k from end (o ∷ os) (is, (n, low, more)) = (rw is (drop-drop from k piece), (k + n, omega arith, rests_after piece k n end os more))
 
 pub more_offered : (old mid new : List (List ℕ)) (piece rest : List ℕ) (at n : ℕ) → (os : List (List ℕ)) × (mid ≡ old ++ os) × AreRests piece 0 os at →
     new ≡ mid ++ rest ∷ [] → rest ≡ drop at piece → 0 < n
     → (os : List (List ℕ)) × (new ≡ old ++ os) × AreRests piece 0 os (at + n)
 more_offered old mid new piece rest at n (os, is, rests) one same some = (
   os ++ drop at piece ∷ [],
-  one ∙ (ap (λ r. mid ++ r ∷ []) same ∙ (ap (λ l. l ++ drop at piece ∷ []) is ∙ append_assoc old os (drop at piece ∷ []))),
-  rests_more piece 0 os at (at + n) rests (omega (arith, some)),
+  rw (one, same, is) (append_assoc old os (drop at piece ∷ [])),
+  rests_more piece 0 os at (at + n) rests (omega arith),
 )
 
 -- a piece was offered, of which some bytes were taken, and then the rest
@@ -29,24 +29,23 @@ module _ (old mid new : List (List ℕ)) (piece rest : List ℕ) (n : ℕ) (firs
   beyond : (os : List (List ℕ)) (end : ℕ) → AreRests rest 0 os end → AreRests piece 0 (piece ∷ os) (n + end)
   beyond os end rests =
       let none : n + 0 ≡ n = omega arith in
-      (refl, (n, some, subst (λ k. AreRests piece k os (n + end)) none (rests_after piece n 0 end os (subst (λ r. AreRests r 0 os end) same rests))))
+      (refl, (n, some, rw none at (rests_after piece n 0 end os (rw same at rests))))
 
   long : n + length rest ≡ length piece
-  long = let count = ap length same in omega (arith, count, length-drop n piece, within)
+  long = rw (same, length-drop) (omega arith)
 
   pub then_whole : OffersWhole mid new rest → OffersWhole old new piece
   then_whole (os, is, rests) = (
     piece ∷ os,
-    is ∙ (ap (λ l. l ++ os) first ∙ append_assoc old (piece ∷ []) os),
-    subst (AreRests piece 0 (piece ∷ os)) long (beyond os (length rest) rests),
+    rw (is, first) (append_assoc old (piece ∷ []) os),
+    rw long at (beyond os (length rest) rests),
   )
 
   pub then_part : OffersPart mid new rest → OffersPart old new piece
   then_part (os, taken, is, less, rests) = (
     piece ∷ os,
     n + taken,
-    is ∙ (ap (λ l. l ++ (os ++ drop taken rest ∷ [])) first ∙ (append_assoc old (piece ∷ []) (os ++ drop taken rest ∷ [])
-        ∙ ap (λ r. old ++ (piece ∷ (os ++ r ∷ []))) (ap (drop taken) same ∙ drop-drop taken n piece))),
-    omega (arith, less, long),
+    rw (is, first, same, drop-drop taken n piece) (append_assoc old (piece ∷ []) (os ++ drop (n + taken) piece ∷ [])),
+    omega (arith, long),
     beyond os taken rests,
   )

@@ -22,7 +22,7 @@ impl GhostCount {
         Self {}
     }
 
-    /// The count after one more call.
+    /// The count after one more event.
     pub fn one_more(&self) -> GhostCount
         ensures { result.count ≡ self.now.count + 1 }
     {

@@ -92,8 +92,8 @@ all_kept (i ∷ is) p = all_kept is (put_back p i)
 pub back_keeps : (is : List ℕ) (old new : PoolView) → new ≡ all_back old is → (new.zones ≡ old.zones) × (new.objects ≡ old.objects) × (new.size ≡ old.size)
     × (new.cache ≡ old.cache)
 back_keeps is old new e =
-    let kept = all_kept is old in
-    (ap (λ v. v.zones) e ∙ kept.0, ap (λ v. v.objects) e ∙ kept.1, ap (λ v. v.size) e ∙ kept.2, ap (λ v. v.cache) e ∙ kept.3)
+    let (zones, objects, size, cache) = all_kept is old in
+    (ap (λ v. v.zones) e ∙ zones, ap (λ v. v.objects) e ∙ objects, ap (λ v. v.size) e ∙ size, ap (λ v. v.cache) e ∙ cache)
 
 -- ---- the pool over its indexes
 
@@ -108,13 +108,18 @@ returned_back objects size count [] v = refl
 returned_back objects size count (i ∷ is) v = returned_back objects size count is (returned v i)
 
 -- what their indexes keep
-pub handed_keeps : (is : List ℕ) (old new : IndexView) → AreHanded old is new → (length new.out ≡ length old.out) × (new.cache ≡ old.cache)
-    × (new.home ≡ old.home)
-handed_keeps [] old new same = (ap (λ v. length v.out) same, ap (λ v. v.cache) same, ap (λ v. v.home) same)
-handed_keeps (i ∷ is) old new more =
-    let rest = handed_keeps is (handed old i) new more.1 in (rest.0 ∙ length-set old.out i true, rest.1, rest.2)
+pub record Keeps (old new : IndexView) : Type 0 where
+  pub count : length new.out ≡ length old.out
+  pub cache : new.cache ≡ old.cache
+  pub home : new.home ≡ old.home
 
-pub returned_keeps : (is : List ℕ) (v : IndexView) → (length (all_returned v is).out ≡ length v.out) × ((all_returned v is).cache ≡ v.cache)
-    × ((all_returned v is).home ≡ v.home)
-returned_keeps [] v = (refl, refl, refl)
-returned_keeps (i ∷ is) v = let rest = returned_keeps is (returned v i) in (rest.0 ∙ length-set v.out i false, rest.1, rest.2)
+pub handed_keeps : (is : List ℕ) (old new : IndexView) → AreHanded old is new → Keeps old new
+handed_keeps [] old new same = record { count = ap (λ v. length v.out) same; cache = ap (λ v. v.cache) same; home = ap (λ v. v.home) same }
+handed_keeps (i ∷ is) old new more =
+    let rest = handed_keeps is (handed old i) new more.1 in
+    record { count = rest.count ∙ length-set old.out i true; cache = rest.cache; home = rest.home }
+
+pub returned_keeps : (is : List ℕ) (v : IndexView) → Keeps v (all_returned v is)
+returned_keeps [] v = record { count = refl; cache = refl; home = refl }
+returned_keeps (i ∷ is) v =
+    let rest = returned_keeps is (returned v i) in record { count = rest.count ∙ length-set v.out i false; cache = rest.cache; home = rest.home }

@@ -21,22 +21,26 @@ covers-in r k p q = and_from (leb r.0 k) (ltb k (r.0 + r.1)) (le-leb r.0 k p) (l
 pub listed-with : (q r : Span) (ls : List Span) → listed q (with_span r ls) ≡ (is_span q r || listed q ls)
 listed-with q r [] = refl
 listed-with q r (s ∷ ss) = by_test (ltb r.0 s.0)
-    (λ e. ap (λ (t : Bool). listed q (cond t (r ∷ s ∷ ss) (s ∷ with_span r ss))) e)
-    (λ e. ap (λ (t : Bool). listed q (cond t (r ∷ s ∷ ss) (s ∷ with_span r ss))) e ∙ ap (λ (t : Bool). is_span q s || t) (listed-with q r ss)
-    ∙ or_swap (is_span q s) (is_span q r) (listed q ss))
+    (λ e. rw e)
+    (λ e. rw (e, listed-with q r ss) (or_swap (is_span q s) (is_span q r) (listed q ss)))
 
 pub is_lent-with : (r : Span) (ls : List Span) (k : ℕ) → is_lent (with_span r ls) k ≡ (covers r k || is_lent ls k)
 is_lent-with r [] k = refl
 is_lent-with r (s ∷ ss) k = by_test (ltb r.0 s.0)
-    (λ e. ap (λ (t : Bool). is_lent (cond t (r ∷ s ∷ ss) (s ∷ with_span r ss)) k) e)
-    (λ e. ap (λ (t : Bool). is_lent (cond t (r ∷ s ∷ ss) (s ∷ with_span r ss)) k) e ∙ ap (λ (t : Bool). covers s k || t) (is_lent-with r ss k)
-    ∙ or_swap (covers s k) (covers r k) (is_lent ss k))
+    (λ e. rw e)
+    (λ e. rw (e, is_lent-with r ss k) (or_swap (covers s k) (covers r k) (is_lent ss k)))
 
-pub spaced_out : (low high : ℕ) (r : Span) (rs : List Span) → Spaced low high (r ∷ rs) → (low ≤ r.0) × (0 < r.1) × Spaced (r.0 + r.1) high rs
+-- the first of spaced spans, and the others
+pub record First (low high : ℕ) (r : Span) (rs : List Span) : Type 0 where
+  pub above : low ≤ r.0
+  pub some : 0 < r.1
+  pub rest : Spaced (r.0 + r.1) high rs
+
+pub spaced_out : (low high : ℕ) (r : Span) (rs : List Span) → Spaced low high (r ∷ rs) → First low high r rs
 spaced_out low high r rs t =
     let first = and_parts (leb low r.0) (ltb 0 r.1 && spaced (r.0 + r.1) high rs) t in
     let rest = and_parts (ltb 0 r.1) (spaced (r.0 + r.1) high rs) first.1 in
-    (leb-true low r.0 first.0, ltb-true 0 r.1 rest.0, rest.1)
+    record { above = leb-true low r.0 first.0; some = ltb-true 0 r.1 rest.0; rest = rest.1 }
 
 pub spaced_in : (low high : ℕ) (r : Span) (rs : List Span) → low ≤ r.0 → 0 < r.1 → Spaced (r.0 + r.1) high rs → Spaced low high (r ∷ rs)
 spaced_in low high r rs above some rest =
@@ -46,37 +50,42 @@ spaced_in low high r rs above some rest =
 pub spaced_lower : (ls : List Span) (low low' high : ℕ) → low' ≤ low → Spaced low high ls → Spaced low' high ls
 spaced_lower [] low low' high below t = let l = leb-true low high t in le-leb low' high (omega arith)
 spaced_lower (r ∷ rs) low low' high below t = let parts = spaced_out low high r rs t in
-    let above = parts.0 in spaced_in low' high r rs (omega arith) parts.1 parts.2
+    let above = parts.above in spaced_in low' high r rs (omega arith) parts.some parts.rest
 
 pub spaced_bound : (ls : List Span) (low high : ℕ) → Spaced low high ls → low ≤ high
 spaced_bound [] low high t = leb-true low high t
-spaced_bound (r ∷ rs) low high t = let parts = spaced_out low high r rs t in let above = parts.0 in
-    let rest = spaced_bound rs (r.0 + r.1) high parts.2 in omega arith
+spaced_bound (r ∷ rs) low high t = let parts = spaced_out low high r rs t in let above = parts.above in
+    let rest = spaced_bound rs (r.0 + r.1) high parts.rest in omega arith
 
 -- nothing below low is lent
 pub unlent_below : (ls : List Span) (low high k : ℕ) → Spaced low high ls → k < low → is_lent ls k ≡ false
 unlent_below [] low high k t h = refl
 unlent_below (r ∷ rs) low high k t h =
-    let parts = spaced_out low high r rs t in let above = parts.0 in
-    or_from (covers r k) (is_lent rs k) (covers-below r k (omega arith)) (unlent_below rs (r.0 + r.1) high k parts.2 (omega arith))
+    let parts = spaced_out low high r rs t in let above = parts.above in
+    or_from (covers r k) (is_lent rs k) (covers-below r k (omega arith)) (unlent_below rs (r.0 + r.1) high k parts.rest (omega arith))
 
 -- the bounds of a span of the list
-pub listed_bounds : (q : Span) (ls : List Span) (low high : ℕ) → Spaced low high ls → listed q ls ≡ true → (low ≤ q.0) × (0 < q.1) × (q.0 + q.1 ≤ high)
+pub record Bounds (from to : ℕ) (q : Span) : Type 0 where
+  pub low : from ≤ q.0
+  pub some : 0 < q.1
+  pub high : q.0 + q.1 ≤ to
+
+pub listed_bounds : (q : Span) (ls : List Span) (low high : ℕ) → Spaced low high ls → listed q ls ≡ true → Bounds low high q
 listed_bounds q [] low high t e = absurd (true≢false (sym e))
 listed_bounds q (r ∷ rs) low high t e =
-    let parts = spaced_out low high r rs t in let above = parts.0 in
+    let parts = spaced_out low high r rs t in let above = parts.above in
     by_test (is_span q r)
-    (λ same. let bound = spaced_bound rs (r.0 + r.1) high parts.2 in
-    subst (λ (s : Span). (low ≤ s.0) × (0 < s.1) × (s.0 + s.1 ≤ high)) (sym (is_span-true q r same)) (above, parts.1, bound))
-    (λ other. let rest = listed_bounds q rs (r.0 + r.1) high parts.2 (sym (ap (λ (t : Bool). t || listed q rs) other) ∙ e) in
-    let first = rest.0 in (omega arith, rest.1, rest.2))
+    (λ same. let bound = spaced_bound rs (r.0 + r.1) high parts.rest in
+    rw (is_span-true q r same) (record { low = above; some = parts.some; high = bound }))
+    (λ other. let rest = listed_bounds q rs (r.0 + r.1) high parts.rest (rw other at e) in
+    let first = rest.low in record { low = omega arith; some = rest.some; high = rest.high })
 
 -- its bytes are lent
 pub listed_lent : (q : Span) (ls : List Span) (k : ℕ) → listed q ls ≡ true → q.0 ≤ k → k < q.0 + q.1 → is_lent ls k ≡ true
 listed_lent q [] k e l h = absurd (true≢false (sym e))
 listed_lent q (r ∷ rs) k e l h = by_test (is_span q r)
     (λ same. or_left (covers r k) (is_lent rs k) (subst (λ (s : Span). covers s k ≡ true) (is_span-true q r same) (covers-in q k l h)))
-    (λ other. or_right (covers r k) (is_lent rs k) (listed_lent q rs k (sym (ap (λ (t : Bool). t || listed q rs) other) ∙ e) l h))
+    (λ other. or_right (covers r k) (is_lent rs k) (listed_lent q rs k (rw other at e) l h))
 
 pub unlent_unlisted : (ls : List Span) (p n : ℕ) → 0 < n → IsUnlent ls p n → listed (p, n) ls ≡ false
 unlent_unlisted ls p n some free = false_from_ne_true (listed (p, n) ls)
@@ -86,28 +95,30 @@ pub spaced_with : (ls : List Span) (low high p n : ℕ) → Spaced low high ls �
     Spaced low high (with_span (p, n) ls)
 spaced_with [] low high p n t above some fits free = spaced_in low high (p, n) [] above some (le-leb (p + n) high fits)
 spaced_with (s ∷ ss) low high p n t above some fits free =
-    let parts = spaced_out low high s ss t in let first = parts.0 in let more = parts.1 in
+    let parts = spaced_out low high s ss t in let first = parts.above in let more = parts.some in
     let off = λ (k : ℕ) (a : p ≤ k) (b : k < p + n). or_parts (covers s k) (is_lent ss k) (free k a b) in
     by_test (ltb p s.0)
     (λ e. let before = ltb-true p s.0 e in
     let apart : p + n ≤ s.0 = ⊎_elim (λ (h : s.0 < p + n). absurd (both_ways (covers s s.0) (off s.0 (omega arith) h).0
     (covers-in s s.0 (omega arith) (omega arith)))) (λ h. h) (cases_lt s.0 (p + n)) in
-    subst (Spaced low high) (sym (ap (λ (t : Bool). cond t ((p, n) ∷ s ∷ ss) (s ∷ with_span (p, n) ss)) e))
-    (spaced_in low high (p, n) (s ∷ ss) above some (spaced_in (p + n) high s ss apart parts.1 parts.2)))
+    rw e
+    (spaced_in low high (p, n) (s ∷ ss) above some (spaced_in (p + n) high s ss apart parts.some parts.rest)))
     (λ e. let after = ltb-false p s.0 e in
     let apart : s.0 + s.1 ≤ p = ⊎_elim (λ (h : p < s.0 + s.1). absurd (both_ways (covers s p) (off p (omega arith) (omega arith)).0 (covers-in s p after h)))
     (λ h. h) (cases_lt p (s.0 + s.1)) in
-    subst (Spaced low high) (sym (ap (λ (t : Bool). cond t ((p, n) ∷ s ∷ ss) (s ∷ with_span (p, n) ss)) e))
-    (spaced_in low high s (with_span (p, n) ss) parts.0 parts.1 (spaced_with ss (s.0 + s.1) high p n parts.2 apart some fits (λ k a b. (off k a b).1))))
+    rw e
+    (spaced_in low high s (with_span (p, n) ss) parts.above parts.some
+    (spaced_with ss (s.0 + s.1) high p n parts.rest apart some fits (λ k a b. (off k a b).1))))
 
 module _ (r : Span) where
   pub spaced_without : (ls : List Span) (low high : ℕ) → Spaced low high ls → Spaced low high (without_span r ls)
   spaced_without [] low high t = t
   spaced_without (s ∷ ss) low high t =
-      let parts = spaced_out low high s ss t in let above = parts.0 in let some = parts.1 in by_test (is_span r s)
-      (λ e. subst (Spaced low high) (sym (ap (λ (t : Bool). cond t ss (s ∷ without_span r ss)) e)) (spaced_lower ss (s.0 + s.1) low high (omega arith) parts.2))
-      (λ e. subst (Spaced low high) (sym (ap (λ (t : Bool). cond t ss (s ∷ without_span r ss)) e))
-      (spaced_in low high s (without_span r ss) parts.0 parts.1 (spaced_without ss (s.0 + s.1) high parts.2)))
+      let parts = spaced_out low high s ss t in let above = parts.above in let some = parts.some in by_test (is_span r s)
+      (λ e. rw e
+      (spaced_lower ss (s.0 + s.1) low high (omega arith) parts.rest))
+      (λ e. rw e
+      (spaced_in low high s (without_span r ss) parts.above parts.some (spaced_without ss (s.0 + s.1) high parts.rest)))
 
   -- removing r changes nothing outside r
   pub lent_without : (ls : List Span) (k : ℕ) → covers r k ≡ false → is_lent (without_span r ls) k ≡ is_lent ls k
@@ -123,23 +134,23 @@ module _ (r : Span) where
   unlent_without (s ∷ ss) low high t e k a b =
       let parts = spaced_out low high s ss t in by_test (is_span r s)
       (λ same. ap (λ (t : Bool). is_lent (cond t ss (s ∷ without_span r ss)) k) same ∙
-      unlent_below ss (s.0 + s.1) high k parts.2 (subst (λ (q : Span). k < q.0 + q.1) (is_span-true r s same) b))
+      unlent_below ss (s.0 + s.1) high k parts.rest (subst (λ (q : Span). k < q.0 + q.1) (is_span-true r s same) b))
       (λ other.
-      let rest = sym (ap (λ (t : Bool). t || listed r ss) other) ∙ e in
-      let first = (listed_bounds r ss (s.0 + s.1) high parts.2 rest).0 in
+      let rest = rw other at e in
+      let first = (listed_bounds r ss (s.0 + s.1) high parts.rest rest).low in
       ap (λ (t : Bool). is_lent (cond t ss (s ∷ without_span r ss)) k) other ∙
-      or_from (covers s k) (is_lent (without_span r ss) k) (covers-above s k (omega arith)) (unlent_without ss (s.0 + s.1) high parts.2 rest k a b))
+      or_from (covers s k) (is_lent (without_span r ss) k) (covers-above s k (omega arith)) (unlent_without ss (s.0 + s.1) high parts.rest rest k a b))
 
   pub unlisted_without : (ls : List Span) (low high : ℕ) → Spaced low high ls → listed r (without_span r ls) ≡ false
   unlisted_without [] low high t = refl
   unlisted_without (s ∷ ss) low high t =
       let parts = spaced_out low high s ss t in by_test (is_span r s)
-      (λ same. let some : 0 < r.1 = subst (λ (q : Span). 0 < q.1) (sym (is_span-true r s same)) parts.1 in
+      (λ same. let some : 0 < r.1 = subst (λ (q : Span). 0 < q.1) (sym (is_span-true r s same)) parts.some in
       ap (λ (t : Bool). listed r (cond t ss (s ∷ without_span r ss))) same ∙
-      false_from_ne_true (listed r ss) (λ e. let above = (listed_bounds r ss (s.0 + s.1) high parts.2 e).0 in
+      false_from_ne_true (listed r ss) (λ e. let above = (listed_bounds r ss (s.0 + s.1) high parts.rest e).low in
       let above' : r.0 + r.1 ≤ r.0 = subst (λ (q : Span). q.0 + q.1 ≤ r.0) (sym (is_span-true r s same)) above in absurd (omega arith)))
       (λ other. ap (λ (t : Bool). listed r (cond t ss (s ∷ without_span r ss))) other
-      ∙ or_from (is_span r s) (listed r (without_span r ss)) other (unlisted_without ss (s.0 + s.1) high parts.2))
+      ∙ or_from (is_span r s) (listed r (without_span r ss)) other (unlisted_without ss (s.0 + s.1) high parts.rest))
 
   pub listed_without : (q : Span) (ls : List Span) → is_span q r ≡ false → listed q (without_span r ls) ≡ listed q ls
   listed_without q [] other = refl

@@ -1,4 +1,4 @@
-//! A block, as its holder sees it.
+//! `Block`: bytes of a region that their holder reads and writes.
 ghost use Rattle.std.specs.Prelude.{◌≡◌, ℕ, ◌+◌, ◌^◌, ◌<◌, ◌≤◌, length};
 ghost use Rattle.std.specs.Borrow.{Lends, Array, sem, u8 as byte};
 ghost use Rattle.dp_region.specs.Spans.{bytes_in, with_bytes};

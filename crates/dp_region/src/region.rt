@@ -1,4 +1,4 @@
-//! The region, as its owner sees it.
+//! `Region`: allocates memory, lends blocks of it and takes them back, and frees it.
 ghost use Rattle.std.specs.Prelude.{◌≡◌, ℕ, ◌+◌, ◌<◌, ◌≤◌, true, [], length, replicate, IfOk};
 ghost use Rattle.dp_region.specs.Spans.{Span, listed, IsUnlent, with_span, without_span, Spaced, bytes_in, with_bytes};
 ghost use Rattle.dp_region.specs.Ownership.{Home, ptr_at};

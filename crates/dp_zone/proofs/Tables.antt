@@ -60,8 +60,8 @@ table_without name d (e ∷ entries) (suc k) less named others =
 pub table_removed : (name : List ℕ) (d : Reservation) (entries left : List Reservation) (k : ℕ) → position (λ e. same_name e.name.bytes name) entries ≡ Some k →
     left ≡ remove entries k → table_of left ≡ without_name name (table_of entries)
 table_removed name d entries left k at is =
-    let known = position-Some (λ (e : Reservation). same_name e.name.bytes name) entries k d at in
-    ap table_of is ∙ table_without name d entries k known.0 known.1 known.2
+    let (less, named, others) = position-Some (λ (e : Reservation). same_name e.name.bytes name) entries k d at in
+    ap table_of is ∙ table_without name d entries k less named others
 
 -- removing a name that no entry has changes nothing
 pub table_stays : (name : List ℕ) (entries : List Reservation) → list_any (λ e. same_name e.name.bytes name) entries ≡ false →

@@ -1,4 +1,4 @@
-//! A zone, as its holder sees it.
+//! `Zone`: a named block of a heap that its holder reads and writes.
 
 ghost use Rattle.std.specs.Prelude.{◌≡◌, ℕ, ◌+◌, ◌<◌, ◌≤◌, length, replicate};
 ghost use Rattle.std.specs.Borrow.{Lends, Array, sem, u8 as byte};

@@ -1,4 +1,4 @@
-//! The table of the zones that are reserved.
+//! `Zones`: the table of reserved zones, by name.
 
 ghost use Rattle.std.specs.Prelude.{◌≡◌, ◌+◌, ◌<◌, ◌≤◌, ◌&&◌, List, [], ◌∷◌, ◌++◌, length, Contains, IfOk, IfErr, IfSome, IfNone, OnOk, OnErr, MatchResult};
 ghost use Rattle.std.specs.Prelude.{find, position, option_map, None, true, false};

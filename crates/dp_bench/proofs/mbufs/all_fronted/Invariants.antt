@@ -3,4 +3,4 @@ use Rattle.dp_bench.specs.Mbufs.{AreAsBefore}
 use Rattle.dp_bench.proofs.mbufs.all_fronted.Given as goal
 
 abbrev pub invariant-loop : goal.invariant-loop
-invariant-loop l = (l.served ≤ l.counter) × AreAsBefore l.initial.m l.m
+invariant-loop l = record { served : l.served ≤ l.counter; same : AreAsBefore l.initial.m l.m }

@@ -6,8 +6,7 @@ use Rattle.dp_bench.proofs.mbufs.has_front.Goals as goal
 
 pub returns : goal.returns
 returns c e =
-    let k = c.requires.0 in
-    let has = c.requires.1 in
+    let (k, has, _) = c.requires in
     let one : c.refs-sharers.result ≡ 1 = search rules in
     let room = c.headroom.ensures k has in (
       k,

@@ -21,7 +21,7 @@ free-requires c =
 
 pub returns-clause-same : goal.returns-clause-same
 returns-clause-same c =
-    let same = c.served_beside-served.ensures.same in
+    let (slots, pools, zones) = c.served_beside-served.ensures.same in
     let back = returned c.args.m.now.store c.alloc.new.self.store c.served_beside-served.new.m.store c.free.new.self.store 0 c.in-Some.packet
-    c.in-Some.ensures.packets same.0 same.1 c.free.ensures.packets in
-    (back.0, back.1, c.free.ensures.zones ∙ (same.2 ∙ c.alloc.ensures.zones))
+    c.in-Some.ensures.packets slots pools c.free.ensures.packets in
+    (back.0, back.1, c.free.ensures.zones ∙ (zones ∙ c.alloc.ensures.zones))

@@ -7,8 +7,9 @@ over-mbufs-requires c = ready_one _ c.in-Some.pool c.in-Some.ensures.pool
 
 pub unmake-requires : goal.unmake-requires
 unmake-requires c =
+    let (_, _, zones) = c.served_by-served.ensures.same in
     back_one c.make.new.heap.home c.in-Some.pool c.into_pools.result c.into_pools.type_inv.1.1.0.1 c.into_pools.ensures.first (c.into_pools.ensures.zones
-    ∙ (c.served_by-served.ensures.same.2 ∙ c.over-mbufs.ensures.zones)) (c.in-Some.ensures.pool.home ∙ sym c.make.ensures.home)
+    ∙ (zones ∙ c.over-mbufs.ensures.zones)) (c.in-Some.ensures.pool.home ∙ sym c.make.ensures.home)
 
 pub served_by-served-requires-clause-room : goal.served_by-served-requires-clause-room
 served_by-served-requires-clause-room c = new_room c.in-Some.pool c.over-mbufs.result c.over-mbufs.ensures c.in-Some.ensures.pool.size

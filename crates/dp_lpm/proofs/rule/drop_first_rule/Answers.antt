@@ -1,7 +1,7 @@
 -- The next part moves down, until all have.
-use Rattle.std.proofs.Common.{rules, ◌≡◌, ◌+◌, ◌-◌, ◌<◌, ◌≤◌, length, drop, sym, ◌∙◌, ap, subst, arith}
+use Rattle.std.proofs.Common.{rules, ◌≡◌, ◌+◌, ◌-◌, ◌<◌, ◌≤◌, length, drop, subst, arith}
 use Rattle.std.proofs.Math.Seq.{paste}
-use borrow.Rule.Slice.PartMut.{put_mid, mid_of}
+use borrow.Rule.Slice.PartMut.{put_mid}
 use Rattle.dp_lpm.proofs.Removing.{GoneDown, part_down, part_put, down_length}
 use Rattle.dp_lpm.proofs.rule.drop_first_rule.Goals as goal
 
@@ -18,10 +18,5 @@ loop-at-preserved c =
     let count : end + 1 - at ≡ end - at + 1 = omega (arith, later) in
     let within : at + (end - at) < length now = omega (arith, whole, fits, long) in
     let part = put_mid at (end + 1 - at) now c.move_down.new.rules in
-    let is : part ≡ paste now at (drop (at + 1) now) (end - at) =
-    ap (put_mid at (end + 1 - at) now) c.move_down.ensures
-    ∙ (ap (λ k. put_mid at k now (paste (mid_of at k now) 0 (drop 1 (mid_of at k now)) (length (mid_of at k now) - 1))) count
-    ∙ part_put now at (end - at) within) in
-    subst (λ i. GoneDown old i part) whole
-    (subst (λ l. GoneDown old (at + (end - at)) l) (sym is)
-    (part_down old at (end - at) now (omega (arith, whole, fits)) c.loop-at.invariant))
+    let is : part ≡ paste now at (drop (at + 1) now) (end - at) = rw (c.move_down.ensures, count) (part_put now at (end - at) within) in
+    subst (λ i. GoneDown old i part) whole (rw is (part_down old at (end - at) now (omega (arith, whole, fits)) c.loop-at.invariant))

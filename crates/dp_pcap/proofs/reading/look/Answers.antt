@@ -5,19 +5,19 @@ use Rattle.dp_pcap.proofs.reading.look.Goals as goal
 
 pub returns-in_default-fill-clause-answer : goal.returns-in_default-fill-clause-answer
 returns-in_default-fill-clause-answer g c =
-    let more = c.in_default-fill.ensures.bytes in
-    fails_in_body _ _ _ c.args.source.now c.fill.new.buf more.0 c.in-Ok.got c.in-Ok.ensures.bytes.0 (search rules) (search rules) more.2 (search rules)
+    let (came, short, read) = c.in_default-fill.ensures.bytes in
+    fails_in_body _ _ _ c.args.source.now c.fill.new.buf came c.in-Ok.got c.in-Ok.ensures.bytes.0 (search rules) (search rules) read (search rules)
     (search rules) (search rules)
 
 pub returns-in_default-fill-clause-ahead : goal.returns-in_default-fill-clause-ahead
 returns-in_default-fill-clause-ahead g c =
-    let more = c.in_default-fill.ensures.bytes in
-    two_reads _ _ _ (take c.in-Ok.got c.fill.new.buf) more.0 _ c.in-Ok.ensures.bytes.0 more.2
+    let (came, short, read) = c.in_default-fill.ensures.bytes in
+    two_reads _ _ _ (take c.in-Ok.got c.fill.new.buf) came _ c.in-Ok.ensures.bytes.0 read
     (omega (
       arith,
       length-take c.in-Ok.got c.fill.new.buf,
       c.fill.auto.buf,
-      more.1,
+      short,
       length-take c.in_ok-time.len c.args.buf.now,
       c.in_ok-time.ensures.in_range.1,
     ))

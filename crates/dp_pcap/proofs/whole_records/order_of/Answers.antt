@@ -1,5 +1,5 @@
 -- The version decides the byte order.
-use Rattle.std.proofs.Common.{◌≡◌, ◌-◌, ◌∙◌, ap, arith, drop, length, length-drop, sym, take_all}
+use Rattle.std.proofs.Common.{◌≡◌, ◌-◌, ◌∙◌, arith, drop, length, length-drop, sym, take_all}
 use Rattle.dp_pcap.specs.declared.byte_order.Order.TheVariants.{Big}
 use Rattle.dp_pcap.specs.Capture.{number}
 use Rattle.dp_pcap.proofs.Counting.{version_big}
@@ -9,5 +9,5 @@ pub returns-then-short_number-eq-MAJOR : goal.returns-then-short_number-eq-MAJOR
 returns-then-short_number-eq-MAJOR c = λ order unit is.
     let header = c.args.header.now in
     let rest = take_all (length header - 4) (drop 4 header) (omega (arith, length-drop 4 header)) in
-    let two : number Big 2 (drop 4 header) ≡ 2 = sym (ap (number Big 2) rest) ∙ sym c.short_number.ensures ∙ c.if-short_number-eq-MAJOR.true in
+    let two : number Big 2 (drop 4 header) ≡ 2 = rw rest at (sym c.short_number.ensures ∙ c.if-short_number-eq-MAJOR.true) in
     version_big order unit header two is

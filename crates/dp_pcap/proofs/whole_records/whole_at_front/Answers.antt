@@ -1,7 +1,6 @@
 -- One more record.
-use Rattle.std.proofs.Common.{rules, [], ◌≡◌, ◌+◌, ◌++◌, length, take, subst, sym, ap, arith, append-nil}
+use Rattle.std.proofs.Common.{rules, ◌≡◌, ◌+◌, length, arith, append-nil, add-zero}
 use Rattle.std.proofs.lemmas.Slice.{between_to_end}
-use Rattle.dp_pcap.specs.Counting.{IsAfter, none_left}
 use Rattle.dp_pcap.proofs.Counting.{front_passed}
 use Rattle.dp_pcap.proofs.whole_records.whole_at_front.Goals as goal
 
@@ -9,9 +8,7 @@ pub loop-at-init : goal.loop-at-init
 loop-at-init c = record {
   within = omega arith;
   few = omega arith;
-  beyond = λ n before b.
-      let same : n ≡ n + 0 = omega arith in
-      subst (λ m. IsAfter (none_left c.args.order m) (before ++ [])) same (subst (IsAfter (none_left c.args.order n)) (sym (append-nil before)) b);
+  beyond = λ n before b. rw (append-nil, add-zero) b;
 }
 
 pub loop-at-preserved : goal.loop-at-preserved
@@ -20,8 +17,7 @@ loop-at-preserved c = record {
   few = search rules;
   beyond = λ n before b.
       let same : n + c.loop-at.count + 1 ≡ n + (c.loop-at.count + 1) = omega arith in
-      subst (λ m. IsAfter (none_left c.args.order m) (before ++ take (c.loop-at.at + (16 + c.body_length.result)) c.args.bytes.now)) same
-      (front_passed c.args.order (n + c.loop-at.count) c.loop-at.at _ before c.args.bytes.now _
+      rw same at (front_passed c.args.order (n + c.loop-at.count) c.loop-at.at _ before c.args.bytes.now _
       (between_to_end c.args.bytes.now c.loop-at.at (length c.args.bytes.now) (omega arith))
-      c.loop-at.invariant.within c.if-rest-size.false (ap (λ n. 16 + n) c.body_length.ensures) (c.loop-at.invariant.beyond n before b));
+      c.loop-at.invariant.within c.if-rest-size.false (rw c.body_length.ensures) (c.loop-at.invariant.beyond n before b));
 }

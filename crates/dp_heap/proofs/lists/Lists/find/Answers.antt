@@ -1,5 +1,4 @@
 -- A list is left once none of its elements has room for the block.
-use Rattle.std.proofs.Common.{ℕ, ◌<◌, subst}
 use Rattle.dp_heap.proofs.Walk.{past_begins, past_more, past_below, past_all}
 use Rattle.dp_heap.proofs.lists.Lists.find.Goals as goal
 
@@ -12,9 +11,9 @@ loop-class-preserved c = past_more c.args.region.now.bytes c.args.len c.args.ali
 
 pub returns-in-Some : goal.returns-in-Some
 returns-in-Some c =
-    let f = c.in-Some.ensures in
+    let (inside, free, highest, class) = c.in-Some.ensures in
     let below = past_below c.args.region.now.bytes c.args.len c.args.align c.loop-class.class c.loop-class.invariant in
-    (f.0, f.1, f.2, λ b less. below b (subst (λ (k : ℕ). b < k) f.3 less))
+    (inside, free, highest, λ b less. below b (rw class at less))
 
 pub returns : goal.returns
 returns c = past_all c.args.region.now.bytes c.args.len c.args.align c.loop-class.class c.loop-class.invariant c.loop-class-test.false

@@ -14,7 +14,7 @@ pub read_header-e-requires : goal.read_header-e-requires
 read_header-e-requires c =
     let r = c.args.region.now in let h = (found_at r c.requires.laid.0 c.args.class c.args.len c.args.align c.loop-offset.offset c.loop-offset.invariant
     c.loop-offset-test.true).header in let room = h.room in
-    ((omega arith, λ k p q. h.unlent k p (omega arith)), c.requires.laid.0.0.1)
+    ((omega arith, λ k p q. h.unlent k p (omega arith)), c.requires.laid.0.size.1)
 
 pub highest-requires-clause-bounds : goal.highest-requires-clause-bounds
 highest-requires-clause-bounds c =
@@ -26,7 +26,7 @@ pub returns-in-Some : goal.returns-in-Some
 returns-in-Some c =
     let r = c.args.region.now in let f = found_at r c.requires.laid.0 c.args.class c.args.len c.args.align c.loop-offset.offset c.loop-offset.invariant
     c.loop-offset-test.true in (
-      (f.before, f.after, f.split ∙ ap (λ (x : Item). f.before ++ x ∷ f.after) (sym c.read_header-e.ensures)),
+      record { before = f.before; after = f.after; split = f.split ∙ ap (λ (x : Item). f.before ++ x ∷ f.after) (sym c.read_header-e.ensures) },
       subst (λ (x : Item). x.state ≡ Free) (sym c.read_header-e.ensures) f.free,
       c.in-Some.ensures,
       ap (λ (x : Item). class_of x.size) c.read_header-e.ensures ∙ f.class,
@@ -34,7 +34,7 @@ returns-in-Some c =
 
 pub overflow_add-offset : goal.overflow_add-offset
 overflow_add-offset c =
-    let r = c.args.region.now in let most = c.requires.laid.0.0.1 in
+    let r = c.args.region.now in let most = c.requires.laid.0.size.1 in
     let room = (found_at r c.requires.laid.0 c.args.class c.args.len c.args.align c.loop-offset.offset c.loop-offset.invariant
     c.loop-offset-test.true).header.room in
     record { fits = omega arith }

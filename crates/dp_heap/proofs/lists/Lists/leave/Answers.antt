@@ -8,13 +8,13 @@ use Rattle.dp_heap.proofs.lists.Lists.leave.Goals.{Start}
 
 -- the header of the element that leaves
 own : (c : Start) → Header c.args.region.now c.args.e.now.offset
-own c = let l = c.requires.laid in header_of c.args.region.now l.0 l.1.0 c.args.e.now l.1.1 l.1.2
+own c = let (laid, here) = c.requires.laid in header_of c.args.region.now laid here.before c.args.e.now here.after here.split
 
 pub overflow_add-e : goal.overflow_add-e
-overflow_add-e c = record { fits = omega (arith, (own (goal.at.overflow_add-e c).Start).room, c.requires.laid.0.0.1) }
+overflow_add-e c = record { fits = omega (arith, (own (goal.at.overflow_add-e c).Start).room, c.requires.laid.0.size.1) }
 
 pub overflow_add-e-2 : goal.overflow_add-e-2
-overflow_add-e-2 c = record { fits = omega (arith, (own (goal.at.overflow_add-e-2 c).Start).room, c.requires.laid.0.0.1) }
+overflow_add-e-2 c = record { fits = omega (arith, (own (goal.at.overflow_add-e-2 c).Start).room, c.requires.laid.0.size.1) }
 
 pub load_u32-next-requires : goal.load_u32-next-requires
 load_u32-next-requires c =
@@ -26,15 +26,15 @@ load_u32-before-requires c =
 
 pub write_link-requires : goal.write_link-requires
 write_link-requires c =
-    let l = c.requires.laid in let most = l.0.0.1 in let w = c.requires.listed in
-    let u = u_header c.args.region.now l.0 l.1.0 c.args.e.now l.1.1 l.1.2 (free_is c.args.e.now c.requires.free) c.args.self.now.heads w.0 w.1 w.2 in
+    let (laid, here) = c.requires.laid in let most = laid.size.1 in let (off, listed, among) = c.requires.listed in
+    let u = u_header c.args.region.now laid c.args.e.now here (free_is c.args.e.now c.requires.free) c.args.self.now.heads off listed among in
     rw c.load_u32-before.ensures (λ lt. let h = u lt in (h.room, h.unlent), omega arith, most)
 
 pub write_link-requires-2 : goal.write_link-requires-2
 write_link-requires-2 c =
-    let l = c.requires.laid in let most = l.0.0.1 in let w = c.requires.listed in
-    let v = v_header c.args.region.now l.0 l.1.0 c.args.e.now l.1.1 l.1.2 (free_is c.args.e.now c.requires.free) c.args.self.now.heads w.0 w.1 w.2 in
-    let n = long1 c.args.region.now l.0 l.1.0 c.args.e.now l.1.1 l.1.2 (free_is c.args.e.now c.requires.free) c.args.self.now.heads w.0 w.1 w.2 in
+    let (laid, here) = c.requires.laid in let most = laid.size.1 in let (off, listed, among) = c.requires.listed in
+    let v = v_header c.args.region.now laid c.args.e.now here (free_is c.args.e.now c.requires.free) c.args.self.now.heads off listed among in
+    let n = long1 c.args.region.now laid c.args.e.now here (free_is c.args.e.now c.requires.free) c.args.self.now.heads off listed among in
     rw (c.write_link.ensures, c.load_u32-before.ensures, c.load_u32-next.ensures) (
       λ lt. let h = v (omega arith) in
           let room = h.room in (omega arith, h.unlent),
@@ -44,37 +44,37 @@ write_link-requires-2 c =
 
 pub returns-then-before-clause-laid : goal.returns-then-before-clause-laid
 returns-then-before-clause-laid c =
-    let l = c.requires.laid in let w = c.requires.listed in
+    let (laid, here) = c.requires.laid in let (off, listed, among) = c.requires.listed in
     rw (c.write_link-2.ensures, c.write_link.ensures, c.load_u32-before.ensures, c.load_u32-next.ensures)
-    (left_laid c.args.region.now l.0 l.1.0 c.args.e.now l.1.1 l.1.2 (free_is c.args.e.now c.requires.free) c.args.self.now.heads w.0 w.1 w.2).0
+    (left_laid c.args.region.now laid c.args.e.now here (free_is c.args.e.now c.requires.free) c.args.self.now.heads off listed among).0
 
 pub returns-then-before-clause-same : goal.returns-then-before-clause-same
 returns-then-before-clause-same c =
-    let l = c.requires.laid in let w = c.requires.listed in
+    let (laid, here) = c.requires.laid in let (off, listed, among) = c.requires.listed in
     rw (c.write_link-2.ensures, c.write_link.ensures, c.load_u32-before.ensures, c.load_u32-next.ensures)
-    (left_laid c.args.region.now l.0 l.1.0 c.args.e.now l.1.1 l.1.2 (free_is c.args.e.now c.requires.free) c.args.self.now.heads w.0 w.1 w.2).1
+    (left_laid c.args.region.now laid c.args.e.now here (free_is c.args.e.now c.requires.free) c.args.self.now.heads off listed among).1
 
 pub returns-then-before-clause-off : goal.returns-then-before-clause-off
 returns-then-before-clause-off c off w none =
-    let l = c.requires.laid in let is = sym c.load_u32-before.ensures ∙ c.if-before.true in
+    let (laid, here) = c.requires.laid in let is = sym c.load_u32-before.ensures ∙ c.if-before.true in
     rw (c.write_link-2.ensures, c.write_link.ensures, c.load_u32-before.ensures, c.load_u32-next.ensures, c.class_of.ensures, c.from.ensures)
-    (left_first c.args.region.now l.0 l.1.0 c.args.e.now l.1.1 l.1.2 (free_is c.args.e.now c.requires.free) c.args.self.now.heads off w none is)
+    (left_first c.args.region.now laid c.args.e.now here (free_is c.args.e.now c.requires.free) c.args.self.now.heads off w none is)
 
 pub returns-else-before-clause-laid : goal.returns-else-before-clause-laid
 returns-else-before-clause-laid c =
-    let l = c.requires.laid in let w = c.requires.listed in
+    let (laid, here) = c.requires.laid in let (off, listed, among) = c.requires.listed in
     rw (c.write_link-2.ensures, c.write_link.ensures, c.load_u32-before.ensures, c.load_u32-next.ensures)
-    (left_laid c.args.region.now l.0 l.1.0 c.args.e.now l.1.1 l.1.2 (free_is c.args.e.now c.requires.free) c.args.self.now.heads w.0 w.1 w.2).0
+    (left_laid c.args.region.now laid c.args.e.now here (free_is c.args.e.now c.requires.free) c.args.self.now.heads off listed among).0
 
 pub returns-else-before-clause-same : goal.returns-else-before-clause-same
 returns-else-before-clause-same c =
-    let l = c.requires.laid in let w = c.requires.listed in
+    let (laid, here) = c.requires.laid in let (off, listed, among) = c.requires.listed in
     rw (c.write_link-2.ensures, c.write_link.ensures, c.load_u32-before.ensures, c.load_u32-next.ensures)
-    (left_laid c.args.region.now l.0 l.1.0 c.args.e.now l.1.1 l.1.2 (free_is c.args.e.now c.requires.free) c.args.self.now.heads w.0 w.1 w.2).1
+    (left_laid c.args.region.now laid c.args.e.now here (free_is c.args.e.now c.requires.free) c.args.self.now.heads off listed among).1
 
 pub returns-else-before-clause-off : goal.returns-else-before-clause-off
 returns-else-before-clause-off c off w none =
-    let l = c.requires.laid in
+    let (laid, here) = c.requires.laid in
     rw (c.write_link-2.ensures, c.write_link.ensures, c.load_u32-before.ensures, c.load_u32-next.ensures)
-    (left_later c.args.region.now l.0 l.1.0 c.args.e.now l.1.1 l.1.2 (free_is c.args.e.now c.requires.free) c.args.self.now.heads off w none
+    (left_later c.args.region.now laid c.args.e.now here (free_is c.args.e.now c.requires.free) c.args.self.now.heads off w none
     (λ is. c.if-before.false (c.load_u32-before.ensures ∙ is)))

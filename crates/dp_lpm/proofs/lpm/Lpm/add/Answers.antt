@@ -7,4 +7,4 @@ pub returns-clause-table : goal.returns-clause-table
 returns-clause-table c = is_table c.add.new.self c.add.ensures.kept
 
 pub returns-clause-hops : goal.returns-clause-hops
-returns-clause-hops c = low_hops (routes_in c.add.new.self) c.add.ensures.kept.each
+returns-clause-hops c = low_hops (routes_in c.add.new.self) c.add.ensures.kept.rules.each

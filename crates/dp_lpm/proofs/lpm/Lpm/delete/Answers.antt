@@ -7,4 +7,4 @@ pub returns-clause-table : goal.returns-clause-table
 returns-clause-table c = is_table c.delete.new.self c.delete.ensures.kept
 
 pub returns-clause-hops : goal.returns-clause-hops
-returns-clause-hops c = low_hops (routes_in c.delete.new.self) c.delete.ensures.kept.each
+returns-clause-hops c = low_hops (routes_in c.delete.new.self) c.delete.ensures.kept.rules.each

@@ -7,4 +7,4 @@ use Rattle.dp_lpm.proofs.lpm.Lpm.len.Goals as goal
 
 pub returns-clause-hops : goal.returns-clause-hops
 returns-clause-hops c =
-    low_hops c.args.self.now.routes (subst (λ t. AllByRecursion IsRoute t.routes) c.self.view_is c.self.invariant.each)
+    low_hops c.args.self.now.routes (subst (λ t. AllByRecursion IsRoute t.routes) c.self.view_is c.self.invariant.rules.each)

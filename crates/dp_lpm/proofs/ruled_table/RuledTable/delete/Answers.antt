@@ -1,7 +1,6 @@
 -- The rule is out, and its group is closed.
-use Rattle.std.proofs.Common.{◌/◌, refl, subst, arith}
+use Rattle.std.proofs.Common.{◌/◌, refl, arith}
 use Rattle.dp_lpm.specs.declared.ruled_table.RuledTable.{RuledTable}
-use Rattle.dp_lpm.specs.Rules.{IsFound, IsMissing}
 use Rattle.dp_lpm.specs.Kept.{routes_in}
 use Rattle.dp_lpm.proofs.Deleting.{delete_none, delete_found, closed_drops}
 use Rattle.dp_lpm.proofs.Shrinking.{can_close, closed_keeps, shallow_keeps}
@@ -10,15 +9,13 @@ use Rattle.dp_lpm.proofs.ruled_table.RuledTable.delete.Goals as goal
 pub returns-in_default-clause-err : goal.returns-in_default-clause-err
 returns-in_default-clause-err c = (
   delete_none c.args.self.now c.args.ip c.args.depth c.in_default.field-0 c.if-depth-lt1.false c.if-depth-gt-MAX_DEPTH.false
-      (subst (λ p. IsMissing c.args.self.now.rules.items c.args.depth p c.in_default.field-0) c.prefix_of.ensures
-      (subst (λ rules. IsMissing rules c.args.depth c.prefix_of.result c.in_default.field-0) c.deref.ensures.value c.in_default.ensures.missing)),
+      (rw (c.prefix_of.ensures, c.deref.ensures.value) at c.in_default.ensures.missing),
   refl,
 )
 
 pub take_out-requires-clause-found : goal.take_out-requires-clause-found
 take_out-requires-clause-found c =
-    subst (λ p. IsFound c.args.self.now.rules.items c.args.depth p c.in-Ok.index) c.prefix_of.ensures
-    (subst (λ rules. IsFound rules c.args.depth c.prefix_of.result c.in-Ok.index) c.deref.ensures.value c.in-Ok.ensures.found)
+    rw (c.prefix_of.ensures, c.deref.ensures.value) at c.in-Ok.ensures.found
 
 pub close-requires-clause-can : goal.close-requires-clause-can
 close-requires-clause-can c =
@@ -35,8 +32,7 @@ returns-then-depth-gt-FIRST_BITS-clause-ok c = (
   closed_drops c.args.self.now c.take_out.new.self (record c.take_out.new.self { table = c.close.new.self }) c.args.ip c.args.depth c.take_out.ensures.drops
       refl refl c.close.ensures,
   delete_found c.args.self.now c.args.ip c.args.depth c.in-Ok.index c.if-depth-lt1.false c.if-depth-gt-MAX_DEPTH.false
-      (subst (λ p. IsFound c.args.self.now.rules.items c.args.depth p c.in-Ok.index) c.prefix_of.ensures
-      (subst (λ rules. IsFound rules c.args.depth c.prefix_of.result c.in-Ok.index) c.deref.ensures.value c.in-Ok.ensures.found)),
+      (rw (c.prefix_of.ensures, c.deref.ensures.value) at c.in-Ok.ensures.found),
 )
 
 pub returns-else-depth-gt-FIRST_BITS-clause-kept : goal.returns-else-depth-gt-FIRST_BITS-clause-kept
@@ -47,6 +43,5 @@ pub returns-else-depth-gt-FIRST_BITS-clause-ok : goal.returns-else-depth-gt-FIRS
 returns-else-depth-gt-FIRST_BITS-clause-ok c = (
   c.take_out.ensures.drops,
   delete_found c.args.self.now c.args.ip c.args.depth c.in-Ok.index c.if-depth-lt1.false c.if-depth-gt-MAX_DEPTH.false
-      (subst (λ p. IsFound c.args.self.now.rules.items c.args.depth p c.in-Ok.index) c.prefix_of.ensures
-      (subst (λ rules. IsFound rules c.args.depth c.prefix_of.result c.in-Ok.index) c.deref.ensures.value c.in-Ok.ensures.found)),
+      (rw (c.prefix_of.ensures, c.deref.ensures.value) at c.in-Ok.ensures.found),
 )

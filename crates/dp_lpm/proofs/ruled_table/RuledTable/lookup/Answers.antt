@@ -1,7 +1,5 @@
 -- The entry is that of the deepest route.
-use Rattle.std.proofs.Common.{◌≤◌, sym, ◌∙◌, subst}
-use Rattle.std.specs.Prelude.{IfSome}
-use Rattle.dp_model.specs.Prefixes.{LooksUp}
+use Rattle.std.proofs.Common.{sym, ◌∙◌}
 use Rattle.dp_lpm.specs.Kept.{routes_in}
 use Rattle.dp_lpm.proofs.HopFor.{hop_answered, none_answered}
 use Rattle.dp_lpm.proofs.Looking.{looks_up, low_hop}
@@ -12,9 +10,8 @@ returns-in-Hop c =
     let answer = hop_answered (routes_in c.args.self.now) c.args.ip c.in-Hop.hop c.in-Hop.depth (c.in-Hop.ensures ∙ c.requires.answers c.args.ip) in
     record {
       value = sym answer;
-      deepest = subst (LooksUp (routes_in c.args.self.now) c.args.ip) answer
-          (looks_up (routes_in c.args.self.now) c.args.ip c.requires.each);
-      low = subst (λ o. IfSome o (λ hop. hop ≤ 16777215)) answer (low_hop (routes_in c.args.self.now) c.args.ip c.requires.each);
+      deepest = rw answer at (looks_up (routes_in c.args.self.now) c.args.ip c.requires.rules.each);
+      low = rw answer at (low_hop (routes_in c.args.self.now) c.args.ip c.requires.rules.each);
     }
 
 pub returns-in_default : goal.returns-in_default
@@ -23,7 +20,6 @@ returns-in_default c =
     (c.entry_for.ensures ∙ c.requires.answers c.args.ip) in
     record {
       value = sym answer;
-      deepest = subst (LooksUp (routes_in c.args.self.now) c.args.ip) answer
-          (looks_up (routes_in c.args.self.now) c.args.ip c.requires.each);
-      low = subst (λ o. IfSome o (λ hop. hop ≤ 16777215)) answer (low_hop (routes_in c.args.self.now) c.args.ip c.requires.each);
+      deepest = rw answer at (looks_up (routes_in c.args.self.now) c.args.ip c.requires.rules.each);
+      low = rw answer at (low_hop (routes_in c.args.self.now) c.args.ip c.requires.rules.each);
     }

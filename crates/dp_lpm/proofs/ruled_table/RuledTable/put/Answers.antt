@@ -1,9 +1,7 @@
 -- A new rule has room, and a group for its first bits; or it is refused.
-use Rattle.std.proofs.Common.{◌≡◌, ◌++◌, ◌∷◌, take, drop, ◌∙◌, sym, ap, subst, arith, inl, inr}
-use Rattle.std.specs.Prelude.{vec_capacity}
+use Rattle.std.proofs.Common.{◌≡◌, arith, inl, inr}
 use Rattle.std.proofs.lemmas.List.{length-map}
 use Rattle.dp_lpm.specs.Rules.{route_of}
-use Rattle.dp_lpm.specs.Tables.{Opened}
 use Rattle.dp_lpm.specs.Kept.{routes_in, first_of}
 use Rattle.dp_lpm.specs.declared.ruled_table.RuledTable.{RuledTable}
 use Rattle.dp_lpm.proofs.Counting.{deep_count_few}
@@ -17,15 +15,15 @@ open-requires-clause-there c = first_small (route_of c.args.rule) c.requires.rul
 
 pub open-requires-clause-room : goal.open-requires-clause-room
 open-requires-clause-room c g named =
-    let is = c.requires.kept.grouped (first_of (route_of c.args.rule)) g named in
+    let is = c.requires.kept.groups.grouped (first_of (route_of c.args.rule)) g named in
     let few = deep_count_few (routes_in c.args.self.now) (first_of (route_of c.args.rule)) in
     let len = length-map c.args.self.now.rules.items route_of in
-    omega (arith, is, few, len, c.requires.kept.most, c.len.ensures)
+    omega (arith, is, few, len, c.requires.kept.rules.most, c.len.ensures)
 
 pub returns-then-not-open : goal.returns-then-not-open
 returns-then-not-open c = (
   full c.args.self.now c.open.new.self c.args.rule c.requires.kept c.requires.rule (omega arith) c.if-rule-gt-FIRST_BITS.true c.if-not-open.ensures,
-  ap (λ t. record c.args.self.now { table = t }) c.if-not-open.ensures.same,
+  rw c.if-not-open.ensures.same,
 )
 
 pub returns : goal.returns
@@ -34,21 +32,16 @@ returns c =
     let mid = c.else-rule-gt-FIRST_BITS.self in
     let new : RuledTable = record { rules = c.insert.new.rules; table = mid.table; max_rules = mid.max_rules } in
     let rules : mid.rules ≡ old.rules = elim c.else-rule-gt-FIRST_BITS.branch [
-      | else-rule-gt-FIRST_BITS-via-then-rule-gt-FIRST_BITS+else-not-open w ↦ ap (λ s. s.rules) w.self-is
-      | else-rule-gt-FIRST_BITS-via-else-rule-gt-FIRST_BITS w ↦ ap (λ s. s.rules) w.self-is
+      | else-rule-gt-FIRST_BITS-via-then-rule-gt-FIRST_BITS+else-not-open w ↦ rw w.self-is
+      | else-rule-gt-FIRST_BITS-via-else-rule-gt-FIRST_BITS w ↦ rw w.self-is
     ] in
     let max : mid.max_rules ≡ old.max_rules = elim c.else-rule-gt-FIRST_BITS.branch [
-      | else-rule-gt-FIRST_BITS-via-then-rule-gt-FIRST_BITS+else-not-open w ↦ ap (λ s. s.max_rules) w.self-is
-      | else-rule-gt-FIRST_BITS-via-else-rule-gt-FIRST_BITS w ↦ ap
-          (λ s. s.max_rules) w.self-is
+      | else-rule-gt-FIRST_BITS-via-then-rule-gt-FIRST_BITS+else-not-open w ↦ rw w.self-is
+      | else-rule-gt-FIRST_BITS-via-else-rule-gt-FIRST_BITS w ↦ rw w.self-is
     ] in
     let makes : Makes c.args.rule old.table mid.table = elim c.else-rule-gt-FIRST_BITS.branch [
-      | else-rule-gt-FIRST_BITS-via-then-rule-gt-FIRST_BITS+else-not-open w ↦ inr (
-        w.if-rule-gt-FIRST_BITS.true,
-        subst (Opened (first_of (route_of c.args.rule)) c.args.self.now.table) (sym (ap (λ s. s.table) w.self-is)) w.if-not-open.ensures,
-      )
-      | else-rule-gt-FIRST_BITS-via-else-rule-gt-FIRST_BITS w ↦ inl (w.if-rule-gt-FIRST_BITS.false, ap (λ s. s.table) w.self-is)
+      | else-rule-gt-FIRST_BITS-via-then-rule-gt-FIRST_BITS+else-not-open w ↦ inr (w.if-rule-gt-FIRST_BITS.true, rw w.self-is w.if-not-open.ensures)
+      | else-rule-gt-FIRST_BITS-via-else-rule-gt-FIRST_BITS w ↦ inl (w.if-rule-gt-FIRST_BITS.false, rw w.self-is)
     ] in
-    let items = c.insert.ensures.items ∙ ap (λ v. take c.args.index v.items ++ c.args.rule ∷ drop c.args.index v.items) rules in
-    grown old new c.args.index c.args.rule c.requires.kept c.requires.rule c.requires.index (omega (arith, c.len.ensures)) items
-    (omega (arith, ap vec_capacity rules, c.insert.ensures.capacity)) max makes
+    grown old new c.args.index c.args.rule c.requires.kept c.requires.rule c.requires.index (omega (arith, c.len.ensures)) (rw rules at c.insert.ensures.items)
+    (rw rules at c.insert.ensures.capacity) max makes

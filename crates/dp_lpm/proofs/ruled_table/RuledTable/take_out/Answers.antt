@@ -1,9 +1,6 @@
 -- The rule is out, and the entries of its prefix follow from the next.
-use Rattle.std.proofs.Common.{◌-◌, refl, sym, ◌∙◌, ap, subst}
+use Rattle.std.proofs.Common.{◌-◌, refl}
 use Rattle.dp_lpm.specs.declared.ruled_table.RuledTable.{RuledTable}
-use Rattle.dp_lpm.specs.Cells.{IsStorable}
-use Rattle.dp_lpm.specs.Routes.{deepest_within}
-use Rattle.dp_lpm.specs.Rules.{routes_of, entry_of}
 use Rattle.dp_lpm.specs.Kept.{routes_in}
 use Rattle.dp_lpm.proofs.Deleting.{entry_fits, deep_group, taken_out}
 use Rattle.dp_lpm.proofs.ruled_table.RuledTable.take_out.Goals as goal
@@ -13,9 +10,7 @@ overwrite_shallower-requires-clause-deep c = deep_group c.args.self.now c.args.i
 
 pub overwrite_shallower-requires-clause-storable : goal.overwrite_shallower-requires-clause-storable
 overwrite_shallower-requires-clause-storable c =
-    subst IsStorable (sym (c.entry_within-next.ensures ∙ ap (λ rules. entry_of (deepest_within (c.args.depth - 1) (routes_of rules) c.args.ip))
-    c.deref.ensures.value))
-    (entry_fits (routes_in c.args.self.now) (c.args.depth - 1) c.args.ip c.requires.kept.each)
+    rw (c.entry_within-next.ensures, c.deref.ensures.value) (entry_fits (routes_in c.args.self.now) (c.args.depth - 1) c.args.ip c.requires.kept.rules.each)
 
 pub returns : goal.returns
 returns c =
@@ -24,5 +19,5 @@ returns c =
     taken_out old mid c.overwrite_shallower.new.self c.args.index c.args.ip c.args.depth c.entry_within-next.result c.requires.kept c.requires.found
     c.requires.some
     c.requires.most c.remove.ensures.items c.remove.ensures.capacity refl refl
-    (c.entry_within-next.ensures ∙ ap (λ rules. entry_of (deepest_within (c.args.depth - 1) (routes_of rules) c.args.ip)) c.deref.ensures.value)
+    (rw c.deref.ensures.value at c.entry_within-next.ensures)
     c.overwrite_shallower.ensures.overwritten c.overwrite_shallower.ensures.rules c.overwrite_shallower.ensures.max_rules

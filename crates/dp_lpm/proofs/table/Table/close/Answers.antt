@@ -1,10 +1,9 @@
 -- The group of the first bits has one rule fewer, perhaps none.
-use Rattle.std.proofs.Common.{◌≡◌, ◌-◌, ◌+◌, ◌*◌, refl, sym, ◌∙◌, ap, subst, arith, length-set}
+use Rattle.std.proofs.Common.{◌≡◌, ◌-◌, ◌*◌, refl, sym, ◌∙◌, ap, arith, length-set}
 use Rattle.std.specs.Vec.{with_item}
-use Rattle.std.specs.Prelude.{slice_index, slice_set}
+use Rattle.std.specs.Prelude.{slice_set}
 use Rattle.std.proofs.lemmas.Option.{same_Some}
 use Rattle.dp_lpm.specs.declared.table.Table.{Table}
-use Rattle.dp_lpm.specs.Cells.{at}
 use Rattle.dp_lpm.proofs.Entries.{grouped_by, number_at, entry_at, group_fits}
 use Rattle.dp_lpm.proofs.Groups.{closed_more, index_set_same}
 use Rattle.dp_lpm.proofs.Closing.{closed_last, group_there}
@@ -33,8 +32,7 @@ returns-then-index-eq0 c =
     let cell = entry_at old.cells.items (g * 256) c.index-then-index-eq0.result.now
     (omega (arith, group_fits old c.args.first g 0 c.requires.table named (omega arith))) c.index-then-index-eq0.ensures in
     closed_last old new c.args.first g c.index-then-index-eq0.result.now c.requires.table named (omega (arith, is, some, none))
-    (λ j lt. subst (λ h. at old.cells.items (h * 256 + j) ≡ at old.cells.items (h * 256)) same (c.requires.can.even (ap (slice_index old.counts.items) same
-    ∙ omega (arith, is, some, none)) j lt))
+    (λ j lt. rw same at (c.requires.can.even (rw same (omega (arith, is, some, none))) j lt))
     (sym cell) refl refl (ap (slice_set old.counts.items g) none)
 
 pub returns-else-index-eq0 : goal.returns-else-index-eq0

@@ -1,12 +1,11 @@
 -- The group of the first bits, perhaps a new one, has one rule more.
-use Rattle.std.proofs.Common.{◌+◌, ◌*◌, refl, sym, ◌∙◌, ap, subst, arith, length}
-use Rattle.std.specs.Prelude.{◌==◌, position}
+use Rattle.std.proofs.Common.{◌+◌, ◌*◌, refl, ◌∙◌, ap, arith, length}
 use Rattle.std.specs.Vec.{with_item, with_items}
 use Rattle.std.proofs.lemmas.List.{with_items_is}
 use Rattle.dp_lpm.specs.declared.table.Table.{Table}
 use Rattle.dp_lpm.specs.Cells.{entry_in}
 use Rattle.dp_lpm.proofs.Entries.{grouped_by, plain_by, number_at, entry_at}
-use Rattle.dp_lpm.proofs.Filling.{FilledUpTo, filled_between}
+use Rattle.dp_lpm.proofs.Overwriting.{ChangedUpTo}
 use Rattle.dp_lpm.proofs.Groups.{opened_more}
 use Rattle.dp_lpm.proofs.Opening.{opened_new, free_index}
 use Rattle.dp_lpm.proofs.table.Table.open.Goals as goal
@@ -44,12 +43,11 @@ returns c =
       counts = with_item old.counts g 1;
     } in
     let none = plain_by old c.args.first c.index-cell.result.now (omega arith) c.index-cell.ensures (λ h e. c.in_default.not-Group h (c.entry.ensures ∙ e)) in
-    let free = free_index old.counts.items g (ap (position (λ n. n == 0)) (sym c.deref.ensures.value) ∙ (sym c.free_group.ensures ∙ c.in-Some.is)) in
+    let free = free_index old.counts.items g (rw (← c.deref.ensures.value, ← c.free_group.ensures) c.in-Some.is) in
     let now = with_items_is old.cells c.fill.new.cells (c.fill.ensures.len ∙ c.deref_mut.ensures.len) in
     let first = entry_at old.first.items c.args.first c.index-cell.result.now (omega arith) c.index-cell.ensures in
-    let so : FilledUpTo (g * 256) (g * 256 + 256) (entry_in c.index-cell.result.now) c.deref_mut.result.now c.fill.new.cells =
+    let so : ChangedUpTo (g * 256) (g * 256 + 256) (λ _. entry_in c.index-cell.result.now) c.deref_mut.result.now c.fill.new.cells =
     record { inside = c.fill.ensures.inside; below = c.fill.ensures.below; above = c.fill.ensures.above } in
     opened_new old new c.args.first g c.of.result c.requires.table c.requires.there none free.0 free.1 c.of.ensures refl
     (ap length now ∙ (c.fill.ensures.len ∙ ap length c.deref_mut.ensures.value))
-    (filled_between (g * 256) (g * 256 + 256) _ _ _ _ _ c.deref_mut.ensures.value (sym now)
-    (subst (λ e. FilledUpTo (g * 256) (g * 256 + 256) e c.deref_mut.result.now c.fill.new.cells) (sym first) so)) refl
+    (rw now (rw (c.deref_mut.ensures.value, ← first) at so)) refl

@@ -1,7 +1,6 @@
 -- One block more.
-use Rattle.std.proofs.Common.{◌≡◌, ◌+◌, ◌*◌, ◌/◌, subst, arith}
+use Rattle.std.proofs.Common.{◌≡◌, ◌+◌, ◌*◌, ◌/◌, arith}
 use Rattle.dp_lpm.specs.Cells.{entry_in}
-use Rattle.dp_lpm.specs.Tables.{Overwritten}
 use Rattle.dp_lpm.proofs.OverwritingWithin.{overwritten_none, overwritten_joined}
 use Rattle.dp_lpm.proofs.table.Table.overwrite_shallower.Goals as goal
 
@@ -16,14 +15,10 @@ loop-k-preserved c =
     let whole = (c.requires.range.whole c.if-size-lt-GROUP_ENTRIES.false).0 in
     let next : (c.args.start / 256 + c.loop-k.k) * 256 + 0 ≡ c.args.start + c.loop-k.k * 256 = omega (arith, whole) in
     let more : c.loop-k.k * 256 + 256 ≡ (c.loop-k.k + 1) * 256 = omega arith in
-    subst (λ n. Overwritten c.args.start n c.args.depth (entry_in c.args.to) c.args.self.now c.overwrite_within-in-loop-k.new.self) more
-    (overwritten_joined c.args.start (c.loop-k.k * 256) 256 c.args.depth (entry_in c.args.to) c.args.self.now c.loop-k.self
-    c.overwrite_within-in-loop-k.new.self
-    c.loop-k.invariant
-    (subst (λ n. Overwritten n 256 c.args.depth (entry_in c.args.to) c.loop-k.self c.overwrite_within-in-loop-k.new.self) next
-    c.overwrite_within-in-loop-k.ensures))
+    rw (← more) (overwritten_joined c.args.start (c.loop-k.k * 256) 256 c.args.depth (entry_in c.args.to) c.args.self.now c.loop-k.self
+    c.overwrite_within-in-loop-k.new.self c.loop-k.invariant (rw next at c.overwrite_within-in-loop-k.ensures))
 
 pub returns : goal.returns
 returns c =
     let whole = (c.requires.range.whole c.if-size-lt-GROUP_ENTRIES.false).1 in
-    subst (λ n. Overwritten c.args.start n c.args.depth (entry_in c.args.to) c.args.self.now c.loop-k.self) (omega (arith, whole)) c.loop-k.invariant
+    let all : c.loop-k.k * 256 ≡ c.args.size = omega (arith, whole) in rw all at c.loop-k.invariant

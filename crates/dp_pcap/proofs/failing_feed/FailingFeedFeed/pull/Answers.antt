@@ -8,15 +8,15 @@ use Rattle.std.specs.Io.KnownBytes.{Consumes, IsAtEnd}
 use Rattle.dp_pcap.proofs.failing_feed.FailingFeedFeed.pull.Goals as goal
 
 -- a read into the front of a buffer, seen as one of no more than `limit` bytes
-limit-Consumes : (a b : Option (List ℕ)) (part rest : List ℕ) (limit n : ℕ) → n ≤ length part → n ≤ limit → (0 < length (part ++ rest) → 0 < length part)
+limit-Consumes : (a b : Option (List ℕ)) (part rest : List ℕ) {limit n : ℕ} → n ≤ length part → n ≤ limit → (0 < length (part ++ rest) → 0 < length part)
     → Consumes a b (take n part) × (n ≡ 0 → 0 < length part → IsAtEnd b)
     → Consumes (option_map (take limit) a) (option_map (take (limit - n)) b) (take n (part ++ rest))
     × (n ≡ 0 → 0 < length (part ++ rest) → IsAtEnd (option_map (take (limit - n)) b))
-limit-Consumes None None part rest limit n fits within room (read, end) = (tt, λ _ _. tt)
-limit-Consumes None (Some ys) part rest limit n fits within room (read, end) =
+limit-Consumes None None part rest fits within room (read, end) = (tt, λ _ _. tt)
+limit-Consumes None (Some ys) part rest {limit = limit} {n = n} fits within room (read, end) =
     (tt, λ zero some. ap (take (limit - n)) (end zero (room some)) ∙ take_all (limit - n) [] zero-le)
-limit-Consumes (Some xs) None part rest limit n fits within room (read, end) = absurd read
-limit-Consumes (Some xs) (Some ys) part rest limit n fits within room (read, end) =
+limit-Consumes (Some xs) None part rest fits within room (read, end) = absurd read
+limit-Consumes (Some xs) (Some ys) part rest {limit = limit} {n = n} fits within room (read, end) =
     let front = take n part in
     let split : limit ≡ length front + (limit - n) = omega (arith, length-take-le n part fits) in (
       ap (take limit) read ∙ ap (λ k. take k (front ++ ys)) split ∙ take-append-add front ys (limit - n)
@@ -26,7 +26,7 @@ limit-Consumes (Some xs) (Some ys) part rest limit n fits within room (read, end
 
 pub returns-in-Ok-clause-bytes : goal.returns-in-Ok-clause-bytes
 returns-in-Ok-clause-bytes g c =
-    limit-Consumes _ _ _ _ _ _ c.in-Ok.ensures.bound (search rules)
+    limit-Consumes _ _ _ _ c.in-Ok.ensures.bound (search rules)
     (λ h. omega (
       arith,
       h,

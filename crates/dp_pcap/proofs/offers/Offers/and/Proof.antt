@@ -39,14 +39,16 @@ and_spec 𝓤 𝓛 𝓜 𝓡 wired =
     let c = f.clauses 𝓛 𝓜.mem 𝓡.returns in
     proved 𝓛 f.ended stayed c 𝓜 𝓡 (Goes-dropped 𝓛 2 before yes (λ κs x w. refl), (Goes-dropped 𝓛 2 bytes yes (λ κs x w. refl), tt))
     f.Key.name code.function (code.unfolded 𝓤 𝓛.H 𝓜 𝓡 wired)
-    (λ κs. (shr_vals, (shr_slice_vals, tt))) (λ κs. (shr_Tells (named 0) κs.0 the_row, (shr_slice_Tells (named 1) κs.1.0 u8, tt))) (λ κs qs bounds a _ are.
-    let passed = owns (types_at f.signature.params κs) a (shr_vals a.0, (shr_slice_vals a.1.0, tt)) in
-    let more : List (List ℕ) = a.0.now.pieces ++ a.1.0.now ∷ [] in
+    (λ κs. (shr_vals, (shr_slice_vals, tt))) (λ (old, (piece, _)). (shr_Tells (named 0) old the_row, (shr_slice_Tells (named 1) piece u8, tt)))
+    (λ κs qs bounds a _ (_, (((_, (fits, _)), _), _)).
+    let (old, (piece, _)) = a in
+    let passed = owns (types_at f.signature.params κs) a (shr_vals old, (shr_slice_vals piece, tt)) in
+    let more : List (List ℕ) = old.now.pieces ++ piece.now ∷ [] in
     qed 𝓛 ((raw (alive 𝓛 f.signature κs qs) ⊛ ‵ passed) ∷ ‵ ftrue ∷ []) ∵ split ! $ keep ! (0 ∷ []) $
-    enter ! _ _ _ _ _ $ alloc_all ! (λ l. pass_all ! refl ((tt, tt), ((tt, (tt, (record { fits = are.1.0.0.1.0 }, tt))), tt)) $
+    enter ! _ _ _ _ _ $ alloc_all ! (λ l. pass_all ! refl ((tt, tt), ((tt, (tt, (record { fits = fits }, tt))), tt)) $
     sets ! (agg ! (no_more !)) refl (tt, tt) $
     returns ! (look_at ! 0 refl) $ free_all ! refl $
-    suffices ! _ (ends_at 𝓛 f.ended stayed c ((κs, qs, bounds, a, (shr_vals a.0, (shr_slice_vals a.1.0, tt))), tt) (vstruct vnil) (record { pieces = more })
+    suffices ! _ (ends_at 𝓛 f.ended stayed c ((κs, qs, bounds, a, (shr_vals old, (shr_slice_vals piece, tt))), tt) (vstruct vnil) (record { pieces = more })
     (tt, (tt, tt)) (tt, (tt, tt))) $ says ! refl $
     use0 𝓛 (‵ (the_row.own_val (record { pieces = more }) (vstruct vnil ∷ []))) (offers_of_nothing 𝓛 more) $
     nothing ! $ nothing ! $ join ! $ nothing ! $ join ! $ move ! (2 ∷ []) $ group ! 3 $ done !))

@@ -1,6 +1,5 @@
 -- `pass`: one step more, and what it went by.
-use Rattle.std.proofs.Common.{rules, ◌++◌, take, subst, ◌∙◌, arith, append_assoc}
-use Rattle.dp_pcap.specs.Counting.{IsAfter}
+use Rattle.std.proofs.Common.{rules, ◌++◌, take, ◌∙◌, arith, append_assoc}
 use Rattle.dp_pcap.proofs.Pieces.{take_more-rest}
 use Rattle.dp_pcap.proofs.whole_records.WholeRecords.pass.Goals as goal
 
@@ -14,6 +13,5 @@ loop-at-preserved c =
       order = stepped.order ∙ c.loop-at.invariant.order;
       pieces = omega (arith, stepped.pieces, stepped.some, c.loop-at.invariant.pieces);
       beyond = λ few before b. rw (take_more-rest at c.step-at.result bytes)
-          (subst (λ l. IsAfter c.step-at.new.self l) (append_assoc before (take at bytes) _)
-          (stepped.beyond (search rules) (before ++ take at bytes) (c.loop-at.invariant.beyond few before b)));
+          (rw append_assoc at (stepped.beyond (search rules) (before ++ take at bytes) (c.loop-at.invariant.beyond few before b)));
     }

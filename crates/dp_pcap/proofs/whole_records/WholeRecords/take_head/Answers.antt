@@ -32,8 +32,8 @@ returns-then-self-eq0 c = record {
   beyond = λ few before b.
       let same : c.self.inside.pieces ≡ c.args.self.now.pieces = ap (λ (v : Counted). v.pieces) c.self.view_is in
       let opened = (goal.at.returns-then-self-eq0 c).After-body_length in
-      head_ends _ _ _ _ _ _ _ _ _ _ _ _ before (none opened) (omega (arith, c.saturating_add-self-inside.ensures, few, same)) (search rules) refl (head opened)
-      (subst (λ v. IsAfter v before) (sym c.self.view_is) b);
+      head_ends before (none opened) refl (head opened) (subst (λ v. IsAfter v before) (sym c.self.view_is) b)
+      (omega (arith, c.saturating_add-self-inside.ensures, few, same)) (search rules);
 }
 
 pub returns-else-self-eq0 : goal.returns-else-self-eq0
@@ -44,5 +44,5 @@ returns-else-self-eq0 c = record {
   pieces = search rules;
   beyond = λ few before b.
       let opened = (goal.at.returns-else-self-eq0 c).After-body_length in
-      head_goes_on _ _ _ _ _ _ _ _ _ _ _ before (none opened) (search rules) refl (head opened) (subst (λ v. IsAfter v before) (sym c.self.view_is) b);
+      head_goes_on before (none opened) refl (head opened) (subst (λ v. IsAfter v before) (sym c.self.view_is) b) (search rules);
 }

@@ -9,7 +9,7 @@ overflow_add-result c =
     let few = few_parts c.self.inside.count c.self.inside.cached.items c.self.inside.queue.entries c.self.invariant.0 in
     let cached = c.len.ensures.value in
     let queued = c.count.ensures in
-    let most = c.self.invariant.5 in
+    let (_, _, _, _, _, most) = c.self.invariant in
     let small : c.len.result + c.count.result ≤ 65535 = omega (arith, few, cached, queued, most) in
     search (rules, small)
 

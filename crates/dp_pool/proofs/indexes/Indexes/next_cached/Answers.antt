@@ -17,16 +17,9 @@ one_less : (c : goal.In-Some) → length c.self.inside.cached.items ≡ length c
 one_less c = ap length (split c) ∙ length-append c.pop.new.self.items (c.in-Some.index ∷ [])
 
 pub invariant_of-self : goal.invariant_of-self
-invariant_of-self c = (
-  (left c).once,
-  c.self.invariant.1,
-  c.self.invariant.2,
-  (let less = one_less c in
-      let few = c.self.invariant.3 in omega (arith, less, few)),
-  λ is. let none = c.self.invariant.4 is in
-      let less = one_less c in omega (arith, none, less),
-  c.self.invariant.5,
-)
+invariant_of-self c =
+    let (_, room, small, few, none_cached, most) = c.self.invariant in
+    let less = one_less c in ((left c).once, room, small, omega (arith, less, few), λ is. omega (arith, none_cached is, less), most)
 
 pub returns-clause-was_in : goal.returns-clause-was_in
 returns-clause-was_in c = ap (λ v. slice_get v.out c.in-Some.index) (sym c.self.view_is) ∙ (left c).was_in

@@ -24,8 +24,8 @@ extend-requires c =
     let room = c.requires.room in
     let cache = ap (λ v. v.cache) c.self.view_is in
     let cached = ap (λ v. v.cached) c.self.view_is in
-    let most = c.self.invariant.2 in
-    omega (arith, room, cache, cached, most)
+    let (_, _, small, _, _, _) = c.self.invariant in
+    omega (arith, room, cache, cached, small)
 
 pub invariant_of-self : goal.invariant_of-self
 invariant_of-self c =
@@ -33,14 +33,14 @@ invariant_of-self c =
     let room = c.requires.room in
     let cache = ap (λ v. v.cache) c.self.view_is in
     let cached = ap (λ v. v.cached) c.self.view_is in
-    let most = c.self.invariant.2 in
+    let (_, queue_room, small, _, _, most) = c.self.invariant in
     let above = some c in (
       subst (λ xs. AreOnce c.self.inside.count (xs ++ c.self.inside.queue.entries)) (sym c.extend.ensures) (back c).1,
-      c.self.invariant.1,
-      most,
-      omega (arith, long, room, cache, cached, most),
+      queue_room,
+      small,
+      omega (arith, long, room, cache, cached, small),
       λ none. absurd (omega (arith, none, above)),
-      c.self.invariant.5,
+      most,
     )
 
 pub returns : goal.returns

@@ -18,7 +18,7 @@ pub move_out-requires-clause-room : goal.move_out-requires-clause-room
 move_out-requires-clause-room c =
     let few = pushed_few c.self.inside.count c.args.index c.self.inside.cached.items c.self.inside.queue.entries c.push.new.self.items c.push.ensures.items
     (out_of _ c.args.self.now c.args.index c.self.view_is c.requires.out) c.self.invariant.0 in
-    let room = c.self.invariant.1 in
+    let (_, room, _, _, _, _) = c.self.invariant in
     omega (arith, few, room)
 
 flushed : (c : goal.After-move_out) → Back c.self.inside.count (c.self.inside.cached.items ++ c.self.inside.queue.entries) (c.move_out.new.cached.items
@@ -41,25 +41,20 @@ keeps c =
 
 pub invariant_of-self : goal.invariant_of-self
 invariant_of-self c =
-    let is = keeps c in (
-      (flushed c).once,
-      (let same = ap (λ q. q.count) c.move_out.ensures.queue in let room = c.self.invariant.1 in omega (arith, same, room)),
-      c.self.invariant.2,
-      (let few = c.self.invariant.2 in omega (arith, is, few)),
-      λ none. is ∙ none,
-      c.self.invariant.5,
-    )
+    let (_, room, small, _, _, most) = c.self.invariant in
+    let is = keeps c in let same = ap (λ q. q.count) c.move_out.ensures.queue in
+    ((flushed c).once, omega (arith, same, room), small, omega (arith, is, small), λ none. is ∙ none, most)
 
 pub invariant_of-self-else-len-self : goal.invariant_of-self-else-len-self
 invariant_of-self-else-len-self c =
     let known = out_of _ c.args.self.now c.args.index c.self.view_is c.requires.out in
     let back = pushed_back c.self.inside.count c.args.index c.self.inside.cached.items c.self.inside.queue.entries c.push.new.self.items c.push.ensures.items
     known c.self.invariant.0 in
-    let few = c.self.invariant.2 in
-    let room = c.if-len-self.false in
+    let (_, room, small, _, _, most) = c.self.invariant in
+    let short = c.if-len-self.false in
     let long = c.len.ensures.value in
     let some = above _ c.args.self.now c.self.view_is c.requires.cache in
-    (back.once, c.self.invariant.1, c.self.invariant.2, omega (arith, few, room, long), λ none. absurd (omega (arith, none, some)), c.self.invariant.5)
+    (back.once, room, small, omega (arith, small, short, long), λ none. absurd (omega (arith, none, some)), most)
 
 pub returns-then-len-self : goal.returns-then-len-self
 returns-then-len-self c =

@@ -16,20 +16,22 @@ stands : (c : goal.After-enqueue) → c.enqueue.new.self ≡ with_more c.self.in
 stands c =
     let few = few_parts c.self.inside.count c.self.inside.cached.items (c.self.inside.queue.entries ++ c.args.index ∷ []) (put c).once in
     let long = length-append c.self.inside.queue.entries (c.args.index ∷ []) in
-    let room = c.self.invariant.1 in
+    let (_, room, _, _, _, _) = c.self.invariant in
     let some : 0 < room_in c.self.inside.queue = omega (arith, few, long, room) in
     c.enqueue.ensures.entries ∙ ap (λ t. cond t (with_more c.self.inside.queue (c.args.index ∷ [])) c.self.inside.queue)
     (lt-ltb 0 (room_in c.self.inside.queue) some)
 
 pub invariant_of-self : goal.invariant_of-self
-invariant_of-self c = (
-  subst (λ q. AreOnce c.self.inside.count (c.self.inside.cached.items ++ q.entries)) (sym (stands c)) (put c).once,
-  (let same = ap (λ q. q.count) (stands c) in let room = c.self.invariant.1 in omega (arith, same, room)),
-  c.self.invariant.2,
-  c.self.invariant.3,
-  c.self.invariant.4,
-  c.self.invariant.5,
-)
+invariant_of-self c =
+    let (_, room, small, few, none_cached, most) = c.self.invariant in
+    let same = ap (λ q. q.count) (stands c) in (
+      subst (λ q. AreOnce c.self.inside.count (c.self.inside.cached.items ++ q.entries)) (sym (stands c)) (put c).once,
+      omega (arith, same, room),
+      small,
+      few,
+      none_cached,
+      most,
+    )
 
 pub returns : goal.returns
 returns c =

@@ -10,7 +10,8 @@ offset_of-offset-requires-clause-there c = index_below c.self.inside.objects c.s
 
 pub returns : goal.returns
 returns c =
+    let (all, some, few, size_some, size_few, stride, room, home, cache, two_thirds) = c.self.invariant in
     pool_written c.self.inside.objects c.self.inside.indexes c.self.inside.count c.self.inside.size c.args.index c.args.self.now c.self.view_is
     c.requires.object
     c.args.at (replicate c.args.len 0) c.offset_of-offset.result c.clear.new.self c.offset_of-offset.ensures.value (let long =
-    length-replicate {A = ℕ} c.args.len 0 in let fits = c.requires.fits in omega (arith, long, fits)) c.self.invariant.6 c.clear.ensures
+    length-replicate {A = ℕ} c.args.len 0 in let fits = c.requires.fits in omega (arith, long, fits)) room c.clear.ensures

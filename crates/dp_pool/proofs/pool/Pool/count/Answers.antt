@@ -13,7 +13,7 @@ returns-clause-pool c =
       queue_name = c.self.inside.indexes.name;
       queue_offset = c.self.inside.indexes.offset;
     } in
+    let (count, some, few, size_some, size_few, _, room, _, cache, two_thirds) = c.self.invariant in
     let small = rw c.bytes.ensures at c.are_small.ensures in
     subst IsPool c.self.view_is (is_pool c.self.inside.size c.self.inside.indexes.cache c.self.inside.indexes.cached c.self.inside.count
-    c.self.inside.objects.bytes c.self.inside.indexes.out zones c.self.invariant.0 c.self.invariant.1 c.self.invariant.2 c.self.invariant.6 small
-    (c.self.invariant.3, c.self.invariant.4) (c.self.invariant.8, c.self.invariant.9))
+    c.self.inside.objects.bytes c.self.inside.indexes.out zones count some few room small (size_some, size_few) (cache, two_thirds))

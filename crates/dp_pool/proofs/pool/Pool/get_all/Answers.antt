@@ -16,16 +16,16 @@ loop-slot-preserved c =
     let was_in = c.in-Some.ensures.0 in
     let new = c.in-Some.ensures.1 in
     let one_more : suc i ≡ i + 1 = omega arith in
-    let long = c.loop-slot.invariant.2 in
+    let long = c.loop-slot.invariant.long in
     let next : take (i + 1) (slice_set indexes i index) ≡ take i indexes ++ index ∷ [] =
     ap (λ n. take n (slice_set indexes i index)) (sym one_more) ∙ take-suc-set indexes i index
     (omega (arith, long, c.loop-slot-test.true, c.loop-slot.auto.slot-index-end)) in
     let fewer = in_count_taken old.out index was_in in
     let counted = ap (λ v. in_count v.out) new in
-    let before = c.loop-slot.invariant.1 in (
-      subst (λ is. AreGot c.args.self.now is c.get.new.self) (sym next)
+    let before = c.loop-slot.invariant.counted in record {
+      got = subst (λ is. AreGot c.args.self.now is c.get.new.self) (sym next)
           (subst (λ v. AreGot c.args.self.now (take i indexes ++ index ∷ []) v) (sym new)
-          (are_got_more c.args.self.now old (take i indexes) index c.loop-slot.invariant.0 was_in)),
-      omega (arith, fewer, counted, before),
-      length-set indexes i index ∙ long,
-    )
+          (are_got_more c.args.self.now old (take i indexes) index c.loop-slot.invariant.got was_in));
+      counted = omega (arith, fewer, counted, before);
+      long = length-set indexes i index ∙ long;
+    }

@@ -22,17 +22,18 @@ pub returns-clause-made : goal.returns-clause-made
 returns-clause-made c =
     let objects = c.in-Ok.ensures in
     let queue = c.in-Ok-reserve.ensures in
-    let numbers = c.in_default.ensures.none in
+    let (count, size, cache) = c.in_default.ensures.none in
     let made = c.over.ensures in
+    let (size_is, cache_is, cached, length_is, all_in) = made.numbers in
     record {
-      count = numbers.0;
-      size_fits = numbers.1;
-      cache_fits = numbers.2;
-      size_is = made.numbers.0;
-      cache_is = made.numbers.1;
-      cached = made.numbers.2;
-      objects = made.numbers.3;
-      all_in = made.numbers.4;
+      count = count;
+      size_fits = size;
+      cache_fits = cache;
+      size_is = size_is;
+      cache_is = cache_is;
+      cached = cached;
+      objects = length_is;
+      all_in = all_in;
       home_is = ap (λ z. z.home) made.zones ∙ objects.zone.1;
       names = (ap (λ z. z.object_name) made.zones ∙ objects.zone.0, ap (λ z. z.queue_name) made.zones ∙ queue.zone.0);
       len = 4 * c.queue_count-slots.result;

@@ -15,7 +15,7 @@ returns c =
     let count = c.self.inside.count in
     let size = c.self.inside.size in
     let now = c.args.self.now in
-    let room = c.self.invariant.6 in
+    let (all, some, few, size_some, size_few, stride, room, home, cache, two_thirds) = c.self.invariant in
     let offset = c.offset_of-offset.ensures.value in (
       (refl, pool_left zone indexes count size c.args.index now c.self.view_is c.requires c.offset_of-offset.result offset room),
       record {

@@ -1,5 +1,5 @@
 -- What is put back to the indexes is put back to the pool.
-use Rattle.std.proofs.Common.{◌∙◌, ◌≤◌, ◌*◌, length, ap, subst, sym}
+use Rattle.std.proofs.Common.{◌∙◌, length, ap, subst, sym, arith}
 use Rattle.dp_pool.specs.Queues.{AreOut}
 use Rattle.dp_pool.specs.Pools.{all_back}
 use Rattle.dp_pool.proofs.Pools.{pool_of}
@@ -13,17 +13,19 @@ pub invariant_of-self : goal.invariant_of-self
 invariant_of-self c =
     let is = c.args.indexes.now in
     let kept = returned_keeps is c.self.inside.indexes in
-    let new = c.put_all.ensures in (
-      ap (λ v. length v.out) new ∙ (kept.0 ∙ c.self.invariant.0),
-      c.self.invariant.1,
-      c.self.invariant.2,
-      c.self.invariant.3,
-      c.self.invariant.4,
-      c.self.invariant.5,
-      c.self.invariant.6,
-      ap (λ v. v.home) new ∙ (kept.2 ∙ c.self.invariant.7),
-      subst (λ n. n ≤ 512) (sym (ap (λ v. v.cache) new ∙ kept.1)) c.self.invariant.8,
-      subst (λ n. 3 * n ≤ 2 * c.self.inside.count) (sym (ap (λ v. v.cache) new ∙ kept.1)) c.self.invariant.9,
+    let new = c.put_all.ensures in
+    let same = ap (λ v. v.cache) new ∙ kept.cache in
+    let (count, some, few, size_some, size_few, stride, room, home, cache, two_thirds) = c.self.invariant in (
+      ap (λ v. length v.out) new ∙ (kept.count ∙ count),
+      some,
+      few,
+      size_some,
+      size_few,
+      stride,
+      room,
+      ap (λ v. v.home) new ∙ (kept.home ∙ home),
+      omega (arith, same, cache),
+      omega (arith, same, two_thirds),
     )
 
 pub returns-clause-back : goal.returns-clause-back

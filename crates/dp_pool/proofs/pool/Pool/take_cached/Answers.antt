@@ -1,5 +1,5 @@
 -- What the indexes hand out the pool hands out.
-use Rattle.std.proofs.Common.{◌∙◌, ◌≤◌, ◌*◌, subst, sym}
+use Rattle.std.proofs.Common.{◌∙◌, subst, arith}
 use Rattle.dp_pool.specs.Pools.{AreGot}
 use Rattle.dp_pool.proofs.Pools.{pool_of}
 use Rattle.dp_pool.proofs.Bulk.{handed_got, handed_keeps}
@@ -7,17 +7,18 @@ use Rattle.dp_pool.proofs.pool.Pool.take_cached.Goals as goal
 
 pub invariant_of-self : goal.invariant_of-self
 invariant_of-self c =
-    let kept = handed_keeps c.take_cached.new.indexes c.self.inside.indexes c.take_cached.new.self c.take_cached.ensures.handed in (
-      kept.0 ∙ c.self.invariant.0,
-      c.self.invariant.1,
-      c.self.invariant.2,
-      c.self.invariant.3,
-      c.self.invariant.4,
-      c.self.invariant.5,
-      c.self.invariant.6,
-      kept.2 ∙ c.self.invariant.7,
-      subst (λ n. n ≤ 512) (sym kept.1) c.self.invariant.8,
-      subst (λ n. 3 * n ≤ 2 * c.self.inside.count) (sym kept.1) c.self.invariant.9,
+    let kept = handed_keeps c.take_cached.new.indexes c.self.inside.indexes c.take_cached.new.self c.take_cached.ensures.handed in
+    let (count, some, few, size_some, size_few, stride, room, home, cache, two_thirds) = c.self.invariant in (
+      kept.count ∙ count,
+      some,
+      few,
+      size_some,
+      size_few,
+      stride,
+      room,
+      kept.home ∙ home,
+      omega (arith, kept.cache, cache),
+      omega (arith, kept.cache, two_thirds),
     )
 
 pub returns-clause-got : goal.returns-clause-got

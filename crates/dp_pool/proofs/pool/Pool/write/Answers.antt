@@ -8,6 +8,7 @@ offset_of-offset-requires-clause-there c = index_below c.self.inside.objects c.s
 
 pub returns : goal.returns
 returns c =
+    let (all, some, few, size_some, size_few, stride, room, home, cache, two_thirds) = c.self.invariant in
     pool_written c.self.inside.objects c.self.inside.indexes c.self.inside.count c.self.inside.size c.args.index c.args.self.now c.self.view_is
     c.requires.object
-    c.args.at c.args.bytes.now c.offset_of-offset.result c.write.new.self c.offset_of-offset.ensures.value c.requires.fits c.self.invariant.6 c.write.ensures
+    c.args.at c.args.bytes.now c.offset_of-offset.result c.write.new.self c.offset_of-offset.ensures.value c.requires.fits room c.write.ensures

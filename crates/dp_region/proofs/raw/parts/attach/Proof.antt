@@ -28,7 +28,7 @@ attach_spec 𝓤 𝓛 𝓜 𝓡 wired =
       Goes-blank 𝓛 0 (plain (λ _. Shell.the_row)) yes (λ κs x z. tt),
       (Goes-blank 𝓛 0 (plain (λ _. Run.the_row)) yes (λ κs x z. tt), tt),
     ) f.Key.name code.function (code.unfolded 𝓤 𝓛.H 𝓜 𝓡 wired) (λ y are.
-    let e = y.0.3.0 in let r = y.0.3.1.0 in let xs = r.bytes in let ss = y.0.4.0 in let rs = y.0.4.1.0 in
+    let (_, _, _, args, words) = y.0 in let (e, (r, _)) = args in let xs = r.bytes in let (ss, (rs, _)) = words in
     qed 𝓛 ((‵ ftrue ⊛ ‵ (Shell.the_row.own_val e ss) ⊛ ‵ (Run.the_row.own_val r rs) ⊛ ‵ ftrue) ∷ raw (fact 𝓤 ((r.start ≡ e.ptr) × (length xs ≡ e.len))) ∷ [])
     ∵ move ! (1 ∷ []) $ heard ! _ (λ asked.
     let none : rs ≡ bare ∷ [] = run_laws.lowers.val_is r rs are.1.0 in

@@ -25,9 +25,10 @@ detach_spec 𝓤 𝓛 𝓜 𝓡 wired =
     let c = f.clauses 𝓛 𝓜.mem 𝓡.returns in let W = walk_of 𝓛 f.ended stayed c in let 𝓣 = tables 𝓤 𝓛.H 𝓜 𝓡 𝓡.env in
     proved_at 𝓛 f.ended stayed c 𝓜 𝓡 (Goes-blank 𝓛 0 (plain (λ _. Owner)) yes (λ κs x z. tt), tt) f.Key.name code.function (code.unfolded 𝓤 𝓛.H 𝓜 𝓡 wired)
     (λ y are.
-    let v = y.0.3.0 in let run : (Run.the_row).Denot = record { start = v.ptr; bytes = v.items } in let shell : (Shell.the_row).Denot = extent v in
-    qed 𝓛 ((‵ ftrue ⊛ ‵ (Owner.own_val v y.0.4.0) ⊛ ‵ ftrue) ∷ raw (fact 𝓤 (0 < v.len)) ∷ []) ∵ move ! (1 ∷ []) $ heard ! _ (λ some.
-    split ! $ move ! (1 ∷ []) $ split ! $ keep ! (0 ∷ []) $ told ! Owner owner_laws v y.0.4.0 (λ u is fits. let whole =
+    let (_, _, _, args, words) = y.0 in let v = args.0 in let run : (Run.the_row).Denot = record { start = v.ptr; bytes = v.items } in
+    let shell : (Shell.the_row).Denot = extent v in
+    qed 𝓛 ((‵ ftrue ⊛ ‵ (Owner.own_val v words.0) ⊛ ‵ ftrue) ∷ raw (fact 𝓤 (0 < v.len)) ∷ []) ∵ move ! (1 ∷ []) $ heard ! _ (λ some.
+    split ! $ move ! (1 ∷ []) $ split ! $ keep ! (0 ∷ []) $ told ! Owner owner_laws v words.0 (λ u is fits. let whole =
     as_fields (layout Owner ∷ []) (u ∷ []) (fits, tt) in
     use1 𝓛 (‵ (run_owns v.ptr v.items) ⊛ ‵ (Shell.the_row.own_val shell (cased u ∷ []))) (shelled 𝓛 v u fits some) $ split ! $ hold ! (run_owns v.ptr v.items) $
     nothing ! $ move ! (2 ∷ 0 ∷ []) $ fjoin ! $ move ! (1 ∷ 0 ∷ []) $ fjoin ! $ put_together ! (Run.the_row ∷ Shell.the_row ∷ []) (

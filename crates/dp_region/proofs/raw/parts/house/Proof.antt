@@ -47,15 +47,15 @@ house_spec 𝓤 𝓛 𝓜 𝓡 wired =
     let y : Ptr → W.Ghost = λ p. ((κs, qs, bounds, (r, (p, (n, tt))), (bare ∷ [], (rawptr_vals p, (word, tt)))), g) in
     qed 𝓛 ((‵ ftrue ⊛ ‵ (Run.the_row.own_val r (bare ∷ [])) ⊛ ‵ (RawPtr.own_val a.1.0 (rawptr_vals a.1.0)) ⊛ ‵ (usize.own_val n word) ⊛ ‵ ftrue)
     ∷ raw (fact 𝓤 ((r.start ≡ a.1.0) × (length xs ≡ n) × (0 < n) × (n < 2 ^ 63))) ∷ []) ∵
-    move ! (1 ∷ []) $ heard ! _ (λ asked. split ! $ move ! (1 ∷ []) $ split ! $ keep ! (0 ∷ []) $ release ! (run_owns r.start xs) $
-    rewrite ! 0 (λ p. ‵ (run_owns p xs)) asked.0 refl $ in_a_block ! a.1.0 (λ p. run_owns p xs) (id⊢ 𝓤 (never 𝓤)) (λ b o at.
+    move ! (1 ∷ []) $ heard ! _ (λ asked. let (begins, long, filled, small) = asked in split ! $ move ! (1 ∷ []) $ split ! $ keep ! (0 ∷ []) $
+    release ! (run_owns r.start xs) $ rewrite ! 0 (λ p. ‵ (run_owns p xs)) begins refl $ in_a_block ! a.1.0 (λ p. run_owns p xs) (id⊢ 𝓤 (never 𝓤)) (λ b o at.
     let p = block_ptr b o in
     regoal ! (λ q. prop (WpFn 𝓤 𝓛.H 𝓣.C 𝓣.Λ code.function (bare ∷ ptr_val q ∷ word) (W.post (y q)))) at refl $
     enter ! _ _ _ _ _ $ alloc_all ! (λ l. pass_all ! refl ((tt, tt), ((tt, tt), ((tt, record { fits = are.1.1.0.1 }), tt))) $ first ! $ blocks ! $
     let G = triple_of 𝓛 (callee.signature u8) (callee.spec u8 𝓛 𝓜.mem 𝓡.returns) in
     let z : G.Ghost = ((([], tt), (full_share, tt), tt, (p, (n, (n, tt))), (vptr b o ∷ [], (word, (word, tt)))), xs) in
-    let Asks : Type 0 = (n ≡ length xs) × (n ≤ n) × (n < 2 ^ 63) in let asks : Asks = (sym asked.1, omega arith, asked.3) in
-    use1 𝓛 (‵ (lodged u8 p n n xs)) (moves_in 𝓛 xs n (sym asked.1) b o asked.2 asked.3) $
+    let Asks : Type 0 = (n ≡ length xs) × (n ≤ n) × (n < 2 ^ 63) in let asks : Asks = (sym long, omega arith, small) in
+    use1 𝓛 (‵ (lodged u8 p n n xs)) (moves_in 𝓛 xs n (sym long) b o filled small) $
     use0 𝓛 (raw (fact 𝓤 Asks)) (fact_i 𝓤 Asks (emp 𝓤) asks) $ join ! $ use0 𝓛 (raw (fact 𝓤 ([] ⊑ []))) (fact_i 𝓤 ([] ⊑ []) (emp 𝓤) (⊑_refl [])) $ join ! $
     -- [what `lodge` asks]
     nothing ! $ flt_i ! n (2 ^ 64) (omega arith) $ feq_i ! (List Val) word word refl $ fjoin ! $ fjoin ! $
@@ -69,10 +69,10 @@ house_spec 𝓤 𝓛 𝓜 𝓡 wired =
     some (λ (ws : Unit {0} × (Unit {0} × (Unit {0} × Unit {0}))). ‵ (fsep ftrue (fsep ftrue (fsep ftrue ftrue))) ⊛ raw
     (fact 𝓤 ((vec.items ≡ xs) × (vec.len ≡ n) × (vec.cap ≡ n) × (vec.ptr ≡ p))))))) (id⊢ 𝓤 _) $
     await ! tt $ pick ! (λ vec. split ! $ split ! $ drop ! $ move ! (1 ∷ []) $ pick ! (λ ws. split ! $ drop ! $ heard ! _ (λ says_it.
-    told ! Lodger lodger_laws vec (v ∷ []) (λ u same fits. let v≡u = ap only same in
+    let (items, len, _, ptr) = says_it in told ! Lodger lodger_laws vec (v ∷ []) (λ u same fits. let v≡u = ap only same in
     let good : Fits (layout Lodger) v = subst (Fits (layout Lodger)) (sym v≡u) fits in
     rewrite ! 0 (λ w. ‵ (Lodger.own_val vec (w ∷ []))) (sym v≡u) refl $ lands_last ! refl good $
     exec ! 𝓣.C 𝓣.Λ (env code.function.locals l) (seq (assign (place 0 []) (rv_opd (copy (place 4 [])))) return) (at_ret _ (W.post (y p))) $
     sets ! (of_opd ! (get ! refl)) refl good $ returns ! (look_at ! 0 refl) $ free_all ! refl $
-    suffices ! _ (ends_at 𝓛 f.ended stayed c (y p) v vec (tt, (tt, (tt, tt))) (tt, (tt, (tt, tt)))) $ says ! (says_it.0, says_it.1, says_it.3) $
+    suffices ! _ (ends_at 𝓛 f.ended stayed c (y p) v vec (tt, (tt, (tt, tt))) (tt, (tt, (tt, tt)))) $ says ! (items, len, ptr) $
     nothing ! $ nothing ! $ join ! $ nothing ! $ join ! $ nothing ! $ join ! $ nothing ! $ group ! 3 $ done !)))))))))

@@ -37,9 +37,9 @@ vacate_spec 𝓤 𝓛 𝓜 𝓡 wired =
     let c = f.clauses 𝓛 𝓜.mem 𝓡.returns in let W = walk_of 𝓛 f.ended stayed c in let 𝓣 = tables 𝓤 𝓛.H 𝓜 𝓡 𝓡.env in
     proved_at 𝓛 f.ended stayed c 𝓜 𝓡 (Goes-blank 𝓛 0 (plain (λ _. Lodger)) yes (λ κs x z. tt), tt) f.Key.name code.function (code.unfolded 𝓤 𝓛.H 𝓜 𝓡 wired)
     (λ y are.
-    let v = y.0.3.0 in let out : (Run.the_row).Denot = record { start = v.ptr; bytes = v.items } in
-    qed 𝓛 ((‵ ftrue ⊛ ‵ (Lodger.own_val v y.0.4.0) ⊛ ‵ ftrue) ∷ raw (fact 𝓤 (0 < v.len)) ∷ []) ∵ move ! (1 ∷ []) $ heard ! _ (λ filled.
-    split ! $ move ! (1 ∷ []) $ split ! $ keep ! (0 ∷ []) $ told ! Lodger lodger_laws v y.0.4.0 (λ u is fits.
+    let (_, _, _, args, words) = y.0 in let v = args.0 in let out : (Run.the_row).Denot = record { start = v.ptr; bytes = v.items } in
+    qed 𝓛 ((‵ ftrue ⊛ ‵ (Lodger.own_val v words.0) ⊛ ‵ ftrue) ∷ raw (fact 𝓤 (0 < v.len)) ∷ []) ∵ move ! (1 ∷ []) $ heard ! _ (λ filled.
+    split ! $ move ! (1 ∷ []) $ split ! $ keep ! (0 ∷ []) $ told ! Lodger lodger_laws v words.0 (λ u is fits.
     regoal ! (λ us. prop (WpFn 𝓤 𝓛.H 𝓣.C 𝓣.Λ code.function (us ++ []) (W.post y))) is refl $
     enter ! _ _ _ _ _ $ alloc_all ! (λ l. pass_all ! refl (fits, tt) $ sets ! (of_opd ! (get ! refl)) refl fits $
     let G = triple_of 𝓛 (callee.signature u8) (callee.spec u8 𝓛 𝓜.mem 𝓡.returns) in

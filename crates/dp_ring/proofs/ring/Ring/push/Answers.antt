@@ -16,23 +16,24 @@ few c =
 
 -- the slot lies in the zone
 fits : (c : goal.After-self-1) → 4 * c.slot_after-slot.result + 4 ≤ length c.self.inside.zone.bytes
-fits c = let small = c.slot_after-slot.ensures.bound in let room = c.self.invariant.3 in omega (arith, small, room)
+fits c = let (_, _, _, room) = c.self.invariant in omega (arith, c.slot_after-slot.ensures.bound, room)
 
 long : (c : goal.After-self-1) → length c.store_one.new.zone.bytes ≡ length c.self.inside.zone.bytes
 long c = ap (λ z. length z.bytes) c.store_one.ensures ∙ length-with_number c.self.inside.zone.bytes (4 * c.slot_after-slot.result) c.args.value (fits c)
 
 pub invariant_of-self : goal.invariant_of-self
-invariant_of-self c = (c.self.invariant.0, few c, c.self.invariant.2, let is = long c in let room = c.self.invariant.3 in omega (arith, is, room))
+invariant_of-self c =
+    let (first, _, slots, room) = c.self.invariant in (first, few c, slots, omega (arith, long c, room))
 
 pub returns : goal.returns
 returns c =
-    let bytes = c.self.inside.zone.bytes in
+    let bytes = c.self.inside.zone.bytes in let (first, _, _, room) = c.self.invariant in
     let stands : entries_from c.store_one.new.zone.bytes c.self.inside.count c.self.inside.first (c.self.inside.used + 1)
     ≡ entries_from bytes c.self.inside.count c.self.inside.first c.self.inside.used ++ c.args.value ∷ [] =
     ap (λ z. entries_from z.bytes c.self.inside.count c.self.inside.first (c.self.inside.used + 1)) c.store_one.ensures
     ∙ (ap (λ p. entries_from (with_number bytes (4 * p) 4 c.args.value) c.self.inside.count c.self.inside.first (c.self.inside.used + 1))
     c.slot_after-slot.ensures.value
-    ∙ entries_pushed bytes c.self.inside.count c.self.inside.first c.self.inside.used c.args.value c.self.invariant.0 (few c) c.self.invariant.3
+    ∙ entries_pushed bytes c.self.inside.count c.self.inside.first c.self.inside.used c.args.value first (few c) room
     c.ranges.value.fits) in
     let name = ap (λ z. z.name) c.store_one.ensures in
     let home = ap (λ z. z.home) c.store_one.ensures in

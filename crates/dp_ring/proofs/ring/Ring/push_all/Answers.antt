@@ -20,11 +20,12 @@ long : (c : goal.After-self-1) → length c.store_run-2.new.zone.bytes ≡ lengt
 long c = c.store_run-2.ensures.bytes.long ∙ c.store_run.ensures.bytes.long
 
 pub invariant_of-self : goal.invariant_of-self
-invariant_of-self c = (c.self.invariant.0, few c, c.self.invariant.2, let is = long c in let room = c.self.invariant.3 in omega (arith, is, room))
+invariant_of-self c =
+    let (first, _, slots, room) = c.self.invariant in (first, few c, slots, omega (arith, long c, room))
 
 pub returns : goal.returns
 returns c =
-    let values = c.args.values.now in
+    let values = c.args.values.now in let (first, _, _, room) = c.self.invariant in
     let n = c.before_turn-number.result in
     let inside = c.self.inside in
     let p = c.slot_after-slot.ensures.value in
@@ -35,11 +36,15 @@ returns c =
     let cut = subst (λ slot. (n ≡ length values) ⊎ (n ≡ inside.count - slot)) p c.before_turn-number.ensures.cut in
     let stands : entries_from c.store_run-2.new.zone.bytes inside.count inside.first (inside.used + length values)
     ≡ entries_from inside.zone.bytes inside.count inside.first inside.used ++ values =
-    entries_stored inside.count inside.first inside.used n values inside.zone.bytes c.store_run.new.zone.bytes c.store_run-2.new.zone.bytes c.self.invariant.0
-    (few c) c.self.invariant.3 c.before_turn-number.ensures.most.0 fits cut front back in
-    let name = c.store_run-2.ensures.others.0 ∙ c.store_run.ensures.others.0 in
-    let home = c.store_run-2.ensures.others.1 ∙ c.store_run.ensures.others.1 in
-    let offset = c.store_run-2.ensures.others.2 ∙ c.store_run.ensures.others.2 in
-    let len = long c in
-    (λ i. record { count = inside.count; entries = stands i; name = name i; home = home i; offset = offset i; len = len i })
+    entries_stored inside.count inside.first inside.used n values inside.zone.bytes c.store_run.new.zone.bytes c.store_run-2.new.zone.bytes first
+    (few c) room c.before_turn-number.ensures.most.0 fits cut front back in
+    let (name, home, offset) = c.store_run.ensures.others in let (name', home', offset') = c.store_run-2.ensures.others in let len = long c in
+    (λ i. record {
+      count = inside.count;
+      entries = stands i;
+      name = (name' ∙ name) i;
+      home = (home' ∙ home) i;
+      offset = (offset' ∙ offset) i;
+      len = len i;
+    })
     ∙ ap (λ r. with_more r values) c.self.view_is

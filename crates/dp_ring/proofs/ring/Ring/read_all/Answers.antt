@@ -7,10 +7,11 @@ use Rattle.dp_ring.proofs.ring.Ring.read_all.Goals as goal
 
 pub load_run-requires-2 : goal.load_run-requires-2
 load_run-requires-2 c =
+    let (_, used, _, room) = c.self.invariant in
     let is = counted c.self.inside.zone.bytes c.self.inside.count c.self.inside.first c.self.inside.used in
     let all : length c.args.values.now ≤ length (the_view c.self.inside).entries =
     subst (λ r. length c.args.values.now ≤ length r.entries) (sym c.self.view_is) c.requires in
-    omega (arith, is, all, c.split_at_mut-near.ensures.back_len, c.self.invariant.1, c.self.invariant.3)
+    omega (arith, is, all, c.split_at_mut-near.ensures.back_len, used, room)
 
 pub returns : goal.returns
 returns c =

@@ -14,16 +14,16 @@ there c =
     omega (arith, is, all)
 
 pub overflow_cast-left : goal.overflow_cast-left
-overflow_cast-left c = omega (arith, there c, c.self.invariant.1, c.self.invariant.2)
+overflow_cast-left c = omega (arith, there c, c.self.invariant)
 
 pub overflow_sub-left : goal.overflow_sub-left
 overflow_sub-left c = there c
 
 pub overflow_cast-number : goal.overflow_cast-number
-overflow_cast-number c = omega (arith, there c, c.self.invariant.1, c.self.invariant.2)
+overflow_cast-number c = omega (arith, there c, c.self.invariant)
 
 pub slot_after-self-inside-requires : goal.slot_after-self-inside-requires
-slot_after-self-inside-requires c = (c.self.invariant.0, omega (arith, there c, c.self.invariant.1), c.self.invariant.2)
+slot_after-self-inside-requires c = let (first, used, slots, _) = c.self.invariant in (first, omega (arith, there c, used), slots)
 
 pub returns : goal.returns
 returns c =

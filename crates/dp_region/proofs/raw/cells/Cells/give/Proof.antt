@@ -43,13 +43,13 @@ give_spec 𝓤 𝓛 𝓜 𝓡 wired =
     qed 𝓛 ((‵ ftrue ⊛ ‵ ((Cells.the_row).own_val d (bare ∷ [])) ⊛ ‵ ((Run.the_row).own_val r (bare ∷ [])) ⊛ ‵ ((Ticket.the_row).own_val t (bare ∷ [])) ⊛ ‵
     ftrue)
     ∷ raw (fact 𝓤 ((t.home ≡ h) × (r.start ≡ ptr_at h p) × (length ws ≡ n))) ∷ []) ∵
-    move ! (1 ∷ []) $ heard ! _ (λ asked. let ours = asked.0 in let there = asked.1 in let long = asked.2 in
+    move ! (1 ∷ []) $ heard ! _ (λ asked. let (ours, there, long) = asked in
     split ! $ move ! (1 ∷ []) $ split ! $ move ! (1 ∷ []) $ split ! $ move ! (1 ∷ []) $ split ! $ keep ! (0 ∷ 2 ∷ 3 ∷ []) $
     -- [the right; the run; the cells]
     release ! (ticket t.home (p, n)) $ rewrite ! 0 (λ k. ‵ (ticket k (p, n))) ours refl $ move ! (2 ∷ []) $ release ! (cells_own h ls xs) $ fsplit ! $ move !
     (2 ∷ 1 ∷ []) $
     use2 𝓛 (given (listed (p, n) ls ≡ true) (‵ (ticket h (p, n)) ⊛ ‵ (tickets_but h ls))) (ticket_known 𝓛 h (p, n) ls) $ learn ! (λ out. split ! $
-    let bounds = listed_bounds (p, n) ls 0 (length xs) d.ok.0 out in let high = bounds.2 in
+    let bounds = listed_bounds (p, n) ls 0 (length xs) d.ok.0 out in let high = bounds.high in
     let same : length xs' ≡ length xs = length-with_bytes xs p ws (omega arith) in
     let whole : (Cells.the_row).Denot = record {
       home = h;

@@ -34,7 +34,7 @@ take_spec 𝓤 𝓛 𝓜 𝓡 wired =
     let word = vstruct (of_list (bare ∷ bare ∷ bare ∷ [])) in
     qed 𝓛 ((‵ ftrue ⊛ ‵ ((Cells.the_row).own_val d (bare ∷ [])) ⊛ ‵ (usize.own_val p (uint_vals w64 p)) ⊛ ‵ (usize.own_val n (uint_vals w64 n)) ⊛ ‵ ftrue)
     ∷ raw (fact 𝓤 ((0 < n) × (p + n ≤ length xs) × IsUnlent ls p n)) ∷ []) ∵
-    move ! (1 ∷ []) $ heard ! _ (λ asked. let some = asked.0 in let fits = asked.1 in let free = asked.2 in
+    move ! (1 ∷ []) $ heard ! _ (λ asked. let (some, fits, free) = asked in
     let kept : (Cells.the_row).Denot = record {
       home = h;
       bytes = xs;

@@ -43,14 +43,14 @@ view_spec 𝓤 𝓛 𝓜 𝓡 wired =
     qed 𝓛 (((‵ (flft κ qs.0) ⊛ ‵ ftrue) ⊛ ‵ ((ShrRef (named 0) κ Cells.the_row).own_val a.0 (shr_vals a.0)) ⊛ ‵ (RawPtr.own_val a.1.0 (rawptr_vals a.1.0)) ⊛ ‵
     (usize.own_val p (uint_vals w64 p)) ⊛ ‵ (usize.own_val n (uint_vals w64 n)) ⊛ ‵ ftrue)
     ∷ raw (fact 𝓤 ((a.1.0 ≡ ptr_at h p) × (p + n ≤ length d.bytes) × IsUnlent d.lent p n)) ∷ []) ∵
-    move ! (1 ∷ []) $ heard ! _ (λ asked. let fits = asked.1 in let small = d.ok.1 in let long : length ys ≡ n = run_long d.bytes p n fits in
+    move ! (1 ∷ []) $ heard ! _ (λ asked. let (begins, fits, free) = asked in let small = d.ok.1 in let long : length ys ≡ n = run_long d.bytes p n fits in
     split ! $ move ! (1 ∷ []) $ split ! $ fsplit ! $ drop ! $ unhide ! $ fsplit ! $ keep ! (1 ∷ 3 ∷ []) $
     -- [what the `&` holds of the bytes; the token]
-    use1 𝓛 (‵ (elements_shared u8 ys b o κ)) (shown 𝓛 d.lent b κ p n d.bytes h.start asked.2) $ hide ! $
+    use1 𝓛 (‵ (elements_shared u8 ys b o κ)) (shown 𝓛 d.lent b κ p n d.bytes h.start free) $ hide ! $
     flt_i ! (length ys * 1) (2 ^ 63) (omega arith) $ flt_i ! (length ys) (2 ^ 64) (omega arith) $ fjoin ! $
     feq_i ! (List Val) (slice_val (b, o) n ∷ []) (slice_val (b, o) (length ys) ∷ []) (ap (λ k. slice_val (b, o) k ∷ []) (sym long)) $ fjoin ! $ fjoin ! $
     regoal ! (λ q. prop (WpFn 𝓤 𝓛.H 𝓣.C 𝓣.Λ code.function (vptr a.0.ref_ptr.0 a.0.ref_ptr.1 ∷ ptr_val q ∷ vint w64 p ∷ vint w64 n ∷ []) (W.post (y q))))
-    asked.0 refl $
+    begins refl $
     enter ! _ _ _ _ _ $ alloc_all ! (λ l. pass_all ! refl (
       (tt, tt),
       (
