@@ -8,12 +8,13 @@ use Rattle.dp_model.specs.Arithmetic.{big_endian}
 use Rattle.dp_model.specs.Buffers.{Number, Buffers, bytes_of, with_bytes, overwritten}
 use Rattle.dp_model.specs.Packets.{Segment, Packet, refs, IsHeadSole, IsTailSole, zeroed_before, zeroed_after, stored}
 use Rattle.dp_model.specs.Machine.{Setting, World, State, live, Move, Acts, Holds}
-use Rattle.dp_model.specs.Runs.{Receives, between}
+use Rattle.dp_model.specs.Runs.{Reception, between}
 use Rattle.dp_model.specs.Copies.{copy_of}
 use Rattle.dp_model.specs.Laws.References.{refs-cons, refs_first, live_parts}
 use Rattle.dp_model.specs.Laws.Stored.{bytes_other}
+use Rattle.dp_model.specs.declared.queue.Queue.TheVariants.{Tx, Ring}
 use Rattle.dp_model.specs.Laws.Effects.{Effect, Kept, Calculated, Refused, Allocated, Cloned, Freed, Prepended, Appended, Adjusted, Trimmed, Chained, Stored}
-use Rattle.dp_model.specs.Laws.Effects.{Sent, Queued, NamesWritten, WritesAt, did_of}
+use Rattle.dp_model.specs.Laws.Effects.{Queued, NamesWritten, WritesAt, did_of}
 use Rattle.dp_copies.specs.Seen.{written_register, IsBeside, IsQueued}
 use Rattle.dp_copies.proofs.Unchanged.{Same, copy_same}
 use Rattle.dp_copies.proofs.Writes.{apart, counts}
@@ -120,8 +121,8 @@ effect_stays c s i m k (Trimmed p n j holds le is _) at beside = moved c s _ k m
 effect_stays c s i m k (Chained p q j t hj ht apart few is _) at beside = moved c s _ k m is refl
 effect_stays c s i m k (Stored p offset w n j holds le sole is _) at beside =
     moved c s _ k m is (write_stays c.env.pools i s p j k _ at holds beside (stored_written (live s) offset w n j s.world.buffers sole))
-effect_stays c s i m k (Sent p port j packets holds there is _) at beside = moved c s _ k m is refl
-effect_stays c s i m k (Queued p ring j packets holds there is _) at beside = moved c s _ k m is refl
+effect_stays c s i m k (Queued p (Tx port) j packets holds there is _) at beside = moved c s _ k m is refl
+effect_stays c s i m k (Queued p (Ring ring) j packets holds there is _) at beside = moved c s _ k m is refl
 
 names_written : NamesWritten written_register
 names_written = record { prepend = λ p n. refl; append = λ p n. refl; store = λ p off w r. refl; store_x = λ p x off w r. refl }
@@ -133,9 +134,9 @@ beside_stays c label s i m k acts beside =
     effect_stays c s i m k it.effect (it.writes written_register names_written) beside
 
 -- a record that is received is not seen through the packets in rings and transmit lists
-pub queued_stays : (c : Setting) (program : List Instr) (port : ℕ) (spec : PortSpec) (bytes : List ℕ) (w w' : World) (answers : List Bool) (k : Packet)
-    (r : Receives c program port spec bytes w answers w') → IsQueued w k → copy_of c.env.pools r.buffers k ≡ copy_of c.env.pools w.buffers k
+pub queued_stays : (c : Setting) (spec : PortSpec) (bytes : List ℕ) (w : World) (k : Packet) (r : Reception c spec bytes w) → IsQueued w k
+    → copy_of c.env.pools r.buffers k ≡ copy_of c.env.pools w.buffers k
 unfolding Same
-queued_stays c program port spec bytes w w' answers k r queued = copy_same c.env.pools w.buffers r.buffers k
+queued_stays c spec bytes w k r queued = copy_same c.env.pools w.buffers r.buffers k
     (λ b one. r.filled.others.others b (quiet c.env.pools (live (between w)) spec.pool r.numbers b r.fresh.each
     (omega (arith, one, live_parts (between w) b, refs_queued w k b queued))))

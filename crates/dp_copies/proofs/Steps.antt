@@ -9,6 +9,7 @@ use Rattle.dp_model.specs.CopyMachine.{CopyMove, copy_step, first_piece, last_pi
 use Rattle.dp_model.specs.declared.instr.Instr.TheVariants.{Alloc, Clone, Free, Prepend, Adj, Append, Trim, Chain, IfHead, IfTail, IfLen, IfLast, Load, Store}
 use Rattle.dp_model.specs.declared.instr.Instr.TheVariants.{LoadX, StoreX, Tx, Enq, Exit}
 use Rattle.dp_model.specs.declared.instr.Instr.{Instr}
+use Rattle.dp_model.specs.declared.queue.Queue.TheVariants as queues
 use Rattle.dp_copies.proofs.States.{copied}
 use Rattle.dp_copies.proofs.Moves.{by}
 use Rattle.dp_copies.proofs.AllocationSteps.{allocates, clones}
@@ -17,7 +18,7 @@ use Rattle.dp_copies.proofs.Lengthening.{prepend_copies, append_copies}
 use Rattle.dp_copies.proofs.EditSteps.{edited, free_copies, adj_copies, trim_copies, chain_copies}
 use Rattle.dp_copies.proofs.TestSteps.{tested}
 use Rattle.dp_copies.proofs.ByteSteps.{some_bytes, loads_step, stores_step}
-use Rattle.dp_copies.proofs.SendSteps.{sends, enqueues, all_gone}
+use Rattle.dp_copies.proofs.SendSteps.{leaves_copy, all_gone}
 
 -- each step is a step of the copies
 abbrev pub StepsCopy : Setting → Type 0
@@ -66,10 +67,9 @@ steps_copy c label s (Store p off w r) m later well (k, holds, le, sole, is) = b
     (stores_step c s later p label off (bytes_in w) (slice_index s.numbers r) k well holds (some_bytes w) le sole)
 steps_copy c label s (StoreX p x off w r) m later well (k, holds, le, sole, is) = by c label s (StoreX p x off w r) later m _ is
     (stores_step c s later p label (slice_index s.numbers x + off) (bytes_in w) (slice_index s.numbers r) k well holds (some_bytes w) le sole)
-steps_copy c label s (Tx p r l) m later well (k, port, packets, holds, is_port, is_there, is) =
-    sends c label s (Tx p r l) m later p (slice_index s.numbers r) l k port packets (λ answers. refl) holds is_port is_there is
-steps_copy c label s (Enq p ring l) m later well (k, spec, packets, holds, is_ring, is_there, is) =
-    enqueues c label s (Enq p ring l) m later p ring l k spec packets (λ answers. refl) holds is_ring is_there is
+steps_copy c label s (Tx p r l) m later well acts =
+    leaves_copy c label s (Tx p r l) m later p (queues.Tx (slice_index s.numbers r)) l (λ answers. refl) acts
+steps_copy c label s (Enq p ring l) m later well acts = leaves_copy c label s (Enq p ring l) m later p (queues.Ring ring) l (λ answers. refl) acts
 steps_copy c label s Exit m later well (gone, is) = by c label s Exit later m _ is
     (ap (λ b. provided {A = CopyMove} b (Ended, copied c.env.pools s later)) (all_gone c.env.pools s.world.buffers s.packets gone))
 steps_copy c label s i m later well acts = by c label s i later m _ acts.2 (ap (option_map (leads c s later)) acts.1)

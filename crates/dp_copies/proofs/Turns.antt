@@ -10,7 +10,7 @@ use Rattle.dp_model.specs.Copies.{copy_of}
 use Rattle.dp_model.specs.CopyMachine.{copy_received, are_answered, CopyState, copy_node_run, copy_receives, copy_arrives, copy_serves, copy_turn}
 use Rattle.dp_model.specs.declared.env.PortSpec.{PortSpec}
 use Rattle.dp_model.specs.declared.instr.Instr.{Instr}
-use Rattle.dp_model.specs.Runs.{Outcome, Got, Oversize, Nodes, NoBuffer, between, Receives, Arrives, Turn}
+use Rattle.dp_model.specs.Runs.{Outcome, Got, Oversize, Nodes, NoBuffer, between, Receives, Arrives, Turn, packet_received}
 use Rattle.dp_model.specs.Laws.Limits.{HaveRoom}
 use Rattle.dp_model.specs.Laws.References.{live_parts}
 use Rattle.dp_model.specs.Laws.Within.{IsInside, lies_received, needed_holds, all_first}
@@ -28,28 +28,28 @@ got_lands c program port spec bytes w w' answers later x room well shows r =
     let pools = c.env.pools in
     let size = room_at pools spec.pool in
     let need = needed pools spec.pool (length bytes) in
-    let new = r.buffers in
+    let in_pool = r.reception in
+    let new = in_pool.buffers in
+    let k = packet_received c spec bytes in_pool.numbers in
     let w1 : World = record w { buffers = new; calls = w.calls + 1 } in
-    let changes = r.filled.others in
-    let few : length bytes ≤ length r.numbers * (size - 128) = subst (λ n. length bytes ≤ n * (size - 128)) (sym r.fresh.count)
+    let changes = in_pool.filled.others in
+    let few : length bytes ≤ length in_pool.numbers * (size - 128) = subst (λ n. length bytes ≤ n * (size - 128)) (sym in_pool.fresh.count)
     (needed_holds (size - 128) (length bytes) (omega (arith, room))) in
-    let some : 1 ≤ length r.numbers = omega (arith, r.fresh.count) in
-    let lie : AllByRecursion (Lies pools) r.packet = subst (AllByRecursion (Lies pools)) (sym r.packet_is)
-    (lies_received pools (live (between w)) spec.pool r.numbers (length bytes) (omega (arith, room)) few r.fresh.each) in
-    let copy : copy_of pools new r.packet ≡ copy_received size need bytes =
-    ap (copy_of pools new) r.packet_is
-    ∙ (received_copy pools new size r.numbers (length bytes) bytes (omega (arith, room)) refl few
-    (roomy pools w.buffers new (live (between w)) spec.pool r.numbers changes.lengths well r.fresh.each) (ap (packet_bytes new) (sym r.packet_is)
-    ∙ r.filled.spells) some
-    ∙ ap (λ n. copy_received size n bytes) r.fresh.count) in
+    let some : 1 ≤ length in_pool.numbers = omega (arith, in_pool.fresh.count) in
+    let lie : AllByRecursion (Lies pools) k =
+    lies_received pools (live (between w)) spec.pool in_pool.numbers (length bytes) (omega (arith, room)) few in_pool.fresh.each in
+    let copy : copy_of pools new k ≡ copy_received size need bytes =
+    received_copy pools new size in_pool.numbers (length bytes) bytes (omega (arith, room)) refl few
+    (roomy pools w.buffers new (live (between w)) spec.pool in_pool.numbers changes.lengths well in_pool.fresh.each) in_pool.filled.spells some
+    ∙ ap (λ n. copy_received size n bytes) in_pool.fresh.count in
     let same : Same pools w.buffers new (live (between w)) = λ b one. changes.others b
-    (quiet pools (live (between w)) spec.pool r.numbers b r.fresh.each one) in
+    (quiet pools (live (between w)) spec.pool in_pool.numbers b in_pool.fresh.each one) in
     let y : CopyState = record x { to_answer = r.later ++ later } in
-    let node = node_lands c program r.packet port w1 w' r.later later y
+    let node = node_lands c program k port w1 w' r.later later y
     (record {
       rooms = λ b nb. changes.lengths b ∙ well.rooms b nb;
       bytes = changes.bytes well.bytes;
-      lie = all_first (Lies pools) r.packet port w1 lie well.lie;
+      lie = all_first (Lies pools) k port w1 lie well.lie;
     })
     (record {
       rings = shows.rings ∙ sym (listed_same pools w.buffers new w.rings (λ b one. same b (omega (arith, one, live_parts (between w) b))));
@@ -64,7 +64,8 @@ got_lands c program port spec bytes w w' answers later x room well shows r =
       enough = node.enough;
       lands = λ fuel le.
           ap (copy_receives c.env c.tables fuel program port spec bytes x) (shows.to_answer ∙ ap (λ ts. ts ++ later) r.answers_are)
-          ∙ (ap (λ k. option_map {T = CopyState} {U = Outcome × CopyState} (λ t. (Got, t)) (copy_node_run c.env c.tables fuel program k port y)) (sym copy)
+          ∙ (ap (λ packet. option_map {T = CopyState} {U = Outcome × CopyState} (λ t. (Got, t)) (copy_node_run c.env c.tables fuel program packet port y))
+          (sym copy)
           ∙ ap (option_map (λ t. (Got, t))) (node.lands fuel le));
       within = node.within;
     }
@@ -98,7 +99,7 @@ arrives_lands c program port spec bytes w w' Got answers later x room well shows
       enough = got.enough;
       lands = λ fuel le.
           ap (λ b. cond b (Some (Oversize, x)) (copy_receives c.env c.tables fuel program port spec bytes x x.to_answer))
-          (le-ltb spec.segs (needed c.env.pools spec.pool (length bytes)) r.fits)
+          (le-ltb spec.segs (needed c.env.pools spec.pool (length bytes)) r.reception.fits)
           ∙ got.lands fuel le;
       within = got.within;
     }

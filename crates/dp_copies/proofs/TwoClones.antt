@@ -16,14 +16,14 @@ use Rattle.dp_copies.proofs.TwoClonesSteps.{steps}
 -- the record is received, and the program runs on it
 receives : Receives setting program 0 (record { pool = 0; segs = 1; queue = 4 }) (7 ∷ 8 ∷ []) before answers m11.state.world
 receives = record {
-  fits = omega arith;
-  given = refl;
-  numbers = number 2 ∷ [];
-  buffers = filled;
-  fresh = record { count = refl; distinct = (tt, tt); each = (record { of_pool = refl; exists = omega arith; free = refl }, tt) };
-  packet = whole;
-  packet_is = refl;
-  filled = record { spells = refl; others = write_changes before.buffers (number 2) 128 (7 ∷ 8 ∷ []) (omega arith) (omega arith, (omega arith, tt)) };
+  reception = record {
+    fits = omega arith;
+    given = refl;
+    numbers = number 2 ∷ [];
+    buffers = filled;
+    fresh = record { count = refl; distinct = (tt, tt); each = (record { of_pool = refl; exists = omega arith; free = refl }, tt) };
+    filled = record { spells = refl; others = write_changes before.buffers (number 2) 128 (7 ∷ 8 ∷ []) (omega arith) (omega arith, (omega arith, tt)) };
+  };
   later = true ∷ true ∷ true ∷ [];
   answers_are = refl;
   run = (12, m11.state, steps, refl);

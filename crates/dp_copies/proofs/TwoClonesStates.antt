@@ -1,9 +1,10 @@
 -- The states of the run by hand, each as the step before makes it.
 use Rattle.std.proofs.Common.{ℕ, ◌+◌, [], ◌∷◌, ◌++◌}
 use Rattle.std.specs.Prelude.{slice_set}
+use Rattle.dp_model.specs.declared.queue.Queue.TheVariants.{Tx}
 use Rattle.dp_model.specs.Buffers.{Number, Buffers, written}
 use Rattle.dp_model.specs.Packets.{Packet, received, allocated, cloned, at_front, at_end, less_before, more_after, zeroed_after, stored}
-use Rattle.dp_model.specs.Machine.{State, Move, Ended, with_step, goes_on, moves_to, is_given, with_packet, without_packet, with_buffers, with_outbox}
+use Rattle.dp_model.specs.Machine.{State, Move, Ended, with_step, goes_on, moves_to, is_given, with_packet, without_packet, with_buffers, with_queue}
 use Rattle.dp_model.specs.Runs.{first_state}
 use Rattle.dp_copies.specs.TwoClones.{one_port, before}
 
@@ -69,7 +70,7 @@ abbrev pub m5 : Move
 m5 = goes_on 5 (without_packet 0 (with_packet 2 joined (with_step m4.state)))
 
 abbrev pub m6 : Move
-m6 = goes_on 6 (with_outbox 0 (joined ∷ []) (without_packet 2 (with_step m5.state)))
+m6 = goes_on 6 (with_queue (Tx 0) (joined ∷ []) (without_packet 2 (with_step m5.state)))
 
 abbrev pub m7 : Move
 m7 = goes_on 7 (without_packet 3 (with_step m6.state))
@@ -82,7 +83,7 @@ abbrev pub m9 : Move
 m9 = goes_on 9 (with_buffers rewritten (with_step m8.state))
 
 abbrev pub m10 : Move
-m10 = goes_on 10 (with_outbox 0 (joined ∷ longer ∷ []) (without_packet 1 (with_step m9.state)))
+m10 = goes_on 10 (with_queue (Tx 0) (joined ∷ longer ∷ []) (without_packet 1 (with_step m9.state)))
 
 abbrev pub m11 : Move
 m11 = record { next = Ended; answers = []; state = with_step m10.state }

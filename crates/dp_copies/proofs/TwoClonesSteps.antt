@@ -22,15 +22,7 @@ sends_other = record {
   instr = Tx 1 0 11;
   here = refl;
   effect = m10;
-  acts = (
-    longer,
-    record { pool = 0; segs = 1; queue = 4 },
-    joined ∷ [],
-    refl,
-    refl,
-    refl,
-    refl,
-  );
+  acts = (longer, 4, joined ∷ [], refl, refl, refl, refl);
   is_label = omega arith;
   is = refl;
 }
@@ -49,7 +41,7 @@ sends = record {
   instr = Tx 2 0 11;
   here = refl;
   effect = m6;
-  acts = (joined, record { pool = 0; segs = 1; queue = 4 }, [], refl, refl, refl, refl);
+  acts = (joined, 4, [], refl, refl, refl, refl);
   is_label = omega arith;
   is = refl;
 }

@@ -17,9 +17,9 @@ ghost use Rattle.dp_copies.specs.Seen.{IsQueued, IsBeside};
 /// each packet has its own bytes, given the same answers to allocation calls. No row, rule or certificate is involved. The environment is one that
 /// `Env::new` accepts. `T` is the time of a record.
 pub fn clones_are_copies<T>()
-    ensures { (c : Setting) (nodes : Nodes) (arrivals : List (Arrival T)) (w w' : World) (shown : Observed T) →
-        fault_of c.env ≡ None → IsStart c.env w → Run c nodes arrivals w shown w' →
-        Captures c.env c.tables nodes arrivals shown.answers shown.captures w'.cuts }
+    ensures { (setting : Setting) (nodes : Nodes) (arrivals : List (Arrival T)) (w w' : World) (shown : Observed T) →
+        fault_of setting.env ≡ None → IsStart setting.env w → Run setting nodes arrivals w shown w' →
+        Captures setting.env setting.tables nodes arrivals shown.answers shown.captures w'.cuts }
 {}
 
 /// The machine of copies is deterministic: given the same records and the same answers to its allocation calls, it has one list of captures and one
@@ -34,9 +34,9 @@ pub fn copies_are_deterministic<T>()
 /// Two runs on the same records with the same answers to allocation calls have the same captures and the same number of cuts, whatever buffers were
 /// taken and whatever these held.
 pub fn buffers_are_not_seen<T>()
-    ensures { (c d : Setting) (nodes : Nodes) (arrivals : List (Arrival T)) (w w' v v' : World) (shown shown' : Observed T) →
-        c.env ≡ d.env → c.tables ≡ d.tables → fault_of c.env ≡ None → IsStart c.env w → IsStart c.env v →
-        Run c nodes arrivals w shown w' → Run d nodes arrivals v shown' v' → shown.answers ≡ shown'.answers →
+    ensures { (setting d : Setting) (nodes : Nodes) (arrivals : List (Arrival T)) (w w' v v' : World) (shown shown' : Observed T) →
+        setting.env ≡ d.env → setting.tables ≡ d.tables → fault_of setting.env ≡ None → IsStart setting.env w → IsStart setting.env v →
+        Run setting nodes arrivals w shown w' → Run d nodes arrivals v shown' v' → shown.answers ≡ shown'.answers →
         (shown.captures ≡ shown'.captures) × (w'.cuts ≡ v'.cuts) }
 {}
 
@@ -44,11 +44,11 @@ pub fn buffers_are_not_seen<T>()
 /// register other than the one that an instruction writes has the same bytes and rooms before and after each step, and before and after a record is
 /// received.
 pub fn writes_are_not_seen()
-    ensures steps { (c : Setting) (program : List Instr) (label : ℕ) (s : State) (m : Move) (step : Step c program label s m) (k : Packet) →
-        IsBeside step.instr s k →
-        copy_of c.env.pools m.state.world.buffers k ≡ copy_of c.env.pools s.world.buffers k }
-    ensures receives { (c : Setting) (program : List Instr) (port : ℕ) (spec : PortSpec) (bytes : List ℕ) (w w' : World) (answers : List Bool)
-        (received : Receives c program port spec bytes w answers w') (k : Packet) →
-        IsQueued w k →
-        copy_of c.env.pools received.buffers k ≡ copy_of c.env.pools w.buffers k }
+    ensures steps { (setting : Setting) (program : List Instr) (label : ℕ) (s : State) (m : Move) (step : Step setting program label s m) (packet : Packet) →
+        IsBeside step.instr s packet →
+        copy_of setting.env.pools m.state.world.buffers packet ≡ copy_of setting.env.pools s.world.buffers packet }
+    ensures receives { (setting : Setting) (program : List Instr) (port : ℕ) (spec : PortSpec) (bytes : List ℕ) (w w' : World) (answers : List Bool)
+        (received : Receives setting program port spec bytes w answers w') (packet : Packet) →
+        IsQueued w packet →
+        copy_of setting.env.pools received.reception.buffers packet ≡ copy_of setting.env.pools w.buffers packet }
 {}

@@ -19,14 +19,7 @@ pub receives_again : (c : Setting) (nodes : Nodes) (port : ℕ) (bytes : List �
     (r : IsOfRecord c nodes port bytes w b) → NodeRun c b.program b.packet b.number b.world answers w' →
     Receives c r.program port r.spec bytes w (true ∷ answers) w'
 receives_again c nodes port bytes w w' b answers r run = record {
-  fits = r.fits;
-  given = r.given;
-  numbers = r.numbers;
-  buffers = r.buffers;
-  fresh = r.fresh;
-  packet = _;
-  packet_is = refl;
-  filled = r.filled;
+  reception = r.reception;
   later = answers;
   answers_are = refl;
   run = subst (λ (x : Beginning). NodeRun c x.program x.packet x.number x.world answers w') r.is run;

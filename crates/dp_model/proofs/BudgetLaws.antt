@@ -1,7 +1,7 @@
 -- The budget of backward jumps works as documented.
 use Rattle.std.proofs.Common.{◌≡◌, ◌⊎◌, ℕ, zero, suc, ◌+◌, ◌*◌, ◌≤◌, Bool, true, false, cond, List, [], ◌∷◌, ◌++◌, length, Some, refl, sym, ◌∙◌, ap}
 use Rattle.std.proofs.Common.{subst, arith}
-use Rattle.std.specs.Prelude.{slice_get, nat_lt, replicate}
+use Rattle.std.specs.Prelude.{nat_lt, replicate}
 use Rattle.std.proofs.lemmas.Bool.{ltb-true}
 use Rattle.std.proofs.lemmas.Option.{slice_get_within}
 use Rattle.dp_model.specs.declared.env.PortSpec.{PortSpec}
@@ -113,7 +113,7 @@ arrives_took c program port spec bytes w w' Oversize answers (_, _, is) =
 arrives_took c program port spec bytes w w' NoBuffer answers (_, _, _, is) =
     none_took w w' 0 (ap (λ (w : World). w.steps) is) (ap (λ (w : World). w.cuts) is)
 arrives_took c program port spec bytes w w' Got answers r =
-    let (steps, cuts, took, le, few) = node_took c program r.packet port (record w { buffers = r.buffers; calls = w.calls + 1 }) w' r.later r.run in
+    let (steps, cuts, took, le, few) = node_took c program _ port _ w' r.later r.run in
     (steps, cuts, record { steps_are = took.steps_are; cuts_are = took.cuts_are }, omega (arith, le), few)
 
 -- node runs on packets of rings

@@ -2,11 +2,10 @@
 use Rattle.std.proofs.Common.{◌≡◌, ℕ, zero, suc, ◌+◌, ◌*◌, ◌≤◌, Bool, List, [], ◌++◌, length, Option, Some, None, refl, sym, ◌∙◌, ap, subst, arith}
 use Rattle.std.proofs.Common.{length-append}
 use Rattle.std.specs.Prelude.{slice_get, MatchOption}
-use Rattle.dp_model.specs.declared.env.Entry.TheVariants.{Port, Ring}
+use Rattle.dp_model.specs.declared.env.Entry.TheVariants.{Ring}
 use Rattle.dp_model.specs.declared.env.PortSpec.{PortSpec}
 use Rattle.dp_model.specs.declared.instr.Instr.{Instr}
-use Rattle.dp_model.specs.Environments.{room_at}
-use Rattle.dp_model.specs.Packets.{Packet, received}
+use Rattle.dp_model.specs.Packets.{Packet}
 use Rattle.dp_model.specs.Machine.{Setting, World, Ended}
 use Rattle.dp_model.specs.Runs.{first_state, NodeRun, StepsTo, Outcome, Got, NoBuffer, Oversize, Arrives, Waiting, first_waiting, Serves, Nodes, Turn}
 use Rattle.dp_model.specs.Safety.{IsAtRest, Beginning, IsSafeBeginning, IsPipeline, AreShort}
@@ -46,12 +45,9 @@ arrives_calls c nodes most program port spec bytes w w' NoBuffer answers pipelin
     let calls : w'.calls ≡ w.calls + 1 = ap (λ (w : World). w.calls) is in
     record { counted = omega (arith, calls, a_call); few = omega (arith, a_call) }
 arrives_calls c nodes most program port spec bytes w w' Got answers pipeline short is_program is_spec rest r =
-    let k : Packet = received (room_at c.env.pools spec.pool) r.numbers (length bytes) in
-    let w1 : World = record w { buffers = r.buffers; calls = w.calls + 1 } in
-    let b : Beginning = record { entry = Port port; program = program; packet = k; number = port; world = w1 } in
-    let of = receives_of c nodes program port spec bytes w w' answers is_spec is_program r in
-    let run = node_calls c b most r.later w' (short_at nodes.ports most port program short is_program) (record_safe c nodes port bytes w b pipeline rest of)
-    (subst (λ x. NodeRun c program x port w1 r.later w') r.packet_is r.run) in
+    let of = receives_of c nodes program port spec bytes w is_spec is_program r.reception in
+    let run = node_calls c _ most r.later w' (short_at nodes.ports most port program short is_program) (record_safe c nodes port bytes w _ pipeline rest of)
+    r.run in
     let long : length answers ≡ suc (length r.later) = ap length r.answers_are in
     record { counted = omega (arith, long, run.counted); few = omega (arith, long, run.few) }
 

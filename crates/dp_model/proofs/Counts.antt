@@ -3,8 +3,10 @@
 use Rattle.std.proofs.Common.{◌≡◌, ◌≢◌, ℕ, zero, suc, ◌+◌, ◌≤◌, Bool, true, false, List, [], ◌∷◌, ◌++◌, Option, Some, None, refl, sym, ◌∙◌, ap, arith}
 use Rattle.std.specs.Prelude.{slice_get, slice_set, flat_map}
 use Rattle.std.proofs.lemmas.Option.{same_Some}
+use Rattle.dp_model.specs.declared.queue.Queue.{Queue}
+use Rattle.dp_model.specs.declared.queue.Queue.TheVariants.{Tx, Ring}
 use Rattle.dp_model.specs.Packets.{Segment, Packet, at_front, at_end}
-use Rattle.dp_model.specs.Machine.{State, World, live, segments_held, segments_listed, with_ring, with_outbox, without_packet}
+use Rattle.dp_model.specs.Machine.{State, World, live, segments_held, segments_listed, packets_in, with_queue, without_packet}
 use Rattle.dp_model.specs.Runs.{first_state, between}
 use Rattle.dp_model.specs.Laws.Cases.{one_if}
 use Rattle.dp_model.specs.Laws.Lists.{get_set_other}
@@ -74,29 +76,22 @@ pub tally_live_set : (test : Segment → Bool) (s : State) (p : ℕ) (o o' : Opt
 tally_live_set test s p o o' h =
     omega (arith, tally_set test s.packets p o o' h, tally_live test s, tally_live test (record s { packets = slice_set s.packets p o' }))
 
--- a packet moves from a register to a ring
-pub tally_to_ring : (test : Segment → Bool) (s : State) (p ring : ℕ) (k : Packet) (packets : List Packet) → slice_get s.packets p ≡ Some (Some k) →
-    slice_get s.world.rings ring ≡ Some packets → tally test (live (with_ring ring (packets ++ k ∷ []) (without_packet p s))) ≡ tally test (live s)
-tally_to_ring test s p ring k packets holds there =
-    omega (
-      arith,
-      tally_live test s,
-      tally_live test (with_ring ring (packets ++ k ∷ []) (without_packet p s)),
-      tally_set test s.packets p (Some k) None holds,
-      tally_listed_set test s.world.rings ring packets (packets ++ k ∷ []) there,
-      tally_push test packets k,
-    )
+-- the packets of a queue set
+tally_queue_set : (test : Segment → Bool) (s : State) (queue : Queue) (old new : List Packet) → packets_in queue s.world ≡ Some old →
+    tally test (live (with_queue queue new s)) + tally_list test old ≡ tally test (live s) + tally_list test new
+tally_queue_set test s (Tx port) old new h =
+    let set = tally_live test (with_queue (Tx port) new s) in omega (arith, tally_live test s, set, tally_listed_set test s.world.outboxes port old new h)
+tally_queue_set test s (Ring ring) old new h =
+    let set = tally_live test (with_queue (Ring ring) new s) in omega (arith, tally_live test s, set, tally_listed_set test s.world.rings ring old new h)
 
--- a packet moves from a register to a transmit list
-pub tally_to_outbox : (test : Segment → Bool) (s : State) (p port : ℕ) (k : Packet) (packets : List Packet) → slice_get s.packets p ≡ Some (Some k) →
-    slice_get s.world.outboxes port ≡ Some packets → tally test (live (with_outbox port (packets ++ k ∷ []) (without_packet p s))) ≡ tally test (live s)
-tally_to_outbox test s p port k packets holds there =
+-- a packet moves from a register to a queue
+pub tally_to_queue : (test : Segment → Bool) (s : State) (p : ℕ) (queue : Queue) (k : Packet) (packets : List Packet) → slice_get s.packets p ≡ Some (Some k)
+    → packets_in queue s.world ≡ Some packets → tally test (live (with_queue queue (packets ++ k ∷ []) (without_packet p s))) ≡ tally test (live s)
+tally_to_queue test s p queue k packets holds there =
     omega (
       arith,
-      tally_live test s,
-      tally_live test (with_outbox port (packets ++ k ∷ []) (without_packet p s)),
-      tally_set test s.packets p (Some k) None holds,
-      tally_listed_set test s.world.outboxes port packets (packets ++ k ∷ []) there,
+      tally_queue_set test (without_packet p s) queue packets (packets ++ k ∷ []) there,
+      tally_live_set test s p (Some k) None holds,
       tally_push test packets k,
     )
 

@@ -1,5 +1,5 @@
 -- A buffer has at most as many references as there are buffers in all pools.
-use Rattle.std.proofs.Common.{◌≤◌, ℕ, ◌≡◌, List, None, arith}
+use Rattle.std.proofs.Common.{◌≤◌, ◌≡◌, List, None, arith}
 use Rattle.std.specs.Prelude.{sum_by}
 use Rattle.std.proofs.lemmas.List.Sums.{count_by-le-length}
 use Rattle.dp_model.specs.declared.env.PoolSpec.{PoolSpec}

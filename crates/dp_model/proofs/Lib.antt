@@ -18,7 +18,6 @@ pub mod Numbers
 pub mod Owned
 pub mod OwnedSteps
 pub mod PacketSteps
-pub mod Refs
 pub mod RunEnds
 pub mod SafeRuns
 pub mod SafeTurns

@@ -1,19 +1,18 @@
 -- Each step keeps each mbuf with one owner.
 use Rattle.std.proofs.Common.{◌≡◌, ◌≢◌, ℕ, ◌+◌, Bool, List, [], ◌∷◌, ◌++◌, length, Some, None, refl, sym, ap, subst, arith}
-use Rattle.std.specs.Prelude.{slice_get}
 use Rattle.dp_model.specs.declared.instr.Instr.{Instr}
+use Rattle.dp_model.specs.declared.queue.Queue.{Queue}
 use Rattle.dp_model.specs.Buffers.{Number, same_number}
 use Rattle.dp_model.specs.Packets.{Segment, Packet, AreFresh, AreOwned, allocated, cloned, at_front, at_end}
 use Rattle.dp_model.specs.Packets.{more_before, less_before, more_after, less_after}
 use Rattle.dp_model.specs.Machine.{Setting, State, live, segments_held, Step, with_step, with_cut, without_packets, Move, Acts, Holds, IsEmpty}
-use Rattle.dp_model.specs.Machine.{with_packet, without_packet, with_ring, with_outbox}
+use Rattle.dp_model.specs.Machine.{with_packet, without_packet, packets_in, with_queue}
 use Rattle.dp_model.specs.Laws.References.{refs_held, live_parts}
-use Rattle.dp_model.proofs.Counts.{tally_live, tally_live_set, tally_to_ring, tally_to_outbox, tally_chain, tally_front, tally_end}
+use Rattle.dp_model.proofs.Counts.{tally_live, tally_live_set, tally_to_queue, tally_chain, tally_front, tally_end}
 use Rattle.dp_model.specs.Laws.Counts.{tally, has_mbuf, is_indirect_at, AreFewer, fewer_owned, fewer_by}
 use Rattle.dp_model.proofs.Owned.{AreMore, more_owned, allocated_direct, direct_comes, clone_comes}
 use Rattle.dp_model.specs.Laws.Effects.{Effect, Kept, Calculated, Refused, Allocated, Cloned, Freed, Prepended, Appended, Adjusted, Trimmed, Chained}
-use Rattle.dp_model.specs.Laws.Effects.{Stored, Sent}
-use Rattle.dp_model.specs.Laws.Effects.{Queued, effect_of}
+use Rattle.dp_model.specs.Laws.Effects.{Stored, Queued, effect_of}
 use Rattle.dp_model.specs.Laws.Steps.{budget_keeps}
 use Rattle.dp_model.proofs.SoundClone.{refs_cloned}
 
@@ -89,19 +88,12 @@ chain_fewer s p q k t apart hp hq =
 by : (c : Setting) (s s' : State) → s ≡ s' → HasOwners c s' → HasOwners c s
 by c s s' is h = subst (HasOwners c) (sym is) h
 
-ring_owned : (c : Setting) (s : State) (p ring : ℕ) (k : Packet) (packets : List Packet) → HasOwners c s → Holds s p k → slice_get s.world.rings ring
-    ≡ Some packets → HasOwners c (with_ring ring (packets ++ k ∷ []) (without_packet p s))
-ring_owned c s p ring k packets owned holds there =
-    fewer_owned c.env.pools (live s) (live (with_ring ring (packets ++ k ∷ []) (without_packet p s)))
-    (fewer_by (live s) (live (with_ring ring (packets ++ k ∷ []) (without_packet p s)))
-    (λ test. omega (arith, tally_to_ring test s p ring k packets holds there))) owned
-
-outbox_owned : (c : Setting) (s : State) (p port : ℕ) (k : Packet) (packets : List Packet) → HasOwners c s → Holds s p k → slice_get s.world.outboxes port
-    ≡ Some packets → HasOwners c (with_outbox port (packets ++ k ∷ []) (without_packet p s))
-outbox_owned c s p port k packets owned holds there =
-    fewer_owned c.env.pools (live s) (live (with_outbox port (packets ++ k ∷ []) (without_packet p s)))
-    (fewer_by (live s) (live (with_outbox port (packets ++ k ∷ []) (without_packet p s)))
-    (λ test. omega (arith, tally_to_outbox test s p port k packets holds there))) owned
+queue_owned : (c : Setting) (s : State) (p : ℕ) (queue : Queue) (k : Packet) (packets : List Packet) → HasOwners c s → Holds s p k →
+    packets_in queue s.world ≡ Some packets → HasOwners c (with_queue queue (packets ++ k ∷ []) (without_packet p s))
+queue_owned c s p queue k packets owned holds there =
+    let s' : State = with_queue queue (packets ++ k ∷ []) (without_packet p s) in
+    fewer_owned c.env.pools (live s) (live s')
+    (fewer_by (live s) (live s') (λ test. omega (arith, tally_to_queue test s p queue k packets holds there))) owned
 
 alloc_owned : (c : Setting) (s : State) (p pool : ℕ) (ns : List Number) → HasOwners c s → IsEmpty s p → AreFresh c.env.pools (live s) pool 1 ns →
     HasOwners c (with_packet p (allocated c.env.pools ns) s)
@@ -140,8 +132,7 @@ effect_owned c s m owned (Trimmed p n k holds le is _) =
 effect_owned c s m owned (Chained p q k t hk ht apart few is _) =
     by c m.state _ is (fewer_owned c.env.pools (live s) (live (without_packet q (with_packet p (k ++ t) s))) (chain_fewer s p q k t apart hk ht) owned)
 effect_owned c s m owned (Stored p offset w n k holds le sole is _) = by c m.state _ is owned
-effect_owned c s m owned (Sent p port k packets holds there is _) = by c m.state _ is (outbox_owned c s p port k packets owned holds there)
-effect_owned c s m owned (Queued p ring k packets holds there is _) = by c m.state _ is (ring_owned c s p ring k packets owned holds there)
+effect_owned c s m owned (Queued p queue k packets holds there is _) = by c m.state _ is (queue_owned c s p queue k packets owned holds there)
 
 pub acts_owned : (c : Setting) (label : ℕ) (s : State) (i : Instr) (m : Move) → HasOwners c s → Acts c label s i m → HasOwners c m.state
 acts_owned c label s i m owned acts = effect_owned c s m owned (effect_of c label s i m acts)

@@ -5,15 +5,16 @@ use Rattle.std.specs.List.{AllByRecursion}
 use Rattle.std.proofs.lemmas.List.{length-map}
 use Rattle.dp_model.specs.declared.env.PoolSpec.{PoolSpec}
 use Rattle.dp_model.specs.declared.instr.Instr.{Instr}
+use Rattle.dp_model.specs.declared.queue.Queue.{Queue}
+use Rattle.dp_model.specs.declared.queue.Queue.TheVariants.{Tx, Ring}
 use Rattle.dp_model.specs.Buffers.{Number}
 use Rattle.dp_model.specs.Packets.{Segment, Packet, allocated, cloned, at_front, at_end, more_before, less_before, more_after, less_after}
-use Rattle.dp_model.specs.Machine.{Setting, State, Next, At, Ended, Move, Acts, Holds, with_packet, without_packet, with_ring}
-use Rattle.dp_model.specs.Machine.{with_outbox, with_step, Step}
+use Rattle.dp_model.specs.Machine.{Setting, State, Next, At, Ended, Move, Acts, Holds, with_packet, without_packet, packets_in, with_queue}
+use Rattle.dp_model.specs.Machine.{with_step, Step}
 use Rattle.dp_model.specs.Runs.{Then, StepsTo}
 use Rattle.dp_model.specs.Safety.{IsPacket, IsPacketOrNone, ArePackets}
 use Rattle.dp_model.specs.Laws.Effects.{Effect, Kept, Calculated, Refused, Allocated, Cloned, Freed, Prepended, Appended, Adjusted, Trimmed, Chained}
-use Rattle.dp_model.specs.Laws.Effects.{Stored, Sent}
-use Rattle.dp_model.specs.Laws.Effects.{Queued, effect_of}
+use Rattle.dp_model.specs.Laws.Effects.{Stored, Queued, effect_of}
 use Rattle.dp_model.proofs.SoundClone.{length_cloned}
 use Rattle.dp_model.specs.Laws.Lists.{all_join, each_at}
 use Rattle.dp_model.specs.Laws.Steps.{budget_keeps}
@@ -46,26 +47,22 @@ held_packet s p k are holds = each_at IsPacketOrNone s.packets p (Some k) are.he
 pub set_packets : (s : State) (p : ℕ) (o : Option Packet) → ArePackets s → IsPacketOrNone o → ArePackets (record s { packets = slice_set s.packets p o })
 set_packets s p o are here = record { held = each_set IsPacketOrNone s.packets p o are.held here; rings = are.rings; outboxes = are.outboxes }
 
-ring_packets : (s : State) (p ring : ℕ) (k : Packet) (packets : List Packet) → ArePackets s → Holds s p k → slice_get s.world.rings ring ≡ Some packets →
-    ArePackets (with_ring ring (packets ++ k ∷ []) (without_packet p s))
-ring_packets s p ring k packets are holds there = record {
-  held = each_set IsPacketOrNone s.packets p None are.held tt;
-  rings = each_set (AllByRecursion IsPacket) s.world.rings ring (packets ++ k ∷ []) are.rings
-      (all_join IsPacket packets (k ∷ []) (each_at (AllByRecursion IsPacket) s.world.rings ring packets are.rings there) (held_packet s p k are holds, tt));
-  outboxes = are.outboxes;
-}
+queue_packets : (s : State) (p : ℕ) (queue : Queue) (k : Packet) (packets : List Packet) → ArePackets s → Holds s p k →
+    packets_in queue s.world ≡ Some packets → ArePackets (with_queue queue (packets ++ k ∷ []) (without_packet p s))
+queue_packets s p queue k packets are holds there = go queue there
+  where
+    pushed : (lists : List (List Packet)) (i : ℕ) → AllByRecursion (AllByRecursion IsPacket) lists → slice_get lists i ≡ Some packets →
+        AllByRecursion (AllByRecursion IsPacket) (slice_set lists i (packets ++ k ∷ []))
+    pushed lists i all there =
+        each_set (AllByRecursion IsPacket) lists i (packets ++ k ∷ []) all
+        (all_join IsPacket packets (k ∷ []) (each_at (AllByRecursion IsPacket) lists i packets all there) (held_packet s p k are holds, tt))
 
-outbox_packets : (s : State) (p port : ℕ) (k : Packet) (packets : List Packet) → ArePackets s → Holds s p k → slice_get s.world.outboxes port ≡ Some packets →
-    ArePackets (with_outbox port (packets ++ k ∷ []) (without_packet p s))
-outbox_packets s p port k packets are holds there = record {
-  held = each_set IsPacketOrNone s.packets p None are.held tt;
-  rings = are.rings;
-  outboxes = each_set (AllByRecursion IsPacket) s.world.outboxes port (packets ++ k ∷ []) are.outboxes
-      (all_join IsPacket packets (k ∷ []) (each_at (AllByRecursion IsPacket) s.world.outboxes port packets are.outboxes there) (
-        held_packet s p k are holds,
-        tt,
-      ));
-}
+    gone : ArePackets (without_packet p s)
+    gone = set_packets s p None are tt
+
+    go : (queue : Queue) → packets_in queue s.world ≡ Some packets → ArePackets (with_queue queue (packets ++ k ∷ []) (without_packet p s))
+    go (Tx port) there = record { held = gone.held; rings = are.rings; outboxes = pushed s.world.outboxes port are.outboxes there }
+    go (Ring ring) there = record { held = gone.held; rings = pushed s.world.rings ring are.rings there; outboxes = are.outboxes }
 
 -- the same, where only numbers, buffers and counts change
 pub same_packets : (s s' : State) → s'.packets ≡ s.packets → s'.world.rings ≡ s.world.rings → s'.world.outboxes ≡ s.world.outboxes → ArePackets s →
@@ -111,10 +108,7 @@ effect_packets c s m are (Chained p q k t hk ht apart few is _) =
     (set_packets (with_packet p (k ++ t) s) q None (set_packets s p (Some (k ++ t)) are
     (omega (arith, length-append k t, (held_packet s p k are hk).0), omega (arith, length-append k t, few))) tt)
 effect_packets c s m are (Stored p offset w n k holds le sole is _) = by m.state _ s is refl refl refl are
-effect_packets c s m are (Sent p port k packets holds there is _) =
-    by m.state _ (with_outbox port (packets ++ k ∷ []) (without_packet p s)) is refl refl refl (outbox_packets s p port k packets are holds there)
-effect_packets c s m are (Queued p ring k packets holds there is _) =
-    by m.state _ (with_ring ring (packets ++ k ∷ []) (without_packet p s)) is refl refl refl (ring_packets s p ring k packets are holds there)
+effect_packets c s m are (Queued p queue k packets holds there is _) = subst ArePackets (sym is) (queue_packets s p queue k packets are holds there)
 
 pub acts_packets : (c : Setting) (label : ℕ) (s : State) (i : Instr) (m : Move) → ArePackets s → Acts c label s i m → ArePackets m.state
 acts_packets c label s i m are acts = effect_packets c s m are (effect_of c label s i m acts)

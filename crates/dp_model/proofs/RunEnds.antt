@@ -78,7 +78,7 @@ arrives_counts c program port spec bytes w w' NoBuffer answers (_, _, one, is) =
     omega (arith, a_call, calls)
 arrives_counts c program port spec bytes w w' Got answers r =
     let long : length answers ≡ suc (length r.later) = ap length r.answers_are in
-    omega (arith, long, node_counts c program r.packet port (record w { buffers = r.buffers; calls = w.calls + 1 }) w' r.later r.run)
+    omega (arith, long, node_counts c program _ port _ w' r.later r.run)
 
 serves_counts : (c : Setting) (programs : List (List Instr)) (n : ℕ) (w w' : World) (answers : List Bool) (runs : ℕ) → Serves c programs n w answers runs w' →
     w'.calls ≡ w.calls + length answers

@@ -12,13 +12,13 @@ use Rattle.dp_model.specs.declared.env.RingSpec.{RingSpec}
 use Rattle.dp_model.specs.Rows.{is_well_formed_fact}
 use Rattle.dp_model.specs.declared.instr.Instr.{Instr}
 use Rattle.dp_model.specs.Environments.{room_at, fault_of}
-use Rattle.dp_model.specs.Buffers.{Number, Buffers}
-use Rattle.dp_model.specs.Packets.{Segment, Packet, needed, received, Filled, AreFresh}
+use Rattle.dp_model.specs.Buffers.{Number}
+use Rattle.dp_model.specs.Packets.{Segment, Packet, needed, received}
 use Rattle.dp_model.specs.Rules.{Question}
 use Rattle.dp_model.specs.Machine.{Setting, World, live, segments_listed, is_denied}
 use Rattle.dp_model.specs.Meaning.{RingHolds}
 use Rattle.dp_model.specs.Runs.{first_state, between, NodeRun, Outcome, Got, NoBuffer, Oversize, Receives, Arrives, Waiting, first_waiting, Serves, Nodes}
-use Rattle.dp_model.specs.Runs.{runs_of, Turn}
+use Rattle.dp_model.specs.Runs.{runs_of, Turn, packet_received, Reception}
 use Rattle.dp_model.specs.Laws.{Checked}
 use Rattle.dp_model.specs.Safety.{IsPacket, ArePackets, IsAtRest, BeginsWell, Beginning, IsOfRecord, HasServed, IsOfTurn, IsSafeBeginning, outcome_for}
 use Rattle.dp_model.specs.Safety.{IsSafeTurn, IsPipeline}
@@ -67,23 +67,20 @@ popped_packets w next e are =
     )
 
 -- ---- node runs begin well: on a record that is received
-pub record_begins : (c : Setting) (q : Question) (port : ℕ) (spec : PortSpec) (bytes : List ℕ) (w : World) (numbers : List Number) (buffers : Buffers) →
+pub record_begins : (c : Setting) (q : Question) (port : ℕ) (spec : PortSpec) (bytes : List ℕ) (w : World) →
     c.env ≡ q.env → q.entry ≡ Port port → slice_get c.env.ports port ≡ Some spec → 129 ≤ room_at c.env.pools spec.pool → fault_of c.env ≡ None → IsAtRest c w
-    → needed c.env.pools spec.pool (length bytes) ≤ spec.segs → AreFresh c.env.pools (live (between w)) spec.pool
-    (needed c.env.pools spec.pool (length bytes)) numbers
-    → Filled numbers (received (room_at c.env.pools spec.pool) numbers (length bytes)) bytes w.buffers buffers
-    → BeginsWell c q (received (room_at c.env.pools spec.pool) numbers (length bytes)) port (record w { buffers = buffers; calls = w.calls + 1 })
-record_begins c q port spec bytes w numbers buffers env entry is_spec room limits rest fits fresh filled =
-    let w1 : World = record w { buffers = buffers; calls = w.calls + 1 } in
-    let k : Packet = received (room_at c.env.pools spec.pool) numbers (length bytes) in
+    → (r : Reception c spec bytes w) → BeginsWell c q (packet_received c spec bytes r.numbers) port (record w { buffers = r.buffers; calls = w.calls + 1 })
+record_begins c q port spec bytes w env entry is_spec room limits rest r =
+    let w1 : World = record w { buffers = r.buffers; calls = w.calls + 1 } in
+    let k : Packet = packet_received c spec bytes r.numbers in
     record {
-      begins = received_begins c q port spec bytes w numbers buffers env entry is_spec room rest.ready fits fresh filled;
+      begins = received_begins c q port spec bytes w env entry is_spec room rest.ready r;
       owned = more_owned c.env.pools (live (between w)) (live (first_state k port w1)) k
           (more_by (live (between w)) (live (first_state k port w1)) k (λ test. omega (arith, tally_first test k port w1)))
-          (direct_comes c.env.pools (live (between w)) spec.pool (needed c.env.pools spec.pool (length bytes)) k numbers
-          (received_direct (room_at c.env.pools spec.pool) numbers (length bytes)) fresh)
+          (direct_comes c.env.pools (live (between w)) spec.pool (needed c.env.pools spec.pool (length bytes)) k r.numbers
+          (received_direct (room_at c.env.pools spec.pool) r.numbers (length bytes)) r.fresh)
           rest.owned;
-      packets = first_packets k port w1 (received_packet c port spec bytes numbers is_spec limits fits fresh.count)
+      packets = first_packets k port w1 (received_packet c port spec bytes r.numbers is_spec limits r.fits r.fresh.count)
           (record { held = tt; rings = rest.packets.rings; outboxes = rest.packets.outboxes });
     }
 
@@ -137,34 +134,23 @@ pub record_safe : (c : Setting) (nodes : Nodes) (port : ℕ) (bytes : List ℕ) 
 record_safe c nodes port bytes w b checked rest r =
     let node = checked.checked.ports port r.program r.program_is in
     subst (IsSafeBeginning c) (sym r.is)
-    (safe_beginning c (Port port) r.program (received (room_at c.env.pools r.spec.pool) r.numbers (length bytes)) port
-    (record w { buffers = r.buffers; calls = w.calls + 1 }) node
-    (record_begins c node.question port r.spec bytes w r.numbers r.buffers (sym node.env_is) node.entry_is r.spec_is
-    (checked.checked.rooms port r.spec r.spec_is) checked.limits rest r.fits r.fresh r.filled))
+    (safe_beginning c (Port port) r.program (packet_received c r.spec bytes r.reception.numbers) port
+    (record w { buffers = r.reception.buffers; calls = w.calls + 1 }) node
+    (record_begins c node.question port r.spec bytes w (sym node.env_is) node.entry_is r.spec_is
+    (checked.checked.rooms port r.spec r.spec_is) checked.limits rest r.reception))
 
 -- a whole run on a record that is received begins so
-pub receives_of : (c : Setting) (nodes : Nodes) (program : List Instr) (port : ℕ) (spec : PortSpec) (bytes : List ℕ) (w w' : World) (answers : List Bool) →
-    slice_get c.env.ports port ≡ Some spec → slice_get nodes.ports port ≡ Some program → (r : Receives c program port spec bytes w answers w') →
+pub receives_of : (c : Setting) (nodes : Nodes) (program : List Instr) (port : ℕ) (spec : PortSpec) (bytes : List ℕ) (w : World) →
+    slice_get c.env.ports port ≡ Some spec → slice_get nodes.ports port ≡ Some program → (r : Reception c spec bytes w) →
     IsOfRecord c nodes port bytes w (record {
       entry = Port port;
       program = program;
-      packet = received (room_at c.env.pools spec.pool) r.numbers (length bytes);
+      packet = packet_received c spec bytes r.numbers;
       number = port;
       world = record w { buffers = r.buffers; calls = w.calls + 1 };
     })
-receives_of c nodes program port spec bytes w w' answers is_spec is_program r = record {
-  spec = spec;
-  spec_is = is_spec;
-  program = program;
-  program_is = is_program;
-  fits = r.fits;
-  given = r.given;
-  numbers = r.numbers;
-  buffers = r.buffers;
-  fresh = r.fresh;
-  filled = subst (λ k. Filled r.numbers k bytes w.buffers r.buffers) r.packet_is r.filled;
-  is = refl;
-}
+receives_of c nodes program port spec bytes w is_spec is_program r =
+    record { spec = spec; spec_is = is_spec; program = program; program_is = is_program; reception = r; is = refl }
 
 rest_calls : (c : Setting) (w : World) (calls : ℕ) → IsAtRest c w → IsAtRest c (record w { calls = calls })
 rest_calls c w calls rest = record {
@@ -184,11 +170,11 @@ arrives_rest c nodes program port spec bytes w w' Oversize answers checked is_pr
 arrives_rest c nodes program port spec bytes w w' NoBuffer answers checked is_program is_spec rest (_, _, _, is) =
     subst (IsAtRest c) (sym is) (rest_calls c w (w.calls + 1) rest)
 arrives_rest c nodes program port spec bytes w w' Got answers checked is_program is_spec rest r =
-    let k : Packet = received (room_at c.env.pools spec.pool) r.numbers (length bytes) in
-    let w1 : World = record w { buffers = r.buffers; calls = w.calls + 1 } in
+    let k : Packet = packet_received c spec bytes r.reception.numbers in
+    let w1 : World = record w { buffers = r.reception.buffers; calls = w.calls + 1 } in
     let b : Beginning = record { entry = Port port; program = program; packet = k; number = port; world = w1 } in
-    safe_rests c b r.later w' (record_safe c nodes port bytes w b checked rest (receives_of c nodes program port spec bytes w w' answers is_spec is_program r))
-    (subst (λ x. NodeRun c program x port w1 r.later w') r.packet_is r.run)
+    safe_rests c b r.later w' (record_safe c nodes port bytes w b checked rest (receives_of c nodes program port spec bytes w is_spec is_program r.reception))
+    r.run
 
 -- ---- node runs on packets of rings: the node of the ring
 pub waiting_safe : (c : Setting) (nodes : Nodes) (next : Waiting Packet) (program : List Instr) (w : World) → IsPipeline c nodes → IsAtRest c w →
@@ -272,42 +258,14 @@ serves_exist c nodes (suc n) w pipeline rest = go (first_waiting w.rings) refl (
         let (later, more, w', serves) = on mid (safe_rests c b now mid safe run) in
         (now ++ later, more + 1, w', (program, now, later, mid, more, is_program, run, serves, refl, refl))
 
--- ---- the outcome of a record: with these buffers and bytes
-received_ends : (c : Setting) (nodes : Nodes) (program : List Instr) (port : ℕ) (spec : PortSpec) (bytes : List ℕ) (w : World) (ns : List Number)
-    (buffers : Buffers) → IsPipeline c nodes → slice_get c.env.ports port ≡ Some spec → slice_get nodes.ports port ≡ Some program → IsAtRest c w →
-    needed c.env.pools spec.pool (length bytes) ≤ spec.segs → is_denied c (between w) spec.pool (needed c.env.pools spec.pool (length bytes)) ≡ false
-    → AreFresh c.env.pools (live (between w)) spec.pool (needed c.env.pools spec.pool (length bytes)) ns →
-    Filled ns (received (room_at c.env.pools spec.pool) ns (length bytes)) bytes w.buffers buffers →
+-- ---- the outcome of a record
+received_ends : (c : Setting) (nodes : Nodes) (program : List Instr) (port : ℕ) (spec : PortSpec) (bytes : List ℕ) (w : World) → IsPipeline c nodes →
+    slice_get c.env.ports port ≡ Some spec → slice_get nodes.ports port ≡ Some program → IsAtRest c w → Reception c spec bytes w →
     (answers : List Bool) × (w' : World) × Receives c program port spec bytes w answers w'
-received_ends c nodes program port spec bytes w ns buffers checked is_spec is_program rest fits given fresh filled =
-    let node = checked.checked.ports port program is_program in
-    let (answers, w', run) = safe_ends c (record {
-      entry = Port port;
-      program = program;
-      packet = received (room_at c.env.pools spec.pool) ns (length bytes);
-      number = port;
-      world = record w { buffers = buffers; calls = w.calls + 1 };
-    })
-    (safe_beginning c (Port port) program (received (room_at c.env.pools spec.pool) ns (length bytes)) port
-    (record w { buffers = buffers; calls = w.calls + 1 }) node
-    (record_begins c node.question port spec bytes w ns buffers (sym node.env_is) node.entry_is is_spec (checked.checked.rooms port spec is_spec)
-    checked.limits rest fits fresh filled)) in (
-      true ∷ answers,
-      w',
-      record {
-        fits = fits;
-        given = given;
-        numbers = ns;
-        buffers = buffers;
-        fresh = fresh;
-        packet = received (room_at c.env.pools spec.pool) ns (length bytes);
-        packet_is = refl;
-        filled = filled;
-        later = answers;
-        answers_are = refl;
-        run = run;
-      },
-    )
+received_ends c nodes program port spec bytes w checked is_spec is_program rest r =
+    let (answers, w', run) =
+    safe_ends c _ (record_safe c nodes port bytes w _ checked rest (receives_of c nodes program port spec bytes w is_spec is_program r)) in
+    (true ∷ answers, w', record { reception = r; later = answers; answers_are = refl; run = run })
 
 -- a record that is small enough and whose call is not refused is received
 receives_exist : (c : Setting) (nodes : Nodes) (program : List Instr) (port : ℕ) (spec : PortSpec) (bytes : List ℕ) (w : World) → IsPipeline c nodes →
@@ -320,7 +278,8 @@ receives_exist c nodes program port spec bytes w pipeline is_spec is_program res
     let (ns, fresh) = enough pools (live (between w)) spec.pool need (denied_or_enough c (between w) spec.pool need given) in
     let (buffers, filled) = can_fill pools (live (between w)) spec.pool bytes ns w.buffers (pipeline.checked.rooms port spec is_spec) rest.ready.within.rooms
     fresh small in
-    received_ends c nodes program port spec bytes w ns buffers pipeline is_spec is_program rest fits given fresh filled
+    received_ends c nodes program port spec bytes w pipeline is_spec is_program rest
+    (record { fits = fits; given = given; numbers = ns; buffers = buffers; fresh = fresh; filled = filled })
 
 pub arrives_exist : (c : Setting) (nodes : Nodes) (program : List Instr) (port : ℕ) (spec : PortSpec) (bytes : List ℕ) (w : World) → IsPipeline c nodes →
     slice_get c.env.ports port ≡ Some spec → slice_get nodes.ports port ≡ Some program → IsAtRest c w → AllByRecursion (λ x. x < 256) bytes →
@@ -349,9 +308,9 @@ arrives_outcome c program port spec bytes w w' NoBuffer answers (fits, denied, _
     sym (ap (λ b. if b then Oversize else if is_denied c (between w) spec.pool (needed c.env.pools spec.pool (length bytes)) then NoBuffer else Got) e
     ∙ ap (λ b. if b then NoBuffer else Got) denied)
 arrives_outcome c program port spec bytes w w' Got answers r =
-    let e = le-ltb spec.segs (needed c.env.pools spec.pool (length bytes)) r.fits in
+    let e = le-ltb spec.segs (needed c.env.pools spec.pool (length bytes)) r.reception.fits in
     sym (ap (λ b. if b then Oversize else if is_denied c (between w) spec.pool (needed c.env.pools spec.pool (length bytes)) then NoBuffer else Got) e
-    ∙ ap (λ b. if b then NoBuffer else Got) r.given)
+    ∙ ap (λ b. if b then NoBuffer else Got) r.reception.given)
 
 -- ---- a turn
 pub turn_rest : (c : Setting) (nodes : Nodes) (port : ℕ) (bytes : List ℕ) (w w' : World) (outcome : Outcome) (runs : ℕ) (answers : List Bool) →

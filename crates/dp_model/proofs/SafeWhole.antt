@@ -3,7 +3,7 @@ use Rattle.std.proofs.Common.{◌≡◌, List, [], ◌∷◌, ◌++◌, length, 
 use Rattle.std.specs.List.{AllByRecursion}
 use Rattle.dp_model.specs.Machine.{Setting, World, live, segments_listed}
 use Rattle.dp_model.specs.Runs.{between, Nodes, Arrival, Observed, Run, records_at, with_empty_outboxes, joined}
-use Rattle.dp_model.specs.Safety.{IsAtRest, Beginning, IsSafeBeginning, IsPipeline, CanArrive, IsOfRun, AreSafe}
+use Rattle.dp_model.specs.Safety.{IsAtRest, Beginning, IsSafeBeginning, IsPipeline, CanArrive, IsOfRun, KeepsRunsSafe, AreSafe}
 use Rattle.dp_model.specs.Laws.Lists.{get_within}
 use Rattle.dp_model.proofs.Counts.{tally_live}
 use Rattle.dp_model.specs.Laws.Counts.{tally, fewer_owned, fewer_by}
@@ -57,11 +57,20 @@ run_runs_safe c nodes arrivals w b checked rest r =
     turn_runs_safe c nodes r.arrival.port r.arrival.bytes r.last b checked
     (run_rest c nodes r.before w r.last r.shown checked rest r.run) r.of_turn
 
+-- they are, and after the run the next record can come
+pub run_keeps : {T : Type 0} (c : Setting) (nodes : Nodes) (arrivals : List (Arrival T)) (w : World) → IsPipeline c nodes → IsAtRest c w →
+    KeepsRunsSafe c nodes arrivals w
+run_keeps c nodes arrivals w pipeline rest = record {
+  runs = λ b. run_runs_safe c nodes arrivals w b pipeline rest;
+  rests = λ shown w'. run_rest c nodes arrivals w w' shown pipeline rest;
+}
+
 pub run_safe : {T : Type 0} (c : Setting) (nodes : Nodes) (arrivals : List (Arrival T)) (w : World) → IsPipeline c nodes → IsAtRest c w →
     AllByRecursion (CanArrive c) arrivals → AreSafe c nodes arrivals w
-run_safe c nodes arrivals w pipeline rest can = record {
-  never_stuck = λ b of. safe_never_stuck c b (run_runs_safe c nodes arrivals w b pipeline rest of);
-  runs = λ b of. run_runs_safe c nodes arrivals w b pipeline rest of;
-  exists = run_exists c nodes arrivals w pipeline rest can;
-  rests = λ shown w' run. run_rest c nodes arrivals w w' shown pipeline rest run;
-}
+run_safe c nodes arrivals w pipeline rest can =
+    let keeps = run_keeps c nodes arrivals w pipeline rest in
+    record {
+      never_stuck = λ b of. safe_never_stuck c b (keeps.runs b of);
+      keeps = keeps;
+      exists = run_exists c nodes arrivals w pipeline rest can;
+    }

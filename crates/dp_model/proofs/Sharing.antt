@@ -12,7 +12,7 @@ use Rattle.dp_model.specs.declared.row.Fact.TheVariants.{Empty}
 use Rattle.dp_model.specs.Buffers.{Number, same_number}
 use Rattle.dp_model.specs.Packets.{Segment, Packet, refs}
 use Rattle.dp_model.specs.Machine.{segments_held}
-use Rattle.dp_model.specs.Groups.{is_in, size, share_of_group, belongs, buffers_of, GroupHolds, reshared}
+use Rattle.dp_model.specs.Groups.{is_in, group_size, share_of_group, belongs, buffers_of, GroupHolds, reshared}
 use Rattle.dp_model.specs.Laws.References.{refs-cons, refs-append, refs_of, refs_set, refs_first}
 use Rattle.dp_model.specs.Laws.Lists.{get_set_other, get_set_same}
 use Rattle.dp_model.specs.Laws.Cases.{one_if, by_cases}
@@ -23,15 +23,15 @@ use Rattle.dp_model.specs.Laws.Groups.{belongs_out}
 -- ---- the registers of a group
 
 -- none where no register belongs
-pub size_none : (xs : List Fact) (g : ℕ) → ((i : ℕ) → belongs xs g i ≡ false) → size xs g ≡ 0
+pub size_none : (xs : List Fact) (g : ℕ) → ((i : ℕ) → belongs xs g i ≡ false) → group_size xs g ≡ 0
 size_none [] g none = refl
 size_none (x ∷ xs) g none =
     let here : one_if (is_in g x) ≡ 0 = ap one_if (none 0) in
     omega (arith, here, size-cons x xs g, size_none xs g (λ i. none (suc i)))
 
 -- a register set
-pub size_set : (facts : List Fact) (p : ℕ) (f f' : Fact) (g : ℕ) → slice_get facts p ≡ Some f → size (slice_set facts p f') g + one_if (is_in g f)
-    ≡ size facts g + one_if (is_in g f')
+pub size_set : (facts : List Fact) (p : ℕ) (f f' : Fact) (g : ℕ) → slice_get facts p ≡ Some f → group_size (slice_set facts p f') g + one_if (is_in g f)
+    ≡ group_size facts g + one_if (is_in g f')
 size_set [] p f f' g e = cc
 size_set (x ∷ facts) zero f f' g e =
     let same : one_if (is_in g x) ≡ one_if (is_in g f) = ap (λ y. one_if (is_in g y)) (same_Some x f e) in
@@ -82,11 +82,11 @@ all_counted P (s ∷ k) each = (each s.buffer (refs_first s k), all_counted P k 
 module _ (live : List Segment) (facts : List Fact) (packets : List (Option Packet)) (g : ℕ) where
   -- the buffers of a register of the group have as many references as the group has registers
   pub group_refs : GroupHolds live facts packets g → (p : ℕ) (k : Packet) (b : Number) → belongs facts g p ≡ true → slice_get packets p ≡ Some (Some k) →
-      1 ≤ refs k b → refs live b ≡ size facts g
+      1 ≤ refs k b → refs live b ≡ group_size facts g
   group_refs h p k b in_it at one =
       let (t, there, alike) = h.same p in_it in
       let same : t ≡ k = cc (at, there) in
-      counted_at (λ b. refs live b ≡ size facts g) h.buffers b h.counted
+      counted_at (λ b. refs live b ≡ group_size facts g) h.buffers b h.counted
       (subst (λ bs. 1 ≤ count_by (λ n. same_number n b) bs) alike (omega (arith, one, refs_counted t b, ap (λ x. refs x b) same)))
 
   -- each of its registers refers to them
@@ -100,8 +100,8 @@ module _ (live : List Segment) (facts : List Fact) (packets : List (Option Packe
 
   -- a group holds if one of its registers shows its registers and buffers
   pub group_from : (p : ℕ) (k : Packet) → ((i : ℕ) → belongs facts g i ≡ true → (t : Packet) × (slice_get packets i ≡ Some (Some t))
-      × (buffers_of t ≡ buffers_of k)) → ((b : Number) → 1 ≤ refs k b → refs live b ≡ size facts g) → GroupHolds live facts packets g
-  group_from p k each counted = record { buffers = buffers_of k; same = each; counted = all_counted (λ b. refs live b ≡ size facts g) k counted }
+      × (buffers_of t ≡ buffers_of k)) → ((b : Number) → 1 ≤ refs k b → refs live b ≡ group_size facts g) → GroupHolds live facts packets g
+  group_from p k each counted = record { buffers = buffers_of k; same = each; counted = all_counted (λ b. refs live b ≡ group_size facts g) k counted }
 
   -- a group without registers
   pub group_none : ((i : ℕ) → belongs facts g i ≡ false) → GroupHolds live facts packets g
@@ -122,16 +122,16 @@ AllRefer facts packets g b = (i : ℕ) → belongs facts g i ≡ true → (k : P
 
 -- so there are at least that many references
 pub count_le : (facts : List Fact) (packets : List (Option Packet)) (g : ℕ) (b : Number) → AllRefer facts packets g b →
-    size facts g ≤ refs (segments_held packets) b
+    group_size facts g ≤ refs (segments_held packets) b
 count_le [] packets g b each = omega arith
 count_le (f ∷ facts) [] g b each = go (is_in g f) refl (count_le facts [] g b (λ i h. let (k, at, one) = each (suc i) h in cc))
   where
-    go : (t : Bool) → is_in g f ≡ t → size facts g ≤ 0 → size (f ∷ facts) g ≤ 0
+    go : (t : Bool) → is_in g f ≡ t → group_size facts g ≤ 0 → group_size (f ∷ facts) g ≤ 0
     go true e le = let (k, at, one) = each 0 e in cc
     go false e le = let none : one_if (is_in g f) ≡ 0 = ap one_if e in omega (arith, le, none, size-cons f facts g)
 count_le (f ∷ facts) (o ∷ packets) g b each = go (is_in g f) refl (count_le facts packets g b (λ i h. each (suc i) h))
   where
-    go : (t : Bool) → is_in g f ≡ t → size facts g ≤ refs (segments_held packets) b → size (f ∷ facts) g ≤ refs (segments_held (o ∷ packets)) b
+    go : (t : Bool) → is_in g f ≡ t → group_size facts g ≤ refs (segments_held packets) b → group_size (f ∷ facts) g ≤ refs (segments_held (o ∷ packets)) b
     go true e le =
         let (k, at, one) = each 0 e in
         let is : refs_of o b ≡ refs k b = ap (λ x. refs_of x b) (same_Some o (Some k) at) in
@@ -146,7 +146,7 @@ apart facts g i p inside outside e = let wrong : true ≡ false = sym inside ∙
 
 -- another register's references come on top
 pub others_le : (facts : List Fact) (packets : List (Option Packet)) (g : ℕ) (b : Number) (p : ℕ) (o : Option Packet) → AllRefer facts packets g b →
-    belongs facts g p ≡ false → slice_get packets p ≡ Some o → size facts g + refs_of o b ≤ refs (segments_held packets) b
+    belongs facts g p ≡ false → slice_get packets p ≡ Some o → group_size facts g + refs_of o b ≤ refs (segments_held packets) b
 others_le facts packets g b p o each out there =
     let c = count_le facts (slice_set packets p None) g b (λ i h. let (k, at, one) = each i h in
     (k, get_set_other packets p i None (apart facts g i p h out) ∙ at, one)) in
@@ -154,7 +154,7 @@ others_le facts packets g b p o each out there =
 
 -- each of its own registers has exactly one
 pub own_le : (facts : List Fact) (packets : List (Option Packet)) (g : ℕ) (b : Number) (p : ℕ) (k : Packet) → AllRefer facts packets g b →
-    belongs facts g p ≡ true → slice_get packets p ≡ Some (Some k) → size facts g + refs k b ≤ refs (segments_held packets) b + 1
+    belongs facts g p ≡ true → slice_get packets p ≡ Some (Some k) → group_size facts g + refs k b ≤ refs (segments_held packets) b + 1
 own_le facts packets g b p k each in_it there =
     let (f, at_f, is_f) = belongs_there facts g p in_it in
     let rest = slice_set facts p Empty in

@@ -9,7 +9,7 @@ use Rattle.dp_model.specs.declared.row.Fact.{Fact}
 use Rattle.dp_model.specs.declared.row.Fact.TheVariants.{Empty, Held}
 use Rattle.dp_model.specs.declared.row.Row.{Row}
 use Rattle.dp_model.specs.Packets.{Segment, Packet, refs, IsSole}
-use Rattle.dp_model.specs.Groups.{is_in, size, least, share_of_group, belongs, buffers_of, GroupHolds, reshared_fact, reshared}
+use Rattle.dp_model.specs.Groups.{is_in, group_size, least_member, share_of_group, belongs, buffers_of, GroupHolds, reshared_fact, reshared}
 use Rattle.dp_model.specs.Rows.{group_at, with_shares, dissolved, renamed}
 use Rattle.dp_model.specs.Machine.{Setting, State, live, Holds}
 use Rattle.dp_model.specs.Meaning.{IsShared, FactHolds, Known}
@@ -78,13 +78,13 @@ known_dissolved c row s p known = go (group_at row p) refl
 -- ---- names: what remains of a group gets its least register's name, or that of a register that belongs to no group
 pub known_renamed : (c : Setting) (row : Row) (s : State) (g : ℕ) → Known c row s →
     ((m : ℕ) → belongs row.facts g m ≡ true → (m ≡ g) ⊎ ((i : ℕ) → belongs row.facts m i ≡ false)) → Known c (renamed row g) s
-known_renamed c row s g known free = by_cases (size row.facts g == 1) alone more
+known_renamed c row s g known free = by_cases (group_size row.facts g == 1) alone more
   where
     h : GroupHolds (live s) row.facts s.packets g
     h = known.row_holds.groups g
 
     -- a single one is sole
-    sole : size row.facts g ≡ 1 → (i : ℕ) (k : Packet) → belongs row.facts g i ≡ true → Holds s i k → IsSole (live s) k
+    sole : group_size row.facts g ≡ 1 → (i : ℕ) (k : Packet) → belongs row.facts g i ≡ true → Holds s i k → IsSole (live s) k
     sole one i k inside at =
         let (t, there, alike) = h.same i inside in
         let same : t ≡ k = cc (at, there) in
@@ -95,19 +95,19 @@ known_renamed c row s g known free = by_cases (size row.facts g == 1) alone more
         segments [] all = tt
         segments (x ∷ k) all = (all.0, segments k all.1)
 
-    alone : (size row.facts g == 1) ≡ true → Known c (renamed row g) s
+    alone : (group_size row.facts g == 1) ≡ true → Known c (renamed row g) s
     alone e =
-        subst (λ n. Known c (with_shares row g n) s) (sym (ap (λ b. cond b 2 (option_map_or share_of_group (least row.facts g) 0)) e))
-        (known_reshared c row s g 2 known (sole (eqb-true (size row.facts g) 1 e))
+        subst (λ n. Known c (with_shares row g n) s) (sym (ap (λ b. cond b 2 (option_map_or share_of_group (least_member row.facts g) 0)) e))
+        (known_reshared c row s g 2 known (sole (eqb-true (group_size row.facts g) 1 e))
         (groups_gone (live s) row.facts s.packets g 2 sole_no_group known.row_holds.groups))
 
-    several : (o : Option ℕ) → least row.facts g ≡ o → Known c (with_shares row g (option_map_or share_of_group o 0)) s
+    several : (o : Option ℕ) → least_member row.facts g ≡ o → Known c (with_shares row g (option_map_or share_of_group o 0)) s
     several None e = known_reshared c row s g 0 known (λ i k inside at. tt) (groups_gone (live s) row.facts s.packets g 0 loose_no_group known.row_holds.groups)
     several (Some m) e =
         known_reshared c row s g (share_of_group m) known (λ i k inside at. of_group (live s) m k)
         (groups_renamed (live s) row.facts s.packets g m (free m (least_belongs row.facts g m e)) known.row_holds.groups)
 
-    more : (size row.facts g == 1) ≡ false → Known c (renamed row g) s
+    more : (group_size row.facts g == 1) ≡ false → Known c (renamed row g) s
     more e =
-        subst (λ n. Known c (with_shares row g n) s) (sym (ap (λ b. cond b 2 (option_map_or share_of_group (least row.facts g) 0)) e))
-        (subst (λ o. Known c (with_shares row g (option_map_or share_of_group o 0)) s) refl (several (least row.facts g) refl))
+        subst (λ n. Known c (with_shares row g n) s) (sym (ap (λ b. cond b 2 (option_map_or share_of_group (least_member row.facts g) 0)) e))
+        (subst (λ o. Known c (with_shares row g (option_map_or share_of_group o 0)) s) refl (several (least_member row.facts g) refl))

@@ -26,17 +26,17 @@ is_in g Empty = false
 is_in g (Held share head tail first last segs) = share == share_of_group g
 
 -- the number of registers in a group, and the least of them
-abbrev pub size : List Fact → ℕ → ℕ
-size facts g = count_by (is_in g) facts
+abbrev pub group_size : List Fact → ℕ → ℕ
+group_size facts g = count_by (is_in g) facts
 
-abbrev pub least : List Fact → ℕ → Option ℕ
-least facts g = position (is_in g) facts
+abbrev pub least_member : List Fact → ℕ → Option ℕ
+least_member facts g = position (is_in g) facts
 
 -- ---- which groups there are
 
 -- g has at least two registers, and g is the least
 abbrev pub is_group : List Fact → ℕ → Bool
-is_group facts g = nat_le 2 (size facts g) && option_map_or (λ p. p == g) (least facts g) false
+is_group facts g = nat_le 2 (group_size facts g) && option_map_or (λ p. p == g) (least_member facts g) false
 
 -- each group to which a register belongs is well formed
 abbrev pub are_groups : List Fact → Bool
@@ -76,7 +76,7 @@ reshared g share facts = map (reshared_fact g share) facts
 
 -- the new share of the registers that remain in a group: a single one is sole, else the least of them names the group
 abbrev pub share_left : List Fact → ℕ → ℕ
-share_left facts g = if size facts g == 1 then 2 else option_map_or share_of_group (least facts g) 0
+share_left facts g = if group_size facts g == 1 then 2 else option_map_or share_of_group (least_member facts g) 0
 
 -- ---- what a group says
 
@@ -91,5 +91,5 @@ buffers_of k = map (λ s. s.buffer) k
 -- each register of the group holds a packet with exactly these buffers, each of which has as many references as the group has registers
 pub record GroupHolds (live : List Segment) (facts : List Fact) (packets : List (Option Packet)) (g : ℕ) : Type 0 where
   pub buffers : List Number
-  pub same : (p : ℕ) → belongs facts g p ≡ true → (k : Packet) × (slice_get packets p ≡ Some (Some k)) × (buffers_of k ≡ buffers)
-  pub counted : AllByRecursion (λ b. refs live b ≡ size facts g) buffers
+  pub same : (p : ℕ) → belongs facts g p ≡ true → (packet : Packet) × (slice_get packets p ≡ Some (Some packet)) × (buffers_of packet ≡ buffers)
+  pub counted : AllByRecursion (λ b. refs live b ≡ group_size facts g) buffers

@@ -1,5 +1,5 @@
 -- What is promised of the node runs, turns and whole runs of checked nodes.
-use Rattle.std.specs.Prelude.{◌≡◌, ◌⊎◌, ℕ, ◌+◌, ◌<◌, ◌≤◌, Bool, false, nat_lt, if◌then◌else◌, List, [], ◌∷◌, ◌++◌, length, replicate}
+use Rattle.std.specs.Prelude.{◌≡◌, ◌⊎◌, ℕ, ◌+◌, ◌<◌, ◌≤◌, Bool, nat_lt, if◌then◌else◌, List, [], ◌∷◌, ◌++◌, length, replicate}
 use Rattle.std.specs.Prelude.{Option, Some, None, slice_get}
 use Rattle.std.specs.List.{AllByRecursion, AllZip}
 use Rattle.dp_model.specs.declared.env.Entry.{Entry}
@@ -8,15 +8,14 @@ use Rattle.dp_model.specs.declared.env.PortSpec.{PortSpec}
 use Rattle.dp_model.specs.declared.instr.Instr.{Instr}
 use Rattle.dp_model.specs.declared.row.Row.{Row}
 use Rattle.dp_model.specs.Limits.{max_segments, max_ring_runs}
-use Rattle.dp_model.specs.Environments.{room_at, fault_of}
-use Rattle.dp_model.specs.Buffers.{Number, Buffers}
-use Rattle.dp_model.specs.Packets.{Packet, needed, received, Filled, AreFresh, AreOwned, IsWellFormed}
+use Rattle.dp_model.specs.Environments.{fault_of}
+use Rattle.dp_model.specs.Packets.{Packet, needed, AreOwned, IsWellFormed}
 use Rattle.dp_model.specs.Rows.{entry_row}
 use Rattle.dp_model.specs.Rules.{Question, IsCertified}
 use Rattle.dp_model.specs.Machine.{Setting, World, State, live, Next, At, Move, Acts, IsLabel, Step, with_step, is_denied}
 use Rattle.dp_model.specs.Meaning.{RowHolds, RingHolds}
 use Rattle.dp_model.specs.Runs.{StepsTo, first_state, NodeRun, max_steps, NeverStuck, between, Outcome, Got, NoBuffer, Oversize, Arrives, Waiting}
-use Rattle.dp_model.specs.Runs.{first_waiting, Nodes, runs_of, Turn, Arrival, Observed, Run}
+use Rattle.dp_model.specs.Runs.{packet_received, Reception, first_waiting, Nodes, runs_of, Turn, Arrival, Observed, Run}
 use Rattle.dp_model.specs.Laws.{RowHoldsAt, Ready, Begins, AreChecked}
 
 -- ---- packets
@@ -84,24 +83,19 @@ pub record Beginning : Type 0 where
   pub number : ℕ
   pub world : World
 
--- a node run of this turn begins in this way: the record is small enough, its call is not refused, and the packet has its bytes
+-- a node run of this turn begins in this way: with the record, which is received
 pub record IsOfRecord (setting : Setting) (nodes : Nodes) (port : ℕ) (bytes : List ℕ) (w : World) (b : Beginning) : Type 0 where
   pub spec : PortSpec
   pub spec_is : slice_get setting.env.ports port ≡ Some spec
   pub program : List Instr
   pub program_is : slice_get nodes.ports port ≡ Some program
-  pub fits : needed setting.env.pools spec.pool (length bytes) ≤ spec.segs
-  pub given : is_denied setting (between w) spec.pool (needed setting.env.pools spec.pool (length bytes)) ≡ false
-  pub numbers : List Number
-  pub buffers : Buffers
-  pub fresh : AreFresh setting.env.pools (live (between w)) spec.pool (needed setting.env.pools spec.pool (length bytes)) numbers
-  pub filled : Filled numbers (received (room_at setting.env.pools spec.pool) numbers (length bytes)) bytes w.buffers buffers
+  pub reception : Reception setting spec bytes w
   pub is : b ≡ record {
     entry = Port port;
     program = program;
-    packet = received (room_at setting.env.pools spec.pool) numbers (length bytes);
+    packet = packet_received setting spec bytes reception.numbers;
     number = port;
-    world = record w { buffers = buffers; calls = w.calls + 1 };
+    world = record w { buffers = reception.buffers; calls = w.calls + 1 };
   }
 
 -- whole node runs of these programs, in sequence, on packets that wait in rings
@@ -244,19 +238,18 @@ pub record IsOfRun {T : Type 0} (setting : Setting) (nodes : Nodes) (arrivals : 
   pub run : Run setting nodes before w shown last
   pub of_turn : IsOfTurn setting nodes arrival.port arrival.bytes last b
 
-pub record AreSafe {T : Type 0} (setting : Setting) (nodes : Nodes) (arrivals : List (Arrival T)) (w : World) : Type 0 where
-  -- no node run is ever stuck
-  pub never_stuck : (b : Beginning) → IsOfRun setting nodes arrivals w b → NeverStuck setting b.program b.packet b.number b.world
-  -- all of them are safe
-  pub runs : (b : Beginning) → IsOfRun setting nodes arrivals w b → IsSafeBeginning setting b
-  -- there is such a run
-  pub exists : (shown : Observed T) × (w' : World) × Run setting nodes arrivals w shown w'
-  -- and after it the next record can come
-  pub rests : (shown : Observed T) (w' : World) → Run setting nodes arrivals w shown w' → IsAtRest setting w'
-
 -- what holds of whole runs of every pipeline, whatever records come
 pub record KeepsRunsSafe {T : Type 0} (setting : Setting) (nodes : Nodes) (arrivals : List (Arrival T)) (w : World) : Type 0 where
   -- their node runs are safe
   pub runs : (b : Beginning) → IsOfRun setting nodes arrivals w b → IsSafeBeginning setting b
   -- and after such a run the next record can come
   pub rests : (shown : Observed T) (w' : World) → Run setting nodes arrivals w shown w' → IsAtRest setting w'
+
+-- what holds of whole runs of every pipeline on records that can come
+pub record AreSafe {T : Type 0} (setting : Setting) (nodes : Nodes) (arrivals : List (Arrival T)) (w : World) : Type 0 where
+  -- no node run is ever stuck
+  pub never_stuck : (b : Beginning) → IsOfRun setting nodes arrivals w b → NeverStuck setting b.program b.packet b.number b.world
+  -- all of them are safe, and after such a run the next record can come
+  pub keeps : KeepsRunsSafe setting nodes arrivals w
+  -- there is such a run
+  pub exists : (shown : Observed T) × (w' : World) × Run setting nodes arrivals w shown w'

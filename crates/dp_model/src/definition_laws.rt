@@ -23,13 +23,13 @@ ghost use Rattle.dp_model.specs.declared.instr.Instr.{Instr};
 /// Worlds stay well formed: at the start, at each step of any program, accepted or not, and at the drains. Packets keep 1 to 64 segments. A buffer
 /// never has more references than 16 bits can count.
 pub fn worlds_stay_well_formed()
-    ensures steps { (c : Setting) (program : List Instr) (label : ℕ) (s : State) (m : Move) →
-        IsWellFormed c.env.pools s.world.buffers (live s) → Step c program label s m →
-        IsWellFormed c.env.pools m.state.world.buffers (live m.state) }
-    ensures packets { (c : Setting) (program : List Instr) (label : ℕ) (s : State) (m : Move) →
-        ArePackets s → Step c program label s m → ArePackets m.state }
-    ensures drains { (c : Setting) (w : World) → IsAtRest c w → IsAtRest c (with_empty_outboxes w) }
-    ensures starts { (c : Setting) (w : World) → TablesFit c → IsStart c.env w → IsAtRest c w }
+    ensures steps { (setting : Setting) (program : List Instr) (label : ℕ) (s : State) (m : Move) →
+        IsWellFormed setting.env.pools s.world.buffers (live s) → Step setting program label s m →
+        IsWellFormed setting.env.pools m.state.world.buffers (live m.state) }
+    ensures packets { (setting : Setting) (program : List Instr) (label : ℕ) (s : State) (m : Move) →
+        ArePackets s → Step setting program label s m → ArePackets m.state }
+    ensures drains { (setting : Setting) (w : World) → IsAtRest setting w → IsAtRest setting (with_empty_outboxes w) }
+    ensures starts { (setting : Setting) (w : World) → TablesFit setting → IsStart setting.env w → IsAtRest setting w }
     ensures few { (env : Environment) (segments : List Segment) (b : Number) →
         fault_of env ≡ None → AreOwned env.pools segments → refs segments b ≤ max_buffers }
 {}
@@ -55,25 +55,26 @@ pub fn numbers_are_as_called()
 /// until the limit; receiving a record and running its node can be one step or two.
 pub fn runs_are_as_they_read<T>()
     ensures rounds { (port : ℕ) (inputs : List (List (T × List ℕ))) → of_port port (interleaved inputs) ≡ slice_index_or inputs port [] }
-    ensures serves { (c : Setting) (programs : List (List Instr)) (n : ℕ) (w : World) (answers : List Bool) (runs : ℕ) (w' : World) →
-        Serves c programs n w answers runs w' → IsServed c programs n w runs w' }
-    ensures receives { (c : Setting) (nodes : Nodes) (port : ℕ) (bytes : List ℕ) (w w' : World) (b : Beginning) (answers : List Bool) →
-        (r : IsOfRecord c nodes port bytes w b) → NodeRun c b.program b.packet b.number b.world answers w' →
-        Receives c r.program port r.spec bytes w (true ∷ answers) w' }
+    ensures serves { (setting : Setting) (programs : List (List Instr)) (n : ℕ) (w : World) (answers : List Bool) (runs : ℕ) (w' : World) →
+        Serves setting programs n w answers runs w' → IsServed setting programs n w runs w' }
+    ensures receives { (setting : Setting) (nodes : Nodes) (port : ℕ) (bytes : List ℕ) (w w' : World) (b : Beginning) (answers : List Bool) →
+        (r : IsOfRecord setting nodes port bytes w b) → NodeRun setting b.program b.packet b.number b.world answers w' →
+        Receives setting r.program port r.spec bytes w (true ∷ answers) w' }
 {}
 
 /// Whole runs end as they should, for every list of programs, accepted or not: from a start on, no packet is left in a ring or a transmit list, each
 /// pool has all its buffers free, and the allocation calls are those that the run reports. What is left in the rings is counted for each ring.
 pub fn whole_runs_end_with_whole_pools<T>()
-    ensures nothing { (c : Setting) (nodes : Nodes) (arrivals : List (Arrival T)) (w w' : World) (shown : Observed T) (left : List ℕ) →
-        IsStart c.env w → WholeRun c nodes arrivals w shown left w' → live (between w') ≡ [] }
+    ensures nothing { (setting : Setting) (nodes : Nodes) (arrivals : List (Arrival T)) (w w' : World) (shown : Observed T) (left : List ℕ) →
+        IsStart setting.env w → WholeRun setting nodes arrivals w shown left w' → live (between w') ≡ [] }
     ensures free { (pools : List PoolSpec) (w : World) (pool : ℕ) (b : Number) → live (between w) ≡ [] →
         (is_free (live (between w)) b ≡ true) × (available pools (live (between w)) pool ≡ count_at pools pool) }
-    ensures rings { (c : Setting) (nodes : Nodes) (arrivals : List (Arrival T)) (w w' : World) (shown : Observed T) (left : List ℕ) →
-        TablesFit c → AreChecked c nodes → IsStart c.env w → WholeRun c nodes arrivals w shown left w' → length left ≡ length c.env.rings }
-    ensures calls { (c : Setting) (nodes : Nodes) (arrivals : List (Arrival T)) (w w' : World) (shown : Observed T) (left : List ℕ) →
-        IsStart c.env w → WholeRun c nodes arrivals w shown left w' → w'.calls ≡ length shown.answers }
-    ensures rests { (c : Setting) (w : World) → IsAtRest c w → IsAtRest c (with_empty_rings w) }
+    ensures rings { (setting : Setting) (nodes : Nodes) (arrivals : List (Arrival T)) (w w' : World) (shown : Observed T) (left : List ℕ) →
+        TablesFit setting → AreChecked setting nodes → IsStart setting.env w → WholeRun setting nodes arrivals w shown left w'
+        → length left ≡ length setting.env.rings }
+    ensures calls { (setting : Setting) (nodes : Nodes) (arrivals : List (Arrival T)) (w w' : World) (shown : Observed T) (left : List ℕ) →
+        IsStart setting.env w → WholeRun setting nodes arrivals w shown left w' → w'.calls ≡ length shown.answers }
+    ensures rests { (setting : Setting) (w : World) → IsAtRest setting w → IsAtRest setting (with_empty_rings w) }
 {}
 
 /// The budget of backward jumps works as documented, for every program, accepted or not. After an instruction comes the next label, or the label that
@@ -81,20 +82,21 @@ pub fn whole_runs_end_with_whole_pools<T>()
 /// and at most 257 times as many steps as its program has instructions; only its last step can cut it. A turn has at most 33 node runs, and takes at
 /// most 257 times as many steps as the programs that ran have instructions.
 pub fn budgets_are_as_they_read()
-    ensures jumps { (c : Setting) (label to : ℕ) (s : State) (i : Instr) (m : Move) → Acts c label s i m → m.next ≡ At to →
+    ensures jumps { (setting : Setting) (label to : ℕ) (s : State) (i : Instr) (m : Move) → Acts setting label s i m → m.next ≡ At to →
         (to ≡ label + 1) ⊎ (label_of i ≡ Some to) }
     ensures order { (s : State) → length s.packets ≡ 8 →
         without_packets s ≡ without_packet 7 (without_packet 6 (without_packet 5 (without_packet 4
         (without_packet 3 (without_packet 2 (without_packet 1 (without_packet 0 s))))))) }
-    ensures taken { (c : Setting) (program : List Instr) (k : Packet) (number n label : ℕ) (w : World) (answers : List Bool) (s : State) →
-        StepsTo c program n 0 (first_state k number w) answers (At label) s →
+    ensures taken { (setting : Setting) (program : List Instr) (packet : Packet) (number n label : ℕ) (w : World) (answers : List Bool) (s : State) →
+        StepsTo setting program n 0 (first_state packet number w) answers (At label) s →
         (s.jumps ≤ jump_budget) × (s.world.steps ≡ w.steps + n) × (s.world.cuts ≡ w.cuts) }
-    ensures node_runs { (c : Setting) (program : List Instr) (k : Packet) (number : ℕ) (w w' : World) (answers : List Bool) →
-        NodeRun c program k number w answers w' → ConsumedAtMost w w' (max_steps program) 1 }
-    ensures turns { (c : Setting) (nodes : Nodes) (port : ℕ) (bytes : List ℕ) (w w' : World) (outcome : Outcome) (runs : ℕ) (answers : List Bool) →
-        (t : Turn c nodes port bytes w outcome runs answers w') →
+    ensures node_runs { (setting : Setting) (program : List Instr) (packet : Packet) (number : ℕ) (w w' : World) (answers : List Bool) →
+        NodeRun setting program packet number w answers w' → ConsumedAtMost w w' (max_steps program) 1 }
+    ensures turns { (setting : Setting) (nodes : Nodes) (port : ℕ) (bytes : List ℕ) (w w' : World) (outcome : Outcome) (runs : ℕ) (answers : List Bool) →
+        (t : Turn setting nodes port bytes w outcome runs answers w') →
         (runs ≤ max_ring_runs + 1) × (ran : List (List Instr)) × AreProgramsOf t ran × ConsumedAtMost w w' (max_steps_of ran) runs }
-    ensures longest { (c : Setting) (nodes : Nodes) (port : ℕ) (bytes : List ℕ) (w w' : World) (outcome : Outcome) (runs : ℕ) (answers : List Bool) (most : ℕ)
-        (ran : List (List Instr)) (t : Turn c nodes port bytes w outcome runs answers w') → AreProgramsOf t ran → AreShort most nodes.ports →
+    ensures longest { (setting : Setting) (nodes : Nodes) (port : ℕ) (bytes : List ℕ) (w w' : World) (outcome : Outcome) (runs : ℕ) (answers : List Bool)
+        (most : ℕ)
+        (ran : List (List Instr)) (t : Turn setting nodes port bytes w outcome runs answers w') → AreProgramsOf t ran → AreShort most nodes.ports →
         AreShort most nodes.rings → max_steps_of ran ≤ runs * ((jump_budget + 1) * most) }
 {}

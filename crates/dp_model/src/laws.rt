@@ -19,41 +19,41 @@ ghost use Rattle.dp_model.specs.declared.env.PortSpec.{PortSpec};
 /// or by a cut. The same holds for all node runs of a turn: there is a turn for each record, the pattern and the free buffers decide its outcome, and
 /// its allocation calls are counted and bounded. The same holds for whole runs from the start on. `T` is the time of a record.
 pub fn accepted_programs_are_safe<T>()
-    ensures node_runs { (c : Setting) (q : Question) (k : Packet) (number : ℕ) (w : World) →
-        IsCertified q → BeginsWell c q k number w → IsSafeRun c q k number w }
-    ensures turns { (c : Setting) (nodes : Nodes) (port : ℕ) (spec : PortSpec) (bytes : List ℕ) (w : World) →
-        IsPipeline c nodes → slice_get c.env.ports port ≡ Some spec → IsAtRest c w → AllByRecursion (λ x. x < 256) bytes →
-        IsSafeTurn c nodes port spec bytes w }
-    ensures calls { (c : Setting) (nodes : Nodes) (most port : ℕ) (bytes : List ℕ) (w w' : World) (outcome : Outcome) (runs : ℕ) (answers : List Bool) →
-        IsPipeline c nodes → AreShort most nodes.ports → AreShort most nodes.rings → IsAtRest c w →
-        Turn c nodes port bytes w outcome runs answers w' →
+    ensures node_runs { (setting : Setting) (question : Question) (packet : Packet) (number : ℕ) (w : World) →
+        IsCertified question → BeginsWell setting question packet number w → IsSafeRun setting question packet number w }
+    ensures turns { (setting : Setting) (nodes : Nodes) (port : ℕ) (spec : PortSpec) (bytes : List ℕ) (w : World) →
+        IsPipeline setting nodes → slice_get setting.env.ports port ≡ Some spec → IsAtRest setting w → AllByRecursion (λ x. x < 256) bytes →
+        IsSafeTurn setting nodes port spec bytes w }
+    ensures calls { (setting : Setting) (nodes : Nodes) (most port : ℕ) (bytes : List ℕ) (w w' : World) (outcome : Outcome) (runs : ℕ) (answers : List Bool) →
+        IsPipeline setting nodes → AreShort most nodes.ports → AreShort most nodes.rings → IsAtRest setting w →
+        Turn setting nodes port bytes w outcome runs answers w' →
         (w'.calls ≡ w.calls + length answers) × (length answers ≤ 1 + (max_ring_runs + 1) * ((jump_budget + 1) * most)) }
-    ensures runs { (c : Setting) (nodes : Nodes) (arrivals : List (Arrival T)) (w : World) →
-        TablesFit c → IsPipeline c nodes → IsStart c.env w → AllByRecursion (CanArrive c) arrivals →
-        AreSafe c nodes arrivals w }
+    ensures runs { (setting : Setting) (nodes : Nodes) (arrivals : List (Arrival T)) (w : World) →
+        TablesFit setting → IsPipeline setting nodes → IsStart setting.env w → AllByRecursion (CanArrive setting) arrivals →
+        AreSafe setting nodes arrivals w }
 {}
 
 /// A node run of an accepted program that begins as its entry says is never stuck, each row holds where the run reaches it, and at the end each
 /// packet in a ring satisfies what the ring declares.
 pub fn accepted_programs_are_sound()
-    ensures { (c : Setting) (q : Question) (k : Packet) (number : ℕ) (w : World) →
-        IsCertified q → Begins c q k number w → IsSound c q k number w }
+    ensures { (setting : Setting) (question : Question) (packet : Packet) (number : ℕ) (w : World) →
+        IsCertified question → Begins setting question packet number w → IsSound setting question packet number w }
 {}
 
 /// A turn of checked nodes leaves the world ready for the next, whatever its outcome.
 pub fn turns_stay_ready()
-    ensures { (c : Setting) (nodes : Nodes) (port : ℕ) (bytes : List ℕ) (w w' : World) (outcome : Outcome) (runs : ℕ) (answers : List Bool) →
-        AreChecked c nodes → Ready c w → Turn c nodes port bytes w outcome runs answers w' → Ready c w' }
+    ensures { (setting : Setting) (nodes : Nodes) (port : ℕ) (bytes : List ℕ) (w w' : World) (outcome : Outcome) (runs : ℕ) (answers : List Bool) →
+        AreChecked setting nodes → Ready setting w → Turn setting nodes port bytes w outcome runs answers w' → Ready setting w' }
 {}
 
 /// The node runs of every pipeline are safe, whatever records come: those of each turn, and the one on the packet that waits next. Each goes
 /// from instruction to instruction, and after every record the world is at rest again. An engine cites this form.
 pub fn pipelines_keep_safe()
-    ensures { (c : Setting) (nodes : Nodes) → IsPipeline c nodes → KeepsSafe c nodes }
+    ensures { (setting : Setting) (nodes : Nodes) → IsPipeline setting nodes → KeepsSafe setting nodes }
 {}
 
 /// The same for whole runs from the start on. `T` is the time of a record.
 pub fn runs_keep_safe<T>()
-    ensures { (c : Setting) (nodes : Nodes) (arrivals : List (Arrival T)) (w : World) →
-        TablesFit c → IsPipeline c nodes → IsStart c.env w → KeepsRunsSafe c nodes arrivals w }
+    ensures { (setting : Setting) (nodes : Nodes) (arrivals : List (Arrival T)) (w : World) →
+        TablesFit setting → IsPipeline setting nodes → IsStart setting.env w → KeepsRunsSafe setting nodes arrivals w }
 {}

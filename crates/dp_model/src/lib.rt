@@ -17,6 +17,7 @@ mod instr;
 mod laws;
 mod limits;
 mod packet;
+mod queue;
 mod registers;
 mod row;
 mod rule;
@@ -36,6 +37,7 @@ pub use limits::{
     MIN_PORT_ROOM,
 };
 pub use packet::Packet;
+pub use queue::Queue;
 pub use registers::{NumberRegister, Operand, PacketRegister, Width};
 pub use row::{Fact, Holding, Lead, Row};
 pub use rule::Rule;

@@ -75,8 +75,9 @@ abbrev pub Plain : Setting → State → Option (ℕ × List ℕ) → Move → T
 Plain c s o m = (after : ℕ × List ℕ) × (o ≡ Some after) × (m ≡ moves_to after.0 (record s { numbers = after.1 }))
 
 abbrev pub IsPlain : Instr → Type 0
-IsPlain i = (c : Setting) (label : ℕ) (s : State) (m : Move) →
-    (Acts c label s i m → Plain c s (calculated c.tables label s.numbers i) m) × (Plain c s (calculated c.tables label s.numbers i) m → Acts c label s i m)
+IsPlain i = (setting : Setting) (label : ℕ) (s : State) (m : Move) →
+    (Acts setting label s i m → Plain setting s (calculated setting.tables label s.numbers i) m)
+    × (Plain setting s (calculated setting.tables label s.numbers i) m → Acts setting label s i m)
 
 abbrev pub same : {A : Type 0} → (A → A) × (A → A)
 same = (λ a. a, λ a. a)

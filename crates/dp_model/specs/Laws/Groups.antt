@@ -16,7 +16,8 @@ use Rattle.dp_model.specs.declared.row.Row.{Row}
 use Rattle.dp_model.specs.declared.row.Holding.{Holding}
 use Rattle.dp_model.specs.Rows.{holding, group_at, with_shares, dissolved, is_well_formed_row, is_fact_of_row, held, held_at, with_fact, changed}
 use Rattle.dp_model.specs.Rows.{emptied, shared, chained_share, owns_head}
-use Rattle.dp_model.specs.Groups.{group_of, is_in, size, share_of_group, belongs, reshared_fact, reshared, same_registers, least, is_group, are_groups}
+use Rattle.dp_model.specs.Groups.{group_of, is_in, group_size, share_of_group, belongs, reshared_fact}
+use Rattle.dp_model.specs.Groups.{reshared, same_registers, least_member, is_group, are_groups}
 use Rattle.dp_model.specs.Laws.Lists.{get_set_other, get_set_same, all_at}
 use Rattle.dp_model.specs.Laws.Cases.{one_if, by_cases}
 
@@ -26,11 +27,11 @@ map_or_true test None h = cc
 map_or_true test (Some x) h = (x, refl, h)
 
 -- one more register
-pub size-cons : (f : Fact) (facts : List Fact) (g : ℕ) → size (f ∷ facts) g ≡ one_if (is_in g f) + size facts g
+pub size-cons : (f : Fact) (facts : List Fact) (g : ℕ) → group_size (f ∷ facts) g ≡ one_if (is_in g f) + group_size facts g
 size-cons f facts g = sum_by-cons (λ x. cond (is_in g x) 1 0) f facts
 
 -- equal sizes if the same registers belong
-pub size_same : (xs ys : List Fact) (g h : ℕ) → length xs ≡ length ys → ((i : ℕ) → belongs xs g i ≡ belongs ys h i) → size xs g ≡ size ys h
+pub size_same : (xs ys : List Fact) (g h : ℕ) → length xs ≡ length ys → ((i : ℕ) → belongs xs g i ≡ belongs ys h i) → group_size xs g ≡ group_size ys h
 size_same [] [] g h e same = refl
 size_same [] (y ∷ ys) g h e same = absurd (omega arith)
 size_same (x ∷ xs) [] g h e same = absurd (omega arith)
@@ -215,7 +216,7 @@ groups_of_row row e =
     (and_parts (list_all is_fact_of_row row.facts) (are_groups row.facts) (and_parts (list_all is_fact_of_row row.facts && are_groups row.facts) _ e).0).1
 
 -- the register that names a group belongs to it
-pub least_belongs : (facts : List Fact) (g m : ℕ) → least facts g ≡ Some m → belongs facts g m ≡ true
+pub least_belongs : (facts : List Fact) (g m : ℕ) → least_member facts g ≡ Some m → belongs facts g m ≡ true
 least_belongs facts g m e = or_at facts m ∙ (position-Some (is_in g) facts m Empty e).1
   where
     or_at : (facts : List Fact) (m : ℕ) → belongs facts g m ≡ is_in g (get_or facts m Empty)
@@ -229,8 +230,8 @@ named_by facts g i e inside =
     let (f, at, is) = belongs_there facts g i inside in
     let here = all_at (λ fact. option_map_or (is_group facts) (group_of fact) true) facts i f e at in
     let group : is_group facts g ≡ true = sym (ap (λ o. option_map_or (is_group facts) o true) (is_in_group g f is)) ∙ here in
-    let (p, first, same) = map_or_true (λ p. p == g) (least facts g)
-    (and_parts (nat_le 2 (size facts g)) (option_map_or (λ p. p == g) (least facts g) false) group).1 in
+    let (p, first, same) = map_or_true (λ p. p == g) (least_member facts g)
+    (and_parts (nat_le 2 (group_size facts g)) (option_map_or (λ p. p == g) (least_member facts g) false) group).1 in
     subst (λ n. belongs facts g n ≡ true) (eqb-true p g same) (least_belongs facts g p first)
 
 -- if the register that would name a group is not in it, no register is

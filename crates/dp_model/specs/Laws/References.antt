@@ -73,12 +73,12 @@ sole_kept live live' k (s ∷ rest) keeps part h =
     (keeps s.buffer (part s.buffer (refs_first s rest)) h.0, sole_kept live live' k rest keeps (λ b m. part b (omega (arith, refs-cons s rest b))) h.1)
 
 -- so facts about its share stay true
-pub share_kept : (live live' : List Segment) (share : ℕ) (k : Packet) → Keeps live live' k → IsShared live share k → IsShared live' share k
-share_kept live live' zero k keeps h = tt
+pub share_kept : (live live' : List Segment) (share : ℕ) (packet : Packet) → Keeps live live' packet → IsShared live share packet → IsShared live' share packet
+share_kept live live' zero packet keeps h = tt
 share_kept live live' (suc zero) [] keeps h = tt
 share_kept live live' (suc zero) (s ∷ rest) keeps h = keeps s.buffer (refs_first s rest) h
-share_kept live live' (suc (suc zero)) k keeps h = sole_kept live live' k k keeps (λ b m. m) h
-share_kept live live' (suc (suc (suc share))) k keeps h = tt
+share_kept live live' (suc (suc zero)) packet keeps h = sole_kept live live' packet packet keeps (λ b m. m) h
+share_kept live live' (suc (suc (suc share))) packet keeps h = tt
 
 -- there is no reference to a free number
 pub free_zero : (live : List Segment) (n : Number) → is_free live n ≡ true → refs live n ≡ 0
@@ -101,6 +101,7 @@ live_parts s b =
     )
 
 -- a packet whose first buffer has one reference has a sole head
-pub head_sole : (live : List Segment) (k : Packet) (r : ℕ) → ((s : Segment) → slice_get k 0 ≡ Some s → r ≡ refs live s.buffer) → r ≡ 1 → IsHeadSole live k
+pub head_sole : (live : List Segment) (packet : Packet) (r : ℕ) → ((s : Segment) → slice_get packet 0 ≡ Some s → r ≡ refs live s.buffer) → r ≡ 1
+    → IsHeadSole live packet
 head_sole live [] r f one = tt
-head_sole live (s ∷ k) r f one = sym (f s refl) ∙ one
+head_sole live (s ∷ packet) r f one = sym (f s refl) ∙ one

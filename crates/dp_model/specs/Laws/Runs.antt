@@ -18,16 +18,16 @@ empty_rings pools segments [] = tt
 empty_rings pools segments (spec ∷ specs) = (tt, empty_rings pools segments specs)
 
 -- the world before the first record is ready for it
-pub start_ready : (c : Setting) (w : World) → TablesFit c → IsStart c.env w → Ready c w
-start_ready c w tables start =
+pub start_ready : (setting : Setting) (w : World) → TablesFit setting → IsStart setting.env w → Ready setting w
+start_ready setting w tables start =
     record {
       world = record {
-        rings = subst (AllZip (RingHolds c.env.pools (live (between w))) c.env.rings) (sym start.rings)
-            (empty_rings c.env.pools (live (between w)) c.env.rings);
-        outboxes = ap length start.outboxes ∙ length-map c.env.ports (λ _. []);
+        rings = subst (AllZip (RingHolds setting.env.pools (live (between w))) setting.env.rings) (sym start.rings)
+            (empty_rings setting.env.pools (live (between w)) setting.env.rings);
+        outboxes = ap length start.outboxes ∙ length-map setting.env.ports (λ _. []);
       };
       tables = tables;
-      within = start_inside c w start;
+      within = start_inside setting w start;
     }
 
 module _ {A : Type 0} where
@@ -60,16 +60,16 @@ with_turn time outcome answers w shown = record {
 }
 
 -- a run and one more turn is a run
-pub run_push : {T : Type 0} (c : Setting) (nodes : Nodes) (arrivals : List (Arrival T)) (a : Arrival T) (w v mid : World) (shown : Observed T)
-    (outcome : Outcome) (runs : ℕ) (answers : List Bool) → length mid.outboxes ≡ length c.env.ports → Run c nodes arrivals w shown v
-    → Turn c nodes a.port a.bytes v outcome runs answers mid → Run c nodes (arrivals ++ a ∷ []) w (with_turn a.time outcome answers mid shown)
+pub run_push : {T : Type 0} (setting : Setting) (nodes : Nodes) (arrivals : List (Arrival T)) (a : Arrival T) (w v mid : World) (shown : Observed T)
+    (outcome : Outcome) (runs : ℕ) (answers : List Bool) → length mid.outboxes ≡ length setting.env.ports → Run setting nodes arrivals w shown v
+    → Turn setting nodes a.port a.bytes v outcome runs answers mid → Run setting nodes (arrivals ++ a ∷ []) w (with_turn a.time outcome answers mid shown)
     (with_empty_outboxes mid)
-run_push {T} c nodes [] a w v mid shown outcome runs answers ports (none, is) turn =
+run_push {T} setting nodes [] a w v mid shown outcome runs answers ports (none, is) turn =
     let records : List (List (T × List ℕ)) = records_at a.time mid in
-    let long : length records ≡ length c.env.ports = length-map mid.outboxes _ ∙ ports in
-    let nothing : List (List (T × List ℕ)) = replicate (length c.env.ports) [] in
-    let only : joined nothing records ≡ joined records nothing = joined_none_left (length c.env.ports) records long
-    ∙ sym (joined_none_right (length c.env.ports) records long) in
+    let long : length records ≡ length setting.env.ports = length-map mid.outboxes _ ∙ ports in
+    let nothing : List (List (T × List ℕ)) = replicate (length setting.env.ports) [] in
+    let only : joined nothing records ≡ joined records nothing = joined_none_left (length setting.env.ports) records long
+    ∙ sym (joined_none_right (length setting.env.ports) records long) in
     let flat : answers ≡ answers ++ [] = sym (append-nil answers) in
     let last : Observed T = record { answers = []; outcomes = []; captures = nothing } in
     let same : with_turn a.time outcome answers mid last ≡ record { answers = answers ++ []; outcomes = outcome ∷ []; captures = joined records nothing } =
@@ -79,11 +79,11 @@ run_push {T} c nodes [] a w v mid shown outcome runs answers ports (none, is) tu
       runs,
       mid,
       last,
-      subst (λ x. Turn c nodes a.port a.bytes x outcome runs answers mid) is turn,
+      subst (λ x. Turn setting nodes a.port a.bytes x outcome runs answers mid) is turn,
       (refl, refl),
       ap (with_turn a.time outcome answers mid) none ∙ same,
     )
-run_push {T} c nodes (b ∷ arrivals) a w v mid shown outcome runs answers ports (outcome', answers', runs', mid', rest, turn', run, is) turn =
+run_push {T} setting nodes (b ∷ arrivals) a w v mid shown outcome runs answers ports (outcome', answers', runs', mid', rest, turn', run, is) turn =
     let records : List (List (T × List ℕ)) = records_at a.time mid in (
       outcome',
       answers',
@@ -91,7 +91,7 @@ run_push {T} c nodes (b ∷ arrivals) a w v mid shown outcome runs answers ports
       mid',
       with_turn a.time outcome answers mid rest,
       turn',
-      run_push c nodes arrivals a (with_empty_outboxes mid') v mid rest outcome runs answers ports run turn,
+      run_push setting nodes arrivals a (with_empty_outboxes mid') v mid rest outcome runs answers ports run turn,
       ap (with_turn a.time outcome answers mid) is ∙ (λ i. record {
         answers = append_assoc answers' rest.answers answers i;
         outcomes = outcome' ∷ (rest.outcomes ++ outcome ∷ []);
@@ -110,31 +110,32 @@ no_lists [] = tt
 no_lists (z ∷ zs) = (tt, no_lists zs)
 
 -- the world before the first record is at rest
-pub start_rest : (c : Setting) (w : World) → TablesFit c → IsStart c.env w → IsAtRest c w
-start_rest c w tables start = record { ready = start_ready c w tables start; owned = subst (AreOwned c.env.pools) (sym none) nobody; packets = no_packets }
+pub start_rest : (setting : Setting) (w : World) → TablesFit setting → IsStart setting.env w → IsAtRest setting w
+start_rest setting w tables start =
+    record { ready = start_ready setting w tables start; owned = subst (AreOwned setting.env.pools) (sym none) nobody; packets = no_packets }
   where
     none : live (between w) ≡ []
     none = ap (λ rings. segments_listed rings ++ segments_listed w.outboxes) start.rings
-        ∙ (ap (λ boxes. segments_listed (map (λ _. []) c.env.rings) ++ segments_listed boxes) start.outboxes
-        ∙ (ap (λ xs. xs ++ segments_listed (map (λ _. []) c.env.ports)) (nothing_mapped c.env.rings) ∙ nothing_mapped c.env.ports))
+        ∙ (ap (λ boxes. segments_listed (map (λ _. []) setting.env.rings) ++ segments_listed boxes) start.outboxes
+        ∙ (ap (λ xs. xs ++ segments_listed (map (λ _. []) setting.env.ports)) (nothing_mapped setting.env.rings) ∙ nothing_mapped setting.env.ports))
 
     no_packets : ArePackets (between w)
     no_packets = record {
       held = tt;
-      rings = subst (AllByRecursion (AllByRecursion IsPacket)) (sym start.rings) (no_lists c.env.rings);
-      outboxes = subst (AllByRecursion (AllByRecursion IsPacket)) (sym start.outboxes) (no_lists c.env.ports);
+      rings = subst (AllByRecursion (AllByRecursion IsPacket)) (sym start.rings) (no_lists setting.env.rings);
+      outboxes = subst (AllByRecursion (AllByRecursion IsPacket)) (sym start.outboxes) (no_lists setting.env.ports);
     }
 
-    nobody : AreOwned c.env.pools []
+    nobody : AreOwned setting.env.pools []
     nobody = record { mbufs = tt; once = tt; direct = tt }
 
 -- a safe node run is never stuck
-pub safe_never_stuck : (c : Setting) (b : Beginning) → IsSafeBeginning c b → NeverStuck c b.program b.packet b.number b.world
-safe_never_stuck c b s = subst (λ p. NeverStuck c p b.packet b.number b.world) s.program_is
+pub safe_never_stuck : (setting : Setting) (b : Beginning) → IsSafeBeginning setting b → NeverStuck setting b.program b.packet b.number b.world
+safe_never_stuck setting b s = subst (λ p. NeverStuck setting p b.packet b.number b.world) s.program_is
     (λ n label answers t goes. (s.safe.stays n label answers t goes).has_step)
 
 -- it leaves the world at rest for the next
-pub safe_rests : (c : Setting) (b : Beginning) (answers : List Bool) (w' : World) → IsSafeBeginning c b
-    → NodeRun c b.program b.packet b.number b.world answers w'
-    → IsAtRest c w'
-safe_rests c b answers w' s run = s.safe.rests answers w' (subst (λ p. NodeRun c p b.packet b.number b.world answers w') (sym s.program_is) run)
+pub safe_rests : (setting : Setting) (b : Beginning) (answers : List Bool) (w' : World) → IsSafeBeginning setting b
+    → NodeRun setting b.program b.packet b.number b.world answers w'
+    → IsAtRest setting w'
+safe_rests setting b answers w' s run = s.safe.rests answers w' (subst (λ p. NodeRun setting p b.packet b.number b.world answers w') (sym s.program_is) run)

@@ -16,11 +16,12 @@ use Rattle.dp_model.specs.Laws.Lists.{all_left, all_right, all_join}
 
 module _ (pools : List PoolSpec) where
   -- a packet satisfies a fact as before if its buffers keep their one reference
-  pub meets_kept : (live live' : List Segment) (h : Holding) (k : Packet) → Keeps live live' k → Meets pools live h k → Meets pools live' h k
-  meets_kept live live' h k keeps m =
+  pub meets_kept : (live live' : List Segment) (h : Holding) (packet : Packet) → Keeps live live' packet → Meets pools live h packet
+      → Meets pools live' h packet
+  meets_kept live live' h packet keeps m =
       record {
         some = m.some;
-        share = share_kept live live' h.share k keeps m.share;
+        share = share_kept live live' h.share packet keeps m.share;
         head = m.head;
         tail = m.tail;
         first = m.first;
@@ -29,22 +30,23 @@ module _ (pools : List PoolSpec) where
       }
 
   -- so does the packet of a register
-  pub describes_kept : (live live' : List Segment) (h : Option Holding) (o : Option Packet) → ((k : Packet) → o ≡ Some k → Keeps live live' k)
+  pub describes_kept : (live live' : List Segment) (h : Option Holding) (o : Option Packet) → ((packet : Packet) → o ≡ Some packet → Keeps live live' packet)
       → Describes pools live h o → Describes pools live' h o
   describes_kept live live' None None keeps d = tt
-  describes_kept live live' (Some h) (Some k) keeps d = meets_kept live live' h k (keeps k refl) d
-  describes_kept live live' None (Some k) keeps d = d
+  describes_kept live live' (Some h) (Some packet) keeps d = meets_kept live live' h packet (keeps packet refl) d
+  describes_kept live live' None (Some packet) keeps d = d
   describes_kept live live' (Some h) None keeps d = d
 
-  ring_kept : (live live' : List Segment) (spec : RingSpec) (packets : List Packet) → Keeps live live' (flat_map (λ k. k) packets)
+  ring_kept : (live live' : List Segment) (spec : RingSpec) (packets : List Packet) → Keeps live live' (flat_map (λ packet. packet) packets)
       → RingHolds pools live spec packets → RingHolds pools live' spec packets
   ring_kept live live' spec [] keeps h = tt
-  ring_kept live live' spec (k ∷ packets) keeps h = (
-    describes_kept live live' (holding spec.fact) (Some k)
+  ring_kept live live' spec (packet ∷ packets) keeps h = (
+    describes_kept live live' (holding spec.fact) (Some packet)
         (λ j ej b one. keeps b
-        (let e : refs k b ≡ refs j b = ap (λ x. refs x b) (same_Some k j ej) in omega (arith, e, refs-append k (flat_map (λ k. k) packets) b)))
+        (let e : refs packet b ≡ refs j b = ap (λ x. refs x b) (same_Some packet j ej) in
+        omega (arith, e, refs-append packet (flat_map (λ packet. packet) packets) b)))
         h.0,
-    ring_kept live live' spec packets (λ b one. keeps b (omega (arith, refs-append k (flat_map (λ k. k) packets) b))) h.1,
+    ring_kept live live' spec packets (λ b one. keeps b (omega (arith, refs-append packet (flat_map (λ packet. packet) packets) b))) h.1,
   )
 
   -- so do all packets in rings
@@ -54,8 +56,8 @@ module _ (pools : List PoolSpec) where
   rings_kept live live' [] (r ∷ rings) keeps h = h
   rings_kept live live' (spec ∷ specs) [] keeps h = h
   rings_kept live live' (spec ∷ specs) (r ∷ rings) keeps h = (
-    ring_kept live live' spec r (λ b one. keeps b (omega (arith, refs-append (flat_map (λ k. k) r) (segments_listed rings) b))) h.0,
-    rings_kept live live' specs rings (λ b one. keeps b (omega (arith, refs-append (flat_map (λ k. k) r) (segments_listed rings) b))) h.1,
+    ring_kept live live' spec r (λ b one. keeps b (omega (arith, refs-append (flat_map (λ packet. packet) r) (segments_listed rings) b))) h.0,
+    rings_kept live live' specs rings (λ b one. keeps b (omega (arith, refs-append (flat_map (λ packet. packet) r) (segments_listed rings) b))) h.1,
   )
 
 -- the packet is the first of its ring, and is not in the rings that remain
@@ -78,21 +80,23 @@ waits ((k ∷ packets) ∷ rings) next e =
     subst (IsTaken ((k ∷ packets) ∷ rings)) (same_Some _ next e) (packets, refl, refl)
 
 -- what holds of all segments in rings holds of the packet and of the rest
-pub all_pop : (P : Segment → Type 0) (lists : List (List Packet)) (i : ℕ) (k : Packet) (packets : List Packet) → slice_get lists i ≡ Some (k ∷ packets)
-    → AllByRecursion P (segments_listed lists) → AllByRecursion P k × AllByRecursion P (segments_listed (slice_set lists i packets))
-all_pop P [] i k packets e all = cc
-all_pop P (l ∷ lists) zero k packets e all =
-    let here : AllByRecursion P (k ++ flat_map (λ k. k) packets) = subst (λ ks. AllByRecursion P (flat_map (λ k. k) ks)) (same_Some l (k ∷ packets) e)
-    (all_left P (flat_map (λ k. k) l) (segments_listed lists) all) in (
-      all_left P k (flat_map (λ k. k) packets) here,
-      all_join P (flat_map (λ k. k) packets) (segments_listed lists)
-          (all_right P k (flat_map (λ k. k) packets) here) (all_right P (flat_map (λ k. k) l) (segments_listed lists) all),
+pub all_pop : (P : Segment → Type 0) (lists : List (List Packet)) (i : ℕ) (packet : Packet) (packets : List Packet)
+    → slice_get lists i ≡ Some (packet ∷ packets)
+    → AllByRecursion P (segments_listed lists) → AllByRecursion P packet × AllByRecursion P (segments_listed (slice_set lists i packets))
+all_pop P [] i packet packets e all = cc
+all_pop P (l ∷ lists) zero packet packets e all =
+    let here : AllByRecursion P (packet ++ flat_map (λ packet. packet) packets) =
+    subst (λ ks. AllByRecursion P (flat_map (λ packet. packet) ks)) (same_Some l (packet ∷ packets) e)
+    (all_left P (flat_map (λ packet. packet) l) (segments_listed lists) all) in (
+      all_left P packet (flat_map (λ packet. packet) packets) here,
+      all_join P (flat_map (λ packet. packet) packets) (segments_listed lists)
+          (all_right P packet (flat_map (λ packet. packet) packets) here) (all_right P (flat_map (λ packet. packet) l) (segments_listed lists) all),
     )
-all_pop P (l ∷ lists) (suc i) k packets e all =
-    let rest = all_pop P lists i k packets e (all_right P (flat_map (λ k. k) l) (segments_listed lists) all) in (
+all_pop P (l ∷ lists) (suc i) packet packets e all =
+    let rest = all_pop P lists i packet packets e (all_right P (flat_map (λ packet. packet) l) (segments_listed lists) all) in (
       rest.0,
-      all_join P (flat_map (λ k. k) l) (segments_listed (slice_set lists i packets))
-          (all_left P (flat_map (λ k. k) l) (segments_listed lists) all) rest.1,
+      all_join P (flat_map (λ packet. packet) l) (segments_listed (slice_set lists i packets))
+          (all_left P (flat_map (λ packet. packet) l) (segments_listed lists) all) rest.1,
     )
 
 -- emptied lists have no segment

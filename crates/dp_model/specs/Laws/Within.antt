@@ -35,17 +35,18 @@ abbrev pub IsInside : Setting → State → Type 0
 IsInside c s = IsWithin c.env.pools s.world.buffers (live s)
 
 -- what holds of all held segments holds of those of one register
-pub all_held : (P : Segment → Type 0) (packets : List (Option Packet)) (p : ℕ) (k : Packet) → AllByRecursion P (segments_held packets)
-    → slice_get packets p ≡ Some (Some k) → AllByRecursion P k
-all_held P [] p k all h = cc
-all_held P (None ∷ packets) zero k all h = cc
-all_held P (Some j ∷ packets) zero k all h = subst (AllByRecursion P) (same_Some j k (same_Some _ _ h)) (all_left P j (segments_held packets) all)
-all_held P (None ∷ packets) (suc p) k all h = all_held P packets p k all h
-all_held P (Some j ∷ packets) (suc p) k all h = all_held P packets p k (all_right P j (segments_held packets) all) h
+pub all_held : (P : Segment → Type 0) (packets : List (Option Packet)) (p : ℕ) (packet : Packet) → AllByRecursion P (segments_held packets)
+    → slice_get packets p ≡ Some (Some packet) → AllByRecursion P packet
+all_held P [] p packet all h = cc
+all_held P (None ∷ packets) zero packet all h = cc
+all_held P (Some j ∷ packets) zero packet all h = subst (AllByRecursion P) (same_Some j packet (same_Some _ _ h)) (all_left P j (segments_held packets) all)
+all_held P (None ∷ packets) (suc p) packet all h = all_held P packets p packet all h
+all_held P (Some j ∷ packets) (suc p) packet all h = all_held P packets p packet (all_right P j (segments_held packets) all) h
 
 -- a register's packet lies within its buffers
-pub inside_held : (c : Setting) (s : State) (p : ℕ) (k : Packet) → IsInside c s → Holds s p k → AllByRecursion (Lies c.env.pools) k
-inside_held c s p k well holds = all_held (Lies c.env.pools) s.packets p k (parts (Lies c.env.pools) s well.lie).held holds
+pub inside_held : (setting : Setting) (s : State) (p : ℕ) (packet : Packet) → IsInside setting s → Holds s p packet
+    → AllByRecursion (Lies setting.env.pools) packet
+inside_held setting s p packet well holds = all_held (Lies setting.env.pools) s.packets p packet (parts (Lies setting.env.pools) s well.lie).held holds
 
 -- a received packet's segments lie within their buffers, if there are enough of them
 pub lies_received : (pools : List PoolSpec) (segments : List Segment) (pool : ℕ) (ns : List Number) (len : ℕ) → default_headroom ≤ room_at pools pool
@@ -73,21 +74,23 @@ needed_holds room len pos =
     omega (arith, pos, mul-le-mul_right room more)
 
 -- what holds of a packet and between two node runs holds where the node run begins
-pub all_first : (P : Segment → Type 0) (k : Packet) (number : ℕ) (w : World) → AllByRecursion P k → AllByRecursion P (live (between w))
-    → AllByRecursion P (live (first_state k number w))
-all_first P k number w here rest = all_join P (k ++ []) (live (between w)) (all_join P k [] here tt) rest
+pub all_first : (P : Segment → Type 0) (packet : Packet) (number : ℕ) (w : World) → AllByRecursion P packet → AllByRecursion P (live (between w))
+    → AllByRecursion P (live (first_state packet number w))
+all_first P packet number w here rest = all_join P (packet ++ []) (live (between w)) (all_join P packet [] here tt) rest
 
 none_at_all : {Z : Type 0} (P : Segment → Type 0) (zs : List Z) → AllByRecursion P (segments_listed (map (λ _. []) zs))
 none_at_all P [] = tt
 none_at_all P (z ∷ zs) = none_at_all P zs
 
 -- before the first record live segments lie within their buffers, as there are none
-pub start_inside : (c : Setting) (w : World) → IsStart c.env w → IsInside c (between w)
-start_inside c w start =
+pub start_inside : (setting : Setting) (w : World) → IsStart setting.env w → IsInside setting (between w)
+start_inside setting w start =
     record {
       rooms = start.rooms;
       bytes = start.bytes;
-      lie = all_join (Lies c.env.pools) (segments_listed w.rings) (segments_listed w.outboxes)
-          (subst (λ lists. AllByRecursion (Lies c.env.pools) (segments_listed lists)) (sym start.rings) (none_at_all (Lies c.env.pools) c.env.rings))
-          (subst (λ lists. AllByRecursion (Lies c.env.pools) (segments_listed lists)) (sym start.outboxes) (none_at_all (Lies c.env.pools) c.env.ports));
+      lie = all_join (Lies setting.env.pools) (segments_listed w.rings) (segments_listed w.outboxes)
+          (subst (λ lists. AllByRecursion (Lies setting.env.pools) (segments_listed lists)) (sym start.rings)
+          (none_at_all (Lies setting.env.pools) setting.env.rings))
+          (subst (λ lists. AllByRecursion (Lies setting.env.pools) (segments_listed lists)) (sym start.outboxes)
+          (none_at_all (Lies setting.env.pools) setting.env.ports));
     }

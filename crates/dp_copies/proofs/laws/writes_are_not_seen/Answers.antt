@@ -12,4 +12,4 @@ returns-clause-steps c setting program label s m step k beside =
 
 pub returns-clause-receives : goal.returns-clause-receives
 returns-clause-receives c setting program port spec bytes w w' answers received k =
-    queued_stays setting program port spec bytes w w' answers k received
+    queued_stays setting spec bytes w k received.reception
