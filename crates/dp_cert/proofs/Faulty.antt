@@ -15,8 +15,8 @@ use Rattle.dp_cert.specs.declared.error.CertError.TheVariants as errors
 use Rattle.dp_cert.specs.Spelling.{Certificate, is_row_of, row_line, head_line}
 use Rattle.dp_cert.specs.Faults.{IsWrong, HasFault, IsFaultOf}
 use Rattle.dp_cert.specs.Reading.{◌>>=◌, at_line, onto, row_of, rows_of, version_in, certified, cert_of, Gives}
-use Rattle.dp_cert.proofs.Found.{row_found, from_line, head_found, Spells}
-use Rattle.dp_cert.proofs.LineFaults.{wrong, same_error, line_wrong, next_wrong}
+use Rattle.dp_cert.proofs.Found.{fails, row_found, from_line, head_found, Spells}
+use Rattle.dp_cert.proofs.LineFaults.{same_error, line_wrong, next_wrong}
 
 -- the fault after some rows, the first of which is on this line
 record Stops (version : Version) (start n : ℕ) (bytes : List ℕ) (fault : Fault) : Type 0 where
@@ -31,8 +31,8 @@ record Stops (version : Version) (start n : ℕ) (bytes : List ℕ) (fault : Fau
 later : (version : Version) (n : ℕ) (row : Row) (rows : List Row) (rest : List ℕ) (cause : Cause) → IsWrong version n rows rest cause →
     IsWrong version (suc n) (row ∷ rows) rest cause
 later version n row rows rest BadHead h = h
-later version n row rows rest BadLine h = (omega arith, h.1, h.2)
-later version n row rows rest BadRow h = (omega arith, h.1, h.2)
+later version n row rows rest BadLine (few, some, other) = (omega arith, some, other)
+later version n row rows rest BadRow (few, digits, other) = (omega arith, digits, other)
 later version n row rows rest BadCount (inl h) = inl (omega arith, h.1)
 later version n row rows rest BadCount (inr h) = inr (omega arith, h.1)
 
@@ -68,7 +68,7 @@ further version start n bytes fault row one s = record {
 }
 
 counted : (version : Version) (start n : ℕ) (bytes : List ℕ) (fault : Fault) → IsWrong version n [] bytes BadCount →
-    wrong {A = List Row} (record { line = start; cause = BadCount }) ≡ wrong fault → Stops version start n bytes fault
+    fails {A = List Row} (record { line = start; cause = BadCount }) ≡ fails fault → Stops version start n bytes fault
 counted version start n bytes fault bad h =
     let same : record { line = start; cause = BadCount } ≡ fault = same_error (record { line = start; cause = BadCount }) fault h in
     here version start n bytes fault (sym (ap (λ (f : Fault). f.line) same)) (subst (λ (f : Fault). IsWrong version n [] bytes f.cause) same bad)
@@ -83,13 +83,13 @@ stops version start (suc n) (b ∷ bytes) fault h =
     let back = drop 307 (b ∷ bytes) in
     elim (bind_err (at_line start (row_of version front)) (λ row. rows_of version (start + 1) n back >>= onto row) fault h) [
       | inl bad ↦
-          let p = line_err start (row_of version front) fault bad in
-          here version start (suc n) (b ∷ bytes) fault p.1 (next_wrong version (suc n) [] (b ∷ bytes) fault.cause (omega arith) (omega arith)
-          (line_wrong version front fault.cause p.0))
-      | inr more ↦
-          let one = row_found version front more.0 (from_line start (row_of version front) more.0 more.1) in
-          further version start n (b ∷ bytes) fault more.0 one (stops version (start + 1) n back fault
-          (onto_err more.0 (rows_of version (start + 1) n back) fault more.2))
+          let (cause_is, line_is) = line_err start (row_of version front) fault bad in
+          here version start (suc n) (b ∷ bytes) fault line_is (next_wrong version (suc n) [] (b ∷ bytes) fault.cause (omega arith) (omega arith)
+          (line_wrong version front fault.cause cause_is))
+      | inr (row, read, then) ↦
+          let one = row_found version front row (from_line start (row_of version front) row read) in
+          further version start n (b ∷ bytes) fault row one (stops version (start + 1) n back fault
+          (onto_err row (rows_of version (start + 1) n back) fault then))
     ]
 
 certified_err : (version : Version) (r : Result (List Row) Fault) (fault : Fault) → certified version r ≡ Err fault → r ≡ Err fault
@@ -116,7 +116,7 @@ is_fault_of n text fault h = go (version_in text) refl
   where
     go : (o : Option Version) → version_in text ≡ o → HasFault n text fault
     go None e =
-        let bad : wrong {A = Certificate} (record { line = 1; cause = BadHead }) ≡ wrong fault = rw e at h in
+        let bad : fails {A = Certificate} (record { line = 1; cause = BadHead }) ≡ fails fault = rw e at h in
         inl (record { is = sym (same_error (record { line = 1; cause = BadHead }) fault bad); other = no_head text e })
     go (Some version) e =
         let read : certified version (rows_of version 2 n (drop 11 text)) ≡ Err fault = rw e at h in

@@ -34,12 +34,6 @@ bind_ok (Err e) f y h = absurd cc
 abbrev pub fails : {A E : Type 0} → E → Result A E
 fails e = Err e
 
-abbrev done : {A E : Type 0} → A → Result A E
-done x = Ok x
-
-pub ok_is : {A E : Type 0} (x y : A) → done {A = A} {E = E} x ≡ done y → x ≡ y
-ok_is x y h = cc
-
 pub from_line : {A : Type 0} (line : ℕ) (r : Result A Cause) (x : A) → at_line line r ≡ Ok x → r ≡ Ok x
 from_line line (Ok a) x h = let e : a ≡ x = cc in ap (λ (z : _). Ok z) e
 from_line line (Err c) x h = absurd cc
@@ -52,11 +46,10 @@ module _ (version : Version) where
 
   spelled_found : (line : List ℕ) (made row : Row) → spelled_row version line made ≡ Ok row → Spells line row
   spelled_found line made row h =
-      let p = chosen (bytes_eq (row_line made) line && is_row_of version made) (Ok made) BadRow row h in
-      let q = and_parts (bytes_eq (row_line made) line) (is_row_of version made) p.0 in
-      let same : made ≡ row = ok_is {E = Cause} made row p.1 in
-      let P : Row → Type 0 = λ r. Spells line r in
-      subst P same (record { text = sym ((bytes_eq-Decides (row_line made) line).0 q.0); well_formed = q.1 })
+      let (tests, is) = chosen (bytes_eq (row_line made) line && is_row_of version made) (Ok made) BadRow row h in
+      let (equal, well_formed) = and_parts (bytes_eq (row_line made) line) (is_row_of version made) tests in
+      let same : made ≡ row = cc in
+      subst (Spells line) same (record { text = sym ((bytes_eq-Decides (row_line made) line).0 equal); well_formed = well_formed })
 
   bytes_found : (line : List ℕ) (d : Result (List ℕ) FromHexError) (row : Row) → of_bytes version line d ≡ Ok row → Spells line row
   bytes_found line (Ok bytes) row h = spelled_found line (row_in bytes) row h
@@ -75,20 +68,19 @@ module _ (version : Version) where
 
   rows_found : (line n : ℕ) (bytes : List ℕ) (rows : List Row) → rows_of version line n bytes ≡ Ok rows → SpellAll n bytes rows
   unfolding rows_of
-  rows_found line zero [] rows h = let P : List Row → Type 0 = λ rs. SpellAll 0 [] rs in
-      subst P (ok_is {E = Fault} [] rows h) (record { text = refl; count = refl; well_formed = tt })
+  rows_found line zero [] rows h = let none : [] ≡ rows = cc in subst (SpellAll 0 []) none (record { text = refl; count = refl; well_formed = tt })
   rows_found line zero (b ∷ bytes) rows h = absurd cc
   rows_found line (suc n) [] rows h = absurd cc
   rows_found line (suc n) (b ∷ bytes) rows h =
       let front = take 307 (b ∷ bytes) in
       let back = drop 307 (b ∷ bytes) in
-      let p = bind_ok (at_line line (row_of version front)) (λ row. rows_of version (line + 1) n back >>= onto row) rows h in
-      let q = bind_ok (rows_of version (line + 1) n back) (onto p.0) rows p.2 in
-      let one = row_found front p.0 (from_line line (row_of version front) p.0 p.1) in
-      let others = rows_found (line + 1) n back q.0 q.1 in
-      let P : List Row → Type 0 = λ rs. SpellAll (suc n) (b ∷ bytes) rs in
-      subst P (ok_is {E = Fault} (p.0 ∷ q.0) rows q.2) (record {
-        text = sym (take-append-drop 307 (b ∷ bytes)) ∙ ap (λ (x : List ℕ). x ++ back) one.text ∙ ap (λ (x : List ℕ). row_line p.0 ++ x) others.text;
+      let (row, first, then) = bind_ok (at_line line (row_of version front)) (λ row. rows_of version (line + 1) n back >>= onto row) rows h in
+      let (more, rest, is) = bind_ok (rows_of version (line + 1) n back) (onto row) rows then in
+      let one = row_found front row (from_line line (row_of version front) row first) in
+      let others = rows_found (line + 1) n back more rest in
+      let same : row ∷ more ≡ rows = cc in
+      subst (SpellAll (suc n) (b ∷ bytes)) same (record {
+        text = sym (take-append-drop 307 (b ∷ bytes)) ∙ ap (λ (x : List ℕ). x ++ back) one.text ∙ ap (λ (x : List ℕ). row_line row ++ x) others.text;
         count = ap suc others.count;
         well_formed = (one.well_formed, others.well_formed);
       })
@@ -117,12 +109,12 @@ unfolding cert_of
 cert_found n text cert h = go (version_in text) refl
   where
     go : (o : Option Version) → version_in text ≡ o → CertText n text cert
-    go None e = let wrong : fails {A = Certificate} (record { line = 1; cause = BadHead }) ≡ Ok cert = sym (rw e refl) ∙ h in absurd cc
+    go None e = let wrong : fails {A = Certificate} {E = Fault} (record { line = 1; cause = BadHead }) ≡ Ok cert = sym (rw e refl) ∙ h in absurd cc
     go (Some version) e =
         let read : certified version (rows_of version 2 n (drop 11 text)) ≡ Ok cert = sym (rw e refl) ∙ h in
-        let p = bind_ok (rows_of version 2 n (drop 11 text)) (λ rows. Ok (record { version = version; rows = rows })) cert read in
-        let all = rows_found version 2 n (drop 11 text) p.0 p.1 in
-        let is : record { version = version; rows = p.0 } ≡ cert = ok_is {E = Fault} (record { version = version; rows = p.0 }) cert p.2 in
+        let (rows, found, made) = bind_ok (rows_of version 2 n (drop 11 text)) (λ rows. Ok (record { version = version; rows = rows })) cert read in
+        let all = rows_found version 2 n (drop 11 text) rows found in
+        let is : record { version = version; rows = rows } ≡ cert = cc in
         subst (CertText n text) is (record {
           text = head_found text version e
               ∙ ap (λ (x : List ℕ). head_line version ++ x) all.text;

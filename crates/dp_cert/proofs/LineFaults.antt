@@ -19,9 +19,7 @@ use Rattle.dp_cert.specs.Spelling.{IsRow, is_row_of, row_line, is_digit, digits_
 use Rattle.dp_cert.specs.Faults.{IsWrong}
 use Rattle.dp_cert.specs.Reading.{of_bytes, row_in, row_of}
 use Rattle.dp_cert.proofs.Again.{line_again}
-
-abbrev pub wrong : {A E : Type 0} → E → Result A E
-wrong e = Err e
+use Rattle.dp_cert.proofs.Found.{fails}
 
 -- what is wrong with a line alone
 abbrev pub IsWrongLine : Version → List ℕ → Cause → Type 0
@@ -33,7 +31,7 @@ IsWrongLine version line BadCount = ⊥
 pub not_spelled : (version : Version) (line : List ℕ) (cause : Cause) → row_of version line ≡ Err cause → (row : Row) → IsRow version row → line ≢ row_line row
 not_spelled version line cause h row fits e = let other : row_of version line ≡ Ok row = rw e (line_again version row fits) in absurd (cc (h, other))
 
-pub same_error : {A E : Type 0} (x y : E) → wrong {A = A} x ≡ wrong y → x ≡ y
+pub same_error : {A E : Type 0} (x y : E) → fails {A = A} x ≡ fails y → x ≡ y
 same_error x y h = cc
 
 -- one of the two tests suffices
@@ -89,5 +87,5 @@ pub next_wrong : (version : Version) (n : ℕ) (rows : List Row) (rest : List �
     IsWrongLine version (take 307 rest) cause → IsWrong version n rows rest cause
 next_wrong version n rows rest BadHead lt some h = h
 next_wrong version n rows rest BadLine lt some h = (lt, some, h)
-next_wrong version n rows rest BadRow lt some h = (lt, h.0, h.1)
+next_wrong version n rows rest BadRow lt some (digits, other) = (lt, digits, other)
 next_wrong version n rows rest BadCount lt some h = absurd h

@@ -2,7 +2,7 @@
 use Rattle.std.proofs.Common.{◌≡◌, ℕ, zero, suc, ◌*◌, ◌^◌, ◌<◌, Bool, true, false, cond, eqb, List, [], ◌∷◌, ◌++◌, length, drop, refl, ap, ◌∙◌, append_assoc}
 use Rattle.std.proofs.Common.{arith}
 use Rattle.std.specs.List.{flat_map, AllByRecursion}
-use Rattle.std.specs.Int.{w16, w64, to_be_bytes, from_be_bytes, bytes_high_first, byte_at}
+use Rattle.std.specs.Int.{w64, to_be_bytes, bytes_high_first, byte_at}
 use Rattle.std.proofs.lemmas.List.{append-nil, take_at, drop_at, length-append}
 use Rattle.std.proofs.lemmas.Nat.{from_be_bytes-to_be_bytes_2, from_be_bytes-to_be_bytes_8}
 use Rattle.hex.specs.Hex.{IsBytes}
@@ -70,17 +70,9 @@ Low-fact (Held share head tail first last segs) h = (
 pub fact_again : (f : Fact) → FactInRange f → fact_in (fact_bytes f) ≡ f
 unfolding fact_in
 fact_again Empty h = refl
-fact_again (Held share head tail first last segs) h =
-    let made : ℕ → ℕ → ℕ → ℕ → Fact = λ a b c d. Held share a b c d segs in
-    let e1 = from_be_bytes-to_be_bytes_2 head h.1 in
-    let e2 = from_be_bytes-to_be_bytes_2 tail h.2 in
-    let e3 = from_be_bytes-to_be_bytes_2 first h.3 in
-    let e4 = from_be_bytes-to_be_bytes_2 last h.4 in
-    let back : ℕ → ℕ = λ n. from_be_bytes w16 (to_be_bytes w16 n) in
-    ap (λ (x : ℕ). made x (back tail) (back first) (back last)) e1
-    ∙ ap (λ (x : ℕ). made head x (back first) (back last)) e2
-    ∙ ap (λ (x : ℕ). made head tail x (back last)) e3
-    ∙ ap (λ (x : ℕ). made head tail first x) e4
+fact_again (Held share head tail first last segs) (_, head_fits, tail_fits, first_fits, last_fits, _) =
+    let back = from_be_bytes-to_be_bytes_2 in
+    rw (back head head_fits, back tail tail_fits, back first first_fits, back last last_fits) refl
 
 pub bound_again : (n : ℕ) → n < 2 ^ 64 → bound_in (to_be_bytes w64 n) ≡ n
 unfolding bound_in

@@ -6,8 +6,8 @@
 //! What to call: `decode` with the number of the program's instructions, `encode` for the one text of a certificate, `Cert::new` for rows that were
 //! inferred, `raise` for the same rows in version 2.
 //!
-//! What not to do: do not take a `Cert` for one that fits a program. A row may say anything that is well formed; whether the program is accepted with
-//! it is for dp_check to say. `Cert::new` requires well-formed rows, and tests nothing.
+//! What not to do: a `Cert` need not fit a program. A row may say anything that is well formed; dp_check decides whether a program is accepted with
+//! it. `Cert::new` requires well-formed rows, and tests nothing.
 #![tactic(auto)]
 
 mod cert;

@@ -183,29 +183,29 @@ IsUnmet rows ways to gap = Is (first_unmet rows ways) (λ lead. (lead.to ≡ to)
 
 -- a reason of the rules at an instruction with its row. Of bytes, `count` are asked for even if each number is 0
 abbrev pub Says : Question → ℕ → Instr → Row → Reason → Type 0
-Says q label i row (NoPool pool known) = AsksPool i pool × (known ≡ length q.env.pools) × (known ≤ pool)
-Says q label i row (NoTable table known) = AsksTable i table × (known ≡ q.env.tables) × (known ≤ table)
-Says q label i row (NoRing ring known) = AsksRing i ring × (known ≡ length q.env.rings) × (known ≤ ring)
-Says q label i row (NoInstruction to known) =
-    Is (first_past (length q.program) (leads q.env label row i)) (λ lead. lead.to ≡ to) × (known ≡ length q.program) × (known ≤ to)
-Says q label i row (NotHeld p) = (find (λ used. not (is_held row used)) (uses i) ≡ Some p) × (is_held row p ≡ false)
-Says q label i row (NotEmpty p known) = AsksEmpty i p × (slice_get row.facts p ≡ Some known) × (is_empty known ≡ false)
-Says q label i row (OneRegister p) = i ≡ Chain p p
-Says q label i row (TooLittle p part known start count) =
+Says question label i row (NoPool pool known) = AsksPool i pool × (known ≡ length question.env.pools) × (known ≤ pool)
+Says question label i row (NoTable table known) = AsksTable i table × (known ≡ question.env.tables) × (known ≤ table)
+Says question label i row (NoRing ring known) = AsksRing i ring × (known ≡ length question.env.rings) × (known ≤ ring)
+Says question label i row (NoInstruction to known) =
+    Is (first_past (length question.program) (leads question.env label row i)) (λ lead. lead.to ≡ to) × (known ≡ length question.program) × (known ≤ to)
+Says question label i row (NotHeld p) = (find (λ used. not (is_held row used)) (uses i) ≡ Some p) × (is_held row p ≡ false)
+Says question label i row (NotEmpty p known) = AsksEmpty i p × (slice_get row.facts p ≡ Some known) × (is_empty known ≡ false)
+Says question label i row (OneRegister p) = i ≡ Chain p p
+Says question label i row (TooLittle p part known start count) =
     AsksBytes row.bounds i p part (start + count) × AsksBytes (replicate 8 0) i p part count × (known ≡ measured_at row p part) × (known < start + count)
-Says q label i row (NotAlone p known wanted) =
+Says question label i row (NotAlone p known wanted) =
     (slice_get row.facts p ≡ Some known) × AsksShare i p (segs_in known) wanted × (entails_share (share_in known) wanted ≡ false)
-Says q label i row (TooLong p r known more) =
+Says question label i row (TooLong p r known more) =
     (i ≡ Chain p r) × Is (slice_get row.facts p) (λ fact. known ≡ segs_in fact) × Is (slice_get row.facts r) (λ fact. more ≡ segs_in fact)
     × (max_segments < known + more)
-Says q label i row (NoPort r known ports) =
-    AsksPort i r × (known ≡ bound row (Register r)) × (ports ≡ length q.env.ports) × (ports ≤ known)
-Says q label i row (LessThanRing p ring known wanted) =
-    AsksAtRing i p ring × (slice_get row.facts p ≡ Some known) × (fact_of_ring q.env.rings ring ≡ Some wanted)
+Says question label i row (NoPort r known ports) =
+    AsksPort i r × (known ≡ bound row (Register r)) × (ports ≡ length question.env.ports) × (ports ≤ known)
+Says question label i row (LessThanRing p ring known wanted) =
+    AsksAtRing i p ring × (slice_get row.facts p ≡ Some known) × (fact_of_ring question.env.rings ring ≡ Some wanted)
     × (entails_fact known wanted ≡ false)
-Says q label i row (LeftOver p known) = (i ≡ Exit) × (first_held row.facts ≡ Some p) × (slice_get row.facts p ≡ Some known) × (is_empty known ≡ false)
-Says q label i row (Successor to gap) = IsUnmet q.rows (leads q.env label row i) to gap
-Says q label i row _ = ⊥
+Says question label i row (LeftOver p known) = (i ≡ Exit) × (first_held row.facts ≡ Some p) × (slice_get row.facts p ≡ Some known) × (is_empty known ≡ false)
+Says question label i row (Successor to gap) = IsUnmet question.rows (leads question.env label row i) to gap
+Says question label i row _ = ⊥
 
 -- a reason of the rules about the whole program
 abbrev pub SaysOfWhole : Question → Reason → Type 0
@@ -220,6 +220,6 @@ Explains q label reason =
     SaysOfWhole q reason ⊎ Is (slice_get q.program label) (λ i. Is (slice_get q.rows label) (λ row. Says q label i row reason))
 
 -- a diagnosis is of the first fault, and its reason explains it
-pub record IsDiagnosis (q : Question) (d : Diagnosis) : Type 0 where
-  pub refused : IsRefused q d.label (rule_of d.reason)
-  pub explained : Explains q d.label d.reason
+pub record IsDiagnosis (question : Question) (d : Diagnosis) : Type 0 where
+  pub refused : IsRefused question d.label (rule_of d.reason)
+  pub explained : Explains question d.label d.reason

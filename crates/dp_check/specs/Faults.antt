@@ -33,7 +33,7 @@ abbrev pub refused_text : ℕ → ℕ → List ℕ
 refused_text label number = codes "refused at " ++ (decimal label ++ (codes " by J" ++ decimal number))
 
 -- no rule fails, and program and rows are well formed
-pub record IsChecked (q : Question) : Type 0 where
-  pub accepted : IsAccepted q
-  pub program : IsProgram q.program
-  pub well_formed : IsTrue (list_all is_well_formed_row q.rows)
+pub record IsChecked (question : Question) : Type 0 where
+  pub accepted : IsAccepted question
+  pub program : IsProgram question.program
+  pub well_formed : IsTrue (list_all is_well_formed_row question.rows)

@@ -1,8 +1,8 @@
 //! Tests what an instruction needs, rule by rule, and says what is missing.
 
-ghost use Rattle.std.specs.Prelude.{◌≡◌, ℕ, ◌+◌, ◌<◌, ◌≤◌, true, false, not, find, length, IfSome, IfNone, MatchOption, slice_get};
+ghost use Rattle.std.specs.Prelude.{◌≡◌, ℕ, ◌+◌, ◌<◌, ◌≤◌, true, false, length, IfSome, IfNone, MatchOption, slice_get};
 ghost use Rattle.std.specs.List.{list_all};
-ghost use Rattle.dp_model.specs.declared.rule.Rule.TheVariants.{J3, J5, J6, J7, J8, J9, J10};
+ghost use Rattle.dp_model.specs.declared.rule.Rule.TheVariants.{J3, J4, J5, J6, J7, J8, J9, J10};
 ghost use Rattle.dp_model.specs.Rows.{entails_share, is_empty};
 ghost use Rattle.dp_model.specs.Rules.{Question, indices_exist, is_held, uses, targets_fit, bytes_fit, share_fits, segments_fit, may_leave, may_end};
 ghost use Rattle.dp_check.specs.Diagnoses.{Is, Says, first_held, measured, measured_at, rule_of, segs_in, share_in};
@@ -12,11 +12,11 @@ use crate::reason::Measure::{self, First, Headroom, Last, Tailroom};
 use crate::reason::Reason;
 use dp_model::{Env, Fact, Instr, MAX_SEGMENTS, PacketRegister, Row};
 
-/// The pool, table or ring that the instruction names and the environment does not have.
-pub(crate) fn missing_index(env: &Env, instr: Instr) -> Option<Reason>
+/// The reason, if the environment does not have the pool, the table or the ring that is named.
+pub(crate) fn check_index(env: &Env, instr: Instr) -> Option<Reason>
     ensures none { IfNone result (indices_exist env.now instr ≡ true) }
     ensures some { IfSome result (λ reason. (indices_exist env.now instr ≡ false) × (rule_of reason ≡ J3)) }
-    ensures says { (q : Question) → q.env ≡ env.now → (label : ℕ) (row : Row) → IfSome result (Says q label instr row) }
+    ensures says { (question : Question) → question.env ≡ env.now → (label : ℕ) (row : Row) → IfSome result (Says question label instr row) }
 {
     match instr {
         Instr::Alloc { pool, .. } | Instr::Clone { pool, .. } => {
@@ -47,21 +47,22 @@ pub(crate) fn missing_index(env: &Env, instr: Instr) -> Option<Reason>
     }
 }
 
-/// The packet register, if it is empty.
-fn not_held(row: &Row, packet: PacketRegister) -> Option<PacketRegister>
-    ensures { MatchOption result (is_held row.now packet ≡ true) (λ p. (p ≡ packet) × (is_held row.now packet ≡ false)) }
+/// The reason, if a packet register is empty.
+fn check_register(row: &Row, packet: PacketRegister) -> Option<Reason>
+    ensures { MatchOption result (is_held row.now packet ≡ true)
+        (λ reason. (is_held row.now packet ≡ false) × (reason ≡ Reason.NotHeld packet)) }
 {
     match row.fact(packet) {
         Fact::Held { .. } => None,
-        Fact::Empty => Some(packet),
+        Fact::Empty => Some(Reason::NotHeld { packet }),
     }
 }
 
-/// The first packet register that is used and empty, if there is one.
-pub(crate) fn check_held(row: &Row, instr: Instr) -> Option<PacketRegister>
-    ensures first { result ≡ find (λ p. not (is_held row.now p)) (uses instr) }
+/// The reason, if a packet register that is used is empty: the first is named.
+pub(crate) fn check_held(row: &Row, instr: Instr) -> Option<Reason>
     ensures none { IfNone result (list_all (is_held row.now) (uses instr) ≡ true) }
-    ensures some { IfSome result (λ p. (list_all (is_held row.now) (uses instr) ≡ false) × (is_held row.now p ≡ false)) }
+    ensures some { IfSome result (λ reason. (list_all (is_held row.now) (uses instr) ≡ false) × (rule_of reason ≡ J4)) }
+    ensures says { (question : Question) (label : ℕ) → IfSome result (Says question label instr row.now) }
 {
     match instr {
         Instr::Free { packet }
@@ -78,21 +79,21 @@ pub(crate) fn check_held(row: &Row, instr: Instr) -> Option<PacketRegister>
         | Instr::LoadX { packet, .. }
         | Instr::StoreX { packet, .. }
         | Instr::Tx { packet, .. }
-        | Instr::Enq { packet, .. } => not_held(row, packet),
-        Instr::Clone { from, .. } => not_held(row, from),
-        Instr::Chain { front, back } => match not_held(row, front) {
-            Some(packet) => Some(packet),
-            None => not_held(row, back),
+        | Instr::Enq { packet, .. } => check_register(row, packet),
+        Instr::Clone { from, .. } => check_register(row, from),
+        Instr::Chain { front, back } => match check_register(row, front) {
+            Some(reason) => Some(reason),
+            None => check_register(row, back),
         },
         _ => None,
     }
 }
 
-/// The target that is not empty, or the register that is chained to itself, if there is one.
-pub(crate) fn unfit_target(row: &Row, instr: Instr) -> Option<Reason>
+/// The reason, if a target is not empty or a register is chained to itself.
+pub(crate) fn check_target(row: &Row, instr: Instr) -> Option<Reason>
     ensures none { IfNone result (targets_fit row.now instr ≡ true) }
     ensures some { IfSome result (λ reason. (targets_fit row.now instr ≡ false) × (rule_of reason ≡ J5)) }
-    ensures says { (q : Question) (label : ℕ) → IfSome result (Says q label instr row.now) }
+    ensures says { (question : Question) (label : ℕ) → IfSome result (Says question label instr row.now) }
 {
     match instr {
         Instr::Alloc { into, .. } | Instr::Clone { into, .. } => {
@@ -139,7 +140,7 @@ fn measured(part: Measure, fact: Fact) -> u16
 }
 
 /// The reason, if a measure of a packet is too small.
-fn too_little(
+fn check_measure(
     row: &Row,
     packet: PacketRegister,
     part: Measure,
@@ -167,13 +168,25 @@ pub(crate) fn check_bytes(row: &Row, instr: Instr) -> Option<Reason>
     requires held { list_all (is_held row.now) (uses instr) ≡ true }
     ensures none { IfNone result (bytes_fit row.now instr ≡ true) }
     ensures some { IfSome result (λ reason. (bytes_fit row.now instr ≡ false) × (rule_of reason ≡ J6)) }
-    ensures says { (q : Question) (label : ℕ) → IfSome result (Says q label instr row.now) }
+    ensures says { (question : Question) (label : ℕ) → IfSome result (Says question label instr row.now) }
 {
     match instr {
-        Instr::Prepend { packet, count } => too_little(row, packet, Headroom, 0, u32::from(count)),
-        Instr::Adj { packet, count } => too_little(row, packet, First, 0, u32::from(count)),
-        Instr::Append { packet, count } => too_little(row, packet, Tailroom, 0, u32::from(count)),
-        Instr::Trim { packet, count } => too_little(row, packet, Last, 0, u32::from(count)),
+        Instr::Prepend { packet, count } => check_measure(
+            row,
+            packet,
+            Headroom,
+            0,
+            u32::from(count),
+        ),
+        Instr::Adj { packet, count } => check_measure(row, packet, First, 0, u32::from(count)),
+        Instr::Append { packet, count } => check_measure(
+            row,
+            packet,
+            Tailroom,
+            0,
+            u32::from(count),
+        ),
+        Instr::Trim { packet, count } => check_measure(row, packet, Last, 0, u32::from(count)),
         Instr::Load {
             packet,
             offset,
@@ -187,7 +200,7 @@ pub(crate) fn check_bytes(row: &Row, instr: Instr) -> Option<Reason>
             ..
         } => {
             let count = u32::from(offset) + u32::from(width.bytes());
-            too_little(row, packet, First, 0, count)
+            check_measure(row, packet, First, 0, count)
         }
         Instr::LoadX {
             packet,
@@ -204,7 +217,7 @@ pub(crate) fn check_bytes(row: &Row, instr: Instr) -> Option<Reason>
             ..
         } => {
             let count = u32::from(offset) + u32::from(width.bytes());
-            too_little(row, packet, First, row.bound_of(index), count)
+            check_measure(row, packet, First, row.bound_of(index), count)
         }
         _ => None,
     }
@@ -231,7 +244,7 @@ fn share_in(fact: Fact) -> u8
 }
 
 /// The reason, if a packet that is written has a smaller share than wanted.
-fn not_alone(packet: PacketRegister, known: Fact, wanted: u8) -> Option<Reason>
+fn check_alone(packet: PacketRegister, known: Fact, wanted: u8) -> Option<Reason>
     ensures { MatchOption result (entails_share (share_in known) wanted ≡ true)
         (λ reason. (entails_share (share_in known) wanted ≡ false) × (reason ≡ Reason.NotAlone packet known wanted)) }
 {
@@ -246,31 +259,31 @@ fn not_alone(packet: PacketRegister, known: Fact, wanted: u8) -> Option<Reason>
 }
 
 /// The reason, if a packet that is written may be shared.
-pub(crate) fn unfit_share(row: &Row, instr: Instr) -> Option<Reason>
+pub(crate) fn check_share(row: &Row, instr: Instr) -> Option<Reason>
     requires held { list_all (is_held row.now) (uses instr) ≡ true }
     ensures none { IfNone result (share_fits row.now instr ≡ true) }
     ensures some { IfSome result (λ reason. (share_fits row.now instr ≡ false) × (rule_of reason ≡ J7)) }
-    ensures says { (q : Question) (label : ℕ) → IfSome result (Says q label instr row.now) }
+    ensures says { (question : Question) (label : ℕ) → IfSome result (Says question label instr row.now) }
 {
     match instr {
         Instr::Prepend { packet, .. }
         | Instr::Store { packet, .. }
-        | Instr::StoreX { packet, .. } => not_alone(packet, row.fact(packet), 1),
+        | Instr::StoreX { packet, .. } => check_alone(packet, row.fact(packet), 1),
         Instr::Append { packet, .. } => {
             let known = row.fact(packet);
             let wanted = if segs_in(known) == 1 { 1 } else { 2 };
-            not_alone(packet, known, wanted)
+            check_alone(packet, known, wanted)
         }
         _ => None,
     }
 }
 
 /// The reason, if two packets can have too many segments together.
-pub(crate) fn unfit_segments(row: &Row, instr: Instr) -> Option<Reason>
+pub(crate) fn check_segments(row: &Row, instr: Instr) -> Option<Reason>
     requires held { list_all (is_held row.now) (uses instr) ≡ true }
     ensures none { IfNone result (segments_fit row.now instr ≡ true) }
     ensures some { IfSome result (λ reason. (segments_fit row.now instr ≡ false) × (rule_of reason ≡ J8)) }
-    ensures says { (q : Question) (label : ℕ) → IfSome result (Says q label instr row.now) }
+    ensures says { (question : Question) (label : ℕ) → IfSome result (Says question label instr row.now) }
 {
     match instr {
         Instr::Chain { front, back } => {
@@ -291,11 +304,11 @@ pub(crate) fn unfit_segments(row: &Row, instr: Instr) -> Option<Reason>
 }
 
 /// The reason, if the port does not exist or the ring declares more than is known.
-pub(crate) fn unfit_exit(env: &Env, row: &Row, instr: Instr) -> Option<Reason>
+pub(crate) fn check_destination(env: &Env, row: &Row, instr: Instr) -> Option<Reason>
     requires places { indices_exist env.now instr ≡ true }
     ensures none { IfNone result (may_leave env.now row.now instr ≡ true) }
     ensures some { IfSome result (λ reason. (may_leave env.now row.now instr ≡ false) × (rule_of reason ≡ J9)) }
-    ensures says { (q : Question) → q.env ≡ env.now → (label : ℕ) → IfSome result (Says q label instr row.now) }
+    ensures says { (question : Question) → question.env ≡ env.now → (label : ℕ) → IfSome result (Says question label instr row.now) }
 {
     match instr {
         Instr::Tx { port, .. } => {
@@ -344,10 +357,10 @@ fn first_held(facts: &[Fact; 8]) -> Option<PacketRegister>
 }
 
 /// The reason, if a packet is held at the exit.
-pub(crate) fn unfit_end(row: &Row, instr: Instr) -> Option<Reason>
+pub(crate) fn check_end(row: &Row, instr: Instr) -> Option<Reason>
     ensures none { IfNone result (may_end row.now instr ≡ true) }
     ensures some { IfSome result (λ reason. (may_end row.now instr ≡ false) × (rule_of reason ≡ J10)) }
-    ensures says { (q : Question) (label : ℕ) → IfSome result (Says q label instr row.now) }
+    ensures says { (question : Question) (label : ℕ) → IfSome result (Says question label instr row.now) }
 {
     match instr {
         Instr::Exit => {

@@ -1,10 +1,15 @@
 -- What acceptance means, rule by rule.
-use Rattle.std.proofs.Common.{◌≡◌, ℕ, zero, suc, Bool, true, false, not, cond, List, [], ◌∷◌, Some, None, refl}
+use Rattle.std.proofs.Common.{◌≡◌, ℕ, zero, suc, Bool, true, false, not, cond, List, [], ◌∷◌, Some, None, refl, length}
+use Rattle.std.specs.Prelude.{nat_lt}
 use Rattle.std.specs.List.{find, list_all, AllByRecursion}
 use Rattle.std.proofs.lemmas.Bool.{and_parts}
 use Rattle.dp_model.specs.declared.rule.Rule.{Rule}
 use Rattle.dp_model.specs.declared.rule.Rule.TheVariants.{J1, J2}
-use Rattle.dp_model.specs.Rules.{Question, holds, later_rules, IsAccepted}
+use Rattle.dp_model.specs.declared.row.Row.{Row}
+use Rattle.dp_model.specs.declared.instr.Instr.{Instr}
+use Rattle.dp_model.specs.Rows.{entails, leads}
+use Rattle.dp_model.specs.Rules.{Question, holds, holds_at, later_rules, IsAccepted, indices_exist, is_held, uses, targets_fit, bytes_fit, share_fits}
+use Rattle.dp_model.specs.Rules.{segments_fit, may_leave, may_end, row_passes}
 use Rattle.dp_infer.proofs.Stronger.{both_are}
 
 found_holds : (b : Bool) (test : Rule → Bool) (rule : Rule) (rules : List Rule) → test rule ≡ b → cond (not b) (Some rule) (find (λ r. not (test r)) rules)
@@ -45,3 +50,37 @@ is_accepted q one two later (suc label) = find_none (holds q (suc label)) later_
 pub all_from : {A : Type 0} (test : A → Bool) (xs : List A) → list_all test xs ≡ true → AllByRecursion (λ x. test x ≡ true) xs
 all_from test [] e = tt
 all_from test (x ∷ xs) e = let (here, rest) = and_parts (test x) (list_all test xs) e in (here, all_from test xs rest)
+
+-- what the rules say of an instruction and its row
+pub record EachRule (q : Question) (label : ℕ) (i : Instr) (row : Row) : Type 0 where
+  pub indices : indices_exist q.env i ≡ true
+  pub within : list_all (λ to. nat_lt to.to (length q.program)) (leads q.env label row i) ≡ true
+  pub held : list_all (is_held row) (uses i) ≡ true
+  pub targets : targets_fit row i ≡ true
+  pub bytes : bytes_fit row i ≡ true
+  pub share : share_fits row i ≡ true
+  pub segments : segments_fit row i ≡ true
+  pub leaves : may_leave q.env row i ≡ true
+  pub ends : may_end row i ≡ true
+  pub entailed : list_all (λ to. row_passes q.rows to.to (entails to.row)) (leads q.env label row i) ≡ true
+
+pub each_from : (q : Question) (label : ℕ) (i : Instr) (row : Row) → list_all (holds_at q label i row) later_rules ≡ true → EachRule q label i row
+each_from q label i row all =
+    let (labels, (held, (targets, (bytes, (share, (segments, (leaves, (ends, (entailed, _))))))))) = all_from (holds_at q label i row) later_rules all in
+    let (indices, within) = and_parts (indices_exist q.env i) (list_all (λ to. nat_lt to.to (length q.program)) (leads q.env label row i)) labels in
+    record {
+      indices = indices;
+      within = within;
+      held = held;
+      targets = targets;
+      bytes = bytes;
+      share = share;
+      segments = segments;
+      leaves = leaves;
+      ends = ends;
+      entailed = entailed;
+    }
+
+pub all_hold : (q : Question) (label : ℕ) (i : Instr) (row : Row) → EachRule q label i row → list_all (holds_at q label i row) later_rules ≡ true
+all_hold q label i row r =
+    rw (r.indices, r.within, r.held, r.targets, r.bytes, r.share, r.segments, r.leaves, r.ends, r.entailed) refl

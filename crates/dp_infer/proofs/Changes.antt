@@ -9,14 +9,14 @@ use Rattle.std.proofs.lemmas.Bool.Decides.{Decides-eqb}
 use Rattle.dp_model.specs.declared.row.Fact.{Fact}
 use Rattle.dp_model.specs.declared.row.Fact.TheVariants.{Empty, Held}
 use Rattle.dp_model.specs.declared.row.Row.{Row}
-use Rattle.dp_model.specs.Groups.{are_groups, belongs, size, least, share_left, is_in, share_of_group, reshared_fact, reshared}
+use Rattle.dp_model.specs.Groups.{are_groups, belongs, group_size, least_member, share_left, is_in, share_of_group, reshared_fact, reshared}
 use Rattle.std.proofs.lemmas.Option.{same_Some}
 use Rattle.dp_model.specs.Laws.Groups.{group_at_is, group_at_belongs, group_at_none, dissolved_out, dissolved_stays, groups_of_row, least_belongs, unnamed}
 use Rattle.dp_model.specs.Laws.Groups.{fact_at, changed_is, belongs_at, belongs_there, belongs_set, belongs_other, belongs_in, belongs_out, in_one, size_same}
 use Rattle.dp_model.specs.Laws.Groups.{other_group, sole_no_group, loose_no_group, left_name, chained_no_group, reshared_at}
 use Rattle.dp_infer.proofs.Stronger.{StrongerFact, zip_length, StrongerHolding, StrongerOption, Stronger}
 use Rattle.dp_model.specs.declared.row.Holding.{Holding}
-use Rattle.dp_model.specs.Rows.{is_empty, shared, twin, twin_share, joins, holding, held, held_at, with_fact, emptied, changed}
+use Rattle.dp_model.specs.Rows.{shared, twin, twin_share, joins, holding, held, held_at, with_fact, emptied, changed}
 use Rattle.dp_model.specs.Rows.{entails_share, after_chain, group_at, with_shares, renamed, dissolved, after_free, after_leave, after_chained}
 use Rattle.dp_model.specs.Rows.{after_clone, if_single, is_fact_of_row, is_well_formed_row}
 use Rattle.dp_model.specs.Rules.{is_empty_at}
@@ -58,23 +58,18 @@ changed_belongs : (row : Row) (p : ℕ) (f : Holding → Holding) → ((h : Hold
 changed_belongs row p f keeps x i = go (held_at row p) refl
   where
     go : (o : Option Holding) → held_at row p ≡ o → belongs (changed row p f).facts x i ≡ belongs row.facts x i
-    go None e = ap (λ o. belongs (option_map_or (λ h. with_fact row p (held (f h))) o row).facts x i) e
-    go (Some h) e =
-        ap (λ o. belongs (option_map_or (λ h. with_fact row p (held (f h))) o row).facts x i) e
-        ∙ ⊎_elim
-        (λ is. ap (belongs (slice_set row.facts p (held (f h))) x) is ∙ (belongs_set row.facts x p (held h) (held (f h)) (fact_at row p h e)
-        ∙ (keeps h e x ∙ (sym (belongs_at row.facts x p (held h) (fact_at row p h e)) ∙ ap (belongs row.facts x) (sym is)))))
+    go None e = rw e refl
+    go (Some h) e = rw e (⊎_elim
+        (λ is. cc (belongs_set row.facts x p (held h) (held (f h)) (fact_at row p h e), keeps h e x, belongs_at row.facts x p (held h) (fact_at row p h e)))
         (λ ne. belongs_other row.facts x p i (held (f h)) ne)
-        (cases_eq i p)
+        (cases_eq i p))
 
 changed_go : (a b : Row) (p : ℕ) (f g : Holding → Holding) (x y : Option Holding) → Stronger a b → StrongerOption x y → held_at a p ≡ x → held_at b p ≡ y
     → ((h k : Holding) → x ≡ Some h → StrongerHolding h k → StrongerHolding (f h) (g k)) → KeepsGroups (changed a p f).facts (changed b p g).facts
     → Stronger (option_map_or (λ h. with_fact a p (held (f h))) x a) (option_map_or (λ k. with_fact b p (held (g k))) y b)
 changed_go a b p f g None None s o ex ey each groups = s
 changed_go a b p f g (Some x) (Some y) s o ex ey each groups =
-    fact_set a b p (held (f x)) (held (g y)) s (each x y refl o)
-    (subst (λ (fs : List Fact). KeepsGroups fs (slice_set b.facts p (held (g y)))) (ap (λ o. (option_map_or (λ h. with_fact a p (held (f h))) o a).facts) ex)
-    (subst (λ (gs : List Fact). KeepsGroups (changed a p f).facts gs) (ap (λ o. (option_map_or (λ h. with_fact b p (held (g h))) o b).facts) ey) groups))
+    fact_set a b p (held (f x)) (held (g y)) s (each x y refl o) (rw (ex, ey) at groups)
 changed_go a b p f g None (Some y) s o ex ey each groups = absurd o
 changed_go a b p f g (Some x) None s o ex ey each groups = absurd o
 
@@ -112,12 +107,12 @@ one_left g n (Held share head tail first last segs) (Held s h t f l k) m out =
   where
     loose : (share == share_of_group g) ≡ true → s ≡ 0
     loose e = ⊎_elim (λ z. z) (⊎_elim
-        (λ same. let wrong : true ≡ false = sym e ∙ (ap (λ x. x == share_of_group g) same ∙ out e) in cc)
+        (λ same. cc (out e))
         (λ (two, one). absurd (omega (arith, two, eqb-true share (8 + g) e)))) (share_cases share s m.share)
 
     go : (b : Bool) → (share == share_of_group g) ≡ b → entails_share (cond (share == share_of_group g) n share) s ≡ true
     go true e = share_zero (cond (share == share_of_group g) n share) s (loose e)
-    go false e = subst (λ b. entails_share (cond b n share) s ≡ true) (sym e) m.share
+    go false e = rw e m.share
 one_left g n Empty (Held s h t f l k) m out = absurd m
 one_left g n (Held share head tail first last segs) Empty m out = absurd m
 
@@ -165,12 +160,12 @@ dissolved_keeps a b p s = go (group_at a p) (group_at b p) refl refl
     }
       where
         live : (r : Row) (o : Option ℕ) → group_at r p ≡ o → (dissolved r p).live ≡ r.live
-        live r None e = ap (λ o. (option_map_or (λ g. with_shares r g 0) o r).live) e
-        live r (Some g) e = ap (λ o. (option_map_or (λ g. with_shares r g 0) o r).live) e
+        live r None e = rw e refl
+        live r (Some g) e = rw e refl
 
         bounds : (r : Row) (o : Option ℕ) → group_at r p ≡ o → (dissolved r p).bounds ≡ r.bounds
-        bounds r None e = ap (λ o. (option_map_or (λ g. with_shares r g 0) o r).bounds) e
-        bounds r (Some g) e = ap (λ o. (option_map_or (λ g. with_shares r g 0) o r).bounds) e
+        bounds r None e = rw e refl
+        bounds r (Some g) e = rw e refl
 
     -- a group of p in the second row is one in the first
     both : (g : ℕ) → group_at b p ≡ Some g → (j : ℕ) → belongs a.facts g j ≡ belongs b.facts g j
@@ -187,8 +182,7 @@ dissolved_keeps a b p s = go (group_at a p) (group_at b p) refl refl
     go (Some g) (Some x) e e' =
         let there : belongs a.facts x p ≡ true = both x e' p ∙ group_at_belongs b p x e' in
         let same : g ≡ x = same_Some g x (sym e ∙ group_at_is a p x there) in
-        made (fact_of (Some g) (Some x) (subst (λ n. AllZip StrongerFact (reshared n 0 a.facts) (reshared x 0 b.facts)) (sym same)
-        (reshared_both x 0 a.facts b.facts s.facts (both x e'))) e e') (Some g) (Some x) e e'
+        made (fact_of (Some g) (Some x) (rw same (reshared_both x 0 a.facts b.facts s.facts (both x e'))) e e') (Some g) (Some x) e e'
 
 pub leave_keeps' : (a b : Row) (p : ℕ) → Stronger a b → Stronger (after_leave a p) (after_leave b p)
 leave_keeps' a b p s = emptied_keeps (dissolved a p) (dissolved b p) p (dissolved_keeps a b p s)
@@ -242,7 +236,7 @@ least_same (x ∷ xs) (y ∷ ys) g i long same = by_cases (is_in g y)
 least_same [] (y ∷ ys) g i long same = absurd (omega arith)
 least_same (x ∷ xs) [] g i long same = absurd (omega arith)
 
-pub least_is : (xs ys : List Fact) (g : ℕ) → length xs ≡ length ys → ((j : ℕ) → belongs xs g j ≡ belongs ys g j) → least xs g ≡ least ys g
+pub least_is : (xs ys : List Fact) (g : ℕ) → length xs ≡ length ys → ((j : ℕ) → belongs xs g j ≡ belongs ys g j) → least_member xs g ≡ least_member ys g
 least_is xs ys g long same = position_from-zero (is_in g) xs ∙ (least_same xs ys g 0 long same ∙ sym (position_from-zero (is_in g) ys))
 
 share_left_same : (xs ys : List Fact) (g : ℕ) → length xs ≡ length ys → ((j : ℕ) → belongs xs g j ≡ belongs ys g j) → share_left xs g ≡ share_left ys g
@@ -251,19 +245,17 @@ share_left_same xs ys g long same = rw (size_same xs ys g g long same, least_is 
 -- the name of the rest of a group is that of no other
 left_share : (a : Row) (p g x i : ℕ) → AreWellFormed a → (f : Fact) → slice_get a.facts p ≡ Some f → belongs (emptied a p).facts x i ≡ true → x ≢ g →
     (share_left (emptied a p).facts g == share_of_group x) ≡ false
-left_share a p g x i fits f at inside ne = by_cases (size (emptied a p).facts g == 1)
-    (λ one. ap (λ b. cond b 2 (option_map_or share_of_group (least (emptied a p).facts g) 0) == share_of_group x) one ∙ sole_no_group x)
-    (λ more. ap (λ b. cond b 2 (option_map_or share_of_group (least (emptied a p).facts g) 0) == share_of_group x) more
-    ∙ named (least (emptied a p).facts g) refl)
+left_share a p g x i fits f at inside ne = by_cases (group_size (emptied a p).facts g == 1)
+    (λ one. rw one (sole_no_group x))
+    (λ more. rw more (named (least_member (emptied a p).facts g) refl))
   where
-    named : (o : Option ℕ) → least (emptied a p).facts g ≡ o → (option_map_or share_of_group (least (emptied a p).facts g) 0 == share_of_group x) ≡ false
-    named None e = ap (λ o. option_map_or share_of_group o 0 == share_of_group x) e ∙ loose_no_group x
-    named (Some m) e =
-        ap (λ o. option_map_or share_of_group o 0 == share_of_group x) e
-        ∙ other_group m x (λ same. ⊎_elim
+    named : (o : Option ℕ) → least_member (emptied a p).facts g ≡ o
+        → (option_map_or share_of_group (least_member (emptied a p).facts g) 0 == share_of_group x) ≡ false
+    named None e = rw e (loose_no_group x)
+    named (Some m) e = rw e (other_group m x (λ same. ⊎_elim
         (λ is. ne (sym same ∙ is))
-        (λ none. let wrong : true ≡ false = sym inside ∙ (ap (λ n. belongs (emptied a p).facts n i) (sym same) ∙ none i) in cc)
-        (left_name a p g m (groups_of_row a fits) f at (least_belongs (emptied a p).facts g m e)))
+        (λ none. cc (none i))
+        (left_name a p g m (groups_of_row a fits) f at (least_belongs (emptied a p).facts g m e))))
 
 -- the rest of a group is renamed in the first row only
 renamed_left : (a b : Row) (p g : ℕ) → AreWellFormed a → (f : Fact) → slice_get a.facts p ≡ Some f → Stronger (emptied a p) (emptied b p) →
@@ -275,7 +267,7 @@ renamed_left a b p g fits f at s none =
       other_live = s.other_live;
       facts = reshared_left g n (emptied a p).facts (emptied b p).facts s.facts (λ i inside. none i);
       groups = λ i x inside j.
-          let ne : x ≢ g = λ same. let wrong : true ≡ false = sym inside ∙ (ap (λ y. belongs (emptied b p).facts y i) same ∙ none i) in cc in
+          let ne : x ≢ g = λ same. cc (none i) in
           let before : belongs (emptied a p).facts x i ≡ true = s.groups i x inside i ∙ inside in
           by_cases (belongs (emptied a p).facts g j)
           (λ here. belongs_in (emptied a p).facts x g n j here ∙ (left_share a p g x i fits f at before ne
@@ -306,7 +298,7 @@ renamed_both a b g n s same named = record {
         (λ here.
         let t : (n == share_of_group x) ≡ true = sym (belongs_in b.facts x g n i ig) ∙ inside in
         let wrong : true ≡ false = ⊎_elim
-        (λ is. sym here ∙ (ap (λ y. belongs a.facts y j) is ∙ away))
+        (λ is. cc)
         (λ ne. sym t ∙ named x j here ne)
         (cases_eq x g) in cc)
         (λ none. none ∙ sym gone))
@@ -327,7 +319,7 @@ free_keeps a b p s fits fits' = go (group_at a p) (group_at b p) refl refl
     out_b : group_at b p ≡ None → (g i : ℕ) → belongs a.facts g p ≡ true → belongs (emptied b p).facts g i ≡ false
     out_b eb g i here = by_cases (belongs (emptied b p).facts g i)
         (λ inside. ⊎_elim
-        (λ is. ap (belongs (emptied b p).facts g) is ∙ set_out b.facts p g Empty refl)
+        (λ is. rw is (set_out b.facts p g Empty refl))
         (λ ne.
         let before : belongs b.facts g i ≡ true = sym (belongs_other b.facts g p i Empty ne) ∙ inside in
         cc (s.groups i g before p, group_at_none b p eb g))
@@ -359,33 +351,32 @@ free_keeps a b p s fits fits' = go (group_at a p) (group_at b p) refl refl
 -- the groups of source and clone
 twin_facts : (row : Row) (p q n : ℕ) (h : Holding) → held_at row q ≡ Some h →
     (twin row p q h n).facts ≡ slice_set (slice_set row.facts q (held (shared n h))) p (held (shared n h))
-twin_facts row p q n h e = ap (λ r. slice_set r.facts p (held (shared n h))) (changed_is row q (shared n) h e)
+twin_facts row p q n h e = rw (changed_is row q (shared n) h e) refl
 
 twin_p : (row : Row) (p q n : ℕ) (h : Holding) (f : Fact) (x : ℕ) → held_at row q ≡ Some h → slice_get row.facts p ≡ Some f → p ≢ q →
     belongs (twin row p q h n).facts x p ≡ (n == share_of_group x)
 twin_p row p q n h f x e at ne =
-    ap (λ fs. belongs fs x p) (twin_facts row p q n h e)
-    ∙ belongs_set (slice_set row.facts q (held (shared n h))) x p f (held (shared n h)) (get_set_other row.facts q p (held (shared n h)) ne ∙ at)
+    rw (twin_facts row p q n h e)
+    (belongs_set (slice_set row.facts q (held (shared n h))) x p f (held (shared n h)) (get_set_other row.facts q p (held (shared n h)) ne ∙ at))
 
 twin_q : (row : Row) (p q n : ℕ) (h : Holding) (x : ℕ) → held_at row q ≡ Some h → p ≢ q → belongs (twin row p q h n).facts x q ≡ (n == share_of_group x)
 twin_q row p q n h x e ne =
-    ap (λ fs. belongs fs x q) (twin_facts row p q n h e)
-    ∙ (belongs_other (slice_set row.facts q (held (shared n h))) x p q (held (shared n h)) (λ is. ne (sym is))
+    rw (twin_facts row p q n h e) (belongs_other (slice_set row.facts q (held (shared n h))) x p q (held (shared n h)) (λ is. ne (sym is))
     ∙ belongs_set row.facts x q (held h) (held (shared n h)) (fact_at row q h e))
 
 twin_else : (row : Row) (p q n : ℕ) (h : Holding) (x i : ℕ) → held_at row q ≡ Some h → i ≢ p → i ≢ q → belongs (twin row p q h n).facts x i
     ≡ belongs row.facts x i
 twin_else row p q n h x i e np nq =
-    ap (λ fs. belongs fs x i) (twin_facts row p q n h e)
-    ∙ (belongs_other (slice_set row.facts q (held (shared n h))) x p i (held (shared n h)) np ∙ belongs_other row.facts x q i (held (shared n h)) nq)
+    rw (twin_facts row p q n h e)
+    (belongs_other (slice_set row.facts q (held (shared n h))) x p i (held (shared n h)) np ∙ belongs_other row.facts x q i (held (shared n h)) nq)
 
 -- a register is one of these two, or another
 module _ (row : Row) (p q n : ℕ) (h : Holding) (f : Fact) (e : held_at row q ≡ Some h) (at : slice_get row.facts p ≡ Some f) (ne : p ≢ q) where
   twin_cases : (i : ℕ) → ((x : ℕ) → belongs (twin row p q h n).facts x i ≡ (n == share_of_group x)) ⊎ ((i ≢ p) × (i ≢ q))
   twin_cases i = ⊎_elim
-      (λ is. inl (λ x. ap (belongs (twin row p q h n).facts x) is ∙ twin_p row p q n h f x e at ne))
+      (λ is. inl (λ x. rw is (twin_p row p q n h f x e at ne)))
       (λ np. ⊎_elim
-      (λ is. inl (λ x. ap (belongs (twin row p q h n).facts x) is ∙ twin_q row p q n h x e ne))
+      (λ is. inl (λ x. rw is (twin_q row p q n h x e ne)))
       (λ nq. inr (np, nq))
       (cases_eq i q))
       (cases_eq i p)
@@ -407,8 +398,8 @@ record Twins (a b : Row) (p q n n' : ℕ) (x y : Holding) : Type 0 where
 
 twin_keeps : (a b : Row) (p q n n' : ℕ) (x y : Holding) → Stronger a b → Twins a b p q n n' x y → Stronger (twin a p q x n) (twin b p q y n')
 twin_keeps a b p q n n' x y s t = record {
-  live = ap (λ r. r.live) (changed_is a q (shared n) x t.first) ∙ s.live;
-  other_live = ap (λ r. r.live) (changed_is b q (shared n') y t.second) ∙ s.other_live;
+  live = rw (changed_is a q (shared n) x t.first) s.live;
+  other_live = rw (changed_is b q (shared n') y t.second) s.other_live;
   facts = rw (twin_facts a p q n x t.first, twin_facts b p q n' y t.second)
       (zip_set StrongerFact (slice_set a.facts q (held (shared n x))) (slice_set b.facts q (held (shared n' y))) p (held (shared n x)) (held (shared n' y))
       (zip_set StrongerFact a.facts b.facts q (held (shared n x)) (held (shared n' y)) s.facts more) more);
@@ -447,9 +438,9 @@ empty_fact : (row : Row) (p : ℕ) → is_empty_at row p ≡ true → slice_get 
 empty_fact row p e = go (slice_get row.facts p) refl
   where
     go : (o : Option Fact) → slice_get row.facts p ≡ o → slice_get row.facts p ≡ Some Empty
-    go None at = let wrong : false ≡ true = sym (ap (λ o. option_map_or is_empty o false) at) ∙ e in cc
+    go None at = let wrong : false ≡ true = rw at at e in cc
     go (Some Empty) at = at
-    go (Some (Held share head tail first last segs)) at = let wrong : false ≡ true = sym (ap (λ o. option_map_or is_empty o false) at) ∙ e in cc
+    go (Some (Held share head tail first last segs)) at = let wrong : false ≡ true = rw at at e in cc
 
 empty_one : (f g : Fact) → StrongerFact f g → g ≡ Empty → f ≡ Empty
 empty_one Empty g m e = refl
@@ -474,8 +465,7 @@ reshared_empty (f ∷ facts) g n (suc p) e = reshared_empty facts g n p e
 least_name : (row : Row) (p g : ℕ) → AreWellFormed row → slice_get row.facts p ≡ Some Empty → (min p g ≡ g) ⊎ ((i : ℕ) → belongs row.facts (min p g) i ≡ false)
 least_name row p g fits at = by_cases (nat_le p g)
     (λ less. let is : min p g ≡ p = omega (arith, leb-true p g less) in
-    inr (subst (λ n. (i : ℕ) → belongs row.facts n i ≡ false) (sym is)
-    (unnamed row.facts p (groups_of_row row fits) (belongs_at row.facts p p Empty at))))
+    inr (rw is (unnamed row.facts p (groups_of_row row fits) (belongs_at row.facts p p Empty at))))
     (λ more. inl (omega (arith, leb-false p g more)))
 
 -- so it is no other group's
@@ -483,14 +473,14 @@ name_free : (row : Row) (p g x i : ℕ) → AreWellFormed row → slice_get row.
     (share_of_group (min p g) == share_of_group x) ≡ false
 name_free row p g x i fits at inside ne = other_group (min p g) x (λ same. ⊎_elim
     (λ is. ne (sym same ∙ is))
-    (λ none. let wrong : true ≡ false = sym inside ∙ (ap (λ n. belongs row.facts n i) (sym same) ∙ none i) in cc)
+    (λ none. cc (none i))
     (least_name row p g fits at))
 
 -- where the source belongs to no group, no register has the name of the new one
 new_name : (row : Row) (p q : ℕ) → AreWellFormed row → slice_get row.facts p ≡ Some Empty → group_at row q ≡ None →
     (i : ℕ) → belongs row.facts (min p q) i ≡ false
 new_name row p q fits at t = ⊎_elim
-    (λ is. subst (λ n. (i : ℕ) → belongs row.facts n i ≡ false) (sym is) (unnamed row.facts q (groups_of_row row fits) (group_at_none row q t q)))
+    (λ is. rw is (unnamed row.facts q (groups_of_row row fits) (group_at_none row q t q)))
     (λ none. none)
     (least_name row p q fits at)
 
@@ -546,7 +536,7 @@ clone_left a b p q g x y c t t' =
     twin_keeps r b p q n 0 (shared n x) y s (record {
       first = e;
       second = c.second;
-      more = subst (λ o. StrongerOption (Some (shared n x)) o) c.second (subst (λ o. StrongerOption o (held_at b q)) e (held_both r b q s));
+      more = rw (e, c.second) at (held_both r b q s);
       share = share_zero n 0 refl;
       fa = Empty;
       at = reshared_empty a.facts g n p c.at;
@@ -626,11 +616,10 @@ clone_begun a b p q x y c t t' = go (x.share == 2) (y.share == 2) refl refl
         each true true eu ev = made n n (share_same n)
             (λ z is.
             let same : min p q ≡ z = omega (arith, eqb-true (8 + min p q) (8 + z) is) in
-            (is, λ j. subst (λ k. belongs a.facts k j ≡ belongs b.facts k j) same (new_name a p q c.fits c.at t j ∙ sym (new_name b p q c.fits' c.at' t' j))))
+            (is, λ j. cc (new_name a p q c.fits c.at t j, new_name b p q c.fits' c.at' t' j)))
             (λ z i inside out. out)
         each true false eu ev = made n 0 (share_zero n 0 refl) (no_new n)
-            (λ z i inside out. other_group (min p q) z (λ same. let wrong : true ≡ false = sym inside
-            ∙ (ap (λ k. belongs b.facts k i) (sym same) ∙ new_name b p q c.fits' c.at' t' i) in cc))
+            (λ z i inside out. other_group (min p q) z (λ same. cc (new_name b p q c.fits' c.at' t' i)))
         each false true eu ev =
             let two : x.share ≡ 2 = sole_more x.share y.share c.more.share (eqb-true y.share 2 ev) in
             let wrong : true ≡ false = sym (eq-eqb x.share 2 two) ∙ eu in cc
@@ -639,12 +628,10 @@ clone_begun a b p q x y c t t' = go (x.share == 2) (y.share == 2) refl refl
 -- the row after a clone
 clone_is : (row : Row) (p q : ℕ) (h : Holding) (o : Option ℕ) → held_at row q ≡ Some h → group_at row q ≡ o →
     after_clone row p q ≡ option_map_or (joins row p q h) o (twin row p q h (twin_share p q h))
-clone_is row p q h o e t =
-    ap (λ u. option_map_or (λ h. option_map_or (joins row p q h) (group_at row q) (twin row p q h (twin_share p q h))) u row) e
-    ∙ ap (λ u. option_map_or (joins row p q h) u (twin row p q h (twin_share p q h))) t
+clone_is row p q h o e t = rw (e, t) refl
 
 clone_none : (row : Row) (p q : ℕ) → held_at row q ≡ None → after_clone row p q ≡ row
-clone_none row p q e = ap (λ u. option_map_or (λ h. option_map_or (joins row p q h) (group_at row q) (twin row p q h (twin_share p q h))) u row) e
+clone_none row p q e = rw e refl
 
 pub clone_keeps : (a b : Row) (p q : ℕ) → Stronger a b → AreWellFormed a → AreWellFormed b → is_empty_at b p ≡ true →
     Stronger (after_clone a p q) (after_clone b p q)
@@ -667,7 +654,7 @@ clone_keeps a b p q s fits fits' target = go (held_at a q) (held_at b q) refl re
         let ne : (y.share == 2) ≡ false = ne_eqb y.share 2 (λ two. absurd
         (omega (arith, sole_more x.share y.share c.more.share two, eqb-true x.share (8 + g) (held_group a q g x c.first t)))) in
         both (joins a p q x g) (twin b p q y (twin_share p q y)) (clone_is a p q x (Some g) c.first t) (clone_is b p q y None c.second t')
-        (subst (λ d. Stronger (joins a p q x g) (twin b p q y (cond d (share_of_group (min p q)) 0))) (sym ne) (clone_left a b p q g x y c t t'))
+        (rw ne (clone_left a b p q g x y c t t'))
     groups x y c None (Some g) t t' = cc (group_at_none a q t g, s.groups q g (group_at_belongs b q g t') q, group_at_belongs b q g t')
     groups x y c (Some g) (Some h) t t' =
         let there : belongs a.facts h q ≡ true = s.groups q h (group_at_belongs b q h t') q ∙ group_at_belongs b q h t' in
@@ -687,7 +674,7 @@ clone_keeps a b p q s fits fits' target = go (held_at a q) (held_at b q) refl re
           first = e;
           second = e';
           more = m;
-          apart = λ is. let wrong : None ≡ Some y = sym (ap (λ o. option_and_then holding o) at') ∙ (ap (held_at b) is ∙ e') in cc;
+          apart = λ is. let wrong : None ≡ Some y = rw (← is, at') at e' in cc;
         }) (group_at a q) (group_at b q) refl refl
     go None (Some y) e e' m = absurd m
     go (Some x) None e e' m = absurd m

@@ -1,10 +1,10 @@
 -- The rows that are found pass where some rows do.
 use Rattle.std.proofs.Common.{◌≡◌, ℕ, zero, suc, ◌+◌, ◌<◌, ◌≤◌, Bool, true, false, not, ◌||◌, List, length, set, Option, Some, None, refl, sym, ap, ◌∙◌}
 use Rattle.std.proofs.Common.{subst, inl, inr, arith}
-use Rattle.std.specs.Prelude.{nat_lt, slice_get, replicate, IsTrue, ◌⊎◌, Result, Ok, Err, IfOk, IfErr, IfSome, IfNone}
+use Rattle.std.specs.Prelude.{slice_get, replicate, IsTrue, ◌⊎◌, Result, Ok, Err, IfOk, IfErr, IfSome, IfNone}
 use Rattle.std.specs.List.{list_all}
 use Rattle.std.specs.Option.{option_map_or}
-use Rattle.std.proofs.lemmas.Bool.{and_parts, eq-eqb}
+use Rattle.std.proofs.lemmas.Bool.{eq-eqb}
 use Rattle.std.proofs.lemmas.Option.{slice_get_within}
 use Rattle.std.proofs.lemmas.List.{length-set}
 use Rattle.dp_model.specs.declared.row.Row.{Row}
@@ -13,8 +13,8 @@ use Rattle.dp_model.specs.declared.instr.Instr.{Instr}
 use Rattle.dp_model.specs.declared.rule.Rule.{Rule}
 use Rattle.dp_model.specs.Environments.{Environment}
 use Rattle.dp_model.specs.Jumps.{IsForward}
-use Rattle.dp_model.specs.Rows.{entails, leads, entry_row, is_well_formed_row}
-use Rattle.dp_model.specs.Rules.{Question, row_passes, holds, holds_at, uses, indices_exist, later_rules, IsAccepted, IsRefused}
+use Rattle.dp_model.specs.Rows.{entails, entry_row, is_well_formed_row}
+use Rattle.dp_model.specs.Rules.{Question, row_passes, holds, holds_at, uses, later_rules, IsAccepted, IsRefused}
 use Rattle.dp_model.specs.Laws.Lists.{all_at, get_set_same}
 use Rattle.dp_cert.specs.Spelling.{Certificate, certificate_of}
 use Rattle.dp_check.specs.Faults.{question, IsRefusedWith}
@@ -22,7 +22,6 @@ use Rattle.dp_infer.specs.Joins.{joined, dead_row, begun, found_rows}
 use Rattle.dp_infer.specs.Inference.{Certifies, HasNone, SaysMost, IsWithout}
 use Rattle.dp_infer.specs.Widening.{IsNotEnough, AreLast}
 use Rattle.dp_infer.specs.declared.inferring.InferError.{InferError}
-use Rattle.dp_infer.proofs.Stronger.{both_are}
 use Rattle.dp_infer.proofs.Changes.{AreWellFormed}
 use Rattle.dp_infer.proofs.PacketTests.{all_held_keeps}
 use Rattle.dp_infer.proofs.RowsAfter.{targets_keep, bytes_keep, share_keeps, segments_keep, leave_keeps, end_keeps}
@@ -30,7 +29,7 @@ use Rattle.dp_infer.proofs.JoinLaws.{rows_join, joined_well_formed}
 use Rattle.dp_infer.proofs.RowLists.{all_set, passes_at, passes, fits_from}
 use Rattle.dp_infer.proofs.Reach.{Fit, fit_set}
 use Rattle.dp_infer.proofs.Passing.{spread_long}
-use Rattle.dp_infer.proofs.Accepted.{second_rule, is_accepted, all_from}
+use Rattle.dp_infer.proofs.Accepted.{second_rule, is_accepted, all_hold}
 use Rattle.dp_infer.proofs.Spread.{Sound, live_rules, leads_well, spread_sound}
 
 -- ---- the start
@@ -94,20 +93,19 @@ live_hold : (q : Question) (rows : List Row) (label : ℕ) (i : Instr) (row : Ro
 live_hold q rows label i row accepted cert_fits so at_i at_row live =
     let (u, at_u, s) = passes_at q.rows label row (so.fit.below label row at_row live) in
     let fits : AreWellFormed row = fits_from row (all_at is_well_formed_row rows label row so.well_formed at_row) in
-    let all = live_rules q label i u accepted at_i at_u s.other_live in
-    let each = all_from (holds_at q label i u) later_rules all in
-    let well = leads_well q label i row u s fits (fits_from u (all_at is_well_formed_row q.rows label u cert_fits at_u)) all in
-    let places = (and_parts (indices_exist q.env i) (list_all (λ to. nat_lt to.to (length q.program)) (leads q.env label u i)) each.0).0 in
-    let entailed = so.done label (slice_get_within q.program label i at_i) i row at_i at_row live in
-    both_are (both_are places well.within)
-    (both_are (all_held_keeps row u (uses i) s each.1.0)
-    (both_are (targets_keep row u i s each.1.1.0)
-    (both_are (bytes_keep row u i s fits each.1.1.1.0)
-    (both_are (share_keeps row u i s fits each.1.1.1.1.0)
-    (both_are (segments_keep row u i s fits each.1.1.1.1.1.0)
-    (both_are (leave_keeps q.env row u i s each.1.1.1.1.1.1.0)
-    (both_are (end_keeps row u i s each.1.1.1.1.1.1.1.0)
-    (both_are entailed refl))))))))
+    let rules = live_rules q label i u accepted at_i at_u s.other_live in
+    all_hold (question q.program (certificate_of rows) q.env q.entry) label i row (record {
+      indices = rules.indices;
+      within = (leads_well q label i row u s fits (fits_from u (all_at is_well_formed_row q.rows label u cert_fits at_u)) rules).within;
+      held = all_held_keeps row u (uses i) s rules.held;
+      targets = targets_keep row u i s rules.targets;
+      bytes = bytes_keep row u i s fits rules.bytes;
+      share = share_keeps row u i s fits rules.share;
+      segments = segments_keep row u i s fits rules.segments;
+      leaves = leave_keeps q.env row u i s rules.leaves;
+      ends = end_keeps row u i s rules.ends;
+      entailed = so.done label (slice_get_within q.program label i at_i) i row at_i at_row live;
+    })
 
 later_hold : (q : Question) (rows : List Row) (label : ℕ) → IsAccepted q → list_all is_well_formed_row q.rows ≡ true → Sound q rows (length q.program) →
     list_all (holds (question q.program (certificate_of rows) q.env q.entry) label) later_rules ≡ true

@@ -8,8 +8,8 @@ use Rattle.dp_model.specs.declared.row.Fact.TheVariants.{Empty, Held}
 use Rattle.dp_model.specs.declared.row.Row.{Row}
 use Rattle.dp_model.specs.declared.row.Holding.{Holding}
 use Rattle.dp_model.specs.Rows.{holding, held, entails_share, owns_head, is_fact_of_row, is_well_formed_row}
-use Rattle.dp_model.specs.Groups.{group_of, is_in, is_group, size, same_registers, belongs, share_of_group, are_groups}
-use Rattle.std.proofs.Common.{zero, suc, ◌+◌, ◌-◌, ◌≤◌, cond, ap, sym, ◌∙◌, subst, map, length, ⊎_elim}
+use Rattle.dp_model.specs.Groups.{group_of, is_in, is_group, group_size, same_registers, belongs, share_of_group, are_groups}
+use Rattle.std.proofs.Common.{zero, suc, ◌+◌, ◌-◌, ◌≤◌, cond, ap, sym, ◌∙◌, subst, map, length, ⊎_elim, inl, inr}
 use Rattle.std.specs.Option.{option_map_or}
 use Rattle.dp_model.specs.Laws.Lists.{all_at}
 use Rattle.dp_model.specs.Laws.Groups.{same_at, belongs_at, group_is, belongs_there, size_same, is_in_group, groups_of_row}
@@ -29,19 +29,19 @@ record HaveLeast {A : Type 0} (R : A → A → Type 0) (x y j u : A) : Type 0 wh
 
 joined_left : (a b : ℕ) → entails_share a (joined_share a b) ≡ true
 joined_left a b = by_cases ((a == b) && is_share a)
-    (λ e. subst (λ t. entails_share a (cond t a (cond (owns_head a && owns_head b) 1 0)) ≡ true) (sym e) (share_same a))
-    (λ e. subst (λ t. entails_share a (cond t a (cond (owns_head a && owns_head b) 1 0)) ≡ true) (sym e) (by_cases (owns_head a && owns_head b)
-    (λ o. subst (λ t. entails_share a (cond t 1 0) ≡ true) (sym o) (one_of a (and_parts (owns_head a) (owns_head b) o).0))
-    (λ o. subst (λ t. entails_share a (cond t 1 0) ≡ true) (sym o) (share_zero a 0 refl))))
+    (λ e. rw e (share_same a))
+    (λ e. rw e (by_cases (owns_head a && owns_head b)
+    (λ o. rw o (one_of a (and_parts (owns_head a) (owns_head b) o).0))
+    (λ o. rw o (share_zero a 0 refl))))
 
 joined_swapped : (a b : ℕ) → joined_share a b ≡ joined_share b a
 joined_swapped a b = ⊎_elim
-    (λ e. subst (λ n. joined_share a n ≡ joined_share n a) e refl)
+    (λ e. rw e refl)
     (λ ne. rw (ne_eqb a b ne, ne_eqb b a (λ e. ne (sym e)), and_comm (owns_head a) (owns_head b)) refl)
     (cases_eq a b)
 
 joined_right : (a b : ℕ) → entails_share b (joined_share a b) ≡ true
-joined_right a b = subst (λ n. entails_share b n ≡ true) (joined_swapped b a) (joined_left b a)
+joined_right a b = rw (joined_swapped a b) (joined_left b a)
 
 -- whether a group of the first row has the same registers in the second
 abbrev IsCommon : List Fact → List Fact → ℕ → Bool
@@ -63,10 +63,8 @@ common_is fs gs share head tail first last segs = by_cases (nat_le 8 share)
 
 kept_less : (fs gs : List Fact) (a n : ℕ) → entails_share a n ≡ true → entails_share a (kept fs gs n) ≡ true
 kept_less fs gs a n e = by_cases (nat_le 8 n)
-    (λ above. subst (λ t. entails_share a (cond t (cond (IsCommon fs gs (n - 8)) n 0) n) ≡ true) (sym above) (by_cases (IsCommon fs gs (n - 8))
-    (λ c. subst (λ t. entails_share a (cond t n 0) ≡ true) (sym c) e)
-    (λ c. subst (λ t. entails_share a (cond t n 0) ≡ true) (sym c) (share_zero a 0 refl))))
-    (λ below. subst (λ t. entails_share a (cond t (cond (IsCommon fs gs (n - 8)) n 0) n) ≡ true) (sym below) e)
+    (λ above. rw above (by_cases (IsCommon fs gs (n - 8)) (λ c. rw c e) (λ c. rw c (share_zero a 0 refl))))
+    (λ below. rw below e)
 
 kept_common : (fs gs : List Fact) (n : ℕ) → ((x : ℕ) → n ≡ share_of_group x → IsCommon fs gs x ≡ true) → kept fs gs n ≡ n
 kept_common fs gs n each = by_cases (nat_le 8 n)
@@ -75,27 +73,23 @@ kept_common fs gs n each = by_cases (nat_le 8 n)
 
 kept_least : (fs gs : List Fact) (a b u : ℕ) → entails_share a u ≡ true → entails_share b u ≡ true → is_share u ≡ true →
     ((x : ℕ) → u ≡ share_of_group x → IsCommon fs gs x ≡ true) → entails_share (kept fs gs (joined_share a b)) u ≡ true
-kept_least fs gs a b u h k fits each = ⊎_elim
-    (λ z. share_zero (kept fs gs (joined_share a b)) u z)
-    (⊎_elim
-    (λ ea. ⊎_elim
-    (λ z. share_zero (kept fs gs (joined_share a b)) u z)
-    (⊎_elim
-    (λ eb.
-    let is : joined_share a b ≡ u = subst (λ n. joined_share n b ≡ u) (sym ea) (subst (λ n. joined_share u n ≡ u) (sym eb) (rw (eq-eqb u u refl, fits) refl)) in
-    share_is (kept fs gs (joined_share a b)) u (ap (kept fs gs) is ∙ kept_common fs gs u each))
-    (λ (two, one). subst (λ n. entails_share (kept fs gs (joined_share a b)) n
-    ≡ true) (sym one) (subst (λ n. entails_share (kept fs gs (joined_share n b)) 1
-    ≡ true) (sym (ea ∙ one)) (subst (λ n. entails_share (kept fs gs (joined_share 1 n)) 1 ≡ true) (sym two) refl))))
-    (share_cases b u k))
-    (λ (two, one). subst (λ n. entails_share (kept fs gs (joined_share a b)) n
-    ≡ true) (sym one) (subst (λ n. entails_share (kept fs gs (joined_share n b)) 1 ≡ true) (sym two) (⊎_elim
-    (λ z. absurd (omega (arith, z, one)))
-    (⊎_elim
-    (λ eb. subst (λ n. entails_share (kept fs gs (joined_share 2 n)) 1 ≡ true) (sym (eb ∙ one)) refl)
-    (λ (other, _). subst (λ n. entails_share (kept fs gs (joined_share 2 n)) 1 ≡ true) (sym other) refl))
-    (share_cases b u k)))))
-    (share_cases a u h)
+kept_least fs gs a b u h k fits each =
+    elim (share_cases a u h) [
+      | inl z ↦ share_zero (kept fs gs (joined_share a b)) u z
+      | inr (inl ea) ↦ elim (share_cases b u k) [
+        | inl z ↦ share_zero (kept fs gs (joined_share a b)) u z
+        | inr (inl eb) ↦
+            let same : joined_share u u ≡ u = rw (eq-eqb u u refl, fits) refl in
+            let is : joined_share a b ≡ u = rw (ea, eb) same in
+            share_is (kept fs gs (joined_share a b)) u (ap (kept fs gs) is ∙ kept_common fs gs u each)
+        | inr (inr (two, one)) ↦ rw (ea ∙ one, one, two) refl
+      ]
+      | inr (inr (two, one)) ↦ elim (share_cases b u k) [
+        | inl z ↦ absurd (omega (arith, z, one))
+        | inr (inl eb) ↦ rw (two, eb ∙ one, one) refl
+        | inr (inr (other, _)) ↦ rw (two, other, one) refl
+      ]
+    ]
 
 -- ---- facts
 
@@ -111,8 +105,7 @@ fact_join fs gs (Held share head tail first last segs) (Held s h t f l n) (Held 
     let (b, some) = and_parts (is_share s') (nat_le 1 n') a in
     let segs_some = leb-true 1 n' some in
     let segs_most = leb-true n' 64 most in
-    subst (λ y. HaveLeast StrongerFact (Held share head tail first last segs) (Held s h t f l n) y (Held s' h' t' f' l' n'))
-    (sym (common_is fs gs (joined_share share s) (min head h) (min tail t) (min first f) (min last l) (min 64 (max 1 (max segs n)))))
+    rw (common_is fs gs (joined_share share s) (min head h) (min tail t) (min first f) (min last l) (min 64 (max 1 (max segs n))))
     (record {
       left = record {
         share = kept_less fs gs share (joined_share share s) (joined_left share s);
@@ -167,7 +160,7 @@ common_at fs gs us lf lg kf kg groups i x inside =
     let group : is_group us x ≡ true = sym (ap (λ o. option_map_or (is_group us) o true) (is_in_group x u is)) ∙ here in
     let sf : (j : ℕ) → belongs fs x j ≡ belongs us x j = kf i x inside in
     let sg : (j : ℕ) → belongs gs x j ≡ belongs us x j = kg i x inside in
-    let size_is : size fs x ≡ size us x = size_same fs us x x lf sf in
+    let size_is : group_size fs x ≡ group_size us x = size_same fs us x x lf sf in
     let first : is_group fs x ≡ true = rw (size_is, least_is fs us x lf sf) group in
     both_are first (same_from fs gs x (lf ∙ sym lg) (λ j. sf j ∙ sym (sg j)))
 
@@ -194,15 +187,15 @@ share_in fs gs x a b e = by_cases (nat_le 8 (joined_share a b))
     let is : kept fs gs (joined_share a b) ≡ joined_share a b = rw (above, c) refl in
     let name : joined_share a b ≡ 8 + x = sym is ∙ e in
     let number : joined_share a b - 8 ≡ x = omega (arith, name) in
-    let common : IsCommon fs gs x ≡ true = subst (λ n. IsCommon fs gs n ≡ true) number c in
+    let common : IsCommon fs gs x ≡ true = rw number at c in
     by_cases ((a == b) && is_share a)
     (λ t.
     let (same, fits) = and_parts (a == b) (is_share a) t in
-    let first : a ≡ 8 + x = sym (ap (λ t. cond t a (cond (owns_head a && owns_head b) 1 0)) t) ∙ name in
+    let first : a ≡ 8 + x = rw t at name in
     let second : b ≡ 8 + x = sym (eqb-true a b same) ∙ first in
-    (common, eq-eqb a (8 + x) first, eq-eqb b (8 + x) second, subst (λ n. is_share n ≡ true) first fits))
+    (common, eq-eqb a (8 + x) first, eq-eqb b (8 + x) second, rw first at fits))
     (λ t.
-    let low : cond (owns_head a && owns_head b) 1 0 ≡ 8 + x = sym (ap (λ t. cond t a (cond (owns_head a && owns_head b) 1 0)) t) ∙ name in
+    let low : cond (owns_head a && owns_head b) 1 0 ≡ 8 + x = rw t at name in
     absurd (omega (arith, low, small (owns_head a && owns_head b)))))
     (λ c. let zero_is : kept fs gs (joined_share a b) ≡ 0 = rw (above, c) refl in absurd (omega (arith, zero_is, e))))
     (λ below.
@@ -218,8 +211,7 @@ elem_in : (fs gs : List Fact) (x : ℕ) (f g : Fact) → is_in x (common_fact fs
 elem_in fs gs x Empty g e = cc
 elem_in fs gs x (Held share head tail first last segs) Empty e = cc
 elem_in fs gs x (Held share head tail first last segs) (Held s h t f l n) e =
-    let is = subst (λ y. is_in x y ≡ true) (common_is fs gs (joined_share share s) (min head h) (min tail t) (min first f) (min last l)
-    (min 64 (max 1 (max segs n)))) e in
+    let is = rw (common_is fs gs (joined_share share s) (min head h) (min tail t) (min first f) (min last l) (min 64 (max 1 (max segs n)))) at e in
     share_in fs gs x share s (eqb-true (kept fs gs (joined_share share s)) (8 + x) is)
 
 elem_from : (fs gs : List Fact) (x : ℕ) (f g : Fact) → IsCommon fs gs x ≡ true → is_share (share_of_group x) ≡ true → is_in x f ≡ true → is_in x g ≡ true →
@@ -229,12 +221,11 @@ elem_from fs gs x (Held share head tail first last segs) Empty c fits e e' = cc
 elem_from fs gs x (Held share head tail first last segs) (Held s h t f l n) c fits e e' =
     let a = eqb-true share (8 + x) e in
     let b = eqb-true s (8 + x) e' in
-    let is : joined_share share s ≡ 8 + x = subst (λ n. joined_share n s
-    ≡ 8 + x) (sym a) (subst (λ n. joined_share (8 + x) n ≡ 8 + x) (sym b) (rw (eq-eqb (8 + x) (8 + x) refl, fits) refl)) in
+    let is : joined_share share s ≡ 8 + x = rw (a, b, eq-eqb (8 + x) (8 + x) refl, fits) refl in
     let left : kept fs gs (joined_share share s) ≡ 8 + x = ap (kept fs gs) is
-    ∙ kept_common fs gs (8 + x) (λ y same. let number : x ≡ y = omega (arith, same) in subst (λ n. IsCommon fs gs n ≡ true) number c) in
-    subst (λ y. is_in x y ≡ true) (sym (common_is fs gs (joined_share share s) (min head h) (min tail t) (min first f) (min last l)
-    (min 64 (max 1 (max segs n))))) (eq-eqb (kept fs gs (joined_share share s)) (8 + x) left)
+    ∙ kept_common fs gs (8 + x) (λ y same. let number : x ≡ y = omega (arith, same) in rw number at c) in
+    rw (common_is fs gs (joined_share share s) (min head h) (min tail t) (min first f) (min last l) (min 64 (max 1 (max segs n))))
+    (eq-eqb (kept fs gs (joined_share share s)) (8 + x) left)
 
 all_in : (fs gs xs ys : List Fact) (x i : ℕ) → belongs (map (common_fact fs gs) (paired joined_fact xs ys)) x i ≡ true →
     (IsCommon fs gs x ≡ true) × (belongs xs x i ≡ true) × (belongs ys x i ≡ true) × (is_share (share_of_group x) ≡ true)
@@ -292,8 +283,8 @@ groups_join fs gs us p q kp kq fits groups = record {
 
 joined_is_share : (a b : ℕ) → is_share (joined_share a b) ≡ true
 joined_is_share a b = by_cases ((a == b) && is_share a)
-    (λ t. subst (λ n. is_share n ≡ true) (sym (ap (λ t. cond t a (cond (owns_head a && owns_head b) 1 0)) t)) (and_parts (a == b) (is_share a) t).1)
-    (λ t. subst (λ n. is_share n ≡ true) (sym (ap (λ t. cond t a (cond (owns_head a && owns_head b) 1 0)) t)) (low (owns_head a && owns_head b)))
+    (λ t. rw t (and_parts (a == b) (is_share a) t).1)
+    (λ t. rw t (low (owns_head a && owns_head b)))
   where
     low : (t : Bool) → is_share (cond t 1 0) ≡ true
     low true = refl
@@ -301,17 +292,14 @@ joined_is_share a b = by_cases ((a == b) && is_share a)
 
 kept_is_share : (fs gs : List Fact) (n : ℕ) → is_share n ≡ true → is_share (kept fs gs n) ≡ true
 kept_is_share fs gs n e = by_cases (nat_le 8 n)
-    (λ above. subst (λ t. is_share (cond t (cond (IsCommon fs gs (n - 8)) n 0) n) ≡ true) (sym above) (by_cases (IsCommon fs gs (n - 8))
-    (λ c. subst (λ t. is_share (cond t n 0) ≡ true) (sym c) e)
-    (λ c. subst (λ t. is_share (cond t n 0) ≡ true) (sym c) refl)))
-    (λ below. subst (λ t. is_share (cond t (cond (IsCommon fs gs (n - 8)) n 0) n) ≡ true) (sym below) e)
+    (λ above. rw above (by_cases (IsCommon fs gs (n - 8)) (λ c. rw c e) (λ c. rw c refl)))
+    (λ below. rw below e)
 
 elem_fits : (fs gs : List Fact) (f g : Fact) → is_fact_of_row (common_fact fs gs (joined_fact f g)) ≡ true
 elem_fits fs gs Empty g = refl
 elem_fits fs gs (Held share head tail first last segs) Empty = refl
 elem_fits fs gs (Held share head tail first last segs) (Held s h t f l n) =
-    subst (λ y. is_fact_of_row y ≡ true) (sym (common_is fs gs (joined_share share s) (min head h) (min tail t) (min first f) (min last l)
-    (min 64 (max 1 (max segs n)))))
+    rw (common_is fs gs (joined_share share s) (min head h) (min tail t) (min first f) (min last l) (min 64 (max 1 (max segs n))))
     (both_are (both_are (kept_is_share fs gs (joined_share share s) (joined_is_share share s)) (le-leb 1 (min 64 (max 1 (max segs n))) (omega arith)))
     (le-leb (min 64 (max 1 (max segs n))) 64 (omega arith)))
 
@@ -331,14 +319,14 @@ joined_groups fs gs = all_from_each (λ fact. option_map_or (is_group (joined_fa
   where
     go : (i : ℕ) (y : Fact) → slice_get (joined_facts fs gs) i ≡ Some y → (o : Option ℕ) → group_of y ≡ o →
         option_map_or (is_group (joined_facts fs gs)) (group_of y) true ≡ true
-    go i y at None e = ap (λ o. option_map_or (is_group (joined_facts fs gs)) o true) e
+    go i y at None e = rw e refl
     go i y at (Some x) e =
         let (c, f, g, s) = all_in fs gs fs gs x i (belongs_at (joined_facts fs gs) x i y at ∙ group_is x y e) in
         let (first, same) = and_parts (is_group fs x) (same_registers fs gs x) c in
         let long : length (joined_facts fs gs) ≡ length fs = length_joined fs gs fs gs (same_at fs gs x same).0 in
-        let size_is : size (joined_facts fs gs) x ≡ size fs x = size_same (joined_facts fs gs) fs x x long (same_there fs gs x c s) in
+        let size_is : group_size (joined_facts fs gs) x ≡ group_size fs x = size_same (joined_facts fs gs) fs x x long (same_there fs gs x c s) in
         let group : is_group (joined_facts fs gs) x ≡ true = rw (size_is, least_is (joined_facts fs gs) fs x long (same_there fs gs x c s)) first in
-        ap (λ o. option_map_or (is_group (joined_facts fs gs)) o true) e ∙ group
+        rw e group
 
 bounds_join : (ms ns us : List ℕ) → AllZip AtMost ms us → AllZip AtMost ns us → HaveLeast (AllZip AtMost) ms ns (paired max ms ns) us
 bounds_join [] [] [] p q = record { left = tt; right = tt; least = tt }

@@ -26,7 +26,7 @@ least_row a b upper fits h k =
 
 leads_tests : (xs ys : List Lead) → AllZip StrongerLead xs ys → LeadsEntail xs ys
 leads_tests [] [] z = tt
-leads_tests (x ∷ xs) (y ∷ ys) z = ((z.0.0, row_test x.row y.row z.0.1), leads_tests xs ys z.1)
+leads_tests (x ∷ xs) (y ∷ ys) ((same, more), rest) = ((same, row_test x.row y.row more), leads_tests xs ys rest)
 leads_tests [] (y ∷ ys) z = absurd z
 leads_tests (x ∷ xs) [] z = absurd z
 

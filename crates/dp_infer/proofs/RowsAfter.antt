@@ -1,5 +1,5 @@
 -- An instruction on a stronger row needs no more, and leads to rows that are stronger.
-use Rattle.std.proofs.Common.{◌≡◌, true, Bool, ℕ, suc, ◌+◌, ◌-◌, ◌*◌, ◌^◌, ◌<◌, ◌≤◌, ◌||◌, ◌&&◌, ◌==◌, max, List, [], ◌∷◌, length, Some, refl, ◌∙◌, ap, arith}
+use Rattle.std.proofs.Common.{◌≡◌, true, Bool, ℕ, suc, ◌+◌, ◌-◌, ◌*◌, ◌^◌, ◌<◌, ◌≤◌, ◌||◌, ◌&&◌, ◌==◌, max, List, [], ◌∷◌, length, Some, refl, arith}
 use Rattle.std.specs.Prelude.{nat_le, nat_lt}
 use Rattle.std.specs.List.{AllZip, list_all}
 use Rattle.std.proofs.lemmas.Bool.{lt-ltb, and_parts}
@@ -216,9 +216,9 @@ leads_keep env label a b i s fits fits' target = go (leading env label i)
 pub labels_keep : (test : ℕ → Bool) (xs ys : List Lead) → AllZip StrongerLead xs ys → list_all (λ to. test to.to) ys ≡ true → list_all (λ to. test to.to) xs
     ≡ true
 labels_keep test [] [] z e = refl
-labels_keep test (x ∷ xs) (y ∷ ys) z e =
+labels_keep test (x ∷ xs) (y ∷ ys) ((same, _), others) e =
     let (here, rest) = and_parts (test y.to) (list_all (λ to. test to.to) ys) e in
-    both_are (ap test z.0.0 ∙ here) (labels_keep test xs ys z.1 rest)
+    both_are (rw same here) (labels_keep test xs ys others rest)
 labels_keep test [] (y ∷ ys) z e = absurd z
 labels_keep test (x ∷ xs) [] z e = absurd z
 

@@ -41,9 +41,8 @@ pub keeps_test : (fs gs : List Fact) → length fs ≡ length gs → KeepsGroups
 keeps_test fs gs long keeps = all_from_each (λ other. option_map_or (same_registers fs gs) (group_of other) true) gs (λ i y at. go i y at (group_of y) refl)
   where
     go : (i : ℕ) (y : Fact) → slice_get gs i ≡ Some y → (o : Option ℕ) → group_of y ≡ o → option_map_or (same_registers fs gs) (group_of y) true ≡ true
-    go i y at None e = ap (λ o. option_map_or (same_registers fs gs) o true) e
-    go i y at (Some x) e =
-        ap (λ o. option_map_or (same_registers fs gs) o true) e ∙ same_from fs gs x long (keeps i x (belongs_at gs x i y at ∙ group_is x y e))
+    go i y at None e = rw e refl
+    go i y at (Some x) e = rw e (same_from fs gs x long (keeps i x (belongs_at gs x i y at ∙ group_is x y e)))
 
 -- ---- reflexive and transitive
 
@@ -72,7 +71,7 @@ pub share_zero : (a b : ℕ) → b ≡ 0 → entails_share a b ≡ true
 share_zero a b z = rw (eq-eqb b 0 z) refl
 
 pub share_is : (a b : ℕ) → a ≡ b → entails_share a b ≡ true
-share_is a b e = subst (λ n. entails_share a n ≡ true) e (share_same a)
+share_is a b e = rw e (share_same b)
 
 pub share_two : (a b : ℕ) → a ≡ 2 → b ≡ 1 → entails_share a b ≡ true
 share_two a b two one = rw (two, one) refl

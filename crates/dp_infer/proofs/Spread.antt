@@ -11,7 +11,7 @@ use Rattle.dp_model.specs.declared.row.Lead.{Lead}
 use Rattle.dp_model.specs.declared.instr.Instr.{Instr}
 use Rattle.dp_model.specs.Jumps.{IsForward}
 use Rattle.dp_model.specs.Rows.{entails, leads, entry_row, is_well_formed_row}
-use Rattle.dp_model.specs.Rules.{Question, row_passes, holds_at, holds_if_live, indices_exist, later_rules, IsAccepted}
+use Rattle.dp_model.specs.Rules.{Question, row_passes, holds_at, holds_if_live, later_rules, IsAccepted}
 use Rattle.dp_model.specs.Laws.Lists.{get_within, all_at}
 use Rattle.dp_infer.specs.Joins.{passed_on, passed_from, spread}
 use Rattle.dp_infer.proofs.Stronger.{Stronger, further, both_are}
@@ -19,7 +19,7 @@ use Rattle.dp_infer.proofs.Changes.{AreWellFormed}
 use Rattle.dp_infer.proofs.RowsAfter.{StrongerLead, leads_keep, labels_keep, forward_leads}
 use Rattle.dp_infer.proofs.RowLists.{passes_at, passes, fits_from}
 use Rattle.dp_infer.proofs.Reach.{Fit, Grows, Step, no_step, leads_grow, pass_step, passed_well_formed}
-use Rattle.dp_infer.proofs.Accepted.{each_rule, all_from}
+use Rattle.dp_infer.proofs.Accepted.{EachRule, each_rule, each_from}
 
 -- what holds of the rows after all labels below one are passed on, if a certificate is accepted
 pub record Sound (q : Question) (rows : List Row) (label : ℕ) : Type 0 where
@@ -39,43 +39,33 @@ pub record LeadsWell (q : Question) (label : ℕ) (i : Instr) (row : Row) : Type
 
 -- a live label of an accepted certificate passes each rule
 pub live_rules : (q : Question) (label : ℕ) (i : Instr) (u : Row) → IsAccepted q → slice_get q.program label ≡ Some i → slice_get q.rows label ≡ Some u →
-    u.live ≡ true
-    → list_all (holds_at q label i u) later_rules ≡ true
+    u.live ≡ true → EachRule q label i u
 live_rules q label i u accepted at_i at_u live =
     let all = each_rule q label accepted in
     let here : list_all (holds_if_live q label (Some i) (Some u)) later_rules ≡ true = rw (at_i, at_u) at all in
     let P : Bool → Type 0 = λ b. list_all (λ rule. not b || holds_at q label i u rule) later_rules ≡ true in
-    subst P live here
-
-own_leads : (q : Question) (label : ℕ) (i : Instr) (u : Row) → list_all (holds_at q label i u) later_rules ≡ true → LeadsWell q label i u
-own_leads q label i u all =
-    let each = all_from (holds_at q label i u) later_rules all in
-    record {
-      within = (and_parts (indices_exist q.env i) (list_all (λ to. nat_lt to.to (length q.program)) (leads q.env label u i)) each.0).1;
-      entailed = each.1.1.1.1.1.1.1.1.0;
-    }
+    each_from q label i u (subst P live here)
 
 -- what the certificate's rows entail, stronger ones entail
 pub entailed_keeps : (rows : List Row) (xs ys : List Lead) → AllZip StrongerLead xs ys → list_all (λ to. row_passes rows to.to (entails to.row)) ys ≡ true →
     list_all (λ to. row_passes rows to.to (entails to.row)) xs ≡ true
 entailed_keeps rows [] [] z e = refl
-entailed_keeps rows (x ∷ xs) (y ∷ ys) z e =
+entailed_keeps rows (x ∷ xs) (y ∷ ys) ((same, more), others) e =
     let (here, rest) = and_parts (row_passes rows y.to (entails y.row)) (list_all (λ to. row_passes rows to.to (entails to.row)) ys) e in
     let (u, at, s) = passes_at rows y.to y.row here in
-    let at' : slice_get rows x.to ≡ Some u = rw z.0.0 at in
-    both_are (passes rows x.to x.row u at' (further x.row y.row u z.0.1 s)) (entailed_keeps rows xs ys z.1 rest)
+    let at' : slice_get rows x.to ≡ Some u = rw same at in
+    both_are (passes rows x.to x.row u at' (further x.row y.row u more s)) (entailed_keeps rows xs ys others rest)
 entailed_keeps rows [] (y ∷ ys) z e = absurd z
 entailed_keeps rows (x ∷ xs) [] z e = absurd z
 
 -- the row that was found is stronger than the certificate's, and its successors are entailed
 pub leads_well : (q : Question) (label : ℕ) (i : Instr) (row u : Row) → Stronger row u → AreWellFormed row → AreWellFormed u →
-    list_all (holds_at q label i u) later_rules ≡ true → LeadsWell q label i row
-leads_well q label i row u s fits fits' all =
-    let own = own_leads q label i u all in
-    let z = leads_keep q.env label row u i s fits fits' (all_from (holds_at q label i u) later_rules all).1.1.0 in
+    EachRule q label i u → LeadsWell q label i row
+leads_well q label i row u s fits fits' rules =
+    let z = leads_keep q.env label row u i s fits fits' rules.targets in
     record {
-      within = labels_keep (λ to. nat_lt to (length q.program)) (leads q.env label row i) (leads q.env label u i) z own.within;
-      entailed = entailed_keeps q.rows (leads q.env label row i) (leads q.env label u i) z own.entailed;
+      within = labels_keep (λ to. nat_lt to (length q.program)) (leads q.env label row i) (leads q.env label u i) z rules.within;
+      entailed = entailed_keeps q.rows (leads q.env label row i) (leads q.env label u i) z rules.entailed;
     }
 
 -- ---- one label

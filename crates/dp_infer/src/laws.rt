@@ -22,7 +22,7 @@ pub fn rows_after_keep_entailment()
 
 /// A rule that holds of a row holds of every row that entails it, if the instruction's target is empty.
 pub fn rules_hold_of_entailing_rows()
-    ensures { (q : Question) (label : ℕ) (i : Instr) (a b : Row) (rule : Rule) → IsTrue (is_well_formed_row a) → IsTrue (is_well_formed_row b) →
+    ensures { (question : Question) (label : ℕ) (i : Instr) (a b : Row) (rule : Rule) → IsTrue (is_well_formed_row a) → IsTrue (is_well_formed_row b) →
         IsTrue (entails a b)
-        → IsTrue (targets_fit b i) → IsTrue (holds_at q label i b rule) → IsTrue (holds_at q label i a rule) }
+        → IsTrue (targets_fit b i) → IsTrue (holds_at question label i b rule) → IsTrue (holds_at question label i a rule) }
 {}

@@ -20,7 +20,7 @@ are_digits [] h = refl
 are_digits (c ∷ cs) h = and_from (is_digit c) (list_all is_digit cs) (value_digit c h.0) (are_digits cs h.1)
 
 pub decimal_digits : (n : ℕ) → n < 2 ^ 64 → list_all is_digit (decimal n) ≡ true
-decimal_digits n h = are_digits (decimal n) (decimal_is_IsNumeral n h).0.1
+decimal_digits n h = let ((_, digits), _) = decimal_is_IsNumeral n h in are_digits (decimal n) digits
 
 pub decimal_short : (n : ℕ) → n < 2 ^ 64 → length (decimal n) ≤ 20
 decimal_short n h = length-decimal-le 20 n (omega arith) (omega arith) h
@@ -49,8 +49,8 @@ no_hex (c ∷ d ∷ ds) h = rw (no_x d (and_left (is_digit d) (list_all is_digit
 pub number_decimal : (n : ℕ) → n < 2 ^ 64 → number_in (decimal n) ≡ Some n
 unfolding number_in
 number_decimal n h =
-    let own = decimal_is_IsNumeral n h in
-    rw (no_hex (decimal n) (decimal_digits n h)) (numeral_digits (decimal n) own.0.0 own.0.1 ∙ ap (λ (m : ℕ). Some m) own.1)
+    let ((some, digits), is) = decimal_is_IsNumeral n h in
+    rw (no_hex (decimal n) (decimal_digits n h)) (numeral_digits (decimal n) some digits ∙ ap (λ (m : ℕ). Some m) is)
 
 -- digits are no register
 pub no_register : (letter : ℕ) (ds : List ℕ) → 58 ≤ letter → list_all is_digit ds ≡ true → register_in letter ds ≡ None

@@ -12,7 +12,7 @@ pub fn has_its_ranges()
     ensures { HasRanges }
 {}
 
-/// The printed text of a program reads as that program, and a text reads as at most one program.
+/// A law: the printed text of a program reads as that program, and a text reads as at most one program.
 pub fn printed_texts_read_back()
     ensures reads { (program : List Instr) → IsProgram program → Reads (printed program) program }
     ensures one { (text : List ℕ) (p q : List Instr) → Reads text p → Reads text q → p ≡ q }

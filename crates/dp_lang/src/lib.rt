@@ -1,5 +1,5 @@
-//! The language of node programs: its instructions as a table of forms with operands, `assemble` from text to `Program`, and `print` back. The text
-//! is described in docs/reference/language.md of the repository.
+//! The language of node programs: its instructions as a table of forms with operands, `assemble` from text to `Program`, and `print` back.
+//! docs/reference/language.md of the repository describes the text.
 //!
 //! Who owns what: a `Program` owns its instructions, and nothing of the text. Only `assemble` makes one, so every program has 1 to 1,024 instructions
 //! with operands in their ranges and labels that exist. `into_instrs` takes the list out.
@@ -7,8 +7,8 @@
 //! What to call: `assemble` for a text, `print` for the one text of a program, `source_lines` for the line of each instruction in its source,
 //! `arguments_of` for the operands of an instruction as data.
 //!
-//! What not to do: do not take a `Program` for an accepted one, which is for dp_check to say. Do not compare instructions, which have no `==`:
-//! compare their printed texts. The printed text has neither the comments nor the labels of the source.
+//! What not to do: a `Program` need not be one that the checker accepts; dp_check decides that. Instructions have no `==`: compare their
+//! printed texts. The printed text has neither the comments nor the labels of the source.
 #![tactic(auto)]
 
 mod argument;

@@ -1,9 +1,9 @@
 -- A header and bytes after it, both written into one object, and a packet of one segment made so.
-use Rattle.std.proofs.Common.{◌≡◌, ℕ, ◌+◌, ◌-◌, ◌/◌, ◌<◌, ◌≤◌, List, length, take, drop, max, Option, Some, None, refl, sym, ◌∙◌, ap, subst}
+use Rattle.std.proofs.Common.{◌≡◌, ℕ, ◌+◌, ◌-◌, ◌/◌, ◌<◌, ◌≤◌, List, length, take, drop, max, Option, Some, None, refl, ◌∙◌, ap}
 use Rattle.std.proofs.Common.{arith, get_or, set}
 use Rattle.std.proofs.lemmas.List.{get_or-set_same, set-set, take_all}
 use Rattle.dp_model.specs.Environments.{room_at}
-use Rattle.dp_model.specs.Buffers.{Number, written}
+use Rattle.dp_model.specs.Buffers.{Number}
 use Rattle.dp_model.specs.Packets.{needed}
 use Rattle.dp_model.specs.Stores.{Store, ReceivesInto}
 use Rattle.dp_pool.specs.Pools.{PoolView, object_in, with_object, with_written}
@@ -38,20 +38,20 @@ module _ (pools : List (Option PoolView)) (ps : List PoolView) (e : present pool
       let middle : List (Option PoolView) = set pools n.pool (Some q) in
       let many = ap length eh in
       let f = front_done pools ps e inv n n.pool n.index 0 header d (Some q) refl refl small_h object (omega (arith, many))
-      (subst (λ v. SlotBecomes (λ p. with_written p n.index 0 header) v (Some q)) (sym is) refl) in
+      (rw is) in
       let first : HeaderSet ps n h (present middle) =
       header_done ps (present middle) n (object_long ps n (are pools ps e inv) object) header h eh f.1 in
       let object' : HasObject (present middle) n = object_after ps (present middle) n first.specs object in
       let left : o ≡ Some (with_object p n.index (with_both (object_in p n.index) header (128 + at) bytes)) =
-      subst (λ v. SlotBecomes (λ p. with_object p n.index (with_both (object_in p n.index) header (128 + at) bytes)) v o) is b in
-      let again : o ≡ Some (with_written q n.index (128 + at) bytes) = left ∙ ap Some (written_again p n.index 0 (128 + at) header bytes object) in
+      rw is at b in
+      let again : o ≡ Some (with_written q n.index (128 + at) bytes) = rw left (ap Some (written_again p n.index 0 (128 + at) header bytes object)) in
       let same = ap (λ s. room_at s n.pool) first.specs in
       let fit' : 128 + at + length bytes ≤ (pool_in (present middle) n.pool).size =
       let long = (first.are.rooms n.pool (object_pool (present middle) n object')).header in
       omega (arith, fit, long, same, room_is ps n.pool, room_is (present middle) n.pool) in
       let g = room_done middle (present middle) refl f.0 n n.pool n.index at bytes d o refl refl small_b object' fit'
-      (subst (λ v. SlotBecomes (λ p. with_written p n.index (128 + at) bytes) v o) (sym (get_or-set_same pools n.pool (Some q) d below)) again) in
-      subst (λ l. ArePoolSlots l × BothWritten ps n h at bytes (present l)) (set-set pools n.pool (Some q) o)
+      (rw (get_or-set_same pools n.pool (Some q) d below) again) in
+      rw (← set-set pools n.pool (Some q) o)
       (g.0, record { middle = present middle; header = first; bytes_in = g.1 })
 
   pub both_done : (n : Number) (h : Header) (k i from : ℕ) (header : List ℕ) (at : ℕ) (bytes : List ℕ) (d o : Option PoolView) → k ≡ n.pool → i ≡ n.index
@@ -59,11 +59,7 @@ module _ (pools : List (Option PoolView)) (ps : List PoolView) (e : present pool
       → SlotBecomes (λ p. with_object p i (with_both (object_in p i) header from bytes)) (get_or pools k d) o
       → ArePoolSlots (set pools k o) × BothWritten ps n h at bytes (present (set pools k o))
   both_done n h k i from header at bytes d o ek ei ef eh small_h small_b object fit b =
-      subst (λ j. ArePoolSlots (set pools j o) × BothWritten ps n h at bytes (present (set pools j o))) (sym ek)
-      (both_here n h header at bytes d o eh small_h small_b object fit
-      (subst (λ x. SlotBecomes (λ p. with_object p n.index (with_both (object_in p n.index) header x bytes)) (get_or pools n.pool d) o) ef
-      (subst (λ j. SlotBecomes (λ p. with_object p j (with_both (object_in p j) header from bytes)) (get_or pools n.pool d) o) ei
-      (subst (λ j. SlotBecomes (λ p. with_object p i (with_both (object_in p i) header from bytes)) (get_or pools j d) o) ek b))))
+      rw ek (both_here n h header at bytes d o eh small_h small_b object fit (rw (← ef, ← ei, ← ek) b))
 
 -- ---- a packet of one segment at once
 
@@ -80,7 +76,7 @@ alone_is ps ps1 ps' n bytes t small fits b =
     let low = number_small ps1 n t.are object in
     let rooms = t.are.rooms n.pool (object_pool ps1 n object) in
     let size : room_at (specs_of ps1) n.pool ≤ 4096 = omega (arith, rooms.room, room_is ps1 n.pool) in
-    let pool : n.pool < 65536 = let f = t.are.few in omega (arith, f, low.1) in
+    let pool : n.pool < 65536 = omega (arith, t.are.few, low.1) in
     let x : Header = direct_header n 128 (length bytes) in
     let sm : Small (header_bytes x) = small_header x (omega arith) (omega arith) (omega arith) (omega (arith, fits, size)) (pool, low.0) (pool, low.0) (
       pool,
@@ -99,13 +95,13 @@ alone_is ps ps1 ps' n bytes t small fits b =
       filled = record { first = ps1; second = mid; taken = t; header = first; bytes_in = second };
       first_set = record {
         are = b.bytes_in.are;
-        specs = b.bytes_in.specs ∙ (b.header.specs ∙ (sym first.specs ∙ sym second.specs));
-        zones = b.bytes_in.zones ∙ (b.header.zones ∙ (sym first.zones ∙ sym second.zones));
-        buffers = b.bytes_in.buffers ∙ (ap (λ y. written y n 128 bytes) (b.header.buffers ∙ sym first.buffers) ∙ sym second.buffers);
-        outs = λ m. b.bytes_in.outs m ∙ (b.header.outs m ∙ (sym (first.outs m) ∙ sym (second.outs m)));
-        ins = λ k. b.bytes_in.ins k ∙ (b.header.ins k ∙ (sym (first.ins k) ∙ sym (second.ins k)));
-        here = b.bytes_in.headers n ∙ (b.header.here ∙ sym (ap f (second.headers n ∙ first.here)));
-        others = λ m d. b.bytes_in.headers m ∙ (b.header.others m d ∙ (sym (first.others m d) ∙ sym (second.headers m)));
+        specs = cc (b.bytes_in.specs, b.header.specs, first.specs, second.specs);
+        zones = cc (b.bytes_in.zones, b.header.zones, first.zones, second.zones);
+        buffers = cc (b.bytes_in.buffers, b.header.buffers, first.buffers, second.buffers);
+        outs = λ m. cc (b.bytes_in.outs m, b.header.outs m, first.outs m, second.outs m);
+        ins = λ k. cc (b.bytes_in.ins k, b.header.ins k, first.ins k, second.ins k);
+        here = cc (b.bytes_in.headers n, b.header.here, ap f (second.headers n ∙ first.here));
+        others = λ m d. cc (b.bytes_in.headers m, b.header.others m d, first.others m d, second.headers m);
       };
     }
 
@@ -115,30 +111,27 @@ module _ (ps : List PoolView) (v : Store) (pool : ℕ) (bytes : List ℕ) (e : s
   full = room_at v.pools pool - 128
 
   known : Ready ps v pool full
-  known = ready ps v pool full (room_at (specs_of ps) pool) e sound some refl (ap (λ s. room_at s.pools pool - 128) (sym e))
+  known = ready ps v pool full (room_at (specs_of ps) pool) e sound some refl (rw (← e))
 
   one : 1 ≡ max 1 ((length bytes + (full - 1)) / full)
-  one = let s = known.some in one_needed full (length bytes) s (omega (arith, fits))
+  one = one_needed full (length bytes) known.some (omega arith)
 
   need : 1 ≡ needed v.pools pool (length bytes)
   need = need_is v pool full (length bytes) 1 known.is one
 
   pub few_bytes : length bytes ≤ 4096
-  few_bytes = let f = known.few in omega (arith, f, fits)
+  few_bytes = omega (arith, known.few)
 
   pub received_none : (ps' : List PoolView) → count_in ps pool ≡ 0 → ps' ≡ ps → ReceivesInto v pool bytes (shown ps') None
-  received_none ps' none same = let a = known.in_pool in (omega (arith, a, none, need), ap shown same ∙ e)
+  received_none ps' none same = (omega (arith, known.in_pool, need), rw same e)
 
   pub received_some : (ps1 ps' : List PoolView) (n : Number) (r : ℕ) → n.pool ≡ pool → Taken ps n ps1 → Small bytes →
       BothWritten ps1 n (fresh_header n 1 128 (length bytes)) 128 bytes ps' → r ≡ handle n → Sound ps' × ReceivesInto v pool bytes (shown ps') (Some r)
   received_some ps1 ps' n r ep t small b er =
       let k = known in
-      let room : room_at (specs_of ps1) n.pool ≡ room_at v.pools pool =
-      ap (λ s. room_at s n.pool) (t.specs ∙ k.specs) ∙ ap (room_at v.pools) ep in
+      let room : room_at (specs_of ps1) n.pool ≡ room_at v.pools pool = rw (t.specs, k.specs, ep) in
       let a = alone_is ps ps1 ps' n bytes t small (omega (arith, fits, room)) b in
       let filled : FilledBy ps n (take full bytes) a.before =
-      subst (λ x. FilledBy ps n x a.before) (sym (take_all full bytes (omega (arith, fits)))) a.filled in
+      rw (take_all full bytes (omega arith)) a.filled in
       let c = receiving_start v pool full bytes k.room k.some ps a.before n (drop full bytes) k.whole k.there ep k.specs k.buffers k.in_pool filled refl in
-      let ins = subst (λ j. count_in ps1 j + 1 ≡ count_in ps j) ep t.ins in
-      let there = k.in_pool in
-      receive_done v pool full bytes ps a.before n n (drop full bytes) 1 1 c k one (omega (arith, need)) refl ps' r (omega (arith, ins, there)) er a.first_set
+      receive_done c k one (omega (arith, need)) refl ps' r (omega (arith, rw ep at t.ins, k.in_pool)) er a.first_set

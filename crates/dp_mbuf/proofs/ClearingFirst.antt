@@ -1,6 +1,6 @@
 -- Marking objects: no packet begins there.
-use Rattle.std.proofs.Common.{◌≡◌, ◌≢◌, ℕ, zero, suc, ◌+◌, ◌-◌, ◌<◌, ◌≤◌, false, List, [], ◌∷◌, length, drop, Option, Some, None, refl, sym, ◌∙◌, ap, subst}
-use Rattle.std.proofs.Common.{arith, ⊎_elim, get_or, set, map, below_more}
+use Rattle.std.proofs.Common.{◌≡◌, ℕ, zero, suc, ◌+◌, ◌<◌, ◌≤◌, List, [], ◌∷◌, length, drop, Option, Some, None, refl, ap}
+use Rattle.std.proofs.Common.{arith, ⊎_elim, get_or, set, below_more}
 use Rattle.std.specs.Prelude.{IfSome}
 use Rattle.std.specs.List.{AllByRecursion}
 use Rattle.std.proofs.lemmas.Bool.{cases_lt}
@@ -9,7 +9,7 @@ use Rattle.dp_model.specs.declared.env.PoolSpec.{PoolSpec}
 use Rattle.dp_model.specs.Buffers.{Number, overwritten}
 use Rattle.dp_pool.specs.Pools.{PoolView, object_in, with_written}
 use Rattle.dp_mbuf.specs.Headers.{header_of}
-use Rattle.dp_mbuf.specs.Objects.{header_at, is_out, spec_of, specs_of, buffers_of, zones_of, present, pool_in, HeadersFirst, PoolsFirst, objects_in_all}
+use Rattle.dp_mbuf.specs.Objects.{header_at, is_out, present, pool_in, HeadersFirst, PoolsFirst, objects_in_all}
 use Rattle.dp_mbuf.specs.Objects.{ArePools, ArePoolSlots, FirstsCleared, FirstsClearedTo, SlotFirstsCleared}
 use Rattle.dp_mbuf.specs.Mbufs.{mbufs_in_all}
 use Rattle.dp_mbuf.proofs.PoolLemmas.{pool_written, small_zeros}
@@ -22,7 +22,7 @@ unfolding header_of
 blank = refl
 
 pub no_head_past : (ps : List PoolView) (n : Number) → length (pool_in ps n.pool).objects ≤ n.index → (header_at ps n).segs ≡ 0
-no_head_past ps n past = ap (λ o. (header_of o).segs) (get_or_past (pool_in ps n.pool).objects n.index [] past) ∙ blank
+no_head_past ps n past = rw (get_or_past (pool_in ps n.pool).objects n.index [] past) blank
 
 -- nor where an object begins with zeros
 cleared : (o : List ℕ) → (header_of (overwritten o 0 (0 ∷ 0 ∷ []))).segs ≡ 0
@@ -40,27 +40,26 @@ one_more p q i u there =
     let old : List ℕ = object_in q i in
     let now : List ℕ = overwritten old 0 (0 ∷ 0 ∷ []) in
     let long : 128 ≤ length old = omega (arith, u.rooms.pool.sizes i there, u.rooms.header) in
-    let f : ℕ → PoolSpec = λ c. record { count = c; cache = q.cache; room = q.size - 128 } in
     record {
       rooms = record {
         pool = pool_written q i 0 (0 ∷ 0 ∷ []) u.rooms.pool there (omega (arith, u.rooms.header)) (small_zeros 2);
         header = u.rooms.header;
         room = u.rooms.room;
       };
-      spec = ap f (length-set q.objects i now) ∙ u.spec;
+      spec = rw length-set u.spec;
       zones = u.zones;
-      buffers = map_kept (drop 128) q.objects i now [] (rest_kept old 0 (0 ∷ 0 ∷ []) (omega arith) long) ∙ u.buffers;
+      buffers = rw (map_kept (drop 128) q.objects i now [] (rest_kept old 0 (0 ∷ 0 ∷ []) (omega arith) long)) u.buffers;
       out = u.out;
       heads = below_more (λ j. (header_of (get_or (set q.objects i now) j [])).segs ≡ 0) i
-          (λ j low. let other : j ≢ i = omega (arith, low) in ap (λ o. (header_of o).segs) (get_or-set_other q.objects i j now [] other) ∙ u.heads j low)
-          (ap (λ o. (header_of o).segs) (get_or-set_same q.objects i now [] there) ∙ cleared old);
+          (λ j low. rw (get_or-set_other q.objects i j now [] (omega arith)) (u.heads j low))
+          (rw (get_or-set_same q.objects i now [] there) (cleared old));
     }
 
 pub firsts_cleared_more : (p q r : PoolView) (i : ℕ) (bytes : List ℕ) → FirstsClearedTo i p q → i < length p.objects → bytes ≡ 0 ∷ 0 ∷ [] → r ≡ with_written q
     i 0 bytes →
     FirstsClearedTo (i + 1) p r
 firsts_cleared_more p q r i bytes u there zeros is =
-    subst (FirstsClearedTo (i + 1) p) (sym (is ∙ ap (λ b. with_written q i 0 b) zeros)) (one_more p q i u (omega (arith, there, count_stays i p q u)))
+    rw (is, zeros) (one_more p q i u (omega (arith, count_stays i p q u)))
 
 -- ---- the slots for pools
 
@@ -73,7 +72,7 @@ none_after (o ∷ pools) (suc k) none = none_after pools k none.1
 header_first : (pools : List (Option PoolView)) (k : ℕ) → HeadersFirst pools → IfSome (get_or pools k None) (λ p. 128 ≤ p.size)
 header_first [] k first = tt
 header_first (None ∷ pools) zero first = tt
-header_first (None ∷ pools) (suc k) first = subst (λ o. IfSome o (λ p. 128 ≤ p.size)) (sym (none_after pools k first)) tt
+header_first (None ∷ pools) (suc k) first = rw (none_after pools k first) tt
 header_first (Some p ∷ pools) zero first = first.0
 header_first (Some p ∷ pools) (suc k) first = header_first pools k first.1
 
@@ -86,8 +85,7 @@ pub record SlotsTo (i : ℕ) (old new : List (Option PoolView)) : Type 0 where
 pub has_header : (i : ℕ) (old new : List (Option PoolView)) (d : Option PoolView) → length old ≡ 8 → HeadersFirst old → SlotsTo i old new → i < 8 →
     IfSome (get_or new i d) (λ p. 128 ≤ p.size)
 has_header i old new d eight first s there =
-    subst (λ o. IfSome o (λ p. 128 ≤ p.size)) (sym (get_or_default new i d None (omega (arith, there, eight, s.many)) ∙ s.left i (omega arith)))
-    (header_first old i first)
+    rw (get_or_default new i d None (omega (arith, s.many)), s.left i (omega arith)) (header_first old i first)
 
 -- ---- all slots
 
@@ -96,12 +94,12 @@ none_left : (old new : List (Option PoolView)) → AllByRecursion (λ o. o ≡ N
 none_left old [] none each = tt
 none_left [] (x ∷ new) none each = (each 0, none_left [] new tt (λ k. each (suc k)))
 none_left (o ∷ old) (x ∷ new) none each =
-    (subst (λ y. SlotFirstsCleared y x) none.0 (each 0), none_left old new none.1 (λ k. each (suc k)))
+    (rw none.0 at (each 0), none_left old new none.1 (λ k. each (suc k)))
 
 -- one more pool before the others
 module _ (p q : PoolView) (ps qs : List PoolView) (are : ArePools (q ∷ qs)) (u : FirstsClearedTo (length p.objects) p q) (rest : FirstsCleared ps qs) where
   outs : (k i : ℕ) → is_out (q ∷ qs) (record { pool = k; index = i }) ≡ is_out (p ∷ ps) (record { pool = k; index = i })
-  outs zero i = ap (λ o. get_or o i false) u.out
+  outs zero i = rw u.out
   outs (suc k) i = rest.outs (record { pool = k; index = i })
 
   heads : (k i : ℕ) → (header_at (q ∷ qs) (record { pool = k; index = i })).segs ≡ 0
@@ -114,9 +112,9 @@ module _ (p q : PoolView) (ps qs : List PoolView) (are : ArePools (q ∷ qs)) (u
   in_front : FirstsCleared (p ∷ ps) (q ∷ qs)
   in_front = record {
     are = are;
-    specs = ap (λ s. s ∷ specs_of qs) u.spec ∙ ap (λ r. spec_of p ∷ r) rest.specs;
-    zones = ap (λ z. z ∷ zones_of qs) u.zones ∙ ap (λ r. p.zones ∷ r) rest.zones;
-    buffers = ap (λ b. b ∷ buffers_of qs) u.buffers ∙ ap (λ r. map (drop 128) p.objects ∷ r) rest.buffers;
+    specs = cc (u.spec, rest.specs);
+    zones = cc (u.zones, rest.zones);
+    buffers = cc (u.buffers, rest.buffers);
     outs = λ m. outs m.pool m.index;
     heads = λ m. heads m.pool m.index;
   }
@@ -127,7 +125,7 @@ nothing = record { are = are_pools [] (omega arith) tt; specs = refl; zones = re
 slots_done : (old new : List (Option PoolView)) → length new ≡ length old → length new ≤ 8 → HeadersFirst old →
     ((k : ℕ) → SlotFirstsCleared (get_or old k None) (get_or new k None)) → PoolsFirst new × FirstsCleared (present old) (present new)
 slots_done [] [] many few first each = (tt, nothing)
-slots_done [] (x ∷ new) many few first each = absurd (omega (arith, many))
+slots_done [] (x ∷ new) many few first each = absurd (omega arith)
 slots_done (o ∷ old) [] many few first each = absurd (omega (arith, many))
 slots_done (None ∷ old) (None ∷ new) many few first each = (none_left old new first (λ k. each (suc k)), nothing)
 slots_done (None ∷ old) (Some q ∷ new) many few first each = absurd (let e : Some q ≡ None = each 0 in cc)
@@ -142,12 +140,10 @@ pub over_done : (i : ℕ) (old new : List (Option PoolView)) → length old ≡ 
     8 ≤ i → ArePoolSlots new × FirstsCleared (present old) (present new)
 over_done i old new eight first few s all =
     let d = slots_done old new s.many (omega (arith, eight, s.many)) first each in
-    let same = ap mbufs_in_all d.1.specs in
-    ((s.many ∙ eight, d.0, omega (arith, few, same, mbufs_are (present old), mbufs_are (present new))), d.1)
+    ((rw s.many eight, d.0, omega (arith, ap mbufs_in_all d.1.specs, mbufs_are (present old), mbufs_are (present new))), d.1)
   where
     each : (k : ℕ) → SlotFirstsCleared (get_or old k None) (get_or new k None)
     each k = ⊎_elim
         (λ low. s.done k low)
-        (λ past. let e : get_or old k None ≡ None = get_or_past old k None (omega (arith, past, all, eight)) in
-        subst (λ o. SlotFirstsCleared o (get_or new k None)) (sym e) (s.left k past ∙ e))
+        (λ past. let e : get_or old k None ≡ None = get_or_past old k None (omega arith) in rw e (rw (s.left k past) e))
         (cases_lt k i)

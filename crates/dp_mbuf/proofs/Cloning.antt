@@ -9,16 +9,15 @@ use Rattle.dp_model.specs.Buffers.{Number, same_number, IsNumber, AreDistinct}
 use Rattle.dp_model.specs.Packets.{Segment, Packet, refs, Lies, cloned, is_free, available, IsFresh}
 use Rattle.dp_model.specs.Machine.{segments_held}
 use Rattle.dp_model.specs.Stores.{Store, Has, segments_of, Gives}
-use Rattle.dp_model.specs.Laws.References.{refs-append}
-use Rattle.dp_mbuf.specs.declared.header.Header.{Header}
+use Rattle.dp_model.specs.Laws.References.{refs-append, refs-cons}
 use Rattle.dp_pool.specs.Pools.{PoolView}
-use Rattle.dp_mbuf.specs.Objects.{header_at, is_out, count_in, specs_of, buffers_of, HasObject, HeaderSet}
+use Rattle.dp_mbuf.specs.Objects.{header_at, count_in, specs_of, buffers_of, HasObject, HeaderSet}
 use Rattle.dp_mbuf.specs.Steps.{Linkage, Alike, CanClone, Cloned, cloned_header}
 use Rattle.dp_mbuf.specs.Mbufs.{handle, numbered, segment_at, shown, mbufs, Linked, last_mbuf, StandsAt, Whole, Sound}
 use Rattle.dp_mbuf.proofs.ObjectLemmas.{same_or, length_specs}
-use Rattle.dp_mbuf.proofs.Counting.{AllOf, count-append, count-cons, mbufs-append, mbufs-cons, mbufs_first, refs-cons, refs_first, refs_le}
-use Rattle.dp_mbuf.proofs.Counting.{each_count, all_join, all_front, all_rest, all_slot, slot_among, count_of}
-use Rattle.dp_mbuf.proofs.Links.{alike, first_in, first_mbuf, linked_kept, segment_eq}
+use Rattle.dp_mbuf.proofs.Counting.{count-append, count-cons, mbufs-append, mbufs-cons, mbufs_first, refs_first, refs_le}
+use Rattle.dp_mbuf.proofs.Counting.{each_count, all_slot, slot_among}
+use Rattle.dp_mbuf.proofs.Links.{alike, first_in, first_mbuf, linked_kept}
 use Rattle.dp_mbuf.proofs.Frames.{object_of, number_of, number_small, positive, counted_same}
 use Rattle.dp_mbuf.proofs.Edits.{all_at, first_set}
 use Rattle.dp_mbuf.proofs.InHand.{grown, nothing_at, zero_at, turned}
@@ -26,6 +25,7 @@ use Rattle.dp_mbuf.proofs.Taking.{free_from}
 use Rattle.dp_mbuf.proofs.Chaining.{joined, last_of_links}
 use Rattle.dp_mbuf.proofs.Live.{opened, settled, store_eq, last_mbuf_is}
 use Rattle.dp_mbuf.proofs.Allocs.{free_in, pool_there}
+use Rattle.dp_model.specs.Laws.Lists.{all_join, all_left, all_right}
 
 -- ---- the segments in hand in another order
 
@@ -50,8 +50,8 @@ reordered ps s hand slots w = record {
     all_last : (P : Segment → Type 0) → AllByRecursion P (s ∷ hand ++ segments_held slots) → AllByRecursion P ((hand ++ s ∷ []) ++ segments_held slots)
     all_last P a =
         all_join P (hand ++ s ∷ []) (segments_held slots)
-        (all_join P hand (s ∷ []) (all_front P hand (segments_held slots) a.1) (a.0, tt))
-        (all_rest P hand (segments_held slots) a.1)
+        (all_join P hand (s ∷ []) (all_left P hand (segments_held slots) a.1) (a.0, tt))
+        (all_right P hand (segments_held slots) a.1)
 
 -- ---- references stay below their limit
 
@@ -61,19 +61,15 @@ few_of (Some k) = length k ≤ 64
 
 held_few : (n : ℕ) (slots : List (Option Packet)) → ((h : ℕ) → few_of (get_or slots h None)) → length (segments_held slots) ≤ 64 * length slots
 held_few n [] e = omega arith
-held_few n (None ∷ slots) e = let q = held_few n slots (λ h. e (suc h)) in omega (arith, q)
+held_few n (None ∷ slots) e = omega (arith, held_few n slots (λ h. e (suc h)))
 held_few n (Some k ∷ slots) e =
-    let q = held_few n slots (λ h. e (suc h)) in
-    let f : length k ≤ 64 = e 0 in omega (arith, q, f, length-append k (segments_held slots))
+    let f : length k ≤ 64 = e 0 in omega (arith, held_few n slots (λ h. e (suc h)), length-append k (segments_held slots))
 
 pub refs_few : (ps : List PoolView) (hand : Packet) (slots : List (Option Packet)) (b : Number) → Whole ps hand slots → length hand ≤ 64 →
     1 ≤ refs (hand ++ segments_held slots) b → (header_at ps b).refs + 1 < 2 ^ 32
 refs_few ps hand slots b w few some =
     let f = held_few 0 slots (λ h. each (numbered h) (get_or slots h None) (w.shows.each h)) in
-    let m = w.shows.many in
-    let p = w.are.few in
-    let s = w.counted.stored b some in
-    omega (arith, f, m, p, s, few, refs_le (hand ++ segments_held slots) b, length-append hand (segments_held slots))
+    omega (arith, w.counted.stored b some, refs_le (hand ++ segments_held slots) b, length-append hand (segments_held slots))
   where
     each : (n : Number) (o : Option Packet) → StandsAt ps n o → few_of o
     each n None s = tt
@@ -113,7 +109,7 @@ module _ (ps ps' : List PoolView) (hand : Packet) (slots : List (Option Packet))
   -- the new mbuf is not the buffer
   apart : same_number n buf ≡ false
   apart = ⊎_elim
-      (λ e. absurd (let z = ap (refs ss) e in omega (arith, some, no, z)))
+      (λ e. absurd (omega (arith, no, ap (refs ss) e)))
       (λ d. d)
       (same_or n buf)
 
@@ -122,36 +118,30 @@ module _ (ps ps' : List PoolView) (hand : Packet) (slots : List (Option Packet))
 
   -- the new mbuf's header is written first, the buffer's last
   last : HeaderSet c.second buf (record (header_at c.second buf) { refs = (header_at c.second buf).refs + 1 }) ps'
-  last = subst (λ j. HeaderSet c.second j (record (header_at c.second j) { refs = (header_at c.second j).refs + 1 }) ps') eb c.buffer
+  last = rw eb at c.buffer
 
   middle : (m : Number) → same_number n m ≡ false → header_at c.second m ≡ header_at ps m
-  middle m d = c.header.others m d ∙ c.taken.headers m
+  middle m d = rw (c.header.others m d) (c.taken.headers m)
 
   at_n : header_at ps' n ≡ cloned_header (header_at ps from) n
-  at_n = last.others n (turned n buf apart) ∙ c.header.here
+  at_n = rw (last.others n (turned n buf apart)) c.header.here
 
   similar : (m : Number) → same_number n m ≡ false → Alike (header_at ps' m) (header_at ps m)
-  similar m d =
-      let bump : Header → Header = λ y. record y { refs = y.refs + 1 } in
-      ⊎_elim
-      (λ e. subst (λ j. Alike (header_at ps' j) (header_at ps j)) e
-      (subst (λ x. Alike x (header_at ps buf)) (sym (last.here ∙ ap bump (middle buf apart)))
-      (record { segs = refl; last = refl; link = record { offset = refl; len = refl; next = refl; buffer = refl } })))
-      (λ o. alike (header_at ps' m) (header_at ps m) (last.others m o ∙ middle m d))
+  similar m d = ⊎_elim
+      (λ e. rw (← e, last.here, middle buf apart)
+      (record { segs = refl; last = refl; link = record { offset = refl; len = refl; next = refl; buffer = refl } }))
+      (λ o. alike (header_at ps' m) (header_at ps m) (rw (last.others m o) (middle m d)))
       (same_or buf m)
 
   -- each buffer's header has its references, the cloned one's too
   refs_now : (m : Number) → 1 ≤ refs (clone_at n s ∷ ss) m → (header_at ps' m).refs ≡ refs (clone_at n s ∷ ss) m
   refs_now m q = ⊎_elim
       (λ e. subst (λ j. (header_at ps' j).refs ≡ refs (clone_at n s ∷ ss) j) e
-      (let z = w.counted.stored buf some in
-      let y = ap (λ x. x.refs) (middle buf apart) in
-      let x = ap (λ x. x.refs) last.here in
-      omega (arith, x, y, z, refs_first (clone_at n s) ss)))
-      (λ o. ⊎_elim
-      (λ e. absurd (let z = ap (refs ss) e in omega (arith, q, z, no, zero_at buf m o, refs-cons (clone_at n s) ss m)))
-      (λ d. ap (λ x. x.refs) (last.others m o ∙ middle m d)
-      ∙ (w.counted.stored m (omega (arith, q, zero_at buf m o, refs-cons (clone_at n s) ss m)) ∙ omega (arith, zero_at buf m o, refs-cons (clone_at n s) ss m)))
+      (rw (last.here, middle buf apart) (omega (arith, w.counted.stored buf some, refs_first (clone_at n s) ss))))
+      (λ o. let z = zero_at buf m o in
+      ⊎_elim
+      (λ e. absurd (omega (arith, ap (refs ss) e, no, refs-cons (clone_at n s) ss m)))
+      (λ d. rw (last.others m o, middle m d) (omega (arith, w.counted.stored m (omega (arith, refs-cons (clone_at n s) ss m)), refs-cons (clone_at n s) ss m)))
       (same_or n m))
       (same_or buf m)
 
@@ -162,26 +152,23 @@ module _ (ps ps' : List PoolView) (hand : Packet) (slots : List (Option Packet))
         whole = grown ps ps' hand slots (clone_at n s) w
             (record {
               are = last.are;
-              specs = last.specs ∙ (c.header.specs ∙ t.specs);
+              specs = rw (last.specs, c.header.specs) t.specs;
               number = number;
               was = t.was;
-              here = last.outs n ∙ (c.header.outs n ∙ t.here);
-              no_head = ap (λ y. y.segs) at_n;
-              outs = λ m d. last.outs m ∙ (c.header.outs m ∙ t.others m d);
+              here = rw (last.outs n, c.header.outs n) t.here;
+              no_head = rw at_n;
+              outs = λ m d. rw (last.outs m, c.header.outs m) (t.others m d);
               headers = similar;
             })
             (record { fits = lies.fits; number = lies.number })
             refs_now
             (inr (apart, some));
-        segment = segment_eq (segment_at (header_at ps') n) (clone_at n s) refl
-            (ap (λ y. y.buffer) at_n ∙ eb)
-            (ap (λ y. y.offset) at_n ∙ ap (λ y. y.offset) is)
-            (ap (λ y. y.len) at_n ∙ ap (λ y. y.len) is);
+        segment = rw at_n (ap (clone_at n) is);
         others = λ m d. (similar m d).link;
         nothing = omega (arith, no);
-        specs = last.specs ∙ (c.header.specs ∙ t.specs);
-        buffers = last.buffers ∙ (c.header.buffers ∙ t.buffers);
-        ins = let a = last.ins n.pool in let d = c.header.ins n.pool in let e = t.ins in omega (arith, a, d, e);
+        specs = rw (last.specs, c.header.specs) t.specs;
+        buffers = rw (last.buffers, c.header.buffers) t.buffers;
+        ins = omega (arith, last.ins n.pool, c.header.ins n.pool, t.ins);
         number = number;
         free = free_from (segments_held slots) n (omega (arith, no, mbufs-append hand (segments_held slots) n, refs-append hand (segments_held slots) n));
       }
@@ -191,18 +178,14 @@ module _ (ps ps' : List PoolView) (hand : Packet) (slots : List (Option Packet))
 pub cloned_push : (numbers : List Number) (p : Packet) (n : Number) (s : Segment) (rest : Packet) → drop (length numbers) p ≡ s ∷ rest →
     cloned (numbers ++ n ∷ []) p ≡ cloned numbers p ++ clone_at n s ∷ []
 cloned_push [] [] n s rest e = cc
-cloned_push [] (t ∷ p) n s rest e =
-    let h : t ≡ s = head t s p rest e in ap (λ x. clone_at n x ∷ []) h
-  where
-    head : (a b : Segment) (xs ys : Packet) → a ∷ xs ≡ b ∷ ys → a ≡ b
-    head a b xs ys q = cc
+cloned_push [] (t ∷ p) n s rest e = let h : t ≡ s = cc in rw h
 cloned_push (m ∷ numbers) [] n s rest e = cc
-cloned_push (m ∷ numbers) (t ∷ p) n s rest e = ap (λ r. clone_at m t ∷ r) (cloned_push numbers p n s rest e)
+cloned_push (m ∷ numbers) (t ∷ p) n s rest e = rw (cloned_push numbers p n s rest e)
 
 pub length_cloned : (numbers : List Number) (p : Packet) → length numbers ≤ length p → length (cloned numbers p) ≡ length numbers
 length_cloned [] p h = refl
 length_cloned (m ∷ numbers) [] h = absurd (omega arith)
-length_cloned (m ∷ numbers) (t ∷ p) h = ap suc (length_cloned numbers p (omega arith))
+length_cloned (m ∷ numbers) (t ∷ p) h = omega (arith, length_cloned numbers p (omega arith))
 
 apart_all : (n : Number) (numbers : List Number) (p : Packet) → length numbers ≤ length p → mbufs (cloned numbers p) n ≡ 0 →
     AllByRecursion (λ m. same_number n m ≡ false) numbers
@@ -210,8 +193,7 @@ apart_all n [] p h z = tt
 apart_all n (m ∷ numbers) [] h z = absurd (omega arith)
 apart_all n (m ∷ numbers) (t ∷ p) h z = (
   ⊎_elim
-      (λ e. absurd (let y : mbufs (cloned (m ∷ numbers) (t ∷ p)) n ≡ mbufs (cloned (m ∷ numbers) (t ∷ p)) m = ap (mbufs (cloned (m ∷ numbers) (t ∷ p))) e in
-      omega (arith, z, y, mbufs_first (clone_at m t) (cloned numbers p))))
+      (λ e. absurd (omega (arith, ap (mbufs (cloned (m ∷ numbers) (t ∷ p))) e, mbufs_first (clone_at m t) (cloned numbers p))))
       (λ d. d)
       (same_or n m),
   apart_all n numbers p (omega arith) (omega (arith, z, mbufs-cons (clone_at m t) (cloned numbers p) n)),
@@ -220,11 +202,10 @@ apart_all n (m ∷ numbers) (t ∷ p) h z = (
 distinct : (numbers : List Number) (p : Packet) → length numbers ≤ length p → ((m : Number) → mbufs (cloned numbers p) m ≤ 1) → AreDistinct numbers
 distinct [] p h once = tt
 distinct (n ∷ numbers) [] h once = absurd (omega arith)
-distinct (n ∷ numbers) (t ∷ p) h once =
-    let o = once n in (
-      apart_all n numbers p (omega arith) (omega (arith, o, mbufs_first (clone_at n t) (cloned numbers p))),
-      distinct numbers p (omega arith) (λ m. let q = once m in omega (arith, q, mbufs-cons (clone_at n t) (cloned numbers p) m)),
-    )
+distinct (n ∷ numbers) (t ∷ p) h once = (
+  apart_all n numbers p (omega arith) (omega (arith, once n, mbufs_first (clone_at n t) (cloned numbers p))),
+  distinct numbers p (omega arith) (λ m. omega (arith, once m, mbufs-cons (clone_at n t) (cloned numbers p) m)),
+)
 
 pub all_drop : (P : Segment → Type 0) (i : ℕ) (p : Packet) → AllByRecursion P p → AllByRecursion P (drop i p)
 all_drop P zero p a = a
@@ -234,14 +215,14 @@ all_drop P (suc i) (s ∷ p) a = all_drop P i p a.1
 pub count_drop : (f : Segment → Bool) (i : ℕ) (p : Packet) → count_by f (drop i p) ≤ count_by f p
 count_drop f zero p = omega arith
 count_drop f (suc i) [] = omega arith
-count_drop f (suc i) (s ∷ p) = let q = count_drop f i p in omega (arith, q, count-cons f s p)
+count_drop f (suc i) (s ∷ p) = omega (arith, count_drop f i p, count-cons f s p)
 
 pub drop_some : (i : ℕ) (p : Packet) → i < length p → (s : Segment) × (rest : Packet) × (drop i p ≡ s ∷ rest) × (drop (i + 1) p ≡ rest)
 drop_some i [] h = absurd (omega arith)
 drop_some zero (s ∷ p) h = (s, p, refl, refl)
 drop_some (suc i) (s ∷ p) h =
-    let q = drop_some i p (omega arith) in
-    let e : suc i + 1 ≡ suc (i + 1) = omega arith in (q.0, q.1, q.2, ap (λ j. drop j (s ∷ p)) e ∙ q.3)
+    let (seg, rest, is, next) = drop_some i p (omega arith) in
+    let e : suc i + 1 ≡ suc (i + 1) = omega arith in (seg, rest, is, rw e next)
 
 pub record Cloning (ps : List PoolView) (v : Store) (h : ℕ) (p : Packet) (pool : ℕ) (first last from : Number) (i : ℕ) : Type 0 where
   pub numbers : List Number
@@ -274,48 +255,40 @@ pub record Source (ps : List PoolView) (hand : Packet) (v : Store) (h : ℕ) (p 
 pub source_at : (ps : List PoolView) (hand : Packet) (v : Store) (h : ℕ) (p : Packet) (from : Number) (i : ℕ) → Whole ps hand v.slots → Has v h p →
     i < length p → Linked (header_at ps) from (drop i p) → Source ps hand v h p from i
 source_at ps hand v h p from i w has b l =
-    let d = drop_some i p b in
-    let s : Segment = d.0 in
-    let rest : Packet = d.1 in
-    let links : Linked (header_at ps) from (s ∷ rest) = subst (Linked (header_at ps) from) d.2 l in
+    let (s, rest, is, next) = drop_some i p b in
+    let links : Linked (header_at ps) from (s ∷ rest) = rw is at l in
     let slot : get_or v.slots h None ≡ Some p = get_or_from_slice_get v.slots h (Some p) None has in
     let in_slot : (f : Segment → Bool) → count_by f (s ∷ rest) ≤ count_by f (segments_held v.slots) =
-    λ f. let a = slot_among f v.slots h in
-    let c = ap (count_of f) slot in
-    let e = ap (count_by f) d.2 in
-    let g = count_drop f i p in
-    omega (arith, a, c, e, g) in
-    let lie = all_slot (Lies (specs_of ps)) v.slots h (all_rest (Lies (specs_of ps)) hand (segments_held v.slots) w.counted.lie) in
+    λ f. omega (arith, rw slot at (slot_among f v.slots h), ap (count_by f) is, count_drop f i p) in
+    let lie = all_slot (Lies (specs_of ps)) v.slots h (all_right (Lies (specs_of ps)) hand (segments_held v.slots) w.counted.lie) in
     let in_refs = in_slot (λ t. same_number t.buffer s.buffer) in
     record {
       seg = s;
       rest = rest;
-      is = d.2;
-      next = d.3;
+      is = is;
+      next = next;
       segment = links.0;
       mbuf = first_mbuf (header_at ps) from s rest links;
       refs = omega (arith, refs_first s rest, in_refs, refs-append hand (segments_held v.slots) s.buffer);
-      lies = (subst (AllByRecursion (Lies (specs_of ps))) d.2 (all_drop (Lies (specs_of ps)) i p (subst (AllOf (Lies (specs_of ps))) slot lie))).0;
-      mbufs = λ m q. let a = in_slot (λ t. same_number t.mbuf m) in omega (arith, a, q);
+      lies = (rw is at (all_drop (Lies (specs_of ps)) i p (rw slot at lie))).0;
+      mbufs = λ m q. omega (arith, in_slot (λ t. same_number t.mbuf m));
     }
 
 can_clone_at : (ps : List PoolView) (hand : Packet) (v : Store) (h : ℕ) (p : Packet) (from : Number) (i pool : ℕ) → Whole ps hand v.slots → length hand ≤ 64 →
     Has v h p → i < length p → Linked (header_at ps) from (drop i p) → pool < length ps → 1 ≤ count_in ps pool → CanClone ps from pool
 can_clone_at ps hand v h p from i pool w few has b l there some =
     let s = source_at ps hand v h p from i w has b l in
-    let eb : s.seg.buffer ≡ (header_at ps from).buffer = sym (ap (λ t. t.buffer) s.segment) in
+    let eb : s.seg.buffer ≡ (header_at ps from).buffer = rw (← s.segment) in
     let in_slots = s.mbufs s.seg.mbuf (omega (arith, mbufs_first s.seg s.rest)) in
     let number : IsNumber (specs_of ps) s.seg.mbuf =
     all_at (IsNumber (specs_of ps)) (segments_held v.slots) s.seg.mbuf
-    (all_rest (λ t. IsNumber (specs_of ps) t.mbuf) hand (segments_held v.slots) w.counted.numbers) in_slots in
-    let r = s.refs in
+    (all_right (λ t. IsNumber (specs_of ps) t.mbuf) hand (segments_held v.slots) w.counted.numbers) in_slots in
     record {
-      source = subst (HasObject ps) s.mbuf (object_of ps s.seg.mbuf number);
-      buffer = subst (HasObject ps) eb (object_of ps s.seg.buffer s.lies.number);
-      buffer_out = subst (λ j. is_out ps j ≡ true) eb
-          (w.counted.out s.seg.buffer s.lies.number ∙ positive (mbufs (hand ++ segments_held v.slots) s.seg.buffer + refs (hand
-          ++ segments_held v.slots) s.seg.buffer) (omega (arith, r)));
-      refs = subst (λ j. (header_at ps j).refs + 1 < 2 ^ 32) eb (refs_few ps hand v.slots s.seg.buffer w few s.refs);
+      source = rw (← s.mbuf) (object_of ps s.seg.mbuf number);
+      buffer = rw (← eb) (object_of ps s.seg.buffer s.lies.number);
+      buffer_out = rw (← eb, w.counted.out s.seg.buffer s.lies.number)
+          (positive (mbufs (hand ++ segments_held v.slots) s.seg.buffer + refs (hand ++ segments_held v.slots) s.seg.buffer) (omega (arith, s.refs)));
+      refs = rw (← eb) (refs_few ps hand v.slots s.seg.buffer w few s.refs);
       there = there;
       some = some;
     }
@@ -323,7 +296,7 @@ can_clone_at ps hand v h p from i pool w few has b l there some =
 -- where a segment in hand is linked, no new number is
 pub without : (xs ys : List Segment) (n m : Number) → mbufs (xs ++ ys) n ≡ 0 → 1 ≤ mbufs xs m + mbufs ys m → same_number n m ≡ false
 without xs ys n m none some = ⊎_elim
-    (λ e. absurd (let a = ap (mbufs xs) e in let b = ap (mbufs ys) e in omega (arith, none, some, a, b, mbufs-append xs ys n)))
+    (λ e. absurd (omega (arith, ap (mbufs xs) e, ap (mbufs ys) e, mbufs-append xs ys n)))
     (λ d. d)
     (same_or n m)
 
@@ -346,7 +319,7 @@ before ps v h pool e sound exists p has =
     let o = opened ps v h p e sound has in
     record {
       has = has;
-      whole = subst (λ s. Whole ps [] s.slots) e sound;
+      whole = rw (← e) sound;
       links = o.stands.links;
       some = o.stands.some;
       few = o.stands.few;
@@ -363,7 +336,7 @@ pub record Opening (ps : List PoolView) (v : Store) (h : ℕ) (p : Packet) (pool
   pub segs_are : segs ≡ length p
   pub enough : length p ≤ available v.pools (segments_of v) pool
 
-module _ (start : List PoolView) (v : Store) (h : ℕ) (p : Packet) (pool segs : ℕ) (o : Opening start v h p pool segs) where
+module _ {start : List PoolView} {v : Store} {h : ℕ} {p : Packet} {pool segs : ℕ} (o : Opening start v h p pool segs) where
   has : Has v h p
   has = o.before.has
 
@@ -374,7 +347,7 @@ module _ (start : List PoolView) (v : Store) (h : ℕ) (p : Packet) (pool segs :
   pub cloning_can : CanClone start (numbered h) pool
   cloning_can =
       let b = o.before in
-      can_clone_at start [] v h p (numbered h) 0 pool b.whole (omega arith) has b.some b.links b.there (omega (arith, b.in_pool, b.some, o.enough))
+      can_clone_at start [] v h p (numbered h) 0 pool b.whole (omega arith) has b.some b.links b.there (omega arith)
 
   pub cloning_start : (ps' : List PoolView) (n : Number) → n.pool ≡ pool → Cloned start (numbered h) n ps' →
       Cloning ps' v h p pool n n (header_at start (numbered h)).next 1
@@ -386,50 +359,48 @@ module _ (start : List PoolView) (v : Store) (h : ℕ) (p : Packet) (pool segs :
       let push : cloned (n ∷ []) p ≡ clone_at n s.seg ∷ [] = cloned_push [] p n s.seg s.rest s.is in
       let links : Linked (header_at ps') (numbered h) (s.seg ∷ s.rest) =
       linked_kept (header_at ps) (header_at ps') (numbered h) (s.seg ∷ s.rest) (λ m q. let i = s.mbufs m q in
-      g.others m (without [] (segments_held v.slots) n m g.nothing (omega (arith, i)))) (subst (Linked (header_at ps) (numbered h)) s.is b.links) in
+      g.others m (without [] (segments_held v.slots) n m g.nothing (omega (arith, i)))) (rw s.is at b.links) in
       let next : (header_at ps' (numbered h)).next ≡ (header_at ps (numbered h)).next =
       (g.others (numbered h) (without [] (segments_held v.slots) n (numbered h) g.nothing
       (let i = s.mbufs s.seg.mbuf (omega (arith, mbufs_first s.seg s.rest)) in
-      subst (λ m. 1 ≤ mbufs [] m + mbufs (segments_held v.slots) m) s.mbuf (omega (arith, i))))).next in
+      subst (λ m. 1 ≤ mbufs [] m + mbufs (segments_held v.slots) m) s.mbuf (omega arith)))).next in
       record {
         numbers = n ∷ [];
         count = refl;
         some = omega arith;
         below = b.some;
         few = few;
-        whole = subst (λ k. Whole ps' k v.slots) (sym push) g.whole;
-        links = subst (Linked (header_at ps') n) (sym push) (g.segment, tt);
-        last_is = ap (last_mbuf n) (sym push);
-        each = (record { of_pool = ep; exists = subst (λ x. IsNumber x n) b.specs g.number; free = g.free }, tt);
-        ins = let i = subst (λ k. count_in ps' k + 1 ≡ count_in ps k) ep g.ins in omega (arith, i, b.in_pool);
-        specs = g.specs ∙ b.specs;
-        buffers = g.buffers ∙ b.buffers;
-        source = subst (Linked (header_at ps') (header_at ps (numbered h)).next) (sym s.next) (subst (λ m. Linked (header_at ps') m s.rest) next links.1);
-        there = let a = ap length g.specs in omega (arith, b.there, a, length_specs ps, length_specs ps');
+        whole = rw push g.whole;
+        links = rw push (g.segment, tt);
+        last_is = rw push;
+        each = (record { of_pool = ep; exists = rw b.specs at g.number; free = g.free }, tt);
+        ins = omega (arith, rw ep at g.ins, b.in_pool);
+        specs = rw g.specs b.specs;
+        buffers = rw g.buffers b.buffers;
+        source = rw (s.next, ← next) links.1;
+        there = omega (arith, b.there, ap length g.specs, length_specs ps, length_specs ps');
       }
 
-  module _ (ps : List PoolView) (first last from : Number) (i : ℕ) (c : Cloning ps v h p pool first last from i) (below : i < segs) where
+  module _ {ps : List PoolView} {first last from : Number} {i : ℕ} (c : Cloning ps v h p pool first last from i) (below : i < segs) where
     b : i < length p
-    b = omega (arith, below, o.segs_are)
+    b = omega arith
 
     abbrev made : Packet
     made = cloned c.numbers p
 
     many : length (cloned c.numbers p) ≡ i
-    many = let n = c.count in length_cloned c.numbers p (omega (arith, n, b)) ∙ n
+    many = rw (length_cloned c.numbers p (omega (arith, b))) c.count
 
     pub step_can : CanClone ps from pool
     step_can =
-        let n = c.ins in
-        can_clone_at ps made v h p from i pool c.whole (omega (arith, many, b, few)) has b c.source c.there (omega (arith, n, b, o.enough))
+        can_clone_at ps made v h p from i pool c.whole (omega (arith, many, b, few)) has b c.source c.there (omega (arith, b))
 
     pub step_last : (ps1 : List PoolView) (n : Number) → Cloned ps from n ps1 → HasObject ps1 last
     step_last ps1 n k =
         let s = source_at ps made v h p from i c.whole has b c.source in
         let g = grown_clone ps ps1 made v.slots from n s.seg c.whole k s.segment s.refs s.lies in
-        let some = c.some in
-        let in_made = last_of_links (header_at ps) first made (omega (arith, many, some)) c.links in
-        subst (HasObject ps1) (sym c.last_is)
+        let in_made = last_of_links (header_at ps) first made (omega (arith, many)) c.links in
+        rw c.last_is
         (object_of ps1 (last_mbuf first made) (all_at (IsNumber (specs_of ps1)) (made
         ++ segments_held v.slots) (last_mbuf first made) g.whole.counted.numbers.1
         (omega (arith, in_made, mbufs-append made (segments_held v.slots) (last_mbuf first made)))))
@@ -442,16 +413,12 @@ module _ (start : List PoolView) (v : Store) (h : ℕ) (p : Packet) (pool segs :
         let g = grown_clone ps ps1 made v.slots from n s.seg c.whole k s.segment s.refs s.lies in
         let none = g.nothing in
         let push : cloned (c.numbers ++ n ∷ []) p ≡ made ++ clone_at n s.seg ∷ [] =
-        cloned_push c.numbers p n s.seg s.rest (ap (λ j. drop j p) c.count ∙ s.is) in
+        cloned_push c.numbers p n s.seg s.rest (rw c.count s.is) in
         let whole1 = reordered ps1 (clone_at n s.seg) made v.slots g.whole in
         let links1 : Linked (header_at ps1) first made =
         linked_kept (header_at ps) (header_at ps1) first made (λ m q. g.others m (without made (segments_held v.slots) n m none (omega (arith, q)))) c.links in
-        let some = c.some in
-        let j = joined ps1 ps2 made (clone_at n s.seg ∷ []) v.slots first n whole1 (omega (arith, many, some)) links1 (
-          g.segment,
-          tt,
-        ) (subst (λ m. HeaderSet ps1 m (record (header_at ps1 m) { next = n }) ps2) c.last_is done) in
-        let in_made = last_of_links (header_at ps) first made (omega (arith, many, some)) c.links in
+        let j = joined ps1 ps2 made (clone_at n s.seg ∷ []) v.slots first n whole1 (omega (arith, many)) links1 (g.segment, tt) (rw c.last_is at done) in
+        let in_made = last_of_links (header_at ps) first made (omega (arith, many)) c.links in
         let once = c.whole.counted.once (last_mbuf first made) in
         let source1 : Linked (header_at ps2) from (s.seg ∷ s.rest) =
         linked_kept (header_at ps) (header_at ps2) from (s.seg ∷ s.rest)
@@ -459,83 +426,77 @@ module _ (start : List PoolView) (v : Store) (h : ℕ) (p : Packet) (pool segs :
         let d : same_number n m ≡ false = without made (segments_held v.slots) n m none (omega (arith, held)) in
         let x = g.others m d in
         ⊎_elim
-        (λ e. absurd (let l : last ≡ m = e in
-        let y : mbufs (segments_held v.slots) (last_mbuf first made) ≡ mbufs (segments_held v.slots) m =
-        ap (mbufs (segments_held v.slots)) (sym c.last_is ∙ l) in
-        omega (arith, y, held, once, in_made, mbufs-append made (segments_held v.slots) (last_mbuf first made))))
-        (λ o. let z = (alike (header_at ps2 m) (header_at ps1 m) (done.others m o)).link in
-        record { offset = z.offset ∙ x.offset; len = z.len ∙ x.len; next = z.next ∙ x.next; buffer = z.buffer ∙ x.buffer })
+        (λ e. absurd (omega (
+          arith,
+          ap (mbufs (segments_held v.slots)) (sym c.last_is ∙ e),
+          held,
+          once,
+          in_made,
+          mbufs-append made (segments_held v.slots) (last_mbuf first made),
+        )))
+        (λ o. rw (done.others m o) x)
         (same_or last m))
-        (subst (Linked (header_at ps) from) s.is c.source) in
+        (rw s.is at c.source) in
         let held_from = s.mbufs s.seg.mbuf (omega (arith, mbufs_first s.seg s.rest)) in
         let number : IsNumber (specs_of ps2) s.seg.mbuf =
         all_at (IsNumber (specs_of ps2)) (segments_held v.slots) s.seg.mbuf
-        (all_rest (λ t. IsNumber (specs_of ps2) t.mbuf) (made ++ clone_at n s.seg ∷ []) (segments_held v.slots) j.0.counted.numbers) held_from in
-        let e1 : length (c.numbers ++ n ∷ []) ≡ i + 1 = let a = c.count in omega (arith, a, length-append c.numbers (n ∷ [])) in (
-          subst (HasObject ps2) s.mbuf (object_of ps2 s.seg.mbuf number),
+        (all_right (λ t. IsNumber (specs_of ps2) t.mbuf) (made ++ clone_at n s.seg ∷ []) (segments_held v.slots) j.0.counted.numbers) held_from in
+        let e1 : length (c.numbers ++ n ∷ []) ≡ i + 1 = omega (arith, length-append c.numbers (n ∷ [])) in (
+          rw (← s.mbuf) (object_of ps2 s.seg.mbuf number),
           record {
             numbers = c.numbers ++ n ∷ [];
             count = e1;
             some = omega arith;
             below = omega (arith, b);
             few = few;
-            whole = subst (λ x. Whole ps2 x v.slots) (sym push) j.0;
-            links = subst (Linked (header_at ps2) first) (sym push) j.1;
-            last_is = sym (ap (last_mbuf first) push ∙ last_mbuf_is (clone_at n s.seg) first made);
+            whole = rw push j.0;
+            links = rw push j.1;
+            last_is = rw (push, last_mbuf_is (clone_at n s.seg) first made);
             each = all_join (IsFresh v.pools (segments_of v) pool) c.numbers (n ∷ []) c.each
-                (record { of_pool = ep; exists = subst (λ x. IsNumber x n) c.specs g.number; free = g.free }, tt);
-            ins = let a = subst (λ y. count_in ps1 y + 1 ≡ count_in ps y) ep g.ins in let d = done.ins pool in let o = c.ins in omega (arith, a, d, o);
-            specs = done.specs ∙ (g.specs ∙ c.specs);
-            buffers = done.buffers ∙ (g.buffers ∙ c.buffers);
-            source = subst (Linked (header_at ps2) (header_at ps2 from).next) (sym s.next) source1.1;
-            there = let a = ap length (done.specs ∙ g.specs) in let t = c.there in omega (arith, t, a, length_specs ps, length_specs ps2);
+                (record { of_pool = ep; exists = rw c.specs at g.number; free = g.free }, tt);
+            ins = omega (arith, rw ep at g.ins, done.ins pool);
+            specs = rw (done.specs, g.specs) c.specs;
+            buffers = rw (done.buffers, g.buffers) c.buffers;
+            source = rw s.next source1.1;
+            there = omega (arith, ap length (rw g.specs at done.specs), length_specs ps, length_specs ps2);
           },
         )
 
-  module _ (ps : List PoolView) (first last from : Number) (i : ℕ) (c : Cloning ps v h p pool first last from i) (ends : segs ≤ i) where
+  module _ {ps : List PoolView} {first last from : Number} {i : ℕ} (c : Cloning ps v h p pool first last from i) (ends : segs ≤ i) where
     all : length p ≤ i
-    all = omega (arith, ends, o.segs_are)
+    all = omega arith
 
     pub end_object : HasObject ps first
     end_object =
-        let n = c.count in
-        let b = c.below in
-        let some = c.some in
-        let l : length (cloned c.numbers p) ≡ i = length_cloned c.numbers p (omega (arith, n, b)) ∙ n in
-        let f = first_in (header_at ps) first (cloned c.numbers p) (omega (arith, l, some)) c.links in
+        let l : length (cloned c.numbers p) ≡ i = rw (length_cloned c.numbers p (omega arith)) c.count in
+        let f = first_in (header_at ps) first (cloned c.numbers p) (omega arith) c.links in
         object_of ps first (all_at (IsNumber (specs_of ps)) (cloned c.numbers p) first
-        (all_front (λ t. IsNumber (specs_of ps) t.mbuf) (cloned c.numbers p) (segments_held v.slots) c.whole.counted.numbers) f)
+        (all_left (λ t. IsNumber (specs_of ps) t.mbuf) (cloned c.numbers p) (segments_held v.slots) c.whole.counted.numbers) f)
 
     pub end_done : (ps' : List PoolView) (r : ℕ) → r ≡ handle first →
         HeaderSet ps first (record (header_at ps first) { segs = segs; last = last }) ps' →
         Sound ps' × Gives v pool (length p) (λ ns. cloned ns p) (λ ns old new. new ≡ old) (shown ps') (Some r)
     end_done ps' r er done =
-        let n = c.count in
-        let b = c.below in
-        let some = c.some in
-        let l : length (cloned c.numbers p) ≡ i = length_cloned c.numbers p (omega (arith, n, b)) ∙ n in
+        let l : length (cloned c.numbers p) ≡ i = rw (length_cloned c.numbers p (omega arith)) c.count in
         let k = first_set ps ps' v.slots first (cloned c.numbers p) (record (header_at ps first) { segs = segs; last = last }) c.whole c.links
-        (omega (arith, l, some)) (omega (arith, l, b, few)) done (omega (arith, o.segs_are, l, b, all)) c.last_is refl
+        (omega arith) (omega (arith, few)) done (omega (arith, all)) c.last_is refl
         (record { offset = refl; len = refl; next = refl; buffer = refl }) in
         let d = settled ps' (set v.slots (handle first) (Some (cloned c.numbers p))) k.0 in
-        let there : handle first < length v.slots =
-        let m = c.whole.shows.many in
-        let s = number_small ps first c.whole.are end_object in
-        omega (arith, m, s.2) in (
+        let there : handle first < length v.slots = omega (arith, c.whole.shows.many, (number_small ps first c.whole.are end_object).2) in (
           d.0,
-          subst (λ x. Gives v pool (length p) (λ ns. cloned ns p) (λ ns old new. new ≡ old) (shown ps') (Some x)) (sym er) (
+          rw er (
             o.enough,
-            slice_get-get_or v.slots (handle first) None there ∙ ap Some k.1,
+            rw (slice_get-get_or v.slots (handle first) None there) (rw k.1),
             c.numbers,
             v.buffers,
             record {
-              count = omega (arith, n, b, all);
-              distinct = distinct c.numbers p (omega (arith, n, b)) (λ m. let o = c.whole.counted.once m in
-                  omega (arith, o, mbufs-append (cloned c.numbers p) (segments_held v.slots) m));
+              count = omega (arith, all);
+              distinct = distinct c.numbers p (omega arith) (λ m.
+                  omega (arith, c.whole.counted.once m, mbufs-append (cloned c.numbers p) (segments_held v.slots) m));
               each = c.each;
             },
             refl,
-            store_eq (shown ps') (record v { buffers = v.buffers; slots = slice_set v.slots (handle first) (Some (cloned c.numbers p)) }) (done.specs
-                ∙ c.specs) (done.buffers ∙ c.buffers) d.1,
+            store_eq (shown ps') (record v { buffers = v.buffers; slots = slice_set v.slots (handle first) (Some (cloned c.numbers p)) })
+                (rw done.specs c.specs) (rw done.buffers c.buffers) d.1,
           ),
         )

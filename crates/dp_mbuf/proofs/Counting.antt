@@ -1,5 +1,5 @@
 -- Counts over segments, and what holds of all of them, when one slot changes.
-use Rattle.std.proofs.Common.{◌≡◌, ◌≢◌, ℕ, zero, suc, ◌+◌, ◌<◌, ◌≤◌, Bool, true, false, cond, List, [], ◌∷◌, ◌++◌, length, Option, Some, None, refl, ap}
+use Rattle.std.proofs.Common.{◌≡◌, ◌≢◌, ℕ, zero, suc, ◌+◌, ◌<◌, ◌≤◌, Bool, true, false, cond, List, [], ◌∷◌, ◌++◌, length, Option, Some, None, refl}
 use Rattle.std.proofs.Common.{arith, get_or, set}
 use Rattle.std.specs.Prelude.{count_by, ◌&&◌, not}
 use Rattle.std.specs.List.{AllByRecursion}
@@ -8,8 +8,11 @@ use Rattle.dp_model.specs.Buffers.{Number, same_number}
 use Rattle.dp_model.specs.Packets.{Segment, Packet, refs}
 use Rattle.dp_model.specs.Machine.{segments_held}
 use Rattle.dp_mbuf.specs.Mbufs.{mbufs, indirects}
-use Rattle.dp_mbuf.proofs.PoolLemmas.{one_if}
 use Rattle.dp_model.specs.Laws.Stored.{same_number_refl}
+use Rattle.dp_model.specs.Laws.Lists.{all_join, all_left, all_right}
+use Rattle.dp_model.specs.Laws.StepsWithin.{AllOf}
+use Rattle.dp_model.specs.Laws.Cases.{one_if}
+use Rattle.dp_model.specs.Laws.References.{refs-cons}
 
 module _ (f : Segment → Bool) where
   pub count-append : (xs ys : List Segment) → count_by f (xs ++ ys) ≡ count_by f xs + count_by f ys
@@ -32,43 +35,25 @@ module _ (f : Segment → Bool) where
   slot_counted [] i o h = absurd (omega arith)
   slot_counted (x ∷ slots) zero o h = omega (arith, held x slots, held o slots)
   slot_counted (x ∷ slots) (suc i) o h =
-      let r = slot_counted slots i o (omega arith) in
-      omega (arith, r, held x slots, held x (set slots i o))
+      omega (arith, slot_counted slots i o (omega arith), held x slots, held x (set slots i o))
 
   -- a slot's segments are among all of them
   pub slot_among : (slots : List (Option Packet)) (i : ℕ) → count_of (get_or slots i None) ≤ count_by f (segments_held slots)
   slot_among [] i = omega arith
   slot_among (x ∷ slots) zero = omega (arith, held x slots)
-  slot_among (x ∷ slots) (suc i) = let q = slot_among slots i in omega (arith, q, held x slots)
+  slot_among (x ∷ slots) (suc i) = omega (arith, slot_among slots i, held x slots)
 
   -- so are those of two slots
   pub slots_among : (slots : List (Option Packet)) (i j : ℕ) → i ≢ j →
       count_of (get_or slots i None) + count_of (get_or slots j None) ≤ count_by f (segments_held slots)
   slots_among [] i j ne = omega arith
   slots_among (x ∷ slots) zero zero ne = absurd (ne refl)
-  slots_among (x ∷ slots) zero (suc j) ne = let q = slot_among slots j in omega (arith, q, held x slots)
-  slots_among (x ∷ slots) (suc i) zero ne = let q = slot_among slots i in omega (arith, q, held x slots)
+  slots_among (x ∷ slots) zero (suc j) ne = omega (arith, slot_among slots j, held x slots)
+  slots_among (x ∷ slots) (suc i) zero ne = omega (arith, slot_among slots i, held x slots)
   slots_among (x ∷ slots) (suc i) (suc j) ne =
-      let q = slots_among slots i j (λ e. ne (ap suc e)) in omega (arith, q, held x slots)
+      omega (arith, slots_among slots i j (λ e. ne (omega arith)), held x slots)
 
 -- ---- what holds of all
-
-module _ {X : Type 0} (P : X → Type 0) where
-  pub all_join : (xs ys : List X) → AllByRecursion P xs → AllByRecursion P ys → AllByRecursion P (xs ++ ys)
-  all_join [] ys hx hy = hy
-  all_join (x ∷ xs) ys hx hy = (hx.0, all_join xs ys hx.1 hy)
-
-  pub all_front : (front rest : List X) → AllByRecursion P (front ++ rest) → AllByRecursion P front
-  all_front [] rest all = tt
-  all_front (x ∷ front) rest all = (all.0, all_front front rest all.1)
-
-  pub all_rest : (front rest : List X) → AllByRecursion P (front ++ rest) → AllByRecursion P rest
-  all_rest [] rest all = all
-  all_rest (x ∷ front) rest all = all_rest front rest all.1
-
-abbrev pub AllOf : (Segment → Type 0) → Option Packet → Type 0
-AllOf P None = Unit {0}
-AllOf P (Some k) = AllByRecursion P k
 
 module _ (P : Segment → Type 0) where
   all_held : (o : Option Packet) (slots : List (Option Packet)) → AllOf P o → AllByRecursion P (segments_held slots) →
@@ -78,11 +63,11 @@ module _ (P : Segment → Type 0) where
 
   held_first : (o : Option Packet) (slots : List (Option Packet)) → AllByRecursion P (segments_held (o ∷ slots)) → AllOf P o
   held_first None slots all = tt
-  held_first (Some k) slots all = all_front P k (segments_held slots) all
+  held_first (Some k) slots all = all_left P k (segments_held slots) all
 
   held_rest : (o : Option Packet) (slots : List (Option Packet)) → AllByRecursion P (segments_held (o ∷ slots)) → AllByRecursion P (segments_held slots)
   held_rest None slots all = all
-  held_rest (Some k) slots all = all_rest P k (segments_held slots) all
+  held_rest (Some k) slots all = all_right P k (segments_held slots) all
 
   pub all_slot : (slots : List (Option Packet)) (i : ℕ) → AllByRecursion P (segments_held slots) → AllOf P (get_or slots i None)
   all_slot [] i all = tt
@@ -101,9 +86,6 @@ module _ (P : Segment → Type 0) where
 pub mbufs-cons : (s : Segment) (ys : List Segment) (m : Number) → mbufs (s ∷ ys) m ≡ one_if (same_number s.mbuf m) + mbufs ys m
 mbufs-cons s ys m = count-cons (λ s. same_number s.mbuf m) s ys
 
-pub refs-cons : (s : Segment) (ys : List Segment) (m : Number) → refs (s ∷ ys) m ≡ one_if (same_number s.buffer m) + refs ys m
-refs-cons s ys m = count-cons (λ s. same_number s.buffer m) s ys
-
 pub indirects-cons : (s : Segment) (ys : List Segment) (m : Number) → indirects (s ∷ ys) m
     ≡ one_if (same_number s.mbuf m && not (same_number s.buffer m)) + indirects ys m
 indirects-cons s ys m = count-cons (λ s. same_number s.mbuf m && not (same_number s.buffer m)) s ys
@@ -112,7 +94,7 @@ pub mbufs-append : (xs ys : List Segment) (m : Number) → mbufs (xs ++ ys) m �
 mbufs-append xs ys m = count-append (λ s. same_number s.mbuf m) xs ys
 
 pub one_at : (n : Number) → one_if (same_number n n) ≡ 1
-one_at n = let one : ℕ = 1 in ap (λ b. cond b one 0) (same_number_refl n)
+one_at n = rw same_number_refl
 
 pub mbufs_first : (s : Segment) (ys : List Segment) → mbufs (s ∷ ys) s.mbuf ≡ suc (mbufs ys s.mbuf)
 mbufs_first s ys = omega (arith, one_at s.mbuf, mbufs-cons s ys s.mbuf)
@@ -153,5 +135,4 @@ each_count ss ss' e = record {
 pub into_slot : (slots : List (Option Packet)) (h : ℕ) (k : Packet) → h < length slots → get_or slots h None ≡ None →
     SameCounts (k ++ segments_held slots) (segments_held (set slots h (Some k)))
 into_slot slots h k b e =
-    each_count _ _ (λ f. let c = ap (count_of f) e in
-    omega (arith, c, slot_counted f slots h (Some k) b, count-append f k (segments_held slots)))
+    each_count _ _ (λ f. omega (arith, rw e at (slot_counted f slots h (Some k) b), count-append f k (segments_held slots)))

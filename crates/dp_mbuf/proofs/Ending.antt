@@ -1,5 +1,5 @@
 -- A packet that is one object of its own: no packet begins there any more, and the object goes back.
-use Rattle.std.proofs.Common.{◌≡◌, ℕ, ◌<◌, List, [], length, Option, Some, None, true, false, refl, sym, ◌∙◌, ap, subst, arith, ⊎_elim, get_or, set}
+use Rattle.std.proofs.Common.{◌≡◌, ℕ, ◌<◌, List, [], length, Option, Some, None, true, refl, arith, ⊎_elim, get_or, set}
 use Rattle.std.proofs.lemmas.List.{get_or-set_same, set-set}
 use Rattle.dp_model.specs.Buffers.{Number, same_number}
 use Rattle.dp_model.specs.Stores.{Store, IsLive, with_slot}
@@ -29,24 +29,20 @@ module _ (pools : List (Option PoolView)) (ps : List PoolView) (e : present pool
       let q : PoolView = with_written (pool_in ps n.pool) n.index 0 x in
       let middle : List (Option PoolView) = set pools n.pool (Some q) in
       let f = front_done pools ps e inv n n.pool n.index 0 x d (Some q) refl refl (small_word 0 (omega arith)) object (omega arith)
-      (subst (λ v. SlotBecomes (λ p. with_written p n.index 0 x) v (Some q)) (sym is) refl) in
+      (rw is) in
       let first : HeaderSet ps n (record (header_at ps n) { segs = 0 }) (present middle) =
       segs_done ps (present middle) n (object_long ps n (are pools ps e inv) object) x 0 refl f.1 in
-      let left : o ≡ Some (put_back q n.index) =
-      subst (λ v. SlotBecomes (λ p. put_back (with_written p n.index 0 x) n.index) v o) is b in
-      let g = give_done middle (present middle) refl f.0 n n.pool n.index d o refl refl (first.outs n ∙ out)
-      (subst (λ v. SlotBecomes (λ p. put_back p n.index) v o) (sym (get_or-set_same pools n.pool (Some q) d below)) left) in
-      subst (λ l. ArePoolSlots l × Ended ps n (present l)) (set-set pools n.pool (Some q) o)
+      let left : o ≡ Some (put_back q n.index) = rw is at b in
+      let g = give_done middle (present middle) refl f.0 n n.pool n.index d o refl refl (rw (first.outs n) out)
+      (rw (get_or-set_same pools n.pool (Some q) d below) left) in
+      rw (← set-set pools n.pool (Some q) o)
       (g.0, record { middle = present middle; first_cleared = first; given = g.1 })
 
   pub end_done : (n : Number) (k i : ℕ) (d o : Option PoolView) → k ≡ n.pool → i ≡ n.index → HasObject ps n → is_out ps n ≡ true
       → SlotBecomes (λ p. put_back (with_written p i 0 (then_word 0 [])) i) (get_or pools k d) o
       → ArePoolSlots (set pools k o) × Ended ps n (present (set pools k o))
   end_done n k i d o ek ei object out b =
-      subst (λ j. ArePoolSlots (set pools j o) × Ended ps n (present (set pools j o))) (sym ek)
-      (end_here n d o object out
-      (subst (λ j. SlotBecomes (λ p. put_back (with_written p j 0 (then_word 0 [])) j) (get_or pools n.pool d) o) ei
-      (subst (λ j. SlotBecomes (λ p. put_back (with_written p i 0 (then_word 0 [])) i) (get_or pools j d) o) ek b)))
+      rw ek (end_here n d o object out (rw (← ei, ← ek) b))
 
 -- ---- its segment is released
 
@@ -76,14 +72,14 @@ last_back ps ps' n g one = record {
     buffers = g.buffers;
     headers = λ m. alike (header_at ps' m) (header_at ps m) (g.headers m);
     outs = λ m o. ⊎_elim
-        (λ e. subst (λ j. is_out ps' j ≡ false) e g.here)
-        (λ d. g.others m d ∙ o)
+        (λ e. rw (← e) g.here)
+        (λ d. rw (g.others m d) o)
         (same_or n m);
   };
-  refs = λ m d. ap (λ h. h.refs) (g.headers m);
+  refs = λ m d. rw (g.headers m);
   others = λ m d. g.others m d;
   last = λ o. g.here;
-  one_less = λ r o. absurd (omega (arith, o, one));
+  one_less = λ r o. absurd (omega arith);
 }
 
 pub live_out : (ps : List PoolView) (v : Store) (h : ℕ) → shown ps ≡ v → Sound ps → IsLive v h → is_out ps (numbered h) ≡ true
@@ -95,13 +91,13 @@ pub ended : (ps ps' : List PoolView) (v : Store) (h : ℕ) → shown ps ≡ v �
 ended ps ps' v h e sound live d one refs own =
     let n : Number = numbered h in
     let f = freeing_start ps d.middle v h e sound live d.first_cleared in
-    let its : (header_at d.middle n).buffer ≡ n = ap (λ x. x.buffer) d.first_cleared.here ∙ same_is (header_at ps n).buffer n own in
+    let its : (header_at d.middle n).buffer ≡ n = rw d.first_cleared.here (same_is (header_at ps n).buffer n own) in
     let r : Released d.middle n n ps' = record {
       middle = d.middle;
       mbuf = stays d.middle n d.first_cleared.are;
-      buffer = last_back d.middle ps' n d.given (ap (λ x. x.refs) d.first_cleared.here ∙ refs);
+      buffer = last_back d.middle ps' n d.given (rw d.first_cleared.here refs);
     } in
-    freed_only d.middle n n (header_at ps n).segs v h f one its ps' r
+    freed_only f one its ps' r
 
 pub ended_zones : (ps ps' : List PoolView) (n : Number) → Ended ps n ps' → zones_of ps' ≡ zones_of ps
-ended_zones ps ps' n d = d.given.zones ∙ d.first_cleared.zones
+ended_zones ps ps' n d = rw d.given.zones d.first_cleared.zones

@@ -1,16 +1,16 @@
 -- How a record's bytes fill segments.
-use Rattle.std.proofs.Common.{◌≡◌, ℕ, zero, suc, ◌+◌, ◌-◌, ◌/◌, ◌<◌, ◌≤◌, false, cond, List, [], ◌∷◌, ◌++◌, length, take, drop, refl, sym, ◌∙◌, ap, subst}
+use Rattle.std.proofs.Common.{◌≡◌, ℕ, zero, suc, ◌+◌, ◌-◌, ◌/◌, ◌<◌, ◌≤◌, false, List, [], ◌∷◌, ◌++◌, length, take, drop, refl}
 use Rattle.std.proofs.Common.{arith, ⊎_elim}
-use Rattle.std.specs.Prelude.{min, max, slice_range}
+use Rattle.std.specs.Prelude.{min, max}
 use Rattle.std.proofs.Math.Nat.{add-div_left, div-eq_of_lt}
 use Rattle.std.proofs.lemmas.Bool.{cases_lt}
 use Rattle.std.proofs.lemmas.List.{length-take-le, append_assoc, drop_at, take_at}
 use Rattle.dp_model.specs.Buffers.{Number, same_number, Buffers, bytes_of, written, overwritten}
 use Rattle.dp_model.specs.Packets.{Packet, refs, direct, received, segment_bytes, packet_bytes}
 use Rattle.dp_model.specs.Laws.Stored.{bytes_other, bytes_same, same_number_refl}
-use Rattle.dp_mbuf.proofs.PoolLemmas.{one_if}
 use Rattle.dp_mbuf.proofs.ObjectLemmas.{same_or}
-use Rattle.dp_mbuf.proofs.Counting.{refs-cons}
+use Rattle.dp_model.specs.Laws.Cases.{one_if}
+use Rattle.dp_model.specs.Laws.References.{refs-cons}
 
 -- the segments of these numbers, as long as the bytes last
 abbrev pub filled : ℕ → List Number → ℕ → Packet
@@ -25,17 +25,17 @@ left full total (suc i) = left full (total - full) i
 pub left_more : (full total i : ℕ) → left full total (i + 1) ≡ left full total i - full
 left_more full total zero = refl
 left_more full total (suc i) =
-    let e : suc i + 1 ≡ suc (i + 1) = omega arith in ap (left full total) e ∙ left_more full (total - full) i
+    let e : suc i + 1 ≡ suc (i + 1) = omega arith in rw e (left_more full (total - full) i)
 
 pub filled_push : (full : ℕ) (numbers : List Number) (total : ℕ) (n : Number) → filled full (numbers ++ n ∷ []) total ≡ filled full numbers total
     ++ direct n 128 (min full (left full total (length numbers))) ∷ []
 filled_push full [] total n = refl
 filled_push full (m ∷ numbers) total n =
-    ap (λ r. direct m 128 (min full total) ∷ r) (filled_push full numbers (total - full) n)
+    cc (filled_push full numbers (total - full) n)
 
 pub length_filled : (full : ℕ) (numbers : List Number) (total : ℕ) → length (filled full numbers total) ≡ length numbers
 length_filled full [] total = refl
-length_filled full (n ∷ numbers) total = ap suc (length_filled full numbers (total - full))
+length_filled full (n ∷ numbers) total = cc (length_filled full numbers (total - full))
 
 -- ---- how many segments are just enough
 
@@ -53,42 +53,40 @@ pub received_is : (room full : ℕ) (numbers : List Number) (total : ℕ) → fu
     ≡ received room numbers total
 received_is room full [] total e h = absurd h
 received_is room full (n ∷ []) total e h =
-    let m : min full total ≡ total = omega (arith, h) in ap (λ l. direct n 128 l ∷ []) m
+    let m : min full total ≡ total = omega (arith, h) in cc
 received_is room full (n ∷ k ∷ numbers) total e h =
     let m : min full total ≡ room - 128 = omega (arith, h.0, e) in
-    ap (λ l. direct n 128 l ∷ filled full (k ∷ numbers) (total - full)) m
-    ∙ ap (λ r. direct n 128 (room - 128) ∷ r)
-    (received_is room full (k ∷ numbers) (total - full) e h.1 ∙ ap (λ x. received room (k ∷ numbers) (total - x)) e)
+    cc (m, e, received_is room full (k ∷ numbers) (total - full) e h.1)
 
 -- a positive number of bytes fills one part more than the bytes after the first do
 one_more : (full total : ℕ) → 1 ≤ full → 1 ≤ total → (total + (full - 1)) / full ≡ (total - 1) / full + 1
 one_more full total some more =
     let e : total + (full - 1) ≡ full + (total - 1) = omega arith in
-    ap (λ x. x / full) e ∙ add-div_left (total - 1) some
+    rw e (add-div_left (total - 1) some)
 
 pub needed_enough : (fuel full total : ℕ) → total ≤ fuel → 1 ≤ full → Enough full (max 1 ((total + (full - 1)) / full)) total
 needed_enough fuel full zero f some =
     let e : 0 + (full - 1) ≡ full - 1 = omega arith in
-    let z : (0 + (full - 1)) / full ≡ 0 = ap (λ x. x / full) e ∙ div-eq_of_lt (omega arith) in
+    let z : (0 + (full - 1)) / full ≡ 0 = rw e (div-eq_of_lt (omega arith)) in
     let m : 1 ≡ max 1 ((0 + (full - 1)) / full) = omega (arith, z) in
-    subst (λ n. Enough full n 0) m (omega arith)
+    rw (← m) (omega arith)
 needed_enough zero full (suc t) f some = absurd (omega arith)
 needed_enough (suc fuel) full (suc t) f some = ⊎_elim
     (λ over.
     let total' : ℕ = suc t - full in
     let r : ℕ = (total' - 1) / full in
     let e : suc t + (full - 1) ≡ full + (total' + (full - 1)) = omega arith in
-    let q : (suc t + (full - 1)) / full ≡ (total' + (full - 1)) / full + 1 = ap (λ x. x / full) e ∙ add-div_left (total' + (full - 1)) some in
+    let q : (suc t + (full - 1)) / full ≡ (total' + (full - 1)) / full + 1 = rw e (add-div_left (total' + (full - 1)) some) in
     let q' : (total' + (full - 1)) / full ≡ r + 1 = one_more full total' some (omega arith) in
     let m : suc (suc r) ≡ max 1 ((suc t + (full - 1)) / full) = omega (arith, q, q') in
     let m' : max 1 ((total' + (full - 1)) / full) ≡ suc r = omega (arith, q') in
-    subst (λ n. Enough full n (suc t)) m
-    (over, subst (λ n. Enough full n total') m' (needed_enough fuel full total' (omega arith) some)))
+    let more : total' ≤ fuel = omega arith in
+    rw (← m) (over, rw m' at (needed_enough fuel full total' more some)))
     (λ under.
     let q = one_more full (suc t) some (omega arith) in
     let z : (suc t - 1) / full ≡ 0 = div-eq_of_lt (omega arith) in
     let m : 1 ≡ max 1 ((suc t + (full - 1)) / full) = omega (arith, q, z) in
-    subst (λ n. Enough full n (suc t)) m under)
+    rw (← m) under)
     (cases_lt full (suc t))
 
 -- ---- bytes
@@ -99,14 +97,10 @@ pub bytes_stay : (buffers : Buffers) (n : Number) (at : ℕ) (new : List ℕ) (k
 bytes_stay buffers n at new [] z = refl
 bytes_stay buffers n at new (s ∷ k) z =
     let d : same_number n s.buffer ≡ false = ⊎_elim
-    (λ e. absurd (let t = ap (λ m. one_if (same_number m n)) e in
-    let o : one_if (same_number n n) ≡ 1 = let one : ℕ = 1 in ap (λ b. cond b one 0) (same_number_refl n) in
-    omega (arith, t, o, z, refs-cons s k n)))
+    (λ e. absurd (let o : one_if (same_number s.buffer n) ≡ 1 = rw (← e, same_number_refl) in omega (arith, z, refs-cons s k n)))
     (λ f. f)
     (same_or n s.buffer) in
-    ap (λ bs. slice_range bs s.offset (s.offset + s.len) ++ packet_bytes (written buffers n at new) k)
-    (bytes_other buffers n s.buffer (overwritten (bytes_of buffers n) at new) d)
-    ∙ ap (λ r. segment_bytes buffers s ++ r) (bytes_stay buffers n at new k (omega (arith, z, refs-cons s k n)))
+    rw (bytes_other buffers n s.buffer (overwritten (bytes_of buffers n) at new) d, bytes_stay buffers n at new k (omega (arith, z, refs-cons s k n)))
 
 -- the bytes of the segment that was written
 pub bytes_new : (buffers : Buffers) (n : Number) (at : ℕ) (new : List ℕ) → 0 < length (bytes_of buffers n) → at + length new ≤ length (bytes_of buffers n) →
@@ -115,13 +109,10 @@ bytes_new buffers n at new some fits =
     let old : List ℕ = bytes_of buffers n in
     let l : length (take at old) ≡ at = length-take-le at old (omega arith) in
     let e : at + length new - at ≡ length new = omega arith in
-    ap (λ bs. slice_range bs at (at + length new)) (bytes_same buffers n (overwritten old at new) some)
-    ∙ (ap (λ x. take (at + length new - at) x) (drop_at (take at old) (new ++ drop (at + length new) old) at l)
-    ∙ (ap (λ c. take c (new ++ drop (at + length new) old)) e
-    ∙ take_at new (drop (at + length new) old) (length new) refl))
+    rw (bytes_same buffers n (overwritten old at new) some, drop_at (take at old) (new ++ drop (at + length new) old) at l, e)
+    (take_at new (drop (at + length new) old) (length new) refl)
 
 pub packet_append : (buffers : Buffers) (k j : Packet) → packet_bytes buffers (k ++ j) ≡ packet_bytes buffers k ++ packet_bytes buffers j
 packet_append buffers [] j = refl
 packet_append buffers (s ∷ k) j =
-    ap (λ r. segment_bytes buffers s ++ r) (packet_append buffers k j)
-    ∙ sym (append_assoc (segment_bytes buffers s) (packet_bytes buffers k) (packet_bytes buffers j))
+    simp (packet_append buffers k j, append_assoc)

@@ -1,7 +1,6 @@
 -- What the headers show when one packet changes and all others stay.
-use Rattle.std.proofs.Common.{◌≡◌, ◌≢◌, ℕ, zero, suc, ◌+◌, ◌*◌, ◌<◌, ◌≤◌, true, false, List, length, Option, Some, None, refl, sym, ◌∙◌, ap, subst, arith}
+use Rattle.std.proofs.Common.{◌≡◌, ◌≢◌, ℕ, zero, suc, ◌+◌, ◌*◌, ◌<◌, ◌≤◌, true, false, List, length, Option, Some, None, refl, ap, arith}
 use Rattle.std.proofs.Common.{⊎_elim, get_or, set}
-use Rattle.std.specs.Prelude.{if◌then◌else◌}
 use Rattle.std.specs.List.{AllByRecursion}
 use Rattle.std.proofs.lemmas.Bool.{cases_eq}
 use Rattle.std.proofs.lemmas.List.{length-set, get_or-set_other, get_or-set_same, ext_get_or}
@@ -11,7 +10,7 @@ use Rattle.dp_model.specs.Machine.{segments_held}
 use Rattle.dp_pool.specs.Pools.{PoolView}
 use Rattle.dp_mbuf.specs.Objects.{header_at, is_out, specs_of, HasObject, ArePools}
 use Rattle.dp_mbuf.specs.Steps.{Alike}
-use Rattle.dp_mbuf.specs.Mbufs.{handle, numbered, is_positive, walk, is_head, packet_at, slots_from, slots_of, mbufs, Stands, StandsAt, Shows, Counted}
+use Rattle.dp_mbuf.specs.Mbufs.{handle, numbered, is_positive, is_head, packet_at, slots_from, slots_of, mbufs, Stands, StandsAt, Shows, Counted}
 use Rattle.dp_mbuf.proofs.ObjectLemmas.{count_is, object_pool, length_specs}
 use Rattle.dp_mbuf.proofs.Counting.{count_of, slot_among, SameCounts}
 use Rattle.dp_mbuf.proofs.Links.{linked_kept, first_in, walk_is}
@@ -26,25 +25,24 @@ pub number_back : (n : Number) → n.index < 65536 → numbered (handle n) ≡ n
 number_back n b = number_path (numbered (handle n)) n (omega (arith, b)) (omega (arith, b))
 
 pub numbered_apart : (i j : ℕ) → i ≢ j → numbered i ≡ numbered j → ⊥
-numbered_apart i j ne e = ne (sym (handle_back i) ∙ (ap handle e ∙ handle_back j))
+numbered_apart i j ne e = ne (omega (arith, handle_back i, handle_back j, ap handle e))
 
 -- ---- numbers and objects
 
 pub object_of : (ps : List PoolView) (n : Number) → IsNumber (specs_of ps) n → HasObject ps n
-object_of ps n h = let e = count_is ps n.pool in omega (arith, h, e)
+object_of ps n h = omega (arith, count_is ps n.pool)
 
 pub number_of : (ps : List PoolView) (n : Number) → HasObject ps n → IsNumber (specs_of ps) n
-number_of ps n h = let e = count_is ps n.pool in omega (arith, h, e)
+number_of ps n h = omega (arith, count_is ps n.pool)
 
 pub number_small : (ps : List PoolView) (n : Number) → ArePools ps → HasObject ps n → (n.index < 65536) × (n.pool < length ps) × (handle n < 65536 * length ps)
 number_small ps n are h =
     let there : n.pool < length ps = object_pool ps n h in
-    let count = (are.rooms n.pool there).pool.count in
-    let small : n.index < 65536 = omega (arith, h, count) in
-    (small, there, omega (arith, small, there))
+    let small : n.index < 65536 = omega (arith, (are.rooms n.pool there).pool.count) in
+    (small, there, omega arith)
 
 pub same_length : (ps ps' : List PoolView) → specs_of ps' ≡ specs_of ps → length ps' ≡ length ps
-same_length ps ps' e = sym (length_specs ps') ∙ (ap length e ∙ length_specs ps)
+same_length ps ps' e = rw (← length_specs ps', e, length_specs ps)
 
 -- ---- what a slot shows
 
@@ -53,38 +51,31 @@ positive zero h = absurd (omega arith)
 positive (suc n) h = refl
 
 pub head_of : (ps : List PoolView) (n : Number) (k : Packet) → Stands ps n k → is_head ps n ≡ true
-head_of ps n k s =
-    ap is_positive s.segs ∙ positive (length k) s.some
+head_of ps n k s = rw s.segs (positive (length k) s.some)
 
 pub packet_is : (ps : List PoolView) (n : Number) (o : Option Packet) → StandsAt ps n o → packet_at ps n ≡ o
-packet_is ps n None e =
-    ap (λ b. if b then Some (walk (header_at ps) (header_at ps n).segs n) else None) e
-packet_is ps n (Some k) s =
-    ap (λ b. if b then Some (walk (header_at ps) (header_at ps n).segs n) else None) (head_of ps n k s)
-    ∙ (ap (λ j. Some (walk (header_at ps) j n)) s.segs ∙ ap Some (walk_is (header_at ps) n k s.links))
+packet_is ps n None e = rw e
+packet_is ps n (Some k) s = rw (head_of ps n k s, s.segs, walk_is (header_at ps) n k s.links)
 
 -- ---- the headers determine the slots
 
 length_from : (ps : List PoolView) (h k : ℕ) → length (slots_from ps h k) ≡ k
 length_from ps h zero = refl
-length_from ps h (suc k) = ap suc (length_from ps (suc h) k)
+length_from ps h (suc k) = cc (length_from ps (suc h) k)
 
 get_from : (ps : List PoolView) (h k i : ℕ) → i < k → get_or (slots_from ps h k) i None ≡ packet_at ps (numbered (h + i))
 get_from ps h zero i b = absurd (omega arith)
-get_from ps h (suc k) zero b = let e : h ≡ h + 0 = omega arith in ap (λ x. packet_at ps (numbered x)) e
+get_from ps h (suc k) zero b = let e : h + 0 ≡ h = omega arith in rw e
 get_from ps h (suc k) (suc i) b =
-    let e : suc h + i ≡ h + suc i = omega arith in
-    get_from ps (suc h) k i (omega arith) ∙ ap (λ x. packet_at ps (numbered x)) e
+    let e : h + suc i ≡ suc h + i = omega arith in rw e (get_from ps (suc h) k i (omega arith))
 
 pub same_slots : (ps : List PoolView) (slots : List (Option Packet)) → Shows ps slots → slots_of ps ≡ slots
 unfolding slots_of
 same_slots ps slots s =
     let l = length_from ps 0 (65536 * length ps) in
-    ext_get_or None (slots_of ps) slots (l ∙ sym s.many)
-    (λ i b. let c : i < 65536 * length ps = omega (arith, b, l) in
-    let z : 0 + i ≡ i = omega arith in
-    get_from ps 0 (65536 * length ps) i c
-    ∙ (ap (λ x. packet_at ps (numbered x)) z ∙ packet_is ps (numbered i) (get_or slots i None) (s.each i)))
+    ext_get_or None (slots_of ps) slots (rw (l, s.many))
+    (λ i b. let z : 0 + i ≡ i = omega arith in
+    rw (get_from ps 0 (65536 * length ps) i (omega arith), z) (packet_is ps (numbered i) (get_or slots i None) (s.each i)))
 
 -- ---- other packets stay
 
@@ -94,18 +85,17 @@ pub record Stays (ps ps' : List PoolView) (m : Number) : Type 0 where
   pub header : Alike (header_at ps' m) (header_at ps m)
 
 pub head_stays : (ps ps' : List PoolView) (m : Number) → Stays ps ps' m → is_head ps' m ≡ is_head ps m
-head_stays ps ps' m s =
-    ap is_positive s.header.segs
+head_stays ps ps' m s = rw s.header.segs
 
 pub stands_kept : (ps ps' : List PoolView) (n : Number) (k : Packet) → Stands ps n k → ((m : Number) → 1 ≤ mbufs k m → Stays ps ps' m) → Stands ps' n k
 stands_kept ps ps' n k s e =
     let here = e n (first_in (header_at ps) n k s.some s.links) in
     record {
-      out = here.out ∙ s.out;
+      out = rw here.out s.out;
       some = s.some;
       few = s.few;
-      segs = here.header.segs ∙ s.segs;
-      last = here.header.last ∙ s.last;
+      segs = rw here.header.segs s.segs;
+      last = rw here.header.last s.last;
       links = linked_kept (header_at ps) (header_at ps') n k (λ m q. (e m q).header.link) s.links;
     }
 
@@ -114,15 +104,15 @@ pub frame : (ps ps' : List PoolView) (slots : List (Option Packet)) → length p
     ((m : Number) → 1 ≤ mbufs (segments_held slots) m → Stays ps ps' m) →
     ((m : Number) → mbufs (segments_held slots) m ≡ 0 → is_head ps m ≡ false → is_head ps' m ≡ false) → Shows ps' slots
 frame ps ps' slots l s e none = record {
-  many = s.many ∙ sym (ap (λ x. 65536 * x) l);
+  many = rw l s.many;
   each = λ h. stays (numbered h) (get_or slots h None)
-      (λ m q. let a = slot_among (λ t. same_number t.mbuf m) slots h in e m (omega (arith, a, q)))
+      (λ m q. e m (omega (arith, slot_among (λ t. same_number t.mbuf m) slots h)))
       (s.each h);
 }
   where
     no_mbufs : (m : Number) (c : ℕ) → mbufs (segments_held slots) m ≡ c → is_head ps m ≡ false → is_head ps' m ≡ false
     no_mbufs m zero is f = none m is f
-    no_mbufs m (suc c) is f = head_stays ps ps' m (e m (omega (arith, is))) ∙ f
+    no_mbufs m (suc c) is f = rw (head_stays ps ps' m (e m (omega arith))) f
 
     stays : (n : Number) (o : Option Packet) → ((m : Number) → 1 ≤ count_of (λ t. same_number t.mbuf m) o → Stays ps ps' m) → StandsAt ps n o → StandsAt ps' n o
     stays n None among f = no_mbufs n (mbufs (segments_held slots) n) refl f
@@ -133,11 +123,10 @@ pub slot_frame : (ps ps' : List PoolView) (slots : List (Option Packet)) (h : �
     h < length slots → ((i : ℕ) → i ≢ h → (m : Number) → 1 ≤ count_of (λ t. same_number t.mbuf m) (get_or slots i None) → Stays ps ps' m) →
     ((i : ℕ) → i ≢ h → is_head ps (numbered i) ≡ false → is_head ps' (numbered i) ≡ false) → StandsAt ps' (numbered h) o → Shows ps' (set slots h o)
 slot_frame ps ps' slots h o l s b others none here = record {
-  many = length-set slots h o ∙ (s.many ∙ sym (ap (λ x. 65536 * x) l));
+  many = rw (length-set, l) s.many;
   each = λ i. ⊎_elim
-      (λ e. subst (λ j. StandsAt ps' (numbered j) (get_or (set slots h o) j None)) (sym e)
-      (subst (StandsAt ps' (numbered h)) (sym (get_or-set_same slots h o None b)) here))
-      (λ ne. subst (StandsAt ps' (numbered i)) (sym (get_or-set_other slots h i o None ne))
+      (λ e. rw e (rw (get_or-set_same slots h o None b) here))
+      (λ ne. rw (get_or-set_other slots h i o None ne)
       (stays i (get_or slots i None) (others i ne) (none i ne) (s.each i)))
       (cases_eq i h);
 }
@@ -154,11 +143,9 @@ pub counted_same : (ps ps' : List PoolView) (ss ss' : List Segment) → Counted 
     AllByRecursion (λ s. IsNumber (specs_of ps) s.mbuf) ss' → AllByRecursion (Lies (specs_of ps)) ss' → Counted ps' ss'
 counted_same ps ps' ss ss' c e specs outs stored numbers lie = record {
   once = λ n. omega (arith, e.mbufs n, c.once n);
-  direct = λ n q. e.refs n ∙ c.direct n (omega (arith, e.indirects n, q));
-  numbers = subst (λ x. AllByRecursion (λ s. IsNumber x s.mbuf) ss') (sym specs) numbers;
-  lie = subst (λ x. AllByRecursion (Lies x) ss') (sym specs) lie;
-  stored = λ b q. stored b (omega (arith, e.refs b, q)) ∙ (c.stored b (omega (arith, e.refs b, q)) ∙ sym (e.refs b));
-  out = λ n h. outs n
-      ∙ (c.out n (subst (λ x. IsNumber x n) specs h)
-      ∙ (ap (λ x. is_positive (x + refs ss n)) (sym (e.mbufs n)) ∙ ap (λ x. is_positive (mbufs ss' n + x)) (sym (e.refs n))));
+  direct = λ n q. rw (e.refs n) (c.direct n (omega (arith, e.indirects n)));
+  numbers = rw specs numbers;
+  lie = rw specs lie;
+  stored = λ b q. let some : 1 ≤ refs ss b = omega (arith, e.refs b) in rw (stored b some, e.refs b) (c.stored b some);
+  out = λ n h. rw (outs n, e.mbufs n, e.refs n) (c.out n (rw specs at h));
 }

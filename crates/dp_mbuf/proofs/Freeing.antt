@@ -1,5 +1,5 @@
 -- Freeing a packet, segment by segment.
-use Rattle.std.proofs.Common.{◌≡◌, ℕ, ◌+◌, ◌<◌, ◌≤◌, List, [], ◌∷◌, length, None, refl, sym, ◌∙◌, ap, subst, arith, set}
+use Rattle.std.proofs.Common.{◌≡◌, ℕ, ◌+◌, ◌<◌, ◌≤◌, List, [], ◌∷◌, length, None, refl, ap, arith, set}
 use Rattle.dp_model.specs.Buffers.{Number}
 use Rattle.dp_model.specs.Packets.{Packet}
 use Rattle.dp_model.specs.Stores.{Store, IsLive, with_slot}
@@ -19,14 +19,14 @@ freeing_start ps ps' v h e sound live done =
     (record { offset = refl; len = refl; next = refl; buffer = refl }) in
     record {
       rest = live.0;
-      left = let s = o.stands.segs in omega (arith, s);
-      whole = subst (λ s. Whole ps' live.0 (set s.slots h None)) e u.0;
+      left = omega (arith, o.stands.segs);
+      whole = rw (← e) u.0;
       links = u.1;
-      specs = done.specs ∙ ap (λ s. s.pools) e;
-      buffers = done.buffers ∙ ap (λ s. s.buffers) e;
+      specs = rw done.specs (ap (λ s. s.pools) e);
+      buffers = rw done.buffers (ap (λ s. s.buffers) e);
     }
 
-module _ (ps : List PoolView) (mbuf : Number) (i many : ℕ) (v : Store) (h : ℕ) (f : Freeing ps mbuf i many v h) where
+module _ {ps : List PoolView} {mbuf : Number} {i many : ℕ} {v : Store} {h : ℕ} (f : Freeing ps mbuf i many v h) where
   pub freeing_can : i < many → CanRelease ps mbuf (header_at ps mbuf).buffer
   freeing_can b = by f.rest f.left f.whole f.links
     where
@@ -42,14 +42,14 @@ module _ (ps : List PoolView) (mbuf : Number) (i many : ℕ) (v : Store) (h : �
       by : (rest : Packet) → length rest + i ≡ many → Whole ps rest (set v.slots h None) → Linked (header_at ps) mbuf rest → Freeing ps' next (i + 1) many v h
       by [] e w l = absurd (omega (arith, e, b))
       by (s ∷ rest) e w l =
-          let d = release_done ps ps' (set v.slots h None) mbuf s rest w l r in
+          let (whole, links, specs, buffers) = release_done ps ps' (set v.slots h None) mbuf s rest w l r in
           record {
             rest = rest;
             left = omega (arith, e);
-            whole = d.0;
-            links = subst (λ m. Linked (header_at ps') m rest) (sym n) d.1;
-            specs = d.2 ∙ f.specs;
-            buffers = d.3 ∙ f.buffers;
+            whole = whole;
+            links = rw n links;
+            specs = rw specs f.specs;
+            buffers = rw buffers f.buffers;
           }
 
   pub freeing_end : many ≤ i → Sound ps × (shown ps ≡ with_slot h None v)
@@ -63,12 +63,11 @@ module _ (ps : List PoolView) (mbuf : Number) (i many : ℕ) (v : Store) (h : �
 
 -- ---- a packet of one segment
 
-module _ (ps : List PoolView) (n b : Number) (many : ℕ) (v : Store) (h : ℕ) (f : Freeing ps n 0 many v h)
+module _ {ps : List PoolView} {n b : Number} {many : ℕ} {v : Store} {h : ℕ} (f : Freeing ps n 0 many v h)
     (one : many ≡ 1) (its : (header_at ps n).buffer ≡ b) where
   pub freeing_only : CanRelease ps n b
-  freeing_only = subst (λ b. CanRelease ps n b) its (freeing_can ps n 0 many v h f (omega (arith, one)))
+  freeing_only = rw (← its) (freeing_can f (omega arith))
 
   pub freed_only : (ps' : List PoolView) → Released ps n b ps' → Sound ps' × (shown ps' ≡ with_slot h None v)
   freed_only ps' r =
-      freeing_end ps' (header_at ps n).next 1 many v h (freeing_step ps n 0 many v h f ps' (header_at ps n).next (omega (arith, one))
-      (subst (λ b. Released ps n b ps') (sym its) r) refl) (omega (arith, one))
+      freeing_end (freeing_step f ps' (header_at ps n).next (omega arith) (rw its r) refl) (omega arith)

@@ -1,17 +1,18 @@
 -- Writing one field of a header keeps the others.
-use Rattle.std.proofs.Common.{◌≡◌, ℕ, zero, suc, ◌+◌, ◌-◌, ◌/◌, ◌%◌, ◌<◌, ◌≤◌, ltb, List, [], ◌∷◌, ◌++◌, length, take, drop, refl, sym, ◌∙◌, ap, subst, arith}
-use Rattle.std.proofs.Common.{inl, inr, get_or, set}
+use Rattle.std.proofs.Common.{◌≡◌, ℕ, zero, suc, ◌+◌, ◌-◌, ◌/◌, ◌%◌, ◌<◌, ◌≤◌, List, [], ◌∷◌, ◌++◌, length, take, drop, refl, sym, ◌∙◌, ap, subst, arith}
+use Rattle.std.proofs.Common.{⊎_elim, get_or, set}
 use Rattle.std.specs.Int.{to_le_bytes, w32}
-use Rattle.std.proofs.lemmas.Bool.{ltb-true, ltb-false, cases_Bool}
+use Rattle.std.specs.List.{AllByRecursion}
+use Rattle.std.proofs.lemmas.Bool.{cases_lt}
 use Rattle.std.proofs.lemmas.List.{length-take-le, get_or_append_left, get_or-append_right, get_or-take, get_or-drop, ext_get_or}
 use Rattle.dp_model.specs.Buffers.{Number, overwritten}
 use Rattle.dp_mbuf.specs.declared.header.Header.{Header}
 use Rattle.dp_mbuf.specs.Headers.{header_of, header_bytes, word, mbuf_number, then_word}
 use Rattle.dp_pool.specs.Pools.{PoolView, object_in, with_written}
 use Rattle.dp_mbuf.specs.Objects.{pool_in, header_at, header_with, HasObject, ArePools, HeaderSet}
-use Rattle.dp_mbuf.proofs.PoolLemmas.{Small, length_overwritten}
+use Rattle.dp_mbuf.proofs.PoolLemmas.{Small}
 use Rattle.dp_mbuf.proofs.ObjectLemmas.{header_eq, header_back, word_back, mbuf_back, object_pool, object_long, front_set}
-use Rattle.dp_model.specs.Laws.Stored.{number_path}
+use Rattle.dp_model.specs.Laws.Stored.{number_path, length_overwritten}
 
 -- ---- bytes written over others
 
@@ -24,14 +25,12 @@ module _ (old : List ℕ) (at : ℕ) (new : List ℕ) (fits : at + length new �
 
   byte_before : (k : ℕ) → k < at → get_or (overwritten old at new) k 0 ≡ get_or old k 0
   byte_before k b =
-      let l = front in
-      get_or_append_left (take at old) (new ++ rest) 0 k (omega (arith, l, b)) ∙ get_or-take at old k 0 b
+      rw (get_or_append_left (take at old) (new ++ rest) 0 k (omega (arith, front))) (get_or-take at old k 0 b)
 
   byte_in : (i k : ℕ) → i ≡ at + k → k < length new → get_or (overwritten old at new) i 0 ≡ get_or new k 0
   byte_in i k e b =
       let d : i - at ≡ k = omega arith in
-      get_or-append_right (take at old) (new ++ rest) at i 0 front (omega arith)
-      ∙ (ap (λ j. get_or (new ++ rest) j 0) d ∙ get_or_append_left new rest 0 k b)
+      rw (get_or-append_right (take at old) (new ++ rest) at i 0 front (omega arith), d) (get_or_append_left new rest 0 k b)
 
   byte_after : (k : ℕ) → at + length new ≤ k → get_or (overwritten old at new) k 0 ≡ get_or old k 0
   byte_after k b =
@@ -63,14 +62,20 @@ two_small x rest b s zero = omega arith
 two_small x rest b s (suc zero) = omega (arith, b)
 two_small x rest b s (suc (suc k)) = s k
 
-none_small : Small []
-none_small k = omega arith
+-- numbers of two bytes each, one after the other
+abbrev pub words : List ℕ → List ℕ
+words [] = []
+words (x ∷ xs) = then_word x (words xs)
+
+pub small_all : (xs : List ℕ) → AllByRecursion (λ x. x < 65536) xs → Small (words xs)
+small_all [] all k = omega arith
+small_all (x ∷ xs) all k = two_small x (words xs) all.0 (small_all xs all.1) k
 
 pub small_word : (x : ℕ) → x < 65536 → Small (then_word x [])
-small_word x a = two_small x [] a none_small
+small_word x a = small_all (x ∷ []) (a, tt)
 
 pub small_words : (x y : ℕ) → x < 65536 → y < 65536 → Small (then_word x (then_word y []))
-small_words x y a b = two_small x (then_word y []) a (two_small y [] b none_small)
+small_words x y a b = small_all (x ∷ y ∷ []) (a, (b, tt))
 
 pub words_written : (o : List ℕ) (at x y : ℕ) → at + 4 ≤ length o → overwritten (overwritten o at (then_word x [])) (at + 2) (then_word y [])
     ≡ overwritten o at (then_word x (then_word y []))
@@ -81,41 +86,27 @@ words_written o at x y fits =
     let mid : List ℕ = overwritten o at a in
     let fits_a : at + length a ≤ length o = omega arith in
     let fits_both : at + length both ≤ length o = omega arith in
-    let long = length_overwritten o at a fits_a in
+    let long = length_overwritten o a at fits_a in
     let fits_b : at + 2 + length b ≤ length mid = omega (arith, long) in
-    let left = length_overwritten mid (at + 2) b fits_b in
-    let right = length_overwritten o at both fits_both in
-    ext_get_or 0 (overwritten mid (at + 2) b) (overwritten o at both) (left ∙ (long ∙ sym right)) (λ k h.
-    elim (cases_Bool (ltb k at)) [
-      | inl before ↦
-          let l = ltb-true k at before in
-          byte_before mid (at + 2) b fits_b k (omega (arith, l)) ∙ (byte_before o at a fits_a k l ∙ sym (byte_before o at both fits_both k l))
-      | inr past ↦
-          let g = ltb-false k at past in
-          elim (cases_Bool (ltb k (at + 2))) [
-            | inl first ↦
-                let l = ltb-true k (at + 2) first in
-                byte_before mid (at + 2) b fits_b k l
-                ∙ (byte_in o at a fits_a k (k - at) (omega (arith, g)) (omega (arith, l, g))
-                ∙ (sym (get_or_append_left a b 0 (k - at) (omega (arith, l, g)))
-                ∙ sym (byte_in o at both fits_both k (k - at) (omega (arith, g)) (omega (arith, l, g)))))
-            | inr more ↦
-                let m = ltb-false k (at + 2) more in
-                elim (cases_Bool (ltb k (at + 4))) [
-                  | inl second ↦
-                      let l = ltb-true k (at + 4) second in
-                      let d : k - at - 2 ≡ k - (at + 2) = omega (arith, m) in
-                      byte_in mid (at + 2) b fits_b k (k - (at + 2)) (omega (arith, m)) (omega (arith, l, m))
-                      ∙ (ap (λ j. get_or b j 0) (sym d)
-                      ∙ (sym (get_or-append_right a b 2 (k - at) 0 refl (omega (arith, m)))
-                      ∙ sym (byte_in o at both fits_both k (k - at) (omega (arith, g)) (omega (arith, l, g)))))
-                  | inr beyond ↦
-                      let f = ltb-false k (at + 4) beyond in
-                      byte_after mid (at + 2) b fits_b k (omega (arith, f))
-                      ∙ (byte_after o at a fits_a k (omega (arith, f)) ∙ sym (byte_after o at both fits_both k (omega (arith, f))))
-                ]
-          ]
-    ])
+    let left = length_overwritten mid b (at + 2) fits_b in
+    let right = length_overwritten o both at fits_both in
+    ext_get_or 0 (overwritten mid (at + 2) b) (overwritten o at both) (omega arith) (λ k h. ⊎_elim
+    (λ before. cc (byte_before mid (at + 2) b fits_b k (omega arith), byte_before o at a fits_a k before, byte_before o at both fits_both k before))
+    (λ past. ⊎_elim
+    (λ first. byte_before mid (at + 2) b fits_b k first
+    ∙ (byte_in o at a fits_a k (k - at) (omega arith) (omega arith)
+    ∙ (sym (get_or_append_left a b 0 (k - at) (omega arith)) ∙ sym (byte_in o at both fits_both k (k - at) (omega arith) (omega arith)))))
+    (λ more. ⊎_elim
+    (λ second. byte_in mid (at + 2) b fits_b k (k - at - 2) (omega arith) (omega arith)
+    ∙ (sym (get_or-append_right a b 2 (k - at) 0 refl (omega arith)) ∙ sym (byte_in o at both fits_both k (k - at) (omega arith) (omega arith))))
+    (λ beyond. cc (
+      byte_after mid (at + 2) b fits_b k (omega arith),
+      byte_after o at a fits_a k (omega arith),
+      byte_after o at both fits_both k (omega arith),
+    ))
+    (cases_lt k (at + 4)))
+    (cases_lt k (at + 2)))
+    (cases_lt k at))
 
 -- the four bytes of a count of references
 pub refs_bytes : (x : ℕ) → x < 4294967296 → to_le_bytes w32 x ≡ then_word (x % 65536) (then_word (x / 65536) [])
@@ -220,21 +211,21 @@ module _ (ps ps' : List PoolView) (n : Number) (long : 128 ≤ length (object_in
   pub next_done : (m : Number) (x y : ℕ) → x ≡ m.pool → y ≡ m.index → bytes ≡ then_word x (then_word y []) → HeaderSet ps n (header_with ps n 10 bytes) ps' →
       HeaderSet ps n (record (header_at ps n) { next = m }) ps'
   next_done m x y ex ey e =
-      written_is ps ps' n 10 bytes _ _
-      (e ∙ (ap (λ a. then_word a (then_word y [])) ex ∙ ap (λ b. then_word m.pool (then_word b [])) ey)) (next_written object long m)
+      let is : bytes ≡ then_word m.pool (then_word m.index []) = rw (e, ex, ey) in
+      written_is ps ps' n 10 bytes _ _ is (next_written object long m)
 
   pub last_done : (m : Number) (x y : ℕ) → x ≡ m.pool → y ≡ m.index → bytes ≡ then_word x (then_word y []) → HeaderSet ps n (header_with ps n 14 bytes) ps' →
       HeaderSet ps n (record (header_at ps n) { last = m }) ps'
   last_done m x y ex ey e =
-      written_is ps ps' n 14 bytes _ _
-      (e ∙ (ap (λ a. then_word a (then_word y [])) ex ∙ ap (λ b. then_word m.pool (then_word b [])) ey)) (last_written object long m)
+      let is : bytes ≡ then_word m.pool (then_word m.index []) = rw (e, ex, ey) in
+      written_is ps ps' n 14 bytes _ _ is (last_written object long m)
 
 pub header_set : (ps : List PoolView) (n : Number) (h : Header) → ArePools ps → HasObject ps n → Small (header_bytes h) →
     HeaderSet ps n h (set ps n.pool (with_written (pool_in ps n.pool) n.index 0 (header_bytes h)))
 header_set ps n h are object small =
     let bytes : List ℕ = header_bytes h in
-    let size = (are.rooms n.pool (object_pool ps n object)).header in
-    header_done ps _ n (object_long ps n are object) bytes h refl (front_set ps n 0 bytes are object small (omega arith) (omega (arith, size)))
+    header_done ps _ n (object_long ps n are object) bytes h refl
+    (front_set ps n 0 bytes are object small (omega arith) (omega (arith, (are.rooms n.pool (object_pool ps n object)).header)))
 
 -- two fields written, one after the other
 pub first_set_twice : (ps middle ps' : List PoolView) (n : Number) (s : ℕ) (l : Number) → HeaderSet ps n (record (header_at ps n) { segs = s }) middle →
@@ -243,11 +234,11 @@ first_set_twice ps middle ps' n s l a b =
     let f : Header → Header = λ h. record h { last = l } in
     record {
       are = b.are;
-      specs = b.specs ∙ a.specs;
-      zones = b.zones ∙ a.zones;
-      buffers = b.buffers ∙ a.buffers;
-      outs = λ m. b.outs m ∙ a.outs m;
-      ins = λ k. b.ins k ∙ a.ins k;
-      here = b.here ∙ ap f a.here;
-      others = λ m ne. b.others m ne ∙ a.others m ne;
+      specs = rw b.specs a.specs;
+      zones = rw b.zones a.zones;
+      buffers = rw b.buffers a.buffers;
+      outs = λ m. rw (b.outs m) (a.outs m);
+      ins = λ k. rw (b.ins k) (a.ins k);
+      here = rw b.here (ap f a.here);
+      others = λ m ne. rw (b.others m ne) (a.others m ne);
     }

@@ -1,10 +1,10 @@
 -- What the headers show of a live packet, and how a call changes the store.
-use Rattle.std.proofs.Common.{◌≡◌, ℕ, zero, suc, ◌+◌, ◌-◌, ◌<◌, ◌≤◌, List, [], ◌∷◌, ◌++◌, length, Option, Some, None, refl, sym, ◌∙◌, ap, subst, arith}
+use Rattle.std.proofs.Common.{◌≡◌, ℕ, zero, suc, ◌+◌, ◌-◌, ◌<◌, ◌≤◌, List, [], ◌∷◌, ◌++◌, length, Option, Some, None, refl, ◌∙◌, ap, arith}
 use Rattle.std.proofs.Common.{⊎_elim, get_or, set}
 use Rattle.std.specs.Prelude.{slice_set, replicate}
 use Rattle.std.specs.List.{AllByRecursion}
 use Rattle.std.proofs.lemmas.Bool.{cases_lt}
-use Rattle.std.proofs.lemmas.Option.{same_Some, get_or_from_slice_get}
+use Rattle.std.proofs.lemmas.Option.{get_or_from_slice_get}
 use Rattle.dp_model.specs.declared.env.PoolSpec.{PoolSpec}
 use Rattle.dp_model.specs.Environments.{room_at}
 use Rattle.dp_model.specs.Buffers.{Number, same_number, IsNumber, Buffers, written}
@@ -14,41 +14,38 @@ use Rattle.dp_model.specs.Stores.{Store, Has, HasSome, IsLive, Of, Becomes, unwr
 use Rattle.dp_mbuf.specs.declared.header.Header.{Header}
 use Rattle.dp_pool.specs.Pools.{PoolView}
 use Rattle.dp_mbuf.specs.Objects.{header_at, specs_of, buffers_of, HasObject, ArePools, HeaderSet}
-use Rattle.dp_mbuf.specs.Mbufs.{MbufsView, numbered, segment_at, slots_of, shown, mbufs, Linked, last_mbuf, Stands, StandsAt, Whole, Sound}
+use Rattle.dp_mbuf.specs.Mbufs.{MbufsView, numbered, segment_at, slots_of, shown, mbufs, last_mbuf, Stands, Whole, Sound}
 use Rattle.dp_mbuf.proofs.ObjectLemmas.{object_pool, room_is}
-use Rattle.dp_mbuf.proofs.Counting.{AllOf, all_slot, all_rest, slot_among, count_of}
+use Rattle.dp_mbuf.proofs.Counting.{all_slot, slot_among}
 use Rattle.dp_mbuf.proofs.Links.{first_in, linked_at}
 use Rattle.dp_mbuf.proofs.Frames.{object_of, same_slots}
 use Rattle.dp_mbuf.proofs.Edits.{all_at, edited}
+use Rattle.dp_model.specs.Laws.Lists.{all_right}
 
 -- ---- the store
 
 pub same_store : {a b : MbufsView} → a ≡ b → a.store ≡ b.store
-same_store e = ap (λ m. m.store) e
+same_store e = rw e
 
 pub same_zones : {a b : MbufsView} → a ≡ b → a.zones ≡ b.zones
-same_zones e = ap (λ m. m.zones) e
+same_zones e = rw e
 
 pub store_eq : (s t : Store) → s.pools ≡ t.pools → s.buffers ≡ t.buffers → s.slots ≡ t.slots → s ≡ t
-store_eq s t a b c =
-    let m : (x : List PoolSpec) (y : Buffers) (z : List (Option Packet)) → Store = λ x y z. record { pools = x; buffers = y; slots = z } in
-    ap (λ x. m x s.buffers s.slots) a ∙ (ap (λ y. m t.pools y s.slots) b ∙ ap (λ z. m t.pools t.buffers z) c)
+store_eq s t a b c = λ i. record { pools = a i; buffers = b i; slots = c i }
 
 pub has_same : (v : Store) (h : ℕ) (k j : Packet) → Has v h k → Has v h j → k ≡ j
-has_same v h k j a b =
-    let e : Some k ≡ Some j = same_Some (Some k) (Some j) (sym a ∙ b) in same_Some k j e
+has_same v h k j a b = cc
 
 -- the slots that the headers show determine everything
 pub settled : (ps : List PoolView) (slots : List (Option Packet)) → Whole ps [] slots → Sound ps × (slots_of ps ≡ slots)
 settled ps slots w =
-    let e = same_slots ps slots w.shows in
-    (subst (Whole ps []) (sym e) w, e)
+    let e = same_slots ps slots w.shows in (rw e w, e)
 
 -- the store after a call
 pub seen : (ps ps' : List PoolView) (v : Store) (buffers : Buffers) (slots : List (Option Packet)) → shown ps ≡ v → specs_of ps' ≡ specs_of ps →
     buffers_of ps' ≡ buffers → slots_of ps' ≡ slots → shown ps' ≡ record v { buffers = buffers; slots = slots }
 seen ps ps' v buffers slots e a b c =
-    store_eq (shown ps') (record v { buffers = buffers; slots = slots }) (a ∙ ap (λ s. s.pools) e) b c
+    store_eq (shown ps') (record v { buffers = buffers; slots = slots }) (rw (← e) a) b c
 
 -- ---- a live packet
 
@@ -74,22 +71,18 @@ rooms_small ps are j = ⊎_elim
 
 pub opened : (ps : List PoolView) (v : Store) (h : ℕ) (k : Packet) → shown ps ≡ v → Sound ps → Has v h k → Opened ps v h k
 opened ps v h k e sound has =
-    let slot : get_or (slots_of ps) h None ≡ Some k =
-    ap (λ s. get_or s.slots h None) e ∙ get_or_from_slice_get v.slots h (Some k) None has in
-    let stands : Stands ps (numbered h) k = subst (StandsAt ps (numbered h)) slot (sound.shows.each h) in
+    let slot : get_or (slots_of ps) h None ≡ Some k = get_or_from_slice_get (slots_of ps) h (Some k) None (rw (← e) at has) in
+    let stands : Stands ps (numbered h) k = rw slot at (sound.shows.each h) in
     let numbers : AllByRecursion (λ s. IsNumber (specs_of ps) s.mbuf) k =
-    subst (AllOf (λ s. IsNumber (specs_of ps) s.mbuf)) slot (all_slot (λ s. IsNumber (specs_of ps) s.mbuf) (slots_of ps) h sound.counted.numbers) in
+    rw slot at (all_slot (λ s. IsNumber (specs_of ps) s.mbuf) (slots_of ps) h sound.counted.numbers) in
     record {
       slot = slot;
       stands = stands;
       object = object_of ps (numbered h) (all_at (IsNumber (specs_of ps)) k (numbered h) numbers
           (first_in (header_at ps) (numbered h) k stands.some stands.links));
       numbers = numbers;
-      lie = subst (AllOf (Lies (specs_of ps))) slot (all_slot (Lies (specs_of ps)) (slots_of ps) h sound.counted.lie);
-      once = λ m. let c = ap (count_of (λ t. same_number t.mbuf m)) slot in
-          let a = slot_among (λ t. same_number t.mbuf m) (slots_of ps) h in
-          let o = sound.counted.once m in
-          omega (arith, c, a, o);
+      lie = rw slot at (all_slot (Lies (specs_of ps)) (slots_of ps) h sound.counted.lie);
+      once = λ m. omega (arith, rw slot at (slot_among (λ t. same_number t.mbuf m) (slots_of ps) h), sound.counted.once m);
       small = rooms_small ps sound.are;
     }
 
@@ -104,12 +97,12 @@ pub record First (ps : List PoolView) (h : ℕ) (k : Packet) : Type 0 where
   pub lies : Lies (specs_of ps) seg
 
 pub first_of : (ps : List PoolView) (v : Store) (h : ℕ) (k : Packet) → Opened ps v h k → First ps h k
-first_of ps v h [] o = absurd (let q = o.stands.some in omega (arith, q))
+first_of ps v h [] o = absurd (omega arith)
 first_of ps v h (s ∷ rest) o = record {
   seg = s;
   rest = rest;
   is = refl;
-  mbuf = sym (ap (λ x. x.mbuf) o.stands.links.0);
+  mbuf = rw (← o.stands.links.0);
   header = o.stands.links.0;
   lies = o.lie.0;
 }
@@ -126,7 +119,7 @@ last_of [] h = absurd (omega arith)
 last_of (s ∷ []) h = record { before = []; seg = s; is = refl }
 last_of (s ∷ t ∷ rest) h =
     let q = last_of (t ∷ rest) (omega arith) in
-    record { before = s ∷ q.before; seg = q.seg; is = ap (λ r. s ∷ r) q.is }
+    record { before = s ∷ q.before; seg = q.seg; is = cc }
 
 module _ (s : Segment) where
   pub last_len_is : (before : Packet) → last_len (before ++ s ∷ []) ≡ s.len
@@ -142,7 +135,7 @@ module _ (s : Segment) where
   pub at_end_is : (f : Segment → Segment) (before : Packet) → at_end f (before ++ s ∷ []) ≡ before ++ f s ∷ []
   at_end_is f [] = refl
   at_end_is f (a ∷ []) = refl
-  at_end_is f (a ∷ b ∷ before) = ap (λ r. a ∷ r) (at_end_is f (b ∷ before))
+  at_end_is f (a ∷ b ∷ before) = cc (at_end_is f (b ∷ before))
 
   pub zeroed_is : (n : ℕ) (before : Packet) (buffers : Buffers) → zeroed_after n (before ++ s ∷ []) buffers
       ≡ written buffers s.buffer (s.offset + s.len) (replicate n 0)
@@ -172,11 +165,10 @@ last_at ps v h k o =
       before = l.before;
       seg = l.seg;
       is = l.is;
-      mbuf = o.stands.last ∙ (ap (last_mbuf n) l.is ∙ last_mbuf_is l.seg n l.before);
-      header = linked_at (header_at ps) n l.before l.seg [] (subst (Linked (header_at ps) n) l.is o.stands.links);
-      object = object_of ps l.seg.mbuf (all_rest (λ s. IsNumber (specs_of ps) s.mbuf) l.before (l.seg ∷ [])
-          (subst (AllByRecursion (λ s. IsNumber (specs_of ps) s.mbuf)) l.is o.numbers)).0;
-      lies = (all_rest (Lies (specs_of ps)) l.before (l.seg ∷ []) (subst (AllByRecursion (Lies (specs_of ps))) l.is o.lie)).0;
+      mbuf = cc (o.stands.last, last_mbuf_is l.seg n l.before);
+      header = linked_at (header_at ps) n l.before l.seg [] (rw l.is at o.stands.links);
+      object = object_of ps l.seg.mbuf (all_right (λ s. IsNumber (specs_of ps) s.mbuf) l.before (l.seg ∷ []) (rw l.is at o.numbers)).0;
+      lies = (all_right (Lies (specs_of ps)) l.before (l.seg ∷ []) (rw l.is at o.lie)).0;
     }
 
 -- ---- an edit of the first or the last segment, as the store shows it
@@ -189,25 +181,17 @@ pub front_edited : (ps ps' : List PoolView) (h : ℕ) (s : Segment) (rest : Pack
     HeaderSet ps (numbered h) (moved (header_at ps (numbered h)) o l) ps' → f s ≡ record s { offset = o; len = l } → Lies (specs_of ps) (f s) →
     Sound ps' × (slots_of ps' ≡ set (slots_of ps) h (Some (f s ∷ rest)))
 front_edited ps ps' h s rest f o l sound slot mb is done ef lies =
-    let n : Number = numbered h in
-    let x : Header = moved (header_at ps n) o l in
-    let b : (header_at ps s.mbuf).buffer ≡ s.buffer = ap (λ m. (header_at ps m).buffer) mb ∙ ap (λ t. t.buffer) is in
-    let back : n ≡ s.mbuf = sym mb in
     settled ps' (set (slots_of ps) h (Some (f s ∷ rest)))
-    (edited ps ps' (slots_of ps) h [] s (f s) rest x sound slot (subst (λ m. HeaderSet ps m x ps') back done)
-    (ap (λ m. (header_at ps m).segs) back) (ap (λ m. (header_at ps m).last) back) (ap (λ m. (header_at ps m).refs) back) (ap (λ m. (header_at ps m).next) back)
-    (ap (λ t. t.buffer) is ∙ sym (ap (λ t. t.buffer) ef)) (sym (ap (λ t. t.offset) ef)) (sym (ap (λ t. t.len) ef)) (ap (λ t. t.mbuf) ef)
-    (ap (λ t. t.buffer) ef) lies)
+    (edited ps ps' (slots_of ps) h [] s (f s) rest (moved (header_at ps (numbered h)) o l) sound slot (rw mb done) (rw mb) (rw mb) (rw mb) (rw mb)
+    (rw (ef, ← is)) (rw ef) (rw ef) (rw ef) (rw ef) lies)
 
 pub end_edited : (ps ps' : List PoolView) (h : ℕ) (before : Packet) (s : Segment) (f : Segment → Segment) (o l : ℕ) → Sound ps → get_or (slots_of ps) h None
     ≡ Some (before ++ s ∷ []) → segment_at (header_at ps) s.mbuf ≡ s → HeaderSet ps s.mbuf (moved (header_at ps s.mbuf) o l) ps' →
     f s ≡ record s { offset = o; len = l } → Lies (specs_of ps) (f s) → Sound ps' × (slots_of ps' ≡ set (slots_of ps) h (Some (before ++ f s ∷ [])))
 end_edited ps ps' h before s f o l sound slot is done ef lies =
-    let x : Header = moved (header_at ps s.mbuf) o l in
     settled ps' (set (slots_of ps) h (Some (before ++ f s ∷ [])))
-    (edited ps ps' (slots_of ps) h before s (f s) [] x sound slot done refl refl refl refl
-    (ap (λ t. t.buffer) is ∙ sym (ap (λ t. t.buffer) ef)) (sym (ap (λ t. t.offset) ef)) (sym (ap (λ t. t.len) ef)) (ap (λ t. t.mbuf) ef)
-    (ap (λ t. t.buffer) ef) lies)
+    (edited ps ps' (slots_of ps) h before s (f s) [] (moved (header_at ps s.mbuf) o l) sound slot done refl refl refl refl (cc (ap (λ t. t.buffer) is)) (rw ef)
+    (rw ef) (rw ef) (rw ef) lies)
 
 -- ---- what readers answer
 
@@ -217,95 +201,70 @@ module _ (ps : List PoolView) (v : Store) (h : ℕ) (e : shown ps ≡ v) (sound 
 
   pub last_object : IsLive v h → HasObject ps (header_at ps (numbered h)).last
   last_object live =
-      let l = last_at ps v h live.0 (opened ps v h live.0 e sound live.1) in subst (HasObject ps) (sym l.mbuf) l.object
+      let l = last_at ps v h live.0 (opened ps v h live.0 e sound live.1) in rw l.mbuf l.object
 
   pub headroom_is : (x : Header) → x ≡ header_at ps (numbered h) → Of v h (λ k. x.offset ≡ headroom k)
   headroom_is x ex k has =
-      let f = first_of ps v h k (opened ps v h k e sound has) in
-      ap (λ y. y.offset) ex ∙ (ap (λ t. t.offset) f.header ∙ sym (ap headroom f.is))
+      let f = first_of ps v h k (opened ps v h k e sound has) in rw (ex, f.is) (ap (λ t. t.offset) f.header)
 
   pub first_len_is : (x : Header) → x ≡ header_at ps (numbered h) → Of v h (λ k. x.len ≡ first_len k)
   first_len_is x ex k has =
-      let f = first_of ps v h k (opened ps v h k e sound has) in
-      ap (λ y. y.len) ex ∙ (ap (λ t. t.len) f.header ∙ sym (ap first_len f.is))
+      let f = first_of ps v h k (opened ps v h k e sound has) in rw (ex, f.is) (ap (λ t. t.len) f.header)
 
   pub segments_is : (x : Header) → x ≡ header_at ps (numbered h) → Of v h (λ k. x.segs ≡ length k)
-  segments_is x ex k has = ap (λ y. y.segs) ex ∙ (opened ps v h k e sound has).stands.segs
+  segments_is x ex k has = rw ex (opened ps v h k e sound has).stands.segs
 
   abbrev last_header : Header
   last_header = header_at ps (header_at ps (numbered h)).last
 
   pub last_length_is : (x : Header) → x ≡ header_at ps (header_at ps (numbered h)).last → Of v h (λ k. x.len ≡ last_len k)
-  last_length_is x ex k has =
-      let l = last_at ps v h k (opened ps v h k e sound has) in
-      ap (λ y. y.len) ex
-      ∙ (ap (λ m. (header_at ps m).len) l.mbuf
-      ∙ (ap (λ t. t.len) l.header ∙ sym (ap last_len l.is ∙ last_len_is l.seg l.before)))
+  last_length_is x ex k has = by (last_at ps v h k (opened ps v h k e sound has))
+    where
+      by : LastAt ps h k → x.len ≡ last_len k
+      by l = rw (ex, l.mbuf, l.is, last_len_is l.seg l.before) (ap (λ t. t.len) l.header)
 
   pub last_room : IsLive v h → (x : Header) → x ≡ header_at ps (header_at ps (numbered h)).last →
       (x.buffer.pool < length ps) × (x.offset + x.len ≤ room_at (specs_of ps) x.buffer.pool)
   last_room live x ex =
       let l = last_at ps v h live.0 (opened ps v h live.0 e sound live.1) in
-      let b : x.buffer ≡ l.seg.buffer = ap (λ y. y.buffer) ex ∙ (ap (λ m. (header_at ps m).buffer) l.mbuf ∙ ap (λ s. s.buffer) l.header) in
-      let o : x.offset ≡ l.seg.offset = ap (λ y. y.offset) ex ∙ (ap (λ m. (header_at ps m).offset) l.mbuf ∙ ap (λ s. s.offset) l.header) in
-      let n : x.len ≡ l.seg.len = ap (λ y. y.len) ex ∙ (ap (λ m. (header_at ps m).len) l.mbuf ∙ ap (λ s. s.len) l.header) in (
-        subst (λ y. y.pool < length ps) (sym b) (object_pool ps l.seg.buffer (object_of ps l.seg.buffer l.lies.number)),
-        subst (λ y. x.offset + x.len ≤ room_at (specs_of ps) y.pool) (sym b) (let f = l.lies.fits in omega (arith, f, o, n)),
-      )
+      let lies : Lies (specs_of ps) (segment_at (header_at ps) (header_at ps (numbered h)).last) = rw (l.mbuf, l.header) l.lies in
+      rw ex (object_pool ps last_header.buffer (object_of ps last_header.buffer lies.number), lies.fits)
 
   pub tailroom_is_left : (x : Header) (room : ℕ) → x ≡ header_at ps (header_at ps (numbered h)).last → room ≡ room_at (specs_of ps) x.buffer.pool →
       Of v h (λ k. room - x.offset - x.len ≡ tailroom v.pools k)
   tailroom_is_left x room ex er k has =
       let l = last_at ps v h k (opened ps v h k e sound has) in
-      let lift : (g : Header → ℕ) → g x ≡ g (header_at ps l.seg.mbuf) = λ g. ap g ex ∙ ap (λ m. g (header_at ps m)) l.mbuf in
       let at : room_after (specs_of ps) (segment_at (header_at ps) l.seg.mbuf) ≡ tailroom v.pools k =
-      ap (room_after (specs_of ps)) l.header
-      ∙ (sym (ap (tailroom (specs_of ps)) l.is ∙ tailroom_is l.seg (specs_of ps) l.before)
-      ∙ ap (λ s. tailroom s.pools k) e) in
-      let ro = er ∙ lift (λ y. room_at (specs_of ps) y.buffer.pool) in
-      ap (λ r. r - x.offset - x.len) ro
-      ∙ (ap (λ o. room_at (specs_of ps) (header_at ps l.seg.mbuf).buffer.pool - o - x.len) (lift (λ y. y.offset))
-      ∙ (ap (λ n. room_at (specs_of ps) (header_at ps l.seg.mbuf).buffer.pool - (header_at ps l.seg.mbuf).offset - n) (lift (λ y. y.len)) ∙ at))
+      cc (l.is, l.header, tailroom_is l.seg (specs_of ps) l.before, ap (λ s. s.pools) e) in
+      rw (er, ex, l.mbuf) at
 
   -- ---- adj and trim
 
   pub first_fits : (x : Header) (n : ℕ) → x ≡ header_at ps (numbered h) → HasSome v h (λ k. n ≤ first_len k) →
       (n ≤ x.len) × (x.offset + x.len ≤ 4096) × HasObject ps (numbered h)
-  first_fits x n ex r =
-      let o = opened ps v h r.0 e sound r.1 in
-      let f = first_of ps v h r.0 o in
-      let l = first_len_is x ex r.0 r.1 in
-      let off : x.offset ≡ f.seg.offset = ap (λ y. y.offset) ex ∙ ap (λ t. t.offset) f.header in
-      let len : x.len ≡ f.seg.len = ap (λ y. y.len) ex ∙ ap (λ t. t.len) f.header in
-      let lies = f.lies.fits in
-      let small = o.small f.seg.buffer.pool in
-      let fit = r.2 in
-      (omega (arith, l, fit), omega (arith, off, len, lies, small), o.object)
+  first_fits x n ex (k, has, fit) =
+      let o = opened ps v h k e sound has in
+      let f = first_of ps v h k o in
+      let lies : Lies (specs_of ps) (segment_at (header_at ps) (numbered h)) = rw f.header f.lies in
+      (omega (arith, first_len_is x ex k has), rw ex (omega (arith, lies.fits, o.small (header_at ps (numbered h)).buffer.pool)), o.object)
 
   pub last_fits : (x : Header) (n : ℕ) → x ≡ header_at ps (header_at ps (numbered h)).last → HasSome v h (λ k. n ≤ last_len k) → n ≤ x.len
-  last_fits x n ex r = let l = last_length_is x ex r.0 r.1 in let fit = r.2 in omega (arith, l, fit)
+  last_fits x n ex (k, has, fit) = omega (arith, last_length_is x ex k has)
 
   pub adj_done : (ps' : List PoolView) (n : ℕ) → HasSome v h (λ k. n ≤ first_len k) →
       HeaderSet ps (numbered h) (moved (header_at ps (numbered h)) ((header_at ps (numbered h)).offset + n) ((header_at ps (numbered h)).len - n)) ps' →
       Sound ps' × Becomes v (shown ps') h (at_front (less_before n)) unwritten
-  adj_done ps' n r done =
+  adj_done ps' n (first, has_first, fit) done =
       let all : (k : Packet) → Has v h k → Sound ps' × (slots_of ps' ≡ set (slots_of ps) h (Some (at_front (less_before n) k))) =
       λ k has. let o = opened ps v h k e sound has in
       let f = first_of ps v h k o in
-      let off : (header_at ps (numbered h)).offset ≡ f.seg.offset = ap (λ t. t.offset) f.header in
-      let len : (header_at ps (numbered h)).len ≡ f.seg.len = ap (λ t. t.len) f.header in
-      let same : first_len r.0 ≡ f.seg.len = ap first_len (has_same v h r.0 k r.1 has ∙ f.is) in
-      let fit = r.2 in
-      let lies = f.lies.fits in
-      let d = front_edited ps ps' h f.seg f.rest (less_before n) ((header_at ps (numbered h)).offset + n) ((header_at ps (numbered h)).len - n) sound (o.slot
-      ∙ ap Some f.is) f.mbuf f.header done
-      (ap (λ x. record f.seg { offset = x + n; len = f.seg.len - n }) (sym off)
-      ∙ ap (λ x. record f.seg { offset = (header_at ps (numbered h)).offset + n; len = x - n }) (sym len))
-      (record { fits = omega (arith, lies, same, fit); number = f.lies.number }) in
-      (d.0, d.1 ∙ sym (ap (λ j. set (slots_of ps) h (Some (at_front (less_before n) j))) f.is)) in (
-        (all r.0 r.1).0,
-        λ k has. seen ps ps' v v.buffers (slice_set v.slots h (Some (at_front (less_before n) k))) e done.specs (done.buffers ∙ ap (λ s. s.buffers) e)
-            ((all k has).1 ∙ ap (λ s. set s.slots h (Some (at_front (less_before n) k))) e),
+      let same : first_len first ≡ f.seg.len = ap first_len (has_same v h first k has_first has ∙ f.is) in
+      let d = front_edited ps ps' h f.seg f.rest (less_before n) ((header_at ps (numbered h)).offset + n) ((header_at ps (numbered h)).len - n) sound
+      (rw f.is at o.slot) f.mbuf f.header done (rw (← f.header)) (record { fits = omega (arith, f.lies.fits); number = f.lies.number }) in
+      rw f.is d in (
+        (all first has_first).0,
+        λ k has. rw (← e) (seen ps ps' (shown ps) (buffers_of ps) (slice_set (slots_of ps) h (Some (at_front (less_before n) k))) refl done.specs done.buffers
+            (all k has).1),
       )
 
   pub trim_done : (ps' : List PoolView) (n : ℕ) → HasSome v h (λ k. n ≤ last_len k) →
@@ -315,18 +274,10 @@ module _ (ps : List PoolView) (v : Store) (h : ℕ) (e : shown ps ≡ v) (sound 
       let all : (k : Packet) → Has v h k → Sound ps' × (slots_of ps' ≡ set (slots_of ps) h (Some (at_end (less_after n) k))) =
       λ k has. let o = opened ps v h k e sound has in
       let l = last_at ps v h k o in
-      let done' : HeaderSet ps l.seg.mbuf (moved (header_at ps l.seg.mbuf) (header_at ps l.seg.mbuf).offset ((header_at ps l.seg.mbuf).len - n)) ps' =
-      subst (λ m. HeaderSet ps m (record (header_at ps m) { len = (header_at ps m).len - n }) ps') l.mbuf done in
-      let off : (header_at ps l.seg.mbuf).offset ≡ l.seg.offset = ap (λ t. t.offset) l.header in
-      let len : (header_at ps l.seg.mbuf).len ≡ l.seg.len = ap (λ t. t.len) l.header in
-      let lies = l.lies.fits in
-      let d = end_edited ps ps' h l.before l.seg (less_after n) (header_at ps l.seg.mbuf).offset ((header_at ps l.seg.mbuf).len - n) sound (o.slot
-      ∙ ap Some l.is) l.header done'
-      (ap (λ x. record l.seg { offset = x; len = l.seg.len - n }) (sym off)
-      ∙ ap (λ x. record l.seg { offset = (header_at ps l.seg.mbuf).offset; len = x - n }) (sym len))
-      (record { fits = omega (arith, lies); number = l.lies.number }) in
-      (d.0, d.1 ∙ ap (λ j. set (slots_of ps) h (Some j)) (sym (ap (at_end (less_after n)) l.is ∙ at_end_is l.seg (less_after n) l.before))) in (
+      let d = end_edited ps ps' h l.before l.seg (less_after n) (header_at ps l.seg.mbuf).offset ((header_at ps l.seg.mbuf).len - n) sound (rw l.is at o.slot)
+      l.header (rw l.mbuf at done) (rw (← l.header)) (record { fits = omega (arith, l.lies.fits); number = l.lies.number }) in
+      rw (l.is, at_end_is l.seg (less_after n) l.before) d in (
         (all r.0 r.1).0,
-        λ k has. seen ps ps' v v.buffers (slice_set v.slots h (Some (at_end (less_after n) k))) e done.specs (done.buffers ∙ ap (λ s. s.buffers) e)
-            ((all k has).1 ∙ ap (λ s. set s.slots h (Some (at_end (less_after n) k))) e),
+        λ k has. rw (← e) (seen ps ps' (shown ps) (buffers_of ps) (slice_set (slots_of ps) h (Some (at_end (less_after n) k))) refl done.specs done.buffers
+            (all k has).1),
       )

@@ -2,14 +2,13 @@
 use Rattle.std.specs.List.{AllByRecursion}
 use Rattle.std.specs.Prelude.{is_some, IsTrue}
 use Rattle.std.proofs.Common.{◌≡◌, ◌≢◌, ◌⊎◌, ℕ, zero, suc, ◌+◌, ◌-◌, ◌*◌, ◌/◌, ◌%◌, ◌<◌, ◌≤◌, Bool, true, false, List, [], ◌∷◌, ◌++◌, length, take, drop}
-use Rattle.std.proofs.Common.{rules, Option, Some, None, refl, sym, ◌∙◌, ap, subst, arith, inl, inr, ⊎_elim, get_or, set, map}
+use Rattle.std.proofs.Common.{rules, Option, Some, None, refl, sym, ◌∙◌, ap, arith, inl, inr, ⊎_elim, get_or, set, map}
 use Rattle.std.specs.Prelude.{count_by, not, slice_get}
 use Rattle.std.proofs.lemmas.Bool.{cases_eq, cases_Bool, eq-eqb, and_from}
 use Rattle.std.proofs.lemmas.List.{length-set, length-take-le, get_or-set_same, get_or-set_other, get_or_append_left, get_or-take, drop-drop, drop-take}
 use Rattle.std.proofs.lemmas.List.{drop-append-le, length-map, map-set}
 use Rattle.std.proofs.Math.Seq.{drop-append-add}
-use Rattle.std.proofs.lemmas.Option.{same_Some}
-use Rattle.dp_model.specs.declared.env.PoolSpec.{PoolSpec}
+use Rattle.std.proofs.lemmas.Option.{same_Some, slice_get_within}
 use Rattle.dp_model.specs.Environments.{room_at, count_at}
 use Rattle.dp_model.specs.Buffers.{Number, same_number, bytes_of, overwritten}
 use Rattle.dp_mbuf.specs.declared.header.Header.{Header}
@@ -17,8 +16,9 @@ use Rattle.dp_mbuf.specs.Headers.{header_of, header_bytes, word, mbuf_number}
 use Rattle.dp_pool.specs.Pools.{PoolView, object_in, with_written, got, put_back}
 use Rattle.dp_mbuf.specs.Objects.{present, no_pool, pool_in, header_at, header_with, is_out, count_in, spec_of, specs_of, rooms_of, buffers_of, zones_of}
 use Rattle.dp_mbuf.specs.Objects.{HasObject, HasRooms, PoolsFirst, ArePools, HeaderSet, RoomWritten, Taken, Given}
-use Rattle.dp_mbuf.proofs.PoolLemmas.{one_if, with_out, count_set, some_below, Small, pool_out, pool_written}
-use Rattle.dp_model.specs.Laws.Stored.{number_path, same_number_refl, same_is}
+use Rattle.dp_mbuf.proofs.PoolLemmas.{with_out, count_set, Small, pool_out, pool_written}
+use Rattle.dp_model.specs.Laws.Stored.{number_path, same_is}
+use Rattle.dp_model.specs.Laws.Cases.{one_if}
 
 -- ---- numbers
 
@@ -34,16 +34,7 @@ other_index n m f e i =
 
 pub header_eq : (g h : Header) → g.segs ≡ h.segs → g.refs ≡ h.refs → g.offset ≡ h.offset → g.len ≡ h.len → g.next ≡ h.next → g.last ≡ h.last →
     g.buffer ≡ h.buffer → g ≡ h
-header_eq g h a b c d e f i =
-    let m : (s r o l : ℕ) (x y z : Number) → Header =
-    λ s r o l x y z. record { segs = s; refs = r; offset = o; len = l; next = x; last = y; buffer = z } in
-    ap (λ s. m s g.refs g.offset g.len g.next g.last g.buffer) a
-    ∙ (ap (λ r. m h.segs r g.offset g.len g.next g.last g.buffer) b
-    ∙ (ap (λ o. m h.segs h.refs o g.len g.next g.last g.buffer) c
-    ∙ (ap (λ l. m h.segs h.refs h.offset l g.next g.last g.buffer) d
-    ∙ (ap (λ x. m h.segs h.refs h.offset h.len x g.last g.buffer) e
-    ∙ (ap (λ y. m h.segs h.refs h.offset h.len h.next y g.buffer) f
-    ∙ ap (λ z. m h.segs h.refs h.offset h.len h.next h.last z) i)))))
+header_eq g h a b c d e f z = λ i. record { segs = a i; refs = b i; offset = c i; len = d i; next = e i; last = f i; buffer = z i }
 
 pub word_back : (x : ℕ) → x % 256 + (x / 256) * 256 ≡ x
 word_back x = omega arith
@@ -80,15 +71,15 @@ map_get f (x ∷ xs) (suc i) d = map_get f xs i d
 
 pub map_kept : {V W : Type 0} (f : V → W) (xs : List V) (i : ℕ) (x d : V) → f x ≡ f (get_or xs i d) → map f (set xs i x) ≡ map f xs
 map_kept f [] i x d e = refl
-map_kept f (y ∷ xs) zero x d e = ap (λ z. z ∷ map f xs) e
-map_kept f (y ∷ xs) (suc i) x d e = ap (λ r. f y ∷ r) (map_kept f xs i x d e)
+map_kept f (y ∷ xs) zero x d e = rw e
+map_kept f (y ∷ xs) (suc i) x d e = rw (map_kept f xs i x d e)
 
 -- ---- what is first
 
 pub present_below : (pools : List (Option PoolView)) → length (present pools) ≤ length pools
 present_below [] = omega arith
 present_below (None ∷ pools) = omega arith
-present_below (Some p ∷ pools) = let q = present_below pools in omega (arith, q)
+present_below (Some p ∷ pools) = omega (arith, present_below pools)
 
 pub present_at : (pools : List (Option PoolView)) (k : ℕ) (d : Option PoolView) → k < length (present pools) →
     get_or pools k d ≡ Some (pool_in (present pools) k)
@@ -102,7 +93,7 @@ pub present_set : (pools : List (Option PoolView)) (k : ℕ) (p : PoolView) → 
 present_set [] k p h = absurd (omega arith)
 present_set (None ∷ pools) k p h = absurd (omega arith)
 present_set (Some q ∷ pools) zero p h = refl
-present_set (Some q ∷ pools) (suc k) p h = ap (λ ps. q ∷ ps) (present_set pools k p (omega arith))
+present_set (Some q ∷ pools) (suc k) p h = rw (present_set pools k p (omega arith))
 
 pub first_at : (pools : List (Option PoolView)) (k : ℕ) → PoolsFirst pools → k < length (present pools) → HasRooms (pool_in (present pools) k)
 first_at [] k f h = absurd (omega arith)
@@ -127,7 +118,7 @@ object_pool ps n h = below ps n.pool n.index h
     below : (ps : List PoolView) (k i : ℕ) → i < length (pool_in ps k).objects → k < length ps
     below [] k i h = absurd (omega arith)
     below (p ∷ ps) zero i h = omega arith
-    below (p ∷ ps) (suc k) i h = let q = below ps k i h in omega (arith, q)
+    below (p ∷ ps) (suc k) i h = omega (arith, below ps k i h)
 
 -- ---- writing into one pool
 
@@ -144,8 +135,8 @@ module _ (ps : List PoolView) (k : ℕ) (there : k < length ps) (p' : PoolView) 
   -- what the pool keeps, all pools keep
   pub field_kept : {X : Type 0} (g : PoolView → X) → g p' ≡ g (pool_in ps k) → (j : ℕ) → g (pool_in (set ps k p') j) ≡ g (pool_in ps j)
   field_kept g e j = ⊎_elim
-      (λ s. subst (λ i. g (pool_in (set ps k p') i) ≡ g (pool_in ps i)) (sym s) (ap g here ∙ e))
-      (λ ne. ap g (elsewhere j ne))
+      (λ s. rw s (rw here e))
+      (λ ne. rw (elsewhere j ne))
       (cases_eq j k)
 
   pub specs_kept : spec_of p' ≡ spec_of (pool_in ps k) → specs_of (set ps k p') ≡ specs_of ps
@@ -161,8 +152,8 @@ module _ (ps : List PoolView) (k : ℕ) (there : k < length ps) (p' : PoolView) 
   pools_kept a r = record {
     few = omega (arith, a.few, length-set ps k p');
     rooms = λ j h. ⊎_elim
-        (λ s. subst (λ i. HasRooms (pool_in (set ps k p') i)) (sym s) (subst HasRooms (sym here) r))
-        (λ ne. subst HasRooms (sym (elsewhere j ne)) (a.rooms j (omega (arith, h, length-set ps k p'))))
+        (λ s. rw s (rw here r))
+        (λ ne. rw (elsewhere j ne) (a.rooms j (omega (arith, length-set ps k p'))))
         (cases_eq j k);
   }
 
@@ -182,8 +173,7 @@ pub length_specs : (ps : List PoolView) → length (specs_of ps) ≡ length ps
 length_specs ps = length-map ps spec_of
 
 pub bytes_are : (ps : List PoolView) (n : Number) → bytes_of (buffers_of ps) n ≡ drop 128 (object_in (pool_in ps n.pool) n.index)
-bytes_are ps n =
-    ap (λ r. get_or r n.index []) (map_get rooms_of ps n.pool no_pool) ∙ map_get (drop 128) (pool_in ps n.pool).objects n.index []
+bytes_are ps n = rw (map_get rooms_of ps n.pool no_pool) (map_get (drop 128) (pool_in ps n.pool).objects n.index [])
 
 -- ---- writing into an object
 
@@ -214,9 +204,7 @@ module _ (ps : List PoolView) (n : Number) (are : ArePools ps) (object : HasObje
   are_written = pools_kept ps n.pool there (with_written p n.index at bytes) are rooms_written
 
   pub specs_written : specs_of written_pools ≡ specs_of ps
-  specs_written =
-      let f : ℕ → PoolSpec = λ c. record { count = c; cache = p.cache; room = p.size - 128 } in
-      specs_kept ps n.pool there (with_written p n.index at bytes) (ap f (length-set p.objects n.index now))
+  specs_written = specs_kept ps n.pool there (with_written p n.index at bytes) (rw length-set)
 
   pub zones_written : zones_of written_pools ≡ zones_of ps
   zones_written = zones_kept ps n.pool there (with_written p n.index at bytes) refl
@@ -229,17 +217,12 @@ module _ (ps : List PoolView) (n : Number) (are : ArePools ps) (object : HasObje
   ins_written k = field_kept ps n.pool there (with_written p n.index at bytes) (λ q. count_by not q.out) refl k
 
   pub object_written : object_in (pool_in written_pools n.pool) n.index ≡ now
-  object_written =
-      ap (λ q. object_in q n.index) (here ps n.pool there (with_written p n.index at bytes))
-      ∙ get_or-set_same p.objects n.index now [] object
+  object_written = rw (here ps n.pool there (with_written p n.index at bytes)) (get_or-set_same p.objects n.index now [] object)
 
   pub object_kept : (m : Number) → same_number n m ≡ false → object_in (pool_in written_pools m.pool) m.index ≡ object_in (pool_in ps m.pool) m.index
   object_kept m ne = ⊎_elim
-      (λ e. ap (λ k. object_in (pool_in written_pools k) m.index) (sym e)
-      ∙ (ap (λ q. object_in q m.index) (here ps n.pool there (with_written p n.index at bytes))
-      ∙ (get_or-set_other p.objects n.index m.index now [] (other_index n m ne e)
-      ∙ ap (λ k. object_in (pool_in ps k) m.index) e)))
-      (λ d. ap (λ q. object_in q m.index) (elsewhere ps n.pool there (with_written p n.index at bytes) m.pool (λ e. d (sym e))))
+      (λ e. rw (← e, here ps n.pool there (with_written p n.index at bytes)) (get_or-set_other p.objects n.index m.index now [] (other_index n m ne e)))
+      (λ d. rw (elsewhere ps n.pool there (with_written p n.index at bytes) m.pool (λ e. d cc)))
       (cases_eq n.pool m.pool)
 
 -- ---- setting a header
@@ -252,8 +235,7 @@ rest_kept old at new h long =
     let first : 128 ≡ length (take at old) + (length new + m) = omega arith in
     let all : at + length new + m ≡ 128 = omega arith in
     ap (λ i. drop i (overwritten old at new)) first
-    ∙ (drop-append-add (take at old) (new ++ rest) (length new + m)
-    ∙ (drop-append-add new rest m ∙ (drop-drop m (at + length new) old ∙ ap (λ i. drop i old) all)))
+    ∙ rw (drop-append-add (take at old) (new ++ rest) (length new + m), drop-append-add new rest m, drop-drop m (at + length new) old, all)
 
 pub object_long : (ps : List PoolView) (n : Number) → ArePools ps → HasObject ps n → 128 ≤ length (object_in (pool_in ps n.pool) n.index)
 object_long ps n are object =
@@ -274,8 +256,8 @@ front_set ps n at bytes are object small front fits =
           (map_kept (drop 128) p.objects n.index (overwritten old at bytes) [] (rest_kept old at bytes front (object_long ps n are object)));
       outs = outs_written ps n are object at bytes small fits;
       ins = ins_written ps n are object at bytes small fits;
-      here = ap header_of (object_written ps n are object at bytes small fits);
-      others = λ m ne. ap header_of (object_kept ps n are object at bytes small fits m ne);
+      here = rw (object_written ps n are object at bytes small fits);
+      others = λ m ne. rw (object_kept ps n are object at bytes small fits m ne);
     }
 
 -- ---- writing into a data room
@@ -284,17 +266,19 @@ head_kept : (old : List ℕ) (at : ℕ) (new : List ℕ) (k : ℕ) → 128 + at 
     ≡ get_or old k 0
 head_kept old at new k h b =
     let l : length (take (128 + at) old) ≡ 128 + at = length-take-le (128 + at) old (omega arith) in
-    get_or_append_left (take (128 + at) old) (new ++ drop (128 + at + length new) old) 0 k (omega (arith, l, b))
-    ∙ get_or-take (128 + at) old k 0 (omega arith)
+    rw (get_or_append_left (take (128 + at) old) (new ++ drop (128 + at + length new) old) 0 k (omega arith)) (get_or-take (128 + at) old k 0 (omega arith))
 
 rest_written : (old : List ℕ) (at : ℕ) (new : List ℕ) → 128 + at + length new ≤ length old → drop 128 (overwritten old (128 + at) new)
     ≡ overwritten (drop 128 old) at new
 rest_written old at new h =
     let l : length (take (128 + at) old) ≡ 128 + at = length-take-le (128 + at) old (omega arith) in
     let s : 128 + (at + length new) ≡ 128 + at + length new = omega arith in
-    drop-append-le 128 (take (128 + at) old) (new ++ drop (128 + at + length new) old) (omega (arith, l))
-    ∙ (ap (λ x. x ++ (new ++ drop (128 + at + length new) old)) (drop-take 128 at old)
-    ∙ ap (λ y. take at (drop 128 old) ++ (new ++ y)) (sym (drop-drop (at + length new) 128 old ∙ ap (λ i. drop i old) s)))
+    rw (
+      drop-append-le 128 (take (128 + at) old) (new ++ drop (128 + at + length new) old) (omega arith),
+      drop-take 128 at old,
+      drop-drop (at + length new) 128 old,
+      s,
+    )
 
 pub room_written : (ps : List PoolView) (n : Number) (at : ℕ) (bytes : List ℕ) → ArePools ps → HasObject ps n → Small bytes →
     128 + at + length bytes ≤ (pool_in ps n.pool).size → RoomWritten ps n at bytes (set ps n.pool (with_written (pool_in ps n.pool) n.index (128 + at) bytes))
@@ -309,19 +293,19 @@ room_written ps n at bytes are object small fits =
       specs = specs_written ps n are object (128 + at) bytes small fits;
       zones = zones_written ps n are object (128 + at) bytes small fits;
       buffers =
-          map-set rooms_of ps n.pool (with_written p n.index (128 + at) bytes)
-          ∙ (ap (λ r. set (buffers_of ps) n.pool r) (map-set (drop 128) p.objects n.index (overwritten old (128 + at) bytes))
-          ∙ (ap (λ o. set (buffers_of ps) n.pool (set (rooms_of p) n.index o)) (rest_written old at bytes fit)
-          ∙ (ap (λ o. set (buffers_of ps) n.pool (set (rooms_of p) n.index (overwritten o at bytes))) (sym (bytes_are ps n))
-          ∙ ap (λ r. set (buffers_of ps) n.pool (set r n.index (overwritten (bytes_of (buffers_of ps) n) at bytes)))
-          (sym (map_get rooms_of ps n.pool no_pool)))));
+          rw (
+            map-set rooms_of ps n.pool (with_written p n.index (128 + at) bytes),
+            map-set (drop 128) p.objects n.index (overwritten old (128 + at) bytes),
+            rest_written old at bytes fit,
+            ← bytes_are ps n,
+            ← map_get rooms_of ps n.pool no_pool,
+          );
       outs = outs_written ps n are object (128 + at) bytes small fits;
       ins = ins_written ps n are object (128 + at) bytes small fits;
       headers = λ m. ⊎_elim
-          (λ e. subst (λ i. header_at (set ps n.pool (with_written p n.index (128 + at) bytes)) i ≡ header_at ps i) e
-          (ap header_of (object_written ps n are object (128 + at) bytes small fits)
-          ∙ header_same (overwritten old (128 + at) bytes) old (λ k b. head_kept old at bytes k fit b)))
-          (λ ne. ap header_of (object_kept ps n are object (128 + at) bytes small fits m ne))
+          (λ e. rw (← e, object_written ps n are object (128 + at) bytes small fits)
+          (header_same (overwritten old (128 + at) bytes) old (λ k b. head_kept old at bytes k fit b)))
+          (λ ne. rw (object_kept ps n are object (128 + at) bytes small fits m ne))
           (same_or n m);
     }
 
@@ -341,7 +325,7 @@ module _ (ps : List PoolView) (n : Number) (are : ArePools ps) (there : n.pool <
   moved = set ps n.pool (with_out q n.index b cached)
 
   abbrev below : n.index < length q.out
-  below = some_below q.out n.index was is
+  below = slice_get_within q.out n.index was is
 
   are_moved : ArePools moved
   are_moved =
@@ -354,23 +338,17 @@ module _ (ps : List PoolView) (n : Number) (are : ArePools ps) (there : n.pool <
       field_kept ps n.pool there (with_out q n.index b cached) (λ x. header_of (object_in x m.index)) refl m.pool
 
   here_moved : is_out moved n ≡ b
-  here_moved =
-      ap (λ x. get_or x.out n.index false) (here ps n.pool there (with_out q n.index b cached))
-      ∙ get_or-set_same q.out n.index b false below
+  here_moved = rw (here ps n.pool there (with_out q n.index b cached)) (get_or-set_same q.out n.index b false below)
 
   others_moved : (m : Number) → same_number n m ≡ false → is_out moved m ≡ is_out ps m
   others_moved m ne = ⊎_elim
-      (λ e. ap (λ k. get_or (pool_in moved k).out m.index false) (sym e)
-      ∙ (ap (λ x. get_or x.out m.index false) (here ps n.pool there (with_out q n.index b cached))
-      ∙ (get_or-set_other q.out n.index m.index b false (other_index n m ne e)
-      ∙ ap (λ k. get_or (pool_in ps k).out m.index false) e)))
-      (λ d. ap (λ x. get_or x.out m.index false) (elsewhere ps n.pool there (with_out q n.index b cached) m.pool (λ e. d (sym e))))
+      (λ e. rw (← e, here ps n.pool there (with_out q n.index b cached)) (get_or-set_other q.out n.index m.index b false (other_index n m ne e)))
+      (λ d. rw (elsewhere ps n.pool there (with_out q n.index b cached) m.pool (λ e. d cc)))
       (cases_eq n.pool m.pool)
 
   counted_moved : count_in moved n.pool + one_if (not was) ≡ count_in ps n.pool + one_if (not b)
   counted_moved =
-      let e = ap (λ x. count_by not x.out) (here ps n.pool there (with_out q n.index b cached)) in
-      omega (arith, e, count_set q.out n.index was b is)
+      rw (here ps n.pool there (with_out q n.index b cached)) (omega (arith, count_set q.out n.index was b is))
 
 pub taken : (ps : List PoolView) (n : Number) → ArePools ps → n.pool < length ps → slice_get (pool_in ps n.pool).out n.index ≡ Some false →
     Taken ps n (set ps n.pool (got (pool_in ps n.pool) n.index))
@@ -380,7 +358,7 @@ taken ps n are there is = record {
   zones = zones_kept ps n.pool there (got (pool_in ps n.pool) n.index) refl;
   buffers = buffers_kept ps n.pool there (got (pool_in ps n.pool) n.index) refl;
   headers = header_moved ps n are there true false is (got (pool_in ps n.pool) n.index).cached;
-  object = omega (arith, some_below (pool_in ps n.pool).out n.index false is, (are.rooms n.pool there).pool.out);
+  object = omega (arith, slice_get_within (pool_in ps n.pool).out n.index false is, (are.rooms n.pool there).pool.out);
   was = out_at (pool_in ps n.pool).out n.index false is;
   here = here_moved ps n are there true false is (got (pool_in ps n.pool) n.index).cached;
   others = others_moved ps n are there true false is (got (pool_in ps n.pool) n.index).cached;
@@ -403,23 +381,21 @@ given ps n are there is = record {
 
 pub slot_is : (pools : List (Option PoolView)) (ps : List PoolView) (k : ℕ) (d : Option PoolView) → present pools ≡ ps → k < length ps →
     get_or pools k d ≡ Some (pool_in ps k)
-slot_is pools ps k d e h =
-    subst (λ q. get_or pools k d ≡ Some (pool_in q k)) e (present_at pools k d (subst (λ q. k < length q) (sym e) h))
+slot_is pools ps k d e h = rw (← e) (present_at pools k d (rw e h))
 
 pub slot_below : (pools : List (Option PoolView)) (ps : List PoolView) (k : ℕ) → present pools ≡ ps → k < length ps → k < length pools
 slot_below pools ps k e h =
-    let b : k < length (present pools) = subst (λ q. k < length q) (sym e) h in omega (arith, b, present_below pools)
+    omega (arith, present_below pools, rw (← e) at h)
 
 pub slot_set : (pools : List (Option PoolView)) (ps : List PoolView) (k : ℕ) (o : Option PoolView) (p : PoolView) → present pools ≡ ps → k < length ps →
     o ≡ Some p → present (set pools k o) ≡ set ps k p
 slot_set pools ps k o p e h eo =
-    ap (λ x. present (set pools k x)) eo
-    ∙ (present_set pools k p (subst (λ q. k < length q) (sym e) h) ∙ ap (λ q. set q k p) e)
+    rw (eo, ← e) (present_set pools k p (rw e h))
 
 pub slot_first : (pools : List (Option PoolView)) (ps : List PoolView) (k : ℕ) (o : Option PoolView) (p : PoolView) → present pools ≡ ps → k < length ps →
     o ≡ Some p → PoolsFirst pools → HasRooms p → PoolsFirst (set pools k o)
 slot_first pools ps k o p e h eo first rooms =
-    subst (λ x. PoolsFirst (set pools k x)) (sym eo) (first_set pools k p first (subst (λ q. k < length q) (sym e) h) rooms)
+    rw eo (first_set pools k p first (rw e h) rooms)
 
 -- a slot that is filled is one of the pools
 none_there : (pools : List (Option PoolView)) (k : ℕ) (d : Option PoolView) (p : PoolView) → AllByRecursion (λ o. o ≡ None) pools → k < length pools
@@ -434,16 +410,16 @@ filled_below [] k d p first less is = absurd (omega arith)
 filled_below (None ∷ pools) zero d p first less is = cc
 filled_below (None ∷ pools) (suc k) d p first less is = absurd (none_there pools k d p first (omega arith) is)
 filled_below (Some q ∷ pools) zero d p first less is = omega arith
-filled_below (Some q ∷ pools) (suc k) d p first less is = let b = filled_below pools k d p first.1 (omega arith) is in omega (arith, b)
+filled_below (Some q ∷ pools) (suc k) d p first less is = omega (arith, filled_below pools k d p first.1 (omega arith) is)
 
 -- whether a slot is filled, and whether there is a pool of its number
 pub filled_iff : (pools : List (Option PoolView)) (ps : List PoolView) (k : ℕ) (d o : Option PoolView) (b : Bool) → present pools ≡ ps → PoolsFirst pools
     → k < length pools → o ≡ get_or pools k d → b ≡ is_some o → (IsTrue b → k < length ps) × (k < length ps → IsTrue b)
 filled_iff pools ps k d None b e first less at is = (
   λ t. absurd (let f : b ≡ false = is in let y : IsTrue b = t in cc),
-  λ h. absurd (let there = present_at pools k d (subst (λ q. k < length q) (sym e) h) in cc),
+  λ h. absurd (let there = present_at pools k d (rw e h) in cc),
 )
 filled_iff pools ps k d (Some p) b e first less at is = (
-  λ t. subst (λ q. k < length q) e (filled_below pools k d p first less (sym at)),
+  λ t. rw (← e) (filled_below pools k d p first less cc),
   λ h. let y : b ≡ true = is in search rules,
 )

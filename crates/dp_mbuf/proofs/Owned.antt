@@ -1,5 +1,5 @@
 -- The world of an `Mbufs` is well formed.
-use Rattle.std.proofs.Common.{◌≡◌, ℕ, zero, suc, ◌+◌, ◌<◌, ◌≤◌, Bool, true, cond, List, [], ◌∷◌, length, refl, sym, ◌∙◌, ap, subst, arith, ⊎_elim}
+use Rattle.std.proofs.Common.{◌≡◌, ℕ, zero, suc, ◌+◌, ◌<◌, ◌≤◌, Bool, true, List, [], ◌∷◌, length, refl, sym, ap, subst, arith, ⊎_elim}
 use Rattle.std.specs.Prelude.{◌&&◌, not}
 use Rattle.std.specs.List.{AllByRecursion}
 use Rattle.std.proofs.lemmas.Bool.{cases_eq}
@@ -13,13 +13,14 @@ use Rattle.dp_model.specs.Stores.{Store, Has, segments_of}
 use Rattle.dp_pool.specs.Pools.{PoolView}
 use Rattle.dp_mbuf.specs.Objects.{spec_of, specs_of, objects_in_all}
 use Rattle.dp_mbuf.specs.Mbufs.{mbufs, indirects, slots_of, shown, Sound, mbufs_in_all}
-use Rattle.dp_mbuf.proofs.PoolLemmas.{one_if}
 use Rattle.dp_mbuf.proofs.ObjectLemmas.{same_or}
-use Rattle.dp_mbuf.proofs.Counting.{mbufs-cons, mbufs_first, refs-cons, refs_le, indirects-cons}
+use Rattle.dp_mbuf.proofs.Counting.{mbufs-cons, mbufs_first, refs_le, indirects-cons}
 use Rattle.dp_mbuf.proofs.Live.{opened}
 use Rattle.dp_mbuf.proofs.Receiving.{buffer_long, are_bytes}
 use Rattle.dp_model.specs.Laws.Stored.{same_number_refl}
 use Rattle.dp_model.specs.Laws.Counts.{distinct_mbufs}
+use Rattle.dp_model.specs.Laws.Cases.{one_if}
+use Rattle.dp_model.specs.Laws.References.{refs-cons}
 
 -- each segment, with its counts among all
 each_of : (P : Segment → Type 0) (all ss : List Segment) → ((s : Segment) → ((n : Number) → one_if (same_number s.buffer n) ≤ refs all n) →
@@ -27,12 +28,12 @@ each_of : (P : Segment → Type 0) (all ss : List Segment) → ((s : Segment) �
     ((n : Number) → indirects ss n ≤ indirects all n) → AllByRecursion P ss
 each_of P all [] f r i = tt
 each_of P all (s ∷ ss) f r i = (
-  f s (λ n. let q = r n in omega (arith, q, refs-cons s ss n)) (λ n. let q = i n in omega (arith, q, indirects-cons s ss n)),
-  each_of P all ss f (λ n. let q = r n in omega (arith, q, refs-cons s ss n)) (λ n. let q = i n in omega (arith, q, indirects-cons s ss n)),
+  f s (λ n. omega (arith, r n, refs-cons s ss n)) (λ n. omega (arith, i n, indirects-cons s ss n)),
+  each_of P all ss f (λ n. omega (arith, r n, refs-cons s ss n)) (λ n. omega (arith, i n, indirects-cons s ss n)),
 )
 
 one_true : (b : Bool) → b ≡ true → one_if b ≡ 1
-one_true b e = let one : ℕ = 1 in ap (λ x. cond x one 0) e
+one_true b e = rw e
 
 directs : (ss : List Segment) → ((n : Number) → 1 ≤ indirects ss n → refs ss n ≡ 0) →
     AllByRecursion (λ s. AllByRecursion (λ t. s.buffer ≡ t.mbuf → t.buffer ≡ t.mbuf) ss) ss
@@ -41,22 +42,17 @@ directs ss direct =
     (λ s rs _. each_of (λ t. s.buffer ≡ t.mbuf → t.buffer ≡ t.mbuf) ss ss
     (λ t _ it e. ⊎_elim
     (λ own. own)
-    (λ d. absurd (let some = it t.mbuf in
-    let is : one_if (same_number t.mbuf t.mbuf && not (same_number t.buffer t.mbuf)) ≡ 1 =
-    one_true (same_number t.mbuf t.mbuf && not (same_number t.buffer t.mbuf)) (ap (λ b. b && not (same_number t.buffer t.mbuf)) (same_number_refl t.mbuf)
-    ∙ ap not d) in
-    let none = direct t.mbuf (omega (arith, some, is)) in
-    let has = rs t.mbuf in
-    let at : one_if (same_number s.buffer t.mbuf) ≡ 1 = one_true (same_number s.buffer t.mbuf) (ap (λ m. same_number m t.mbuf) e ∙ same_number_refl t.mbuf) in
-    omega (arith, none, has, at)))
+    (λ d. absurd (let is : one_if (same_number t.mbuf t.mbuf && not (same_number t.buffer t.mbuf)) ≡ 1 =
+    one_true (same_number t.mbuf t.mbuf && not (same_number t.buffer t.mbuf)) (rw (same_number_refl t.mbuf) (ap not d)) in
+    let at : one_if (same_number s.buffer t.mbuf) ≡ 1 = one_true (same_number s.buffer t.mbuf) (cc (e, same_number_refl t.mbuf)) in
+    omega (arith, direct t.mbuf (omega (arith, it t.mbuf)), rs t.mbuf)))
     (same_or t.buffer t.mbuf))
     (λ n. omega arith) (λ n. omega arith))
     (λ n. omega arith) (λ n. omega arith)
 
 pub owned : (ps : List PoolView) (v : Store) → shown ps ≡ v → Sound ps → AreOwned v.pools (segments_of v)
 owned ps v e sound =
-    subst (λ s. AreOwned s.pools (segments_of s)) e
-    (record {
+    rw (← e) (record {
       mbufs = sound.counted.numbers;
       once = distinct_mbufs (segments_held (slots_of ps)) sound.counted.once;
       direct = directs (segments_held (slots_of ps)) sound.counted.direct;
@@ -64,8 +60,7 @@ owned ps v e sound =
 
 pub within : (ps : List PoolView) (v : Store) → shown ps ≡ v → Sound ps → IsWithin v.pools v.buffers (segments_of v)
 within ps v e sound =
-    subst (λ s. IsWithin s.pools s.buffers (segments_of s)) e
-    (record {
+    rw (← e) (record {
       rooms = λ b h. buffer_long ps b sound.are h;
       bytes = are_bytes ps sound.are;
       lie = sound.counted.lie;
@@ -84,26 +79,24 @@ rows f k (s ∷ specs) = row f k s.count + rows f (suc k) specs
 row_few : (f : Number → ℕ) (k i : ℕ) → ((n : Number) → f n ≤ 1) → row f k i ≤ i
 unfolding row
 row_few f k zero h = omega arith
-row_few f k (suc i) h = let q = row_few f k i h in let o = h (record { pool = k; index = i }) in omega (arith, q, o)
+row_few f k (suc i) h = omega (arith, row_few f k i h, h (record { pool = k; index = i }))
 
 rows_few : (f : Number → ℕ) (k : ℕ) (specs : List PoolSpec) → ((n : Number) → f n ≤ 1) → rows f k specs ≤ mbufs_in_all specs
 unfolding rows
 rows_few f k [] h = omega arith
 rows_few f k (s ∷ specs) h =
-    let q = rows_few f (suc k) specs h in
-    omega (arith, q, row_few f k s.count h, sum_by-cons (λ x. x.count) s specs)
+    omega (arith, rows_few f (suc k) specs h, row_few f k s.count h, sum_by-cons (λ x. x.count) s specs)
 
 row_more : (f g : Number → ℕ) (k i : ℕ) → ((n : Number) → f n ≤ g n) → row f k i ≤ row g k i
 unfolding row
 row_more f g k zero h = omega arith
-row_more f g k (suc i) h =
-    let q = row_more f g k i h in let o = h (record { pool = k; index = i }) in omega (arith, q, o)
+row_more f g k (suc i) h = omega (arith, row_more f g k i h, h (record { pool = k; index = i }))
 
 rows_more : (f g : Number → ℕ) (k : ℕ) (specs : List PoolSpec) → ((n : Number) → f n ≤ g n) → rows f k specs ≤ rows g k specs
 unfolding rows
 rows_more f g k [] h = omega arith
 rows_more f g k (s ∷ specs) h =
-    let q = rows_more f g (suc k) specs h in omega (arith, q, row_more f g k s.count h)
+    omega (arith, rows_more f g (suc k) specs h, row_more f g k s.count h)
 
 row_one : (f g : Number → ℕ) (k i j : ℕ) → j < i → ((n : Number) → f n ≤ g n) → f (record { pool = k; index = j }) + 1 ≤ g (record { pool = k; index = j }) →
     row f k i + 1 ≤ row g k i
@@ -157,11 +150,10 @@ few_refs ps v e sound b =
 pub mbufs_are : (ps : List PoolView) → mbufs_in_all (specs_of ps) ≡ objects_in_all ps
 mbufs_are [] = refl
 mbufs_are (p ∷ ps) =
-    let more = mbufs_are ps in
-    omega (arith, more, sum_by-cons (λ (s : PoolSpec). s.count) (spec_of p) (specs_of ps), sum_by-cons (λ (q : PoolView). length q.objects) p ps)
+    omega (arith, mbufs_are ps, sum_by-cons (λ (s : PoolSpec). s.count) (spec_of p) (specs_of ps), sum_by-cons (λ (q : PoolView). length q.objects) p ps)
 
 pub few_mbufs : (ps : List PoolView) (v : Store) → shown ps ≡ v → objects_in_all ps ≤ 65535 → mbufs_in_all v.pools ≤ 65535
-few_mbufs ps v e few = let same = ap (λ s. mbufs_in_all s.pools) e in omega (arith, same, mbufs_are ps, few)
+few_mbufs ps v e few = omega (arith, ap (λ s. mbufs_in_all s.pools) e, mbufs_are ps)
 
 pub one_to_64 : (ps : List PoolView) (v : Store) → shown ps ≡ v → Sound ps → (h : ℕ) (k : Packet) → Has v h k → (1 ≤ length k) × (length k ≤ 64)
 one_to_64 ps v e sound h k has = let stands = (opened ps v h k e sound has).stands in (stands.some, stands.few)

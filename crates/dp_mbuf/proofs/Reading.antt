@@ -1,5 +1,5 @@
 -- Reading a live packet's segments.
-use Rattle.std.proofs.Common.{◌≡◌, ℕ, zero, suc, ◌+◌, ◌-◌, ◌*◌, ◌<◌, ◌≤◌, List, [], ◌∷◌, length, drop, Some, sym, ◌∙◌, ap, subst, arith}
+use Rattle.std.proofs.Common.{◌≡◌, ℕ, zero, suc, ◌+◌, ◌-◌, ◌*◌, ◌<◌, ◌≤◌, List, [], ◌∷◌, length, drop, Some, ap, arith}
 use Rattle.std.specs.Prelude.{slice_get}
 use Rattle.std.specs.List.{AllByRecursion}
 use Rattle.std.proofs.lemmas.List.{length-append, length-drop, length-take-le}
@@ -8,8 +8,8 @@ use Rattle.dp_model.specs.Buffers.{Number, IsNumber, bytes_of}
 use Rattle.dp_model.specs.Packets.{Segment, Packet, refs, Lies, IsSole, segment_bytes, packet_bytes}
 use Rattle.dp_model.specs.Stores.{Store, Has, HasSome, segments_of}
 use Rattle.dp_mbuf.specs.declared.header.Header.{Header}
-use Rattle.dp_pool.specs.Pools.{PoolView, object_in}
-use Rattle.dp_mbuf.specs.Objects.{header_at, specs_of, buffers_of, pool_in, HasObject}
+use Rattle.dp_pool.specs.Pools.{PoolView}
+use Rattle.dp_mbuf.specs.Objects.{header_at, specs_of, buffers_of, HasObject}
 use Rattle.dp_mbuf.specs.Mbufs.{numbered, segment_at, shown, Linked, Whole, Sound, HasWalk}
 use Rattle.dp_mbuf.proofs.ObjectLemmas.{bytes_are, room_is, object_pool}
 use Rattle.dp_mbuf.proofs.Links.{first_mbuf}
@@ -21,16 +21,17 @@ use Rattle.dp_mbuf.proofs.Cloning.{source_at, drop_some, all_drop}
 
 pub walk_object : (ps : List PoolView) (first mbuf : Number) (k i : ℕ) (w : HasWalk ps first k) → Linked (header_at ps) mbuf (drop i w.0) → i < k →
     HasObject ps mbuf
-walk_object ps first mbuf k i w l b =
-    let d = drop_some i w.0 (let q = w.3 in omega (arith, b, q)) in
-    let n = subst (AllByRecursion (λ s. IsNumber (specs_of ps) s.mbuf)) d.2 (all_drop (λ s. IsNumber (specs_of ps) s.mbuf) i w.0 w.2) in
-    subst (HasObject ps) (first_mbuf (header_at ps) mbuf d.0 d.1 (subst (Linked (header_at ps) mbuf) d.2 l)) (object_of ps d.0.mbuf n.0)
+walk_object ps first mbuf k i (p, _, numbers, within) l b =
+    let (s, rest, is, _) = drop_some i p (omega (arith, b, within)) in
+    let left : AllByRecursion (λ s. IsNumber (specs_of ps) s.mbuf) (s ∷ rest) = rw is at (all_drop (λ s. IsNumber (specs_of ps) s.mbuf) i p numbers) in
+    rw (← first_mbuf (header_at ps) mbuf s rest (rw is at l)) (object_of ps s.mbuf left.0)
 
 pub walk_next : (h : Number → Header) (mbuf : Number) (i : ℕ) (p : Packet) → i < length p → Linked h mbuf (drop i p) →
     Linked h (h mbuf).next (drop (i + 1) p)
 walk_next h mbuf i p b l =
-    let d = drop_some i p b in
-    subst (Linked h (h mbuf).next) (sym d.3) (subst (Linked h mbuf) d.2 l).1
+    let (s, rest, is, next) = drop_some i p b in
+    let links : Linked h mbuf (s ∷ rest) = rw is at l in
+    rw next links.1
 
 -- ---- one segment
 
@@ -49,8 +50,7 @@ pub record Part (ps : List PoolView) (v : Store) (p : Packet) (n : Number) (i : 
 
 module _ (ps : List PoolView) (v : Store) (h : ℕ) (e : shown ps ≡ v) (sound : Sound ps) where
   pub has_walk : (k : ℕ) → HasSome v h (λ p. k < length p) → HasWalk ps (numbered h) k
-  has_walk k r =
-      let o = opened ps v h r.0 e sound r.1 in (r.0, o.stands.links, o.numbers, r.2)
+  has_walk k (p, has, within) = let o = opened ps v h p e sound has in (p, o.stands.links, o.numbers, within)
 
   pub links_of : (p : Packet) → Has v h p → Linked (header_at ps) (numbered h) p
   links_of p has = (opened ps v h p e sound has).stands.links
@@ -61,27 +61,28 @@ module _ (ps : List PoolView) (v : Store) (h : ℕ) (e : shown ps ≡ v) (sound 
   pub part : (p : Packet) (n : Number) (i : ℕ) → Has v h p → i < length p → Linked (header_at ps) n (drop i p) → Part ps v p n i
   part p n i has b l =
       let o = opened ps v h p e sound has in
-      let w : Whole ps [] v.slots = subst (λ s. Whole ps [] s.slots) e sound in
+      let w : Whole ps [] v.slots = rw (← e) sound in
       let s = source_at ps [] v h p n i w has b l in
-      let eb : s.seg.buffer ≡ (header_at ps n).buffer = sym (ap (λ t. t.buffer) s.segment) in
-      let eo : (header_at ps n).offset ≡ s.seg.offset = ap (λ t. t.offset) s.segment in
-      let el : (header_at ps n).len ≡ s.seg.len = ap (λ t. t.len) s.segment in
-      let number = subst (AllByRecursion (λ t. IsNumber (specs_of ps) t.mbuf)) s.is (all_drop (λ t. IsNumber (specs_of ps) t.mbuf) i p o.numbers) in
-      let lies = s.lies.fits in
-      let small = o.small s.seg.buffer.pool in
+      let number = rw s.is at (all_drop (λ t. IsNumber (specs_of ps) t.mbuf) i p o.numbers) in
+      let lies : Lies (specs_of ps) (segment_at (header_at ps) n) = rw s.segment s.lies in
       record {
         seg = s.seg;
         rest = s.rest;
         is = s.is;
         next = s.next;
-        object = subst (HasObject ps) s.mbuf (object_of ps s.seg.mbuf number.0);
+        object = rw (← s.mbuf) (object_of ps s.seg.mbuf number.0);
         segment = s.segment;
-        buffer = subst (HasObject ps) eb (object_of ps s.seg.buffer s.lies.number);
-        fits = subst (λ y. (header_at ps n).offset + (header_at ps n).len ≤ room_at (specs_of ps) y.pool) eb (omega (arith, lies, eo, el));
-        small = omega (arith, lies, small, el);
-        refs = ap (λ y. (header_at ps y).refs) (sym eb) ∙ w.counted.stored s.seg.buffer s.refs;
+        buffer = object_of ps (header_at ps n).buffer lies.number;
+        fits = lies.fits;
+        small = omega (arith, lies.fits, o.small (header_at ps n).buffer.pool);
+        refs = rw (ap (λ t. t.buffer) s.segment) (w.counted.stored s.seg.buffer s.refs);
         lies = s.lies;
       }
+
+  -- the same of the packet that there is, by the walk to the mbuf
+  pub part_there : (n : Number) (k : ℕ) (r : HasSome v h (λ p. k < length p)) →
+      ((p : Packet) → Linked (header_at ps) (numbered h) p → k < length p → Linked (header_at ps) n (drop k p)) → Part ps v r.0 n k
+  part_there n k (p, has, within) walk = part p n k has within (walk p (links_of p has) within)
 
   -- ---- whether a packet is sole
 
@@ -90,13 +91,13 @@ module _ (ps : List PoolView) (v : Store) (h : ℕ) (e : shown ps ≡ v) (sound 
       IsSole (segments_of v) (drop (i + 1) p) → IsSole (segments_of v) p
   sole_more p n i has b l one so rest =
       let q = part p n i has b l in
-      so (subst (IsSole (segments_of v)) (sym q.is) (sym q.refs ∙ one, subst (IsSole (segments_of v)) q.next rest))
+      so (rw q.is (rw (← q.refs) one, rw q.next at rest))
 
   pub sole_not : (p : Packet) (n : Number) (i : ℕ) → Has v h p → i < length p → Linked (header_at ps) n (drop i p) →
       ((header_at ps (header_at ps n).buffer).refs ≡ 1 → ⊥) → IsSole (segments_of v) p → ⊥
   sole_not p n i has b l other sole =
       let q = part p n i has b l in
-      other (q.refs ∙ (subst (IsSole (segments_of v)) q.is (all_drop (λ s. refs (segments_of v) s.buffer ≡ 1) i p sole)).0)
+      other (rw q.refs (rw q.is at (all_drop (λ s. refs (segments_of v) s.buffer ≡ 1) i p sole)).0)
 
   -- ---- its length
 
@@ -107,8 +108,7 @@ module _ (ps : List PoolView) (v : Store) (h : ℕ) (e : shown ps ≡ v) (sound 
   room_long n number =
       let object = object_of ps n number in
       let r = sound.are.rooms n.pool (object_pool ps n object) in
-      let size = r.pool.sizes n.index object in
-      omega (arith, ap length (bytes_are ps n), length-drop 128 (object_in (pool_in ps n.pool) n.index), size, room_is ps n.pool)
+      rw (bytes_are ps n, length-drop) (omega (arith, r.pool.sizes n.index object, room_is ps n.pool))
 
   segment_long : (s : Segment) → Lies (specs_of ps) s → length (segment_bytes v.buffers s) ≡ s.len
   segment_long s lies =
@@ -116,31 +116,25 @@ module _ (ps : List PoolView) (v : Store) (h : ℕ) (e : shown ps ≡ v) (sound 
       let l = room_long s.buffer lies.number in
       let d = length-drop s.offset (bytes_of (buffers_of ps) s.buffer) in
       let t = length-take-le (s.offset + s.len - s.offset) (drop s.offset (bytes_of (buffers_of ps) s.buffer)) (omega (arith, d, l, f)) in
-      ap (λ x. length (segment_bytes x.buffers s)) (sym e) ∙ (t ∙ omega arith)
+      rw (← e, t) (omega arith)
 
   pub length_more : (p : Packet) (n : Number) (i total : ℕ) → Has v h p → i < length p → Linked (header_at ps) n (drop i p) → total + bytes_left (drop i p)
       ≡ bytes_left p → total + (header_at ps n).len + bytes_left (drop (i + 1) p) ≡ bytes_left p
   length_more p n i total has b l so =
       let q = part p n i has b l in
-      let a : bytes_left (drop i p) ≡ bytes_left (q.seg ∷ q.rest) = ap bytes_left q.is in
-      let c : bytes_left (drop (i + 1) p) ≡ bytes_left q.rest = ap bytes_left q.next in
       let d = length-append (segment_bytes v.buffers q.seg) (packet_bytes v.buffers q.rest) in
-      let len : (header_at ps n).len ≡ q.seg.len = ap (λ t. t.len) q.segment in
-      omega (arith, so, a, c, d, len, segment_long q.seg q.lies)
+      omega (arith, d, ap bytes_left q.is, ap bytes_left q.next, ap (λ t. t.len) q.segment, segment_long q.seg q.lies)
 
   pub length_few : (p : Packet) → Has v h p → bytes_left p ≤ 262144
   length_few p has =
       let o = opened ps v h p e sound has in
-      let few = o.stands.few in
-      let a = all p o.lie in omega (arith, a, few)
+      omega (arith, o.stands.few, all p o.lie)
     where
       all : (p : Packet) → AllByRecursion (Lies (specs_of ps)) p → bytes_left p ≤ 4096 * length p
       all [] a = omega arith
       all (s ∷ p) a =
-          let q = all p a.1 in
-          let f = a.0.fits in
           let small = rooms_small ps sound.are s.buffer.pool in
-          omega (arith, q, f, small, segment_long s a.0, length-append (segment_bytes v.buffers s) (packet_bytes v.buffers p))
+          omega (arith, all p a.1, a.0.fits, small, segment_long s a.0, length-append (segment_bytes v.buffers s) (packet_bytes v.buffers p))
 
 -- ---- the k-th segment
 

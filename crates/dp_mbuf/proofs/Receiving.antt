@@ -1,8 +1,8 @@
 -- Receiving a record, segment by segment.
 use Rattle.std.proofs.Math.Nat.{div-lt_iff_lt-mul}
 use Rattle.std.proofs.Common.{◌≡◌, ℕ, zero, suc, ◌+◌, ◌-◌, ◌/◌, ◌<◌, ◌≤◌, true, false, List, [], ◌∷◌, ◌++◌, length, take, drop, Option, Some, None}
-use Rattle.std.proofs.Common.{refl, sym, ◌∙◌, ap, subst, arith, ⊎_elim, set}
-use Rattle.std.specs.Prelude.{slice_set, min, max, ◌||◌}
+use Rattle.std.proofs.Common.{refl, sym, ◌∙◌, ap, arith, ⊎_elim, set}
+use Rattle.std.specs.Prelude.{slice_set, min, max}
 use Rattle.std.specs.List.{AllByRecursion, list_any}
 use Rattle.std.proofs.lemmas.Bool.{cases_lt, or_parts}
 use Rattle.std.proofs.lemmas.List.{length-append, length-take, length-drop, append_assoc, append-nil, take-append-drop, nil_from_length, get_or_past}
@@ -14,13 +14,14 @@ use Rattle.dp_model.specs.Machine.{segments_held}
 use Rattle.dp_model.specs.Stores.{Store, segments_of, ReceivesInto}
 use Rattle.dp_model.specs.Laws.Stored.{bytes_other}
 use Rattle.dp_model.specs.Laws.References.{refs-append}
+use Rattle.dp_mbuf.specs.declared.header.Header.{Header}
 use Rattle.dp_pool.specs.Pools.{PoolView, object_in}
 use Rattle.dp_mbuf.specs.Objects.{header_at, count_in, pool_in, no_pool, specs_of, buffers_of, HasObject, ArePools, HeaderSet}
 use Rattle.dp_mbuf.specs.Steps.{Linkage, FilledBy, direct_header}
 use Rattle.dp_mbuf.specs.Mbufs.{handle, segment_at, shown, mbufs, Linked, last_mbuf, Whole, Sound}
 use Rattle.dp_mbuf.proofs.PoolLemmas.{Small, small_drop}
 use Rattle.dp_mbuf.proofs.ObjectLemmas.{same_or, bytes_are, room_is, object_pool, length_specs, count_is}
-use Rattle.dp_mbuf.proofs.Counting.{mbufs-append, mbufs-cons, mbufs_first, all_join, all_front}
+use Rattle.dp_mbuf.proofs.Counting.{mbufs-append, mbufs-cons, mbufs_first}
 use Rattle.dp_mbuf.proofs.Links.{alike, first_in, linked_kept}
 use Rattle.dp_mbuf.proofs.Frames.{object_of, number_of, number_small}
 use Rattle.dp_mbuf.proofs.Edits.{all_at, first_set, bytes_whole}
@@ -32,6 +33,7 @@ use Rattle.dp_mbuf.proofs.Allocs.{free_in}
 use Rattle.dp_mbuf.proofs.Cloning.{reordered, without}
 use Rattle.dp_mbuf.proofs.Filling.{filled, left, left_more, filled_push, length_filled, Enough, needed_enough, left_end, received_is, bytes_stay, bytes_new}
 use Rattle.dp_mbuf.proofs.Filling.{packet_append}
+use Rattle.dp_model.specs.Laws.Lists.{all_join, all_left}
 
 -- ---- one segment filled
 
@@ -57,12 +59,12 @@ grown_fill ps ps' hand slots n chunk w f fits =
       whole = bytes_whole f.second ps' (direct n 128 (length chunk) ∷ hand) slots n 128 chunk
           (grown_direct ps f.first f.second hand slots n (direct_header n 128 (length chunk)) 128 (length chunk) w t f.header refl refl fits)
           f.bytes_in;
-      segment = ap (λ h. record { mbuf = n; buffer = h.buffer; offset = h.offset; len = h.len }) at_n;
-      others = λ m d. (alike (header_at ps' m) (header_at ps m) (f.bytes_in.headers m ∙ (f.header.others m d ∙ t.headers m))).link;
+      segment = rw at_n;
+      others = λ m d. (alike (header_at ps' m) (header_at ps m) (rw (f.bytes_in.headers m, f.header.others m d, t.headers m))).link;
       nothing = no;
-      specs = f.bytes_in.specs ∙ (f.header.specs ∙ t.specs);
-      buffers = f.bytes_in.buffers ∙ ap (λ b. written b n 128 chunk) (f.header.buffers ∙ t.buffers);
-      ins = let a = f.bytes_in.ins n.pool in let d = f.header.ins n.pool in let e = t.ins in omega (arith, a, d, e);
+      specs = cc (f.bytes_in.specs, f.header.specs, t.specs);
+      buffers = rw (f.bytes_in.buffers, f.header.buffers, t.buffers);
+      ins = omega (arith, f.bytes_in.ins n.pool, f.header.ins n.pool, t.ins);
       number = number;
       free = free_from (segments_held slots) n (omega (arith, no, mbufs-append hand (segments_held slots) n, refs-append hand (segments_held slots) n));
     }
@@ -74,8 +76,7 @@ pub buffer_long : (ps : List PoolView) (n : Number) → ArePools ps → IsNumber
 buffer_long ps n are number =
     let object = object_of ps n number in
     let r = are.rooms n.pool (object_pool ps n object) in
-    let size = r.pool.sizes n.index object in
-    omega (arith, ap length (bytes_are ps n), length-drop 128 (object_in (pool_in ps n.pool) n.index), size, room_is ps n.pool)
+    rw (bytes_are ps n, length-drop) (omega (arith, r.pool.sizes n.index object, room_is ps n.pool))
 
 pub record Receiving (ps : List PoolView) (v : Store) (pool full : ℕ) (bytes : List ℕ) (first last : Number) (rest : List ℕ) (i : ℕ) : Type 0 where
   pub numbers : List Number
@@ -98,7 +99,7 @@ any_push b [] n e = (refl, (or_parts (same_number b n) _ e).0)
 any_push b (m ∷ numbers) n e =
     let h = or_parts (same_number b m) _ e in
     let t = any_push b numbers n h.1 in
-    (ap (λ x. x || list_any (same_number b) numbers) h.0 ∙ t.0, t.1)
+    (rw h.0 t.0, t.1)
 
 -- the bytes with one more segment after them
 spelled_more : (buffers buffers' : Buffers) (made : Packet) (n : Number) (full : ℕ) (rest bytes : List ℕ) →
@@ -109,13 +110,15 @@ spelled_more buffers buffers' made n full rest bytes eb none some fits so =
     let chunk : List ℕ = take full rest in
     let s : Segment = direct n 128 (length chunk) in
     let b : Buffers = written buffers n 128 chunk in
-    ap (λ x. packet_bytes x (made ++ s ∷ []) ++ drop full rest) eb
-    ∙ (ap (λ x. x ++ drop full rest) (packet_append b made (s ∷ []))
-    ∙ (ap (λ x. (x ++ packet_bytes b (s ∷ [])) ++ drop full rest) (bytes_stay buffers n 128 chunk made none)
-    ∙ (ap (λ x. (packet_bytes buffers made ++ (x ++ [])) ++ drop full rest) (bytes_new buffers n 128 chunk some fits)
-    ∙ (ap (λ x. (packet_bytes buffers made ++ x) ++ drop full rest) (append-nil chunk)
-    ∙ (append_assoc (packet_bytes buffers made) chunk (drop full rest)
-    ∙ (ap (λ x. packet_bytes buffers made ++ x) (take-append-drop full rest) ∙ so))))))
+    rw (
+      eb,
+      packet_append b made (s ∷ []),
+      bytes_stay buffers n 128 chunk made none,
+      bytes_new buffers n 128 chunk some fits,
+      append-nil chunk,
+      append_assoc,
+      take-append-drop,
+    ) so
 
 module _ (v : Store) (pool full : ℕ) (bytes : List ℕ) (room : 128 + full ≡ room_at v.pools pool) (positive : 1 ≤ full) where
   abbrev total : ℕ
@@ -126,29 +129,23 @@ module _ (v : Store) (pool full : ℕ) (bytes : List ℕ) (room : 128 + full ≡
       rest ≡ drop full bytes → Receiving ps' v pool full bytes n n rest 1
   receiving_start ps ps' n rest w there ep es eb ea f er =
       let l = length-take full bytes in
-      let room' : 128 + full ≡ room_at (specs_of ps) n.pool = room ∙ (ap (λ k. room_at v.pools k) (sym ep) ∙ ap (λ s. room_at s n.pool) (sym es)) in
+      let room' : 128 + full ≡ room_at (specs_of ps) n.pool = rw (es, ep) room in
       let g = grown_fill ps ps' [] v.slots n (take full bytes) w f (omega (arith, l, room')) in
-      let is : filled full (n ∷ []) total ≡ direct n 128 (length (take full bytes)) ∷ [] = ap (λ x. direct n 128 x ∷ []) (sym l) in
       let long = buffer_long ps n w.are g.number in
       record {
         numbers = n ∷ [];
         count = refl;
         some = omega arith;
-        whole = subst (λ k. Whole ps' k v.slots) (sym is) g.whole;
-        links = subst (Linked (header_at ps') n) (sym is) (g.segment, tt);
-        last_is = ap (last_mbuf n) (sym is);
-        each = (record { of_pool = ep; exists = subst (λ x. IsNumber x n) es g.number; free = g.free }, tt);
-        ins = let i = subst (λ k. count_in ps' k + 1 ≡ count_in ps k) ep g.ins in omega (arith, i, ea);
-        specs = g.specs ∙ es;
-        there = let a = ap length g.specs in omega (arith, there, a, length_specs ps, length_specs ps');
-        spells = ap (λ k. packet_bytes (buffers_of ps') k ++ rest) is
-            ∙ (ap (λ r. packet_bytes (buffers_of ps') (direct n 128 (length (take full bytes)) ∷ []) ++ r) er
-            ∙ spelled_more (buffers_of ps) (buffers_of ps') [] n full bytes bytes g.buffers refl (omega (arith, long, room')) (omega (arith, long, room', l))
-            refl);
-        rest_long = let d = length-drop full bytes in ap length er ∙ d;
-        others = λ b e. let d = any_push b [] n e in
-            ap (λ x. bytes_of x b) g.buffers
-            ∙ (bytes_other (buffers_of ps) n b _ (turned b n d.1) ∙ ap (λ x. bytes_of x b) eb);
+        whole = rw (← l) g.whole;
+        links = rw (← l) (g.segment, tt);
+        last_is = refl;
+        each = (record { of_pool = ep; exists = rw es at g.number; free = g.free }, tt);
+        ins = omega (arith, rw ep at g.ins);
+        specs = rw g.specs es;
+        there = omega (arith, ap length g.specs, length_specs ps, length_specs ps');
+        spells = rw (← l, er) (spelled_more (buffers_of ps) (buffers_of ps') [] n full bytes bytes g.buffers refl (omega arith) (omega arith) refl);
+        rest_long = rw er (length-drop full bytes);
+        others = λ b e. rw (g.buffers, bytes_other (buffers_of ps) n b _ (turned b n (any_push b [] n e).1), eb);
       }
 
   module _ (ps : List PoolView) (first last : Number) (rest : List ℕ) (i : ℕ) (c : Receiving ps v pool full bytes first last rest i) where
@@ -156,32 +153,26 @@ module _ (v : Store) (pool full : ℕ) (bytes : List ℕ) (room : 128 + full ≡
     made = filled full c.numbers total
 
     many : length (filled full c.numbers total) ≡ i
-    many = length_filled full c.numbers total ∙ c.count
+    many = rw length_filled c.count
 
     room_here : (n : Number) → n.pool ≡ pool → 128 + full ≡ room_at (specs_of ps) n.pool
-    room_here n ep =
-        room ∙ (ap (λ k. room_at v.pools k) (sym ep) ∙ ap (λ s. room_at s n.pool) (sym c.specs))
+    room_here n ep = rw (c.specs, ep) room
 
     fill_at : (ps1 : List PoolView) (n : Number) → n.pool ≡ pool → FilledBy ps n (take full rest) ps1 →
         GrownFill ps ps1 (filled full c.numbers total) v.slots n (take full rest)
     fill_at ps1 n ep f =
-        let l = length-take full rest in
-        let r = room_here n ep in
-        grown_fill ps ps1 made v.slots n (take full rest) c.whole f (omega (arith, l, r))
+        grown_fill ps ps1 made v.slots n (take full rest) c.whole f (omega (arith, length-take full rest, room_here n ep))
 
     pub fill_can : (need : ℕ) → i < need → need ≤ available v.pools (segments_of v) pool →
         (pool < length ps) × (1 ≤ count_in ps pool) × (128 + full ≤ room_at (specs_of ps) pool) × ArePools ps
     fill_can need b enough =
-        let n = c.ins in
-        let r : 128 + full ≡ room_at (specs_of ps) pool = room ∙ ap (λ s. room_at s pool) (sym c.specs) in
-        (c.there, omega (arith, n, b, enough), omega (arith, r), c.whole.are)
+        (c.there, omega arith, rw c.specs (omega arith), c.whole.are)
 
     pub fill_last : (ps1 : List PoolView) (n : Number) → n.pool ≡ pool → FilledBy ps n (take full rest) ps1 → HasObject ps1 last
     fill_last ps1 n ep f =
         let g = fill_at ps1 n ep f in
-        let some = c.some in
-        let in_made = last_of_links (header_at ps) first made (omega (arith, many, some)) c.links in
-        subst (HasObject ps1) (sym c.last_is)
+        let in_made = last_of_links (header_at ps) first made (omega (arith, many)) c.links in
+        rw c.last_is
         (object_of ps1 (last_mbuf first made) (all_at (IsNumber (specs_of ps1)) (made
         ++ segments_held v.slots) (last_mbuf first made) g.whole.counted.numbers.1
         (omega (arith, in_made, mbufs-append made (segments_held v.slots) (last_mbuf first made)))))
@@ -190,46 +181,34 @@ module _ (v : Store) (pool full : ℕ) (bytes : List ℕ) (room : 128 + full ≡
         HeaderSet ps1 last (record (header_at ps1 last) { next = n }) ps2 → rest' ≡ drop full rest → Receiving ps2 v pool full bytes first n rest' (i + 1)
     fill_done ps1 ps2 n rest' ep f done er =
         let g = fill_at ps1 n ep f in
-        let no = g.nothing in
         let l = length-take full rest in
         let long = buffer_long ps n c.whole.are g.number in
         let room' = room_here n ep in
         let chunk : List ℕ = take full rest in
         let s : Segment = direct n 128 (length chunk) in
-        let size : min full (left full total (length c.numbers)) ≡ length chunk =
-        ap (λ j. min full (left full total j)) c.count ∙ (ap (min full) (sym c.rest_long) ∙ sym l) in
-        let push : filled full (c.numbers ++ n ∷ []) total ≡ made ++ s ∷ [] =
-        filled_push full c.numbers total n ∙ ap (λ x. made ++ direct n 128 x ∷ []) size in
+        let push : filled full (c.numbers ++ n ∷ []) total ≡ made ++ s ∷ [] = rw (filled_push, c.count, ← c.rest_long, l) in
         let whole1 = reordered ps1 s made v.slots g.whole in
         let links1 : Linked (header_at ps1) first made =
         linked_kept (header_at ps) (header_at ps1) first made (λ m q. g.others m
-        (without made (segments_held v.slots) n m (omega (arith, no)) (omega (arith, q)))) c.links in
-        let some = c.some in
-        let j = joined ps1 ps2 made (s ∷ []) v.slots first n whole1 (omega (arith, many, some)) links1 (
-          g.segment,
-          tt,
-        ) (subst (λ m. HeaderSet ps1 m (record (header_at ps1 m) { next = n }) ps2) c.last_is done) in
+        (without made (segments_held v.slots) n m (omega arith) (omega arith))) c.links in
+        let j = joined ps1 ps2 made (s ∷ []) v.slots first n whole1 (omega (arith, many)) links1 (g.segment, tt) (rw c.last_is at done) in
         record {
           numbers = c.numbers ++ n ∷ [];
-          count = let a = c.count in omega (arith, a, length-append c.numbers (n ∷ []));
+          count = omega (arith, length-append c.numbers (n ∷ []));
           some = omega arith;
-          whole = subst (λ x. Whole ps2 x v.slots) (sym push) j.0;
-          links = subst (Linked (header_at ps2) first) (sym push) j.1;
-          last_is = sym (ap (last_mbuf first) push ∙ last_mbuf_is s first made);
+          whole = rw push j.0;
+          links = rw push j.1;
+          last_is = rw (push, last_mbuf_is);
           each = all_join (IsFresh v.pools (segments_of v) pool) c.numbers (n ∷ []) c.each
-              (record { of_pool = ep; exists = subst (λ x. IsNumber x n) c.specs g.number; free = g.free }, tt);
-          ins = let a = subst (λ y. count_in ps1 y + 1 ≡ count_in ps y) ep g.ins in let d = done.ins pool in let o = c.ins in omega (arith, a, d, o);
-          specs = done.specs ∙ (g.specs ∙ c.specs);
-          there = let a = ap length (done.specs ∙ g.specs) in let t = c.there in omega (arith, t, a, length_specs ps, length_specs ps2);
-          spells = ap (λ k. packet_bytes (buffers_of ps2) k ++ rest') push
-              ∙ (ap (λ r. packet_bytes (buffers_of ps2) (made ++ s ∷ []) ++ r) er
-              ∙ spelled_more (buffers_of ps) (buffers_of ps2) made n full rest bytes (done.buffers
-              ∙ g.buffers) (omega (arith, no, refs-append made (segments_held v.slots) n)) (omega (arith, long, room')) (omega (arith, long, room', l))
-              c.spells);
-          rest_long = let d = length-drop full rest in let r = c.rest_long in ap length er ∙ (d ∙ (ap (λ x. x - full) r ∙ sym (left_more full total i)));
+              (record { of_pool = ep; exists = rw c.specs at g.number; free = g.free }, tt);
+          ins = omega (arith, rw ep at g.ins, done.ins pool);
+          specs = rw (done.specs, g.specs) c.specs;
+          there = omega (arith, ap length (rw g.specs at done.specs), length_specs ps, length_specs ps2);
+          spells = rw (push, er) (spelled_more (buffers_of ps) (buffers_of ps2) made n full rest bytes (rw g.buffers at done.buffers)
+              (omega (arith, refs-append made (segments_held v.slots) n)) (omega arith) (omega arith) c.spells);
+          rest_long = rw (er, length-drop, c.rest_long, left_more);
           others = λ b e. let d = any_push b c.numbers n e in
-              ap (λ x. bytes_of x b) (done.buffers ∙ g.buffers)
-              ∙ (bytes_other (buffers_of ps) n b _ (turned b n d.1) ∙ c.others b d.0);
+              rw (done.buffers, g.buffers, bytes_other (buffers_of ps) n b _ (turned b n d.1)) (c.others b d.0);
         }
 
 -- ---- all segments
@@ -239,9 +218,7 @@ apart_filled : (n : Number) (full : ℕ) (numbers : List Number) (total : ℕ) �
 apart_filled n full [] total z = tt
 apart_filled n full (m ∷ numbers) total z = (
   ⊎_elim
-      (λ e. absurd (let y : mbufs (filled full (m ∷ numbers) total) n ≡ mbufs (filled full (m ∷ numbers) total) m =
-      ap (mbufs (filled full (m ∷ numbers) total)) e in
-      omega (arith, z, y, mbufs_first (direct m 128 (min full total)) (filled full numbers (total - full)))))
+      (λ e. absurd (omega (arith, rw e at z, mbufs_first (direct m 128 (min full total)) (filled full numbers (total - full)))))
       (λ d. d)
       (same_or n m),
   apart_filled n full numbers (total - full) (omega (arith, z, mbufs-cons (direct m 128 (min full total)) (filled full numbers (total - full)) n)),
@@ -250,21 +227,20 @@ apart_filled n full (m ∷ numbers) total z = (
 distinct_filled : (full : ℕ) (numbers : List Number) (total : ℕ) → ((m : Number) → mbufs (filled full numbers total) m ≤ 1) → AreDistinct numbers
 distinct_filled full [] total once = tt
 distinct_filled full (n ∷ numbers) total once =
-    let o = once n in
     let s : Segment = direct n 128 (min full total) in (
-      apart_filled n full numbers (total - full) (omega (arith, o, mbufs_first s (filled full numbers (total - full)))),
-      distinct_filled full numbers (total - full) (λ m. let q = once m in omega (arith, q, mbufs-cons s (filled full numbers (total - full)) m)),
+      apart_filled n full numbers (total - full) (omega (arith, once n, mbufs_first s (filled full numbers (total - full)))),
+      distinct_filled full numbers (total - full) (λ m. omega (arith, once m, mbufs-cons s (filled full numbers (total - full)) m)),
     )
 
 no_object : (ps : List PoolView) (b : Number) → count_at (specs_of ps) b.pool ≤ b.index → length (bytes_of (buffers_of ps) b) ≡ 0
 no_object ps b past =
-    ap length (bytes_are ps b ∙ ap (drop 128) (get_or_past (pool_in ps b.pool).objects b.index [] (omega (arith, past, count_is ps b.pool))))
+    rw (bytes_are ps b, get_or_past (pool_in ps b.pool).objects b.index [] (omega (arith, count_is ps b.pool)))
 
 lengths_same : (ps ps' : List PoolView) (b : Number) → ArePools ps → ArePools ps' → specs_of ps' ≡ specs_of ps → length (bytes_of (buffers_of ps') b)
     ≡ length (bytes_of (buffers_of ps) b)
 lengths_same ps ps' b are are' e = ⊎_elim
-    (λ h. buffer_long ps' b are' (subst (λ s. IsNumber s b) (sym e) h) ∙ (ap (λ s. room_at s b.pool) e ∙ sym (buffer_long ps b are h)))
-    (λ past. no_object ps' b (subst (λ s. count_at s b.pool ≤ b.index) (sym e) past) ∙ sym (no_object ps b past))
+    (λ h. rw (buffer_long ps' b are' (rw e h), e, buffer_long ps b are h))
+    (λ past. rw (no_object ps' b (rw e past), no_object ps b past))
     (cases_lt b.index (count_at (specs_of ps) b.pool))
 
 all_small : (xs : List ℕ) → Small xs → AllByRecursion (λ x. x < 256) xs
@@ -273,11 +249,11 @@ all_small (x ∷ xs) s = (s 0, all_small xs (λ k. s (suc k)))
 
 pub are_bytes : (ps : List PoolView) → ArePools ps → AreBytes (buffers_of ps)
 are_bytes ps are b =
-    subst (AllByRecursion (λ x. x < 256)) (sym (bytes_are ps b))
+    rw (bytes_are ps b)
     (all_small (drop 128 (object_in (pool_in ps b.pool) b.index))
     (⊎_elim
     (λ h. small_drop 128 (object_in (pool_in ps b.pool) b.index) ((are.rooms b.pool h).pool.bytes b.index))
-    (λ past. subst (λ p. Small (drop 128 (object_in p b.index))) (sym (get_or_past ps b.pool no_pool past)) (λ k. omega arith))
+    (λ past. rw (get_or_past ps b.pool no_pool past) (λ k. omega arith))
     (cases_lt b.pool (length ps))))
 
 -- what is known before the call
@@ -295,11 +271,11 @@ pub record Ready (ps : List PoolView) (v : Store) (pool full : ℕ) : Type 0 whe
 room_there : (ps : List PoolView) (pool : ℕ) → 1 ≤ room_at (specs_of ps) pool → pool < length ps
 room_there [] pool h = absurd (omega arith)
 room_there (p ∷ ps) zero h = omega arith
-room_there (p ∷ ps) (suc pool) h = let q = room_there ps pool h in omega (arith, q)
+room_there (p ∷ ps) (suc pool) h = omega (arith, room_there ps pool h)
 
 pub pool_of_room : (ps : List PoolView) (v : Store) (pool : ℕ) → shown ps ≡ v → 129 ≤ room_at v.pools pool → pool < length ps
 pool_of_room ps v pool e h =
-    room_there ps pool (let r = ap (λ s. room_at s.pools pool) e in omega (arith, h, r))
+    room_there ps pool (omega (arith, rw (← e) at h))
 
 pub ready : (ps : List PoolView) (v : Store) (pool full r : ℕ) → shown ps ≡ v → Sound ps → 129 ≤ room_at v.pools pool → r ≡ room_at (specs_of ps) pool →
     full ≡ r - 128 → Ready ps v pool full
@@ -308,7 +284,7 @@ ready ps v pool full r e sound h er ef =
     let same = ap (λ s. room_at s.pools pool) e in
     let l = ap (λ s. length s.pools) e in
     record {
-      whole = subst (λ s. Whole ps [] s.slots) e sound;
+      whole = rw (← e) sound;
       there = there;
       in_pool = sym (free_in ps v pool e sound (omega (arith, there, l, length_specs ps)));
       specs = ap (λ s. s.pools) e;
@@ -316,33 +292,31 @@ ready ps v pool full r e sound h er ef =
       room = omega (arith, h, er, ef, same);
       is = omega (arith, er, ef, same);
       some = omega (arith, h, er, ef, same);
-      few = let s = rooms_small ps sound.are pool in omega (arith, er, ef, s);
+      few = omega (arith, rooms_small ps sound.are pool);
     }
 
 pub need_is : (v : Store) (pool full total need : ℕ) → full ≡ room_at v.pools pool - 128 → need ≡ max 1 ((total + (full - 1)) / full) →
     need ≡ needed v.pools pool total
 need_is v pool full total need ef en =
-    en ∙ ap (λ f. max 1 ((total + (f - 1)) / f)) ef
+    rw (en, ef)
 
 -- one buffer is enough for the bytes that fit into it
 one_at_most : (q : ℕ) → q < 2 → 1 ≡ max 1 q
 one_at_most zero b = refl
 one_at_most (suc zero) b = refl
-one_at_most (suc (suc q)) b = absurd (omega (arith, b))
+one_at_most (suc (suc q)) b = absurd (omega arith)
 
 pub one_needed : (full total : ℕ) → 1 ≤ full → total ≤ full → 1 ≡ max 1 ((total + (full - 1)) / full)
 one_needed full total some few = one_at_most ((total + (full - 1)) / full) ((div-lt_iff_lt-mul some).1 (omega (arith, some, few)))
 
-module _ (v : Store) (pool full : ℕ) (bytes : List ℕ) (ps0 ps : List PoolView) (first last : Number) (rest : List ℕ) (i need : ℕ)
+module _ {v : Store} {pool full : ℕ} {bytes : List ℕ} {ps0 ps : List PoolView} {first last : Number} {rest : List ℕ} {i need : ℕ}
     (c : Receiving ps v pool full bytes first last rest i) (before : Ready ps0 v pool full) (en : need
     ≡ max 1 ((length bytes + (full - 1)) / full)) (few : needed v.pools pool (length bytes) ≤ 64) (ei : i ≡ need) where
   pub receive_object : HasObject ps first
   receive_object =
-      let some = c.some in
-      let l : length (filled full c.numbers (length bytes)) ≡ i = length_filled full c.numbers (length bytes) ∙ c.count in
-      let f = first_in (header_at ps) first (filled full c.numbers (length bytes)) (omega (arith, l, some)) c.links in
+      let f = first_in (header_at ps) first (filled full c.numbers (length bytes)) (omega (arith, length_filled full c.numbers (length bytes))) c.links in
       object_of ps first (all_at (IsNumber (specs_of ps)) (filled full c.numbers (length bytes)) first
-      (all_front (λ t. IsNumber (specs_of ps) t.mbuf) (filled full c.numbers (length bytes)) (segments_held v.slots) c.whole.counted.numbers) f)
+      (all_left (λ t. IsNumber (specs_of ps) t.mbuf) (filled full c.numbers (length bytes)) (segments_held v.slots) c.whole.counted.numbers) f)
 
   pub receive_done : (ps' : List PoolView) (r : ℕ) → need ≤ available v.pools (segments_of v) pool → r ≡ handle first →
       HeaderSet ps first (record (header_at ps first) { segs = need; last = last }) ps' → Sound ps' × ReceivesInto v pool bytes (shown ps') (Some r)
@@ -350,45 +324,37 @@ module _ (v : Store) (pool full : ℕ) (bytes : List ℕ) (ps0 ps : List PoolVie
       let total : ℕ = length bytes in
       let made : Packet = filled full c.numbers total in
       let k : Packet = received (room_at v.pools pool) c.numbers total in
-      let some = c.some in
-      let n = c.count in
-      let l : length made ≡ i = length_filled full c.numbers total ∙ n in
+      let l : length made ≡ i = rw length_filled c.count in
       let is_need : need ≡ needed v.pools pool total = need_is v pool full total need before.is en in
       let just : Enough full (length c.numbers) total =
-      subst (λ x. Enough full x total) (sym (n ∙ (ei ∙ en))) (needed_enough total full total (omega arith) before.some) in
+      rw (c.count, ei, en) (needed_enough total full total (omega arith) before.some) in
       let is : made ≡ k = received_is (room_at v.pools pool) full c.numbers total before.is just in
-      let none : rest ≡ [] =
-      nil_from_length rest (c.rest_long ∙ (ap (left full total) (sym n) ∙ left_end full (length c.numbers) total just)) in
-      let h = first_set ps ps' v.slots first made (record (header_at ps first) { segs = need; last = last }) c.whole c.links (omega (arith, l, some))
-      (omega (arith, l, ei, is_need, few)) done (omega (arith, l, ei)) c.last_is refl
+      let none : rest ≡ [] = nil_from_length rest (rw (c.rest_long, ← c.count) (left_end full (length c.numbers) total just)) in
+      let x : Header = record (header_at ps first) { segs = need; last = last } in
+      let h = first_set ps ps' v.slots first made x c.whole c.links (omega arith) (omega arith) done (omega arith) c.last_is refl
       (record { offset = refl; len = refl; next = refl; buffer = refl }) in
       let d = settled ps' (set v.slots (handle first) (Some made)) h.0 in
-      let there : handle first < length v.slots =
-      let m = c.whole.shows.many in
-      let s = number_small ps first c.whole.are receive_object in
-      omega (arith, m, s.2) in (
+      let there : handle first < length v.slots = omega (arith, c.whole.shows.many, (number_small ps first c.whole.are receive_object).2) in (
         d.0,
-        subst (λ x. ReceivesInto v pool bytes (shown ps') (Some x)) (sym er) (
-          omega (arith, enough, is_need),
-          slice_get-get_or v.slots (handle first) None there ∙ ap Some h.1,
+        rw er (
+          omega arith,
+          rw (slice_get-get_or v.slots (handle first) None there, h.1),
           c.numbers,
           buffers_of ps,
           record {
-            count = n ∙ (ei ∙ is_need);
-            distinct = distinct_filled full c.numbers total (λ m. let o = c.whole.counted.once m in
-                omega (arith, o, mbufs-append made (segments_held v.slots) m));
+            count = rw (c.count, ei) is_need;
+            distinct = distinct_filled full c.numbers total (λ m. omega (arith, c.whole.counted.once m, mbufs-append made (segments_held v.slots) m));
             each = c.each;
           },
           record {
-            spells = ap (packet_bytes (buffers_of ps)) (sym is) ∙ (sym (append-nil (packet_bytes (buffers_of ps) made))
-                ∙ (ap (λ x. packet_bytes (buffers_of ps) made ++ x) (sym none) ∙ c.spells));
+            spells = rw (← is, ← append-nil (packet_bytes (buffers_of ps) made), ← none) c.spells;
             others = record {
               others = c.others;
-              lengths = λ b. lengths_same ps0 ps b before.whole.are c.whole.are (c.specs ∙ sym before.specs) ∙ ap (λ x. length (bytes_of x b)) before.buffers;
+              lengths = λ b. rw (← before.buffers) (lengths_same ps0 ps b before.whole.are c.whole.are (rw c.specs (rw before.specs)));
               bytes = λ _. are_bytes ps c.whole.are;
             };
           },
-          store_eq (shown ps') (record v { buffers = buffers_of ps; slots = slice_set v.slots (handle first) (Some k) }) (done.specs
-              ∙ c.specs) done.buffers (d.1 ∙ ap (λ x. set v.slots (handle first) (Some x)) is),
+          store_eq (shown ps') (record v { buffers = buffers_of ps; slots = slice_set v.slots (handle first) (Some k) }) (rw done.specs c.specs) done.buffers
+              (rw (← is) d.1),
         ),
       )

@@ -1,8 +1,7 @@
 -- The bytes of a number, the highest first.
-use Rattle.std.proofs.Common.{◌≡◌, ℕ, zero, suc, length, refl, ap, arith}
+use Rattle.std.proofs.Common.{ℕ, zero, suc, arith}
 use Rattle.dp_model.specs.Arithmetic.{big_endian}
 use Rattle.dp_mbuf.proofs.PoolLemmas.{Small}
-use Rattle.dp_model.specs.Laws.StepsWithin.{length_big_endian}
 
 pub small_spelled : (w n : ℕ) → Small (big_endian w n)
 small_spelled zero n k = omega arith

@@ -73,13 +73,13 @@ last_mbuf n [] = n
 last_mbuf n (s ∷ rest) = last_mbuf s.mbuf rest
 
 -- the first header has the number of segments and the last mbuf
-pub record Stands (ps : List PoolView) (n : Number) (k : Packet) : Type 0 where
+pub record Stands (ps : List PoolView) (n : Number) (packet : Packet) : Type 0 where
   pub out : is_out ps n ≡ true
-  pub some : 1 ≤ length k
-  pub few : length k ≤ MAX_SEGMENTS
-  pub segs : (header_at ps n).segs ≡ length k
-  pub last : (header_at ps n).last ≡ last_mbuf n k
-  pub links : Linked (header_at ps) n k
+  pub some : 1 ≤ length packet
+  pub few : length packet ≤ MAX_SEGMENTS
+  pub segs : (header_at ps n).segs ≡ length packet
+  pub last : (header_at ps n).last ≡ last_mbuf n packet
+  pub links : Linked (header_at ps) n packet
 
 abbrev pub StandsAt : List PoolView → Number → Option Packet → Type 0
 StandsAt ps n None = is_head ps n ≡ false

@@ -19,6 +19,6 @@ returns c =
 
 pub returns-in_err-rows : goal.returns-in_err-rows
 returns-in_err-rows c =
-    let p = err_from_is_err_and c.from_residual.result c.from_residual.ensures.1 in
-    rw (p.1, p.2) (error_of c.args.n c.args.text.now c.in-Some.version c.in_err-rows.field-0.0 (sym c.version_in.ensures ∙ c.in-Some.is)
+    let (_, is, was) = err_from_is_err_and c.from_residual.result c.from_residual.ensures.1 in
+    rw (is, was) (error_of c.args.n c.args.text.now c.in-Some.version c.in_err-rows.field-0.0 (sym c.version_in.ensures ∙ c.in-Some.is)
     (rw (beyond c.args.text.now) at c.in_err-rows.ensures.exact))

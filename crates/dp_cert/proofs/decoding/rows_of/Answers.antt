@@ -14,8 +14,8 @@ pub returns-in_err-row : goal.returns-in_err-row
 returns-in_err-row c =
     let some : 0 < length c.loop-i.rest.now = search rules in
     let front : c.split_at.result.0.now ≡ take 307 c.loop-i.rest.now = c.split_at.ensures.front ∙ rw c.min.ensures (take_min 307 c.loop-i.rest.now) in
-    let p = err_from_is_err_and c.from_residual.result c.from_residual.ensures.1 in
-    rw (p.1, p.2) (bad_row c.args.version c.loop-i.rows.items c.args.n c.loop-i.i c.loop-i.rest.now c.in_err-row.field-0.0 _ c.loop-i-test.true some
+    let (_, is, was) = err_from_is_err_and c.from_residual.result c.from_residual.ensures.1 in
+    rw (is, was) (bad_row c.args.version c.loop-i.rows.items c.args.n c.loop-i.i c.loop-i.rest.now c.in_err-row.field-0.0 _ c.loop-i-test.true some
     (rw front at c.in_err-row.ensures) c.loop-i.invariant.told)
 
 pub loop-i-preserved : goal.loop-i-preserved

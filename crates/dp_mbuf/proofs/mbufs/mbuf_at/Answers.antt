@@ -9,7 +9,8 @@ loop-i-init c = λ p l b. l
 
 pub header-mbuf-requires : goal.header-mbuf-requires
 header-mbuf-requires c =
-    walk_object _ _ _ c.args.k c.loop-i.i c.requires (c.loop-i.invariant c.requires.0 c.requires.1 c.requires.3) c.loop-i-test.true
+    let (p, links, _, within) = c.requires in
+    walk_object _ _ _ c.args.k c.loop-i.i c.requires (c.loop-i.invariant p links within) c.loop-i-test.true
 
 pub loop-i-preserved : goal.loop-i-preserved
 loop-i-preserved c = λ p l b.

@@ -7,14 +7,14 @@ use Rattle.dp_mbuf.proofs.mbufs.release_all.Goals as goal
 pub release-mbuf-requires : goal.release-mbuf-requires
 release-mbuf-requires c =
     let (v, h, f) = c.requires in
-    freeing_can _ _ _ _ v h (c.loop-i.invariant.packets v h f) c.loop-i-test.true
+    freeing_can (c.loop-i.invariant.packets v h f) c.loop-i-test.true
 
 pub loop-i-preserved : goal.loop-i-preserved
 loop-i-preserved c = record {
   packets = λ v h f.
-      freeing_step _ _ _ _ v h (c.loop-i.invariant.packets v h f) _ _ c.loop-i-test.true c.release-mbuf.ensures.gone c.release-mbuf.ensures.next;
+      freeing_step (c.loop-i.invariant.packets v h f) _ _ c.loop-i-test.true c.release-mbuf.ensures.gone c.release-mbuf.ensures.next;
   zones = released_zones _ _ _ _ c.release-mbuf.ensures.gone ∙ c.loop-i.invariant.zones;
 }
 
 pub returns-clause-packets : goal.returns-clause-packets
-returns-clause-packets c = λ v h f. freeing_end _ _ _ _ v h (c.loop-i.invariant.packets v h f) c.loop-i-test.false
+returns-clause-packets c = λ v h f. freeing_end (c.loop-i.invariant.packets v h f) c.loop-i-test.false

@@ -1,6 +1,6 @@
 -- The slot has a pool, since it exists.
-use Rattle.std.proofs.Common.{◌≡◌, sym, subst, arith}
-use Rattle.dp_mbuf.specs.Objects.{present, pool_in, HasRooms}
+use Rattle.std.proofs.Common.{◌≡◌, arith}
+use Rattle.dp_mbuf.specs.Objects.{present, pool_in}
 use Rattle.dp_mbuf.proofs.ObjectLemmas.{present_at, present_below, first_at}
 use Rattle.dp_mbuf.proofs.objects.pool_at.Goals as goal
 
@@ -22,4 +22,4 @@ pub returns-clause-rooms : goal.returns-clause-rooms
 returns-clause-rooms c =
     let some = present_at c.args.pools.now c.args.k c.index-pools-from.result c.requires.there in
     let e : c.in-Some.pool ≡ pool_in (present c.args.pools.now) c.args.k = cc in
-    subst HasRooms (sym e) (first_at c.args.pools.now c.args.k c.requires.first c.requires.there)
+    rw e (first_at c.args.pools.now c.args.k c.requires.first c.requires.there)

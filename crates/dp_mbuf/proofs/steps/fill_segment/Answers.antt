@@ -1,7 +1,6 @@
 -- As many bytes as fit are written into a new mbuf.
-use Rattle.std.proofs.Common.{◌≡◌, ◌∙◌, ap, subst, take, length}
+use Rattle.std.proofs.Common.{◌≡◌, ◌∙◌, ap, take, length}
 use Rattle.std.proofs.lemmas.List.{take_min}
-use Rattle.dp_mbuf.specs.Steps.{FilledBy}
 use Rattle.dp_mbuf.proofs.Allocs.{same_min}
 use Rattle.dp_mbuf.proofs.steps.fill_segment.Goals as goal
 
@@ -11,7 +10,7 @@ returns-clause-filled c =
     ap (λ n. take n c.args.bytes.now) ((rw c.from.ensures at c.min-count.ensures) ∙ same_min (length c.args.bytes.now) c.args.full)
     ∙ take_min c.args.full c.args.bytes.now in
     let both = rw (c.from-2.ensures, c.fresh_header-header.ensures) at c.fill.ensures.both in
-    subst (λ b. FilledBy c.args.objects.now c.take_one-n.result b c.fill.new.self) chunk
+    rw (← chunk)
     (record {
       first = c.take_one-n.new.objects;
       second = both.middle;

@@ -18,7 +18,9 @@ free : (c : After-header-tail) →
     (c.header-tail.result.offset + c.header-tail.result.len + c.args.n ≤ room_at (specs_of c.self.inside.objects) c.header-tail.result.buffer.pool)
     × HasObject c.self.inside.objects c.header-tail.result.buffer
     × (room_at (specs_of c.self.inside.objects) c.header-tail.result.buffer.pool ≤ 4096)
-free c = after_last _ _ c.args.packet.now (same_store c.self.view_is) c.self.invariant _ c.args.n (last c) (c.requires.0, c.requires.1, c.requires.2.0)
+free c =
+    let (k, has, (fits, _)) = c.requires in
+    after_last _ _ c.args.packet.now (same_store c.self.view_is) c.self.invariant _ c.args.n (last c) (k, has, fits)
 
 pub first_header-last-requires : goal.first_header-last-requires
 first_header-last-requires c = live_object _ _ c.args.packet.now (same_store c.self.view_is) c.self.invariant (c.requires.0, c.requires.1, tt)

@@ -17,7 +17,8 @@ heads c =
 
 pub clear_first-beyond-requires : goal.clear_first-beyond-requires
 clear_first-beyond-requires c =
-    rw c.first_number-second.ensures (live_object _ _ c.args.tail (same_store c.self.view_is) c.self.invariant (c.requires.few.2.0, c.requires.few.2.1, tt))
+    rw c.first_number-second.ensures (live_object _ _ c.args.tail (same_store c.self.view_is) c.self.invariant
+    (let (_, _, (tail, has, _)) = c.requires.few in (tail, has, tt)))
 
 pub clear_first-front-requires : goal.clear_first-front-requires
 clear_first-front-requires c =
@@ -30,12 +31,11 @@ clear_first-front-requires c =
 
 pub relink-requires : goal.relink-requires
 relink-requires c =
-    last_there _ _ c.args.head.now c.args.tail (same_store c.self.view_is) c.self.invariant c.requires.two c.requires.few _ _ _ _
-    (heads (goal.at.relink-requires c).After-clear_first-front)
+    last_there (same_store c.self.view_is) c.self.invariant c.requires.two c.requires.few (heads (goal.at.relink-requires c).After-clear_first-front)
 
 pub overflow_add-front : goal.overflow_add-front
 overflow_add-front c =
-    let fits = segs_fit _ _ c.args.head.now c.args.tail (same_store c.self.view_is) c.self.invariant c.requires.two c.requires.few _ _ _ _
+    let fits = segs_fit (same_store c.self.view_is) c.self.invariant c.requires.two c.requires.few
     (heads (goal.at.overflow_add-front c).After-clear_first-front) in
     omega (arith, fits)
 
@@ -49,12 +49,12 @@ pub invariant_of-self : goal.invariant_of-self
 invariant_of-self c =
     let linked = rw c.first_number-second.ensures at c.relink.ensures in
     let first_set = rw c.first_number-first.ensures at c.set_first.ensures in
-    (chained _ _ c.args.head.now c.args.tail (same_store c.self.view_is) c.self.invariant c.requires.two c.requires.few _ _ _ _ _ _
+    (chained (same_store c.self.view_is) c.self.invariant c.requires.two c.requires.few
     (heads (goal.at.invariant_of-self c).After-clear_first-front) linked first_set).0
 
 pub returns-clause-packets : goal.returns-clause-packets
 returns-clause-packets c =
     let linked = rw c.first_number-second.ensures at c.relink.ensures in
     let first_set = rw c.first_number-first.ensures at c.set_first.ensures in
-    (chained _ _ c.args.head.now c.args.tail (same_store c.self.view_is) c.self.invariant c.requires.two c.requires.few _ _ _ _ _ _
+    (chained (same_store c.self.view_is) c.self.invariant c.requires.two c.requires.few
     (heads (goal.at.returns-clause-packets c).After-clear_first-front) linked first_set).1

@@ -37,7 +37,7 @@ returns-then-available-from-clause-packets c = λ k has.
 pub clone_segment-first-requires : goal.clone_segment-first-requires
 clone_segment-first-requires c =
     rw c.first_number.ensures
-    (cloning_can _ _ _ _ _ _ (found (goal.at.clone_segment-first-requires c).After-first_number))
+    (cloning_can (found (goal.at.clone_segment-first-requires c).After-first_number))
 
 pub loop-i-init : goal.loop-i-init
 loop-i-init c = record {
@@ -45,27 +45,24 @@ loop-i-init c = record {
       λ p has.
       let k = rw c.first_number.ensures at c.clone_segment-first.ensures.cloned in
       rw c.first_header-source.ensures
-      (cloning_start _ _ _ _ _ _ (opening (goal.at.loop-i-init c).After-first_number p has) _ c.clone_segment-first.result
+      (cloning_start (opening (goal.at.loop-i-init c).After-first_number p has) _ c.clone_segment-first.result
       c.clone_segment-first.ensures.pool k);
   zones = cloned_zones _ _ _ _ c.clone_segment-first.ensures.cloned ∙ same_zones c.self.view_is;
 }
 
 pub clone_segment-mbuf-requires : goal.clone_segment-mbuf-requires
 clone_segment-mbuf-requires c =
-    step_can _ _ _ _ _ _ (found (goal.at.clone_segment-mbuf-requires c).After-first_number) _ _ _ _ _
-    (c.loop-i.invariant.packets c.requires.live.0 c.requires.live.1)
+    step_can (found (goal.at.clone_segment-mbuf-requires c).After-first_number) (c.loop-i.invariant.packets c.requires.live.0 c.requires.live.1)
     c.loop-i-test.true
 
 pub relink-requires : goal.relink-requires
 relink-requires c =
-    step_last _ _ _ _ _ _ (found (goal.at.relink-requires c).After-first_number) _ _ _ _ _
-    (c.loop-i.invariant.packets c.requires.live.0 c.requires.live.1) c.loop-i-test.true
+    step_last (found (goal.at.relink-requires c).After-first_number) (c.loop-i.invariant.packets c.requires.live.0 c.requires.live.1) c.loop-i-test.true
     _ _ c.clone_segment-mbuf.ensures.cloned
 
 pub header-from-requires : goal.header-from-requires
 header-from-requires c =
-    (step_done _ _ _ _ _ _ (found (goal.at.header-from-requires c).After-first_number) _ _ _ _ _
-    (c.loop-i.invariant.packets c.requires.live.0 c.requires.live.1)
+    (step_done (found (goal.at.header-from-requires c).After-first_number) (c.loop-i.invariant.packets c.requires.live.0 c.requires.live.1)
     c.loop-i-test.true _ _ _ c.clone_segment-mbuf.ensures.pool c.clone_segment-mbuf.ensures.cloned c.relink.ensures).0
 
 pub loop-i-preserved : goal.loop-i-preserved
@@ -73,23 +70,21 @@ loop-i-preserved c = record {
   packets =
       λ p has.
       rw c.header-from.ensures
-      (step_done _ _ _ _ _ _ (opening (goal.at.loop-i-preserved c).After-first_number p has) _ _ _ _ _ (c.loop-i.invariant.packets p has)
+      (step_done (opening (goal.at.loop-i-preserved c).After-first_number p has) (c.loop-i.invariant.packets p has)
       c.loop-i-test.true _ _ _ c.clone_segment-mbuf.ensures.pool c.clone_segment-mbuf.ensures.cloned c.relink.ensures).1;
   zones = c.relink.ensures.zones ∙ (cloned_zones _ _ _ _ c.clone_segment-mbuf.ensures.cloned ∙ c.loop-i.invariant.zones);
 }
 
 pub set_first-requires : goal.set_first-requires
 set_first-requires c =
-    end_object _ _ _ _ _ _ (found (goal.at.set_first-requires c).After-first_number) _ _ _ _ _
-    (c.loop-i.invariant.packets c.requires.live.0 c.requires.live.1) c.loop-i-test.false
+    end_object (found (goal.at.set_first-requires c).After-first_number) (c.loop-i.invariant.packets c.requires.live.0 c.requires.live.1) c.loop-i-test.false
 
 pub invariant_of-self : goal.invariant_of-self
 invariant_of-self c =
-    (end_done _ _ _ _ _ _ (found (goal.at.invariant_of-self c).After-first_number) _ _ _ _ _
-    (c.loop-i.invariant.packets c.requires.live.0 c.requires.live.1)
+    (end_done (found (goal.at.invariant_of-self c).After-first_number) (c.loop-i.invariant.packets c.requires.live.0 c.requires.live.1)
     c.loop-i-test.false _ _ c.packet_of.ensures c.set_first.ensures).0
 
 pub returns-clause-packets : goal.returns-clause-packets
 returns-clause-packets c = λ p has.
-    (end_done _ _ _ _ _ _ (opening (goal.at.returns-clause-packets c).After-first_number p has) _ _ _ _ _ (c.loop-i.invariant.packets p has)
+    (end_done (opening (goal.at.returns-clause-packets c).After-first_number p has) (c.loop-i.invariant.packets p has)
     c.loop-i-test.false _ _ c.packet_of.ensures c.set_first.ensures).1

@@ -26,7 +26,7 @@ clear_first-head-requires c = rw c.first_number-first.ensures (live_object _ _ c
 pub release_only-requires-clause-can : goal.release_only-requires-clause-can
 release_only-requires-clause-can c =
     let here = (goal.at.release_only-requires-clause-can c).After-clear_first-head in
-    freeing_only _ _ _ _ _ _ (started here) c.if-segs-eq1.true (buffer here)
+    freeing_only (started here) c.if-segs-eq1.true (buffer here)
 
 pub release_all-requires : goal.release_all-requires
 release_all-requires c = (_, _, started (goal.at.release_all-requires c).After-clear_first-head)
@@ -34,7 +34,7 @@ release_all-requires c = (_, _, started (goal.at.release_all-requires c).After-c
 pub invariant_of-self : goal.invariant_of-self
 invariant_of-self c =
     let here = (goal.at.invariant_of-self c).After-clear_first-head in
-    (freed_only _ _ _ _ _ _ (started here) c.if-segs-eq1.true (buffer here) _ c.release_only.ensures).0
+    (freed_only (started here) c.if-segs-eq1.true (buffer here) _ c.release_only.ensures).0
 
 pub invariant_of-self-else-segs-eq1 : goal.invariant_of-self-else-segs-eq1
 invariant_of-self-else-segs-eq1 c = (c.release_all.ensures.packets _ _ (started (goal.at.invariant_of-self-else-segs-eq1 c).After-clear_first-head)).0
@@ -42,7 +42,7 @@ invariant_of-self-else-segs-eq1 c = (c.release_all.ensures.packets _ _ (started 
 pub returns-then-segs-eq1-clause-packets : goal.returns-then-segs-eq1-clause-packets
 returns-then-segs-eq1-clause-packets c =
     let here = (goal.at.returns-then-segs-eq1-clause-packets c).After-clear_first-head in
-    (freed_only _ _ _ _ _ _ (started here) c.if-segs-eq1.true (buffer here) _ c.release_only.ensures).1
+    (freed_only (started here) c.if-segs-eq1.true (buffer here) _ c.release_only.ensures).1
 
 pub returns-then-segs-eq1-clause-zones : goal.returns-then-segs-eq1-clause-zones
 returns-then-segs-eq1-clause-zones c = released_zones _ _ _ _ c.release_only.ensures ∙ (c.clear_first-head.ensures.now.zones ∙ same_zones c.self.view_is)

@@ -1,8 +1,8 @@
 -- One segment after the other: each buffer so far has one reference, or one has another number.
-use Rattle.std.proofs.Common.{◌≡◌, ◌<◌, length, refl, ap, arith, subst, sym, ◌∙◌}
+use Rattle.std.proofs.Common.{◌≡◌, ◌<◌, length, refl, ap, arith, sym, ◌∙◌}
 use Rattle.std.proofs.lemmas.List.{drop_all}
-use Rattle.dp_model.specs.Packets.{Packet, IsSole}
-use Rattle.dp_model.specs.Stores.{Has, segments_of}
+use Rattle.dp_model.specs.Packets.{Packet}
+use Rattle.dp_model.specs.Stores.{Has}
 use Rattle.dp_mbuf.specs.Objects.{header_at}
 use Rattle.dp_mbuf.proofs.Live.{same_store, live_object}
 use Rattle.dp_mbuf.proofs.Reading.{links_of, many_of, part, walk_next, sole_more, sole_not}
@@ -12,7 +12,7 @@ use Rattle.dp_mbuf.proofs.mbufs.Mbufs.is_sole.Goals.{After-first_header-segs}
 -- the first header has the number of segments
 counted : (c : After-first_header-segs) (p : Packet) → Has c.args.self.now.store c.args.packet.now p → c.first_header-segs.result.segs ≡ length p
 counted c p has =
-    ap (λ h. h.segs) c.first_header-segs.ensures ∙ (many_of _ _ c.args.packet.now (same_store c.self.view_is) c.self.invariant p has).0
+    rw c.first_header-segs.ensures (many_of _ _ c.args.packet.now (same_store c.self.view_is) c.self.invariant p has).0
 
 pub first_header-segs-requires : goal.first_header-segs-requires
 first_header-segs-requires c = live_object _ _ c.args.packet.now (same_store c.self.view_is) c.self.invariant c.requires
@@ -57,4 +57,4 @@ pub returns : goal.returns
 returns c = λ p has.
     let now = c.loop-i.invariant p has in
     let none = drop_all c.loop-i.i p (omega (arith, c.loop-i-test.false, counted (goal.at.returns c).After-first_header-segs p has)) in
-    (λ _. now.1 (subst (IsSole (segments_of c.args.self.now.store)) (sym none) tt), λ _. refl)
+    (λ _. now.1 (rw none tt), λ _. refl)

@@ -15,8 +15,9 @@ bytes_in_segment-bytes-requires-clause-object c =
 
 pub bytes_in_segment-bytes-requires-clause-fits : goal.bytes_in_segment-bytes-requires-clause-fits
 bytes_in_segment-bytes-requires-clause-fits c =
-    (at_first _ _ c.args.packet.now (same_store c.self.view_is) c.self.invariant _ c.args.offset (bytes_in c.args.width) c.first_header-head.ensures
-    c.requires).2
+    let (_, _, fits, _) = at_first _ _ c.args.packet.now (same_store c.self.view_is) c.self.invariant _ c.args.offset (bytes_in c.args.width)
+    c.first_header-head.ensures c.requires in
+    fits
 
 pub slice_bounds-read_number-count : goal.slice_bounds-read_number-count
 slice_bounds-read_number-count c =

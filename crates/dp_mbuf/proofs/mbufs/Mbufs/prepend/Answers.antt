@@ -9,11 +9,9 @@ use Rattle.dp_mbuf.proofs.mbufs.Mbufs.prepend.Goals.{After-first_header-head}
 
 -- that many bytes are free at the front
 free : (c : After-first_header-head) → c.args.n ≤ c.first_header-head.result.offset
-free c = before_first _ _ c.args.packet.now (same_store c.self.view_is) c.self.invariant _ c.args.n c.first_header-head.ensures (
-  c.requires.0,
-  c.requires.1,
-  c.requires.2.0,
-)
+free c =
+    let (k, has, (fits, _)) = c.requires in
+    before_first _ _ c.args.packet.now (same_store c.self.view_is) c.self.invariant _ c.args.n c.first_header-head.ensures (k, has, fits)
 
 pub first_header-head-requires : goal.first_header-head-requires
 first_header-head-requires c = live_object _ _ c.args.packet.now (same_store c.self.view_is) c.self.invariant (c.requires.0, c.requires.1, tt)

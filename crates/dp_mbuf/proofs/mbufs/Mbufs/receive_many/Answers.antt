@@ -57,7 +57,7 @@ set_first-requires c =
     let r = pool_ready (goal.at.set_first-requires c).After-fill_segment-first in
     let need = c.count_needed-need.ensures in
     let same : c.loop-i.i ≡ c.count_needed-need.result = omega (arith, need, c.loop-i-test.false, c.loop-i.auto.i-end) in
-    receive_object c.args.self.now.store c.args.pool (c.room-full.result - 128) c.args.bytes.now _ _ _ _ _ _ _ c.loop-i.invariant.packets r need
+    receive_object c.loop-i.invariant.packets r need
     c.requires.fits same
 
 pub invariant_of-self : goal.invariant_of-self
@@ -65,7 +65,7 @@ invariant_of-self c =
     let r = pool_ready (goal.at.invariant_of-self c).After-fill_segment-first in
     let need = c.count_needed-need.ensures in
     let same : c.loop-i.i ≡ c.count_needed-need.result = omega (arith, need, c.loop-i-test.false, c.loop-i.auto.i-end) in
-    (receive_done c.args.self.now.store c.args.pool (c.room-full.result - 128) c.args.bytes.now _ _ _ _ _ _ _ c.loop-i.invariant.packets r need
+    (receive_done c.loop-i.invariant.packets r need
     c.requires.fits same _ _ (enough (goal.at.invariant_of-self c).After-fill_segment-first) c.packet_of.ensures c.set_first.ensures).0
 
 pub returns-clause-packets : goal.returns-clause-packets
@@ -73,5 +73,5 @@ returns-clause-packets c =
     let r = pool_ready (goal.at.returns-clause-packets c).After-fill_segment-first in
     let need = c.count_needed-need.ensures in
     let same : c.loop-i.i ≡ c.count_needed-need.result = omega (arith, need, c.loop-i-test.false, c.loop-i.auto.i-end) in
-    (receive_done c.args.self.now.store c.args.pool (c.room-full.result - 128) c.args.bytes.now _ _ _ _ _ _ _ c.loop-i.invariant.packets r need
+    (receive_done c.loop-i.invariant.packets r need
     c.requires.fits same _ _ (enough (goal.at.returns-clause-packets c).After-fill_segment-first) c.packet_of.ensures c.set_first.ensures).1

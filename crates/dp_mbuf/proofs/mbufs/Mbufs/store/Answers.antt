@@ -10,23 +10,26 @@ first_header-head-requires c = live_object _ _ c.args.packet.now (same_store c.s
 
 pub overflow_add-at : goal.overflow_add-at
 overflow_add-at c =
+    let (k, has, (fits, _)) = c.requires in
     omega (
       arith,
       at_first _ _ c.args.packet.now (same_store c.self.view_is) c.self.invariant _ c.args.offset
-          (bytes_in c.args.width) c.first_header-head.ensures (c.requires.0, c.requires.1, c.requires.2.0),
+          (bytes_in c.args.width) c.first_header-head.ensures (k, has, fits),
     )
 
 pub write_number-requires-clause-object : goal.write_number-requires-clause-object
 write_number-requires-clause-object c =
+    let (k, has, (fits, _)) = c.requires in
     (at_first _ _ c.args.packet.now (same_store c.self.view_is) c.self.invariant _ c.args.offset (bytes_in c.args.width) c.first_header-head.ensures
-    (c.requires.0, c.requires.1, c.requires.2.0)).1
+    (k, has, fits)).1
 
 pub write_number-requires-clause-fits : goal.write_number-requires-clause-fits
 write_number-requires-clause-fits c =
+    let (k, has, (fits, _)) = c.requires in
     omega (
       arith,
       at_first _ _ c.args.packet.now (same_store c.self.view_is) c.self.invariant _ c.args.offset
-          (bytes_in c.args.width) c.first_header-head.ensures (c.requires.0, c.requires.1, c.requires.2.0),
+          (bytes_in c.args.width) c.first_header-head.ensures (k, has, fits),
     )
 
 pub invariant_of-self : goal.invariant_of-self

@@ -14,8 +14,8 @@ get_in-requires c = has _ _ c.self.view_is c.self.invariant _ _ (rw c.from.ensur
 
 pub returns-in_err-index : goal.returns-in_err-index
 returns-in_err-index c =
-    let t = take_none _ _ c.self.view_is c.self.invariant _ _ c.get_in.new.slot (rw c.from.ensures c.requires) c.in_err-index.ensures in
-    rw c.from_residual.ensures (rw c.from.ensures at t.1, t.2)
+    let (_, same, none) = take_none _ _ c.self.view_is c.self.invariant _ _ c.get_in.new.slot (rw c.from.ensures c.requires) c.in_err-index.ensures in
+    rw c.from_residual.ensures (rw c.from.ensures at same, none)
 
 pub invariant_of-self : goal.invariant_of-self
 invariant_of-self c =
