@@ -49,8 +49,7 @@ pub holds : (f n : ℕ) → f % 64 ≡ 0 → n % 64 ≡ 0 → 64 + n ≤ f → C
 holds f n even steps room = (refl, omega arith, omega arith, omega arith)
 
 highest_is : (f n d : ℕ) → f % 64 ≡ 0 → n % 64 ≡ 0 → 64 + n ≤ f → IsHighest (bottom f) n 64 d → d ≡ f - n
-highest_is f n d even steps room h =
-    let least = h.1 (f - n) (holds f n even steps room) in let most = h.0.3 in omega arith
+highest_is f n d even steps room ((_, _, _, most), least) = omega (arith, most, least (f - n) (holds f n even steps room))
 
 abbrev AreBusy : List Element → Type 0
 AreBusy es = AllByRecursion (λ e. is_free e ≡ false) es
@@ -81,7 +80,7 @@ bottom_taken f n d rest new all even steps room (e, high, (before, after, old_is
 under_busy : (t : Element) (es : List Element) → is_free t ≡ false → LieUnder t es → AreBusy es
 under_busy t [] taken lie = absurd lie
 under_busy t (e ∷ []) taken lie = (ap is_free lie ∙ taken, tt)
-under_busy t (e ∷ x ∷ es) taken lie = (lie.0, under_busy t (x ∷ es) taken lie.2)
+under_busy t (e ∷ x ∷ es) taken (busy, _, lie) = (busy, under_busy t (x ∷ es) taken lie)
 
 more_under : (t b : Element) (es : List Element) → is_free b ≡ false → data_of b < data_of t → LieUnder t es → LieUnder t (b ∷ es)
 more_under t b [] taken low lie = absurd lie
@@ -142,9 +141,9 @@ top_has p n e [] lie =
     subst (λ (x : Element). Has (freed t) (merged (data_of t) (x ∷ []))) (sym lie)
     (subst (λ (b : Bool). Has (freed t) (cond b (joined (freed t) []) (joined t (merged (data_of t) [])))) (sym (eq-eqb (data_of t) (data_of t) refl))
     (inl refl))
-top_has p n e (x ∷ es) lie =
+top_has p n e (x ∷ es) (busy, low, lie) =
     let t = block_at p n in
-    subst (λ (zs : List Element). Has (freed t) zs) (sym (past (data_of t) e (x ∷ es) lie.0 lie.1)) (inr (top_has p n x es lie.2))
+    subst (λ (zs : List Element). Has (freed t) zs) (sym (past (data_of t) e (x ∷ es) busy low)) (inr (top_has p n x es lie))
 
 -- both the bottom and its own offset are free then
 pub top_freed : (p n : ℕ) (es : List Element) → IsBuilt (block_at p n) es → 2 ≤ count_of is_busy es
@@ -155,13 +154,13 @@ top_freed p n (f ∷ e ∷ []) (first, even, under, lie) more =
     let one : count_of is_busy (f ∷ e ∷ []) ≡ count_of is_busy (bottom f.size ∷ block_at p n ∷ []) = ap (λ (x : Element). count_of is_busy (x ∷ e ∷ [])) first
     ∙ ap (λ (x : Element). count_of is_busy (bottom f.size ∷ x ∷ [])) lie in
     absurd (omega arith)
-top_freed p n (f ∷ e ∷ x ∷ es) (first, even, under, lie) more =
+top_freed p n (f ∷ e ∷ x ∷ es) (first, even, under, (busy, low, lie)) more =
     let t = block_at p n in let d = data_of t in
-    let rest : merged d (e ∷ x ∷ es) ≡ e ∷ merged d (x ∷ es) = past d e (x ∷ es) lie.0 lie.1 in
+    let rest : merged d (e ∷ x ∷ es) ≡ e ∷ merged d (x ∷ es) = past d e (x ∷ es) busy low in
     let whole : merged d (f ∷ e ∷ x ∷ es) ≡ bottom f.size ∷ e ∷ merged d (x ∷ es) =
-    ap (λ (y : Element). merged d (y ∷ e ∷ x ∷ es)) first ∙ ap (joined (bottom f.size)) rest ∙ before_busy (bottom f.size) e (merged d (x ∷ es)) lie.0 in (
+    ap (λ (y : Element). merged d (y ∷ e ∷ x ∷ es)) first ∙ ap (joined (bottom f.size)) rest ∙ before_busy (bottom f.size) e (merged d (x ∷ es)) busy in (
       subst (λ (zs : List Element). Has (bottom f.size) zs) (sym whole) (inl refl),
-      subst (λ (zs : List Element). Has (freed t) zs) (sym whole) (inr (inr (top_has p n x es lie.2))),
+      subst (λ (zs : List Element). Has (freed t) zs) (sym whole) (inr (inr (top_has p n x es lie))),
     )
 
 -- ---- free elements
@@ -226,8 +225,7 @@ spare_size offset size = go (ltb 128 size)
     go false = omega arith
 
 pieces_size : (e : Element) (n a d : ℕ) → CanHold e n a d → size_of (pieces e n d) ≡ e.size
-pieces_size e n a d can =
-    let low = can.2 in let high = can.3 in
+pieces_size e n a d (_, _, low, high) =
     let front = spare_size e.offset (d - 64 - e.offset) in
     let tail = spare_size (d + n) (end_of e - (d + n)) in
     let whole = append_size (spare e.offset (d - 64 - e.offset)) (busy e n d ∷ spare (d + n) (end_of e - (d + n))) in

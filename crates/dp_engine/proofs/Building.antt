@@ -39,15 +39,14 @@ pub builder_new : (size len d : ℕ) (heap' : HeapView) (table' : List Reserved)
     → spare.offset ≡ d → length spare.bytes ≡ rounded len → spare.home ≡ heap'.home → count_of is_busy heap'.elements ≡ 1 → length table' ≡ 1
     → IsBuilder heap' table' spare × (left_in heap'.elements + zone_bytes len ≡ size)
 builder_new size len d heap' table' spare even room taken at long home counted one =
-    let new = first_taken size (rounded len) d heap'.elements even (omega arith) (omega arith) taken in
-    let steps = new.2 in let high = new.3 in let less = new.1 in
+    let (built, less, steps, high) = first_taken size (rounded len) d heap'.elements even (omega arith) (omega arith) taken in
     let same : d - 64 ≡ spare.offset - 64 = omega arith in (
       record {
         home = home;
         even = ap (λ (p : ℕ). p % 64) at ∙ steps;
         high = omega arith;
         built = subst (λ (p : ℕ). IsBuilt (block_at p (length spare.bytes)) heap'.elements) same
-            (subst (λ (n : ℕ). IsBuilt (block_at (d - 64) n) heap'.elements) (sym long) new.0);
+            (subst (λ (n : ℕ). IsBuilt (block_at (d - 64) n) heap'.elements) (sym long) built);
         counted = omega arith;
       },
       omega arith,
@@ -58,10 +57,10 @@ new_fits size len even room none = none.0 (size - rounded len) (holds size (roun
 
 -- ---- a pool
 
-pub made_two : (name : List ℕ) (s : PoolSpec) (size : ℕ) (home : Home) (old new : List Reserved) (before after : List Element) (p : PoolView) →
+pub made_two : {name : List ℕ} {size : ℕ} {home : Home} {old new : List Reserved} {before after : List Element} {p : PoolView} (s : PoolSpec) →
     pool_fits s ≡ true → size ≡ s.room + 128
     → IsMade name s.count size s.cache home old before p new after → TakesTwo before (rounded (objects_len s)) (rounded (queue_len s)) after
-made_two name s size home old new before after p fits sized made =
+made_two {before = before} {after = after} {p = p} s fits sized made =
     let (slots, (power, above, half), is) = made.len_is in
     let same : slots ≡ power_above s.count = power_is s.count slots power (omega arith) (omega (arith, half)) in
     let len_is : made.len ≡ queue_len s = is ∙ ap (λ (n : ℕ). 4 * n) same in record {
@@ -129,7 +128,7 @@ pub last_queue : (p n offset : ℕ) (s : PoolSpec) (es mid : List Element) → p
     Has (freed (block_at (p - 64) n)) es
     → Taken es (rounded (objects_len s)) 64 offset mid → NothingFits (rounded (queue_len s)) 64 mid → ⊥
 last_queue p n offset s es mid fits high even is has taken none =
-    let sizes = long s fits in let objects = sizes.0 in let queue = sizes.2 in let some = (within s fits).count.0 in
-    let never : CanHold (freed (block_at (p - 64) n)) (rounded (objects_len s)) 64 offset → ⊥ = λ can. let low = can.2 in let up = can.3 in omega arith in
+    let (objects, _, queue, _) = long s fits in let some = (within s fits).count.0 in
+    let never : CanHold (freed (block_at (p - 64) n)) (rounded (objects_len s)) 64 offset → ⊥ = λ (_, _, low, up). omega arith in
     has_fits (freed (block_at (p - 64) n)) mid (rounded (queue_len s)) 64 p
     (has_stays (freed (block_at (p - 64) n)) es mid (rounded (objects_len s)) 64 offset has never taken) (refl, even, omega arith, omega arith) none

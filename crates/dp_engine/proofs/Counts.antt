@@ -9,11 +9,13 @@ use Rattle.dp_model.specs.declared.env.PoolSpec.{PoolSpec}
 use Rattle.dp_model.specs.Environments.{count_at}
 use Rattle.dp_model.specs.Buffers.{Number, same_number}
 use Rattle.dp_model.specs.Packets.{Segment, Packet, refs, is_free, free_below, available, IsHeadSole, IsTailSole, IsFresh, AreFresh}
-use Rattle.dp_model.specs.Machine.{segments_held, segments_listed}
+use Rattle.dp_model.specs.Machine.{segments_held, segments_listed, live}
+use Rattle.dp_model.specs.Stores.{segments_of}
 use Rattle.dp_model.specs.Laws.Lists.{get_set_other, get_set_same}
 use Rattle.dp_model.specs.Laws.Cases.{one_if}
 use Rattle.dp_model.specs.Laws.References.{refs-cons}
-use Rattle.dp_engine.specs.Handles.{held_of, packet_at, register_at, handles_held, once, occurs, in_slot, joined, waiting, packets_in, Lists, OccurOnce}
+use Rattle.dp_engine.specs.Handles.{held_of, packet_at, register_at, handles_held, once, occurs, in_slot, joined, waiting, packets_listed, Lists}
+use Rattle.dp_engine.specs.MachineParts.{MachineParts, OccurOnce, core_of}
 use Rattle.dp_engine.proofs.Handles.{is_one, in_slot_some, in_slot_few, occurs-append}
 
 -- how many of the segments are such
@@ -154,7 +156,7 @@ listed slots [] = refl
 listed slots (h ∷ xs) = ap (λ l. packet_at slots h ++ l) (listed slots xs)
 
 -- the segments of all that waits in these lists
-tally_in : (f : Segment → Bool) (slots : List (Option Packet)) (lists : List (List ℕ)) → tally f (segments_listed (packets_in slots lists))
+tally_in : (f : Segment → Bool) (slots : List (Option Packet)) (lists : List (List ℕ)) → tally f (segments_listed (packets_listed slots lists))
     ≡ tally f (segments_at slots (joined lists))
 tally_in f slots [] = refl
 tally_in f slots (xs ∷ lists) =
@@ -164,12 +166,12 @@ tally_in f slots (xs ∷ lists) =
       first,
       tally_in f slots lists,
       tally_at f slots xs (joined lists),
-      tally-append f (flat_map (λ k. k) (map (packet_at slots) xs)) (segments_listed (packets_in slots lists)),
+      tally-append f (flat_map (λ k. k) (map (packet_at slots) xs)) (segments_listed (packets_listed slots lists)),
     )
 
 -- in rings and transmit lists together
 tally_waiting : (f : Segment → Bool) (slots : List (Option Packet)) (lists : Lists) →
-    tally f (segments_listed (packets_in slots lists.rings) ++ segments_listed (packets_in slots lists.outboxes))
+    tally f (segments_listed (packets_listed slots lists.rings) ++ segments_listed (packets_listed slots lists.outboxes))
     ≡ tally f (segments_at slots (waiting lists))
 tally_waiting f slots lists =
     omega (
@@ -177,12 +179,12 @@ tally_waiting f slots lists =
       tally_in f slots lists.rings,
       tally_in f slots lists.outboxes,
       tally_at f slots (joined lists.rings) (joined lists.outboxes),
-      tally-append f (segments_listed (packets_in slots lists.rings)) (segments_listed (packets_in slots lists.outboxes)),
+      tally-append f (segments_listed (packets_listed slots lists.rings)) (segments_listed (packets_listed slots lists.outboxes)),
     )
 
 -- what waits is all that there is
 pub idle_counts : (slots : List (Option Packet)) (lists : Lists) → ((h : ℕ) → occurs h (waiting lists) ≡ in_slot (slice_get slots h)) →
-    CountSame (segments_listed (packets_in slots lists.rings) ++ segments_listed (packets_in slots lists.outboxes)) (segments_held slots)
+    CountSame (segments_listed (packets_listed slots lists.rings) ++ segments_listed (packets_listed slots lists.outboxes)) (segments_held slots)
 idle_counts slots lists each f = tally_waiting f slots lists ∙ spread f (waiting lists) slots each
 
 -- ---- at any time
@@ -194,21 +196,19 @@ held_at slots (None ∷ registers) = held_at slots registers
 held_at slots (Some h ∷ registers) = ap (λ l. packet_at slots h ++ l) (held_at slots registers)
 
 -- the packets of registers and lists are all that there are
-pub live_counts : (slots : List (Option Packet)) (registers : List (Option ℕ)) (lists : Lists) → OccurOnce slots registers lists →
-    CountSame (segments_held (map (register_at slots) registers) ++ (segments_listed (packets_in slots lists.rings)
-    ++ segments_listed (packets_in slots lists.outboxes))) (segments_held slots)
-live_counts slots registers lists stand f =
-    let held : tally f (segments_held (map (register_at slots) registers)) ≡ tally f (segments_at slots (handles_held registers)) =
-    ap (tally f) (held_at slots registers) in
-    let all = spread f (handles_held registers ++ waiting lists) slots (λ h. occurs-append h (handles_held registers) (waiting lists) ∙ stand h) in
+pub live_counts : (m : MachineParts) → OccurOnce m → CountSame (live (core_of m).state) (segments_of m.store)
+live_counts m stand f =
+    let slots = m.store.slots in
+    let handles = handles_held m.registers in
+    let held : tally f (segments_held (map (register_at slots) m.registers)) ≡ tally f (segments_at slots handles) = ap (tally f) (held_at slots m.registers) in
     omega (
       arith,
       held,
-      all,
-      tally_waiting f slots lists,
-      tally_at f slots (handles_held registers) (waiting lists),
-      tally-append f (segments_held (map (register_at slots) registers)) (segments_listed (packets_in slots lists.rings)
-          ++ segments_listed (packets_in slots lists.outboxes)),
+      spread f (handles ++ waiting m.lists) slots (λ h. occurs-append h handles (waiting m.lists) ∙ stand h),
+      tally_waiting f slots m.lists,
+      tally_at f slots handles (waiting m.lists),
+      tally-append f (segments_held (map (register_at slots) m.registers)) (segments_listed (packets_listed slots m.lists.rings)
+          ++ segments_listed (packets_listed slots m.lists.outboxes)),
     )
 
 once_if : (b : Bool) → one_if b ≡ once b

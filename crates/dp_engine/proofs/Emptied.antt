@@ -5,7 +5,9 @@ use Rattle.std.proofs.lemmas.Option.{same_Some}
 use Rattle.std.proofs.lemmas.Slice.Zip.{AllZip-long}
 use Rattle.std.proofs.lemmas.List.{length-set}
 use Rattle.dp_model.specs.Packets.{Packet}
-use Rattle.dp_model.specs.Machine.{live, segments_listed, with_ring, with_outbox}
+use Rattle.dp_model.specs.declared.queue.Queue.{Queue}
+use Rattle.dp_model.specs.declared.queue.Queue.TheVariants.{Tx, Ring}
+use Rattle.dp_model.specs.Machine.{State, live, segments_listed, packets_in, with_queue}
 use Rattle.dp_model.specs.Runs.{between, with_empty_outboxes, with_empty_rings, left_in_rings}
 use Rattle.dp_model.specs.Laws.Waiting.{nothing_listed}
 use Rattle.dp_model.specs.Laws.Lists.{get_within}
@@ -13,11 +15,11 @@ use Rattle.dp_engine.specs.declared.report.Tallies.{Tallies}
 use Rattle.dp_engine.specs.Handles.{Core, moved}
 use Rattle.dp_engine.specs.Schemes.{Scheme}
 use Rattle.dp_engine.specs.Memories.{EngineMemoryView}
-use Rattle.dp_engine.specs.Tallies.{listed_count}
-use Rattle.dp_engine.specs.Engines.{EngineState, engine_of, IsEngine, sent_by, records_of, sum, tallies_at, sent_at, drained, left_at, with_left}
+use Rattle.dp_engine.specs.Tallies.{listed_count, packet_count}
+use Rattle.dp_engine.specs.Engines.{EngineState, engine_of, IsEngine, sent_by, records_of, over_ports, sum, tallies_at, sent_at, drained, left_at, with_left}
 use Rattle.dp_engine.specs.Engines.{flushed}
 use Rattle.dp_engine.specs.Batches.{with_sent, all_drained}
-use Rattle.dp_engine.proofs.Resting.{left_rests, sent_rests}
+use Rattle.dp_engine.proofs.Resting.{emptied_rests}
 use Rattle.dp_engine.specs.Laws.{known}
 use Rattle.dp_engine.proofs.Turning.{one_changed, one_of_all}
 
@@ -40,6 +42,19 @@ pub sum_at : (counts : List ℕ) (i : ℕ) → slice_index_or counts i 0 ≤ sum
 sum_at [] i = omega arith
 sum_at (x ∷ counts) zero = omega arith
 sum_at (x ∷ counts) (suc i) = let more = sum_at counts i in omega (arith, more)
+
+-- ---- what a queue that is emptied leaves
+
+record HasLess (n : ℕ) (s s' : State) : Type 0 where
+  packets : packet_count s' + n ≡ packet_count s
+  calls : s'.world.calls ≡ s.world.calls
+  cuts : s'.world.cuts ≡ s.world.cuts
+
+has_less : (s : State) (queue : Queue) (packets : List Packet) → packets_in queue s.world ≡ Some packets → HasLess (length packets) s (with_queue queue [] s)
+has_less s (Tx port) packets there =
+    record { packets = omega (arith, listed_less s.world.outboxes port packets there); calls = refl; cuts = refl }
+has_less s (Ring ring) packets there =
+    record { packets = omega (arith, listed_less s.world.rings ring packets there); calls = refl; cuts = refl }
 
 -- ---- slots
 
@@ -67,66 +82,61 @@ module _ (s : Scheme) (core : Core) (memory : EngineMemoryView) (turns : ℕ) (t
   pub box_at : (i : ℕ) → i < length s.setting.env.ports → (packets : List Packet) × (slice_get core.state.world.outboxes i ≡ Some packets)
   box_at i lt = get_within core.state.world.outboxes i (omega (arith, lt, is.rests.rest.ready.world.outboxes))
 
-  -- a transmit list is emptied, and some of its packets are counted as written
-  pub sent_kept : (port sent : ℕ) (packets : List Packet) → port < 8 → slice_get core.state.world.outboxes port ≡ Some packets → sent ≤ length packets
-      → IsEngine s (moved (with_outbox port [] core.state) core) memory turns (sent_at port sent tallies) left
-  sent_kept port sent packets lt box le =
-      let t : Tallies = record (tallies_at tallies port) { sent = (tallies_at tallies port).sent + sent } in
+  -- a queue is emptied, and no more packets than it had are counted as sent or left
+  emptied_kept : (queue : Queue) (packets : List Packet) (tallies' : List Tallies) (left' : List ℕ) → packets_in queue core.state.world ≡ Some packets
+      → length tallies' ≡ length tallies → length left' ≡ length left → over_ports records_of tallies' ≡ over_ports records_of tallies
+      → over_ports sent_by tallies' + sum left' ≤ over_ports sent_by tallies + sum left + length packets
+      → IsEngine s (moved (with_queue queue [] core.state) core) memory turns tallies' left'
+  emptied_kept queue packets tallies' left' there ports rings records more =
+      let less = has_less core.state queue packets there in
       record {
         within = is.within;
-        rests = sent_rests s core port is.rests;
+        rests = emptied_rests s core queue is.rests;
         stand = is.stand;
         limit = is.limit;
-        ports = length-set tallies port t ∙ is.ports;
-        rings = is.rings;
-        records = omega (arith, is.records, is.ports, lt, one_changed records_of tallies port t (omega (arith, is.ports, lt)));
-        calls = is.calls;
-        cuts = is.cuts;
-        packets = omega (
-          arith,
-          is.packets,
-          le,
-          listed_less core.state.world.outboxes port packets box,
-          one_changed sent_by tallies port t (omega (arith, is.ports, lt)),
-        );
+        ports = ports ∙ is.ports;
+        rings = rings ∙ is.rings;
+        records = omega (arith, is.records, records);
+        calls = omega (arith, is.calls, less.calls);
+        cuts = omega (arith, is.cuts, less.cuts);
+        packets = omega (arith, is.packets, more, less.packets, less.calls);
       }
 
-  -- the sum of what ports wrote has room for the transmit list
+  -- what is counted as sent and left has room for the packets of a queue
+  all_fit : (queue : Queue) (packets : List Packet) → packets_in queue core.state.world ≡ Some packets
+      → over_ports sent_by tallies + sum left + length packets ≤ 1099511627776 * 8684545
+  all_fit queue packets there = let less = has_less core.state queue packets there in omega (arith, is.packets, is.calls, is.limit, less.packets)
+
+  -- a transmit list is emptied, and some of its packets are counted as written
+  pub sent_kept : (port sent : ℕ) (packets : List Packet) → port < 8 → slice_get core.state.world.outboxes port ≡ Some packets → sent ≤ length packets
+      → IsEngine s (moved (with_queue (Tx port) [] core.state) core) memory turns (sent_at port sent tallies) left
+  sent_kept port sent packets lt box le =
+      let t : Tallies = record (tallies_at tallies port) { sent = (tallies_at tallies port).sent + sent } in
+      let changed = λ (f : Tallies → ℕ). one_changed f tallies port t (omega (arith, is.ports, lt)) in
+      emptied_kept (Tx port) packets (sent_at port sent tallies) left box (length-set tallies port t) refl (omega (arith, changed records_of))
+      (omega (arith, le, changed sent_by))
+
   pub sent_fits : (port sent : ℕ) (packets : List Packet) → port < 8 → slice_get core.state.world.outboxes port ≡ Some packets → sent ≤ length packets
       → (tallies_at tallies port).sent + sent ≤ 1099511627776 * 8684545
   sent_fits port sent packets lt box le =
-      omega (
-        arith,
-        is.packets,
-        is.calls,
-        is.limit,
-        le,
-        listed_less core.state.world.outboxes port packets box,
-        one_of_all sent_by tallies port (omega (arith, is.ports, lt)),
-      )
+      omega (arith, all_fit (Tx port) packets box, le, one_of_all sent_by tallies port (omega (arith, is.ports, lt)))
+
+  -- its packets are freed, and not counted
+  pub dropped_kept : (port : ℕ) → port < length s.setting.env.ports
+      → IsEngine s (moved (with_queue (Tx port) [] core.state) core) memory turns tallies left
+  dropped_kept port lt = let (packets, box) = box_at port lt in emptied_kept (Tx port) packets tallies left box refl refl refl (omega arith)
 
   -- a ring is emptied, and what was in it is counted
   pub left_kept : (ring : ℕ) (packets : List Packet) → ring < 8 → slice_get core.state.world.rings ring ≡ Some packets
-      → IsEngine s (moved (with_ring ring [] core.state) core) memory turns tallies (slice_set left ring (slice_index_or left ring 0 + length packets))
+      → IsEngine s (moved (with_queue (Ring ring) [] core.state) core) memory turns tallies (slice_set left ring (slice_index_or left ring 0 + length packets))
   left_kept ring packets lt there =
       let n = slice_index_or left ring 0 + length packets in
-      record {
-        within = is.within;
-        rests = left_rests s core ring is.rests;
-        stand = is.stand;
-        limit = is.limit;
-        ports = is.ports;
-        rings = length-set left ring n ∙ is.rings;
-        records = is.records;
-        calls = is.calls;
-        cuts = is.cuts;
-        packets = omega (arith, is.packets, listed_less core.state.world.rings ring packets there, sum_set left ring n (omega (arith, is.rings, lt)));
-      }
+      emptied_kept (Ring ring) packets tallies (slice_set left ring n) there refl (length-set left ring n) refl
+      (omega (arith, sum_set left ring n (omega (arith, is.rings, lt))))
 
   pub left_fits : (ring : ℕ) (packets : List Packet) → slice_get core.state.world.rings ring ≡ Some packets
       → slice_index_or left ring 0 + length packets ≤ 1099511627776 * 8684545
-  left_fits ring packets there =
-      omega (arith, is.packets, is.calls, is.limit, listed_less core.state.world.rings ring packets there, sum_at left ring)
+  left_fits ring packets there = omega (arith, all_fit (Ring ring) packets there, sum_at left ring)
 
 -- ---- one slot
 
@@ -137,13 +147,13 @@ counted_there (r ∷ rings) zero packets e = ap length (same_Some r packets e)
 counted_there (r ∷ rings) (suc i) packets e = counted_there rings i packets e
 
 pub leaves : (s : Scheme) (core core' : Core) (memory : EngineMemoryView) (turns : ℕ) (tallies : List Tallies) (left : List ℕ) (e : EngineState) (ring n : ℕ)
-    (packets : List Packet) → engine_of s core memory turns tallies left ≡ e → core' ≡ moved (with_ring ring [] core.state) core
+    (packets : List Packet) → engine_of s core memory turns tallies left ≡ e → core' ≡ moved (with_queue (Ring ring) [] core.state) core
     → slice_get core.state.world.rings ring ≡ Some packets → n ≡ length packets
     → engine_of s core' memory turns tallies (slice_set left ring (slice_index_or left ring 0 + n)) ≡ left_at ring e
 leaves s core core' memory turns tallies left e ring n packets is becomes there count =
     let same : n ≡ slice_index_or (left_in_rings core.state.world) ring 0 = count ∙ sym (counted_there core.state.world.rings ring packets there) in
     ap (λ m. engine_of s m memory turns tallies (slice_set left ring (slice_index_or left ring 0 + n))) becomes
-    ∙ ap (λ m. engine_of s (moved (with_ring ring [] core.state) core) memory turns tallies (slice_set left ring (slice_index_or left ring 0 + m))) same
+    ∙ ap (λ m. engine_of s (moved (with_queue (Ring ring) [] core.state) core) memory turns tallies (slice_set left ring (slice_index_or left ring 0 + m))) same
     ∙ ap (left_at ring) is
 
 -- no more records that a port wrote
@@ -153,20 +163,12 @@ sent_none (t ∷ tallies) zero = ap (λ n. record t { sent = n } ∷ tallies) (a
 sent_none (t ∷ tallies) (suc port) = ap (λ l. t ∷ l) (sent_none tallies port)
 
 pub drops : (s : Scheme) (core core' : Core) (memory : EngineMemoryView) (turns : ℕ) (tallies : List Tallies) (left : List ℕ) (e : EngineState) (port : ℕ)
-    → engine_of s core memory turns tallies left ≡ e → core' ≡ moved (with_outbox port [] core.state) core
+    → engine_of s core memory turns tallies left ≡ e → core' ≡ moved (with_queue (Tx port) [] core.state) core
     → engine_of s core' memory turns tallies left ≡ drained port 0 e
 drops s core core' memory turns tallies left e port is becomes =
     ap (λ m. engine_of s m memory turns tallies left) becomes
-    ∙ ap (λ l. engine_of s (moved (with_outbox port [] core.state) core) memory turns l left) (sym (sent_none tallies port))
+    ∙ ap (λ l. engine_of s (moved (with_queue (Tx port) [] core.state) core) memory turns l left) (sym (sent_none tallies port))
     ∙ ap (drained port 0) is
-
-pub dropped_kept : (s : Scheme) (core : Core) (memory : EngineMemoryView) (turns : ℕ) (tallies : List Tallies) (left : List ℕ) (port : ℕ)
-    → IsEngine s core memory turns tallies left → port < length s.setting.env.ports
-    → IsEngine s (moved (with_outbox port [] core.state) core) memory turns tallies left
-dropped_kept s core memory turns tallies left port is lt =
-    let (packets, box) = box_at s core memory turns tallies left is port lt in
-    subst (λ l. IsEngine s (moved (with_outbox port [] core.state) core) memory turns l left) (sent_none tallies port)
-    (sent_kept s core memory turns tallies left is port 0 packets (port_within s core memory turns tallies left is port lt) box (omega arith))
 
 -- ---- the first slots, and all
 

@@ -9,7 +9,7 @@ pub mod Midways
 pub mod NameLemmas
 pub mod Plans
 pub mod Powers
-pub mod Rings
+pub mod RingLemmas
 pub mod Ready
 pub mod Receive
 pub mod Refusals

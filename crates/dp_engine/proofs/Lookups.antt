@@ -2,7 +2,6 @@
 use Rattle.std.proofs.Common.{◌≡◌, ℕ, zero, suc, ◌%◌, ◌^◌, ◌<◌, List, [], ◌∷◌, length, Option, Some, subst, arith}
 use Rattle.std.specs.Prelude.{slice_get, slice_index, option_map}
 use Rattle.std.proofs.lemmas.Option.{none-some}
-use Rattle.dp_model.specs.declared.instr.Instr.{Instr}
 use Rattle.dp_model.specs.declared.instr.Instr.TheVariants.{Lookup}
 use Rattle.dp_model.specs.Prefixes.{hop_for}
 use Rattle.dp_model.specs.Machine.{Setting, State, Move, Acts, finds}
@@ -24,9 +23,8 @@ finds_in [] (suc k) ip label r l xs after e = absurd (none-some after e)
 finds_in (t ∷ tables) zero ip label r l xs after e = omega arith
 finds_in (t ∷ tables) (suc k) ip label r l xs after e = let rest = finds_in tables k ip label r l xs after e in omega (arith, rest)
 
-pub table_there : (c : Setting) (tables : List RouteTable) (label : ℕ) (s : State) (i : Instr) (r table x l : ℕ) → c.tables ≡ routes_of tables
-    → i ≡ Lookup r table x l → (m : Move) × Acts c label s i m → table < length tables
-table_there c tables label s i r table x l are is (m, acts) =
-    let (after, found, state) = subst (λ i. Acts c label s i m) is acts in
+pub table_there : (c : Setting) (tables : List RouteTable) (label : ℕ) (s : State) (r table x l : ℕ) → c.tables ≡ routes_of tables
+    → (m : Move) × Acts c label s (Lookup r table x l) m → table < length tables
+table_there c tables label s r table x l are (m, (after, found, state)) =
     finds_in tables table (slice_index s.numbers x % 2 ^ 32) label r l s.numbers after
     (subst (λ ts. finds (slice_get ts table) (slice_index s.numbers x % 2 ^ 32) label r l s.numbers ≡ Some after) are found)

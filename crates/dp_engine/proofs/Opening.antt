@@ -19,8 +19,9 @@ use Rattle.dp_model.specs.Laws.Runs.{start_rest}
 use Rattle.dp_lpm.specs.Routes.{RouteTable}
 use Rattle.dp_mbuf.specs.Mbufs.{MbufsView, IsNew}
 use Rattle.dp_engine.specs.declared.memory.Parts.{Parts}
-use Rattle.dp_engine.specs.Handles.{packet_at, in_slot, packets_in, entries_of, frames_of, lists_of, Core, core_of, run_counts}
-use Rattle.dp_engine.specs.Queues.{rings_in}
+use Rattle.dp_engine.specs.Handles.{packet_at, in_slot, packets_listed, entries_of, frames_of, Core}
+use Rattle.dp_engine.specs.MachineParts.{first_core}
+use Rattle.dp_engine.specs.Queues.{QueuesView, rings_in}
 use Rattle.dp_engine.specs.Schemes.{Scheme, scheme_of}
 use Rattle.dp_engine.specs.Serving.{Rests}
 use Rattle.dp_engine.specs.Memories.{EngineMemoryView, AreFilled, IsNewRing}
@@ -30,22 +31,21 @@ use Rattle.dp_engine.specs.Engines.{IsEngine, engine_of, IsOpened, StandIn, no_t
 use Rattle.dp_engine.specs.Laws.{known}
 use Rattle.dp_engine.proofs.Parts.{rings_first, counts_in, stand_in}
 
--- a machine over mbufs, rings and transmit lists at its start
-abbrev pub first_core : MbufsView → List RingView → List RingView → Core
-first_core m rings outboxes = core_of m.store (frames_of m.zones rings outboxes) (replicate 8 None) (replicate 8 0) (lists_of rings outboxes) 0
-    (run_counts 0 0 0)
-
 -- nothing waits in rings that were laid out for these
 empty_lists : {X : Type 0} (f : X → ℕ) (home : Home) (slots : List (Option Packet)) (xs : List X) (others : List (Option RingView))
-    → AreFilled (IsNewRing home) (map f xs) others → packets_in slots (map entries_of (rings_in others)) ≡ map (λ _. []) xs
+    → AreFilled (IsNewRing home) (map f xs) others → packets_listed slots (map entries_of (rings_in others)) ≡ map (λ _. []) xs
 empty_lists f home slots [] [] are = refl
 empty_lists f home slots [] (None ∷ others) are = refl
 empty_lists f home slots [] (Some r ∷ others) are = absurd (none-some r (sym are.0))
 empty_lists f home slots (x ∷ xs) [] are = absurd are
 empty_lists f home slots (x ∷ xs) (None ∷ others) are = absurd are.0
 empty_lists f home slots (x ∷ xs) (Some r ∷ others) are =
-    ap (λ es. map (packet_at slots) es ∷ packets_in slots (map entries_of (rings_in others))) are.0.empty
+    ap (λ es. map (packet_at slots) es ∷ packets_listed slots (map entries_of (rings_in others))) are.0.empty
     ∙ ap (λ lists. [] ∷ lists) (empty_lists f home slots xs others are.1)
+
+-- the queues that were laid out
+abbrev pub queues_in : Parts → QueuesView
+queues_in parts = record { rings = rings_in parts.rings; outboxes = rings_in parts.lists }
 
 -- no slot has a packet
 pub no_slots : (slots : List (Option Packet)) (n h : ℕ) → slots ≡ replicate n None → in_slot (slice_get slots h) ≡ 0
@@ -63,7 +63,7 @@ none_listed (x ∷ xs) = let more = none_listed xs in omega arith
 module _ (home : Home) (size : ℕ) (env : Environment) (memory : EngineMemoryView) (parts : Parts) (m : MbufsView) (laid : IsLaidOut home size env memory parts)
     (new : IsNew parts.pools m) (well : IsWellFormedStore m.store) where
   abbrev core : Core
-  core = first_core m (rings_in parts.rings) (rings_in parts.lists)
+  core = first_core m (queues_in parts)
 
   pools_are : m.store.pools ≡ env.pools
   pools_are = new.pools_are ∙ laid.pools

@@ -8,12 +8,11 @@ use Rattle.dp_pool.specs.Pools.{PoolZones, PoolView}
 use Rattle.dp_mbuf.specs.Objects.{present, zones_of, HeadersFirst, PoolsFirst}
 use Rattle.dp_engine.specs.declared.memory.Parts.{Parts}
 use Rattle.dp_engine.specs.Handles.{Frames, without_entries, frames_of}
-use Rattle.dp_engine.specs.Queues.{rings_in, RingsFirst}
+use Rattle.dp_engine.specs.Queues.{QueuesView, rings_in, RingsFirst}
 use Rattle.dp_engine.specs.Memories.{EngineMemoryView, AreFilled, IsNewRing, filled, RingsIn, PoolsIn}
 use Rattle.dp_engine.specs.Layouts.{PartsIn, zones_in}
 use Rattle.dp_engine.specs.Engines.{StandIn}
 use Rattle.dp_engine.proofs.Filled.{none_filled}
-use Rattle.dp_engine.proofs.Rings.{frames_length}
 
 -- ---- rings that were laid out
 
@@ -123,11 +122,10 @@ stand_back memory parts pools rings lists stand = (
   omega (arith, stand.out, pools_filled parts.pools pools, rings_filled parts.rings rings, rings_filled parts.lists lists),
 )
 
-pub parts_back : (memory : EngineMemoryView) (frames : Frames) (zones : List PoolZones) (rings outboxes : List RingView) (parts : Parts) → StandIn memory frames
-    → frames_of zones rings outboxes ≡ frames
-    → PoolsFirst parts.pools → zones_of (present parts.pools) ≡ zones → RingsFirst parts.rings → rings_in parts.rings ≡ rings → RingsFirst parts.lists →
-    rings_in parts.lists ≡ outboxes
+pub parts_back : (memory : EngineMemoryView) (frames : Frames) (zones : List PoolZones) (queues : QueuesView) (parts : Parts) → StandIn memory frames
+    → frames_of zones queues.rings queues.outboxes ≡ frames → PoolsFirst parts.pools → zones_of (present parts.pools) ≡ zones
+    → (rings_in parts.rings ≡ queues.rings) × RingsFirst parts.rings → (rings_in parts.lists ≡ queues.outboxes) × RingsFirst parts.lists
     → PartsIn memory.home parts × (zones_in parts ≡ memory.out)
-parts_back memory frames zones rings outboxes parts stand is pools zones_are first rings_are lists lists_are =
+parts_back memory frames zones queues parts stand is pools zones_are (rings_are, first) (lists_are, lists) =
     let same : frames_of (zones_of (present parts.pools)) (rings_in parts.rings) (rings_in parts.lists) ≡ frames = rw (zones_are, rings_are, lists_are) is in
     stand_back memory parts pools first lists (subst (StandIn memory) (sym same) stand)

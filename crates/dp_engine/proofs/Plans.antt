@@ -37,8 +37,7 @@ plan_of e size i d none room last =
     let s = get_or e.pools i d in
     let inside : i < length e.pools = omega arith in
     let fits : pool_fits s ≡ true = all_at (λ s. pool_fits s ≡ true) e.pools i d inside k.pools_fit in
-    let sizes = long s fits in let some = (within s fits).count.0 in let most = (within s fits).count.1 in
-    let objects = sizes.0 in let queue = sizes.2 in let any = sizes.3 in
+    let (objects, _, queue, any) = long s fits in let some = (within s fits).count.0 in let most = (within s fits).count.1 in
     let whole = total_last pool_bytes e.pools i d last in
     let lists = length-map e.ports (λ p. p.queue) in let rings = length-map e.rings (λ r. r.count) in
     let ports = k.ports in let few = k.rings in

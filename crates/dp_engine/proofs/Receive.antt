@@ -1,5 +1,5 @@
 -- A record that comes to a machine at rest.
-use Rattle.std.proofs.Common.{◌≡◌, ℕ, ◌+◌, ◌<◌, ◌≤◌, Bool, true, false, ◌||◌, List, [], ◌∷◌, length, replicate, Option, Some, None, refl, sym, ◌∙◌, ap, subst}
+use Rattle.std.proofs.Common.{◌≡◌, ℕ, ◌+◌, ◌<◌, ◌≤◌, Bool, true, false, ◌||◌, List, [], ◌∷◌, length, replicate, Some, None, refl, sym, ◌∙◌, ap, subst}
 use Rattle.std.proofs.Common.{arith, nat_eq, nat_lt}
 use Rattle.std.specs.Prelude.{slice_get, slice_set}
 use Rattle.std.specs.List.{list_any, AllByRecursion}
@@ -11,51 +11,68 @@ use Rattle.dp_model.specs.Machine.{Setting, State, live, is_denied}
 use Rattle.dp_model.specs.Runs.{first_state, between}
 use Rattle.dp_model.specs.Laws.Lists.{get_set_same}
 use Rattle.dp_model.specs.Stores.{Store, segments_of, ReceivesInto}
-use Rattle.dp_engine.specs.Handles.{held_of, packet_at, handles_held, occurs, in_slot, waiting, Lists, Frames, OccurOnce, Core, core_of, RunCounts, run_counts}
+use Rattle.dp_engine.specs.Handles.{held_of, packet_at, handles_held, occurs, in_slot, waiting, Core}
+use Rattle.dp_engine.specs.MachineParts.{MachineParts, core_of, OccurOnce}
 use Rattle.dp_engine.specs.Turns.{IsReceived}
-use Rattle.dp_engine.proofs.Handles.{not_in, waits, slot_filled}
+use Rattle.dp_engine.proofs.Handles.{not_waiting, slot_filled}
 use Rattle.dp_engine.proofs.Counts.{CountSame, idle_handles, idle_counts, available_same, fresh_same}
 
-pub record Idle (slots : List (Option Packet)) (registers : List (Option ℕ)) (lists : Lists) : Type 0 where
-  pub empty : handles_held registers ≡ []
-  pub each : (h : ℕ) → occurs h (waiting lists) ≡ in_slot (slice_get slots h)
+-- ---- a machine whose registers are empty
 
-pub idle_of : (s : Store) (frames : Frames) (registers : List (Option ℕ)) (numbers : List ℕ) (lists : Lists) (calls : ℕ) (steps : RunCounts) (core : Core) →
-    core_of s frames registers numbers lists calls steps ≡ core → OccurOnce s.slots registers lists → AllByRecursion (λ o. o ≡ None) core.state.packets →
-    Idle s.slots registers lists
-idle_of s frames registers numbers lists calls steps core is stand idle =
-    let empty : handles_held registers ≡ [] = idle_handles s.slots registers
+pub record Idle (m : MachineParts) : Type 0 where
+  pub empty : handles_held m.registers ≡ []
+  pub each : (h : ℕ) → occurs h (waiting m.lists) ≡ in_slot (slice_get m.store.slots h)
+
+pub idle_of : {m : MachineParts} {core : Core} → core_of m ≡ core → OccurOnce m → AllByRecursion (λ o. o ≡ None) core.state.packets → Idle m
+idle_of {m} is stand idle =
+    let empty : handles_held m.registers ≡ [] = idle_handles m.store.slots m.registers
     (subst (λ (c : Core). AllByRecursion (λ o. o ≡ None) c.state.packets) (sym is) idle) in
     record {
       empty = empty;
-      each = λ h. (let none : occurs h (handles_held registers) ≡ 0 = ap (occurs h) empty in omega (arith, none, stand h));
+      each = λ h. (let none : occurs h (handles_held m.registers) ≡ 0 = ap (occurs h) empty in omega (arith, none, stand h));
     }
 
-pub live_same : (s : Store) (frames : Frames) (registers : List (Option ℕ)) (numbers : List ℕ) (lists : Lists) (calls : ℕ) (steps : RunCounts) (core : Core) →
-    core_of s frames registers numbers lists calls steps ≡ core → Idle s.slots registers lists → CountSame (live (between core.state.world)) (segments_of s)
-live_same s frames registers numbers lists calls steps core is idle =
-    subst (λ (c : Core). CountSame (live (between c.state.world)) (segments_of s)) is (idle_counts s.slots lists idle.each)
+pub live_same : {m : MachineParts} {core : Core} → core_of m ≡ core → Idle m → CountSame (live (between core.state.world)) (segments_of m.store)
+live_same {m} is idle =
+    subst (λ (c : Core). CountSame (live (between c.state.world)) (segments_of m.store)) is (idle_counts m.store.slots m.lists idle.each)
 
-pub stand_received : (slots : List (Option Packet)) (registers : List (Option ℕ)) (lists : Lists) (h : ℕ) (k : Packet) → Idle slots registers lists →
-    slice_get slots h ≡ Some None → OccurOnce (slice_set slots h (Some k)) (Some h ∷ replicate 7 None) lists
-stand_received slots registers lists h k idle free x = omega (arith, idle.each x, slot_filled slots h x k free)
+-- ---- what a view shows of it
 
-pub state_received : (s : Store) (frames : Frames) (registers : List (Option ℕ)) (numbers : List ℕ) (lists : Lists) (calls : ℕ) (steps : RunCounts)
-    (core : Core)
-    (port h : ℕ) (k : Packet) (buffers : Buffers) → core_of s frames registers numbers lists calls steps ≡ core → Idle s.slots registers lists →
-    slice_get s.slots h ≡ Some None
-    → (core_of (record s { buffers = buffers; slots = slice_set s.slots h (Some k) }) frames (Some h ∷ replicate 7 None) (port ∷ replicate 7 0) lists
-    (calls + 1) (run_counts steps.steps steps.cuts 0)).state ≡ first_state k port
-    (record core.state.world { buffers = buffers; calls = core.state.world.calls + 1 })
-state_received s frames registers numbers lists calls steps core port h k buffers is idle free =
-    let here : packet_at (slice_set s.slots h (Some k)) h ≡ k = ap held_of (get_set_same s.slots h (Some k) None free) in
-    let none : occurs h (waiting lists) ≡ 0 = idle.each h ∙ ap in_slot free in
-    let f = not_in s.slots h (Some k) lists.rings (omega (arith, none, waits h lists)) in
-    let g = not_in s.slots h (Some k) lists.outboxes (omega (arith, none, waits h lists)) in
-    subst (λ (c : Core). (core_of (record s { buffers = buffers; slots = slice_set s.slots h (Some k) }) frames (Some h ∷ replicate 7 None)
-    (port ∷ replicate 7 0) lists (calls + 1) (run_counts steps.steps steps.cuts 0)).state
-    ≡ first_state k port (record c.state.world { buffers = buffers; calls = c.state.world.calls + 1 })) is
-    (rw (f, g, here) refl)
+pub calls_of : (m : MachineParts) (core : Core) → core_of m ≡ core → m.calls ≡ core.state.world.calls
+calls_of m core is = ap (λ (c : Core). c.state.world.calls) is
+
+pub pools_of : (m : MachineParts) (core : Core) → core_of m ≡ core → m.store.pools ≡ core.pools
+pools_of m core is = ap (λ (c : Core). c.pools) is
+
+pub buffers_of : (m : MachineParts) (core : Core) → core_of m ≡ core → m.store.buffers ≡ core.state.world.buffers
+buffers_of m core is = ap (λ (c : Core). c.state.world.buffers) is
+
+-- ---- its changes
+
+-- the store changes in an allocation call
+abbrev pub granted : Store → MachineParts → MachineParts
+granted s' m = record m { store = s'; calls = m.calls + 1 }
+
+-- a node run begins with the packet of a handle, and with a number
+abbrev pub beginning : ℕ → ℕ → MachineParts → MachineParts
+beginning h number m = record m { registers = Some h ∷ replicate 7 None; numbers = number ∷ replicate 7 0; jumps = 0 }
+
+-- the store with a packet in a slot
+abbrev pub filled : ℕ → Packet → Buffers → Store → Store
+filled h k buffers s = record s { buffers = buffers; slots = slice_set s.slots h (Some k) }
+
+stand_received : (m : MachineParts) (port h : ℕ) (k : Packet) (buffers : Buffers) → Idle m → slice_get m.store.slots h ≡ Some None →
+    OccurOnce (beginning h port (granted (filled h k buffers m.store) m))
+stand_received m port h k buffers idle free x = omega (arith, idle.each x, slot_filled m.store.slots h x k free)
+
+state_received : (m : MachineParts) (core : Core) (port h : ℕ) (k : Packet) (buffers : Buffers) → core_of m ≡ core → Idle m →
+    slice_get m.store.slots h ≡ Some None → (core_of (beginning h port (granted (filled h k buffers m.store) m))).state
+    ≡ first_state k port (record core.state.world { buffers = buffers; calls = core.state.world.calls + 1 })
+state_received m core port h k buffers is idle free =
+    let here : packet_at (slice_set m.store.slots h (Some k)) h ≡ k = ap held_of (get_set_same m.store.slots h (Some k) None free) in
+    let (f, g) = not_waiting m.store.slots h (Some k) m.lists (idle.each h ∙ ap in_slot free) in
+    subst (λ (c : Core). (core_of (beginning h port (granted (filled h k buffers m.store) m))).state
+    ≡ first_state k port (record c.state.world { buffers = buffers; calls = c.state.world.calls + 1 })) is (rw (f, g, here) refl)
 
 -- ---- what the store returns, and what that is for a machine
 
@@ -81,59 +98,41 @@ denied c s state pool need pools same listed lt =
     or_right _ _ listed (lt_true (available c.env.pools (live state) pool) need
     (rw (available_same c.env.pools (live state) (segments_of s) pool same, ← pools) lt))
 
-pub calls_of : (s : Store) (frames : Frames) (registers : List (Option ℕ)) (numbers : List ℕ) (lists : Lists) (calls : ℕ) (steps : RunCounts) (core : Core) →
-    core_of s frames registers numbers lists calls steps ≡ core → calls ≡ core.state.world.calls
-calls_of s frames registers numbers lists calls steps core is = ap (λ (c : Core). c.state.world.calls) is
-
-pub pools_of : (s : Store) (frames : Frames) (registers : List (Option ℕ)) (numbers : List ℕ) (lists : Lists) (calls : ℕ) (steps : RunCounts) (core : Core) →
-    core_of s frames registers numbers lists calls steps ≡ core → s.pools ≡ core.pools
-pools_of s frames registers numbers lists calls steps core is = ap (λ (c : Core). c.pools) is
-
-pub buffers_of : (s : Store) (frames : Frames) (registers : List (Option ℕ)) (numbers : List ℕ) (lists : Lists) (calls : ℕ) (steps : RunCounts) (core : Core) →
-    core_of s frames registers numbers lists calls steps ≡ core → s.buffers ≡ core.state.world.buffers
-buffers_of s frames registers numbers lists calls steps core is = ap (λ (c : Core). c.state.world.buffers) is
-
 -- a machine after a call that was granted
-pub record Given (c : Setting) (s' : Store) (frames : Frames) (registers : List (Option ℕ)) (lists : Lists) (calls : ℕ) (steps : RunCounts) (core : Core)
-    (pool port h : ℕ) (bytes : List ℕ) : Type 0 where
-  pub stand : OccurOnce s'.slots (Some h ∷ replicate 7 None) lists
-  pub state : IsReceived c pool port bytes core.state.world (core_of s' frames (Some h ∷ replicate 7 None) (port ∷ replicate 7 0) lists (calls + 1)
-      (run_counts steps.steps steps.cuts 0)).state
+pub record Given (c : Setting) (m : MachineParts) (s' : Store) (core : Core) (pool port h : ℕ) (bytes : List ℕ) : Type 0 where
+  pub stand : OccurOnce (beginning h port (granted s' m))
+  pub state : IsReceived c pool port bytes core.state.world (core_of (beginning h port (granted s' m))).state
   pub pools : s'.pools ≡ core.pools
-  pub allowed : list_any (nat_eq (calls + 1)) c.pattern ≡ false → is_denied c (between core.state.world) pool (needed c.env.pools pool (length bytes)) ≡ false
+  pub allowed : list_any (nat_eq (m.calls + 1)) c.pattern ≡ false → is_denied c (between core.state.world) pool (needed c.env.pools pool (length bytes)) ≡ false
 
-pub given : (c : Setting) (s s' : Store) (frames : Frames) (registers : List (Option ℕ)) (numbers : List ℕ) (lists : Lists) (calls : ℕ) (steps : RunCounts)
-    (core : Core) (pool port h : ℕ) (bytes : List ℕ) → core_of s frames registers numbers lists calls steps ≡ core → OccurOnce s.slots registers lists →
-    AllByRecursion (λ o. o ≡ None) core.state.packets → core.pools ≡ c.env.pools → ReceivesInto s pool bytes s' (Some h) →
-    Given c s' frames registers lists calls steps core pool port h bytes
-given c s s' frames registers numbers lists calls steps core pool port h bytes is stand rests pools (le, free, ns, buffers, fresh, filled, becomes) =
-    let idle = idle_of s frames registers numbers lists calls steps core is stand rests in
-    let same = live_same s frames registers numbers lists calls steps core is idle in
-    let of_env : s.pools ≡ c.env.pools = pools_of s frames registers numbers lists calls steps core is ∙ pools in
+pub given : {c : Setting} {m : MachineParts} {s' : Store} {core : Core} {pool port h : ℕ} {bytes : List ℕ} → core_of m ≡ core → OccurOnce m →
+    AllByRecursion (λ o. o ≡ None) core.state.packets → core.pools ≡ c.env.pools → ReceivesInto m.store pool bytes s' (Some h) →
+    Given c m s' core pool port h bytes
+given {c} {m} {s'} {core} {pool} {port} {h} {bytes} is stand rests pools (le, free, ns, buffers, fresh, fills, becomes) =
+    let s = m.store in
+    let idle = idle_of is stand rests in
+    let same = live_same is idle in
+    let of_env : s.pools ≡ c.env.pools = pools_of m core is ∙ pools in
     let k : Packet = received (room_at s.pools pool) ns (length bytes) in
-    let is_calls = calls_of s frames registers numbers lists calls steps core is in
     record {
-      stand = rw becomes (stand_received s.slots registers lists h k idle free);
+      stand = rw becomes (stand_received m port h k buffers idle free);
       state = record {
         numbers = ns;
         buffers = buffers;
         fresh = rw (← of_env) (fresh_same s.pools (segments_of s) (live (between core.state.world)) pool (needed s.pools pool (length bytes)) ns
             (λ f. sym (same f)) fresh);
-        filled = rw (← of_env, ← buffers_of s frames registers numbers lists calls steps core is) filled;
-        state = rw (← of_env, becomes) (state_received s frames registers numbers lists calls steps core port h k buffers is idle free);
+        filled = rw (← of_env, ← buffers_of m core is) fills;
+        state = rw (← of_env, becomes) (state_received m core port h k buffers is idle free);
       };
-      pools = ap (λ (x : Store). x.pools) becomes ∙ pools_of s frames registers numbers lists calls steps core is;
-      allowed = λ listed. not_denied c s (between core.state.world) pool (needed c.env.pools pool (length bytes)) of_env same (rw (← is_calls) listed)
-          (rw (← of_env) le);
+      pools = ap (λ (x : Store). x.pools) becomes ∙ pools_of m core is;
+      allowed = λ listed. not_denied c s (between core.state.world) pool (needed c.env.pools pool (length bytes)) of_env same
+          (rw (← calls_of m core is) listed) (rw (← of_env) le);
     }
 
-pub refused : (c : Setting) (s s' : Store) (frames : Frames) (registers : List (Option ℕ)) (numbers : List ℕ) (lists : Lists) (calls : ℕ) (steps : RunCounts)
-    (core : Core) (pool : ℕ) (bytes : List ℕ) → core_of s frames registers numbers lists calls steps ≡ core → OccurOnce s.slots registers lists →
-    AllByRecursion (λ o. o ≡ None) core.state.packets → core.pools ≡ c.env.pools → list_any (nat_eq (calls + 1)) c.pattern ≡ false →
-    ReceivesInto s pool bytes s' None → is_denied c (between core.state.world) pool (needed c.env.pools pool (length bytes)) ≡ true
-refused c s s' frames registers numbers lists calls steps core pool bytes is stand rests pools listed (less, becomes) =
-    let idle = idle_of s frames registers numbers lists calls steps core is stand rests in
-    let same = live_same s frames registers numbers lists calls steps core is idle in
-    let of_env : s.pools ≡ c.env.pools = pools_of s frames registers numbers lists calls steps core is ∙ pools in
-    let is_calls = calls_of s frames registers numbers lists calls steps core is in
-    denied c s (between core.state.world) pool (needed c.env.pools pool (length bytes)) of_env same (rw (← is_calls) listed) (rw (← of_env) less)
+pub refused : (c : Setting) (m : MachineParts) (s' : Store) (core : Core) (pool : ℕ) (bytes : List ℕ) → core_of m ≡ core → OccurOnce m →
+    AllByRecursion (λ o. o ≡ None) core.state.packets → core.pools ≡ c.env.pools → list_any (nat_eq (m.calls + 1)) c.pattern ≡ false →
+    ReceivesInto m.store pool bytes s' None → is_denied c (between core.state.world) pool (needed c.env.pools pool (length bytes)) ≡ true
+refused c m s' core pool bytes is stand rests pools listed (less, becomes) =
+    let of_env : m.store.pools ≡ c.env.pools = pools_of m core is ∙ pools in
+    denied c m.store (between core.state.world) pool (needed c.env.pools pool (length bytes)) of_env (live_same is (idle_of is stand rests))
+    (rw (← calls_of m core is) listed) (rw (← of_env) less)

@@ -23,11 +23,11 @@ use Rattle.dp_engine.proofs.Powers.{power_is, power_low}
 pub zone_never : (e : ZoneError) (name : List ℕ) (len : ℕ) (table : List Reserved) (es : List Element) → IsNext name (names_of table) → IsLength len →
     (NothingFits (rounded len) 64 es → ⊥) → IsZoneRefused e name len 0 table es → ⊥
 zone_never BadName name len table es next fits room refused = true≢false (sym next.named ∙ refused)
-zone_never BadLength name len table es next fits room refused = refused.1 fits
-zone_never BadAlign name len table es next fits room refused = refused.2 (inl refl)
-zone_never Exists name len table es next fits room refused = true≢false (sym refused.3 ∙ fresh name table next.after)
-zone_never Full name len table es next fits room refused = let many = refused.4 in let few = next.few in let same = names_counted table in omega arith
-zone_never NoRoom name len table es next fits room refused = room refused.5
+zone_never BadLength name len table es next fits room (_, bad) = bad fits
+zone_never BadAlign name len table es next fits room (_, _, bad) = bad (inl refl)
+zone_never Exists name len table es next fits room (_, _, _, has) = true≢false (sym has ∙ fresh name table next.after)
+zone_never Full name len table es next fits room (_, _, _, _, many) = omega (arith, many, next.few, names_counted table)
+zone_never NoRoom name len table es next fits room (_, _, _, _, _, none) = room none
 
 -- the numbers of a pool within the limits
 pub record IsWithin (s : PoolSpec) : Type 0 where
@@ -72,8 +72,8 @@ pool_never e name s size table es fits sized objects queue room more refused =
   where
     go : (e : PoolError) → IsPoolRefused e name s.count (s.room + 128) s.cache table es → ⊥
     go BadCount refused = refused (within s fits).count
-    go BadSize refused = refused.1 (let room = (within s fits).room in (omega arith, omega arith))
-    go BadCache refused = refused.2 (within s fits).cache
+    go BadSize (_, bad) = bad (let room = (within s fits).room in (omega arith, omega arith))
+    go BadCache (_, _, bad) = bad (within s fits).cache
     go (Zone error) (count, size, cache, inl refused) = zone_never error (object_name name) (objects_len s) table es objects (let l = long s fits in
         let w = (within s fits).count.0 in (omega arith, omega arith)) room refused
     go (Zone error) (count, size, cache, inr (len, offset, mid, left, (slots, (power, above, half), is), reserves, refused)) =

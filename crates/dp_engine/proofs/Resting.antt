@@ -1,21 +1,23 @@
--- A world at rest stays at rest when one ring or one transmit list is emptied.
-use Rattle.std.proofs.Common.{◌≡◌, ℕ, zero, suc, ◌+◌, ◌≤◌, Bool, List, [], ◌∷◌, ◌∙◌, arith}
+-- A world at rest stays at rest when a queue is emptied.
+use Rattle.std.proofs.Common.{◌≡◌, ℕ, zero, suc, ◌+◌, ◌≤◌, Bool, List, [], ◌∷◌, length, refl, sym, ◌∙◌, subst, arith}
 use Rattle.std.specs.Prelude.{slice_set}
 use Rattle.std.specs.List.{AllByRecursion, AllZip, flat_map}
 use Rattle.std.proofs.lemmas.List.{length-set}
 use Rattle.dp_model.specs.declared.env.PoolSpec.{PoolSpec}
 use Rattle.dp_model.specs.declared.env.RingSpec.{RingSpec}
-use Rattle.dp_model.specs.Buffers.{Number, same_number}
-use Rattle.dp_model.specs.Packets.{Segment, Packet, Lies, refs}
-use Rattle.dp_model.specs.Machine.{Setting, World, live, segments_listed, with_ring, with_outbox}
+use Rattle.dp_model.specs.Buffers.{same_number}
+use Rattle.dp_model.specs.Packets.{Segment, Packet, Lies, IsWithin}
+use Rattle.dp_model.specs.declared.queue.Queue.{Queue}
+use Rattle.dp_model.specs.declared.queue.Queue.TheVariants.{Tx, Ring}
+use Rattle.dp_model.specs.Machine.{Setting, State, World, live, segments_listed, with_queue}
 use Rattle.dp_model.specs.Meaning.{RingHolds}
 use Rattle.dp_model.specs.Runs.{between}
-use Rattle.dp_model.specs.Laws.{Ready}
-use Rattle.dp_model.specs.Safety.{IsPacket, IsAtRest}
-use Rattle.dp_model.specs.Laws.References.{refs-append}
+use Rattle.dp_model.specs.Safety.{IsPacket, ArePackets, IsAtRest}
+use Rattle.dp_model.specs.Laws.References.{refs-append, Keeps}
 use Rattle.dp_model.specs.Laws.Counts.{tally, tally-append, fewer_owned, fewer_by}
 use Rattle.dp_model.specs.Laws.Lists.{all_left, all_right, all_join}
 use Rattle.dp_model.specs.Laws.Waiting.{rings_kept}
+use Rattle.dp_model.specs.Laws.Within.{parts}
 use Rattle.dp_engine.specs.Handles.{Core, moved}
 use Rattle.dp_engine.specs.Schemes.{Scheme}
 use Rattle.dp_engine.specs.Serving.{Rests}
@@ -61,93 +63,75 @@ rings_emptied pools held (spec ∷ specs) (r ∷ rings) (suc i) all = (all.0, ri
 
 -- ---- worlds
 
-abbrev pub without_ring : ℕ → World → World
-without_ring i w = record w { rings = slice_set w.rings i [] }
+-- a world that has the same buffers as another, and no more packets
+record HasNoMore (c : Setting) (w w' : World) : Type 0 where
+  buffers : w'.buffers ≡ w.buffers
+  fewer : (test : Segment → Bool) → tally test (live (between w')) ≤ tally test (live (between w))
+  rings : AllZip (RingHolds c.env.pools (live (between w))) c.env.rings w'.rings
+  outboxes : length w'.outboxes ≡ length w.outboxes
+  lie : AllByRecursion (Lies c.env.pools) (live (between w'))
+  packets : ArePackets (between w')
 
-abbrev pub without_outbox : ℕ → World → World
-without_outbox i w = record w { outboxes = slice_set w.outboxes i [] }
+-- it is at rest if the other is
+rests_too : (c : Setting) (w w' : World) → HasNoMore c w w' → IsAtRest c w → IsAtRest c w'
+rests_too c w w' no_more rest =
+    let old = live (between w) in
+    let new = live (between w') in
+    let keeps : Keeps old new (segments_listed w'.rings) = λ b part one.
+    omega (arith, part, one, refs-append (segments_listed w'.rings) (segments_listed w'.outboxes) b, no_more.fewer (λ s. same_number s.buffer b)) in
+    record {
+      ready = record {
+        world = record {
+          rings = rings_kept c.env.pools old new c.env.rings w'.rings keeps no_more.rings;
+          outboxes = no_more.outboxes ∙ rest.ready.world.outboxes;
+        };
+        tables = rest.ready.tables;
+        within = subst (λ buffers. IsWithin c.env.pools buffers new) (sym no_more.buffers)
+            (record { rooms = rest.ready.within.rooms; bytes = rest.ready.within.bytes; lie = no_more.lie });
+      };
+      owned = fewer_owned c.env.pools old new (fewer_by old new no_more.fewer) rest.owned;
+      packets = no_more.packets;
+    }
 
 -- how often a segment is live in a world
 live_of : (test : Segment → Bool) (w : World) → tally test (live (between w)) ≡ tally test (segments_listed w.rings) + tally test (segments_listed w.outboxes)
 live_of test w = tally-append test (segments_listed w.rings) (segments_listed w.outboxes)
 
-refs_of : (w : World) (b : Number) → refs (live (between w)) b ≡ refs (segments_listed w.rings) b + refs (segments_listed w.outboxes) b
-refs_of w b = refs-append (segments_listed w.rings) (segments_listed w.outboxes) b
-
-ring_fewer : (w : World) (i : ℕ) (test : Segment → Bool) → tally test (live (between (without_ring i w))) ≤ tally test (live (between w))
-ring_fewer w i test = omega (arith, live_of test w, live_of test (without_ring i w), fewer_listed test w.rings i)
-
-outbox_fewer : (w : World) (i : ℕ) (test : Segment → Bool) → tally test (live (between (without_outbox i w))) ≤ tally test (live (between w))
-outbox_fewer w i test = omega (arith, live_of test w, live_of test (without_outbox i w), fewer_listed test w.outboxes i)
-
-ring_ready : (c : Setting) (w : World) (i : ℕ) → Ready c w → Ready c (without_ring i w)
-ring_ready c w i ready =
-    let rings = slice_set w.rings i [] in
-    let lie = ready.within.lie in
+emptied : (c : Setting) (s : State) (queue : Queue) → IsAtRest c s.world → HasNoMore c s.world (with_queue queue [] s).world
+emptied c s (Tx port) rest =
+    let w = s.world in
+    let boxes = slice_set w.outboxes port [] in
+    let lists = parts (Lies c.env.pools) (between w) rest.ready.within.lie in
     record {
-      world = record {
-        rings = rings_kept c.env.pools (live (between w)) (live (between (without_ring i w))) c.env.rings rings
-            (λ b part one. omega (arith, part, one, refs_of (without_ring i w) b, ring_fewer w i (λ s. same_number s.buffer b)))
-            (rings_emptied c.env.pools (live (between w)) c.env.rings w.rings i ready.world.rings);
-        outboxes = ready.world.outboxes;
-      };
-      tables = ready.tables;
-      within = record {
-        rooms = ready.within.rooms;
-        bytes = ready.within.bytes;
-        lie = all_join (Lies c.env.pools) (segments_listed rings) (segments_listed w.outboxes)
-            (all_listed (Lies c.env.pools) w.rings i (all_left (Lies c.env.pools) (segments_listed w.rings) (segments_listed w.outboxes) lie))
-            (all_right (Lies c.env.pools) (segments_listed w.rings) (segments_listed w.outboxes) lie);
-      };
+      buffers = refl;
+      fewer = λ test. omega (arith, live_of test w, live_of test (record w { outboxes = boxes }), fewer_listed test w.outboxes port);
+      rings = rest.ready.world.rings;
+      outboxes = length-set w.outboxes port [];
+      lie = all_join (Lies c.env.pools) (segments_listed w.rings) (segments_listed boxes) lists.rings
+          (all_listed (Lies c.env.pools) w.outboxes port lists.outboxes);
+      packets = record { held = tt; rings = rest.packets.rings; outboxes = all_emptied (AllByRecursion IsPacket) w.outboxes port tt rest.packets.outboxes };
     }
-
-outbox_ready : (c : Setting) (w : World) (i : ℕ) → Ready c w → Ready c (without_outbox i w)
-outbox_ready c w i ready =
-    let boxes = slice_set w.outboxes i [] in
-    let lie = ready.within.lie in
+emptied c s (Ring ring) rest =
+    let w = s.world in
+    let rings = slice_set w.rings ring [] in
+    let lists = parts (Lies c.env.pools) (between w) rest.ready.within.lie in
     record {
-      world = record {
-        rings = rings_kept c.env.pools (live (between w)) (live (between (without_outbox i w))) c.env.rings w.rings
-            (λ b part one. omega (arith, part, one, refs_of (without_outbox i w) b, outbox_fewer w i (λ s. same_number s.buffer b)))
-            ready.world.rings;
-        outboxes = length-set w.outboxes i [] ∙ ready.world.outboxes;
-      };
-      tables = ready.tables;
-      within = record {
-        rooms = ready.within.rooms;
-        bytes = ready.within.bytes;
-        lie = all_join (Lies c.env.pools) (segments_listed w.rings) (segments_listed boxes)
-            (all_left (Lies c.env.pools) (segments_listed w.rings) (segments_listed w.outboxes) lie)
-            (all_listed (Lies c.env.pools) w.outboxes i (all_right (Lies c.env.pools) (segments_listed w.rings) (segments_listed w.outboxes) lie));
-      };
+      buffers = refl;
+      fewer = λ test. omega (arith, live_of test w, live_of test (record w { rings = rings }), fewer_listed test w.rings ring);
+      rings = rings_emptied c.env.pools (live (between w)) c.env.rings w.rings ring rest.ready.world.rings;
+      outboxes = refl;
+      lie = all_join (Lies c.env.pools) (segments_listed rings) (segments_listed w.outboxes)
+          (all_listed (Lies c.env.pools) w.rings ring lists.rings) lists.outboxes;
+      packets = record { held = tt; rings = all_emptied (AllByRecursion IsPacket) w.rings ring tt rest.packets.rings; outboxes = rest.packets.outboxes };
     }
-
-pub ring_rests : (c : Setting) (w : World) (i : ℕ) → IsAtRest c w → IsAtRest c (without_ring i w)
-ring_rests c w i rest = record {
-  ready = ring_ready c w i rest.ready;
-  owned = fewer_owned c.env.pools (live (between w)) (live (between (without_ring i w))) (fewer_by _ _ (ring_fewer w i)) rest.owned;
-  packets = record {
-    held = tt;
-    rings = all_emptied (AllByRecursion IsPacket) w.rings i tt rest.packets.rings;
-    outboxes = rest.packets.outboxes;
-  };
-}
-
-pub outbox_rests : (c : Setting) (w : World) (i : ℕ) → IsAtRest c w → IsAtRest c (without_outbox i w)
-outbox_rests c w i rest = record {
-  ready = outbox_ready c w i rest.ready;
-  owned = fewer_owned c.env.pools (live (between w)) (live (between (without_outbox i w))) (fewer_by _ _ (outbox_fewer w i)) rest.owned;
-  packets = record {
-    held = tt;
-    rings = rest.packets.rings;
-    outboxes = all_emptied (AllByRecursion IsPacket) w.outboxes i tt rest.packets.outboxes;
-  };
-}
 
 -- ---- machines
 
-pub left_rests : (s : Scheme) (core : Core) (i : ℕ) → Rests s core → Rests s (moved (with_ring i [] core.state) core)
-left_rests s core i rests = record { idle = rests.idle; pools = rests.pools; fits = rests.fits; rest = ring_rests s.setting core.state.world i rests.rest }
-
-pub sent_rests : (s : Scheme) (core : Core) (i : ℕ) → Rests s core → Rests s (moved (with_outbox i [] core.state) core)
-sent_rests s core i rests = record { idle = rests.idle; pools = rests.pools; fits = rests.fits; rest = outbox_rests s.setting core.state.world i rests.rest }
+-- a queue is emptied
+pub emptied_rests : (s : Scheme) (core : Core) (queue : Queue) → Rests s core → Rests s (moved (with_queue queue [] core.state) core)
+emptied_rests s core queue rests =
+    go queue (rests_too s.setting core.state.world _ (emptied s.setting core.state queue rests.rest) rests.rest)
+  where
+    go : (queue : Queue) → IsAtRest s.setting (with_queue queue [] core.state).world → Rests s (moved (with_queue queue [] core.state) core)
+    go (Tx port) rest = record { idle = rests.idle; pools = rests.pools; fits = rests.fits; rest = rest }
+    go (Ring ring) rest = record { idle = rests.idle; pools = rests.pools; fits = rests.fits; rest = rest }

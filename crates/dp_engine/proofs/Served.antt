@@ -12,7 +12,7 @@ use Rattle.dp_model.specs.Environments.{Environment, room_at, pool_fits, fault_o
 use Rattle.dp_model.specs.Packets.{Packet, first_len, needed, received, Filled, AreFresh}
 use Rattle.dp_model.specs.Machine.{Setting, World, State, Holds, live, is_denied}
 use Rattle.dp_model.specs.Meaning.{RingHolds}
-use Rattle.dp_model.specs.Runs.{first_state, between, Consumed, Receives, Waiting, beyond, first_waiting, Serves, Nodes}
+use Rattle.dp_model.specs.Runs.{first_state, between, Consumed, Receives, Waiting, beyond, first_waiting, Serves, Nodes, packet_received, Reception}
 use Rattle.dp_model.specs.Safety.{IsAtRest, Beginning, IsOfRecord, IsSafeBeginning, IsPipeline, KeepsSafe}
 use Rattle.dp_model.specs.Laws.Lists.{get_within, zip_back}
 use Rattle.dp_model.specs.Laws.Limits.{segs_small}
@@ -24,7 +24,7 @@ use Rattle.dp_engine.specs.declared.run.NodeRun as took
 use Rattle.dp_engine.specs.Handles.{Core, moved}
 use Rattle.dp_engine.specs.Laws.{known}
 use Rattle.dp_engine.specs.Schemes.{Scheme}
-use Rattle.dp_engine.specs.Serving.{ServesOne, Rests}
+use Rattle.dp_engine.specs.Serving.{ServesOne, ServesNext, Rests}
 use Rattle.dp_engine.specs.Steps.{setting_of, routes_of, KeepsFirstsShort, CanRun, Runs}
 use Rattle.dp_engine.specs.Tallies.{held_count, listed_count, packet_count}
 use Rattle.dp_engine.specs.Turns.{IsReceived}
@@ -116,11 +116,12 @@ pub received_is : (c : Setting) (nodes : Nodes) (program : List Instr) (port : �
     → needed c.env.pools spec.pool (length bytes) ≤ spec.segs → is_denied c (between w) spec.pool (needed c.env.pools spec.pool (length bytes)) ≡ false
     → IsReceived c spec.pool port bytes w s → Received c program port spec bytes w s
 received_is c nodes program port spec bytes w s keeps limits is_spec is_program rest fits given r =
-    let k : Packet = received (room_at c.env.pools spec.pool) r.numbers (length bytes) in
+    let reception : Reception c spec bytes w =
+    record { fits = fits; given = given; numbers = r.numbers; buffers = r.buffers; fresh = r.fresh; filled = r.filled } in
     let b : Beginning = record {
       entry = Port port;
       program = program;
-      packet = k;
+      packet = packet_received c spec bytes r.numbers;
       number = port;
       world = record w { buffers = r.buffers; calls = w.calls + 1 };
     } in
@@ -129,12 +130,7 @@ received_is c nodes program port spec bytes w s keeps limits is_spec is_program 
       spec_is = is_spec;
       program = program;
       program_is = is_program;
-      fits = fits;
-      given = given;
-      numbers = r.numbers;
-      buffers = r.buffers;
-      fresh = r.fresh;
-      filled = r.filled;
+      reception = reception;
       is = refl;
     } in
     subst (Received c program port spec bytes w) (sym r.state) (record {
@@ -142,14 +138,7 @@ received_is c nodes program port spec bytes w s keeps limits is_spec is_program 
       receives = λ s' (n, answers, goes). (
         true ∷ answers,
         record {
-          fits = fits;
-          given = given;
-          numbers = r.numbers;
-          buffers = r.buffers;
-          fresh = r.fresh;
-          packet = k;
-          packet_is = refl;
-          filled = r.filled;
+          reception = reception;
           later = answers;
           answers_are = refl;
           run = (n, s', goes, refl);
@@ -204,26 +193,27 @@ next_runs c nodes program m m' ring keeps limits is_program rest n =
 -- and that is a node run
 pub next_serves : (s : Scheme) (program : List Instr) (m m' m2 : Core) (ring : ℕ) (run : took.NodeRun) → slice_get s.nodes.rings ring ≡ Some program
     → (n : Next s.setting s.nodes m m' ring) → Runs s.setting program m'.state m2.state → Consumed m'.state.world m2.state.world run.steps run.cuts
-    → ServesOne s m.state.world (Some run) m2.state.world
+    → ServesNext s m.state.world run m2.state.world
 next_serves s program m m' m2 ring run is_program n runs took =
     let (k, answers, goes) = subst (λ (x : Core). Runs s.setting program x.state m2.state) n.taken runs in
-    let t = subst (λ (x : Core). Consumed x.state.world m2.state.world run.steps run.cuts) n.taken took in (
-      n.next,
-      program,
-      answers,
-      n.waits,
-      ap (slice_get s.nodes.rings) n.ring_is ∙ is_program,
-      (k, m2.state, goes, refl),
-      record { steps_are = t.steps_are; cuts_are = t.cuts_are },
-    )
+    let t = subst (λ (x : Core). Consumed x.state.world m2.state.world run.steps run.cuts) n.taken took in
+    record {
+      next = n.next;
+      program = program;
+      answers = answers;
+      waits = n.waits;
+      program_is = ap (slice_get s.nodes.rings) n.ring_is ∙ is_program;
+      runs = (k, m2.state, goes, refl);
+      took = record { steps_are = t.steps_are; cuts_are = t.cuts_are };
+    }
 
 -- after it the next can follow
 pub served_rests : (s : Scheme) (m m' : Core) (run : took.NodeRun) → KeepsSafe s.setting s.nodes → IsAtRest s.setting m.state.world
-    → ServesOne s m.state.world (Some run) m'.state.world → IsAtRest s.setting m'.state.world
-served_rests s m m' run keeps rest (next, program, answers, e, is_program, is_run, _) =
-    let w : World = record m.state.world { rings = next.rings } in
-    let b : Beginning = record { entry = Ring next.ring; program = program; packet = next.packet; number = next.ring; world = w } in
-    safe_rests s.setting b answers m'.state.world (keeps.waiting next program m.state.world rest e is_program) is_run
+    → ServesNext s m.state.world run m'.state.world → IsAtRest s.setting m'.state.world
+served_rests s m m' run keeps rest o =
+    let w : World = record m.state.world { rings = o.next.rings } in
+    let b : Beginning = record { entry = Ring o.next.ring; program = o.program; packet = o.next.packet; number = o.next.ring; world = w } in
+    safe_rests s.setting b o.answers m'.state.world (keeps.waiting o.next o.program m.state.world rest o.waits o.program_is) o.runs
 
 -- taking it changes no set of packets
 listed_waiting : (rings : List (List Packet)) (next : Waiting Packet) → first_waiting rings ≡ Some next → listed_count next.rings + 1 ≡ listed_count rings
@@ -270,10 +260,10 @@ serves_none c programs zero w none = (refl, refl, refl)
 serves_none c programs (suc n) w none = where_none _ _ (first_waiting w.rings) none (refl, refl, refl)
 
 -- where one waits, it is served first
-serves_one : (s : Scheme) (n : ℕ) (w mid w' : World) (run : took.NodeRun) (later : List Bool) (more : ℕ) → (o : ServesOne s w (Some run) mid)
-    → Serves s.setting s.nodes.rings n mid later more w' → Serves s.setting s.nodes.rings (suc n) w (o.2 ++ later) (more + 1) w'
-serves_one s n w mid w' run later more (next, program, now, e, is_program, is_run, _) serves =
-    where_some _ _ (first_waiting w.rings) next e (program, now, later, mid, more, is_program, is_run, serves, refl, refl)
+serves_one : (s : Scheme) (n : ℕ) (w mid w' : World) (run : took.NodeRun) (later : List Bool) (more : ℕ) → (o : ServesNext s w run mid)
+    → Serves s.setting s.nodes.rings n mid later more w' → Serves s.setting s.nodes.rings (suc n) w (o.answers ++ later) (more + 1) w'
+serves_one s n w mid w' run later more o serves =
+    where_some _ _ (first_waiting w.rings) o.next o.waits (o.program, o.answers, later, mid, more, o.program_is, o.runs, serves, refl, refl)
 
 -- what was served in the first i rounds
 pub record Rounds (s : Scheme) (m0 m : Core) (i runs steps cuts : ℕ) : Type 0 where
@@ -311,21 +301,21 @@ pub record Round (s : Scheme) (m m' : Core) : Type 0 where
   pub frames : m'.frames ≡ m.frames
 
 pub one_round : (s : Scheme) (m0 m m' : Core) (i runs steps cuts : ℕ) (run : took.NodeRun) → i < 32 → Rounds s m0 m i runs steps cuts
-    → ServesOne s m.state.world (Some run) m'.state.world → run.steps ≤ 263168 → run.cuts ≤ 1 → Round s m m'
+    → ServesNext s m.state.world run m'.state.world → run.steps ≤ 263168 → run.cuts ≤ 1 → Round s m m'
     → Rounds s m0 m' (i + 1) (runs + 1) (steps + run.steps) (cuts + run.cuts)
 one_round s m0 m m' i runs steps cuts run less r o few_steps few_cuts k =
-    let t : Consumed m.state.world m'.state.world run.steps run.cuts = o.6 in
     record {
-      answers = r.answers ++ o.2;
+      answers = r.answers ++ o.answers;
       serves = λ later more w serves.
-          let one : Serves s.setting s.nodes.rings (suc (32 - (i + 1))) m.state.world (o.2 ++ later) (more + 1) w = serves_one s
+          let one : Serves s.setting s.nodes.rings (suc (32 - (i + 1))) m.state.world (o.answers ++ later) (more + 1) w = serves_one s
           (32 - (i + 1)) m.state.world m'.state.world w run later more o serves in
           let left : suc (32 - (i + 1)) ≡ 32 - i = omega (arith, less) in
           let sum : runs + (more + 1) ≡ (runs + 1) + more = omega arith in
-          let all = r.serves (o.2 ++ later) (more + 1) w (subst (λ n. Serves s.setting s.nodes.rings n m.state.world (o.2 ++ later) (more + 1) w) left one) in
-          subst (λ n. Serves s.setting s.nodes.rings 32 m0.state.world ((r.answers ++ o.2) ++ later) n w) sum
-          (subst (λ l. Serves s.setting s.nodes.rings 32 m0.state.world l (runs + (more + 1)) w) (sym (append_assoc r.answers o.2 later)) all);
-      took = record { steps_are = omega (arith, r.took.steps_are, t.steps_are); cuts_are = omega (arith, r.took.cuts_are, t.cuts_are) };
+          let all = r.serves (o.answers ++ later) (more + 1) w
+          (subst (λ n. Serves s.setting s.nodes.rings n m.state.world (o.answers ++ later) (more + 1) w) left one) in
+          subst (λ n. Serves s.setting s.nodes.rings 32 m0.state.world ((r.answers ++ o.answers) ++ later) n w) sum
+          (subst (λ l. Serves s.setting s.nodes.rings 32 m0.state.world l (runs + (more + 1)) w) (sym (append_assoc r.answers o.answers later)) all);
+      took = record { steps_are = omega (arith, r.took.steps_are, o.took.steps_are); cuts_are = omega (arith, r.took.cuts_are, o.took.cuts_are) };
       few_runs = omega (arith, r.few_runs);
       few_steps = omega (arith, r.few_steps, few_steps);
       few_cuts = omega (arith, r.few_cuts, few_cuts);

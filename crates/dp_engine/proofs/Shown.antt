@@ -8,7 +8,7 @@ use Rattle.dp_model.specs.declared.instr.Instr.{Instr}
 use Rattle.dp_model.specs.Environments.{room_at}
 use Rattle.dp_model.specs.Packets.{needed, received}
 use Rattle.dp_model.specs.Machine.{Setting, World, State, Ended, is_denied}
-use Rattle.dp_model.specs.Runs.{first_state, between, Outcome, Got, first_waiting, runs_of}
+use Rattle.dp_model.specs.Runs.{first_state, between, Outcome, Got, first_waiting, runs_of, packet_received}
 use Rattle.dp_model.specs.Safety.{Beginning, IsOfRecord}
 use Rattle.dp_engine.specs.declared.run.NodeRun as took
 use Rattle.dp_engine.specs.Handles.{Core}
@@ -49,7 +49,7 @@ received_shows sees v v1 v2 s program port spec bytes w st s' is_spec is_program
     let b : Beginning = record {
       entry = Port port;
       program = program;
-      packet = received (room_at s.setting.env.pools spec.pool) r.numbers (length bytes);
+      packet = packet_received s.setting spec bytes r.numbers;
       number = port;
       world = record w { buffers = r.buffers; calls = w.calls + 1 };
     } in
@@ -58,12 +58,7 @@ received_shows sees v v1 v2 s program port spec bytes w st s' is_spec is_program
       spec_is = is_spec;
       program = program;
       program_is = is_program;
-      fits = fits;
-      given = given;
-      numbers = r.numbers;
-      buffers = r.buffers;
-      fresh = r.fresh;
-      filled = r.filled;
+      reception = record { fits = fits; given = given; numbers = r.numbers; buffers = r.buffers; fresh = r.fresh; filled = r.filled };
       is = refl;
     } in
     let (answers, events, shows, seen) = shows_run sees v v1 v2 s.setting b st s' r.state begun watched in

@@ -1,12 +1,11 @@
 -- Slots for rings, and the rings in them.
 use Rattle.std.proofs.Common.{◌≡◌, ℕ, zero, suc, ◌+◌, ◌<◌, ◌≤◌, cond, Bool, true, false, List, [], ◌∷◌, length, Option, Some, None, refl, sym, ◌∙◌, ap, subst}
-use Rattle.std.proofs.Common.{arith, get_or, set, drop}
-use Rattle.std.specs.Prelude.{is_none, unwrap_or, slice_get, IsSome, IfNone}
+use Rattle.std.proofs.Common.{arith, get_or, set}
+use Rattle.std.specs.Prelude.{is_none, unwrap_or, IsSome}
 use Rattle.std.specs.List.{position, position_from}
 use Rattle.std.proofs.lemmas.List.{length-set, set-get_or}
-use Rattle.std.proofs.lemmas.Option.{none-some}
 use Rattle.std.proofs.lemmas.Iterator.Adapters.{position_from-zero}
-use Rattle.dp_ring.specs.Rings.{RingView, without_first}
+use Rattle.dp_ring.specs.Rings.{RingView}
 use Rattle.dp_engine.specs.Queues.{rings_in, RingsFirst, no_ring, ring_at, ring_of}
 
 pub rings_below : (slots : List (Option RingView)) → length (rings_in slots) ≤ length slots
@@ -48,19 +47,6 @@ filled_from (Some r ∷ slots) i =
 pub set_where : (b : Bool) (rings : List RingView) (k : ℕ) (r : RingView) → set rings k (cond b r (ring_at rings k)) ≡ cond b (set rings k r) rings
 set_where true rings k r = refl
 set_where false rings k r = set-get_or rings k no_ring
-
--- a list without entries is unchanged without its first
-no_first : (entries : List ℕ) → slice_get entries 0 ≡ None → drop 1 entries ≡ entries
-no_first [] none = refl
-no_first (e ∷ entries) none = absurd (none-some e (sym none))
-
-pub kept : (rings : List RingView) (k : ℕ) (result : Option ℕ) (rings' : List RingView) → result ≡ slice_get (ring_at rings k).entries 0 →
-    rings' ≡ set rings k (without_first (ring_at rings k) 1) → IfNone result (rings' ≡ rings)
-kept rings k None rings' first rest =
-    let r : RingView = ring_at rings k in
-    rest
-    ∙ (ap (λ es. set rings k (record r { entries = es })) (no_first r.entries (sym first)) ∙ set-get_or rings k no_ring)
-kept rings k (Some e) rings' first rest = tt
 
 -- ---- a struct's slots
 

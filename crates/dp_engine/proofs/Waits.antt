@@ -9,11 +9,11 @@ use Rattle.dp_ring.specs.Rings.{RingView}
 use Rattle.dp_engine.specs.Queues.{ring_at, is_waiting}
 use Rattle.dp_model.specs.Packets.{Packet}
 use Rattle.dp_model.specs.Runs.{beyond, first_waiting}
-use Rattle.dp_engine.specs.Handles.{packet_at, packets_in, entries_of}
+use Rattle.dp_engine.specs.Handles.{packet_at, packets_listed, entries_of}
 
 -- the packets of rings
 abbrev pub in_rings : List (Option Packet) → List RingView → List (List Packet)
-in_rings slots rings = packets_in slots (map entries_of rings)
+in_rings slots rings = packets_listed slots (map entries_of rings)
 
 -- the j-th ring is the first with an entry
 pub record IsFirst (slots : List (Option Packet)) (rings : List RingView) (j : ℕ) : Type 0 where

@@ -18,14 +18,14 @@ use Rattle.dp_model.specs.Buffers.{Buffers}
 use Rattle.dp_model.specs.Packets.{Packet, packet_bytes}
 use Rattle.dp_model.specs.Machine.{World}
 use Rattle.dp_model.specs.Runs.{drained}
-use Rattle.dp_model.specs.Stores.{Store}
 use Rattle.dp_model.specs.Laws.Lists.{map_get, take_more}
-use Rattle.dp_ring.specs.Rings.{RingView}
-use Rattle.dp_pool.specs.Pools.{PoolZones}
 use Rattle.dp_engine.specs.Queues.{ring_at}
-use Rattle.dp_engine.specs.Handles.{held_of, packet_at, in_slot, occurs, joined, packets_in, OccurOnce, Core, core_of, RunCounts, frames_of, lists_of}
+use Rattle.dp_engine.specs.declared.machine.Machine.TheInside.{Inside}
+use Rattle.dp_engine.specs.MachineParts.{parts_of, core_of, OccurOnce}
+use Rattle.dp_engine.specs.Handles.{held_of, packet_at, in_slot, occurs, joined, packets_listed, Core, lists_of}
 use Rattle.dp_engine.specs.Handles.{without_entries, entries_of}
-use Rattle.dp_engine.proofs.Rings.{entries_at, frames_length}
+use Rattle.dp_engine.proofs.RingLemmas.{entries_at, frames_length}
+use Rattle.dp_engine.proofs.Machines.{list_of}
 use Rattle.dp_engine.specs.Drains.{record_of, captured, WrotePart, Written}
 use Rattle.dp_engine.proofs.Handles.{in_slot_some, is_one, occurs-append, waits}
 use Rattle.dp_engine.specs.Laws.{get_map}
@@ -96,22 +96,20 @@ slot_of slots h k one named =
     let (k', has) = in_slot_some (slice_get slots h) one in has ∙ ap (λ k. Some (Some k)) (sym (ap held_of has) ∙ named)
 
 -- a packet in a transmit list has a handle at its index
-pub waits_at : (s : Store) (zones : List PoolZones) (registers : List (Option ℕ)) (numbers : List ℕ) (rings boxes : List RingView) (calls : ℕ)
-    (steps : RunCounts)
-    (core : Core) (port i : ℕ) (packets : List Packet) (k : Packet)
-    → core_of s (frames_of zones rings boxes) registers numbers (lists_of rings boxes) calls steps ≡ core
-    → OccurOnce s.slots registers (lists_of rings boxes) → port < length core.frames.outboxes → slice_get core.state.world.outboxes port ≡ Some packets
-    → slice_get packets i ≡ Some k → (h : ℕ) × (slice_get (ring_at boxes port).entries i ≡ Some h) × (slice_get s.slots h ≡ Some (Some k))
-waits_at s zones registers numbers rings boxes calls steps core port i packets k is stand lt box here =
-    let long : length (map without_entries boxes) ≡ length core.frames.outboxes = ap (λ (c : Core). length c.frames.outboxes) is in
-    let there = entries_at boxes port (omega (arith, lt, long, frames_length boxes)) in
-    let listed : slice_get (packets_in s.slots (map entries_of boxes)) port ≡ Some packets =
+pub waits_at : (m : Inside) (core : Core) (port i : ℕ) (packets : List Packet) (k : Packet) → core_of (parts_of m) ≡ core → OccurOnce (parts_of m)
+    → port < length core.frames.outboxes → slice_get core.state.world.outboxes port ≡ Some packets → slice_get packets i ≡ Some k
+    → (h : ℕ) × (slice_get (ring_at m.queues.outboxes port).entries i ≡ Some h) × (slice_get m.mbufs.store.slots h ≡ Some (Some k))
+waits_at m core port i packets k is stand lt box here =
+    let slots = m.mbufs.store.slots in
+    let long : length (map without_entries m.queues.outboxes) ≡ length core.frames.outboxes = ap (λ (c : Core). length c.frames.outboxes) is in
+    let there = entries_at m.queues.outboxes port (omega (arith, lt, long, frames_length m.queues.outboxes)) in
+    let listed : slice_get (packets_listed slots (map entries_of m.queues.outboxes)) port ≡ Some packets =
     ap (λ (c : Core). slice_get c.state.world.outboxes port) is ∙ box in
-    let same : map (packet_at s.slots) (ring_at boxes port).entries ≡ packets =
-    same_Some _ _ (sym (map_get (map (packet_at s.slots)) (map entries_of boxes) port _ there) ∙ listed) in
-    let (h, at, named) = get_map (packet_at s.slots) (ring_at boxes port).entries i k (ap (λ l. slice_get l i) same ∙ here) in
-    let one = in_lists (map entries_of boxes) port h (ring_at boxes port).entries there (in_list (ring_at boxes port).entries i h at) in
-    (h, at, slot_of s.slots h k (omega (arith, stand h, one, waits h (lists_of rings boxes))) named)
+    let same = list_of slots (map entries_of m.queues.outboxes) port (ring_at m.queues.outboxes port).entries packets there listed in
+    let (h, at, named) = get_map (packet_at slots) (ring_at m.queues.outboxes port).entries i k (ap (λ l. slice_get l i) same ∙ here) in
+    let xs = (ring_at m.queues.outboxes port).entries in
+    let one = in_lists (map entries_of m.queues.outboxes) port h xs there (in_list xs i h at) in
+    (h, at, slot_of slots h k (omega (arith, stand h, one, waits h (lists_of m.queues.rings m.queues.outboxes))) named)
 
 -- ---- records
 

@@ -17,7 +17,8 @@ record_of unit time buffers k = record_text unit (record { time = time; bytes = 
 
 -- this holds of the packet at an index of a transmit list
 abbrev pub AtPacket : Core → ℕ → ℕ → (Packet → Type 0) → Type 0
-AtPacket core port at P = (packets : List Packet) (k : Packet) → slice_get core.state.world.outboxes port ≡ Some packets → slice_get packets at ≡ Some k → P k
+AtPacket core port at P = (packets : List Packet) (packet : Packet) → slice_get core.state.world.outboxes port ≡ Some packets
+    → slice_get packets at ≡ Some packet → P packet
 
 -- records of a run as records of a capture
 abbrev pub captured : Time × List ℕ → capture.PacketRecord

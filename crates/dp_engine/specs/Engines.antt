@@ -96,15 +96,15 @@ abbrev pub no_tallies : Tallies
 no_tallies = record { received = 0; nobuf = 0; oversize = 0; sent = 0 }
 
 -- an engine before its first turn, in a region of this size: no call is refused, there are no packets, and all counts are 0
-pub record IsOpened (home : Home) (size : ℕ) (env : Environment) (tables : List RouteTable) (questions : List Question) (e : EngineState) : Type 0 where
-  pub setting : e.setting ≡ (scheme_of env tables questions []).setting
-  pub nodes : e.nodes ≡ (scheme_of env tables questions []).nodes
-  pub start : IsStart env e.world
-  pub turns : e.turns ≡ 0
-  pub tallies : e.tallies ≡ replicate 8 no_tallies
-  pub left : e.left ≡ replicate 8 0
-  pub home_is : e.home ≡ home
-  pub size_is : e.size ≡ size
+pub record IsOpened (home : Home) (size : ℕ) (env : Environment) (tables : List RouteTable) (questions : List Question) (engine : EngineState) : Type 0 where
+  pub setting : engine.setting ≡ (scheme_of env tables questions []).setting
+  pub nodes : engine.nodes ≡ (scheme_of env tables questions []).nodes
+  pub start : IsStart env engine.world
+  pub turns : engine.turns ≡ 0
+  pub tallies : engine.tallies ≡ replicate 8 no_tallies
+  pub left : engine.left ≡ replicate 8 0
+  pub home_is : engine.home ≡ home
+  pub size_is : engine.size ≡ size
 
 -- numbers in strictly ascending order
 abbrev pub IsAscending : ℕ → List ℕ → Type 0
@@ -165,6 +165,6 @@ flushed e = record e {
 }
 
 -- no packet waits anywhere
-pub record IsFlushed (e : EngineState) : Type 0 where
-  pub rings : AllByRecursion (λ (packets : List Packet). packets ≡ []) e.world.rings
-  pub outboxes : AllByRecursion (λ (packets : List Packet). packets ≡ []) e.world.outboxes
+pub record IsFlushed (engine : EngineState) : Type 0 where
+  pub rings : AllByRecursion (λ (packets : List Packet). packets ≡ []) engine.world.rings
+  pub outboxes : AllByRecursion (λ (packets : List Packet). packets ≡ []) engine.world.outboxes

@@ -1,9 +1,8 @@
 -- The packets that handles name. Each handle occurs once.
-use Rattle.std.specs.Prelude.{◌≡◌, ℕ, ◌+◌, ◌==◌, Bool, true, false, List, [], ◌∷◌, ◌++◌, map, Option, Some, None, slice_get}
+use Rattle.std.specs.Prelude.{ℕ, ◌+◌, ◌==◌, Bool, true, false, List, [], ◌∷◌, ◌++◌, map, Option, Some, None, slice_get}
 use Rattle.dp_model.specs.declared.env.PoolSpec.{PoolSpec}
 use Rattle.dp_model.specs.Packets.{Packet}
 use Rattle.dp_model.specs.Machine.{State}
-use Rattle.dp_model.specs.Stores.{Store}
 use Rattle.dp_ring.specs.Rings.{RingView}
 use Rattle.dp_pool.specs.Pools.{PoolZones}
 
@@ -56,8 +55,8 @@ abbrev pub waiting : Lists → List ℕ
 waiting lists = joined lists.rings ++ joined lists.outboxes
 
 -- the packets that they name
-abbrev pub packets_in : List (Option Packet) → List (List ℕ) → List (List Packet)
-packets_in slots lists = map (map (packet_at slots)) lists
+abbrev pub packets_listed : List (Option Packet) → List (List ℕ) → List (List Packet)
+packets_listed slots lists = map (map (packet_at slots)) lists
 
 -- where a machine's packets are: the zones of its pools, and its rings and transmit lists without their entries
 pub record Frames : Type 0 where
@@ -77,45 +76,11 @@ frames_of zones rings outboxes = record { zones = zones; rings = map without_ent
 abbrev pub lists_of : List RingView → List RingView → Lists
 lists_of rings outboxes = record { rings = map entries_of rings; outboxes = map entries_of outboxes }
 
--- each packet of the store has its handle once in a register or a list, and there are no other handles
-abbrev pub OccurOnce : List (Option Packet) → List (Option ℕ) → Lists → Type 0
-OccurOnce slots registers lists =
-    (h : ℕ) → occurs h (handles_held registers) + occurs h (waiting lists) ≡ in_slot (slice_get slots h)
-
 -- a machine: its pools, its rings and transmit lists without their entries, and a state
 pub record Core : Type 0 where
   pub pools : List PoolSpec
   pub frames : Frames
   pub state : State
-
--- what a machine counts besides allocation calls: steps, cut node runs, and the backward jumps of the node run
-pub record RunCounts : Type 0 where
-  pub steps : ℕ
-  pub cuts : ℕ
-  pub jumps : ℕ
-
-abbrev pub run_counts : ℕ → ℕ → ℕ → RunCounts
-run_counts steps cuts jumps = record { steps = steps; cuts = cuts; jumps = jumps }
-
--- a machine of these parts
-abbrev pub core_of : Store → Frames → List (Option ℕ) → List ℕ → Lists → ℕ → RunCounts → Core
-core_of store frames registers numbers lists calls steps = record {
-  pools = store.pools;
-  frames = frames;
-  state = record {
-    packets = map (register_at store.slots) registers;
-    numbers = numbers;
-    jumps = steps.jumps;
-    world = record {
-      buffers = store.buffers;
-      rings = packets_in store.slots lists.rings;
-      outboxes = packets_in store.slots lists.outboxes;
-      calls = calls;
-      steps = steps.steps;
-      cuts = steps.cuts;
-    };
-  };
-}
 
 -- the same machine in another state
 abbrev pub moved : State → Core → Core

@@ -154,29 +154,31 @@ node_of env entry program q is_program is_env is_entry c = record {
 
 -- the nodes of an environment are checked with their entries
 are_checked : (env : Environment) (tables : List RouteTable) (questions : List Question) (pattern : List ℕ) → fault_of env ≡ None → AreNodes env questions
-    → ((k : ℕ) (q : Question) → slice_get questions k ≡ Some q → IsChecked q) → AreChecked (setting_of env tables pattern) (nodes_of env questions)
+    → ((k : ℕ) (question : Question) → slice_get questions k ≡ Some question → IsChecked question)
+    → AreChecked (setting_of env tables pattern) (nodes_of env questions)
 are_checked env tables questions pattern limits nodes checked = record {
   ports = λ port program h.
       let (less, there) = get_take (length env.ports) (programs_of questions) port program h in
-      let (q, is_q, is_program) = get_map (λ (q : Question). q.program) questions port program there in
-      let (is_env, is_entry) = nodes.ports port q less is_q in
-      node_of env (Port port) program q is_program is_env is_entry (checked port q is_q);
+      let (question, is_q, is_program) = get_map (λ (question : Question). question.program) questions port program there in
+      let (is_env, is_entry) = nodes.ports port question less is_q in
+      node_of env (Port port) program question is_program is_env is_entry (checked port question is_q);
   rings = λ ring program h.
-      let (q, is_q, is_program) = get_map (λ (q : Question). q.program) questions (length env.ports + ring) program
+      let (question, is_q, is_program) = get_map (λ (question : Question). question.program) questions (length env.ports + ring) program
       (sym (get_drop (length env.ports) (programs_of questions) ring) ∙ h) in
-      let (is_env, is_entry) = nodes.rings ring q is_q in
-      node_of env (Ring ring) program q is_program is_env is_entry (checked (length env.ports + ring) q is_q);
+      let (is_env, is_entry) = nodes.rings ring question is_q in
+      node_of env (Ring ring) program question is_program is_env is_entry (checked (length env.ports + ring) question is_q);
   rooms = ports_have_room env limits;
   facts = λ ring spec h. each_at (λ r. is_well_formed_fact r.fact ≡ true) env.rings ring spec (known env limits).facts h;
 }
 
 -- programs that are checked for the entries of an environment, with its tables, make a context
 pub plan_of : (env : Environment) (tables : List RouteTable) (questions : List Question) (pattern : List ℕ) → fault_of env ≡ None → AreNodes env questions
-    → length tables ≡ env.tables → ((k : ℕ) (q : Question) → slice_get questions k ≡ Some q → IsChecked q)
+    → length tables ≡ env.tables → ((k : ℕ) (question : Question) → slice_get questions k ≡ Some question → IsChecked question)
     → ((k : ℕ) (t : RouteTable) → slice_get tables k ≡ Some t → AllByRecursion (λ (route : Route). route.hop ≤ max_hop) t.routes)
     → IsScheme (scheme_of env tables questions pattern)
 plan_of env tables questions pattern limits nodes many checked hops =
-    let all : length (programs_of questions) ≡ length env.ports + length env.rings = length-map questions (λ (q : Question). q.program) ∙ nodes.many in
+    let all : length (programs_of questions) ≡ length env.ports + length env.rings = length-map questions (λ (question : Question). question.program)
+    ∙ nodes.many in
     record {
       pipeline = record {
         limits = limits;
@@ -198,5 +200,5 @@ plan_of env tables questions pattern limits nodes many checked hops =
   where
     are_programs : (k : ℕ) (program : List Instr) → slice_get (programs_of questions) k ≡ Some program → IsProgram program
     are_programs k program h =
-        let (q, is_q, is_program) = get_map (λ (q : Question). q.program) questions k program h in
-        subst IsProgram is_program (checked k q is_q).program
+        let (question, is_q, is_program) = get_map (λ (question : Question). question.program) questions k program h in
+        subst IsProgram is_program (checked k question is_q).program

@@ -3,6 +3,7 @@ pub mod Drains
 pub mod Putting
 pub mod Engines
 pub mod Handles
+pub mod HandleQueues
 pub mod Known
 pub mod Laws
 pub mod Layouts
@@ -10,12 +11,12 @@ pub mod Midway
 pub mod Names
 pub mod Needs
 pub mod Outcomes
-pub mod Places
 pub mod Queues
 pub mod Reports
 pub mod Schemes
 pub mod Serving
 pub mod Shapes
+pub mod MachineParts
 pub mod Memories
 pub mod Builders
 pub mod Steps

@@ -38,6 +38,13 @@ ring_at rings k = slice_index_or rings k no_ring
 abbrev pub is_waiting : RingView → Bool
 is_waiting r = not (length r.entries == 0)
 
+-- ---- the queues of a machine
+
+-- its rings and its transmit lists, by number
+pub record QueuesView : Type 0 where
+  pub rings : List RingView
+  pub outboxes : List RingView
+
 -- ---- a slot for a ring
 
 -- the ring in a slot

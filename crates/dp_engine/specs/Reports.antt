@@ -23,13 +23,13 @@ pool_reports free k [] = []
 pool_reports free k (p ∷ pools) = record { free = free k; count = p.count } ∷ pool_reports free (suc k) pools
 
 -- the report of an engine: its counts, with every input open
-pub record IsReport (e : EngineState) (r : Report) : Type 0 where
-  pub ports : r.ports.items ≡ map (port_report Open) (take (length e.setting.env.ports) e.tallies)
-  pub rings : r.rings.items ≡ take (length e.setting.env.rings) e.left
-  pub pools : r.pools.items ≡ pool_reports (available e.setting.env.pools (live (between e.world))) 0 e.setting.env.pools
-  pub calls : r.calls ≡ e.world.calls
-  pub refused : r.refused ≡ refused_of e.setting.pattern e.world.calls
-  pub cut : r.cut ≡ e.world.cuts
+pub record IsReport (engine : EngineState) (r : Report) : Type 0 where
+  pub ports : r.ports.items ≡ map (port_report Open) (take (length engine.setting.env.ports) engine.tallies)
+  pub rings : r.rings.items ≡ take (length engine.setting.env.rings) engine.left
+  pub pools : r.pools.items ≡ pool_reports (available engine.setting.env.pools (live (between engine.world))) 0 engine.setting.env.pools
+  pub calls : r.calls ≡ engine.world.calls
+  pub refused : r.refused ≡ refused_of engine.setting.pattern engine.world.calls
+  pub cut : r.cut ≡ engine.world.cuts
 
 -- all buffers of each pool are free
 abbrev pub IsWhole : Environment → Report → Type 0

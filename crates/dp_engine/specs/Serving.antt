@@ -21,14 +21,20 @@ ArrivesAt s port bytes w outcome answers w' =
     × (slice_get s.setting.env.ports port ≡ Some spec) × (slice_get s.nodes.ports port ≡ Some program)
     × Arrives s.setting program port spec bytes w outcome answers w'
 
--- no ring has a packet, and nothing happens; or the first ring that has one is served
+-- the first ring that has a packet is served
+pub record ServesNext (s : Scheme) (w : World) (run : took.NodeRun) (w' : World) : Type 0 where
+  pub next : Waiting Packet
+  pub program : List Instr
+  pub answers : List Bool
+  pub waits : first_waiting w.rings ≡ Some next
+  pub program_is : slice_get s.nodes.rings next.ring ≡ Some program
+  pub runs : NodeRun s.setting program next.packet next.ring (record w { rings = next.rings }) answers w'
+  pub took : Consumed w w' run.steps run.cuts
+
+-- and nothing happens if no ring has one
 abbrev pub ServesOne : Scheme → World → Option took.NodeRun → World → Type 0
 ServesOne s w None w' = (first_waiting w.rings ≡ None) × (w' ≡ w)
-ServesOne s w (Some run) w' =
-    (next : Waiting Packet) × (program : List Instr) × (answers : List Bool)
-    × (first_waiting w.rings ≡ Some next) × (slice_get s.nodes.rings next.ring ≡ Some program)
-    × NodeRun s.setting program next.packet next.ring (record w { rings = next.rings }) answers w'
-    × Consumed w w' run.steps run.cuts
+ServesOne s w (Some run) w' = ServesNext s w run w'
 
 -- a machine between two node runs of a context
 pub record Rests (s : Scheme) (core : Core) : Type 0 where

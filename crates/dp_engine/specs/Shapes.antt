@@ -6,11 +6,11 @@ use Rattle.dp_engine.specs.declared.view.PacketShape.{PacketShape}
 use Rattle.dp_engine.specs.Handles.{Core}
 
 -- the shape of a packet of a machine
-pub record IsShapeOf (core : Core) (k : Packet) (shape : PacketShape) : Type 0 where
-  pub segments : shape.segments ≡ length k
-  pub bytes : shape.length ≡ length (packet_bytes core.state.world.buffers k)
-  pub headroom_is : shape.headroom ≡ headroom k
-  pub tailroom_is : shape.tailroom ≡ tailroom core.pools k
+pub record IsShapeOf (core : Core) (packet : Packet) (shape : PacketShape) : Type 0 where
+  pub segments : shape.segments ≡ length packet
+  pub bytes : shape.length ≡ length (packet_bytes core.state.world.buffers packet)
+  pub headroom_is : shape.headroom ≡ headroom packet
+  pub tailroom_is : shape.tailroom ≡ tailroom core.pools packet
 
 -- the bytes of a packet's segment, and how many segments refer to its buffer
 abbrev pub IsSegmentOf : Core → Packet → ℕ → List ℕ → ℕ → Type 0

@@ -14,7 +14,6 @@ mod turns;
 
 use crate::context::Context;
 use crate::known::{Known, Nothing};
-use crate::lists::Lists;
 use crate::machine::Machine;
 use crate::memory::{EngineMemory, Parts};
 use crate::queues::Queues;
@@ -22,7 +21,7 @@ use crate::report::{NO_TALLIES, Report, Tallies};
 use dp_check::Checked;
 use dp_lpm::Lpm;
 use dp_mbuf::Mbufs;
-use dp_model::Env;
+use dp_model::{Env, Queue};
 use dp_region::Region;
 pub use pass::Pass;
 use std::marker::Model;
@@ -124,7 +123,7 @@ impl<K: Known> Engine<K> {
         let context = Context::new(env, tables, nodes);
         let mbufs = Mbufs::over(pools);
         mbufs.is_well_formed();
-        let machine = Machine::over(mbufs, Queues::over(rings), Lists::over(lists));
+        let machine = Machine::over(mbufs, Queues::over(rings, lists));
         Ok(Engine {
             context,
             machine,
@@ -156,7 +155,7 @@ impl<K: Known> Engine<K> {
         requires exists { port < length self.now.setting.env.ports }
         ensures { (packets : List Packet) × (slice_get self.now.world.outboxes port ≡ Some packets) × (result ≡ length packets) }
     {
-        self.machine.queued(port) as usize
+        self.machine.count(Queue::Tx(port)) as usize
     }
 
     /// Ends the engine: frees what is left in rings and transmit lists. Returns the report, in which all buffers are free, and the region, with
@@ -189,11 +188,13 @@ impl<K: Known> Engine<K> {
             tallies: _,
             left: _,
         } = self;
-        let (mbufs, rings, outboxes) = machine.into_parts();
+        let (mbufs, queues) = machine.into_parts();
+        let pools = mbufs.into_pools();
+        let (rings, lists) = queues.into_rings();
         memory.close(Parts {
-            pools: mbufs.into_pools(),
-            rings: rings.into_rings(),
-            lists: outboxes.into_rings(),
+            pools,
+            rings,
+            lists,
         })
     }
 }

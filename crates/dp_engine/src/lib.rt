@@ -34,6 +34,7 @@
 //! programs come as `Checked`, of the same environment and their own entries.
 #![tactic(auto)]
 
+mod acts;
 mod batch;
 mod builder;
 mod context;
@@ -41,16 +42,15 @@ mod control;
 mod copying;
 mod engine;
 mod known;
-mod lists;
 mod machine;
 mod memory;
 mod names;
 mod needs;
 mod node;
-mod place;
 mod put;
 mod queues;
 mod report;
+mod rings;
 mod route_lookup;
 mod run;
 mod serving;

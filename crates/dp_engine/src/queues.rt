@@ -1,36 +1,38 @@
-//! `Lists` plus the number of the lowest non-empty ring.
+//! The queues of a machine: its transmit lists, its rings, and the number of the lowest non-empty ring.
 
-ghost use Rattle.std.specs.Prelude.{◌≡◌, ◌<◌, ◌≤◌, ◌∷◌, [], length, nat_lt, if◌then◌else◌, slice_get, slice_set, true, IfSome, IfNone};
+ghost use Rattle.std.specs.Prelude.{◌≡◌, ◌<◌, ◌≤◌, ◌++◌, ◌∷◌, [], length, nat_lt, drop, slice_get, true, false, IsTrue, IfSome};
 ghost use Rattle.std.specs.List.{position, position_or_len};
-ghost use Rattle.dp_ring.specs.Rings.{room_in, with_more, without_first};
+ghost use Rattle.dp_ring.specs.Rings.{room_in};
 ghost use Rattle.dp_engine.specs.Queues.{rings_in, RingsFirst, ring_at, is_waiting};
+ghost use Rattle.dp_engine.specs.HandleQueues.{IsQueue, ring_of_queue, Becomes};
 
-use crate::lists::Lists;
+use crate::rings::Rings;
+use dp_model::Queue;
 use dp_ring::Ring;
 use std::marker::Model;
 
-/// Rings by number, and which is the lowest non-empty one.
+/// The transmit lists and the rings of a machine, by number, and which ring is the lowest non-empty one.
 pub struct Queues {
-    rings: Lists,
+    outboxes: Rings,
+    rings: Rings,
     // The least number of a ring that has an entry; the number of rings if none has.
     first: u8,
 }
 
 impl Model for Queues {
-    ghost use Rattle.std.specs.Prelude.{◌≡◌, List};
+    ghost use Rattle.std.specs.Prelude.{◌≡◌};
     ghost use Rattle.std.specs.List.{position_or_len};
-    ghost use Rattle.dp_ring.specs.Rings.{RingView};
-    ghost use Rattle.dp_engine.specs.Queues.{is_waiting};
+    ghost use Rattle.dp_engine.specs.Queues.{QueuesView, is_waiting};
 
-    ghost Value = { List RingView };
+    ghost Value = { QueuesView };
 
-    ghost view = { λ q. q.rings };
+    ghost view = { λ q. record { rings = q.rings; outboxes = q.outboxes } };
 
     ghost invariant = { λ q. q.first ≡ position_or_len is_waiting q.rings };
 }
 
 // The least number of a ring that has an entry; the number of rings if none has. No ring below `from` has one.
-fn first_from(rings: &Lists, from: u8) -> u8
+fn first_from(rings: &Rings, from: u8) -> u8
     requires { from ≤ position_or_len is_waiting rings.now }
     ensures { result ≡ position_or_len is_waiting rings.now }
 {
@@ -44,66 +46,107 @@ fn first_from(rings: &Lists, from: u8) -> u8
 }
 
 impl Queues {
-    /// Takes ownership of these rings, by slot.
-    pub fn over(rings: [Option<Ring>; 8]) -> Queues
-        requires { RingsFirst rings }
-        ensures { result ≡ rings_in rings }
+    /// Takes ownership of these rings and transmit lists, by slot.
+    pub fn over(rings: [Option<Ring>; 8], outboxes: [Option<Ring>; 8]) -> Queues
+        requires rings { RingsFirst rings }
+        requires outboxes { RingsFirst outboxes }
+        ensures { result ≡ record { rings = rings_in rings; outboxes = rings_in outboxes } }
     {
-        let rings = Lists::over(rings);
+        let rings = Rings::over(rings);
+        let outboxes = Rings::over(outboxes);
         let first = first_from(&rings, 0);
-        Queues { rings, first }
+        Queues {
+            outboxes,
+            rings,
+            first,
+        }
     }
 
     /// The number of rings.
-    pub fn len(&self) -> usize
-        ensures value { result ≡ length self.now }
+    pub fn rings(&self) -> usize
+        ensures value { result ≡ length self.now.rings }
         ensures bound { result ≤ 8 }
     {
         self.rings.len()
     }
 
-    /// The number of entries of a ring.
-    pub fn count(&self, k: u8) -> u32
-        requires { k < length self.now }
-        ensures value { result ≡ length (ring_at self.now k).entries }
-        ensures bound { result < (ring_at self.now k).count }
+    /// The number of transmit lists.
+    pub fn outboxes(&self) -> usize
+        ensures value { result ≡ length self.now.outboxes }
+        ensures bound { result ≤ 8 }
     {
-        self.rings.count(k)
+        self.outboxes.len()
     }
 
-    /// Appends an entry to a ring. Returns false if the ring is full.
-    pub fn push(&mut self, k: u8, entry: u32) -> bool
-        requires { k < length self.old }
-        ensures taken { result ≡ nat_lt 0 (room_in (ring_at self.old k)) }
-        ensures rings { self.new ≡ (if nat_lt 0 (room_in (ring_at self.old k)) then slice_set self.old k (with_more (ring_at self.old k) (entry ∷ []))
-            else self.old) }
+    /// The number of handles in a queue.
+    #[inline(always)]
+    pub fn count(&self, queue: Queue) -> u32
+        requires { IsQueue queue self.now.rings self.now.outboxes }
+        ensures value { result ≡ length (ring_of_queue queue self.now.rings self.now.outboxes).entries }
+        ensures bound { result < (ring_of_queue queue self.now.rings self.now.outboxes).count }
     {
-        let is_taken = self.rings.push(k, entry);
-        if is_taken && k < self.first {
-            self.first = k;
+        match queue {
+            Queue::Tx(port) => self.outboxes.count(port),
+            Queue::Ring(ring) => self.rings.count(ring),
         }
-        is_taken
     }
 
-    /// Removes and returns the first entry of a ring, if there is one.
-    pub fn pop(&mut self, k: u8) -> Option<u32>
-        requires { k < length self.old }
-        ensures first { result ≡ slice_get (ring_at self.old k).entries 0 }
-        ensures rest { self.new ≡ slice_set self.old k (without_first (ring_at self.old k) 1) }
-        ensures kept { IfNone result (self.new ≡ self.old) }
+    /// The `i`-th handle of a queue from the front, if there is one.
+    #[inline(always)]
+    pub fn peek(&self, queue: Queue, i: u32) -> Option<u32>
+        requires { IsQueue queue self.now.rings self.now.outboxes }
+        ensures { result ≡ slice_get (ring_of_queue queue self.now.rings self.now.outboxes).entries i }
     {
-        let entry = self.rings.pop(k);
-        if k <= self.first {
-            self.first = first_from(&self.rings, k);
+        match queue {
+            Queue::Tx(port) => self.outboxes.peek(port, i),
+            Queue::Ring(ring) => self.rings.peek(ring, i),
         }
-        entry
+    }
+
+    /// Appends a handle to a queue. Returns false if the queue is full.
+    #[inline(always)]
+    pub fn push(&mut self, queue: Queue, handle: u32) -> bool
+        requires { IsQueue queue self.old.rings self.old.outboxes }
+        ensures taken { result ≡ nat_lt 0 (room_in (ring_of_queue queue self.old.rings self.old.outboxes)) }
+        ensures more { IsTrue result → Becomes queue ((ring_of_queue queue self.old.rings self.old.outboxes).entries ++ handle ∷ []) self.old self.new }
+        ensures full { result ≡ false → self.new ≡ self.old }
+    {
+        match queue {
+            Queue::Tx(port) => self.outboxes.push(port, handle),
+            Queue::Ring(ring) => {
+                let is_taken = self.rings.push(ring, handle);
+                if is_taken && ring < self.first {
+                    self.first = ring;
+                }
+                is_taken
+            }
+        }
+    }
+
+    /// Removes and returns the first handle of a queue, if there is one.
+    #[inline(always)]
+    pub fn pop(&mut self, queue: Queue) -> Option<u32>
+        requires { IsQueue queue self.old.rings self.old.outboxes }
+        ensures first { result ≡ slice_get (ring_of_queue queue self.old.rings self.old.outboxes).entries 0 }
+        ensures rest { Becomes queue (drop 1 (ring_of_queue queue self.old.rings self.old.outboxes).entries) self.old self.new }
+    {
+        match queue {
+            Queue::Tx(port) => self.outboxes.pop(port),
+            Queue::Ring(ring) => {
+                let handle = self.rings.pop(ring);
+                if ring <= self.first {
+                    self.first = first_from(&self.rings, ring);
+                }
+                handle
+            }
+        }
     }
 
     /// The lowest number of a ring that has an entry, if one has.
     pub fn first_waiting(&self) -> Option<u8>
-        ensures value { result ≡ position is_waiting self.now }
-        ensures bound { IfSome result (λ k. k < length self.now) }
-        ensures waits { IfSome result (λ k. is_waiting (ring_at self.now k) ≡ true) }
+        ensures value { result ≡ position is_waiting self.now.rings }
+        ensures bound { IfSome result (λ k. k < length self.now.rings) }
+        ensures waits { IfSome result (λ k. is_waiting (ring_at self.now.rings k) ≡ true) }
     {
         if usize::from(self.first) < self.rings.len() {
             Some(self.first)
@@ -112,12 +155,16 @@ impl Queues {
         }
     }
 
-    /// Returns the rings, each in the slot of its number.
-    pub fn into_rings(self) -> [Option<Ring>; 8]
-        ensures same { rings_in result ≡ self }
-        ensures first { RingsFirst result }
+    /// Returns the rings and the transmit lists, each in the slot of its number.
+    pub fn into_rings(self) -> ([Option<Ring>; 8], [Option<Ring>; 8])
+        ensures rings { (rings_in result.0 ≡ self.rings) × RingsFirst result.0 }
+        ensures outboxes { (rings_in result.1 ≡ self.outboxes) × RingsFirst result.1 }
     {
-        let Queues { rings, first: _ } = self;
-        rings.into_rings()
+        let Queues {
+            outboxes,
+            rings,
+            first: _,
+        } = self;
+        (rings.into_rings(), outboxes.into_rings())
     }
 }

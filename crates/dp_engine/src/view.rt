@@ -5,7 +5,7 @@ ghost use Rattle.dp_model.specs.Machine.{Holds, IsEmpty, live};
 ghost use Rattle.dp_engine.specs.Shapes.{IsShapeOf, IsSegmentOf, AreWaiting};
 
 use crate::machine::Machine;
-use dp_model::{NumberRegister, PacketRegister};
+use dp_model::{NumberRegister, PacketRegister, Queue};
 use std::marker::Model;
 
 /// A packet, except its bytes.
@@ -69,7 +69,7 @@ impl<'a> View<'a> {
 
     /// The packet in a register, if there is one.
     pub fn packet(&self, p: PacketRegister) -> Option<PacketShape>
-        ensures some { IfSome result (λ shape. (k : Packet) × Holds self.now.state p k × IsShapeOf self.now k shape) }
+        ensures some { IfSome result (λ shape. (packet : Packet) × Holds self.now.state p packet × IsShapeOf self.now packet shape) }
         ensures none { IfNone result (IsEmpty self.now.state p) }
     {
         if self.machine.holds(p) {
@@ -86,8 +86,8 @@ impl<'a> View<'a> {
 
     /// The segment with this index, from 0, of the packet in a register, if there is one.
     pub fn segment(&self, p: PacketRegister, index: u32) -> Option<SegmentView<'a>>
-        ensures some { IfSome result (λ s. (k : Packet) × Holds self.now.state p k × IsSegmentOf self.now k index s.bytes.now s.refs) }
-        ensures none { IfNone result ((k : Packet) → Holds self.now.state p k → length k ≤ index) }
+        ensures some { IfSome result (λ s. (packet : Packet) × Holds self.now.state p packet × IsSegmentOf self.now packet index s.bytes.now s.refs) }
+        ensures none { IfNone result ((packet : Packet) → Holds self.now.state p packet → length packet ≤ index) }
     {
         if !self.machine.holds(p) || self.machine.segments(p) <= index {
             return None;
@@ -104,7 +104,7 @@ impl<'a> View<'a> {
         ensures none { IfNone result (length self.now.frames.rings ≤ ring) }
     {
         if usize::from(ring) < self.machine.rings() {
-            Some(self.machine.waiting(ring))
+            Some(self.machine.count(Queue::Ring(ring)))
         } else {
             None
         }
@@ -116,7 +116,7 @@ impl<'a> View<'a> {
         ensures none { IfNone result (length self.now.frames.outboxes ≤ port) }
     {
         if usize::from(port) < self.machine.lists() {
-            Some(self.machine.queued(port))
+            Some(self.machine.count(Queue::Tx(port)))
         } else {
             None
         }

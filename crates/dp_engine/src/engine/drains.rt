@@ -11,7 +11,7 @@ ghost use Rattle.dp_engine.specs.Engines.{drained, left_at, with_left, flushed};
 
 use crate::engine::{Engine, WriteFault};
 use crate::known::Known;
-use crate::place::Place;
+use dp_model::Queue;
 use dp_pcap::{Sink, Time, Unit};
 
 impl<K: Known> Engine<K> {
@@ -54,8 +54,8 @@ impl<K: Known> Engine<K> {
         requires { ring < length self.old.setting.env.rings }
         ensures { self.new ≡ left_at ring self.old }
     {
-        self.left[usize::from(ring)] += u64::from(self.machine.waiting(ring));
-        self.machine.clear(Place::Ring(ring));
+        self.left[usize::from(ring)] += u64::from(self.machine.count(Queue::Ring(ring)));
+        self.machine.clear(Queue::Ring(ring));
     }
 
     // Frees the packets of a transmit list.
@@ -63,7 +63,7 @@ impl<K: Known> Engine<K> {
         requires { port < length self.old.setting.env.ports }
         ensures { self.new ≡ drained port 0 self.old }
     {
-        self.machine.clear(Place::Port(port));
+        self.machine.clear(Queue::Tx(port));
     }
 
     // Frees the packets of all rings, and counts them ring by ring.

@@ -9,8 +9,7 @@ ghost use Rattle.dp_engine.specs.Shapes.{AreWaiting};
 use crate::batch::{BatchSize, SentRecord};
 use crate::engine::{Engine, Turn};
 use crate::known::Known;
-use crate::place::Place;
-use dp_model::PoolSpec;
+use dp_model::{PoolSpec, Queue};
 
 /// What a pass did.
 #[derive(Clone, Copy, Debug, PartialEq, Eq)]
@@ -63,7 +62,7 @@ impl<K: Known> Engine<K> {
         ensures none { IfNone result (length self.now.setting.env.rings ≤ ring) }
     {
         if usize::from(ring) < self.context.env().rings().len() {
-            Some(self.machine.waiting(ring))
+            Some(self.machine.count(Queue::Ring(ring)))
         } else {
             None
         }
@@ -85,8 +84,8 @@ impl<K: Known> Engine<K> {
         requires { port < length self.old.setting.env.ports }
         ensures { (packets : List Packet) → slice_get self.old.world.outboxes port ≡ Some packets → self.new ≡ drained port (length packets) self.old }
     {
-        self.tallies[usize::from(port)].sent += u64::from(self.machine.queued(port));
-        self.machine.clear(Place::Port(port));
+        self.tallies[usize::from(port)].sent += u64::from(self.machine.count(Queue::Tx(port)));
+        self.machine.clear(Queue::Tx(port));
     }
 
     // Frees the packets of all transmit lists, and counts them as sent.

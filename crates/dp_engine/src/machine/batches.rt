@@ -8,7 +8,7 @@ ghost use Rattle.dp_engine.specs.Drains.{AtPacket};
 use crate::batch::{BatchSize, SentRecord};
 use crate::copying::copy_packet;
 use crate::machine::Machine;
-use dp_model::Packet as Handle;
+use dp_model::{Packet as Handle, Queue};
 
 impl Machine {
     // Copies the bytes of a packet in a transmit list. Returns their number.
@@ -20,7 +20,7 @@ impl Machine {
         ensures copied { AtPacket self.now port at (λ k. bytes.new ≡ overwritten bytes.old from (packet_bytes self.now.state.world.buffers k)) }
         ensures many { length bytes.new ≡ length bytes.old }
     {
-        match self.outboxes.peek(port, at) {
+        match self.queues.peek(Queue::Tx(port), at) {
             Some(packet) => copy_packet(&self.mbufs, Handle::of(packet), bytes, from),
             None => unreachable!(),
         }
@@ -46,7 +46,7 @@ impl Machine {
         ensures many { (length records.new ≡ length records.old) × (length bytes.new ≡ length bytes.old) }
         ensures rest { KeepsRest result records.old records.new bytes.old bytes.new }
     {
-        let count = self.queued(port);
+        let count = self.count(Queue::Tx(port));
         let mut held = held;
         for at in 0..count {
             let length = self.copy_waiting(port, at, bytes, held.bytes);
@@ -79,7 +79,7 @@ impl Machine {
             records: 0,
             bytes: 0,
         };
-        for port in 0..self.outboxes.len() as u8 {
+        for port in 0..self.queues.outboxes() as u8 {
             held = self.copy_list(port, time, records, bytes, held);
         }
         held

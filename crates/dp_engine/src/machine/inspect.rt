@@ -4,13 +4,13 @@ ghost use Rattle.dp_model.specs.Packets.{Packet, Segment, refs, packet_bytes, se
 ghost use Rattle.dp_model.specs.Machine.{Holds, IsEmpty, live};
 
 use crate::machine::Machine;
-use crate::machine::calls::{handle_in, is_held_in};
+use crate::machine::packets::{handle_in, is_held_in};
 use dp_model::PacketRegister;
 
 impl Machine {
     // Whether a register holds a packet.
     pub(crate) fn holds(&self, p: PacketRegister) -> bool
-        ensures some { IsTrue result → (k : Packet) × Holds self.now.state p k }
+        ensures some { IsTrue result → (packet : Packet) × Holds self.now.state p packet }
         ensures none { result ≡ false → IsEmpty self.now.state p }
     {
         is_held_in(&self.registers, p)
@@ -18,8 +18,8 @@ impl Machine {
 
     // The number of the packet's segments.
     pub(crate) fn segments(&self, p: PacketRegister) -> u32
-        requires { (k : Packet) × Holds self.now.state p k }
-        ensures { (k : Packet) → Holds self.now.state p k → result ≡ length k }
+        requires { (packet : Packet) × Holds self.now.state p packet }
+        ensures { (packet : Packet) → Holds self.now.state p packet → result ≡ length packet }
     {
         let packet = handle_in(&self.registers, p);
         self.mbufs.segments(&packet)
@@ -27,8 +27,8 @@ impl Machine {
 
     // The length of the packet, in bytes.
     pub(crate) fn length(&self, p: PacketRegister) -> u32
-        requires { (k : Packet) × Holds self.now.state p k }
-        ensures { (k : Packet) → Holds self.now.state p k → result ≡ length (packet_bytes self.now.state.world.buffers k) }
+        requires { (packet : Packet) × Holds self.now.state p packet }
+        ensures { (packet : Packet) → Holds self.now.state p packet → result ≡ length (packet_bytes self.now.state.world.buffers packet) }
     {
         let packet = handle_in(&self.registers, p);
         self.mbufs.length(&packet)
@@ -36,8 +36,8 @@ impl Machine {
 
     // The bytes of a segment.
     pub(crate) fn segment_bytes(&self, p: PacketRegister, index: u32) -> &[u8]
-        requires { (k : Packet) × Holds self.now.state p k × (index < length k) }
-        ensures { (k : Packet) (s : Segment) → Holds self.now.state p k → slice_get k index ≡ Some s →
+        requires { (packet : Packet) × Holds self.now.state p packet × (index < length packet) }
+        ensures { (packet : Packet) (s : Segment) → Holds self.now.state p packet → slice_get packet index ≡ Some s →
             result.now ≡ segment_bytes self.now.state.world.buffers s }
     {
         let packet = handle_in(&self.registers, p);
@@ -46,8 +46,9 @@ impl Machine {
 
     // How many segments of all packets refer to a segment's buffer.
     pub(crate) fn segment_refs(&self, p: PacketRegister, index: u32) -> u32
-        requires { (k : Packet) × Holds self.now.state p k × (index < length k) }
-        ensures { (k : Packet) (s : Segment) → Holds self.now.state p k → slice_get k index ≡ Some s → result ≡ refs (live self.now.state) s.buffer }
+        requires { (packet : Packet) × Holds self.now.state p packet × (index < length packet) }
+        ensures { (packet : Packet) (s : Segment) → Holds self.now.state p packet → slice_get packet index ≡ Some s
+            → result ≡ refs (live self.now.state) s.buffer }
     {
         let packet = handle_in(&self.registers, p);
         self.mbufs.refs(&packet, index)
@@ -57,14 +58,14 @@ impl Machine {
     pub(crate) fn rings(&self) -> usize
         ensures { result ≡ length self.now.frames.rings }
     {
-        self.rings.len()
+        self.queues.rings()
     }
 
     // The number of transmit lists.
     pub(crate) fn lists(&self) -> usize
         ensures { result ≡ length self.now.frames.outboxes }
     {
-        self.outboxes.len()
+        self.queues.outboxes()
     }
 
     // The number of free buffers of a pool, if the pool exists.

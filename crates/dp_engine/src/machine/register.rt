@@ -3,8 +3,8 @@ ghost use Rattle.std.specs.Prelude.{◌≡◌, ◌∷◌, Some, None, IsSome, is
 
 use std::marker::Model;
 
-/// The handle of a packet, or nothing. A flag beside the handle says which, and no code tests it: the checker has made sure that a register holds a
-/// packet wherever its handle is used.
+/// The handle of a packet, or nothing. A flag beside the handle says which. Only a cut and a view test it: the checker has made sure that a
+/// register holds a packet wherever an instruction uses its handle.
 #[derive(Drop)]
 pub(crate) struct Register {
     handle: u32,

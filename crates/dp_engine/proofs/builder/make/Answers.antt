@@ -20,9 +20,9 @@ unreachable-requires c =
 
 pub returns-clause-taken : goal.returns-clause-taken
 returns-clause-taken c =
-    made_two _ c.args.spec (c.args.spec.room + 128) _ _ _ _ _ _ c.requires.spec refl c.in-Ok.ensures.made
+    made_two c.args.spec c.requires.spec refl c.in-Ok.ensures.made
 
 pub returns-clause-size : goal.returns-clause-size
 returns-clause-size c =
     two_size (rounded (objects_len c.args.spec)) (rounded (queue_len c.args.spec)) _ _
-    (made_two _ c.args.spec (c.args.spec.room + 128) _ _ _ _ _ _ c.requires.spec refl c.in-Ok.ensures.made)
+    (made_two c.args.spec c.requires.spec refl c.in-Ok.ensures.made)

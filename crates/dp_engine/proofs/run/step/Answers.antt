@@ -183,7 +183,7 @@ returns-else-to-label g c =
           let names = names_ran S P m0.state (ahead + label - 65536) label m.state (Some to) m2.state i to here
           (names_to i c.in-Some.control (To to) (rw c.from-to.ensures c.in-To.is) c.in-Some.ensures.names) s in
           let more : c.args.ahead + c.args.label + 1 - c.from-to.result + c.from-to.result ≡ c.args.ahead + c.args.label + 1 =
-          omega (arith, h.keeps.0, s.ran.is_label, h.is.few) in
+          omega (arith, h.keeps.some, s.ran.is_label, h.is.few) in
           elim c.else-to-label.branch [
             | else-to-label-via-then-to-label+else-not-jump w ↦
                 let (room, same) = w.if-not-jump.ensures.taken refl in

@@ -37,15 +37,15 @@ make-pool-requires-clause-few c =
 
 pub make-pool-requires-clause-objects : goal.make-pool-requires-clause-objects
 make-pool-requires-clause-objects c = λ none.
-    let b = back (goal.at.make-pool-requires-clause-objects c).After-give_back in
-    last_objects c.args.self.left (objects_len c.args.spec) c.give_back.new.heap.elements b.0 b.2 c.requires.room none
+    let (low, _, even) = back (goal.at.make-pool-requires-clause-objects c).After-give_back in
+    last_objects c.args.self.left (objects_len c.args.spec) c.give_back.new.heap.elements low even c.requires.room none
 
 pub make-pool-requires-clause-queue : goal.make-pool-requires-clause-queue
 make-pool-requires-clause-queue c = λ offset mid taken none.
-    let b = back (goal.at.make-pool-requires-clause-queue c).After-give_back in
+    let (_, high, _) = back (goal.at.make-pool-requires-clause-queue c).After-give_back in
     last_queue c.self.inside.spare.offset (length c.self.inside.spare.bytes) offset c.args.spec c.give_back.new.heap.elements mid c.requires.spec
     c.self.invariant.high c.self.invariant.even
-    (ap (λ (v : BuilderView). v.spare) c.self.view_is ∙ c.requires.spare) b.1 taken none
+    (ap (λ (v : BuilderView). v.spare) c.self.view_is ∙ c.requires.spare) high taken none
 
 pub returns-clause-same : goal.returns-clause-same
 returns-clause-same c = (

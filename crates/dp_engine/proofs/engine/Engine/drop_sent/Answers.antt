@@ -7,7 +7,7 @@ pub invariant_of-self : goal.invariant_of-self
 invariant_of-self g c =
     let e = c.self.inside in
     let long = ap (λ (x : EngineState). length x.setting.env.ports) c.self.view_is in
-    rw c.clear.ensures (dropped_kept e.context e.machine e.memory e.turns e.tallies e.left c.args.port c.self.invariant (omega (arith, c.requires, long)))
+    rw c.clear.ensures (dropped_kept e.context e.machine e.memory e.turns e.tallies e.left c.self.invariant c.args.port (omega (arith, c.requires, long)))
 
 pub returns : goal.returns
 returns g c =

@@ -3,31 +3,23 @@ use Rattle.std.proofs.Common.{[], sym}
 use Rattle.dp_model.specs.Buffers.{ChangesOnly}
 use Rattle.dp_model.specs.Packets.{allocated}
 use Rattle.dp_engine.specs.Steps.{setting_of}
-use Rattle.dp_engine.specs.Handles.{run_counts, frames_of, lists_of}
+use Rattle.dp_engine.specs.MachineParts.{parts_of}
 use Rattle.dp_engine.proofs.Registers.{Taken, allocated_taken, too_few}
 use Rattle.dp_engine.proofs.machine.Machine.alloc.Goals as goal
 use Rattle.dp_engine.proofs.machine.Machine.alloc.Goals.{In-Some}
 
 -- the packet that is granted
-given : (c : In-Some) → Taken (setting_of c.args.env.now [] c.args.pattern.now) c.alloc.new.self.store
-    (frames_of c.self.inside.mbufs.zones c.self.inside.rings c.self.inside.outboxes) c.self.inside.registers c.self.inside.numbers
-    (lists_of c.self.inside.rings c.self.inside.outboxes) c.self.inside.calls (run_counts c.self.inside.steps.count c.self.inside.cuts c.self.inside.jumps)
-    c.args.self.now c.args.into c.args.pool 1 c.in-Some.packet (allocated c.args.env.now.pools) ChangesOnly
+given : (c : In-Some) → Taken (setting_of c.args.env.now [] c.args.pattern.now) (parts_of c.self.inside) c.alloc.new.self.store c.args.self.now c.args.into
+    c.args.pool 1 c.in-Some.packet (allocated c.args.env.now.pools) ChangesOnly
 given c =
-    allocated_taken (setting_of c.args.env.now [] c.args.pattern.now) _ _ _ c.self.inside.registers c.self.inside.numbers
-    (lists_of c.self.inside.rings c.self.inside.outboxes) c.self.inside.calls (run_counts c.self.inside.steps.count c.self.inside.cuts c.self.inside.jumps)
-    c.args.self.now c.args.into c.args.pool c.in-Some.packet c.self.view_is c.self.invariant c.requires.empty c.requires.pools
-    (rw c.from.ensures at c.in-Some.ensures.packets)
+    allocated_taken c.self.view_is c.self.invariant c.requires.empty c.requires.pools (rw c.from.ensures at c.in-Some.ensures.packets)
 
 pub invariant_of-self-in-Some : goal.invariant_of-self-in-Some
 invariant_of-self-in-Some c =
-    let t = given (goal.at.invariant_of-self-in-Some c).In-Some in
-    rw (c.of.ensures, c.number.ensures, c.from-in-Some.ensures, c.number-in-Some.ensures.same) t.stand
+    rw (c.of.ensures, c.number.ensures, c.from-in-Some.ensures, c.number-in-Some.ensures.same) (given (goal.at.invariant_of-self-in-Some c).In-Some).stand
 
 pub returns-in-Some-clause-denied : goal.returns-in-Some-clause-denied
-returns-in-Some-clause-denied c =
-    let t = given (goal.at.returns-in-Some-clause-denied c).In-Some in
-    sym (t.allowed (sym c.if-is_listed.ensures))
+returns-in-Some-clause-denied c = sym ((given (goal.at.returns-in-Some-clause-denied c).In-Some).allowed (sym c.if-is_listed.ensures))
 
 pub returns-in-Some-clause-given : goal.returns-in-Some-clause-given
 returns-in-Some-clause-given c _ =
@@ -37,7 +29,6 @@ returns-in-Some-clause-given c _ =
 
 pub returns-in-None-clause-denied : goal.returns-in-None-clause-denied
 returns-in-None-clause-denied c =
-    sym (too_few (setting_of c.args.env.now [] c.args.pattern.now) _ _ _ c.self.inside.registers c.self.inside.numbers
-    (lists_of c.self.inside.rings c.self.inside.outboxes) c.self.inside.calls (run_counts c.self.inside.steps.count c.self.inside.cuts c.self.inside.jumps)
-    c.args.self.now c.args.pool 1 (allocated (c.self.inside.mbufs.store).pools) ChangesOnly c.self.view_is c.self.invariant c.requires.pools
-    (sym c.if-is_listed.ensures) (rw c.from.ensures at c.in-None.ensures.packets))
+    sym (too_few (setting_of c.args.env.now [] c.args.pattern.now) (parts_of c.self.inside) _ c.args.self.now c.args.pool 1
+    (allocated c.self.inside.mbufs.store.pools) ChangesOnly c.self.view_is c.self.invariant c.requires.pools (sym c.if-is_listed.ensures)
+    (rw c.from.ensures at c.in-None.ensures.packets))

@@ -1,7 +1,7 @@
 -- Two packets joined: what their registers hold is derived once, and each goal is one step from there.
 use Rattle.dp_model.specs.Packets.{Packet}
 use Rattle.dp_model.specs.Machine.{Holds}
-use Rattle.dp_engine.specs.Handles.{lists_of}
+use Rattle.dp_engine.specs.MachineParts.{parts_of}
 use Rattle.dp_engine.proofs.Handles.{Held}
 use Rattle.dp_engine.proofs.Registers.{handle, held, apart, chained}
 use Rattle.dp_engine.proofs.machine.Machine.chain.Goals as goal
@@ -9,20 +9,17 @@ use Rattle.dp_engine.proofs.machine.Machine.chain.Goals.{After-handle_in-tail}
 
 -- each handle has its packet
 both : (c : After-handle_in-tail) (k t : Packet) → Holds c.args.self.now.state c.args.front k → Holds c.args.self.now.state c.args.back t
-    → Held c.self.inside.mbufs.store.slots c.self.inside.registers (lists_of c.self.inside.rings c.self.inside.outboxes) c.args.front
-    c.handle_in-head.result k
-    × Held c.self.inside.mbufs.store.slots c.self.inside.registers (lists_of c.self.inside.rings c.self.inside.outboxes) c.args.back
-    c.handle_in-tail.result t
+    → Held (parts_of c.self.inside) c.args.front c.handle_in-head.result k × Held (parts_of c.self.inside) c.args.back c.handle_in-tail.result t
 both c k t holds holds' = (
-  held _ _ _ _ _ _ _ _ c.args.front c.handle_in-head.result k c.self.view_is c.self.invariant c.handle_in-head.ensures holds,
-  held _ _ _ _ _ _ _ _ c.args.back c.handle_in-tail.result t c.self.view_is c.self.invariant c.handle_in-tail.ensures holds',
+  held c.self.view_is c.self.invariant c.handle_in-head.ensures holds,
+  held c.self.view_is c.self.invariant c.handle_in-tail.ensures holds',
 )
 
 pub handle_in-head-requires : goal.handle_in-head-requires
-handle_in-head-requires c = handle _ _ _ _ _ _ _ _ c.args.front c.requires.0 c.self.view_is c.requires.2
+handle_in-head-requires c = let (k, _, holds, _, _, _) = c.requires in handle _ _ c.args.front k c.self.view_is holds
 
 pub handle_in-tail-requires : goal.handle_in-tail-requires
-handle_in-tail-requires c = handle _ _ _ _ _ _ _ _ c.args.back c.requires.1 c.self.view_is c.requires.3
+handle_in-tail-requires c = let (_, t, _, holds, _, _) = c.requires in handle _ _ c.args.back t c.self.view_is holds
 
 pub chain-requires-clause-two : goal.chain-requires-clause-two
 chain-requires-clause-two c =
@@ -40,11 +37,11 @@ pub invariant_of-self : goal.invariant_of-self
 invariant_of-self c =
     let (k, t, holds, holds', ne, _) = c.requires in
     let (front, back) = both (goal.at.invariant_of-self c).After-handle_in-tail k t holds holds' in
-    rw (c.from.ensures, c.number.ensures.same, c.empty.ensures) ((chained _ _ _ _ _ _ _ _ _ c.args.front c.args.back _ _ k t c.self.view_is
-    c.self.invariant ne front back c.chain.ensures.packets).stand)
+    rw (c.from.ensures, c.number.ensures.same, c.empty.ensures) (chained c.self.view_is c.self.invariant ne front back c.chain.ensures.packets).stand
 
 pub returns : goal.returns
 returns c k t holds holds' =
+    let (_, _, _, _, ne, _) = c.requires in
     let (front, back) = both (goal.at.returns c).After-handle_in-tail k t holds holds' in
     rw (c.from.ensures, c.number.ensures.same, c.empty.ensures, c.chain.ensures.zones)
-    ((chained _ _ _ _ _ _ _ _ _ c.args.front c.args.back _ _ k t c.self.view_is c.self.invariant c.requires.4 front back c.chain.ensures.packets).state)
+    (chained c.self.view_is c.self.invariant ne front back c.chain.ensures.packets).state

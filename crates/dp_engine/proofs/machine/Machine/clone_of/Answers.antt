@@ -3,32 +3,26 @@ use Rattle.std.proofs.Common.{[], ◌≡◌, length, sym}
 use Rattle.dp_model.specs.Packets.{Packet, cloned}
 use Rattle.dp_model.specs.Machine.{Holds}
 use Rattle.dp_engine.specs.Steps.{setting_of}
-use Rattle.dp_engine.specs.Handles.{run_counts, frames_of, lists_of}
+use Rattle.dp_engine.specs.MachineParts.{parts_of}
 use Rattle.dp_engine.proofs.Handles.{Held}
 use Rattle.dp_engine.proofs.Registers.{Taken, handle, held, taken, too_few, keeps_bytes, called}
 use Rattle.dp_engine.proofs.machine.Machine.clone_of.Goals as goal
 use Rattle.dp_engine.proofs.machine.Machine.clone_of.Goals.{After-handle_in-source, In-Some}
 
 -- the handle has the packet
-there : (c : After-handle_in-source) (k : Packet) → Holds c.args.self.now.state c.args.from k → Held c.self.inside.mbufs.store.slots c.self.inside.registers
-    (lists_of c.self.inside.rings c.self.inside.outboxes) c.args.from c.handle_in-source.result k
-there c k holds = held _ _ _ _ _ _ _ _ c.args.from c.handle_in-source.result k c.self.view_is c.self.invariant c.handle_in-source.ensures holds
+there : (c : After-handle_in-source) (k : Packet) → Holds c.args.self.now.state c.args.from k →
+    Held (parts_of c.self.inside) c.args.from c.handle_in-source.result k
+there c k holds = held c.self.view_is c.self.invariant c.handle_in-source.ensures holds
 
 -- the clone that is granted
-given : (c : In-Some) (k : Packet) → Held c.self.inside.mbufs.store.slots c.self.inside.registers (lists_of c.self.inside.rings c.self.inside.outboxes)
-    c.args.from c.handle_in-source.result k
-    → Taken (setting_of c.args.env.now [] c.args.pattern.now) c.clone_of.new.self.store
-    (frames_of c.self.inside.mbufs.zones c.self.inside.rings c.self.inside.outboxes) c.self.inside.registers c.self.inside.numbers
-    (lists_of c.self.inside.rings c.self.inside.outboxes) c.self.inside.calls (run_counts c.self.inside.steps.count c.self.inside.cuts c.self.inside.jumps)
-    c.args.self.now c.args.into c.args.pool (length k) c.in-Some.packet (λ ns. cloned ns k) (λ ns old new. new ≡ old)
+given : (c : In-Some) (k : Packet) → Held (parts_of c.self.inside) c.args.from c.handle_in-source.result k
+    → Taken (setting_of c.args.env.now [] c.args.pattern.now) (parts_of c.self.inside) c.clone_of.new.self.store c.args.self.now c.args.into c.args.pool
+    (length k) c.in-Some.packet (λ ns. cloned ns k) (λ ns old new. new ≡ old)
 given c k h =
-    taken (setting_of c.args.env.now [] c.args.pattern.now) _ _ _ c.self.inside.registers c.self.inside.numbers
-    (lists_of c.self.inside.rings c.self.inside.outboxes) c.self.inside.calls (run_counts c.self.inside.steps.count c.self.inside.cuts c.self.inside.jumps)
-    c.args.self.now c.args.into c.args.pool (length k) c.in-Some.packet (λ ns. cloned ns k) (λ ns old new. new ≡ old) c.self.view_is c.self.invariant
-    c.requires.empty c.requires.pools (rw c.from.ensures at (c.in-Some.ensures.packets k h.has))
+    taken c.self.view_is c.self.invariant c.requires.empty c.requires.pools (rw c.from.ensures at (c.in-Some.ensures.packets k h.has))
 
 pub handle_in-source-requires : goal.handle_in-source-requires
-handle_in-source-requires c = handle _ _ _ _ _ _ _ _ c.args.from c.requires.holds.0 c.self.view_is c.requires.holds.1
+handle_in-source-requires c = let (k, holds) = c.requires.holds in handle _ _ c.args.from k c.self.view_is holds
 
 pub clone_of-requires-clause-live : goal.clone_of-requires-clause-live
 clone_of-requires-clause-live c =
@@ -66,13 +60,12 @@ returns-in-Some-clause-given c _ k holds =
 pub returns-in-None-clause-denied : goal.returns-in-None-clause-denied
 returns-in-None-clause-denied c k holds =
     let h = there (goal.at.returns-in-None-clause-denied c).After-handle_in-source k holds in
-    sym (too_few (setting_of c.args.env.now [] c.args.pattern.now) _ _ _ c.self.inside.registers c.self.inside.numbers
-    (lists_of c.self.inside.rings c.self.inside.outboxes) c.self.inside.calls (run_counts c.self.inside.steps.count c.self.inside.cuts c.self.inside.jumps)
-    c.args.self.now c.args.pool (length k) (λ ns. cloned ns k) (λ ns old new. new
-    ≡ old) c.self.view_is c.self.invariant c.requires.pools (sym c.if-is_listed.ensures) (rw c.from.ensures at (c.in-None.ensures.packets k h.has)))
+    sym (too_few (setting_of c.args.env.now [] c.args.pattern.now) (parts_of c.self.inside) _ c.args.self.now c.args.pool (length k)
+    (λ ns. cloned ns k) (λ ns old new. new ≡ old) c.self.view_is c.self.invariant c.requires.pools (sym c.if-is_listed.ensures)
+    (rw c.from.ensures at (c.in-None.ensures.packets k h.has)))
 
 pub returns-in-None-clause-refused : goal.returns-in-None-clause-refused
 returns-in-None-clause-refused c _ =
     let (k, holds) = c.requires.holds in
     let h = there (goal.at.returns-in-None-clause-refused c).After-handle_in-source k holds in
-    rw (c.clone_of.ensures.zones) (called _ _ _ _ _ _ _ _ _ c.self.view_is (c.in-None.ensures.packets k h.has).1)
+    rw (c.clone_of.ensures.zones) (called _ _ _ c.self.view_is (c.in-None.ensures.packets k h.has).1)

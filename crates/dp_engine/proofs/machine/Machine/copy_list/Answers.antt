@@ -6,7 +6,7 @@ use Rattle.std.proofs.lemmas.Option.{same_Some}
 use Rattle.std.proofs.lemmas.List.{take_all}
 use Rattle.dp_model.specs.Packets.{Packet, packet_bytes}
 use Rattle.dp_model.specs.Laws.Lists.{get_within}
-use Rattle.dp_engine.specs.Batches.{Holds, KeepsRest, frame_of, bytes_of_all}
+use Rattle.dp_engine.specs.Batches.{Holds, frame_of, bytes_of_all}
 use Rattle.dp_engine.proofs.Batches.{bytes_long, holds_more, frames_next, keeps_more, packet_has_room}
 use Rattle.dp_engine.proofs.machine.Machine.copy_list.Goals as goal
 use Rattle.dp_engine.proofs.machine.Machine.copy_list.Goals.{After-copy_waiting-arg-1}
@@ -21,7 +21,7 @@ record Next (c : After-copy_waiting-arg-1) (packets : List Packet) : Type 0 wher
 next : (c : After-copy_waiting-arg-1) (packets : List Packet) → slice_get c.args.self.now.state.world.outboxes c.args.port ≡ Some packets → Next c packets
 next c packets box =
     let i = c.loop-at.invariant in
-    let (others, box', count) = c.queued-count.ensures.list in
+    let (others, box', count) = c.count-count.ensures.list in
     let same : length others ≡ length packets = ap length (same_Some _ _ (sym box' ∙ box)) in
     let lt : c.loop-at.at < length packets = omega (arith, c.loop-at-test.true, count, same) in
     let (k, here) = get_within packets c.loop-at.at lt in
@@ -56,18 +56,18 @@ copy_waiting-length-requires-clause-room c = λ packets k box here.
 
 pub bounds-records-held : goal.bounds-records-held
 bounds-records-held c =
-    let (packets, box, _) = c.queued-count.ensures.list in
+    let (packets, box, _) = c.count-count.ensures.list in
     (next (goal.at.bounds-records-held c).After-copy_waiting-arg-1 packets box).few
 
 pub overflow_add-held : goal.overflow_add-held
 overflow_add-held c =
-    let (packets, box, _) = c.queued-count.ensures.list in
+    let (packets, box, _) = c.count-count.ensures.list in
     let n = next (goal.at.overflow_add-held c).After-copy_waiting-arg-1 packets box in
     omega (arith, n.few, c.loop-at.invariant.records, c.well_formed)
 
 pub overflow_add-held-in-loop-at : goal.overflow_add-held-in-loop-at
 overflow_add-held-in-loop-at c =
-    let (packets, box, _) = c.queued-count.ensures.list in
+    let (packets, box, _) = c.count-count.ensures.list in
     let n = next (goal.at.overflow_add-held-in-loop-at c).After-copy_waiting-arg-1 packets box in
     omega (arith, n.fits, c.copy_waiting-length.ensures.length packets n.packet box n.here, c.loop-at.invariant.bytes, c.well_formed)
 
@@ -102,7 +102,7 @@ loop-at-preserved c =
             c.copy_waiting-length.ensures.copied packets n.packet box n.here,
           ) more;
       rest =
-          let (packets, box, _) = c.queued-count.ensures.list in
+          let (packets, box, _) = c.count-count.ensures.list in
           let n = next here packets box in
           let more = keeps_more c.loop-at.held c.args.records.now c.loop-at.records c.args.bytes.now c.loop-at.bytes _
           (packet_bytes b n.packet) n.few n.fits i.rest in
@@ -117,7 +117,7 @@ loop-at-preserved c =
 
 pub returns-clause-holds : goal.returns-clause-holds
 returns-clause-holds c = λ packets frames box was.
-    let (others, box', count) = c.queued-count.ensures.list in
+    let (others, box', count) = c.count-count.ensures.list in
     let same : length others ≡ length packets = ap length (same_Some _ _ (sym box' ∙ box)) in
     subst (λ l. Holds c.args.time (frames ++ map (frame_of c.args.port c.args.self.now.state.world.buffers) l) c.loop-at.records c.loop-at.bytes c.loop-at.held)
     (take_all c.loop-at.at packets (omega (arith, c.loop-at-test.false, count, same))) (c.loop-at.invariant.holds packets frames box was)

@@ -8,14 +8,14 @@ use Rattle.dp_engine.specs.Batches.{Holds, frame_of, frames_from, bytes_of_all}
 use Rattle.dp_engine.specs.Handles.{Core, entries_of, packet_at}
 use Rattle.dp_engine.proofs.Batches.{HasRoom, holds_none, frames_more, keeps_on, next_has_room}
 use Rattle.dp_engine.proofs.machine.Machine.copy_lists.Goals as goal
-use Rattle.dp_engine.proofs.machine.Machine.copy_lists.Goals.{After-len-port-end, In-loop-port}
+use Rattle.dp_engine.proofs.machine.Machine.copy_lists.Goals.{After-outboxes-port-end, In-loop-port}
 
 -- each list has its packets
-long : (c : After-len-port-end) → length c.args.self.now.state.world.outboxes ≡ length c.self.inside.outboxes
+long : (c : After-outboxes-port-end) → length c.args.self.now.state.world.outboxes ≡ length c.self.inside.queues.outboxes
 long c =
     let m = c.self.inside in
     ap (λ (x : Core). length x.state.world.outboxes) (sym c.self.view_is)
-    ∙ length-map (map entries_of m.outboxes) (map (packet_at m.mbufs.store.slots)) ∙ length-map m.outboxes entries_of
+    ∙ length-map (map entries_of m.queues.outboxes) (map (packet_at m.mbufs.store.slots)) ∙ length-map m.queues.outboxes entries_of
 
 -- the batch has room for it
 room : (c : In-loop-port) (packets : List Packet) → slice_get c.args.self.now.state.world.outboxes c.loop-port.port ≡ Some packets
@@ -57,7 +57,7 @@ loop-port-preserved c =
     let w = c.args.self.now.state.world in
     let n = c.loop-port.port in
     let (packets, box) = get_within w.outboxes n
-    (omega (arith, c.loop-port-test.true, c.len-port-end.ensures.value, long (goal.at.loop-port-preserved c).After-len-port-end)) in
+    (omega (arith, c.loop-port-test.true, c.outboxes-port-end.ensures.value, long (goal.at.loop-port-preserved c).After-outboxes-port-end)) in
     let front = frames_from 0 w.buffers (take n w.outboxes) in
     let more : front ++ map (frame_of n w.buffers) packets ≡ frames_from 0 w.buffers (take (n + 1) w.outboxes) =
     ap (λ m. front ++ map (frame_of m w.buffers) packets) (sym (zero-add n)) ∙ sym (frames_more 0 n w.buffers w.outboxes packets box)
@@ -76,5 +76,5 @@ pub returns-clause-holds : goal.returns-clause-holds
 returns-clause-holds c =
     let w = c.args.self.now.state.world in
     let all = take_all c.loop-port.port w.outboxes
-    (omega (arith, c.loop-port-test.false, c.len-port-end.ensures.value, long (goal.at.returns-clause-holds c).After-len-port-end)) in
+    (omega (arith, c.loop-port-test.false, c.outboxes-port-end.ensures.value, long (goal.at.returns-clause-holds c).After-outboxes-port-end)) in
     subst (λ l. Holds c.args.time (frames_from 0 w.buffers l) c.loop-port.records c.loop-port.bytes c.loop-port.held) all c.loop-port.invariant.holds

@@ -5,7 +5,7 @@ use Rattle.std.proofs.lemmas.Option.{same_Some}
 use Rattle.dp_model.specs.Buffers.{overwritten}
 use Rattle.dp_model.specs.Packets.{Packet, packet_bytes}
 use Rattle.dp_model.specs.Laws.Lists.{get_within}
-use Rattle.dp_engine.specs.Handles.{Core, run_counts}
+use Rattle.dp_engine.specs.Handles.{Core}
 use Rattle.dp_engine.proofs.Writing.{waits_at}
 use Rattle.dp_engine.proofs.machine.Machine.copy_waiting.Goals as goal
 use Rattle.dp_engine.proofs.machine.Machine.copy_waiting.Goals.{In-Some}
@@ -15,8 +15,7 @@ named : (c : In-Some) (packets : List Packet) (k : Packet) → slice_get c.args.
     → slice_get packets c.args.at ≡ Some k → slice_get c.self.inside.mbufs.store.slots c.in-Some.packet ≡ Some (Some k)
 named c packets k box here =
     let m = c.self.inside in
-    let (h, at, has) = waits_at m.mbufs.store m.mbufs.zones m.registers m.numbers m.rings m.outboxes m.calls
-    (run_counts m.steps.count m.cuts m.jumps) c.args.self.now c.args.port c.args.at packets k c.self.view_is c.self.invariant c.requires.there box here in
+    let (h, at, has) = waits_at m c.args.self.now c.args.port c.args.at packets k c.self.view_is c.self.invariant c.requires.there box here in
     ap (slice_get m.mbufs.store.slots) (same_Some _ _ (sym c.in-Some.is ∙ c.peek.ensures ∙ at)) ∙ has
 
 pub copy_packet-requires-clause-live : goal.copy_packet-requires-clause-live
@@ -41,8 +40,7 @@ unreachable-requires c =
     let (packets, box, less) = c.requires.waits in
     let (k, here) = get_within packets c.args.at less in
     let m = c.self.inside in
-    let (h, at, has) = waits_at m.mbufs.store m.mbufs.zones m.registers m.numbers m.rings m.outboxes m.calls
-    (run_counts m.steps.count m.cuts m.jumps) c.args.self.now c.args.port c.args.at packets k c.self.view_is c.self.invariant c.requires.there box here in
+    let (h, at, has) = waits_at m c.args.self.now c.args.port c.args.at packets k c.self.view_is c.self.invariant c.requires.there box here in
     let bad : None ≡ Some h = sym c.in-None.is ∙ c.peek.ensures ∙ at in
     cc
 

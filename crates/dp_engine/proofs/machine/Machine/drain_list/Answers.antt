@@ -7,7 +7,7 @@ use Rattle.dp_model.specs.Packets.{Packet}
 use Rattle.dp_model.specs.Laws.Lists.{get_within}
 use Rattle.dp_pcap.specs.Text.{AppendsPart}
 use Rattle.dp_engine.specs.Drains.{record_of}
-use Rattle.dp_engine.specs.declared.place.Place.TheVariants.{Port}
+use Rattle.dp_model.specs.declared.queue.Queue.TheVariants.{Tx}
 use Rattle.dp_engine.specs.Handles.{Core}
 use Rattle.dp_engine.proofs.Called.{called_piece, called_written, called_more}
 use Rattle.dp_engine.proofs.Clearing.{left_all, left_front, at_front, left_more, left_none, changed_again}
@@ -19,13 +19,13 @@ use Rattle.dp_engine.proofs.machine.Machine.drain_list.Goals.{After-put_first}
 next : (g : _) (c : After-put_first g) (packets : List Packet) → slice_get c.args.self.now.state.world.outboxes c.args.port ≡ Some packets
     → (k : Packet) × (slice_get packets c.loop-sent.sent ≡ Some k)
 next g c packets box =
-    let (others, box', count) = c.queued-count.ensures.list in
+    let (others, box', count) = c.count-count.ensures.list in
     let same : length others ≡ length packets = ap length (same_Some _ _ (sym box' ∙ box)) in
     get_within packets c.loop-sent.sent (omega (arith, count, same))
 
 pub loop-sent-init : goal.loop-sent-init
 loop-sent-init g c = record {
-  left = left_all (Port c.args.port) c.args.self.now;
+  left = left_all (Tx c.args.port) c.args.self.now;
   wrote = search rules;
   sound = search rules;
   failures = search rules;
@@ -34,26 +34,26 @@ loop-sent-init g c = record {
 
 pub put_first-requires-clause-there : goal.put_first-requires-clause-there
 put_first-requires-clause-there g c =
-    let (packets, box, _) = c.queued-count.ensures.list in
+    let (packets, box, _) = c.count-count.ensures.list in
     subst (λ (m : Core). c.args.port < length m.frames.outboxes) (sym (c.loop-sent.invariant.left packets box)) c.requires.there
 
 pub put_first-requires-clause-some : goal.put_first-requires-clause-some
 put_first-requires-clause-some g c =
-    let (packets, box, count) = c.queued-count.ensures.list in
+    let (packets, box, count) = c.count-count.ensures.list in
     let (k, here) = get_within packets c.loop-sent.sent (omega (arith, count)) in
-    (drop (suc c.loop-sent.sent) packets, k, left_front (Port c.args.port) _ _ c.loop-sent.sent packets k c.loop-sent.invariant.left box here)
+    (drop (suc c.loop-sent.sent) packets, k, left_front (Tx c.args.port) _ _ c.loop-sent.sent packets k c.loop-sent.invariant.left box here)
 
 pub drop_rest-requires : goal.drop_rest-requires
 drop_rest-requires g c =
-    let (packets, box, _) = c.queued-count.ensures.list in
+    let (packets, box, _) = c.count-count.ensures.list in
     let (k, here) = next g (goal.at.drop_rest-requires g c).After-put_first packets box in
-    let now = left_more (Port c.args.port) c.args.self.now c.loop-sent.self c.put_first.new.self c.loop-sent.sent packets k c.loop-sent.invariant.left box here
+    let now = left_more (Tx c.args.port) c.args.self.now c.loop-sent.self c.put_first.new.self c.loop-sent.sent packets k c.loop-sent.invariant.left box here
     c.put_first.ensures.rest in
     subst (λ (m : Core). c.args.port < length m.frames.outboxes) (sym now) c.requires.there
 
 pub returns-then-is_err-clause-err : goal.returns-then-is_err-clause-err
 returns-then-is_err-clause-err g c =
-    let (packets, box, _) = c.queued-count.ensures.list in
+    let (packets, box, _) = c.count-count.ensures.list in
     let (k, here) = next g (goal.at.returns-then-is_err-clause-err g c).After-put_first packets box in
     part_written c.args.unit c.args.time c.args.port c.args.self.now.state.world _ _ _ c.loop-sent.sent c.loop-sent.sent packets k box refl here
     (c.loop-sent.invariant.wrote packets box)
@@ -64,7 +64,7 @@ returns-then-is_err-clause-err g c =
 pub returns-then-is_err-clause-counted : goal.returns-then-is_err-clause-counted
 returns-then-is_err-clause-counted g c =
     let w = c.args.self.now.state.world in
-    let (packets, box, _) = c.queued-count.ensures.list in
+    let (packets, box, _) = c.count-count.ensures.list in
     let (k, here) = next g (goal.at.returns-then-is_err-clause-counted g c).After-put_first packets box in
     called_written c.args.unit c.args.time c.args.port w packets _ _ (c.loop-sent.sent + 1) box
     (called_piece _ _ _ [] (record_of c.args.unit c.args.time w.buffers) packets c.loop-sent.sent k _ here refl
@@ -74,17 +74,17 @@ returns-then-is_err-clause-counted g c =
 
 pub returns-then-is_err-clause-empty : goal.returns-then-is_err-clause-empty
 returns-then-is_err-clause-empty g c =
-    let (packets, box, _) = c.queued-count.ensures.list in
+    let (packets, box, _) = c.count-count.ensures.list in
     let (k, here) = next g (goal.at.returns-then-is_err-clause-empty g c).After-put_first packets box in
-    let now = left_more (Port c.args.port) c.args.self.now c.loop-sent.self c.put_first.new.self c.loop-sent.sent packets k c.loop-sent.invariant.left box here
+    let now = left_more (Tx c.args.port) c.args.self.now c.loop-sent.self c.put_first.new.self c.loop-sent.sent packets k c.loop-sent.invariant.left box here
     c.put_first.ensures.rest in
-    changed_again (Port c.args.port) c.args.self.now c.put_first.new.self c.drop_rest.new.self _ [] now c.drop_rest.ensures
+    changed_again (Tx c.args.port) c.args.self.now c.put_first.new.self c.drop_rest.new.self _ [] now c.drop_rest.ensures
 
 pub loop-sent-preserved : goal.loop-sent-preserved
 loop-sent-preserved g c = record {
   left = λ packets box.
       let (k, here) = next g (goal.at.loop-sent-preserved g c).After-put_first packets box in
-      rw add-one (left_more (Port c.args.port) c.args.self.now c.loop-sent.self c.put_first.new.self c.loop-sent.sent packets k
+      rw add-one (left_more (Tx c.args.port) c.args.self.now c.loop-sent.self c.put_first.new.self c.loop-sent.sent packets k
       c.loop-sent.invariant.left box here
       c.put_first.ensures.rest);
   wrote = λ packets box.
@@ -106,19 +106,19 @@ loop-sent-preserved g c = record {
 
 pub returns-clause-ok : goal.returns-clause-ok
 returns-clause-ok g c =
-    let (packets, box, count) = c.queued-count.ensures.list in
-    all_written c.args.unit c.args.time c.args.port c.args.self.now.state.world _ _ c.queued-count.result c.loop-sent.sent packets box (omega arith)
+    let (packets, box, count) = c.count-count.ensures.list in
+    all_written c.args.unit c.args.time c.args.port c.args.self.now.state.world _ _ c.count-count.result c.loop-sent.sent packets box (omega arith)
     (omega (arith, count)) (omega (arith, count)) (c.loop-sent.invariant.wrote packets box)
 
 pub returns-clause-counted : goal.returns-clause-counted
 returns-clause-counted g c =
     let w = c.args.self.now.state.world in
-    let (packets, box, count) = c.queued-count.ensures.list in
-    let same : c.loop-sent.sent ≡ c.queued-count.result = omega arith in
-    called_written c.args.unit c.args.time c.args.port w packets _ _ (c.queued-count.result + 1) box
+    let (packets, box, count) = c.count-count.ensures.list in
+    let same : c.loop-sent.sent ≡ c.count-count.result = omega arith in
+    called_written c.args.unit c.args.time c.args.port w packets _ _ (c.count-count.result + 1) box
     (rw (sym same) (called_more _ _ (record_of c.args.unit c.args.time w.buffers) packets c.loop-sent.sent (c.loop-sent.invariant.counted packets box)))
 
 pub returns-clause-empty : goal.returns-clause-empty
 returns-clause-empty g c =
-    let (packets, box, count) = c.queued-count.ensures.list in
-    left_none (Port c.args.port) c.args.self.now c.loop-sent.self c.loop-sent.sent packets c.loop-sent.invariant.left box (omega (arith, count))
+    let (packets, box, count) = c.count-count.ensures.list in
+    left_none (Tx c.args.port) c.args.self.now c.loop-sent.self c.loop-sent.sent packets c.loop-sent.invariant.left box (omega (arith, count))

@@ -2,17 +2,10 @@ use Rattle.dp_engine.proofs.Registers.{handle, held}
 use Rattle.dp_engine.proofs.machine.Machine.first_len.Goals as goal
 
 pub handle_in-packet-requires : goal.handle_in-packet-requires
-handle_in-packet-requires c =
-    let (k, holds) = c.requires in
-    handle _ _ _ _ _ _ _ _ c.args.p k c.self.view_is holds
+handle_in-packet-requires c = let (k, holds) = c.requires in handle _ _ c.args.p k c.self.view_is holds
 
 pub first_len-requires : goal.first_len-requires
-first_len-requires c =
-    let (k, holds) = c.requires in
-    let there = held _ _ _ _ _ _ _ _ c.args.p c.handle_in-packet.result k c.self.view_is c.self.invariant c.handle_in-packet.ensures holds in
-    (k, there.has, tt)
+first_len-requires c = let (k, holds) = c.requires in (k, (held c.self.view_is c.self.invariant c.handle_in-packet.ensures holds).has, tt)
 
 pub returns : goal.returns
-returns c k holds =
-    let there = held _ _ _ _ _ _ _ _ c.args.p c.handle_in-packet.result k c.self.view_is c.self.invariant c.handle_in-packet.ensures holds in
-    c.first_len.ensures k there.has
+returns c k holds = c.first_len.ensures k (held c.self.view_is c.self.invariant c.handle_in-packet.ensures holds).has

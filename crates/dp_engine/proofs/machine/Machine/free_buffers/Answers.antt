@@ -9,14 +9,13 @@ use Rattle.dp_engine.proofs.machine.Machine.free_buffers.Goals as goal
 
 pub available-requires : goal.available-requires
 available-requires c =
-    let pools = pools_of _ _ _ _ _ _ _ c.args.self.now c.self.view_is in
+    let pools = pools_of _ _ c.self.view_is in
     rw pools c.requires.pool
 
 pub returns : goal.returns
 returns c =
-    let idle = idle_of _ _ _ _ _ _ _ c.args.self.now c.self.view_is c.self.invariant c.requires.idle in
-    let same = live_same _ _ _ _ _ _ _ c.args.self.now c.self.view_is idle in
-    let pools = pools_of _ _ _ _ _ _ _ c.args.self.now c.self.view_is in
+    let same = live_same c.self.view_is (idle_of c.self.view_is c.self.invariant c.requires.idle) in
+    let pools = pools_of _ _ c.self.view_is in
     c.available.ensures
     ∙ sym (available_same c.self.inside.mbufs.store.pools (live (between c.args.self.now.state.world)) (segments_of c.self.inside.mbufs.store) c.args.pool same)
     ∙ ap (λ p. available p (live (between c.args.self.now.state.world)) c.args.pool) pools

@@ -12,7 +12,7 @@ pub returns-in-Some-clause-some : goal.returns-in-Some-clause-some
 returns-in-Some-clause-some c =
     let state = c.args.self.now.state in
     let store = c.self.inside.mbufs.store in
-    let same = counts _ _ _ _ _ _ _ _ c.self.view_is c.self.invariant in
-    let pools = pools_of _ _ _ _ _ _ _ c.args.self.now c.self.view_is in
+    let same = counts _ _ c.self.view_is c.self.invariant in
+    let pools = pools_of _ _ c.self.view_is in
     c.in-Some.ensures.some.1 ∙ sym (available_same store.pools (live state) (segments_of store) c.args.pool same)
     ∙ ap (λ p. available p (live state) c.args.pool) pools

@@ -6,17 +6,12 @@ use Rattle.dp_engine.proofs.Registers.{handle, held}
 use Rattle.dp_engine.proofs.machine.Machine.load.Goals as goal
 
 pub handle_in-packet-requires : goal.handle_in-packet-requires
-handle_in-packet-requires c =
-    let (k, holds, le) = c.requires in
-    handle _ _ _ _ _ _ _ _ c.args.p k c.self.view_is holds
+handle_in-packet-requires c = let (k, holds, _) = c.requires in handle _ _ c.args.p k c.self.view_is holds
 
 pub load-requires : goal.load-requires
-load-requires c =
-    let (k, holds, le) = c.requires in
-    let there = held _ _ _ _ _ _ _ _ c.args.p c.handle_in-packet.result k c.self.view_is c.self.invariant c.handle_in-packet.ensures holds in
-    (k, there.has, le)
+load-requires c = let (k, holds, le) = c.requires in (k, (held c.self.view_is c.self.invariant c.handle_in-packet.ensures holds).has, le)
 
 pub returns : goal.returns
 returns c k holds =
-    let there = held _ _ _ _ _ _ _ _ c.args.p c.handle_in-packet.result k c.self.view_is c.self.invariant c.handle_in-packet.ensures holds in
-    c.load.ensures k there.has ∙ ap (loaded c.args.offset (bytes_in c.args.width) k) (buffers_of _ _ _ _ _ _ _ _ c.self.view_is)
+    let there = held c.self.view_is c.self.invariant c.handle_in-packet.ensures holds in
+    c.load.ensures k there.has ∙ ap (loaded c.args.offset (bytes_in c.args.width) k) (buffers_of _ _ c.self.view_is)

@@ -4,10 +4,10 @@ use Rattle.dp_engine.proofs.machine.Machine.needed.Goals as goal
 
 pub needed-requires : goal.needed-requires
 needed-requires c =
-    let pools = pools_of _ _ _ _ _ _ _ c.args.self.now c.self.view_is in
+    let pools = pools_of _ _ c.self.view_is in
     rw pools c.requires
 
 pub returns : goal.returns
 returns c =
-    let pools = pools_of _ _ _ _ _ _ _ c.args.self.now c.self.view_is in
+    let pools = pools_of _ _ c.self.view_is in
     rw pools at c.needed.ensures

@@ -4,25 +4,20 @@ use Rattle.dp_engine.proofs.Registers.{handle, held, counts, stand_becomes, beco
 use Rattle.dp_engine.proofs.machine.Machine.prepend.Goals as goal
 
 pub handle_in-packet-requires : goal.handle_in-packet-requires
-handle_in-packet-requires c =
-    let (k, holds, le, sole) = c.requires in
-    handle _ _ _ _ _ _ _ _ c.args.p k c.self.view_is holds
+handle_in-packet-requires c = let (k, holds, _, _) = c.requires in handle _ _ c.args.p k c.self.view_is holds
 
 pub prepend-requires : goal.prepend-requires
 prepend-requires c =
     let (k, holds, le, sole) = c.requires in
-    let there = held _ _ _ _ _ _ _ _ c.args.p c.handle_in-packet.result k c.self.view_is c.self.invariant c.handle_in-packet.ensures holds in
-    (k, there.has, (le, head_sole _ _ k (counts _ _ _ _ _ _ _ _ c.self.view_is c.self.invariant) sole))
+    (k, (held c.self.view_is c.self.invariant c.handle_in-packet.ensures holds).has, (le, head_sole _ _ k (counts _ _ c.self.view_is c.self.invariant) sole))
 
 pub invariant_of-self : goal.invariant_of-self
 invariant_of-self c =
-    let (k, holds, le, sole) = c.requires in
-    let there = held _ _ _ _ _ _ _ _ c.args.p c.handle_in-packet.result k c.self.view_is c.self.invariant c.handle_in-packet.ensures holds in
-    stand_becomes _ _ _ _ c.args.p c.handle_in-packet.result k (at_front (more_before c.args.n)) (zeroed_before c.args.n) c.self.invariant there
-    c.prepend.ensures.packets
+    let (k, holds, _, _) = c.requires in
+    let there = held c.self.view_is c.self.invariant c.handle_in-packet.ensures holds in
+    stand_becomes _ (at_front (more_before c.args.n)) (zeroed_before c.args.n) c.self.invariant there c.prepend.ensures.packets
 
 pub returns : goal.returns
 returns c k holds =
-    let there = held _ _ _ _ _ _ _ _ c.args.p c.handle_in-packet.result k c.self.view_is c.self.invariant c.handle_in-packet.ensures holds in
-    rw (c.prepend.ensures.zones) (becomes _ _ _ _ _ _ _ _ _ c.args.p c.handle_in-packet.result k (at_front (more_before c.args.n)) (zeroed_before c.args.n)
-    c.self.view_is there c.prepend.ensures.packets)
+    let there = held c.self.view_is c.self.invariant c.handle_in-packet.ensures holds in
+    rw (c.prepend.ensures.zones) (becomes _ (at_front (more_before c.args.n)) (zeroed_before c.args.n) c.self.view_is there c.prepend.ensures.packets)

@@ -1,17 +1,18 @@
 -- The first packet of a transmit list: its handle is derived once, and each goal is one step from there.
 use Rattle.std.proofs.Common.{◌≡◌, ◌+◌, ◌≤◌, ◌∷◌, List, length, Some, refl, ◌∙◌, subst, ap}
-use Rattle.std.specs.Prelude.{drop, slice_get, slice_set}
+use Rattle.std.specs.Prelude.{drop, slice_get}
 use Rattle.std.specs.Io.KnownBytes.{Appends}
 use Rattle.std.proofs.lemmas.Option.{same_Some}
 use Rattle.std.proofs.lemmas.Result.{on_ok_weaker, on_err_weaker}
 use Rattle.dp_model.specs.Packets.{Packet}
 use Rattle.dp_pcap.specs.Text.{AppendsPart}
 use Rattle.dp_engine.specs.Drains.{record_of}
-use Rattle.dp_engine.specs.Handles.{Core, Lists, lists_of, run_counts}
+use Rattle.dp_engine.specs.Handles.{Core}
+use Rattle.dp_engine.specs.MachineParts.{parts_of}
 use Rattle.dp_engine.specs.Queues.{ring_at}
-use Rattle.dp_engine.specs.declared.place.Place.TheVariants.{Port}
-use Rattle.dp_engine.proofs.Draining.{stand_less, waits_less, first_drops}
-use Rattle.dp_engine.proofs.Pushing.{popped, first_in, first_there, place_there}
+use Rattle.dp_model.specs.declared.queue.Queue.TheVariants.{Tx}
+use Rattle.dp_engine.proofs.Draining.{stand_drops, first_drops}
+use Rattle.dp_engine.proofs.Pushing.{first_in, first_there, queue_there}
 use Rattle.dp_engine.proofs.Writing.{waits_at}
 use Rattle.dp_engine.proofs.machine.Machine.put_first.Goals as goal
 use Rattle.dp_engine.proofs.machine.Machine.put_first.Goals.{In-Some}
@@ -21,8 +22,7 @@ named : (g : _) (c : In-Some g) (packets : List Packet) (k : Packet) → slice_g
     → slice_get packets 0 ≡ Some k → slice_get c.self.inside.mbufs.store.slots c.in-Some.packet ≡ Some (Some k)
 named g c packets k box here =
     let m = c.self.inside in
-    let (h, at, has) = waits_at m.mbufs.store m.mbufs.zones m.registers m.numbers m.rings m.outboxes m.calls
-    (run_counts m.steps.count m.cuts m.jumps) c.args.self.now c.args.port 0 packets k c.self.view_is c.self.invariant c.requires.there box here in
+    let (h, at, has) = waits_at m c.args.self.now c.args.port 0 packets k c.self.view_is c.self.invariant c.requires.there box here in
     ap (slice_get m.mbufs.store.slots) (same_Some _ _ (c.in-Some.ensures.first ∙ at)) ∙ has
 
 -- there is one
@@ -30,12 +30,11 @@ its_packet : (g : _) (c : In-Some g) → (k : Packet) × (slice_get c.self.insid
 its_packet g c = let (packets, k, list) = c.requires.some in (k, named g c (k ∷ packets) k list refl)
 
 -- the list begins with the handle
-front : (g : _) (c : In-Some g) → slice_get (lists_of c.self.inside.rings c.self.inside.outboxes).outboxes c.args.port
-    ≡ Some (c.in-Some.packet ∷ drop 1 (ring_at c.self.inside.outboxes c.args.port).entries)
+front : (g : _) (c : In-Some g) → slice_get (parts_of c.self.inside).lists.outboxes c.args.port
+    ≡ Some (c.in-Some.packet ∷ drop 1 (ring_at c.self.inside.queues.outboxes c.args.port).entries)
 front g c =
-    first_in (Port c.args.port) c.self.inside.rings c.self.inside.outboxes c.in-Some.packet
-    (place_there _ _ _ _ _ _ _ _ _ c.self.view_is (Port c.args.port) c.requires.there)
-    c.in-Some.ensures.first
+    first_in (Tx c.args.port) c.self.inside.queues.rings c.self.inside.queues.outboxes c.in-Some.packet
+    (queue_there c.self.inside _ c.self.view_is (Tx c.args.port) c.requires.there) c.in-Some.ensures.first
 
 pub put_packet-outcome-requires-clause-live : goal.put_packet-outcome-requires-clause-live
 put_packet-outcome-requires-clause-live g c =
@@ -47,21 +46,14 @@ free-requires g c = let (k, has) = its_packet g (goal.at.free-requires g c).In-S
 
 pub invariant_of-self : goal.invariant_of-self
 invariant_of-self g c =
-    let here = (goal.at.invariant_of-self g c).In-Some in
-    let lists = lists_of c.self.inside.rings c.self.inside.outboxes in
-    let (k, has) = its_packet g here in
-    let rest = popped c.self.inside.outboxes c.pop.new.self c.args.port c.pop.ensures.rest in
-    let less : Lists = record lists {
-      outboxes = slice_set lists.outboxes c.args.port (drop 1 (ring_at c.self.inside.outboxes c.args.port).entries);
-    } in
-    rw (c.free.ensures.packets, c.of-handle.ensures, rest.lists)
-    (stand_less _ c.self.inside.registers lists less c.in-Some.packet k (λ x. waits_less (Port c.args.port) lists c.in-Some.packet x _ (front g here)) has
-    c.self.invariant)
+    let rest = c.pop.ensures.rest in
+    rw (c.free.ensures.packets, c.of-handle.ensures, rest.rings_have, rest.outboxes_have)
+    (stand_drops (Tx c.args.port) (parts_of c.self.inside) c.in-Some.packet _ (front g (goal.at.invariant_of-self g c).In-Some) c.self.invariant)
 
 pub unreachable-requires : goal.unreachable-requires
 unreachable-requires g c =
     let (packets, k, list) = c.requires.some in
-    first_there _ _ _ _ _ _ _ _ _ c.self.view_is (Port c.args.port) k packets c.requires.there list c.in-None.ensures.first
+    first_there c.self.inside _ c.self.view_is (Tx c.args.port) k packets c.requires.there list c.in-None.ensures.first
 
 pub returns-clause-ok : goal.returns-clause-ok
 returns-clause-ok g c =
@@ -90,9 +82,7 @@ returns-clause-counted g c packets k box here =
 
 pub returns-clause-rest : goal.returns-clause-rest
 returns-clause-rest g c packets k list =
-    let here = (goal.at.returns-clause-rest g c).In-Some in
-    let (k', has) = its_packet g here in
-    let rest = popped c.self.inside.outboxes c.pop.new.self c.args.port c.pop.ensures.rest in
-    rw (c.free.ensures.packets, c.free.ensures.zones, c.of-handle.ensures, rest.frames, rest.lists)
-    (first_drops (Port c.args.port) _ _ _ _ (lists_of c.self.inside.rings c.self.inside.outboxes) _ _ _ c.in-Some.packet _ packets k k' c.self.view_is
-    (front g here) has c.self.invariant list)
+    let rest = c.pop.ensures.rest in
+    rw (c.free.ensures.packets, c.free.ensures.zones, c.of-handle.ensures, rest.rings_stay, rest.outboxes_stay, rest.rings_have, rest.outboxes_have)
+    (first_drops (Tx c.args.port) (parts_of c.self.inside) _ c.in-Some.packet _ k packets c.self.view_is c.self.invariant
+    (front g (goal.at.returns-clause-rest g c).In-Some) list)

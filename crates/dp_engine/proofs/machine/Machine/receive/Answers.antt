@@ -1,21 +1,15 @@
 -- Receiving bytes: the result of the call is derived once, and each goal is one step from there.
 use Rattle.std.proofs.Common.{[], sym}
 use Rattle.dp_engine.specs.Steps.{setting_of}
-use Rattle.dp_engine.specs.Handles.{run_counts, frames_of, lists_of}
+use Rattle.dp_engine.specs.MachineParts.{parts_of}
 use Rattle.dp_engine.proofs.Receive.{Given, given, refused}
 use Rattle.dp_engine.proofs.machine.Machine.receive.Goals as goal
 use Rattle.dp_engine.proofs.machine.Machine.receive.Goals.{In-Some}
 
 -- the packet that is received
-taken : (c : In-Some) → Given (setting_of c.args.env.now [] c.args.pattern.now) c.receive.new.self.store
-    (frames_of c.self.inside.mbufs.zones c.self.inside.rings c.self.inside.outboxes) c.self.inside.registers
-    (lists_of c.self.inside.rings c.self.inside.outboxes) c.self.inside.calls (run_counts c.self.inside.steps.count c.self.inside.cuts c.self.inside.jumps)
-    c.args.self.now c.args.pool c.args.port c.in-Some.packet c.args.bytes.now
-taken c =
-    given (setting_of c.args.env.now [] c.args.pattern.now) _ _ _ c.self.inside.registers c.self.inside.numbers
-    (lists_of c.self.inside.rings c.self.inside.outboxes) c.self.inside.calls (run_counts c.self.inside.steps.count c.self.inside.cuts c.self.inside.jumps)
-    c.args.self.now c.args.pool c.args.port c.in-Some.packet c.args.bytes.now c.self.view_is c.self.invariant c.requires.idle c.requires.pools
-    c.in-Some.ensures.packets
+taken : (c : In-Some) → Given (setting_of c.args.env.now [] c.args.pattern.now) (parts_of c.self.inside) c.receive.new.self.store c.args.self.now c.args.pool
+    c.args.port c.in-Some.packet c.args.bytes.now
+taken c = given c.self.view_is c.self.invariant c.requires.idle c.requires.pools c.in-Some.ensures.packets
 
 pub invariant_of-self-in-Some : goal.invariant_of-self-in-Some
 invariant_of-self-in-Some c =
@@ -30,7 +24,5 @@ returns-in-Some-clause-received c _ =
 
 pub returns-in-None-clause-denied : goal.returns-in-None-clause-denied
 returns-in-None-clause-denied c =
-    sym (refused (setting_of c.args.env.now [] c.args.pattern.now) _ _ _ c.self.inside.registers c.self.inside.numbers
-    (lists_of c.self.inside.rings c.self.inside.outboxes) c.self.inside.calls (run_counts c.self.inside.steps.count c.self.inside.cuts c.self.inside.jumps)
-    c.args.self.now c.args.pool c.args.bytes.now c.self.view_is c.self.invariant c.requires.idle c.requires.pools (sym c.if-is_listed.ensures)
-    c.in-None.ensures.packets)
+    sym (refused (setting_of c.args.env.now [] c.args.pattern.now) (parts_of c.self.inside) _ c.args.self.now c.args.pool c.args.bytes.now c.self.view_is
+    c.self.invariant c.requires.idle c.requires.pools (sym c.if-is_listed.ensures) c.in-None.ensures.packets)

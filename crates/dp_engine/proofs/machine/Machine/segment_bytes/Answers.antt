@@ -1,22 +1,16 @@
-use Rattle.std.proofs.Common.{◌≡◌, subst, ap}
+use Rattle.std.proofs.Common.{◌∙◌, ap}
 use Rattle.dp_model.specs.Packets.{segment_bytes}
-use Rattle.dp_engine.specs.Handles.{Core}
+use Rattle.dp_engine.proofs.Receive.{buffers_of}
 use Rattle.dp_engine.proofs.Registers.{handle, held}
 use Rattle.dp_engine.proofs.machine.Machine.segment_bytes.Goals as goal
 
 pub handle_in-packet-requires : goal.handle_in-packet-requires
-handle_in-packet-requires c =
-    let (k, holds, less) = c.requires in
-    handle _ _ _ _ _ _ _ _ c.args.p k c.self.view_is holds
+handle_in-packet-requires c = let (k, holds, _) = c.requires in handle _ _ c.args.p k c.self.view_is holds
 
 pub segment_bytes-requires : goal.segment_bytes-requires
-segment_bytes-requires c =
-    let (k, holds, less) = c.requires in
-    let there = held _ _ _ _ _ _ _ _ c.args.p c.handle_in-packet.result k c.self.view_is c.self.invariant c.handle_in-packet.ensures holds in
-    (k, there.has, less)
+segment_bytes-requires c = let (k, holds, less) = c.requires in (k, (held c.self.view_is c.self.invariant c.handle_in-packet.ensures holds).has, less)
 
 pub returns : goal.returns
 returns c k s holds here =
-    let there = held _ _ _ _ _ _ _ _ c.args.p c.handle_in-packet.result k c.self.view_is c.self.invariant c.handle_in-packet.ensures holds in
-    subst (λ b. c.segment_bytes.result.now ≡ segment_bytes b s) (ap (λ (m : Core). m.state.world.buffers) c.self.view_is)
-    (c.segment_bytes.ensures.value k there.has s here)
+    let there = held c.self.view_is c.self.invariant c.handle_in-packet.ensures holds in
+    c.segment_bytes.ensures.value k there.has s here ∙ ap (λ b. segment_bytes b s) (buffers_of _ _ c.self.view_is)

@@ -1,35 +1,35 @@
 use Rattle.std.proofs.Common.{sym, ap}
-use Rattle.dp_engine.specs.declared.place.Place.TheVariants.{Ring}
+use Rattle.dp_model.specs.declared.queue.Queue.TheVariants.{Ring}
 use Rattle.dp_engine.specs.Queues.{ring_at}
-use Rattle.dp_engine.specs.Handles.{Core, lists_of, run_counts}
+use Rattle.dp_engine.specs.Handles.{Core}
+use Rattle.dp_engine.specs.MachineParts.{parts_of}
 use Rattle.dp_engine.proofs.Clearing.{stand_first, starts_none, starts_first}
-use Rattle.dp_engine.proofs.Pushing.{popped, first_in}
+use Rattle.dp_engine.proofs.Pushing.{first_in}
 use Rattle.dp_engine.proofs.Receive.{idle_of}
-use Rattle.dp_engine.proofs.Rings.{first_of}
+use Rattle.dp_engine.proofs.RingLemmas.{first_of}
 use Rattle.dp_engine.proofs.Waits.{found, none_waits, in_rings}
 use Rattle.dp_engine.proofs.machine.Machine.take_waiting.Goals as goal
 
 pub returns-in_err-ring : goal.returns-in_err-ring
 returns-in_err-ring c =
-    let none = none_waits c.self.inside.mbufs.store.slots c.self.inside.rings (sym c.in_err-ring.ensures.value) in
+    let none = none_waits c.self.inside.mbufs.store.slots c.self.inside.queues.rings (sym c.in_err-ring.ensures.value) in
     rw (c.from_residual.ensures)
-    (starts_none c.args.self.now (in_rings c.self.inside.mbufs.store.slots c.self.inside.rings) (ap (λ (x : Core). x.state.world.rings) c.self.view_is) none)
+    (starts_none c.args.self.now (in_rings c.self.inside.mbufs.store.slots c.self.inside.queues.rings)
+    (ap (λ (x : Core). x.state.world.rings) c.self.view_is) none)
 
 pub invariant_of-self : goal.invariant_of-self
 invariant_of-self c =
-    let idle =
-    idle_of _ _ c.self.inside.registers c.self.inside.numbers (lists_of c.self.inside.rings c.self.inside.outboxes) c.self.inside.calls _ c.args.self.now
-    c.self.view_is c.self.invariant c.requires.idle in
-    let at = first_in (Ring c.in_ok-ring.ring) c.self.inside.rings c.self.inside.outboxes c.in-Some.packet c.in_ok-ring.ensures.bound c.in-Some.ensures.first in
-    let rest = popped c.self.inside.rings c.pop.new.self c.in_ok-ring.ring c.pop.ensures.rest in
-    rw (c.one_packet-self-inside.ensures, rest.lists)
-    (stand_first _ c.self.inside.registers (lists_of c.self.inside.rings c.self.inside.outboxes) c.in_ok-ring.ring c.in-Some.packet _ idle at)
+    let idle = idle_of c.self.view_is c.self.invariant c.requires.idle in
+    let at = first_in (Ring c.in_ok-ring.ring) c.self.inside.queues.rings c.self.inside.queues.outboxes c.in-Some.packet c.in_ok-ring.ensures.bound
+    c.in-Some.ensures.first in
+    let rest = c.pop.ensures.rest in
+    rw (c.one_packet-self-inside.ensures, rest.rings_have, rest.outboxes_have)
+    (stand_first (parts_of c.self.inside) c.in_ok-ring.ring c.in-Some.packet _ idle at)
 
 pub returns : goal.returns
 returns c =
-    let steps = run_counts c.self.inside.steps.count c.self.inside.cuts c.self.inside.jumps in
-    let rest = popped c.self.inside.rings c.pop.new.self c.in_ok-ring.ring c.pop.ensures.rest in
-    let first = found c.self.inside.mbufs.store.slots c.self.inside.rings c.in_ok-ring.ring (sym c.in_ok-ring.ensures.value) in
-    let at = first_of (ring_at c.self.inside.rings c.in_ok-ring.ring).entries c.in-Some.packet c.in-Some.ensures.first in
-    rw (c.one_packet-self-inside.ensures, rest.frames, rest.lists, c.from.ensures)
-    (starts_first _ _ _ _ c.self.inside.rings _ _ steps c.args.self.now c.in_ok-ring.ring c.in-Some.packet _ c.self.view_is first at)
+    let rest = c.pop.ensures.rest in
+    let first = found c.self.inside.mbufs.store.slots c.self.inside.queues.rings c.in_ok-ring.ring (sym c.in_ok-ring.ensures.value) in
+    let at = first_of (ring_at c.self.inside.queues.rings c.in_ok-ring.ring).entries c.in-Some.packet c.in-Some.ensures.first in
+    rw (c.one_packet-self-inside.ensures, rest.rings_stay, rest.outboxes_stay, rest.rings_have, rest.outboxes_have, c.from.ensures)
+    (starts_first c.self.inside c.args.self.now c.in_ok-ring.ring c.in-Some.packet _ c.self.view_is first at)

@@ -4,24 +4,18 @@ use Rattle.dp_engine.proofs.Registers.{handle, held, stand_becomes, becomes}
 use Rattle.dp_engine.proofs.machine.Machine.trim.Goals as goal
 
 pub handle_in-packet-requires : goal.handle_in-packet-requires
-handle_in-packet-requires c =
-    let (k, holds, le) = c.requires in
-    handle _ _ _ _ _ _ _ _ c.args.p k c.self.view_is holds
+handle_in-packet-requires c = let (k, holds, _) = c.requires in handle _ _ c.args.p k c.self.view_is holds
 
 pub trim-requires : goal.trim-requires
-trim-requires c =
-    let (k, holds, le) = c.requires in
-    let there = held _ _ _ _ _ _ _ _ c.args.p c.handle_in-packet.result k c.self.view_is c.self.invariant c.handle_in-packet.ensures holds in
-    (k, there.has, le)
+trim-requires c = let (k, holds, le) = c.requires in (k, (held c.self.view_is c.self.invariant c.handle_in-packet.ensures holds).has, le)
 
 pub invariant_of-self : goal.invariant_of-self
 invariant_of-self c =
-    let (k, holds, le) = c.requires in
-    let there = held _ _ _ _ _ _ _ _ c.args.p c.handle_in-packet.result k c.self.view_is c.self.invariant c.handle_in-packet.ensures holds in
-    stand_becomes _ _ _ _ c.args.p c.handle_in-packet.result k (at_end (less_after c.args.n)) unwritten c.self.invariant there c.trim.ensures.packets
+    let (k, holds, _) = c.requires in
+    let there = held c.self.view_is c.self.invariant c.handle_in-packet.ensures holds in
+    stand_becomes _ (at_end (less_after c.args.n)) unwritten c.self.invariant there c.trim.ensures.packets
 
 pub returns : goal.returns
 returns c k holds =
-    let there = held _ _ _ _ _ _ _ _ c.args.p c.handle_in-packet.result k c.self.view_is c.self.invariant c.handle_in-packet.ensures holds in
-    rw (c.trim.ensures.zones) (becomes _ _ _ _ _ _ _ _ _ c.args.p c.handle_in-packet.result k (at_end (less_after c.args.n)) unwritten c.self.view_is there
-    c.trim.ensures.packets)
+    let there = held c.self.view_is c.self.invariant c.handle_in-packet.ensures holds in
+    rw (c.trim.ensures.zones) (becomes _ (at_end (less_after c.args.n)) unwritten c.self.view_is there c.trim.ensures.packets)

@@ -1,6 +1,5 @@
-use Rattle.std.proofs.Common.{◌<◌, ◌∙◌, length, ap, sym, arith, List}
-use Rattle.dp_ring.specs.Rings.{RingView}
-use Rattle.dp_engine.specs.Queues.{ring_at, is_waiting}
+use Rattle.std.proofs.Common.{◌<◌, ◌∙◌, length, ap, sym, arith}
+use Rattle.dp_engine.specs.Queues.{QueuesView, ring_at, is_waiting}
 use Rattle.dp_engine.proofs.Firsts.{first_slot, first_waits}
 use Rattle.dp_engine.proofs.queues.Queues.first_waiting.Goals as goal
 
@@ -8,5 +7,5 @@ pub returns-then-from-len-clause-waits : goal.returns-then-from-len-clause-waits
 returns-then-from-len-clause-waits c =
     let rings = c.self.inside.rings in
     let there : first_slot rings < length rings = omega (arith, c.if-from-len.true, c.self.invariant, c.from.ensures, c.len.ensures.value) in
-    ap (λ (rs : List RingView). is_waiting (ring_at rs c.self.inside.first)) (sym c.self.view_is)
+    ap (λ (q : QueuesView). is_waiting (ring_at q.rings c.self.inside.first)) (sym c.self.view_is)
     ∙ (ap (λ k. is_waiting (ring_at rings k)) c.self.invariant ∙ first_waits rings there)

@@ -1,38 +1,43 @@
--- The first entry of a ring is taken: which ring waits first then.
-use Rattle.std.proofs.Common.{◌≡◌, ◌<◌, ◌≤◌, ◌∙◌, length, ap, sym, subst, arith}
-use Rattle.std.specs.Prelude.{IfNone}
+-- The first handle of a queue is taken: what that makes of a ring is derived once.
+use Rattle.std.proofs.Common.{◌<◌, ◌≤◌, ◌∙◌, length, drop, ap, refl, sym, subst, arith}
 use Rattle.dp_ring.specs.Rings.{without_first}
+use Rattle.dp_engine.specs.HandleQueues.{ring_of_queue, Becomes}
 use Rattle.dp_engine.specs.Queues.{ring_at}
 use Rattle.dp_engine.proofs.Firsts.{first_slot, not_before, stays}
-use Rattle.dp_engine.proofs.Slots.{kept as kept_rings}
+use Rattle.dp_engine.proofs.Pushing.{popped}
 use Rattle.dp_engine.proofs.queues.Queues.pop.Goals as goal
-use Rattle.dp_engine.proofs.queues.Queues.pop.Goals.{After-pop-entry}
+use Rattle.dp_engine.proofs.queues.Queues.pop.Goals.{After-pop-handle}
 
-there : (c : After-pop-entry) → c.args.k < length c.self.inside.rings
-there c = subst (λ rs. c.args.k < length rs) (sym c.self.view_is) c.requires
+there : (c : After-pop-handle) → c.in-Ring.ring < length c.self.inside.rings
+there c = rw (c.in-Ring.is, ← c.self.view_is) at c.requires
 
--- where nothing was taken nothing has changed
-kept : (c : After-pop-entry) → IfNone c.pop-entry.result (c.pop-entry.new.self ≡ c.args.self.now)
-kept c =
-    subst (λ rs. IfNone c.pop-entry.result (c.pop-entry.new.self ≡ rs)) c.self.view_is
-    (kept_rings c.self.inside.rings c.args.k c.pop-entry.result c.pop-entry.new.self c.pop-entry.ensures.first c.pop-entry.ensures.rest)
+rest : (c : After-pop-handle) → Becomes c.args.queue (drop 1 (ring_of_queue c.args.queue c.args.self.now.rings c.args.self.now.outboxes).entries)
+    c.args.self.now (record { rings = c.pop-handle.new.self; outboxes = c.self.inside.outboxes })
+rest c =
+    let its = popped c.self.inside.rings c.pop-handle.new.self c.in-Ring.ring c.pop-handle.ensures.rest in
+    rw (← c.self.view_is, c.in-Ring.is) (record { rings_stay = its.frames; outboxes_stay = refl; rings_have = its.lists; outboxes_have = refl })
 
 pub first_from-self-inside-requires : goal.first_from-self-inside-requires
 first_from-self-inside-requires c =
     let rings = c.self.inside.rings in
-    subst (λ rs. c.args.k ≤ first_slot rs) (sym c.pop-entry.ensures.rest)
-    (not_before rings c.args.k (without_first (ring_at rings c.args.k) 1) (omega (arith, c.self.invariant, c.if-k-self.true))
-    (there (goal.at.first_from-self-inside-requires c).After-pop-entry))
+    subst (λ rs. c.in-Ring.ring ≤ first_slot rs) (sym c.pop-handle.ensures.rest)
+    (not_before rings c.in-Ring.ring (without_first (ring_at rings c.in-Ring.ring) 1) (omega (arith, c.self.invariant, c.if-ring-self.true))
+    (there (goal.at.first_from-self-inside-requires c).After-pop-handle))
 
-pub invariant_of-self-else-k-self : goal.invariant_of-self-else-k-self
-invariant_of-self-else-k-self c =
+pub invariant_of-self-else-ring-self : goal.invariant_of-self-else-ring-self
+invariant_of-self-else-ring-self c =
     let rings = c.self.inside.rings in
-    c.self.invariant ∙ sym (ap first_slot c.pop-entry.ensures.rest
-    ∙ stays rings c.args.k (without_first (ring_at rings c.args.k) 1) (omega (arith, c.self.invariant, c.if-k-self.false))
-    (there (goal.at.invariant_of-self-else-k-self c).After-pop-entry))
+    c.self.invariant ∙ sym (ap first_slot c.pop-handle.ensures.rest
+    ∙ stays rings c.in-Ring.ring (without_first (ring_at rings c.in-Ring.ring) 1) (omega (arith, c.self.invariant, c.if-ring-self.false))
+    (there (goal.at.invariant_of-self-else-ring-self c).After-pop-handle))
 
-pub returns-then-k-self-clause-kept : goal.returns-then-k-self-clause-kept
-returns-then-k-self-clause-kept c = kept (goal.at.returns-then-k-self-clause-kept c).After-pop-entry
+pub returns-in-Tx-clause-rest : goal.returns-in-Tx-clause-rest
+returns-in-Tx-clause-rest c =
+    let its = popped c.self.inside.outboxes c.pop.new.self c.in-Tx.port c.pop.ensures.rest in
+    rw (← c.self.view_is, c.in-Tx.is) (record { rings_stay = refl; outboxes_stay = its.frames; rings_have = refl; outboxes_have = its.lists })
 
-pub returns-else-k-self-clause-kept : goal.returns-else-k-self-clause-kept
-returns-else-k-self-clause-kept c = kept (goal.at.returns-else-k-self-clause-kept c).After-pop-entry
+pub returns-then-ring-self-clause-rest : goal.returns-then-ring-self-clause-rest
+returns-then-ring-self-clause-rest c = rest (goal.at.returns-then-ring-self-clause-rest c).After-pop-handle
+
+pub returns-else-ring-self-clause-rest : goal.returns-else-ring-self-clause-rest
+returns-else-ring-self-clause-rest c = rest (goal.at.returns-else-ring-self-clause-rest c).After-pop-handle

@@ -1,25 +1,47 @@
--- An entry is appended to a ring: which ring waits first then is derived once.
-use Rattle.std.proofs.Common.{◌<◌, ◌∙◌, length, sym, subst, arith}
+-- A handle is appended to a queue: what that makes of a ring is derived once.
+use Rattle.std.proofs.Common.{◌≡◌, ◌++◌, ◌∷◌, [], ◌∙◌, true, refl, sym, arith}
+use Rattle.dp_engine.specs.HandleQueues.{ring_of_queue, Becomes}
 use Rattle.dp_engine.proofs.Firsts.{IsPut, put_is}
+use Rattle.dp_engine.proofs.Pushing.{pushed}
 use Rattle.dp_engine.proofs.queues.Queues.push.Goals as goal
-use Rattle.dp_engine.proofs.queues.Queues.push.Goals.{After-push-is_taken}
+use Rattle.dp_engine.proofs.queues.Queues.push.Goals.{After-push-is_taken, else-is_taken-via-then-is_taken+else-ring-self, else-is_taken-via-else-is_taken}
 
-put : (c : After-push-is_taken) → IsPut c.self.inside.rings c.push-is_taken.new.self c.args.k c.push-is_taken.result
+-- which ring waits first
+put : (c : After-push-is_taken) → IsPut c.self.inside.rings c.push-is_taken.new.self c.in-Ring.ring c.push-is_taken.result
 put c =
-    let there = subst (λ rs. c.args.k < length rs) (sym c.self.view_is) c.requires in
-    put_is c.self.inside.rings _ c.args.k c.args.entry _ there c.push-is_taken.ensures.taken c.push-is_taken.ensures.rings
+    let there = rw (c.in-Ring.is, ← c.self.view_is) at c.requires in
+    put_is c.self.inside.rings _ c.in-Ring.ring c.args.handle _ there c.push-is_taken.ensures.taken c.push-is_taken.ensures.rings
 
-pub invariant_of-self : goal.invariant_of-self
-invariant_of-self c =
-    let here = (goal.at.invariant_of-self c).After-push-is_taken in
-    (put here).earlier c.if-is_taken.true (omega (arith, c.self.invariant, c.if-k-self.true))
+-- and what waits in it
+more : (c : After-push-is_taken) → c.push-is_taken.result ≡ true
+    → Becomes c.args.queue ((ring_of_queue c.args.queue c.args.self.now.rings c.args.self.now.outboxes).entries ++ c.args.handle ∷ []) c.args.self.now
+    (record { rings = c.push-is_taken.new.self; outboxes = c.self.inside.outboxes })
+more c taken =
+    let its = pushed c.self.inside.rings c.push-is_taken.new.self c.in-Ring.ring c.args.handle _ c.push-is_taken.ensures.rings
+    (sym c.push-is_taken.ensures.taken ∙ taken) in
+    rw (← c.self.view_is, c.in-Ring.is) (record { rings_stay = its.frames; outboxes_stay = refl; rings_have = its.lists; outboxes_have = refl })
 
-pub invariant_of-self-else-k-self : goal.invariant_of-self-else-k-self
-invariant_of-self-else-k-self c =
-    let here = (goal.at.invariant_of-self-else-k-self c).After-push-is_taken in
-    c.self.invariant ∙ (put here).later c.if-is_taken.true (omega (arith, c.self.invariant, c.if-k-self.false))
+pub invariant_of-self-then-ring-self : goal.invariant_of-self-then-ring-self
+invariant_of-self-then-ring-self c =
+    (put (goal.at.invariant_of-self-then-ring-self c).After-push-is_taken).earlier c.if-is_taken.true (omega (arith, c.self.invariant, c.if-ring-self.true))
 
-pub invariant_of-self-else-is_taken : goal.invariant_of-self-else-is_taken
-invariant_of-self-else-is_taken c =
-    let here = (goal.at.invariant_of-self-else-is_taken c).After-push-is_taken in
-    c.self.invariant ∙ (put here).full c.if-is_taken.false
+pub invariant_of-self-else-ring-self : goal.invariant_of-self-else-ring-self
+invariant_of-self-else-ring-self c =
+    c.self.invariant ∙ (put (goal.at.invariant_of-self-else-ring-self c).After-push-is_taken).later c.if-is_taken.true
+    (omega (arith, c.self.invariant, c.if-ring-self.false))
+
+pub returns-in-Tx-clause-more : goal.returns-in-Tx-clause-more
+returns-in-Tx-clause-more c taken =
+    let its = pushed c.self.inside.outboxes c.push.new.self c.in-Tx.port c.args.handle _ c.push.ensures.rings (sym c.push.ensures.taken ∙ taken) in
+    rw (← c.self.view_is, c.in-Tx.is) (record { rings_stay = refl; outboxes_stay = its.frames; rings_have = refl; outboxes_have = its.lists })
+
+pub returns-then-ring-self-clause-more : goal.returns-then-ring-self-clause-more
+returns-then-ring-self-clause-more c taken = more (goal.at.returns-then-ring-self-clause-more c).After-push-is_taken taken
+
+pub returns-else-is_taken-clause-more : goal.returns-else-is_taken-clause-more
+returns-else-is_taken-clause-more c taken =
+    let its = more (goal.at.returns-else-is_taken-clause-more c).After-push-is_taken taken in
+    elim c.else-is_taken.branch [
+      | else-is_taken-via-then-is_taken+else-ring-self w ↦ rw w.self-is its
+      | else-is_taken-via-else-is_taken w ↦ rw w.self-is its
+    ]

@@ -4,7 +4,7 @@ use Rattle.std.specs.Prelude.{nat_lt, if◌then◌else◌}
 use Rattle.dp_ring.specs.Rings.{RingView, room_in, with_more}
 use Rattle.dp_engine.specs.Queues.{ring_at}
 use Rattle.dp_engine.proofs.Slots.{listed as ring_listed, has_ring, ring_is, changed, renewed, set_where}
-use Rattle.dp_engine.proofs.lists.Lists.push.Goals as goal
+use Rattle.dp_engine.proofs.rings.Rings.push.Goals as goal
 
 pub listed : goal.listed
 listed c = (ring_listed _ _ c.self.view_is c.self.invariant.0 _ _ c.from.ensures c.requires).0

@@ -1,6 +1,6 @@
 use Rattle.std.proofs.Common.{arith}
 use Rattle.dp_engine.proofs.Slots.{rings_below, ring_there}
-use Rattle.dp_engine.proofs.lists.ring_in.Goals as goal
+use Rattle.dp_engine.proofs.rings.ring_in.Goals as goal
 
 pub listed : goal.listed
 listed c = omega (arith, c.from.ensures, c.requires, rings_below c.args.rings.now)

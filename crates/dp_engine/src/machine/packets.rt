@@ -2,7 +2,8 @@
 ghost use Rattle.std.specs.Prelude.{◌≡◌, ◌≢◌, ℕ, ◌+◌, ◌^◌, ◌<◌, ◌≤◌, true, false, not, List, [], ◌++◌, length, slice_get, Some, option_map, is_some};
 ghost use Rattle.dp_model.specs.Arithmetic.{bytes_in};
 ghost use Rattle.dp_model.specs.Buffers.{Number, Buffers, ChangesOnly};
-ghost use Rattle.dp_model.specs.Packets.{Packet, AreFresh, allocated, cloned, headroom, tailroom, last_len, first_len, IsHeadSole, IsTailSole, at_front};
+ghost use Rattle.dp_model.specs.Packets.{Packet, AreFresh, allocated, cloned, headroom, tailroom};
+ghost use Rattle.dp_model.specs.Packets.{last_len, first_len, IsHeadSole, IsTailSole, at_front, less_before};
 ghost use Rattle.dp_model.specs.Packets.{at_end, more_before, more_after, less_after, zeroed_before, zeroed_after, loaded, stored};
 ghost use Rattle.dp_model.specs.Limits.{max_segments};
 ghost use Rattle.dp_model.specs.Machine.{Holds, IsEmpty, live, is_denied, with_call, with_packet, without_packet, with_buffers};
@@ -30,10 +31,39 @@ pub(super) fn is_held_in(registers: &[Register; 8], p: PacketRegister) -> bool
 }
 
 impl Machine {
+    // The length of the first segment.
+    pub(crate) fn first_len(&self, p: PacketRegister) -> u16
+        requires { (packet : Packet) × Holds self.now.state p packet }
+        ensures { (packet : Packet) → Holds self.now.state p packet → result ≡ first_len packet }
+    {
+        let packet = handle_in(&self.registers, p);
+        self.mbufs.first_len(&packet)
+    }
+
+    // Removes `n` bytes from the start of the first segment.
+    pub(crate) fn adj(&mut self, p: PacketRegister, n: u16)
+        requires { (packet : Packet) × Holds self.old.state p packet × (n ≤ first_len packet) }
+        ensures { (packet : Packet) → Holds self.old.state p packet
+            → self.new ≡ moved (with_packet p (at_front (less_before n) packet) self.old.state) self.old }
+    {
+        let packet = handle_in(&self.registers, p);
+        self.mbufs.adj(&packet, n);
+    }
+
+    // Frees the packet in a register.
+    pub(crate) fn free(&mut self, p: PacketRegister)
+        requires { (packet : Packet) × Holds self.old.state p packet }
+        ensures { self.new ≡ moved (without_packet p self.old.state) self.old }
+    {
+        let packet = handle_in(&self.registers, p);
+        self.mbufs.free(packet);
+        self.registers[usize::from(p.number())] = Register::empty();
+    }
+
     // The free bytes before the first segment's data.
     pub(crate) fn headroom(&self, p: PacketRegister) -> u16
-        requires { (k : Packet) × Holds self.now.state p k }
-        ensures { (k : Packet) → Holds self.now.state p k → result ≡ headroom k }
+        requires { (packet : Packet) × Holds self.now.state p packet }
+        ensures { (packet : Packet) → Holds self.now.state p packet → result ≡ headroom packet }
     {
         let packet = handle_in(&self.registers, p);
         self.mbufs.headroom(&packet)
@@ -41,8 +71,8 @@ impl Machine {
 
     // The free bytes after the last segment's data.
     pub(crate) fn tailroom(&self, p: PacketRegister) -> u16
-        requires { (k : Packet) × Holds self.now.state p k }
-        ensures { (k : Packet) → Holds self.now.state p k → result ≡ tailroom self.now.pools k }
+        requires { (packet : Packet) × Holds self.now.state p packet }
+        ensures { (packet : Packet) → Holds self.now.state p packet → result ≡ tailroom self.now.pools packet }
     {
         let packet = handle_in(&self.registers, p);
         self.mbufs.tailroom(&packet)
@@ -50,8 +80,8 @@ impl Machine {
 
     // The length of the last segment.
     pub(crate) fn last_len(&self, p: PacketRegister) -> u16
-        requires { (k : Packet) × Holds self.now.state p k }
-        ensures { (k : Packet) → Holds self.now.state p k → result ≡ last_len k }
+        requires { (packet : Packet) × Holds self.now.state p packet }
+        ensures { (packet : Packet) → Holds self.now.state p packet → result ≡ last_len packet }
     {
         let packet = handle_in(&self.registers, p);
         self.mbufs.last_len(&packet)
@@ -59,8 +89,8 @@ impl Machine {
 
     // Removes `n` bytes from the end of the last segment.
     pub(crate) fn trim(&mut self, p: PacketRegister, n: u16)
-        requires { (k : Packet) × Holds self.old.state p k × (n ≤ last_len k) }
-        ensures { (k : Packet) → Holds self.old.state p k → self.new ≡ moved (with_packet p (at_end (less_after n) k) self.old.state) self.old }
+        requires { (packet : Packet) × Holds self.old.state p packet × (n ≤ last_len packet) }
+        ensures { (packet : Packet) → Holds self.old.state p packet → self.new ≡ moved (with_packet p (at_end (less_after n) packet) self.old.state) self.old }
     {
         let packet = handle_in(&self.registers, p);
         self.mbufs.trim(&packet, n);
@@ -68,9 +98,9 @@ impl Machine {
 
     // Adds `n` zero bytes before the first segment.
     pub(crate) fn prepend(&mut self, p: PacketRegister, n: u16)
-        requires { (k : Packet) × Holds self.old.state p k × (n ≤ headroom k) × IsHeadSole (live self.old.state) k }
-        ensures { (k : Packet) → Holds self.old.state p k → self.new ≡ moved
-            (with_packet p (at_front (more_before n) k) (with_buffers (zeroed_before n k self.old.state.world.buffers) self.old.state)) self.old }
+        requires { (packet : Packet) × Holds self.old.state p packet × (n ≤ headroom packet) × IsHeadSole (live self.old.state) packet }
+        ensures { (packet : Packet) → Holds self.old.state p packet → self.new ≡ moved
+            (with_packet p (at_front (more_before n) packet) (with_buffers (zeroed_before n packet self.old.state.world.buffers) self.old.state)) self.old }
     {
         let packet = handle_in(&self.registers, p);
         self.mbufs.prepend(&packet, n);
@@ -78,9 +108,9 @@ impl Machine {
 
     // Adds `n` zero bytes after the last segment.
     pub(crate) fn append(&mut self, p: PacketRegister, n: u16)
-        requires { (k : Packet) × Holds self.old.state p k × (n ≤ tailroom self.old.pools k) × IsTailSole (live self.old.state) k }
-        ensures { (k : Packet) → Holds self.old.state p k → self.new ≡ moved
-            (with_packet p (at_end (more_after n) k) (with_buffers (zeroed_after n k self.old.state.world.buffers) self.old.state)) self.old }
+        requires { (packet : Packet) × Holds self.old.state p packet × (n ≤ tailroom self.old.pools packet) × IsTailSole (live self.old.state) packet }
+        ensures { (packet : Packet) → Holds self.old.state p packet → self.new ≡ moved
+            (with_packet p (at_end (more_after n) packet) (with_buffers (zeroed_after n packet self.old.state.world.buffers) self.old.state)) self.old }
     {
         let packet = handle_in(&self.registers, p);
         self.mbufs.append(&packet, n);
@@ -88,8 +118,8 @@ impl Machine {
 
     // Loads the big-endian number at an offset of the first segment.
     pub(crate) fn load(&self, p: PacketRegister, offset: u64, width: Width) -> u64
-        requires { (k : Packet) × Holds self.now.state p k × (offset + bytes_in width ≤ first_len k) }
-        ensures { (k : Packet) → Holds self.now.state p k → result ≡ loaded offset (bytes_in width) k self.now.state.world.buffers }
+        requires { (packet : Packet) × Holds self.now.state p packet × (offset + bytes_in width ≤ first_len packet) }
+        ensures { (packet : Packet) → Holds self.now.state p packet → result ≡ loaded offset (bytes_in width) packet self.now.state.world.buffers }
     {
         let packet = handle_in(&self.registers, p);
         self.mbufs.load(&packet, offset, width)
@@ -97,9 +127,9 @@ impl Machine {
 
     // Stores the low bytes of a number, big-endian, at an offset of the first segment.
     pub(crate) fn store(&mut self, p: PacketRegister, offset: u64, width: Width, n: u64)
-        requires { (k : Packet) × Holds self.old.state p k × (offset + bytes_in width ≤ first_len k) × IsHeadSole (live self.old.state) k }
-        ensures { (k : Packet) → Holds self.old.state p k → self.new ≡ moved
-            (with_buffers (stored offset (bytes_in width) n k self.old.state.world.buffers) self.old.state) self.old }
+        requires { (packet : Packet) × Holds self.old.state p packet × (offset + bytes_in width ≤ first_len packet) × IsHeadSole (live self.old.state) packet }
+        ensures { (packet : Packet) → Holds self.old.state p packet → self.new ≡ moved
+            (with_buffers (stored offset (bytes_in width) n packet self.old.state.world.buffers) self.old.state) self.old }
     {
         let packet = handle_in(&self.registers, p);
         self.mbufs.store(&packet, offset, width, n);
@@ -107,10 +137,10 @@ impl Machine {
 
     // Appends the second packet to the first. Its register is empty then.
     pub(crate) fn chain(&mut self, front: PacketRegister, back: PacketRegister)
-        requires { (k : Packet) × (t : Packet) × Holds self.old.state front k × Holds self.old.state back t × (front ≢ back)
-            × (length k + length t ≤ max_segments) }
-        ensures { (k : Packet) (t : Packet) → Holds self.old.state front k → Holds self.old.state back t →
-            self.new ≡ moved (without_packet back (with_packet front (k ++ t) self.old.state)) self.old }
+        requires { (packet : Packet) × (t : Packet) × Holds self.old.state front packet × Holds self.old.state back t × (front ≢ back)
+            × (length packet + length t ≤ max_segments) }
+        ensures { (packet : Packet) (t : Packet) → Holds self.old.state front packet → Holds self.old.state back t →
+            self.new ≡ moved (without_packet back (with_packet front (packet ++ t) self.old.state)) self.old }
     {
         let head = handle_in(&self.registers, front);
         let tail = handle_in(&self.registers, back);
@@ -158,17 +188,17 @@ impl Machine {
         from: PacketRegister,
         pool: u8,
     ) -> bool
-        requires holds { (k : Packet) × Holds self.old.state from k }
+        requires holds { (packet : Packet) × Holds self.old.state from packet }
         requires empty { IsEmpty self.old.state into }
         requires exists { pool < length env.now.pools }
         requires pools { self.old.pools ≡ env.now.pools }
         requires few { self.old.state.world.calls + 1 < 2 ^ 64 }
-        ensures denied { (k : Packet) → Holds self.old.state from k → not result
-            ≡ is_denied (setting_of env.now [] pattern.now) self.old.state pool (length k) }
+        ensures denied { (packet : Packet) → Holds self.old.state from packet → not result
+            ≡ is_denied (setting_of env.now [] pattern.now) self.old.state pool (length packet) }
         ensures refused { result ≡ false → self.new ≡ moved (with_call self.old.state) self.old }
-        ensures given { result ≡ true → (k : Packet) → Holds self.old.state from k →
-            (ns : List Number) × AreFresh env.now.pools (live self.old.state) pool (length k) ns
-            × (self.new ≡ moved (with_call (with_packet into (cloned ns k) self.old.state)) self.old) }
+        ensures given { result ≡ true → (packet : Packet) → Holds self.old.state from packet →
+            (ns : List Number) × AreFresh env.now.pools (live self.old.state) pool (length packet) ns
+            × (self.new ≡ moved (with_call (with_packet into (cloned ns packet) self.old.state)) self.old) }
     {
         self.calls += 1;
         if is_listed(pattern, self.calls) {

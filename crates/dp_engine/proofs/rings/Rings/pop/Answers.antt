@@ -3,7 +3,7 @@ use Rattle.std.proofs.Common.{◌∙◌, ap}
 use Rattle.std.specs.Prelude.{slice_get}
 use Rattle.dp_ring.specs.Rings.{without_first}
 use Rattle.dp_engine.proofs.Slots.{listed as ring_listed, has_ring, ring_is, changed, renewed}
-use Rattle.dp_engine.proofs.lists.Lists.pop.Goals as goal
+use Rattle.dp_engine.proofs.rings.Rings.pop.Goals as goal
 
 pub listed : goal.listed
 listed c = (ring_listed _ _ c.self.view_is c.self.invariant.0 _ _ c.from.ensures c.requires).0

@@ -8,14 +8,14 @@ ghost use Rattle.dp_engine.specs.Queues.{rings_in, RingsFirst, ring_at, ring_of}
 use dp_ring::Ring;
 use std::marker::Model;
 
-/// At most eight rings of packet handles, by number from 0. `Lists` holds the transmit lists; `Queues` wraps one for rings.
-pub struct Lists {
+/// At most eight rings of packet handles, by number from 0.
+pub struct Rings {
     rings: [Option<Ring>; 8],
     // The number of rings.
     count: u8,
 }
 
-impl Model for Lists {
+impl Model for Rings {
     ghost use Rattle.std.specs.Prelude.{◌≡◌, List, length};
     ghost use Rattle.dp_ring.specs.Rings.{RingView};
     ghost use Rattle.dp_engine.specs.Queues.{rings_in, RingsFirst};
@@ -69,14 +69,14 @@ fn pop_in(slot: &mut Option<Ring>) -> Option<u32>
     }
 }
 
-impl Lists {
+impl Rings {
     /// Takes ownership of these rings, by slot.
-    pub fn over(rings: [Option<Ring>; 8]) -> Lists
+    pub fn over(rings: [Option<Ring>; 8]) -> Rings
         requires { RingsFirst rings }
         ensures { result ≡ rings_in rings }
     {
         let count = first_empty(&rings).unwrap_or(8) as u8;
-        Lists { rings, count }
+        Rings { rings, count }
     }
 
     /// The number of rings.
@@ -128,7 +128,7 @@ impl Lists {
         ensures same { rings_in result ≡ self }
         ensures first { RingsFirst result }
     {
-        let Lists { rings, count: _ } = self;
+        let Rings { rings, count: _ } = self;
         rings
     }
 }

@@ -2,7 +2,7 @@ use Rattle.std.proofs.Common.{◌≡◌, length, rules, refl, ap, ◌∙◌}
 use Rattle.std.specs.Prelude.{unwrap_or}
 use Rattle.dp_engine.specs.Queues.{rings_in}
 use Rattle.dp_engine.proofs.Slots.{counted}
-use Rattle.dp_engine.proofs.lists.Lists.over.Goals as goal
+use Rattle.dp_engine.proofs.rings.Rings.over.Goals as goal
 
 pub invariant_of-result : goal.invariant_of-result
 invariant_of-result c =
