@@ -14,12 +14,12 @@ use Rattle.dp_pipe.specs.declared.config.Config.{Config}
 use Rattle.dp_pipe.specs.Config.{IsConfigOf}
 use Rattle.dp_pipe.specs.Files.{FileMap}
 use Rattle.dp_pipe.specs.Nodes.{Node}
-use Rattle.dp_cli.specs.declared.fault.Fault.{Fault}
-use Rattle.dp_cli.specs.declared.fault.Fault.TheVariants as fault
-use Rattle.dp_cli.specs.declared.verdicts.Wanted.{Wanted}
-use Rattle.dp_cli.specs.declared.verdicts.Wanted.TheVariants as wanted
-use Rattle.dp_cli.specs.declared.verdicts.counted.Counted.{Counted}
-use Rattle.dp_cli.specs.declared.verdicts.show.Form.{Form}
+use Rattle.dp_cli.specs.declared.error.Fault.{Fault}
+use Rattle.dp_cli.specs.declared.error.Fault.TheVariants as fault
+use Rattle.dp_cli.specs.declared.explain.Wanted.{Wanted}
+use Rattle.dp_cli.specs.declared.explain.Wanted.TheVariants as wanted
+use Rattle.dp_cli.specs.declared.explain.counted.Counted.{Counted}
+use Rattle.dp_cli.specs.declared.explain.show.Form.{Form}
 use Rattle.dp_cli.specs.Judging.{IsSaid, PrintsVerdict, PrintsForm, PrintsWanted, PrintsNode, misfit_fault, misfit_in}
 use Rattle.dp_cli.specs.Judging.{IsJudged, PrintsAll, PrintsAt, PrintsTextFault, PrintsPipeline}
 use Rattle.dp_cli.specs.Pipelines.{fault_of, IsUnloadedReported}

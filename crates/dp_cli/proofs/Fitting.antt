@@ -5,7 +5,7 @@ use Rattle.dp_model.specs.Environments.{Environment}
 use Rattle.dp_pipe.specs.declared.error.PipeError.{PipeError}
 use Rattle.dp_pipe.specs.declared.error.PipeError.TheVariants.{Memory}
 use Rattle.dp_pipe.specs.Files.{FileMap}
-use Rattle.dp_cli.specs.declared.unfit.Given.{Given}
+use Rattle.dp_cli.specs.declared.certificate_help.Given.{Given}
 use Rattle.dp_cli.specs.Judging.{IsUnjudged}
 use Rattle.dp_cli.specs.Unfit.{IsFitWritten, given_node}
 

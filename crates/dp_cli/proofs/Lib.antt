@@ -10,6 +10,7 @@ pub mod Numbered
 pub mod Replacing
 pub mod Blocks
 pub mod Commands
+pub mod Entering
 pub mod Playing
 pub mod Closing
 pub mod PrintedNodes

@@ -4,7 +4,7 @@ use Rattle.std.specs.Prelude.{IfSome, MatchOption}
 use Rattle.dp_pipe.specs.declared.config.Config.{Config}
 use Rattle.dp_pipe.specs.Files.{FileMap}
 use Rattle.dp_pipe.specs.Nodes.{Node}
-use Rattle.dp_cli.specs.declared.verdicts.Wanted.{Wanted}
+use Rattle.dp_cli.specs.declared.explain.Wanted.{Wanted}
 use Rattle.dp_cli.specs.Judging.{PrintsNode, PrintsNth, WasPrinted, AcceptedAt, RefusedAt, EndedAt, PrintsAll, node_in, entry_at}
 use Rattle.dp_cli.specs.Printing.{Paper, Says}
 use Rattle.dp_cli.proofs.Endings.{IsZeroOne, node_says, says_nothing, says_more}

@@ -9,7 +9,7 @@ use Rattle.dp_pipe.specs.declared.nodes.How.TheVariants.{Given}
 use Rattle.dp_pipe.specs.Loads.{IsLoadedFrom}
 use Rattle.dp_pipe.specs.Pipelines.{Plan}
 use Rattle.dp_cli.specs.declared.counting.Counting.{Counting}
-use Rattle.dp_cli.specs.declared.fault.Fault.{Fault}
+use Rattle.dp_cli.specs.declared.error.Fault.{Fault}
 use Rattle.dp_cli.specs.declared.run.capture_errors.CaptureNames.{CaptureNames}
 use Rattle.dp_cli.specs.declared.run.guarded.Guarded.{Guarded}
 use Rattle.dp_cli.specs.declared.run.input_file.InputSource.{InputSource}

@@ -9,8 +9,8 @@ use Rattle.dp_pipe.specs.declared.nodes.How.{How}
 use Rattle.dp_pipe.specs.Files.{FileMap}
 use Rattle.dp_pipe.specs.Loads.{IsUnloaded}
 use Rattle.serde_json.specs.Data.{Data, item, no_items}
-use Rattle.dp_cli.specs.declared.fault.Fault.{Fault}
-use Rattle.dp_cli.specs.declared.fault.Fault.TheVariants as fault
+use Rattle.dp_cli.specs.declared.error.Fault.{Fault}
+use Rattle.dp_cli.specs.declared.error.Fault.TheVariants as fault
 use Rattle.dp_cli.specs.Documents.{PrintsDocument, view_of_fault}
 use Rattle.dp_cli.specs.Printing.{IsEnded, Paper, PrintsFault}
 use Rattle.dp_cli.specs.Statuses.{status_of_fault}

@@ -20,8 +20,8 @@ use Rattle.dp_pipe.specs.Files.{FileMap}
 use Rattle.dp_pipe.specs.Nodes.{Node}
 use Rattle.serde_json.specs.Data.{Data}
 use Rattle.serde_json.specs.View.{items_of}
-use Rattle.dp_cli.specs.declared.fault.Fault.{Fault}
-use Rattle.dp_cli.specs.declared.fault.Fault.TheVariants as fault
+use Rattle.dp_cli.specs.declared.error.Fault.{Fault}
+use Rattle.dp_cli.specs.declared.error.Fault.TheVariants as fault
 use Rattle.dp_cli.specs.DocumentedLoads.{IsUnloadedDocumented, fault_for}
 use Rattle.dp_cli.specs.Documents.{PrintsDocument, view_of_fault}
 use Rattle.dp_cli.specs.Judging.{IsJudged, IsUnjudged, entry_at, node_in}

@@ -14,7 +14,7 @@ use Rattle.serde_json.specs.Data.{Data}
 use Rattle.serde_json.specs.View.{view}
 use Rattle.serde_json.specs.declared.value.Value.{Value}
 use Rattle.dp_cli.specs.declared.counting.Counting.{Counting}
-use Rattle.dp_cli.specs.declared.fault.Fault.{Fault}
+use Rattle.dp_cli.specs.declared.error.Fault.{Fault}
 use Rattle.dp_cli.specs.declared.error_text.Finding.{Finding}
 use Rattle.dp_cli.specs.declared.run.closing.Flushed.{Flushed}
 use Rattle.dp_cli.specs.declared.run.capture_errors.CaptureNames.{CaptureNames}

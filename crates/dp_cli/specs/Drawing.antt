@@ -3,8 +3,8 @@ use Rattle.std.specs.Prelude.{◌≡◌, ◌≢◌, ℕ, ◌⊎◌, List, Option
 use Rattle.dp_pipe.specs.declared.config.Config.{Config}
 use Rattle.dp_pipe.specs.Config.{IsConfigOf}
 use Rattle.dp_pipe.specs.Files.{FileMap}
-use Rattle.dp_cli.specs.declared.verdicts.Wanted.TheVariants as wanted
-use Rattle.dp_cli.specs.declared.verdicts.show.Form.TheVariants as form
+use Rattle.dp_cli.specs.declared.explain.Wanted.TheVariants as wanted
+use Rattle.dp_cli.specs.declared.explain.show.Form.TheVariants as form
 use Rattle.dp_cli.specs.Judging.{PrintsAll, IsSaid, PrintsTextFault}
 use Rattle.dp_cli.specs.Printing.{Paper}
 

@@ -10,7 +10,7 @@ use Rattle.dp_pipe.specs.Files.{FileMap}
 use Rattle.dp_pipe.specs.Nodes.{Node, IsProgramOf, Fails}
 use Rattle.dp_check.specs.Faults.{IsWith}
 use Rattle.dp_pipe.specs.Pipelines.{Plan}
-use Rattle.dp_cli.specs.declared.fault.Fault.TheVariants as fault
+use Rattle.dp_cli.specs.declared.error.Fault.TheVariants as fault
 use Rattle.dp_cli.specs.Pipelines.{node_at, IsUnloadedReported}
 use Rattle.dp_cli.specs.Printing.{Paper, Prints, PrintsFault, IsEnded}
 use Rattle.dp_cli.specs.Statuses.{no_node_line}

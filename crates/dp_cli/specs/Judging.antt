@@ -23,14 +23,14 @@ use Rattle.dp_pipe.specs.declared.nodes.How.TheVariants.{Given}
 use Rattle.dp_pipe.specs.Surveys.{files_at}
 use Rattle.dp_pipe.specs.Nodes.{Node, node_of, IsCertOf, IsMissing, IsBadCert, IsProgramOf, HasNoProgram}
 use Rattle.dp_cli.specs.declared.error_text.Reason.TheVariants.{OtherCounts}
-use Rattle.dp_cli.specs.declared.fault.Fault.{Fault}
-use Rattle.dp_cli.specs.declared.fault.Fault.TheVariants as fault
-use Rattle.dp_cli.specs.declared.verdicts.node_source.Asked.{Asked}
-use Rattle.dp_cli.specs.declared.verdicts.Wanted.{Wanted}
-use Rattle.dp_cli.specs.declared.verdicts.Wanted.TheVariants as wanted
-use Rattle.dp_cli.specs.declared.verdicts.counted.Counted.{Counted}
-use Rattle.dp_cli.specs.declared.verdicts.show.Form.{Form}
-use Rattle.dp_cli.specs.declared.verdicts.show.Form.TheVariants as form
+use Rattle.dp_cli.specs.declared.error.Fault.{Fault}
+use Rattle.dp_cli.specs.declared.error.Fault.TheVariants as fault
+use Rattle.dp_cli.specs.declared.explain.node_source.Asked.{Asked}
+use Rattle.dp_cli.specs.declared.explain.Wanted.{Wanted}
+use Rattle.dp_cli.specs.declared.explain.Wanted.TheVariants as wanted
+use Rattle.dp_cli.specs.declared.explain.counted.Counted.{Counted}
+use Rattle.dp_cli.specs.declared.explain.show.Form.{Form}
+use Rattle.dp_cli.specs.declared.explain.show.Form.TheVariants as form
 use Rattle.dp_cli.specs.Pipelines.{IsUnloadedReported}
 use Rattle.dp_cli.specs.Printing.{Paper, Prints, Says, IsEnded, IsFaultEnded}
 use Rattle.dp_cli.specs.Statuses.{no_node_line}

@@ -16,6 +16,7 @@ pub mod Inputs
 pub mod Judging
 pub mod LinkTypes
 pub mod LoadedFiles
+pub mod MissingCounts
 pub mod Names
 pub mod OpenedRuns
 pub mod Operands

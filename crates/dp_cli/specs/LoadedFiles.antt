@@ -9,10 +9,10 @@ use Rattle.dp_pipe.specs.declared.nodes.How.TheVariants.{Given, Inferred}
 use Rattle.dp_pipe.specs.Loads.{IsLoadedFrom}
 use Rattle.dp_pipe.specs.Nodes.{Node}
 use Rattle.dp_pipe.specs.Pipelines.{Plan}
-use Rattle.dp_cli.specs.declared.verdicts.Wanted.{Wanted}
-use Rattle.dp_cli.specs.declared.verdicts.Wanted.TheVariants.{Program, Reason}
-use Rattle.dp_cli.specs.declared.verdicts.counted.Counted.{Counted as CountsOf}
-use Rattle.dp_cli.specs.declared.verdicts.show.Form.TheVariants.{Counted, Graph, Listing}
+use Rattle.dp_cli.specs.declared.explain.Wanted.{Wanted}
+use Rattle.dp_cli.specs.declared.explain.Wanted.TheVariants.{Program, Reason}
+use Rattle.dp_cli.specs.declared.explain.counted.Counted.{Counted as CountsOf}
+use Rattle.dp_cli.specs.declared.explain.show.Form.TheVariants.{Counted, Graph, Listing}
 use Rattle.dp_cli.specs.DocumentedVerdicts.{AreAcceptedDocumented, IsNodeDocumented, IsPipelineDocumented}
 use Rattle.dp_cli.specs.Drawing.{IsPipelineDrawn}
 use Rattle.dp_cli.specs.Inferring.{IsNodeInferred, PrintsInferred, by_itself}

@@ -9,7 +9,7 @@ use Rattle.clap.specs.declared.parser.matches.Found.{Found}
 use Rattle.clap.specs.Matches.{first_value, one_text}
 use Rattle.dp_model.specs.declared.env.Entry.{Entry}
 use Rattle.dp_model.specs.declared.env.Entry.TheVariants.{Port, Ring}
-use Rattle.dp_pipe.specs.declared.forwarding.TheConstants.{MAX_TURNS}
+use Rattle.dp_pipe.specs.declared.forwarding.TheConstants.{MAX_RUN_TURNS}
 
 -- the number of a node among its kind
 abbrev pub number_of : Entry → ℕ
@@ -28,7 +28,7 @@ number_in word = if list_all is_ascii_digit word && (nat_lt 0 (length word) && n
 
 -- a word as a number of records: from 1 to the maximum number of turns of a run
 abbrev pub records_in : List ℕ → Option ℕ
-records_in word = option_and_then (λ n. if nat_lt 0 n && nat_le n MAX_TURNS then Some n else None) (number_in word)
+records_in word = option_and_then (λ n. if nat_lt 0 n && nat_le n MAX_RUN_TURNS then Some n else None) (number_in word)
 
 -- a word as a port: below 8
 abbrev pub port_in : List ℕ → Option ℕ

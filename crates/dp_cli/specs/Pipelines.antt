@@ -11,8 +11,8 @@ use Rattle.dp_pipe.specs.Files.{FileMap}
 use Rattle.dp_pipe.specs.Loads.{IsUnloaded}
 use Rattle.dp_pipe.specs.Pipelines.{Plan}
 use Rattle.dp_pipe.specs.Causes.{node_text}
-use Rattle.dp_cli.specs.declared.fault.Fault.{Fault}
-use Rattle.dp_cli.specs.declared.fault.Fault.TheVariants as fault
+use Rattle.dp_cli.specs.declared.error.Fault.{Fault}
+use Rattle.dp_cli.specs.declared.error.Fault.TheVariants as fault
 use Rattle.dp_cli.specs.Printing.{Paper, Prints, PrintsFault, IsEnded}
 use Rattle.dp_cli.specs.Statuses.{refusal_line, status_of_fault}
 

@@ -2,7 +2,7 @@
 use Rattle.std.specs.Prelude.{◌≡◌, ℕ, ◌⊎◌, List, [], ◌∷◌, ◌++◌, Bool, true, Option, Result, MatchResult, IfSome}
 use Rattle.std.specs.Io.KnownBytes.{Appends}
 use Rattle.dp_cli.specs.declared.printer.Printer.{Printer}
-use Rattle.dp_cli.specs.declared.fault.Fault.{Fault}
+use Rattle.dp_cli.specs.declared.error.Fault.{Fault}
 use Rattle.dp_cli.specs.Statuses.{text_of_fault, finding_of, lines_after, status_of_fault, PrintsMemory}
 
 -- a printer notes whether its writer failed

@@ -18,8 +18,8 @@ use Rattle.dp_pipe.specs.Devices.{Device, transfer}
 use Rattle.dp_pipe.specs.Headline.{Forwarded, StoppedBy}
 use Rattle.dp_pipe.specs.Running.{answer_of, report_of}
 use Rattle.dp_pipe.specs.Watched.{WatchesRun}
-use Rattle.dp_cli.specs.declared.fault.Fault.{Fault}
-use Rattle.dp_cli.specs.declared.fault.Fault.TheVariants as fault
+use Rattle.dp_cli.specs.declared.error.Fault.{Fault}
+use Rattle.dp_cli.specs.declared.error.Fault.TheVariants as fault
 use Rattle.dp_cli.specs.declared.error_text.Finding.{Finding}
 use Rattle.dp_cli.specs.declared.error_text.Reason.TheVariants.{Capture}
 use Rattle.dp_cli.specs.declared.run.closing.Flushed.{Flushed}

@@ -9,7 +9,7 @@ use Rattle.dp_heap.specs.declared.elements.State.TheVariants.{Free}
 use Rattle.dp_heap.specs.declared.error.HeapError.{HeapError}
 use Rattle.dp_heap.specs.Elements.{rounded, alignment, Taken, merged}
 use Rattle.dp_heap.specs.Refusals.{IsAlign, IsRefused}
-use Rattle.dp_cli.specs.declared.fault.Fault.TheVariants as fault
+use Rattle.dp_cli.specs.declared.error.Fault.TheVariants as fault
 use Rattle.dp_cli.specs.declared.mem.Ending.{Ending}
 use Rattle.dp_cli.specs.declared.mem.Ending.TheVariants as ending
 use Rattle.dp_cli.specs.declared.mem.Held.{Held}

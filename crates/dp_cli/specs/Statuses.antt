@@ -6,8 +6,8 @@ use Rattle.dp_pcap.specs.Causes.{number_of}
 use Rattle.dp_pipe.specs.Causes.{node_text, text_of}
 use Rattle.dp_model.specs.declared.env.Entry.{Entry}
 use Rattle.dp_pipe.specs.declared.error.PipeError.{PipeError}
-use Rattle.dp_cli.specs.declared.fault.Fault.{Fault}
-use Rattle.dp_cli.specs.declared.fault.Fault.TheVariants as fault
+use Rattle.dp_cli.specs.declared.error.Fault.{Fault}
+use Rattle.dp_cli.specs.declared.error.Fault.TheVariants as fault
 use Rattle.dp_cli.specs.declared.files.ReadFault.{ReadFault}
 use Rattle.dp_cli.specs.declared.files.ReadFault.TheVariants as read
 use Rattle.dp_cli.specs.declared.error_text.Finding.{Finding}

@@ -16,11 +16,11 @@ use Rattle.dp_pipe.specs.declared.error.PipeError.{PipeError}
 use Rattle.dp_pipe.specs.declared.error.PipeError.TheVariants.{Memory}
 use Rattle.dp_pipe.specs.Files.{FileMap}
 use Rattle.dp_pipe.specs.Nodes.{Node}
-use Rattle.dp_cli.specs.declared.unfit.Given.{Given}
-use Rattle.dp_cli.specs.declared.unfit.NodePlace.{NodePlace}
-use Rattle.dp_cli.specs.declared.unfit.NodePlace.TheVariants.{One, In}
-use Rattle.dp_cli.specs.declared.unfit.Remedy.{Remedy}
-use Rattle.dp_cli.specs.declared.unfit.Remedy.TheVariants.{Infer, Explain}
+use Rattle.dp_cli.specs.declared.certificate_help.Given.{Given}
+use Rattle.dp_cli.specs.declared.certificate_help.NodePlace.{NodePlace}
+use Rattle.dp_cli.specs.declared.certificate_help.NodePlace.TheVariants.{One, In}
+use Rattle.dp_cli.specs.declared.certificate_help.Remedy.{Remedy}
+use Rattle.dp_cli.specs.declared.certificate_help.Remedy.TheVariants.{Infer, Explain}
 use Rattle.dp_cli.specs.Judging.{IsJudged, IsUnjudged}
 
 -- the node, with its certificate

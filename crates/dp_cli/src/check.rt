@@ -6,7 +6,7 @@ ghost use Rattle.dp_cli.specs.Printing.{paper};
 pub mod files;
 pub mod sizes;
 
-use crate::fault::{DONE, status_unwritten};
+use crate::error::{DONE, status_unwritten};
 use crate::printer::Printer;
 use dp_pipe::{NodeName, Pipeline};
 use std::io::Write;

@@ -5,9 +5,9 @@ ghost use Rattle.dp_cli.specs.Printing.{paper};
 
 pub mod files;
 
-use crate::fault::DONE;
+use crate::error::DONE;
+use crate::explain::report::{report_memory, say};
 use crate::printer::Printer;
-use crate::verdicts::saying::{report_memory, say};
 use dp_compile::Module;
 use dp_engine::Known;
 use dp_pipe::{NodeName, Pipeline};

@@ -18,7 +18,7 @@ pub mod programs;
 use crate::call::Call;
 use crate::counting::programs::{ProgramText, sources_of};
 use crate::documents::runs::document_flushed;
-use crate::fault::{MEMORY, status_unwritten};
+use crate::error::{MEMORY, status_unwritten};
 use crate::printer::Printer;
 use crate::run::closing::Flushed;
 use crate::run::inlet::Inlet;

@@ -1,10 +1,10 @@
 //! Details of a fault in the texts of a pipeline: the line at fault and a cure, printed after the line of the fault.
 
 use crate::call::Call;
+use crate::certificate_help::{Given, NodePlace, write_unfit};
 use crate::files::{self, ReadFault};
 use crate::run::same_file::{ReadFile, plain_file};
 use crate::single_port::Naming;
-use crate::unfit::{Given, NodePlace, write_unfit};
 use dp_explain::{write_certificate_fault, write_pipeline_fault, write_program_fault};
 use dp_lang::assemble;
 use dp_model::Entry;

@@ -15,7 +15,7 @@ pub mod runs;
 pub mod verdicts;
 
 use crate::call::Call;
-use crate::fault::{FAULT, Fault, MEMORY, print_fault, report_fault, status_unwritten};
+use crate::error::{FAULT, Fault, MEMORY, print_fault, report_fault, status_unwritten};
 use crate::printer::Printer;
 use dp_json::{FaultText, fault_document, line_of};
 use serde_json::Value;

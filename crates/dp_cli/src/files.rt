@@ -3,8 +3,8 @@
 ghost use Rattle.std.specs.Prelude.{◌≡◌, ◌≢◌};
 ghost use Rattle.dp_cli.specs.Statuses.{finding_of, read_finding, read_text, text_of_fault};
 
+use crate::error::Fault;
 use crate::error_text::Reason;
-use crate::fault::Fault;
 use dp_pipe::MAX_FILE;
 use std::alloc::{AllocError, Global};
 use std::io::{ErrorKind, Read};

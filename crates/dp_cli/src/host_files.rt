@@ -3,8 +3,8 @@
 ghost use Rattle.std.specs.Prelude.{◌≡◌, ◌≢◌};
 
 use crate::counting::programs::Kept;
+use crate::error::FAULT;
 use crate::error_text::{Finding, Reason, write_finding};
-use crate::fault::FAULT;
 use crate::files::{self, ReadFault};
 use crate::run::same_file::{ReadFile, note_read};
 use crate::single_port::Naming;

@@ -8,7 +8,7 @@ ghost use Rattle.dp_cli.specs.Printing.{paper};
 pub mod certifying;
 pub mod files;
 
-use crate::fault::report_no_node;
+use crate::error::report_no_node;
 use crate::printer::Printer;
 use certifying::print_cert;
 use dp_check::Checked;

@@ -16,7 +16,7 @@ use crate::counting::programs::{ProgramText, programs_of};
 use crate::details::write_details;
 use crate::documents::end_with;
 use crate::documents::loads::load_or_document;
-use crate::fault::{FAULT, Fault, REFUSED, report_fault, status_unwritten};
+use crate::error::{FAULT, Fault, REFUSED, report_fault, status_unwritten};
 use crate::files;
 use crate::host_files::HostFiles;
 use crate::printer::Printer;

@@ -17,7 +17,7 @@ ghost use Rattle.dp_cli.specs.Statuses.{IsExitStatus};
 pub mod files;
 pub mod script;
 
-use crate::fault::{DONE, FAULT, Fault, MEMORY, report_fault, report_line};
+use crate::error::{DONE, FAULT, Fault, MEMORY, report_fault, report_line};
 use crate::mem::script::{Command, command_of};
 use crate::printer::Printer;
 use dp_heap::{Element, Heap, HeapError, State};

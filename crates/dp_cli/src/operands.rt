@@ -12,7 +12,7 @@ ghost use Rattle.dp_cli.specs.Replacing.{row_of};
 
 use crate::run::replaced::{Place, Replaced};
 use dp_model::Entry;
-use dp_pipe::MAX_TURNS;
+use dp_pipe::MAX_RUN_TURNS;
 use std::alloc::{AllocError, Global};
 
 /// Parses a word as a node: `port` or `ring`, and one digit.
@@ -45,13 +45,13 @@ fn number_in(word: &str) -> Option<u64>
     }
 }
 
-/// Parses a word as a number of records, from 1 to [`MAX_TURNS`].
+/// Parses a word as a number of records, from 1 to [`MAX_RUN_TURNS`].
 pub fn records_in(word: &str) -> Option<u32>
     ensures number { result ≡ spec.records_in word.now }
-    ensures range { IfSome result (λ records. (1 ≤ records) × (records ≤ MAX_TURNS)) }
+    ensures range { IfSome result (λ records. (1 ≤ records) × (records ≤ MAX_RUN_TURNS)) }
 {
     match number_in(word) {
-        Some(number @ 1..=MAX_TURNS) => Some(number as u32),
+        Some(number @ 1..=MAX_RUN_TURNS) => Some(number as u32),
         _ => None,
     }
 }

@@ -1,17 +1,18 @@
 //! The program `dpv`: finds the command, runs it, and returns the exit status.
 
-ghost use Rattle.std.specs.Prelude.{◌≡◌, ◌≢◌, ◌⊎◌, IfErr, IfOk, OnErr};
+ghost use Rattle.std.specs.Prelude.{◌≡◌, ◌≢◌, ◌⊎◌, IfErr, IfOk, OnErr, map, string_bytes};
 ghost use Rattle.std.specs.declared.io.ErrorKind.TheVariants.{OutOfMemory};
-ghost use Rattle.clap.specs.Matches.{found_of};
+ghost use Rattle.clap.specs.Words.{found_of, kind_of, subcommand_rows_of};
 ghost use Rattle.dp_cli.specs.Printing.{EndsWithUsage, IsFaultEnded, paper};
 ghost use Rattle.dp_cli.specs.Refusals.{EndsAtWords, EndsRefused};
-ghost use Rattle.dp_cli.specs.Program.{EndsHelped, EndsMatches, EndsProgram, EndsWords, JudgesCommand, RunsCommand};
+ghost use Rattle.dp_cli.specs.Program.{EndsGiven, EndsHelped, EndsMatches, EndsProgram, EndsWords, JudgesCommand, RunsCommand};
 ghost use Rattle.dp_cli.specs.Statuses.{unread_words};
 
 use crate::call::{Call, HostOutput, Streams, TextOutput};
 use crate::check::files::check_file;
 use crate::compile::files::compile_file;
-use crate::fault::{DONE, FAULT, Fault, Status, USAGE, report_fault, report_usage};
+use crate::error::{DONE, FAULT, Fault, Status, USAGE, report_fault, report_usage};
+use crate::explain::files::{explain_file, explain_one, show_file, show_one};
 use crate::files::fill_streams;
 use crate::infer::files::{infer_file, infer_program};
 use crate::mem::files::run_script;
@@ -20,7 +21,6 @@ use crate::run::files::{run_file, run_one_port};
 use crate::run::progress::ToStderr;
 use crate::single_port::ONE_PORT;
 use crate::trace::files::trace_file;
-use crate::verdicts::files::{explain_file, explain_one, show_file, show_one};
 use clap::ArgMatches;
 use clap::error::ErrorKind;
 use dp_engine::{Known, Nothing};
@@ -43,7 +43,9 @@ fn wrong_words<R: Print + Eprint, O: Write, E: Write>(
     out: &mut Printer<O>,
     err: &mut Printer<E>,
 ) -> u8
-    ensures { EndsHelped (paper O.contents out.old) (paper O.contents out.new) (paper E.contents err.old) (paper E.contents err.new) result }
+    ensures ended { EndsHelped (paper O.contents out.old) (paper O.contents out.new) (paper E.contents err.old) (paper E.contents err.new) result }
+    ensures memory { kind_of error.now ≡ ErrorKind.OutOfMemory → IsFaultEnded Fault.Memory (paper O.contents out.old) (paper O.contents out.new)
+        (paper E.contents err.old) (paper E.contents err.new) result }
 {
     if error.kind() == ErrorKind::OutOfMemory {
         return report_fault(Fault::Memory, out, err);
@@ -114,8 +116,8 @@ fn run_matches<'a, K: Known, R: Files, O: TextOutput, E: Write>(
     out: &mut Printer<O>,
     err: &mut Printer<E>,
 ) -> u8
-    ensures { EndsMatches R.File.remaining ONE_PORT.now (paper O.contents out.old) (paper O.contents out.new) (paper E.contents err.old)
-        (paper E.contents err.new) result }
+    ensures { EndsMatches R.File.remaining ONE_PORT.now (subcommand_rows_of matches.now) (paper O.contents out.old) (paper O.contents out.new)
+        (paper E.contents err.old) (paper E.contents err.new) result }
 {
     let Some((name, words)) = matches.subcommand() else {
         return report_usage("error: there is no command", out, err);
@@ -150,6 +152,39 @@ fn unread_words<O: Write, E: Write>(
     report_usage("error: an argument is not UTF-8", out, err)
 }
 
+/// Runs the command that these words name, of which the first is the name of the program, and returns the status.
+///
+/// # Errors
+///
+/// `AllocError` if there is no memory for the commands that the words are compared with.
+fn run_given<'a, K: Known, R: AllocGlobal + Files + Print + Eprint, O: TextOutput, E: Write>(
+    rt: &'a R,
+    words: &'a [String],
+    streams: Streams,
+    reports_interpreted: bool,
+    out: &mut Printer<O>,
+    err: &mut Printer<E>,
+) -> Result<u8, AllocError>
+    ensures ends { IfOk result (EndsGiven R.File.remaining ONE_PORT.now (map string_bytes words.now) (paper O.contents out.old) (paper O.contents out.new)
+        (paper E.contents err.old) (paper E.contents err.new)) }
+    ensures silent { OnErr result ((out.new ≡ out.old) × (err.new ≡ err.old)) }
+{
+    let alloc = rt.alloc();
+    let command = command(alloc)?;
+    match command.try_get_matches_from(words) {
+        Ok(matches) => Ok(run_matches::<K, R, O, E>(
+            rt,
+            alloc,
+            &matches,
+            streams,
+            reports_interpreted,
+            out,
+            err,
+        )),
+        Err(error) => Ok(wrong_words(rt, &error, out, err)),
+    }
+}
+
 /// Runs the command that the words of the command line name, and returns the status.
 ///
 /// # Errors
@@ -175,19 +210,8 @@ fn run_words<K: Known, R: Env + AllocGlobal + Files + Print + Eprint, O: TextOut
     let mut words = Vec::new(alloc);
     words.push(String::from_str(alloc, "dpv")?)?;
     words.extend(given.skip(1))?;
-    let command = command(alloc)?;
-    match command.try_get_matches_from(words.as_slice()) {
-        Ok(matches) => Ok(run_matches::<K, R, O, E>(
-            rt,
-            alloc,
-            &matches,
-            streams,
-            reports_interpreted,
-            out,
-            err,
-        )),
-        Err(error) => Ok(wrong_words(rt, &error, out, err)),
-    }
+    let words = words.as_slice();
+    run_given::<K, R, O, E>(rt, words, streams, reports_interpreted, out, err)
 }
 
 /// Runs the command of the host's command line with these printers, and returns the status.

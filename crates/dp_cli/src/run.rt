@@ -27,8 +27,8 @@ pub mod same_file;
 pub mod truncated;
 pub mod watched;
 
+use crate::error::{DONE, FAULT, Fault, MEMORY, print_fault, status_unwritten};
 use crate::error_text::{Finding, Reason};
-use crate::fault::{DONE, FAULT, Fault, MEMORY, print_fault, status_unwritten};
 use crate::printer::Printer;
 use crate::run::capture_errors::{CaptureNames, finding_of};
 use crate::run::closing::{Flushed, flush_outputs};

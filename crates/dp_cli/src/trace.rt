@@ -6,25 +6,25 @@ ghost use Rattle.dp_pipe.specs.Devices.{seen};
 ghost use Rattle.dp_cli.specs.Printing.{paper};
 ghost use Rattle.dp_cli.specs.Tracing.{IsTraceReported, PrintsTrace, IsTraced};
 
-pub mod became;
 pub mod files;
+pub mod outcome;
 pub mod snapshot;
 pub mod tracer;
 pub mod written;
 
+use crate::error::{FAULT, status_unwritten};
 use crate::error_text::Finding;
-use crate::fault::{FAULT, status_unwritten};
 use crate::printer::Printer;
 use crate::run::capture_errors::CaptureNames;
 use crate::run::inlet::Inlet;
 use crate::run::{found_of, print_stop, status_of};
-use crate::trace::became::Picked;
+use crate::trace::outcome::Picked;
 use crate::trace::tracer::{Listing, NodeListing, Printing};
 use dp_counts::NodeSource;
 use dp_engine::{Known, need};
 use dp_lang::print;
 use dp_pcap::Feed;
-use dp_pipe::{MAX_TURNS, Pipeline, RunCause, Traced, trace};
+use dp_pipe::{MAX_RUN_TURNS, Pipeline, RunCause, Traced, trace};
 use dp_words::instructions;
 use std::alloc::{AllocError, Global};
 use std::io::{self, Write};
@@ -105,7 +105,7 @@ fn print_trace<K: Known, R: Feed, O: Write>(
 ) -> Result<TracedRun, AllocError>
     requires readers { length ins.old ≡ length pipeline.env.ports }
     requires pattern { IsAscending 0 pattern.items }
-    requires limit { which.records ≤ MAX_TURNS }
+    requires limit { which.records ≤ MAX_RUN_TURNS }
     ensures traced { IfOk result (λ run. IsTraced pipeline pattern.items which.port which.records (map (seen R.remaining R.calls) ins.old)
         (map (seen R.remaining R.calls) ins.new) run.answer) }
     ensures untouched { IsErr result → ins.new ≡ ins.old }
@@ -138,7 +138,7 @@ fn traced<K: Known, R: Feed, O: Write>(
 ) -> TracedRun
     requires readers { length ins.old ≡ length pipeline.env.ports }
     requires pattern { IsAscending 0 pattern.items }
-    requires limit { which.records ≤ MAX_TURNS }
+    requires limit { which.records ≤ MAX_RUN_TURNS }
     ensures { IsTraced pipeline pattern.items which.port which.records (map (seen R.remaining R.calls) ins.old)
         (map (seen R.remaining R.calls) ins.new) result.answer }
 {
@@ -191,7 +191,7 @@ pub fn trace_line<K: Known, I: Inlet, O: Write, E: Write>(
 ) -> u8
     requires readers { length ins.old ≡ length pipeline.env.ports }
     requires pattern { IsAscending 0 pattern.items }
-    requires limit { which.records ≤ MAX_TURNS }
+    requires limit { which.records ≤ MAX_RUN_TURNS }
     ensures { PrintsTrace pipeline pattern.items which.port which.records (map (seen I.remaining I.calls) ins.old)
         (map (seen I.remaining I.calls) ins.new) names.now (map I.saw ins.new) (paper O.contents out.old) (paper O.contents out.new)
         (paper E.contents err.old) (paper E.contents err.new) result }

@@ -5,9 +5,9 @@ use std::fmt;
 /// A member of a document: of the document itself, of a node, or of an instruction of a node, each by its index from 0.
 #[derive(Clone, Copy, Debug, PartialEq, Eq)]
 pub struct Member {
-    /// The index of the node, if the member is inside of one.
+    /// The index of the node, if the member is inside one.
     pub node: Option<usize>,
-    /// The index of the instruction, if the member is inside of one.
+    /// The index of the instruction, if the member is inside one.
     pub instruction: Option<usize>,
     /// Its name.
     pub name: &'static str,

@@ -5,7 +5,7 @@
 //! writes the lines that follow the line of the fault. Its error is the writer's.
 //!
 //! What callers must not assume: that anything is written. If memory runs out, or the fault is not in the text alone, there is no line. Nothing
-//! depends on the result, and no contract has its wording. A text that was accepted, or one that the fault is not of, gets lines that mean nothing.
+//! depends on the result, and no contract has its wording. For a text that was accepted, or the fault of another text, the lines mean nothing.
 #![tactic(auto)]
 
 mod nearest;

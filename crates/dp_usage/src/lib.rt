@@ -8,24 +8,25 @@
 //! and read there.
 #![tactic(auto)]
 
+ghost use Rattle.std.specs.Prelude.{◌∷◌, [], IfOk, codes};
+ghost use Rattle.clap.specs.Words.{App, Shape, new_rule};
+ghost use Rattle.dp_usage.specs.Usage as usage;
+ghost use Rattle.dp_usage.specs.Usage.{IsArgument, IsCommand, IsProgram, with_commands, with_rules};
+
 use clap::{Arg, ArgAction, Command};
 use std::alloc::{AllocError, Global};
 
-/// The arguments of `dpv one`, in order: the program, its certificate, the capture to read and the one to write.
-const ONE: [(&str, &str); 4] = [
-    ("NODE", "the node program"),
-    ("CERT", "its certificate"),
-    ("IN", "the capture to read, or - for standard input"),
-    ("OUT", "the capture to write, or - for standard output"),
-];
-
 /// A required operand.
-fn needed<'a>(alloc: Global, name: &'a str, help: &'a str) -> Arg<'a> {
+fn needed<'a>(alloc: Global, name: &'a str, help: &'a str) -> Arg<'a>
+    ensures { IsArgument (usage.needed name.now) result }
+{
     Arg::new(alloc, name).required(true).help(help)
 }
 
 /// An option without a value.
-fn flag<'a>(alloc: Global, name: &'a str, help: &'a str) -> Arg<'a> {
+fn flag<'a>(alloc: Global, name: &'a str, help: &'a str) -> Arg<'a>
+    ensures { IsArgument (usage.flag name.now) result }
+{
     Arg::new(alloc, name)
         .long(name)
         .action(ArgAction::SetTrue)
@@ -33,7 +34,9 @@ fn flag<'a>(alloc: Global, name: &'a str, help: &'a str) -> Arg<'a> {
 }
 
 /// An option with a value.
-fn valued<'a>(alloc: Global, name: &'a str, value: &'a str, help: &'a str) -> Arg<'a> {
+fn valued<'a>(alloc: Global, name: &'a str, value: &'a str, help: &'a str) -> Arg<'a>
+    ensures { IsArgument (usage.valued name.now) result }
+{
     Arg::new(alloc, name)
         .long(name)
         .value_name(value)
@@ -41,88 +44,114 @@ fn valued<'a>(alloc: Global, name: &'a str, value: &'a str, help: &'a str) -> Ar
 }
 
 /// The option `--progress`.
-fn progress<'a>(alloc: Global) -> Arg<'a> {
+fn progress<'a>(alloc: Global) -> Arg<'a>
+    ensures { IsArgument (usage.flag (codes "progress")) result }
+{
     let help = "says on standard error how many records were read, each million and at the end";
     flag(alloc, "progress", help)
 }
 
 /// The option `--counts`.
-fn counts<'a>(alloc: Global) -> Arg<'a> {
+fn counts<'a>(alloc: Global) -> Arg<'a>
+    ensures { IsArgument (usage.flag (codes "counts")) result }
+{
     let help = "prints the programs after the report, with how often each instruction ran";
     flag(alloc, "counts", help)
 }
 
 /// The option `--json`.
-fn json<'a>(alloc: Global) -> Arg<'a> {
+fn json<'a>(alloc: Global) -> Arg<'a>
+    ensures { IsArgument (usage.flag (codes "json")) result }
+{
     let help = "prints one JSON document instead of text";
     flag(alloc, "json", help)
 }
 
 /// The option `-U`.
-fn unbuffered<'a>(alloc: Global) -> Arg<'a> {
+fn unbuffered<'a>(alloc: Global) -> Arg<'a>
+    ensures { IsArgument usage.unbuffered result }
+{
     let help = "writes each record out as soon as it is sent, as for a pipe";
     flag(alloc, "unbuffered", help).short('U')
 }
 
 /// Adds the options of what a run prints, and when it writes.
-fn with_reports<'a>(alloc: Global, run: Command<'a>) -> Result<Command<'a>, AllocError> {
+fn with_reports<'a>(alloc: Global, run: Command<'a>) -> Result<Command<'a>, AllocError>
+    ensures { (app : App) → IsProgram app run.entry → IfOk result (IsProgram (with_rules app usage.reports)) }
+{
     run.arg(counts(alloc))?
         .arg(json(alloc))?
         .arg(progress(alloc))?
         .arg(unbuffered(alloc))
 }
 
-/// `dpv one NODE CERT IN OUT [--counts] [--json] [--progress] [-U]`.
-fn one<'a>(alloc: Global) -> Result<Command<'a>, AllocError> {
-    let about = "Runs one node program on one port, from a capture to a capture";
-    let mut one = Command::new(alloc, "one").about(about);
-    for (name, help) in ONE {
-        one = one.arg(needed(alloc, name, help))?;
-    }
-    with_reports(alloc, one)
-}
-
 /// A command on a pipeline file.
-fn on_pipeline<'a>(
-    alloc: Global,
-    name: &'a str,
-    about: &'a str,
-) -> Result<Command<'a>, AllocError> {
+fn on_pipeline<'a>(alloc: Global, name: &'a str, about: &'a str) -> Result<Command<'a>, AllocError>
+    ensures { IfOk result (IsCommand (usage.on_pipeline name.now [])) }
+{
     let file = needed(alloc, "FILE", "the pipeline file");
     Command::new(alloc, name).about(about).arg(file)
 }
 
 /// The operand WHICH.
-fn needed_which<'a>(alloc: Global) -> Arg<'a> {
+fn needed_which<'a>(alloc: Global) -> Arg<'a>
+    ensures { IsArgument (usage.needed (codes "WHICH")) result }
+{
     let help = "the node: port or ring, and one digit, as port0";
     needed(alloc, "WHICH", help)
 }
 
 /// `dpv infer FILE WHICH`.
-fn infer<'a>(alloc: Global) -> Result<Command<'a>, AllocError> {
+fn infer<'a>(alloc: Global) -> Result<Command<'a>, AllocError>
+    ensures { IfOk result (IsCommand usage.infer) }
+{
     let about = "Prints the certificate of a program of a pipeline, all inferred";
     on_pipeline(alloc, "infer", about)?.arg(needed_which(alloc))
 }
 
 /// A command on one program.
-fn on_program<'a>(alloc: Global, name: &'a str, about: &'a str) -> Result<Command<'a>, AllocError> {
+fn on_program<'a>(alloc: Global, name: &'a str, about: &'a str) -> Result<Command<'a>, AllocError>
+    ensures { IfOk result (IsCommand (usage.on_program name.now [])) }
+{
     let node = needed(alloc, "NODE", "the node program");
     Command::new(alloc, name).about(about).arg(node)
 }
 
 /// `dpv infer-one NODE`.
-fn infer_one<'a>(alloc: Global) -> Result<Command<'a>, AllocError> {
+fn infer_one<'a>(alloc: Global) -> Result<Command<'a>, AllocError>
+    ensures { IfOk result (IsCommand usage.infer_one) }
+{
     let about = "Prints the certificate of one program, inferred for the port of one";
     on_program(alloc, "infer-one", about)
 }
 
+/// `dpv one NODE CERT IN OUT [--counts] [--json] [--progress] [-U]`.
+fn one<'a>(alloc: Global) -> Result<Command<'a>, AllocError>
+    ensures { IfOk result (IsCommand usage.one) }
+{
+    let about = "Runs one node program on one port, from a capture to a capture";
+    let (input, output) = (
+        "the capture to read, or - for standard input",
+        "the capture to write, or - for standard output",
+    );
+    let one = on_program(alloc, "one", about)?
+        .arg(needed(alloc, "CERT", "its certificate"))?
+        .arg(needed(alloc, "IN", input))?
+        .arg(needed(alloc, "OUT", output))?;
+    with_reports(alloc, one)
+}
+
 /// The optional operand CERT.
-fn cert<'a>(alloc: Global) -> Arg<'a> {
+fn cert<'a>(alloc: Global) -> Arg<'a>
+    ensures { IsArgument (new_rule (codes "CERT")) result }
+{
     Arg::new(alloc, "CERT").help("its certificate; else one is inferred")
 }
 
 /// `dpv explain FILE [WHICH] [--json]`.
-fn explain<'a>(alloc: Global) -> Result<Command<'a>, AllocError> {
+fn explain<'a>(alloc: Global) -> Result<Command<'a>, AllocError>
+    ensures { IfOk result (IsCommand usage.explain) }
+{
     let about =
         "Says of the programs of a pipeline why they are refused and what would help; check --sizes says of its region what needs it";
     let help = "the node: port or ring, and one digit, as port0; else all";
@@ -132,7 +161,9 @@ fn explain<'a>(alloc: Global) -> Result<Command<'a>, AllocError> {
 }
 
 /// `dpv explain-one NODE [CERT] [--json]`.
-fn explain_one<'a>(alloc: Global) -> Result<Command<'a>, AllocError> {
+fn explain_one<'a>(alloc: Global) -> Result<Command<'a>, AllocError>
+    ensures { IfOk result (IsCommand usage.explain_one) }
+{
     let about = "Says of one program, on the port of one, why it is refused and what would help";
     on_program(alloc, "explain-one", about)?
         .arg(cert(alloc))?
@@ -140,7 +171,9 @@ fn explain_one<'a>(alloc: Global) -> Result<Command<'a>, AllocError> {
 }
 
 /// The option `--dot`.
-fn dot<'a>(alloc: Global) -> Arg<'a> {
+fn dot<'a>(alloc: Global) -> Arg<'a>
+    ensures { IsArgument (usage.flag (codes "dot")) result }
+{
     flag(
         alloc,
         "dot",
@@ -149,14 +182,18 @@ fn dot<'a>(alloc: Global) -> Arg<'a> {
 }
 
 /// The option `--counts` of `show`.
-fn counts_file<'a>(alloc: Global) -> Arg<'a> {
+fn counts_file<'a>(alloc: Global) -> Arg<'a>
+    ensures { IsArgument (usage.valued (codes "counts")) result }
+{
     let help =
         "with --dot, what run FILE --counts --json printed: how often control went which way";
     valued(alloc, "counts", "COUNTS", help)
 }
 
 /// `dpv show FILE [WHICH] [--dot] [--counts COUNTS]`.
-fn show<'a>(alloc: Global) -> Result<Command<'a>, AllocError> {
+fn show<'a>(alloc: Global) -> Result<Command<'a>, AllocError>
+    ensures { IfOk result (IsCommand usage.show) }
+{
     let about = "Prints a program of a pipeline with what is known before each instruction";
     let help =
         "the node: port or ring, and one digit, as port0; with --dot the pipeline without it";
@@ -167,7 +204,9 @@ fn show<'a>(alloc: Global) -> Result<Command<'a>, AllocError> {
 }
 
 /// `dpv show-one NODE [CERT] [--dot]`.
-fn show_one<'a>(alloc: Global) -> Result<Command<'a>, AllocError> {
+fn show_one<'a>(alloc: Global) -> Result<Command<'a>, AllocError>
+    ensures { IfOk result (IsCommand usage.show_one) }
+{
     let about =
         "Prints one program, on the port of one, with what is known before each instruction";
     on_program(alloc, "show-one", about)?
@@ -176,18 +215,24 @@ fn show_one<'a>(alloc: Global) -> Result<Command<'a>, AllocError> {
 }
 
 /// The option `--refuse`.
-fn refuse<'a>(alloc: Global) -> Arg<'a> {
+fn refuse<'a>(alloc: Global) -> Arg<'a>
+    ensures { IsArgument (usage.valued (codes "refuse")) result }
+{
     let help = "the allocation calls that are refused, as 3 or 1,5,9";
     valued(alloc, "refuse", "LIST", help)
 }
 
 /// An option whose value is a port, and which may be given for several ports.
-fn for_port<'a>(alloc: Global, name: &'a str, value: &'a str, help: &'a str) -> Arg<'a> {
+fn for_port<'a>(alloc: Global, name: &'a str, value: &'a str, help: &'a str) -> Arg<'a>
+    ensures { IsArgument (usage.for_port name.now) result }
+{
     valued(alloc, name, value, help).action(ArgAction::Append)
 }
 
 /// Adds the options that replace the captures of ports.
-fn with_captures<'a>(alloc: Global, run: Command<'a>) -> Result<Command<'a>, AllocError> {
+fn with_captures<'a>(alloc: Global, run: Command<'a>) -> Result<Command<'a>, AllocError>
+    ensures { (app : App) → IsProgram app run.entry → IfOk result (IsProgram (with_rules app usage.captures)) }
+{
     let input = "the capture that a port reads in place of its in; - is standard input";
     let output = "the capture that a port writes in place of its out; - is standard output";
     let (no_in, no_out) = (
@@ -201,7 +246,9 @@ fn with_captures<'a>(alloc: Global, run: Command<'a>) -> Result<Command<'a>, All
 }
 
 /// `dpv run FILE [--in PORT=NAME] [--out PORT=NAME] [--no-in PORT] [--no-out PORT] [--refuse LIST] [--counts] [--json] [--progress] [-U]`.
-fn run<'a>(alloc: Global) -> Result<Command<'a>, AllocError> {
+fn run<'a>(alloc: Global) -> Result<Command<'a>, AllocError>
+    ensures { IfOk result (IsCommand usage.run) }
+{
     let about = "Runs a pipeline, from its captures to its captures";
     let run = on_pipeline(alloc, "run", about)?;
     let run = with_captures(alloc, run)?.arg(refuse(alloc))?;
@@ -209,7 +256,9 @@ fn run<'a>(alloc: Global) -> Result<Command<'a>, AllocError> {
 }
 
 /// Adds the options by which records of a trace are picked.
-fn with_picks<'a>(alloc: Global, trace: Command<'a>) -> Result<Command<'a>, AllocError> {
+fn with_picks<'a>(alloc: Global, trace: Command<'a>) -> Result<Command<'a>, AllocError>
+    ensures { (app : App) → IsProgram app trace.entry → IfOk result (IsProgram (with_rules app usage.picks)) }
+{
     let only = "the records that are printed: sent, freed, refused, cut, or a number from 1 on";
     let instr = "the label, or the number, of an instruction that a printed record came by";
     trace
@@ -218,7 +267,9 @@ fn with_picks<'a>(alloc: Global, trace: Command<'a>) -> Result<Command<'a>, Allo
 }
 
 /// `dpv trace FILE [--records N] [--port P] [--only WHICH] [--instr LABEL] [--refuse LIST]`.
-fn trace<'a>(alloc: Global) -> Result<Command<'a>, AllocError> {
+fn trace<'a>(alloc: Global) -> Result<Command<'a>, AllocError>
+    ensures { IfOk result (IsCommand usage.trace) }
+{
     let about =
         "Prints the first records of a pipeline instruction by instruction, and writes no capture";
     let records = "how many records are traced, from 1 on; else 10, or all with --only or --instr";
@@ -231,7 +282,9 @@ fn trace<'a>(alloc: Global) -> Result<Command<'a>, AllocError> {
 }
 
 /// `dpv mem FILE`.
-fn mem<'a>(alloc: Global) -> Result<Command<'a>, AllocError> {
+fn mem<'a>(alloc: Global) -> Result<Command<'a>, AllocError>
+    ensures { IfOk result (IsCommand usage.mem) }
+{
     let file = needed(alloc, "FILE", "the heap script");
     Command::new(alloc, "mem")
         .about("Runs a heap script")
@@ -239,7 +292,9 @@ fn mem<'a>(alloc: Global) -> Result<Command<'a>, AllocError> {
 }
 
 /// `dpv check FILE [--sizes] [--json]`.
-fn check<'a>(alloc: Global) -> Result<Command<'a>, AllocError> {
+fn check<'a>(alloc: Global) -> Result<Command<'a>, AllocError>
+    ensures { IfOk result (IsCommand usage.check) }
+{
     let help = "prints after the verdicts what each pool, ring and port takes of the region";
     on_pipeline(alloc, "check", "Checks the programs of a pipeline")?
         .arg(flag(alloc, "sizes", help))?
@@ -250,12 +305,17 @@ fn check<'a>(alloc: Global) -> Result<Command<'a>, AllocError> {
 fn with<'a>(
     dpv: Command<'a>,
     made: Result<Command<'a>, AllocError>,
-) -> Result<Command<'a>, AllocError> {
+) -> Result<Command<'a>, AllocError>
+    ensures { (app : App) (shape : Shape) → IsProgram app dpv.entry → IfOk made.entry (IsCommand shape)
+        → IfOk result (IsProgram (with_commands app (shape ∷ []))) }
+{
     dpv.subcommand(made?)
 }
 
 /// Adds the commands that judge one program, or all of a pipeline.
-fn with_judging<'a>(alloc: Global, dpv: Command<'a>) -> Result<Command<'a>, AllocError> {
+fn with_judging<'a>(alloc: Global, dpv: Command<'a>) -> Result<Command<'a>, AllocError>
+    ensures { (app : App) → IsProgram app dpv.entry → IfOk result (IsProgram (with_commands app usage.judging)) }
+{
     let dpv = with(dpv, one(alloc))?;
     let dpv = with(dpv, check(alloc))?;
     let dpv = with(dpv, infer(alloc))?;
@@ -263,7 +323,9 @@ fn with_judging<'a>(alloc: Global, dpv: Command<'a>) -> Result<Command<'a>, Allo
 }
 
 /// Adds the commands that explain a verdict.
-fn with_reasons<'a>(alloc: Global, dpv: Command<'a>) -> Result<Command<'a>, AllocError> {
+fn with_reasons<'a>(alloc: Global, dpv: Command<'a>) -> Result<Command<'a>, AllocError>
+    ensures { (app : App) → IsProgram app dpv.entry → IfOk result (IsProgram (with_commands app usage.reasons)) }
+{
     let dpv = with(dpv, explain(alloc))?;
     let dpv = with(dpv, explain_one(alloc))?;
     let dpv = with(dpv, show(alloc))?;
@@ -271,13 +333,17 @@ fn with_reasons<'a>(alloc: Global, dpv: Command<'a>) -> Result<Command<'a>, Allo
 }
 
 /// `dpv compile FILE`.
-fn compile<'a>(alloc: Global) -> Result<Command<'a>, AllocError> {
+fn compile<'a>(alloc: Global) -> Result<Command<'a>, AllocError>
+    ensures { IfOk result (IsCommand usage.compile) }
+{
     let about = "Prints the Rattle module with which dpv is built for a pipeline's programs";
     on_pipeline(alloc, "compile", about)
 }
 
 /// Adds the commands that run a pipeline or a script.
-fn with_runs<'a>(alloc: Global, dpv: Command<'a>) -> Result<Command<'a>, AllocError> {
+fn with_runs<'a>(alloc: Global, dpv: Command<'a>) -> Result<Command<'a>, AllocError>
+    ensures { (app : App) → IsProgram app dpv.entry → IfOk result (IsProgram (with_commands app usage.runs)) }
+{
     let dpv = with(dpv, compile(alloc))?;
     let dpv = with(dpv, run(alloc))?;
     let dpv = with(dpv, trace(alloc))?;
@@ -285,7 +351,9 @@ fn with_runs<'a>(alloc: Global, dpv: Command<'a>) -> Result<Command<'a>, AllocEr
 }
 
 /// The program with its commands.
-pub fn command<'a>(alloc: Global) -> Result<Command<'a>, AllocError> {
+pub fn command<'a>(alloc: Global) -> Result<Command<'a>, AllocError>
+    ensures { IfOk result (IsProgram usage.dpv) }
+{
     let dpv = Command::new(alloc, "dpv")
         .version("0.1.0")
         .about("A packet forwarder whose programs are checked before they may touch a buffer")

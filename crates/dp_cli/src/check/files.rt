@@ -11,7 +11,7 @@ use crate::call::Call;
 use crate::check::check_line;
 use crate::check::sizes::print_sizes;
 use crate::documents::checks::check_document;
-use crate::fault::{DONE, Status, report_usage};
+use crate::error::{DONE, Status, report_usage};
 use crate::loading::load_file;
 use crate::printer::Printer;
 use dp_pipe::{How, Pipeline};

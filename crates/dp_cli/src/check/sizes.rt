@@ -3,9 +3,9 @@
 ghost use Rattle.dp_cli.specs.Judging.{IsSaid};
 ghost use Rattle.dp_cli.specs.Printing.{paper};
 
-use crate::fault::DONE;
+use crate::error::DONE;
+use crate::explain::report::{report_memory, say};
 use crate::printer::Printer;
-use crate::verdicts::saying::{report_memory, say};
 use dp_pipe::Pipeline;
 use dp_sizes::sizes_text;
 use std::alloc::{AllocError, Global};

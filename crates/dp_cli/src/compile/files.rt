@@ -8,7 +8,7 @@ ghost use Rattle.dp_cli.specs.Refusals.{EndsRefused};
 
 use crate::call::Call;
 use crate::compile::compile_line;
-use crate::fault::Status;
+use crate::error::Status;
 use crate::loading::load_file;
 use crate::printer::Printer;
 use dp_pipe::How;

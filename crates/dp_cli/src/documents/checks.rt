@@ -6,7 +6,7 @@ ghost use Rattle.dp_cli.specs.DocumentedVerdicts as spec;
 ghost use Rattle.dp_cli.specs.Printing.{paper};
 
 use crate::documents::end_documented;
-use crate::fault::DONE;
+use crate::error::DONE;
 use crate::printer::Printer;
 use dp_json::{accepted, verdicts_document};
 use dp_pipe::Pipeline;

@@ -8,7 +8,7 @@ ghost use Rattle.dp_cli.specs.Documents.{PrintsDocument};
 ghost use Rattle.dp_cli.specs.Printing.{IsEnded, paper};
 
 use crate::documents::{document_fault, end_documented};
-use crate::fault::{Fault, REFUSED};
+use crate::error::{Fault, REFUSED};
 use crate::loading::Unloaded;
 use crate::printer::Printer;
 use dp_json::{Refusal, refused, verdicts_document};

@@ -12,8 +12,8 @@ ghost use Rattle.dp_pipe.specs.Running.{answer_of};
 
 use crate::counting::Counting;
 use crate::documents::{print_document, print_memory};
+use crate::error::{FAULT, status_unwritten};
 use crate::error_text::Finding;
-use crate::fault::{FAULT, status_unwritten};
 use crate::printer::Printer;
 use crate::run::closing::Flushed;
 use crate::run::inlet::Inlet;

@@ -9,11 +9,11 @@ ghost use Rattle.dp_cli.specs.Printing.{paper};
 
 use crate::documents::loads::{document_unloaded, fault_for};
 use crate::documents::{document_fault, document_with, end_documented, value_of_fault};
-use crate::fault::{DONE, Fault, REFUSED, report_no_node};
+use crate::error::{DONE, Fault, REFUSED, report_no_node};
+use crate::explain::entry_at;
+use crate::explain::explanation::{explanation_text, line_at, line_of};
+use crate::explain::node_source::{Asked, Judged, asked_of, judge};
 use crate::printer::Printer;
-use crate::verdicts::entry_at;
-use crate::verdicts::explain::{explanation_text, line_at, line_of};
-use crate::verdicts::node_source::{Asked, Judged, asked_of, judge};
 use dp_check::{Diagnosis, diagnose};
 use dp_json::{Explanation, FaultText, Refusal, accepted, explained, verdicts_document};
 use dp_model::{Entry, Env};

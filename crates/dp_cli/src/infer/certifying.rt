@@ -6,10 +6,10 @@ ghost use Rattle.dp_pipe.specs.Nodes.{Fails};
 ghost use Rattle.dp_cli.specs.Inferring.{by_itself, IsCertEnded, IsInferred, PrintsInferred};
 ghost use Rattle.dp_cli.specs.Printing.{Notes, paper, Prints};
 
-use crate::fault::{DONE, Fault, report_fault, status_unwritten};
+use crate::error::{DONE, Fault, report_fault, status_unwritten};
+use crate::explain::node_source::program_of;
 use crate::loading::report_unloaded;
 use crate::printer::Printer;
-use crate::verdicts::node_source::program_of;
 use dp_cert::{Cert, encode};
 use dp_infer::{InferError, infer};
 use dp_model::{Entry, Env};

@@ -8,7 +8,7 @@ ghost use Rattle.dp_cli.specs.Printing.{IsUsageEnded, paper};
 ghost use Rattle.dp_cli.specs.Refusals.{EndsRefused};
 
 use crate::call::Call;
-use crate::fault::{Status, report_usage};
+use crate::error::{Status, report_usage};
 use crate::host_files::HostFiles;
 use crate::infer::certifying::infer_node;
 use crate::infer::infer_line;

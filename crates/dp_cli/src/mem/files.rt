@@ -7,7 +7,7 @@ ghost use Rattle.dp_cli.specs.Printing.{paper};
 ghost use Rattle.dp_cli.specs.Refusals.{EndsRefused};
 
 use crate::call::Call;
-use crate::fault::Status;
+use crate::error::Status;
 use crate::loading::bytes_of;
 use crate::mem::mem_line;
 use crate::printer::Printer;

@@ -4,7 +4,7 @@ ghost use Rattle.std.specs.Prelude.{◌≡◌, IfOk, length, map};
 ghost use Rattle.dp_cli.specs.Guarding.{written_capture};
 ghost use Rattle.dp_cli.specs.Names.{AreInputs, AreOutputs, input_capture, one_name, read_from, written_to};
 
-use crate::fault::Fault;
+use crate::error::Fault;
 use crate::files::ReadFault;
 use crate::run::capture_errors::CaptureNames;
 use crate::run::guarded::Guarded;

@@ -18,7 +18,7 @@ use crate::call::{Call, TextOutput};
 use crate::compile::write_interpreted;
 use crate::counting::{Counting, counting_in, run_and_report};
 use crate::documents::end_with;
-use crate::fault::{Fault, Status, report_fault, report_no_node, report_usage};
+use crate::error::{Fault, Status, report_fault, report_no_node, report_usage};
 use crate::loading::{Loaded, load_text, load_with_reads};
 use crate::operands::numbers_in;
 use crate::printer::Printer;

@@ -10,7 +10,7 @@ ghost use Rattle.dp_cli.specs.Replacing as spec;
 ghost use Rattle.dp_cli.specs.Replacing.{row_of};
 
 use crate::call::Call;
-use crate::fault::{Fault, report_fault, report_usage};
+use crate::error::{Fault, report_fault, report_usage};
 use crate::operands::{nowhere_in, place_named, replaced_in};
 use crate::printer::Printer;
 use clap::ArgMatches;

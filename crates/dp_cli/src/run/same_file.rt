@@ -6,8 +6,8 @@ ghost use Rattle.dp_cli.specs.Guarding.{read_name};
 ghost use Rattle.dp_cli.specs.Names.{input_name, output_capture};
 ghost use Rattle.dp_cli.specs.Statuses.{IsClash};
 
+use crate::error::Fault;
 use crate::error_text::Reason;
-use crate::fault::Fault;
 use crate::run::capture_errors::CaptureNames;
 use crate::run::replaced::Place;
 use std::alloc::Global;

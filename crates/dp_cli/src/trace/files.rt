@@ -11,7 +11,7 @@ ghost use Rattle.dp_cli.specs.Refusals.{EndsAtWords, EndsRefused};
 use crate::call::Call;
 use crate::counting::programs::sources_of;
 use crate::documents::end_with;
-use crate::fault::{Fault, Status, report_fault, report_no_node, report_usage};
+use crate::error::{Fault, Status, report_fault, report_no_node, report_usage};
 use crate::loading::{Loaded, load_with_programs};
 use crate::operands::{port_in, records_in};
 use crate::printer::Printer;
@@ -21,13 +21,13 @@ use crate::run::files::refused_in;
 use crate::run::progress::ProgressNotices;
 use crate::run::replaced::Replacements;
 use crate::single_port::Naming;
-use crate::trace::became::{Only, Picked, labels_of, only_in};
+use crate::trace::outcome::{Only, Picked, labels_of, only_in};
 use crate::trace::{Shown, trace_line};
 use clap::ArgMatches;
 use dp_counts::NodeSource;
 use dp_engine::Nothing;
 use dp_model::Entry;
-use dp_pipe::{How, MAX_TURNS, Pipeline, Traced};
+use dp_pipe::{How, MAX_RUN_TURNS, Pipeline, Traced};
 use std::alloc::Global;
 use std::io::Write;
 use std::rt::Files;
@@ -87,7 +87,7 @@ fn traced_in<O: Write, E: Write>(
     out: &mut Printer<O>,
     err: &mut Printer<E>,
 ) -> Result<Traced, u8>
-    ensures limit { IfOk result (λ which. which.records ≤ MAX_TURNS) }
+    ensures limit { IfOk result (λ which. which.records ≤ MAX_RUN_TURNS) }
     ensures records { IfOk result (λ which. spec.records_in (records_word (found_of words.now)) ≡ Some which.records) }
     ensures port { IfOk result (λ which. IsPortOf (first_value (found_of words.now) (codes "port")) which.port) }
     ensures silent { OnOk result ((out.new ≡ out.old) × (err.new ≡ err.old)) }
@@ -97,7 +97,7 @@ fn traced_in<O: Write, E: Write>(
     let count = words.get_str("records").unwrap_or(usual_count(words));
     let Some(records) = records_in(count) else {
         return Err(report_usage(
-            format_args!("error: '{count}' is not a number of records: from 1 to {MAX_TURNS}"),
+            format_args!("error: '{count}' is not a number of records: from 1 to {MAX_RUN_TURNS}"),
             out,
             err,
         ));
@@ -190,7 +190,7 @@ fn trace_pipeline<R: Files, O: Write, E: Write>(
     err: &mut Printer<E>,
 ) -> Status
     requires pattern { IsAscending 0 pattern.items }
-    requires limit { which.records ≤ MAX_TURNS }
+    requires limit { which.records ≤ MAX_RUN_TURNS }
     ensures traces { IfOk result (TracesNamed R.File.remaining pipeline pattern.items which (paper O.contents out.old) (paper O.contents out.new)
         (paper E.contents err.old) (paper E.contents err.new)) }
     ensures fails { IfErr result (EndsRefused (found_of call.now.words.now) (paper O.contents out.old) (paper O.contents out.new) (paper E.contents err.old)
@@ -238,7 +238,7 @@ fn words_of_trace<R, O: Write, E: Write>(
     out: &mut Printer<O>,
     err: &mut Printer<E>,
 ) -> Result<TraceWords, u8>
-    ensures limit { IfOk result (λ asked. asked.which.records ≤ MAX_TURNS) }
+    ensures limit { IfOk result (λ asked. asked.which.records ≤ MAX_RUN_TURNS) }
     ensures records { IfOk result (λ asked. spec.records_in (records_word (found_of call.now.words.now)) ≡ Some asked.which.records) }
     ensures port { IfOk result (λ asked. IsPortOf (first_value (found_of call.now.words.now) (codes "port")) asked.which.port) }
     ensures calls { IfOk result (λ asked. Some asked.pattern.items ≡ spec.calls_refused (first_value (found_of call.now.words.now) (codes "refuse"))) }
@@ -266,7 +266,7 @@ fn trace_loaded<R: Files, O: Write, E: Write>(
     err: &mut Printer<E>,
 ) -> Status
     requires pattern { IsAscending 0 asked.pattern.items }
-    requires limit { asked.which.records ≤ MAX_TURNS }
+    requires limit { asked.which.records ≤ MAX_RUN_TURNS }
     ensures traces { IfOk result (TracesNamed R.File.remaining loaded.pipeline asked.pattern.items asked.which (paper O.contents out.old)
         (paper O.contents out.new) (paper E.contents err.old) (paper E.contents err.new)) }
     ensures fails { IfErr result (EndsRefused (found_of call.now.words.now) (paper O.contents out.old) (paper O.contents out.new) (paper E.contents err.old)

@@ -2,7 +2,7 @@
 
 ghost use Rattle.std.specs.Prelude.{◌≡◌};
 
-use crate::trace::became::{Picked, RecordOutcome};
+use crate::trace::outcome::{Picked, RecordOutcome};
 use crate::trace::snapshot::{Look, NOTHING, SHOWN, Snapshot};
 use crate::trace::written::{BytesBefore, bytes_before};
 use dp_engine::{Outcome, PacketShape, SegmentView, Turn, View, Watch, Way};

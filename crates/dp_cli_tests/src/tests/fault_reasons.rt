@@ -4,6 +4,7 @@ use dp_cli::{
     Fault, Finding, Guarded, LinkType, MEMORY, Printer, Progress, Reason, Watched, fault_of,
     reason_of, report_fault,
 };
+use dp_counted::CountsError;
 use dp_model::{Entry, EnvError};
 use dp_pcap::PcapError;
 use dp_pipe::{Part, PipeError, RouteError, RunCause};
@@ -53,6 +54,25 @@ fn a_reason_stands_after_the_line_of_a_fault(rt: HostRuntime) {
         assert!(&rt; is_reported(rt.alloc(), fault, 3, text), "{text}");
     }
     assert!(&rt; is_reported(rt.alloc(), Fault::Memory, MEMORY, "fault: memory\n"));
+}
+
+#[test]
+fn a_file_without_counts_of_a_node_has_a_cure(rt: HostRuntime) {
+    let not_json = CountsError::NotJson { line: 2, column: 5 };
+    let cases = [
+        (
+            Reason::NoCounts(Entry::Ring(3)),
+            "fault: file a\n  because: it has no counts of ring 3\n  help: give the document that dpv run FILE --counts --json prints\n",
+        ),
+        (
+            Reason::BadCounts(not_json),
+            "fault: file a\n  because: line 2 column 5: the text is not JSON\n  help: give the document that dpv run FILE --counts --json prints\n",
+        ),
+    ];
+    for (reason, text) in cases {
+        let fault = Fault::File("a", reason);
+        assert!(&rt; is_reported(rt.alloc(), fault, 3, text), "{text}");
+    }
 }
 
 #[test]
