@@ -3,7 +3,8 @@
    dpv_open loads a pipeline file and opens its engine. Each dpv_pass takes one frame that a port received and returns all frames
    that the pipeline sends for it. dpv_close ends the engine. The library opens no socket, and after dpv_open only dpv_batch_open allocates memory.
 
-   What can be tested is tested: a refused call returns the reason, by one of the names below, and changes nothing.
+   What can be tested is tested: a refused call returns the reason, by one of the names below, and changes nothing, except that a refused
+   dpv_pass or dpv_batch_open leaves the batch empty.
    What cannot be tested is up to the caller:
    1. only these calls use the memory of an engine, from dpv_open to dpv_free, and nobody moves it;
    2. there is one call at a time on one engine, on the thread that opened it, and none from a signal handler or a forked child;
@@ -30,7 +31,7 @@ enum dpv_answer {
     DPV_RECEIVED = 0,         /* dpv_pass: the frame was received, and the port's program ran */
     DPV_NO_BUFFER = 1,        /* dpv_pass: the frame was dropped, too few buffers of the port's pool are free */
     DPV_OVERSIZE = 2,         /* dpv_pass: the frame was dropped, it needs more segments than the port takes */
-    /* From here on: the call was refused, and nothing has changed. */
+    /* From here on: the call was refused, and the engine has not changed. */
     DPV_NOT_OPEN = 16,        /* the pipeline was not loaded: dpv_why has the reason */
     DPV_CLOSED = 17,          /* the engine was closed */
     DPV_NO_PORT = 18,         /* no such port */
@@ -69,8 +70,8 @@ struct dpv_batch {
 };
 
 /* Why a pipeline was not loaded. cause is 0 (it was loaded), 1 (memory was refused), 2 (the packed files), 3 (the region is too small), or
-   10 plus the cause that `dpv check` names, 11 to 19. From 11 on the text is what `dpv check` prints after `fault: pipeline`. Zeros follow
-   it, at least one. */
+   10 plus the cause that `dpv check` names, 11 to 19. From 11 to 17 the text is what `dpv check` prints after `fault: pipeline`; with 18 and
+   19 it is the line that `dpv check` prints of the node. Zeros follow it, at least one. */
 struct dpv_reason {
     uint32_t cause;
     uint32_t length;
@@ -106,10 +107,10 @@ struct dpv_totals {
 
 /* The bytes that an engine needs in the caller's memory, apart from its region. Align them to 16. */
 size_t dpv_size(void);
-/* Opens an engine in memory of dpv_size() bytes; dpv_open calls it. If it opens none, dpv_why has the reason, and later calls return
-   DPV_NOT_OPEN. */
+/* Opens an engine in memory of dpv_size() bytes; dpv_open calls it. If it opens none, dpv_why has the reason, and all later calls but
+   dpv_why return DPV_NOT_OPEN. */
 void dpv_begin(dpv_t *engine, const uint8_t *toml, size_t toml_length, const uint8_t *packed, size_t packed_length);
-/* Passes in a frame; dpv_pass calls it. */
+/* Passes in a frame; dpv_pass calls it. `filled` is set to what of the arrays was filled: nothing, if the call is refused. */
 uint32_t dpv_pass_into(dpv_t *engine, uint32_t port, uint64_t time, const uint8_t *frame, size_t length, struct dpv_record *records,
                        size_t max_records, uint8_t *bytes, size_t max_bytes, struct dpv_batch_size *filled);
 
@@ -121,8 +122,8 @@ uint32_t dpv_batch_size(dpv_t *engine, struct dpv_batch_size *size);
 uint32_t dpv_port(dpv_t *engine, uint32_t port, struct dpv_port_stats *stats);
 uint32_t dpv_pool(dpv_t *engine, uint32_t pool, struct dpv_pool_stats *stats);
 uint32_t dpv_ring(dpv_t *engine, uint32_t ring, struct dpv_ring_stats *stats);
-/* Ends the engine: frees the packets in rings, so each pool has all its buffers, each once, and frees the region's memory. Later calls return
-   DPV_CLOSED. DPV_OK, DPV_NOT_OPEN or DPV_CLOSED. */
+/* Ends the engine: frees the packets in rings, so each pool has all its buffers, each once, and frees the region's memory. All later calls
+   but dpv_why return DPV_CLOSED. DPV_OK, DPV_NOT_OPEN or DPV_CLOSED. */
 uint32_t dpv_close(dpv_t *engine, struct dpv_totals *totals);
 
 /* Packs a file that the pipeline names: writes it at `to`, and returns the number of bytes that it takes. With NULL it writes nothing. */
@@ -170,7 +171,8 @@ static inline void dpv_free(dpv_t *engine)
     free(engine);
 }
 
-/* Makes a batch that is large enough for an engine. DPV_OK, DPV_NOT_OPEN, DPV_CLOSED, or 1 (here not DPV_NO_BUFFER) if there is no memory. */
+/* Makes a batch that is large enough for an engine. DPV_OK; or DPV_NOT_OPEN, DPV_CLOSED, or 1 (here not DPV_NO_BUFFER) if there is no memory,
+   and then the batch has no arrays. */
 static inline uint32_t dpv_batch_open(dpv_t *engine, struct dpv_batch *batch)
 {
     uint32_t answer;

@@ -6,7 +6,7 @@ use Rattle.std.proofs.lemmas.Bool.{eqb-true, eqb-false}
 use Rattle.std.proofs.Math.Nat.{mod-lt, mod-add-div, add-mul-mod_self_left}
 use Rattle.std.proofs.lemmas.List.{get_or-set_same}
 use Rattle.dp_model.specs.Arithmetic.{wrapped}
-use Rattle.dp_counts.specs.Counting.{Tally, one_more, less, on_from, ran_at, HasNone, IsTally}
+use Rattle.dp_counts.specs.Counting.{Tally, one_more, minus_wrapped, on_from, ran_at, HasNone, IsTally}
 use Rattle.dp_counts.proofs.Tallies.{index_other}
 
 -- ---- numbers that are the same modulo 2^64
@@ -25,7 +25,7 @@ wrapped_same m n (a, b, is) =
     sym (add-mul-mod_self_left m 18446744073709551616 a) ∙ ap (λ x. x % 18446744073709551616) is ∙ add-mul-mod_self_left n 18446744073709551616 b
 
 -- a difference
-less_same : (m n : ℕ) → n < 2 ^ 64 → Same (less m n + n) m
+less_same : (m n : ℕ) → n < 2 ^ 64 → Same (minus_wrapped m n + n) m
 less_same m n few =
     let (a, b, is) = same_wrapped (m + (2 ^ 64 - n)) in
     (a, b + 1, omega (arith, is, few))
@@ -97,8 +97,8 @@ ran_sums t place (suc label) is few =
     let ended = slice_index t.ended k in
     let cut = slice_index t.cut k in
     let (a1, b1, one) = less_same r taken (is.taken k (omega (arith, few, is.room.taken_all))) in
-    let (a2, b2, two) = less_same (less r taken) ended (is.ended k (omega (arith, few, is.room.ended_all))) in
-    let (a3, b3, three) = less_same (less (less r taken) ended) cut (is.cut k (omega (arith, few, is.room.cut_all))) in
+    let (a2, b2, two) = less_same (minus_wrapped r taken) ended (is.ended k (omega (arith, few, is.room.ended_all))) in
+    let (a3, b3, three) = less_same (minus_wrapped (minus_wrapped r taken) ended) cut (is.cut k (omega (arith, few, is.room.cut_all))) in
     let (a4, b4, four) = same_wrapped (on_from t k r + slice_index t.came (k + 1)) in
     let here : slice_index t.came (k + 1) ≡ slice_index t.came (place + suc label) = ap (slice_index t.came) (omega arith) in
     (a + a1 + a2 + a3 + a4, b + b1 + b2 + b3 + b4, omega (arith, before, one, two, three, four, here))
@@ -119,9 +119,11 @@ pub ran_none : (t : Tally) (place label : ℕ) → HasNone t → ran_at t place 
 ran_none t place zero none = none.came place
 ran_none t place (suc label) none =
     let k = place + label in
-    ap (λ n. wrapped (less (less (less n (slice_index t.taken k)) (slice_index t.ended k)) (slice_index t.cut k) + slice_index t.came (k + 1)))
+    ap (λ n. wrapped (minus_wrapped (minus_wrapped (minus_wrapped n (slice_index t.taken k)) (slice_index t.ended k))
+    (slice_index t.cut k) + slice_index t.came (k + 1)))
     (ran_none t place label none)
-    ∙ ap (λ n. wrapped (less (less (less 0 n) (slice_index t.ended k)) (slice_index t.cut k) + slice_index t.came (k + 1))) (none.taken k)
-    ∙ ap (λ n. wrapped (less (less (less 0 0) n) (slice_index t.cut k) + slice_index t.came (k + 1))) (none.ended k)
-    ∙ ap (λ n. wrapped (less (less (less 0 0) 0) n + slice_index t.came (k + 1))) (none.cut k)
-    ∙ ap (λ n. wrapped (less (less (less 0 0) 0) 0 + n)) (none.came (k + 1))
+    ∙ ap (λ n. wrapped (minus_wrapped (minus_wrapped (minus_wrapped 0 n) (slice_index t.ended k)) (slice_index t.cut k) + slice_index t.came (k + 1)))
+    (none.taken k)
+    ∙ ap (λ n. wrapped (minus_wrapped (minus_wrapped (minus_wrapped 0 0) n) (slice_index t.cut k) + slice_index t.came (k + 1))) (none.ended k)
+    ∙ ap (λ n. wrapped (minus_wrapped (minus_wrapped (minus_wrapped 0 0) 0) n + slice_index t.came (k + 1))) (none.cut k)
+    ∙ ap (λ n. wrapped (minus_wrapped (minus_wrapped (minus_wrapped 0 0) 0) 0 + n)) (none.came (k + 1))

@@ -10,7 +10,8 @@ use Rattle.std.proofs.lemmas.Option.{same_Some, slice_get-get_or}
 use Rattle.std.specs.List.{slice_split}
 use Rattle.dp_model.specs.declared.instr.Instr.{Instr}
 use Rattle.dp_counts.specs.declared.source.SourceLine.{SourceLine}
-use Rattle.dp_counts.specs.Sources.{each_from, view_line, line_at, lines_of, body_of, is_newline}
+use Rattle.dp_counts.specs.Sources.{each_from, view_line, line_at, lines_of, body_of}
+use Rattle.dp_lang.specs.Lines.{is_newline}
 use Rattle.dp_counts.specs.Laws.{each_more}
 
 -- ---- numbered

@@ -53,12 +53,12 @@ is_one_of_eight (Ring ring) = nat_lt ring 8
 -- ---- how often an instruction ran
 
 -- a difference of numbers of 64 bits, modulo 2^64
-abbrev pub less : ℕ → ℕ → ℕ
-less m n = (m + (2 ^ 64 - n)) % 2 ^ 64
+abbrev pub minus_wrapped : ℕ → ℕ → ℕ
+minus_wrapped m n = (m + (2 ^ 64 - n)) % 2 ^ 64
 
 -- how often control went on from the instruction with the index k, which ran `ran` times, to the next one
 abbrev pub on_from : Tally → ℕ → ℕ → ℕ
-on_from t k ran = less (less (less ran (slice_index t.taken k)) (slice_index t.ended k)) (slice_index t.cut k)
+on_from t k ran = minus_wrapped (minus_wrapped (minus_wrapped ran (slice_index t.taken k)) (slice_index t.ended k)) (slice_index t.cut k)
 
 -- How often the instruction at a label ran, modulo 2^64, of the node whose counts begin at `place`: the number of times that control came to it by a jump
 -- or a beginning, or went on to it from the one before.
@@ -105,13 +105,13 @@ counted (Began node s) t = record t { came = one_more (place_of node) t.came; pl
 counted (Ran label way s) t = with_way way label t
 
 -- an event's node has a number below 8; its label is below 1,024
-abbrev pub IsWithin : Event → Type 0
-IsWithin (Began node s) = IsOneOfEight node
-IsWithin (Ran label way s) = label < 1024
+abbrev pub IsCountable : Event → Type 0
+IsCountable (Began node s) = IsOneOfEight node
+IsCountable (Ran label way s) = label < 1024
 
 -- each event changes the counts as it is counted
 abbrev pub counts_see : Tally → Event → Tally → Type 0
-counts_see t e t' = IsWithin e × (t' ≡ counted e t)
+counts_see t e t' = IsCountable e × (t' ≡ counted e t)
 
 -- ---- the steps that are counted
 
@@ -197,12 +197,12 @@ BeginsAtZero =
 -- what a watcher is shown of a turn is whole node runs
 abbrev pub TurnsAreRuns : Type 0
 TurnsAreRuns =
-    (c : Setting) (nodes : Nodes) (port : ℕ) (bytes : List ℕ) (w : World) (outcome : Outcome) (runs : ℕ) (answers : List Bool) (w' : World)
-    (events : List Event) → ShowsTurn c nodes port bytes w outcome runs answers w' events → AreRuns events
+    (setting : Setting) (nodes : Nodes) (port : ℕ) (bytes : List ℕ) (w : World) (outcome : Outcome) (runs : ℕ) (answers : List Bool) (w' : World)
+    (events : List Event) → ShowsTurn setting nodes port bytes w outcome runs answers w' events → AreRuns events
 
 -- a turn that is shown is counted: each number grows by its steps in the turn
 abbrev pub CountsTurns : Type 0
 CountsTurns =
-    (t t' : Tally) (c : Setting) (nodes : Nodes) (port : ℕ) (bytes : List ℕ) (w : World) (outcome : Outcome) (runs : ℕ) (w' : World) → IsTally t
-    → WatchesTurn counts_see t t' c nodes port bytes w outcome runs w'
-    → (answers : List Bool) × (events : List Event) × ShowsTurn c nodes port bytes w outcome runs answers w' events × IsTally t' × AllGrew events t t'
+    (t t' : Tally) (setting : Setting) (nodes : Nodes) (port : ℕ) (bytes : List ℕ) (w : World) (outcome : Outcome) (runs : ℕ) (w' : World) → IsTally t
+    → WatchesTurn counts_see t t' setting nodes port bytes w outcome runs w'
+    → (answers : List Bool) × (events : List Event) × ShowsTurn setting nodes port bytes w outcome runs answers w' events × IsTally t' × AllGrew events t t'

@@ -19,21 +19,21 @@ abbrev pub column : ℕ → List ℕ
 column n = padded_integral (format_spec 32 3 0 10 (2 ^ 64 - 1)) false [] (decimal n)
 
 -- ten blanks
-abbrev pub nothing : List ℕ
-nothing = codes "          "
+abbrev pub blanks : List ℕ
+blanks = codes "          "
 
 -- at `free` and `exit`, that packets ended there
 abbrev pub ending : Role → List ℕ
 ending Frees = codes "     freed"
 ending Ends = codes "     ended"
-ending Plain = nothing
-ending Branch = nothing
-ending (Lookup table) = nothing
-ending (Enqueue ring) = nothing
+ending Plain = blanks
+ending Branch = blanks
+ending (Lookup table) = blanks
+ending (Enqueue ring) = blanks
 
 -- nothing if the instruction never ran
 abbrev pub word_of : Role → ℕ → List ℕ
-word_of role ran = if ran == 0 then nothing else ending role
+word_of role ran = if ran == 0 then blanks else ending role
 
 -- the second column: how often a jump was taken, or that packets ended there
 abbrev pub beside : Role → StepCounts → List ℕ
@@ -57,7 +57,7 @@ step_line role s text = column s.ran ++ (beside role s ++ (text_of text ++ cut_l
 
 -- a text after two empty columns
 abbrev pub beside_nothing : List ℕ → List ℕ
-beside_nothing text = nothing ++ (nothing ++ text_of text)
+beside_nothing text = blanks ++ (blanks ++ text_of text)
 
 -- a line without an instruction
 abbrev pub other_line : List ℕ → List ℕ

@@ -1,10 +1,11 @@
 -- The source of a program, line by line, with the instruction of each line.
-use Rattle.std.specs.Prelude.{ℕ, suc, ◌+◌, ◌-◌, Bool, ◌==◌, List, [], ◌∷◌, length, take, position, slice_get, slice_index, option_and_then}
+use Rattle.std.specs.Prelude.{ℕ, suc, ◌+◌, ◌-◌, ◌==◌, List, [], ◌∷◌, length, take, position, slice_get, slice_index, option_and_then}
 use Rattle.std.specs.Prelude.{option_map, if◌then◌else◌}
 use Rattle.std.specs.Prelude.{Option}
 use Rattle.std.specs.List.{slice_split}
 use Rattle.dp_model.specs.declared.instr.Instr.{Instr}
 use Rattle.dp_model.specs.declared.instr.Instr.TheVariants as instr
+use Rattle.dp_lang.specs.Lines.{is_newline}
 use Rattle.dp_counts.specs.declared.source.Role.{Role}
 use Rattle.dp_counts.specs.declared.source.Role.TheVariants.{Plain, Branch, Lookup, Enqueue, Frees, Ends}
 use Rattle.dp_counts.specs.declared.source.Step.{Step}
@@ -26,9 +27,6 @@ role_of (instr.Enq packet ring full) = Enqueue ring
 role_of (instr.Free packet) = Frees
 role_of instr.Exit = Ends
 role_of i = Plain
-
-abbrev pub is_newline : ℕ → Bool
-is_newline b = b == 10
 
 -- without a newline at the end
 abbrev pub body_of : List ℕ → List ℕ

@@ -17,13 +17,13 @@ use Rattle.dp_engine.specs.Laws.{get_map}
 use Rattle.dp_engine.specs.Reports.{IsReport, port_report, pool_reports}
 use Rattle.dp_host.specs.declared.numbers.PoolStats.{PoolStats}
 use Rattle.dp_host.specs.declared.numbers.PortStats.{PortStats}
-use Rattle.dp_host.specs.Hosts.{IsPort, NoPort, IsPool, NoPool, stats_of}
+use Rattle.dp_host.specs.Hosts.{IsPortStats, NoPort, IsPoolStats, NoPool, stats_of}
 
 abbrev pub port_stats_of : PortReport → PortStats
 port_stats_of r = record { received = r.received; no_buffer = r.nobuf; oversize = r.oversize; sent = r.sent }
 
 pub port_is : (e : EngineState) (r : Report) (port : ℕ) (x : PortReport) → IsReport e r
-    → slice_get r.ports.items port ≡ Some x → IsPort port e (port_stats_of x)
+    → slice_get r.ports.items port ≡ Some x → IsPortStats port e (port_stats_of x)
 port_is e r port x is there =
     let (t, at, same) = get_map (port_report Open) (take (length e.setting.env.ports) e.tallies) port x (ap (λ l. slice_get l port) (sym is.ports) ∙ there) in
     (t, at, ap port_stats_of (sym same))
@@ -49,7 +49,7 @@ abbrev pub pool_stats_of : PoolReport → PoolStats
 pool_stats_of r = record { free = r.free; count = r.count }
 
 pub pool_is : (e : EngineState) (r : Report) (pool : ℕ) (x : PoolReport) → IsReport e r
-    → slice_get r.pools.items pool ≡ Some x → IsPool pool e (pool_stats_of x)
+    → slice_get r.pools.items pool ≡ Some x → IsPoolStats pool e (pool_stats_of x)
 pool_is e r pool x is there =
     let free = available e.setting.env.pools (live (between e.world)) in
     let (spec, at, same) = pool_at free 0 e.setting.env.pools pool x (ap (λ l. slice_get l pool) (sym is.pools) ∙ there) in

@@ -29,7 +29,7 @@ use Rattle.dp_engine.specs.Outcomes.{outcome_of}
 use Rattle.dp_pipe.specs.Pipelines.{Plan, IsPlan}
 use Rattle.dp_pipe.specs.Running.{IsFirst, setting_in, programs_in}
 use Rattle.dp_pipe.specs.Laws.{are_nodes, all_checked}
-use Rattle.dp_host.specs.Calls.{Call, HasServed, Promised, arrival_of, arrivals_of, captures_of, frames_from, sent_in, timed}
+use Rattle.dp_host.specs.Calls.{Call, HasServedCalls, Promised, arrival_of, arrivals_of_calls, captures_of, frames_by_port, sent_in, timed}
 
 -- ---- what is sent
 
@@ -45,19 +45,19 @@ list_is : (port : ℕ) (buffers : Buffers) (packets : List Packet) → map (fram
 list_is port buffers packets = sym (twice (λ (bytes : List ℕ). (port, bytes)) (packet_bytes buffers) packets)
 
 lists_are : (port : ℕ) (buffers : Buffers) (lists : List (List Packet))
-    → batches.frames_from port buffers lists ≡ frames_from port (map (drained buffers) lists)
+    → batches.frames_from port buffers lists ≡ frames_by_port port (map (drained buffers) lists)
 lists_are port buffers [] = refl
 lists_are port buffers (packets ∷ lists) =
     ap (λ l. l ++ batches.frames_from (port + 1) buffers lists) (list_is port buffers packets)
     ∙ ap (λ l. map (λ (bytes : List ℕ). (port, bytes)) (drained buffers packets) ++ l) (lists_are (port + 1) buffers lists)
 
 pub batch_is : (time : ℕ) (w : World) (records : List SentRecord) (bytes : List ℕ) (filled : BatchSize) → Holds time (frames_in w) records bytes filled
-    → Holds time (frames_from 0 (sent_in w)) records bytes filled
+    → Holds time (frames_by_port 0 (sent_in w)) records bytes filled
 batch_is time w records bytes filled holds = subst (λ frames. Holds time frames records bytes filled) (lists_are 0 w.buffers w.outboxes) holds
 
 -- ---- calls
 
-pub first_served : (p : Plan) (e : EngineState) → IsPlan p → IsFirst p [] e → HasServed p [] e
+pub first_served : (p : Plan) (e : EngineState) → IsPlan p → IsFirst p [] e → HasServedCalls p [] e
 first_served p e plan is = record {
   plan = plan;
   first = e;
@@ -75,7 +75,7 @@ captures_push ports calls c = fold-append (λ (captures : List (List (ℕ × Lis
 
 pub served_more : (p : Plan) (calls : List Call) (old new : EngineState) (port : ℕ) (frame : List ℕ) (turn : Turn) (time : ℕ) (records : List SentRecord)
     (bytes : List ℕ) (filled : BatchSize) (pass : Passes old new port frame turn time records bytes filled)
-    → HasServed p calls old → HasServed p (calls ++ record { port = port; time = time; bytes = frame; sent = sent_in pass.mid.world } ∷ []) new
+    → HasServedCalls p calls old → HasServedCalls p (calls ++ record { port = port; time = time; bytes = frame; sent = sent_in pass.mid.world } ∷ []) new
 served_more p calls old new port frame turn time records bytes filled pass was =
     let c : Call = record { port = port; time = time; bytes = frame; sent = sent_in pass.mid.world } in
     let mid = pass.mid in
@@ -84,18 +84,19 @@ served_more p calls old new port frame turn time records bytes filled pass was =
     let shown : Observed ℕ = record { answers = was.answers; outcomes = was.outcomes; captures = captures_of (length p.env.ports) calls } in
     let same : mid.setting ≡ old.setting = ap (λ (e : EngineState). e.setting) t.rest in
     let long : length mid.world.outboxes ≡ length old.setting.env.ports = t.lists ∙ ap (λ (s : Setting). length s.env.ports) same in
-    let pushed = run_push old.setting old.nodes (arrivals_of calls) (arrival_of c) was.first.world old.world mid.world shown (outcome_of turn.outcome) turn.runs
+    let pushed = run_push old.setting old.nodes (arrivals_of_calls calls) (arrival_of c) was.first.world old.world mid.world shown
+    (outcome_of turn.outcome) turn.runs
     answers long was.run turned in
     let setting : new.setting ≡ old.setting = ap (λ (e : EngineState). e.setting) pass.new_is ∙ same in
     let nodes : new.nodes ≡ old.nodes = ap (λ (e : EngineState). e.nodes) pass.new_is ∙ ap (λ (e : EngineState). e.nodes) t.rest in
     let world : with_empty_outboxes mid.world ≡ new.world = sym (ap (λ (e : EngineState). e.world) pass.new_is) in
     let captures : joined (captures_of (length p.env.ports) calls) (records_at time mid.world) ≡ captures_of (length p.env.ports) (calls ++ c ∷ []) =
     ap (joined (captures_of (length p.env.ports) calls)) (sym (timed_is c mid.world refl)) ∙ sym (captures_push (length p.env.ports) calls c) in
-    let arrivals : arrivals_of calls ++ arrival_of c ∷ [] ≡ arrivals_of (calls ++ c ∷ []) = sym (map-append arrival_of calls (c ∷ [])) in
+    let arrivals : arrivals_of_calls calls ++ arrival_of c ∷ [] ≡ arrivals_of_calls (calls ++ c ∷ []) = sym (map-append arrival_of calls (c ∷ [])) in
     let with_captures : List (List (ℕ × List ℕ)) → Observed ℕ =
     λ l. record { answers = was.answers ++ answers; outcomes = was.outcomes ++ outcome_of turn.outcome ∷ []; captures = l } in
     let more : Observed ℕ = with_captures (joined (captures_of (length p.env.ports) calls) (records_at time mid.world)) in
-    let now : Observed ℕ → Type 0 = λ s. Run new.setting new.nodes (arrivals_of (calls ++ c ∷ [])) was.first.world s new.world in
+    let now : Observed ℕ → Type 0 = λ s. Run new.setting new.nodes (arrivals_of_calls (calls ++ c ∷ [])) was.first.world s new.world in
     record {
       plan = was.plan;
       first = was.first;
@@ -112,15 +113,16 @@ served_more p calls old new port frame turn time records bytes filled pass was =
       answers = was.answers ++ answers;
       outcomes = was.outcomes ++ outcome_of turn.outcome ∷ [];
       run = subst now (ap with_captures captures)
-          (subst (λ w. Run new.setting new.nodes (arrivals_of (calls ++ c ∷ [])) was.first.world more w) world
+          (subst (λ w. Run new.setting new.nodes (arrivals_of_calls (calls ++ c ∷ [])) was.first.world more w) world
           (subst (λ a. Run new.setting new.nodes a was.first.world more (with_empty_outboxes mid.world)) arrivals
-          (subst (λ s. Run s new.nodes (arrivals_of calls ++ arrival_of c ∷ []) was.first.world more (with_empty_outboxes mid.world)) (sym setting)
-          (subst (λ n. Run old.setting n (arrivals_of calls ++ arrival_of c ∷ []) was.first.world more (with_empty_outboxes mid.world)) (sym nodes) pushed))));
+          (subst (λ s. Run s new.nodes (arrivals_of_calls calls ++ arrival_of c ∷ []) was.first.world more (with_empty_outboxes mid.world)) (sym setting)
+          (subst (λ n. Run old.setting n (arrivals_of_calls calls ++ arrival_of c ∷ []) was.first.world more (with_empty_outboxes mid.world))
+          (sym nodes) pushed))));
     }
 
 -- a pipeline has few ports and rings
 pub few : (p : Plan) → IsPlan p → (length p.env.ports ≤ 8) × (length p.env.rings ≤ 8)
-few p plan = let known = numbers_known p.env (numbers_pass p.env plan.limits) in (known.2, known.1)
+few p plan = let (_, rings, ports) = numbers_known p.env (numbers_pass p.env plan.limits) in (ports, rings)
 
 -- ---- the promise
 
@@ -136,17 +138,18 @@ pub record AreLaws : Type 0 where
   pub free : (pools : List PoolSpec) (w : World) (pool : ℕ) (b : Number) → live (between w) ≡ [] →
       (is_free (live (between w)) b ≡ true) × (available pools (live (between w)) pool ≡ count_at pools pool)
 
-pub promised : (p : Plan) (calls : List Call) (e : EngineState) → AreLaws → HasServed p calls e → Promised p calls e
+pub promised : (p : Plan) (calls : List Call) (e : EngineState) → AreLaws → HasServedCalls p calls e → Promised p calls e
 promised p calls e laws was =
     let s = setting_in p [] in
     let ready = plan_of p.env p.tables p.nodes [] was.plan.limits (are_nodes p.env p.nodes was.plan.nodes) was.plan.tables
     (all_checked p.env p.nodes was.plan.nodes) was.plan.hops in
     let shown : Observed ℕ = record { answers = was.answers; outcomes = was.outcomes; captures = captures_of (length p.env.ports) calls } in
-    let run : Run s (programs_in p) (arrivals_of calls) was.first.world shown e.world =
-    subst (λ (c : Setting). Run c (programs_in p) (arrivals_of calls) was.first.world shown e.world) (was.setting ∙ was.is_first.setting)
-    (subst (λ (n : Nodes). Run e.setting n (arrivals_of calls) was.first.world shown e.world) (was.nodes ∙ was.is_first.nodes) was.run) in
-    let safe = laws.safe s (programs_in p) (arrivals_of calls) was.first.world ready.tables_fit ready.pipeline was.is_first.start in
-    let none = laws.nothing s (programs_in p) (arrivals_of calls) was.first.world (with_empty_rings e.world) shown (left_in_rings e.world) was.is_first.start
+    let run : Run s (programs_in p) (arrivals_of_calls calls) was.first.world shown e.world =
+    subst (λ (c : Setting). Run c (programs_in p) (arrivals_of_calls calls) was.first.world shown e.world) (was.setting ∙ was.is_first.setting)
+    (subst (λ (n : Nodes). Run e.setting n (arrivals_of_calls calls) was.first.world shown e.world) (was.nodes ∙ was.is_first.nodes) was.run) in
+    let safe = laws.safe s (programs_in p) (arrivals_of_calls calls) was.first.world ready.tables_fit ready.pipeline was.is_first.start in
+    let none = laws.nothing s (programs_in p) (arrivals_of_calls calls) was.first.world (with_empty_rings e.world) shown
+    (left_in_rings e.world) was.is_first.start
     (record { last = e.world; run = run; left_are = refl; is = refl }) in
     record {
       first = was.first.world;
@@ -155,7 +158,7 @@ promised p calls e laws was =
       outcomes = was.outcomes;
       run = run;
       never_stuck = λ b of. safe_never_stuck s b (safe.runs b of);
-      copies = laws.copies s (programs_in p) (arrivals_of calls) was.first.world e.world shown was.plan.limits was.is_first.start run;
+      copies = laws.copies s (programs_in p) (arrivals_of_calls calls) was.first.world e.world shown was.plan.limits was.is_first.start run;
       free = λ b. (laws.free p.env.pools (with_empty_rings e.world) 0 b none).0;
       whole = λ pool. (laws.free p.env.pools (with_empty_rings e.world) pool (record { pool = 0; index = 0 }) none).1;
     }

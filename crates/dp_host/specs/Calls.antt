@@ -27,17 +27,17 @@ pub record Call : Type 0 where
 abbrev pub arrival_of : Call → Arrival ℕ
 arrival_of c = record { port = c.port; time = c.time; bytes = c.bytes }
 
-abbrev pub arrivals_of : List Call → List (Arrival ℕ)
-arrivals_of calls = map arrival_of calls
+abbrev pub arrivals_of_calls : List Call → List (Arrival ℕ)
+arrivals_of_calls calls = map arrival_of calls
 
 -- the bytes in the transmit lists of a world, a list for each port
 abbrev pub sent_in : World → List (List (List ℕ))
 sent_in w = map (drained w.buffers) w.outboxes
 
 -- the same bytes in the order of a batch: port by port, first packet first
-abbrev pub frames_from : ℕ → List (List (List ℕ)) → List Frame
-frames_from port [] = []
-frames_from port (list ∷ lists) = map (λ bytes. (port, bytes)) list ++ frames_from (port + 1) lists
+abbrev pub frames_by_port : ℕ → List (List (List ℕ)) → List Frame
+frames_by_port port [] = []
+frames_by_port port (list ∷ lists) = map (λ bytes. (port, bytes)) list ++ frames_by_port (port + 1) lists
 
 -- what a call handed out, with its time
 abbrev pub timed : Call → List (List (ℕ × List ℕ))
@@ -51,32 +51,32 @@ captures_of ports calls = fold (λ captures c. joined captures (timed c)) (repli
 
 -- An engine that was opened for a pipeline has served these calls: there was a run on the frames that were handed in, in order, whose captures are
 -- what was handed out.
-pub record HasServed (p : Plan) (calls : List Call) (e : EngineState) : Type 0 where
+pub record HasServedCalls (p : Plan) (calls : List Call) (engine : EngineState) : Type 0 where
   pub plan : IsPlan p
   pub first : EngineState
   pub is_first : IsFirst p [] first
-  pub setting : e.setting ≡ first.setting
-  pub nodes : e.nodes ≡ first.nodes
-  pub turns : e.turns ≡ length calls
+  pub setting : engine.setting ≡ first.setting
+  pub nodes : engine.nodes ≡ first.nodes
+  pub turns : engine.turns ≡ length calls
   pub answers : List Bool
   pub outcomes : List Outcome
-  pub run : Run e.setting e.nodes (arrivals_of calls) first.world
-      (record { answers = answers; outcomes = outcomes; captures = captures_of (length p.env.ports) calls }) e.world
+  pub run : Run engine.setting engine.nodes (arrivals_of_calls calls) first.world
+      (record { answers = answers; outcomes = outcomes; captures = captures_of (length p.env.ports) calls }) engine.world
 
 -- ---- the promise about all calls
 
 -- All calls on an engine, from its opening to its end, were a run of the buffer machine on the frames that were handed in, in order, which sent for
 -- each port what the calls handed out. No node run in it was stuck. The machine in which each packet has its own bytes sends the same, given the same
 -- outcomes of allocation calls. And at the end, when what waits in rings is freed, every buffer is free, so each pool has all its buffers.
-pub record Promised (p : Plan) (calls : List Call) (e : EngineState) : Type 0 where
+pub record Promised (p : Plan) (calls : List Call) (engine : EngineState) : Type 0 where
   pub first : World
   pub start : IsStart p.env first
   pub answers : List Bool
   pub outcomes : List Outcome
-  pub run : Run (setting_in p []) (programs_in p) (arrivals_of calls) first
-      (record { answers = answers; outcomes = outcomes; captures = captures_of (length p.env.ports) calls }) e.world
-  pub never_stuck : (b : Beginning) → IsOfRun (setting_in p []) (programs_in p) (arrivals_of calls) first b →
+  pub run : Run (setting_in p []) (programs_in p) (arrivals_of_calls calls) first
+      (record { answers = answers; outcomes = outcomes; captures = captures_of (length p.env.ports) calls }) engine.world
+  pub never_stuck : (b : Beginning) → IsOfRun (setting_in p []) (programs_in p) (arrivals_of_calls calls) first b →
       NeverStuck (setting_in p []) b.program b.packet b.number b.world
-  pub copies : Captures p.env (routes_of p.tables) (programs_in p) (arrivals_of calls) answers (captures_of (length p.env.ports) calls) e.world.cuts
-  pub free : (b : Number) → is_free (live (between (with_empty_rings e.world))) b ≡ true
-  pub whole : (pool : ℕ) → available p.env.pools (live (between (with_empty_rings e.world))) pool ≡ count_at p.env.pools pool
+  pub copies : Captures p.env (routes_of p.tables) (programs_in p) (arrivals_of_calls calls) answers (captures_of (length p.env.ports) calls) engine.world.cuts
+  pub free : (b : Number) → is_free (live (between (with_empty_rings engine.world))) b ≡ true
+  pub whole : (pool : ℕ) → available p.env.pools (live (between (with_empty_rings engine.world))) pool ≡ count_at p.env.pools pool

@@ -24,8 +24,8 @@ use Rattle.dp_pipe.specs.Listed.{listed}
 use Rattle.dp_pipe.specs.Loads.{IsLoadedFrom, IsUnloaded}
 use Rattle.dp_pipe.specs.Pipelines.{Plan}
 use Rattle.dp_pipe.specs.Running.{IsUnopened}
-use Rattle.dp_host.specs.declared.host.Fault.{Fault}
-use Rattle.dp_host.specs.declared.host.Fault.TheVariants.{Unread, Load, Open}
+use Rattle.dp_host.specs.declared.host.OpenError.{OpenError}
+use Rattle.dp_host.specs.declared.host.OpenError.TheVariants.{Unread, Load, Open}
 use Rattle.dp_host.specs.declared.numbers.TheConstants.{MAX_REASON}
 use Rattle.dp_host.specs.declared.numbers.Reason.{Reason}
 use Rattle.dp_host.specs.declared.numbers.Room.{Room}
@@ -36,8 +36,8 @@ use Rattle.dp_host.specs.declared.numbers.Totals.{Totals}
 use Rattle.dp_host.specs.declared.packed.Unread.TheVariants as unread
 use Rattle.dp_host.specs.declared.refusal.Refusal.{Refusal}
 use Rattle.dp_host.specs.declared.refusal.Refusal.TheVariants as refusal
-use Rattle.dp_host.specs.Calls.{Call, HasServed, Promised, frames_from}
-use Rattle.dp_host.specs.Packing.{AreFiles, NotPacked}
+use Rattle.dp_host.specs.Calls.{Call, HasServedCalls, Promised, frames_by_port}
+use Rattle.dp_host.specs.Packing.{ArePacked, NotPacked}
 
 -- ---- the numbers of answers
 
@@ -61,21 +61,21 @@ outcome_number Oversize = 2
 -- the pipeline of a text and packed files is loaded, and this is so of it
 pub record HasPlan (text packed : List ℕ) (P : Plan → Type 0) : Type 0 where
   pub files : List NamedBytes
-  pub are_files : AreFiles packed files
+  pub are_packed : ArePacked packed files
   pub plan : Plan
   pub loaded : IsLoadedFrom (Some (listed files)) Given text plan
   pub holds : P plan
 
 -- the engine of a pipeline's text and packed files, before its first call
-abbrev pub IsOpened : List ℕ → List ℕ → EngineState → Type 0
-IsOpened text packed e = HasPlan text packed (λ plan. HasServed plan [] e)
+abbrev pub IsOpenedFor : List ℕ → List ℕ → EngineState → Type 0
+IsOpenedFor text packed e = HasPlan text packed (λ plan. HasServedCalls plan [] e)
 
 -- why no engine is open: the files are not packed, the pipeline is not loaded, or its region is too small; but memory can be refused before each
-abbrev pub IsFaultIn : List ℕ → List ℕ → Fault → Type 0
-IsFaultIn text packed (Unread unread.Form) = NotPacked packed
-IsFaultIn text packed (Unread unread.Memory) = Unit {0}
-IsFaultIn text packed (Load error) = (files : List NamedBytes) × AreFiles packed files × IsUnloaded (Some (listed files)) Given text error
-IsFaultIn text packed (Open cause) = HasPlan text packed (λ plan. IsUnopened plan cause)
+abbrev pub IsOpenErrorFor : List ℕ → List ℕ → OpenError → Type 0
+IsOpenErrorFor text packed (Unread unread.Form) = NotPacked packed
+IsOpenErrorFor text packed (Unread unread.Memory) = Unit {0}
+IsOpenErrorFor text packed (Load error) = (files : List NamedBytes) × ArePacked packed files × IsUnloaded (Some (listed files)) Given text error
+IsOpenErrorFor text packed (Open cause) = HasPlan text packed (λ plan. IsUnopened plan cause)
 
 -- the length of a text in a reason: a zero has to fit after it
 abbrev pub cut_length : List ℕ → ℕ
@@ -109,8 +109,8 @@ too_small = reason_with 3 (codes "the region is too small")
 abbrev pub IsReasonIn : PipeError → Reason → Type 0
 IsReasonIn error r = (r ≡ no_memory) ⊎ (0 < number_of error) × (r ≡ reason_with (10 + number_of error) (text_of error))
 
--- the reason for a fault
-abbrev pub IsReasonFor : Fault → Reason → Type 0
+-- the reason for an error
+abbrev pub IsReasonFor : OpenError → Reason → Type 0
 IsReasonFor (Unread unread.Form) r = r ≡ not_packed
 IsReasonFor (Unread unread.Memory) r = r ≡ no_memory
 IsReasonFor (Load error) r = IsReasonIn error r
@@ -119,8 +119,8 @@ IsReasonFor (Open cause) r = r ≡ no_memory
 
 -- an engine is open and there is no reason, or none is open, and this is the reason
 abbrev pub Opens : List ℕ → List ℕ → Option EngineState → Refusal → Reason → Type 0
-Opens text packed (Some e) missing reason = IsOpened text packed e × (missing ≡ refusal.Closed) × (reason ≡ no_reason)
-Opens text packed None missing reason = (missing ≡ refusal.NotOpen) × ((fault : Fault) × IsFaultIn text packed fault × IsReasonFor fault reason)
+Opens text packed (Some e) missing reason = IsOpenedFor text packed e × (missing ≡ refusal.Closed) × (reason ≡ no_reason)
+Opens text packed None missing reason = (missing ≡ refusal.NotOpen) × ((error : OpenError) × IsOpenErrorFor text packed error × IsReasonFor error reason)
 
 -- ---- a pass
 
@@ -133,11 +133,11 @@ RefusesPass e port size records bytes refusal.BatchTooSmall =
     (records < (max_batch e.setting.env).records) ⊎ (bytes < (max_batch e.setting.env).bytes)
 RefusesPass e port size records bytes other = ⊥
 
-abbrev pub size_of : Room → BatchSize
-size_of filled = record { records = filled.records; bytes = filled.bytes }
+abbrev pub batch_size_of : Room → BatchSize
+batch_size_of filled = record { records = filled.records; bytes = filled.bytes }
 
-abbrev pub nothing : Room
-nothing = record { records = 0; bytes = 0 }
+abbrev pub empty_room : Room
+empty_room = record { records = 0; bytes = 0 }
 
 -- the arrays of a batch
 pub record Arrays : Type 0 where
@@ -146,46 +146,46 @@ pub record Arrays : Type 0 where
 
 -- A pass of an engine that returned a number below 16, the outcome of its turn. The batch has what was sent, port by port, and nothing else of its
 -- arrays changes. Whatever calls the engine had served before, it has now served this one too.
-pub record Passed (old new : EngineState) (port time : ℕ) (frame : List ℕ) (had has : Arrays) (filled : Room) (n : ℕ) : Type 0 where
+pub record PassTaken (old new : EngineState) (port time : ℕ) (frame : List ℕ) (had has : Arrays) (filled : Room) (n : ℕ) : Type 0 where
   pub turn : Turn
   pub number : n ≡ outcome_number turn.outcome
-  pub passes : Passes old new port frame turn time has.records has.bytes (size_of filled)
+  pub passes : Passes old new port frame turn time has.records has.bytes (batch_size_of filled)
   pub sent : List (List (List ℕ))
-  pub batch : Holds time (frames_from 0 sent) has.records has.bytes (size_of filled)
-  pub rest : KeepsRest (size_of filled) had.records has.records had.bytes has.bytes
-  pub serves : (p : Plan) (calls : List Call) → HasServed p calls old →
-      HasServed p (calls ++ record { port = port; time = time; bytes = frame; sent = sent } ∷ []) new
+  pub batch : Holds time (frames_by_port 0 sent) has.records has.bytes (batch_size_of filled)
+  pub rest : KeepsRest (batch_size_of filled) had.records has.records had.bytes has.bytes
+  pub serves : (p : Plan) (calls : List Call) → HasServedCalls p calls old →
+      HasServedCalls p (calls ++ record { port = port; time = time; bytes = frame; sent = sent } ∷ []) new
 
 -- what a pass returns: a turn's outcome; or why it was refused, and nothing changes
 abbrev pub PassAnswers : Option EngineState → Refusal → Option EngineState → ℕ → ℕ → List ℕ → Arrays → Arrays → Room → ℕ → Type 0
-PassAnswers (Some e) missing (Some e') port time frame old new filled n =
-    Passed e e' port time frame old new filled n
-    ⊎ ((why : Refusal) × (n ≡ refusal_number why) × RefusesPass e port (length frame) (length old.records) (length old.bytes) why × (e' ≡ e)
-    × (new ≡ old) × (filled ≡ nothing))
-PassAnswers None missing None port time frame old new filled n = (n ≡ refusal_number missing) × (new ≡ old) × (filled ≡ nothing)
-PassAnswers None missing (Some e') port time frame old new filled n = ⊥
-PassAnswers (Some e) missing None port time frame old new filled n = ⊥
+PassAnswers (Some engine) missing (Some engine') port time frame old new filled n =
+    PassTaken engine engine' port time frame old new filled n
+    ⊎ ((why : Refusal) × (n ≡ refusal_number why) × RefusesPass engine port (length frame) (length old.records) (length old.bytes) why × (engine' ≡ engine)
+    × (new ≡ old) × (filled ≡ empty_room))
+PassAnswers None missing None port time frame old new filled n = (n ≡ refusal_number missing) × (new ≡ old) × (filled ≡ empty_room)
+PassAnswers None missing (Some engine') port time frame old new filled n = ⊥
+PassAnswers (Some engine) missing None port time frame old new filled n = ⊥
 
 -- ---- numbers
 
 -- an engine sets the counts and returns 0; or it returns why there is none, and nothing changes
-abbrev pub Answers : {N : Type 0} → (EngineState → N → Type 0) → (EngineState → Type 0) → Refusal → Option EngineState → Refusal → N → N → ℕ → Type 0
-Answers Is IsNot why (Some e) missing old new n = ((n ≡ 0) × Is e new) ⊎ ((n ≡ refusal_number why) × IsNot e × (new ≡ old))
-Answers Is IsNot why None missing old new n = (n ≡ refusal_number missing) × (new ≡ old)
+abbrev pub SetsOrRefuses : {N : Type 0} → (EngineState → N → Type 0) → (EngineState → Type 0) → Refusal → Option EngineState → Refusal → N → N → ℕ → Type 0
+SetsOrRefuses Is IsNot why (Some e) missing old new n = ((n ≡ 0) × Is e new) ⊎ ((n ≡ refusal_number why) × IsNot e × (new ≡ old))
+SetsOrRefuses Is IsNot why None missing old new n = (n ≡ refusal_number missing) × (new ≡ old)
 
 abbrev pub stats_of : Tallies → PortStats
 stats_of t = record { received = t.received; no_buffer = t.nobuf; oversize = t.oversize; sent = t.sent }
 
 -- the counts of a port
-abbrev pub IsPort : ℕ → EngineState → PortStats → Type 0
-IsPort port e stats = (t : Tallies) × (slice_get (take (length e.setting.env.ports) e.tallies) port ≡ Some t) × (stats ≡ stats_of t)
+abbrev pub IsPortStats : ℕ → EngineState → PortStats → Type 0
+IsPortStats port e stats = (t : Tallies) × (slice_get (take (length e.setting.env.ports) e.tallies) port ≡ Some t) × (stats ≡ stats_of t)
 
 abbrev pub NoPort : ℕ → EngineState → Type 0
 NoPort port e = length (take (length e.setting.env.ports) e.tallies) ≤ port
 
 -- the counts of a pool
-abbrev pub IsPool : ℕ → EngineState → PoolStats → Type 0
-IsPool pool e stats =
+abbrev pub IsPoolStats : ℕ → EngineState → PoolStats → Type 0
+IsPoolStats pool e stats =
     (spec : PoolSpec) × (slice_get e.setting.env.pools pool ≡ Some spec)
     × (stats ≡ record { free = available e.setting.env.pools (live (between e.world)) pool; count = spec.count })
 
@@ -193,27 +193,27 @@ abbrev pub NoPool : ℕ → EngineState → Type 0
 NoPool pool e = length e.setting.env.pools ≤ pool
 
 -- the count of a ring
-abbrev pub IsRing : ℕ → EngineState → RingStats → Type 0
-IsRing ring e stats = AreWaiting e.world.rings ring stats.waiting
+abbrev pub IsRingStats : ℕ → EngineState → RingStats → Type 0
+IsRingStats ring e stats = AreWaiting e.world.rings ring stats.waiting
 
 abbrev pub NoRing : ℕ → EngineState → Type 0
 NoRing ring e = length e.setting.env.rings ≤ ring
 
 -- the size that a batch needs
 abbrev pub IsRoom : EngineState → Room → Type 0
-IsRoom e room = size_of room ≡ max_batch e.setting.env
+IsRoom e room = batch_size_of room ≡ max_batch e.setting.env
 
 -- ---- the end
 
 -- the counts of an engine at its end
-pub record IsTotal (e : EngineState) (t : Totals) : Type 0 where
-  pub turns : t.turns ≡ e.turns
-  pub calls : t.calls ≡ e.world.calls
-  pub cut : t.cut ≡ e.world.cuts
-  pub pools : t.pools ≡ length e.setting.env.pools
+pub record IsTotal (engine : EngineState) (t : Totals) : Type 0 where
+  pub turns : t.turns ≡ engine.turns
+  pub calls : t.calls ≡ engine.world.calls
+  pub cut : t.cut ≡ engine.world.cuts
+  pub pools : t.pools ≡ length engine.setting.env.pools
 
 -- What a close does: the engine ends, and the promise holds of all calls that it served; or none was open, and nothing changes.
 abbrev pub CloseAnswers : Option EngineState → Refusal → Option EngineState → Refusal → Totals → Totals → ℕ → Type 0
 CloseAnswers (Some e) missing new missing' old t n =
-    (n ≡ 0) × (new ≡ None) × (missing' ≡ refusal.Closed) × IsTotal e t × ((p : Plan) (calls : List Call) → HasServed p calls e → Promised p calls e)
+    (n ≡ 0) × (new ≡ None) × (missing' ≡ refusal.Closed) × IsTotal e t × ((p : Plan) (calls : List Call) → HasServedCalls p calls e → Promised p calls e)
 CloseAnswers None missing new missing' old t n = (n ≡ refusal_number missing) × (new ≡ None) × (missing' ≡ missing) × (t ≡ old)

@@ -12,7 +12,7 @@ first_number bytes =
     from_le_bytes w32 (slice_index_or bytes 0 0 ∷ slice_index_or bytes 1 0 ∷ slice_index_or bytes 2 0 ∷ slice_index_or bytes 3 0 ∷ [])
 
 -- the bytes are a file, then more: the lengths of its name and of its bytes, four bytes each, little-endian; its name and its bytes
-pub record BeginsWith (bytes : List ℕ) (file : NamedBytes) (more : List ℕ) : Type 0 where
+pub record BeginsWithFile (bytes : List ℕ) (file : NamedBytes) (more : List ℕ) : Type 0 where
   pub head : List ℕ
   pub eight : length head ≡ 8
   pub name_length : first_number head ≡ length file.name.now
@@ -22,7 +22,7 @@ pub record BeginsWith (bytes : List ℕ) (file : NamedBytes) (more : List ℕ) :
 -- the bytes are these files, in order
 abbrev pub AreFiles : List ℕ → List NamedBytes → Type 0
 AreFiles bytes [] = bytes ≡ []
-AreFiles bytes (file ∷ files) = (more : List ℕ) × BeginsWith bytes file more × AreFiles more files
+AreFiles bytes (file ∷ files) = (more : List ℕ) × BeginsWithFile bytes file more × AreFiles more files
 
 -- the bytes are files, at most 64, whose names are UTF-8
 pub record ArePacked (bytes : List ℕ) (files : List NamedBytes) : Type 0 where
@@ -35,5 +35,5 @@ abbrev pub NotPacked : List ℕ → Type 0
 NotPacked bytes = (files : List NamedBytes) → ArePacked bytes files → ⊥
 
 -- the bytes begin with no file
-abbrev pub BeginsWithNone : List ℕ → Type 0
-BeginsWithNone bytes = (file : NamedBytes) (more : List ℕ) → IsUtf8 file.name.now → BeginsWith bytes file more → ⊥
+abbrev pub BeginsWithNoFile : List ℕ → Type 0
+BeginsWithNoFile bytes = (file : NamedBytes) (more : List ℕ) → IsUtf8 file.name.now → BeginsWithFile bytes file more → ⊥

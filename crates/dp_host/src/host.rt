@@ -3,8 +3,9 @@
 ghost use Rattle.std.specs.Prelude.{◌≡◌, ◌≤◌, [], ◌++◌, drop, length, IfErr, IfOk};
 ghost use Rattle.dp_pipe.specs.Pipelines.{IsPlan};
 ghost use Rattle.dp_pipe.specs.Running.{IsUnopened};
-ghost use Rattle.dp_host.specs.Calls.{HasServed};
-ghost use Rattle.dp_host.specs.Hosts.{Answers, CloseAnswers, IsFaultIn, IsOpened, IsPool, IsPort, IsReasonFor, IsReasonIn, IsRing, IsRoom, Opens, PassAnswers};
+ghost use Rattle.dp_host.specs.Calls.{HasServedCalls};
+ghost use Rattle.dp_host.specs.Hosts.{SetsOrRefuses, CloseAnswers, IsOpenErrorFor, IsOpenedFor, IsPoolStats, IsPortStats, IsReasonFor, IsReasonIn};
+ghost use Rattle.dp_host.specs.Hosts.{IsRingStats, IsRoom, Opens, PassAnswers};
 ghost use Rattle.dp_host.specs.Hosts.{NoPool, NoPort, NoRing, outcome_number, padded, reason_with};
 
 use crate::numbers::{MAX_REASON, PoolStats, PortStats, Reason, RingStats, Room, Totals};
@@ -26,7 +27,7 @@ pub struct Host {
 
 /// Why no engine is open.
 #[derive(Clone, Copy)]
-pub enum Fault {
+pub enum OpenError {
     /// The files are not read.
     Unread(Unread),
     /// The pipeline is not loaded.
@@ -47,7 +48,7 @@ fn counts_of(pipeline: &Pipeline) -> (u32, u32)
 
 // Opens the engine of a pipeline.
 fn running_of(alloc: Global, pipeline: Pipeline) -> Result<Running, RunCause>
-    ensures ok { IfOk result (HasServed pipeline []) }
+    ensures ok { IfOk result (HasServedCalls pipeline []) }
     ensures err { IfErr result (IsUnopened pipeline) }
 {
     let (ports, rings) = counts_of(&pipeline);
@@ -58,24 +59,24 @@ fn running_of(alloc: Global, pipeline: Pipeline) -> Result<Running, RunCause>
 }
 
 // Opens the engine of a pipeline's text and its files.
-fn started(alloc: Global, toml: &[u8], packed: &[u8]) -> Result<Running, Fault>
-    ensures ok { IfOk result (IsOpened toml.now packed.now) }
-    ensures err { IfErr result (IsFaultIn toml.now packed.now) }
+fn started(alloc: Global, toml: &[u8], packed: &[u8]) -> Result<Running, OpenError>
+    ensures ok { IfOk result (IsOpenedFor toml.now packed.now) }
+    ensures err { IfErr result (IsOpenErrorFor toml.now packed.now) }
 {
     let files = match files_in(alloc, packed) {
         Ok(files) => files,
-        Err(why) => return Err(Fault::Unread(why)),
+        Err(why) => return Err(OpenError::Unread(why)),
     };
     let mut listed = Listed {
         files: files.as_slice(),
     };
     let pipeline = match load(alloc, toml, &mut listed, How::Given) {
         Ok(pipeline) => pipeline,
-        Err(error) => return Err(Fault::Load(error)),
+        Err(error) => return Err(OpenError::Load(error)),
     };
     match running_of(alloc, pipeline) {
         Ok(running) => Ok(running),
-        Err(cause) => Err(Fault::Open(cause)),
+        Err(cause) => Err(OpenError::Open(cause)),
     }
 }
 
@@ -122,16 +123,19 @@ fn reason_in(alloc: Global, error: PipeError) -> Reason
     }
 }
 
-// The reason for a fault.
-fn reason_for(alloc: Global, fault: Fault) -> Reason
-    ensures { IsReasonFor fault result }
+// The reason for an error.
+fn reason_for(alloc: Global, error: OpenError) -> Reason
+    ensures { IsReasonFor error result }
 {
-    match fault {
-        Fault::Unread(Unread::Form) => reason_of(2, b"the files are not packed as they should be"),
-        Fault::Unread(Unread::Memory) => reason_of(1, b"memory"),
-        Fault::Load(error) => reason_in(alloc, error),
-        Fault::Open(RunCause::NoRoom) => reason_of(3, b"the region is too small"),
-        Fault::Open(_) => reason_of(1, b"memory"),
+    match error {
+        OpenError::Unread(Unread::Form) => reason_of(
+            2,
+            b"the files are not packed as they should be",
+        ),
+        OpenError::Unread(Unread::Memory) => reason_of(1, b"memory"),
+        OpenError::Load(pipe_error) => reason_in(alloc, pipe_error),
+        OpenError::Open(RunCause::NoRoom) => reason_of(3, b"the region is too small"),
+        OpenError::Open(_) => reason_of(1, b"memory"),
     }
 }
 
@@ -145,10 +149,10 @@ pub(crate) fn opened(alloc: Global, toml: &[u8], packed: &[u8]) -> Host
             missing: Refusal::Closed,
             reason: reason_of(0, b""),
         },
-        Err(fault) => Host {
+        Err(error) => Host {
             running: None,
             missing: Refusal::NotOpen,
-            reason: reason_for(alloc, fault),
+            reason: reason_for(alloc, error),
         },
     }
 }
@@ -207,7 +211,7 @@ pub(crate) fn passed(
 
 /// Sets `size` to the size that a batch needs.
 pub(crate) fn batch_size(host: &mut Host, size: &mut Room) -> u32
-    ensures { (host.new ≡ host.old) × Answers IsRoom (λ e. ⊥) Refusal.NotOpen host.old.running host.old.missing size.old size.new result }
+    ensures { (host.new ≡ host.old) × SetsOrRefuses IsRoom (λ e. ⊥) Refusal.NotOpen host.old.running host.old.missing size.old size.new result }
 {
     let Some(running) = &host.running else {
         return host.missing.number();
@@ -222,7 +226,8 @@ pub(crate) fn batch_size(host: &mut Host, size: &mut Room) -> u32
 
 /// Writes the counts of a port to `stats`.
 pub(crate) fn port_stats(host: &mut Host, port: u32, stats: &mut PortStats) -> u32
-    ensures { (host.new ≡ host.old) × Answers (IsPort port) (NoPort port) Refusal.NoPort host.old.running host.old.missing stats.old stats.new result }
+    ensures { (host.new ≡ host.old) × SetsOrRefuses (IsPortStats port) (NoPort port) Refusal.NoPort host.old.running host.old.missing stats.old stats.new
+        result }
 {
     let Some(running) = &host.running else {
         return host.missing.number();
@@ -243,7 +248,8 @@ pub(crate) fn port_stats(host: &mut Host, port: u32, stats: &mut PortStats) -> u
 
 /// Writes the counts of a pool to `stats`.
 pub(crate) fn pool_stats(host: &mut Host, pool: u32, stats: &mut PoolStats) -> u32
-    ensures { (host.new ≡ host.old) × Answers (IsPool pool) (NoPool pool) Refusal.NoPool host.old.running host.old.missing stats.old stats.new result }
+    ensures { (host.new ≡ host.old) × SetsOrRefuses (IsPoolStats pool) (NoPool pool) Refusal.NoPool host.old.running host.old.missing stats.old stats.new
+        result }
 {
     let Some(running) = &host.running else {
         return host.missing.number();
@@ -262,7 +268,8 @@ pub(crate) fn pool_stats(host: &mut Host, pool: u32, stats: &mut PoolStats) -> u
 
 /// Writes the counts of a ring to `stats`.
 pub(crate) fn ring_stats(host: &mut Host, ring: u32, stats: &mut RingStats) -> u32
-    ensures { (host.new ≡ host.old) × Answers (IsRing ring) (NoRing ring) Refusal.NoRing host.old.running host.old.missing stats.old stats.new result }
+    ensures { (host.new ≡ host.old) × SetsOrRefuses (IsRingStats ring) (NoRing ring) Refusal.NoRing host.old.running host.old.missing stats.old stats.new
+        result }
 {
     let Some(running) = &host.running else {
         return host.missing.number();

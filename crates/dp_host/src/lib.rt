@@ -26,7 +26,7 @@ ghost use Rattle.std.specs.Ptr.{lies_at, room_at};
 ghost use types.Logic.{sem};
 ghost use Rattle.dp_host.specs.contracts.host.Host.{the_row};
 ghost use Rattle.dp_host.specs.declared.refusal.Refusal.TheVariants as refusal;
-ghost use Rattle.dp_host.specs.Hosts.{Answers, CloseAnswers, IsPool, IsPort, IsRing, IsRoom, NoPool, NoPort, NoRing, Opens, PassAnswers};
+ghost use Rattle.dp_host.specs.Hosts.{SetsOrRefuses, CloseAnswers, IsPoolStats, IsPortStats, IsRingStats, IsRoom, NoPool, NoPort, NoRing, Opens, PassAnswers};
 
 use crate::host::Host;
 use crate::numbers::{PoolStats, PortStats, Reason, RingStats, Room, Totals};
@@ -86,7 +86,7 @@ pub unsafe extern "C" fn dpv_batch_size(at: *mut u8, size: &mut Room) -> u32
     ghost h: { Host }
     requires* { sem 𝓛 (lies_at the_row full_share at h) }
     ensures* { ∃ₛ (λ (h' : Host). sem 𝓛 (lies_at the_row full_share at h') ∗ ⌜ (h' ≡ h)
-        × Answers IsRoom (λ e. ⊥) refusal.NotOpen h.running h.missing size.old size.new result ⌝) }
+        × SetsOrRefuses IsRoom (λ e. ⊥) refusal.NotOpen h.running h.missing size.old size.new result ⌝) }
 {
     host::batch_size(&mut *(at as *mut Host), size)
 }
@@ -107,7 +107,7 @@ pub unsafe extern "C" fn dpv_port(at: *mut u8, which: u32, out: &mut PortStats) 
     ghost h: { Host }
     requires* { sem 𝓛 (lies_at the_row full_share at h) }
     ensures* { ∃ₛ (λ (h' : Host). sem 𝓛 (lies_at the_row full_share at h') ∗ ⌜ (h' ≡ h)
-        × Answers (IsPort which) (NoPort which) refusal.NoPort h.running h.missing out.old out.new result ⌝) }
+        × SetsOrRefuses (IsPortStats which) (NoPort which) refusal.NoPort h.running h.missing out.old out.new result ⌝) }
 {
     host::port_stats(&mut *(at as *mut Host), which, out)
 }
@@ -118,7 +118,7 @@ pub unsafe extern "C" fn dpv_pool(at: *mut u8, which: u32, out: &mut PoolStats) 
     ghost h: { Host }
     requires* { sem 𝓛 (lies_at the_row full_share at h) }
     ensures* { ∃ₛ (λ (h' : Host). sem 𝓛 (lies_at the_row full_share at h') ∗ ⌜ (h' ≡ h)
-        × Answers (IsPool which) (NoPool which) refusal.NoPool h.running h.missing out.old out.new result ⌝) }
+        × SetsOrRefuses (IsPoolStats which) (NoPool which) refusal.NoPool h.running h.missing out.old out.new result ⌝) }
 {
     host::pool_stats(&mut *(at as *mut Host), which, out)
 }
@@ -129,7 +129,7 @@ pub unsafe extern "C" fn dpv_ring(at: *mut u8, which: u32, out: &mut RingStats) 
     ghost h: { Host }
     requires* { sem 𝓛 (lies_at the_row full_share at h) }
     ensures* { ∃ₛ (λ (h' : Host). sem 𝓛 (lies_at the_row full_share at h') ∗ ⌜ (h' ≡ h)
-        × Answers (IsRing which) (NoRing which) refusal.NoRing h.running h.missing out.old out.new result ⌝) }
+        × SetsOrRefuses (IsRingStats which) (NoRing which) refusal.NoRing h.running h.missing out.old out.new result ⌝) }
 {
     host::ring_stats(&mut *(at as *mut Host), which, out)
 }

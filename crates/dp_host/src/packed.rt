@@ -1,7 +1,8 @@
 //! Reads files packed in one buffer: for each the lengths of name and bytes, four bytes each, little-endian; then the name and the bytes.
 
 ghost use Rattle.std.specs.Prelude.{◌≡◌, ◌≢◌, ◌≤◌, [], length, IfErr, IfNone, IfOk, IfSome};
-ghost use Rattle.dp_host.specs.Packing.{AreFiles, BeginsWith, BeginsWithNone, NotPacked, first_number};
+ghost use Rattle.std.specs.Str.{IsUtf8};
+ghost use Rattle.dp_host.specs.Packing.{ArePacked, BeginsWithFile, BeginsWithNoFile, NotPacked, first_number};
 
 use dp_pipe::NamedBytes;
 use std::alloc::Global;
@@ -28,8 +29,9 @@ fn number_in(bytes: &[u8]) -> u32
 
 // Splits off the first file; returns it and the bytes after it.
 fn front(packed: &[u8]) -> Option<(NamedBytes<'_>, &[u8])>
-    ensures some { IfSome result (λ r. BeginsWith packed.now r.0 r.1.now) }
-    ensures none { IfNone result (BeginsWithNone packed.now) }
+    ensures some { IfSome result (λ r. BeginsWithFile packed.now r.0 r.1.now) }
+    ensures name { IfSome result (λ r. IsUtf8 r.0.name.now) }
+    ensures none { IfNone result (BeginsWithNoFile packed.now) }
 {
     if packed.len() < 8 {
         return None;
@@ -53,6 +55,7 @@ fn front(packed: &[u8]) -> Option<(NamedBytes<'_>, &[u8])>
 fn whole<'a>(files: Vec<NamedBytes<'a>>, rest: &[u8]) -> Result<Vec<NamedBytes<'a>>, Unread>
     ensures ok { IfOk result (λ all. (all.items ≡ files.entry.items) × (rest.now ≡ [])) }
     ensures err { IfErr result (λ why. rest.now ≢ []) }
+    ensures form { IfErr result (λ why. why ≡ Unread.Form) }
 {
     if rest.is_empty() {
         Ok(files)
@@ -67,7 +70,7 @@ fn whole<'a>(files: Vec<NamedBytes<'a>>, rest: &[u8]) -> Result<Vec<NamedBytes<'
 ///
 /// [`Unread::Form`] only if it is not packed in this way, or has more than [`MAX_FILES`] files; [`Unread::Memory`] if memory is refused.
 pub fn files_in(alloc: Global, packed: &[u8]) -> Result<Vec<NamedBytes<'_>>, Unread>
-    ensures ok { IfOk result (λ files. AreFiles packed.now files.items) }
+    ensures ok { IfOk result (λ files. ArePacked packed.now files.items) }
     ensures form { IfErr result (λ why. why ≡ Unread.Form → NotPacked packed.now) }
 {
     let mut files = Vec::new(alloc);

@@ -13,7 +13,7 @@ use dp_pcap::MAX_RECORD;
 use std::marker::Model;
 
 /// The maximum number of turns of an engine: 2^40.
-pub const MAX_TURNS: u64 = 1_099_511_627_776;
+pub const MAX_ENGINE_TURNS: u64 = 1_099_511_627_776;
 
 /// An engine, its numbers of ports and rings, and the size that a batch needs.
 pub struct Running {
@@ -82,7 +82,7 @@ impl Running {
         if frame.len() > MAX_RECORD {
             return Err(Refusal::TooLong);
         }
-        if self.engine.turns() >= MAX_TURNS {
+        if self.engine.turns() >= MAX_ENGINE_TURNS {
             return Err(Refusal::NoTurns);
         }
         if records.len() < self.room.records || bytes.len() < self.room.bytes {

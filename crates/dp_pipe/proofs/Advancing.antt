@@ -1,5 +1,5 @@
 -- A run continues with one input: its answer, the turn on it, and the drains of all ports.
-use Rattle.std.proofs.Common.{◌≡◌, ◌≢◌, ℕ, zero, suc, ◌+◌, ◌<◌, ◌≤◌, Bool, true, false, List, [], ◌∷◌, ◌++◌, length, map, Option, Some}
+use Rattle.std.proofs.Common.{◌≡◌, ◌≢◌, ℕ, zero, suc, ◌+◌, ◌<◌, ◌≤◌, Bool, true, false, List, [], ◌∷◌, ◌++◌, length, map, Some}
 use Rattle.std.proofs.Common.{refl, sym, ◌∙◌, ap, subst, arith, ◌⊎◌, inl, inr}
 use Rattle.std.specs.Prelude.{slice_get, slice_set, nat_lt, flat_map, option_map, if◌then◌else◌}
 use Rattle.std.proofs.lemmas.Bool.{lt-ltb, le-ltb, ltb-true, ltb-false}
@@ -16,8 +16,9 @@ use Rattle.dp_engine.specs.declared.report.InputState.{InputState}
 use Rattle.dp_engine.specs.declared.report.InputState.TheVariants.{Open, Whole, Cut}
 use Rattle.dp_engine.specs.Drains.{captured}
 use Rattle.dp_pipe.specs.Devices.{Device, IsGiven, At}
-use Rattle.dp_pipe.specs.Forwarding.{Input, records_in, arrivals_of, asked, AnswersSo, AskedUntil, capture_of, capture_at, records_text, AreWritten}
+use Rattle.dp_pipe.specs.Forwarding.{Input, timed_records, arrivals_of, asked, AnswersSo, AskedUntil, capture_of, capture_at, records_text, AreWritten}
 use Rattle.dp_pipe.specs.Forwarding.{drained_at}
+use Rattle.dp_pipe.proofs.Indices.{set_here}
 use Rattle.dp_pipe.proofs.Forwarded.{split}
 use Rattle.dp_pipe.proofs.Interleaving.{AreFew, interleaved_more}
 use Rattle.dp_pipe.proofs.RunOn.{arrival}
@@ -70,17 +71,17 @@ ended state i = record i { state = state }
 abbrev timed : PacketRecord → Time × List ℕ
 timed r = (r.time, r.bytes)
 
-records_set : (inputs : List Input) (p : ℕ) (i : Input) → map records_in (slice_set inputs p i) ≡ slice_set (map records_in inputs) p (records_in i)
+records_set : (inputs : List Input) (p : ℕ) (i : Input) → map timed_records (slice_set inputs p i) ≡ slice_set (map timed_records inputs) p (timed_records i)
 records_set [] p i = refl
 records_set (x ∷ inputs) zero i = refl
-records_set (x ∷ inputs) (suc p) i = ap (λ l. records_in x ∷ l) (records_set inputs p i)
+records_set (x ∷ inputs) (suc p) i = ap (λ l. timed_records x ∷ l) (records_set inputs p i)
 
 -- an input that ended keeps the records
 pub arrivals_ended : (inputs : List Input) (p : ℕ) (i : Input) (state : InputState) → slice_get inputs p ≡ Some i →
     arrivals_of (slice_set inputs p (ended state i)) ≡ arrivals_of inputs
 arrivals_ended inputs p i state here =
-    ap interleaved (records_set inputs p (ended state i) ∙ set_itself (map records_in inputs) p (records_in i) (slice_get-map records_in inputs p
-    ∙ ap (option_map records_in) here))
+    ap interleaved (records_set inputs p (ended state i) ∙ set_itself (map timed_records inputs) p (timed_records i) (slice_get-map timed_records inputs p
+    ∙ ap (option_map timed_records) here))
 
 -- an input that was asked in turn has at most this many records
 pub given_few : (round port q : ℕ) (state : InputState) (count : ℕ) → AnswersSo state count (asked round port q) → count ≤ asked round port q
@@ -100,28 +101,28 @@ pub arrivals_grown : (inputs : List Input) (round p : ℕ) (i : Input) (r : Pack
     → ((q : ℕ) (j : Input) → slice_get inputs q ≡ Some j → length j.records ≤ asked round p q)
     → arrivals_of (slice_set inputs p (with_record r i)) ≡ arrivals_of inputs ++ arrival p r.time r.bytes ∷ []
 arrivals_grown inputs round p i r here count least =
-    let xs = records_in i in
-    let is : slice_get (map records_in inputs) p ≡ Some xs = slice_get-map records_in inputs p ∙ ap (option_map records_in) here in
+    let xs = timed_records i in
+    let is : slice_get (map timed_records inputs) p ≡ Some xs = slice_get-map timed_records inputs p ∙ ap (option_map timed_records) here in
     let long : length xs ≡ round = length-map i.records timed ∙ count in
-    let more : records_in (with_record r i) ≡ xs ++ timed r ∷ [] = map-append timed i.records (r ∷ []) in
-    let few : AreFew (length xs + 1) (map records_in inputs) = λ q ys e. few_at q ys e (input_of inputs q ys e) long in
-    let beyond : (q : ℕ) (ys : List (Time × List ℕ)) → p < q → slice_get (map records_in inputs) q ≡ Some ys → length ys ≤ length xs =
+    let more : timed_records (with_record r i) ≡ xs ++ timed r ∷ [] = map-append timed i.records (r ∷ []) in
+    let few : AreFew (length xs + 1) (map timed_records inputs) = λ q ys e. few_at q ys e (input_of inputs q ys e) long in
+    let beyond : (q : ℕ) (ys : List (Time × List ℕ)) → p < q → slice_get (map timed_records inputs) q ≡ Some ys → length ys ≤ length xs =
     λ q ys lt e. beyond_at q ys lt (input_of inputs q ys e) long in
-    ap interleaved (records_set inputs p (with_record r i) ∙ ap (slice_set (map records_in inputs) p) more)
-    ∙ interleaved_more (map records_in inputs) p xs (timed r) is few beyond
+    ap interleaved (records_set inputs p (with_record r i) ∙ ap (slice_set (map timed_records inputs) p) more)
+    ∙ interleaved_more (map timed_records inputs) p xs (timed r) is few beyond
   where
-    input_of : (inputs : List Input) (q : ℕ) (ys : List (Time × List ℕ)) → slice_get (map records_in inputs) q ≡ Some ys →
-        (j : Input) × (slice_get inputs q ≡ Some j) × (ys ≡ records_in j)
+    input_of : (inputs : List Input) (q : ℕ) (ys : List (Time × List ℕ)) → slice_get (map timed_records inputs) q ≡ Some ys →
+        (j : Input) × (slice_get inputs q ≡ Some j) × (ys ≡ timed_records j)
     input_of [] q ys e = cc
     input_of (x ∷ inputs) zero ys e = (x, refl, sym (same_Some _ _ e))
     input_of (x ∷ inputs) (suc q) ys e = input_of inputs q ys e
 
-    few_at : (q : ℕ) (ys : List (Time × List ℕ)) → slice_get (map records_in inputs) q ≡ Some ys →
-        ((j : Input) × (slice_get inputs q ≡ Some j) × (ys ≡ records_in j)) → length (records_in i) ≡ round → length ys ≤ length (records_in i) + 1
+    few_at : (q : ℕ) (ys : List (Time × List ℕ)) → slice_get (map timed_records inputs) q ≡ Some ys →
+        ((j : Input) × (slice_get inputs q ≡ Some j) × (ys ≡ timed_records j)) → length (timed_records i) ≡ round → length ys ≤ length (timed_records i) + 1
     few_at q ys e (j, at, is) long = omega (arith, ap length is, length-map j.records timed, least q j at, asked_most round p q, long)
 
-    beyond_at : (q : ℕ) (ys : List (Time × List ℕ)) → p < q → ((j : Input) × (slice_get inputs q ≡ Some j) × (ys ≡ records_in j)) →
-        length (records_in i) ≡ round → length ys ≤ length (records_in i)
+    beyond_at : (q : ℕ) (ys : List (Time × List ℕ)) → p < q → ((j : Input) × (slice_get inputs q ≡ Some j) × (ys ≡ timed_records j)) →
+        length (timed_records i) ≡ round → length ys ≤ length (timed_records i)
     beyond_at q ys lt (j, at, is) long =
         let none : asked round p q ≡ round = ap (λ b. if b then round + 1 else round) (le-ltb q p (omega (arith, lt))) in
         omega (arith, ap length is, length-map j.records timed, least q j at, none, long)
@@ -131,8 +132,7 @@ pub arrivals_more : (inputs : List Input) (round p : ℕ) (i : Input) (r : Packe
     i.state ≡ Open
     → arrivals_of (slice_set inputs p (with_record r i)) ≡ arrivals_of inputs ++ arrival p r.time r.bytes ∷ []
 arrivals_more inputs round p i r order here goes =
-    let not_below : asked round p p ≡ round = ap (λ b. if b then round + 1 else round) (le-ltb p p (omega arith)) in
-    let count : length i.records ≡ round = rw (goes, not_below) at (order p i here) in
+    let count : length i.records ≡ round = rw (goes, le-ltb p p (omega arith)) at (order p i here) in
     arrivals_grown inputs round p i r here count (λ q j at. given_few round p q j.state (length j.records) (order q j at))
 
 -- ---- the order
@@ -152,16 +152,10 @@ pub order_next : (inputs : List Input) (round port : ℕ) (i : Input) → AskedU
     AskedUntil round (port + 1) (slice_set inputs port i)
 order_next inputs round port i order answers q j at = go (split q port)
   where
-    here : (xs : List Input) (p : ℕ) (x : Input) (y : Input) → slice_get (slice_set xs p x) p ≡ Some y → x ≡ y
-    here [] p x y e = cc
-    here (z ∷ xs) zero x y e = same_Some x y e
-    here (z ∷ xs) (suc p) x y e = here xs p x y e
-
     go : (q ≡ port) ⊎ (q ≢ port) → AnswersSo j.state (length j.records) (asked round (port + 1) q)
     go (inl same) =
-        let is = here inputs port i j (ap (slice_get (slice_set inputs port i)) (sym same) ∙ at) in
-        let wanted : asked round (port + 1) q ≡ round + 1 = ap (λ b. if b then round + 1 else round) (lt-ltb q (port + 1) (omega (arith, same))) in
-        rw wanted (subst (λ (x : Input). AnswersSo x.state (length x.records) (round + 1)) is answers)
+        let is : i ≡ j = set_here inputs port i j (rw same at at) in
+        rw (lt-ltb q (port + 1) (omega (arith, same)), ← is) answers
     go (inr other) =
         let was : slice_get inputs q ≡ Some j = sym (get_set_other inputs port q i other) ∙ at in
         rw (asked_next round port q other) (order q j was)
@@ -169,25 +163,22 @@ order_next inputs round port i order answers q j at = go (split q port)
 -- after all ports the next round begins
 pub order_round : (inputs : List Input) (round n : ℕ) → length inputs ≤ n → AskedUntil round n inputs → AskedUntil (round + 1) 0 inputs
 order_round inputs round n many order q i at =
-    let a : asked round n q ≡ round + 1 = ap (λ b. if b then round + 1 else round) (lt-ltb q n (omega (arith, slice_get_within inputs q i at, many))) in
-    let b : asked (round + 1) 0 q ≡ round + 1 = ap (λ b. if b then round + 1 + 1 else round + 1) (le-ltb q 0 (omega arith)) in
-    rw b (rw a at (order q i at))
+    rw (le-ltb q 0 (omega arith)) (rw (lt-ltb q n (omega (arith, slice_get_within inputs q i at, many))) at (order q i at))
+
+-- an input that has ended would give no record the next time
+pub more_due : (state : InputState) (count due : ℕ) → (state ≡ Open → ⊥) → AnswersSo state count due → AnswersSo state count (due + 1)
+more_due Open count due over e = absurd (over refl)
+more_due Whole count due over lt = omega (arith, lt)
+more_due (Cut byte) count due over lt = omega (arith, lt)
 
 -- an input that has ended is not asked
 pub order_ended : (inputs : List Input) (round port : ℕ) (i : Input) → slice_get inputs port ≡ Some i → (i.state ≡ Open → ⊥) → AskedUntil round port inputs →
     AskedUntil round (port + 1) inputs
 order_ended inputs round port i here over order q j at = go (split q port)
   where
-    more : (state : InputState) (count wanted : ℕ) → (state ≡ Open → ⊥) → AnswersSo state count wanted → AnswersSo state count (wanted + 1)
-    more Open count wanted over e = absurd (over refl)
-    more Whole count wanted over lt = omega (arith, lt)
-    more (Cut byte) count wanted over lt = omega (arith, lt)
-
     go : (q ≡ port) ⊎ (q ≢ port) → AnswersSo j.state (length j.records) (asked round (port + 1) q)
     go (inl same) =
-        let is : i ≡ j = same_Some i j (sym here ∙ ap (slice_get inputs) (sym same) ∙ at) in
-        let wanted : asked round (port + 1) q ≡ round + 1 = ap (λ b. if b then round + 1 else round) (lt-ltb q (port + 1) (omega (arith, same))) in
-        let before : asked round port port ≡ round = ap (λ b. if b then round + 1 else round) (le-ltb port port (omega arith)) in
-        rw wanted (subst (λ (x : Input). AnswersSo x.state (length x.records) (round + 1)) is
-        (more i.state (length i.records) round over (rw before at (order port i here))))
+        let is : i ≡ j = same_Some i j (sym here ∙ rw same at at) in
+        let due : AnswersSo i.state (length i.records) round = rw (le-ltb port port (omega arith)) at (order port i here) in
+        rw (lt-ltb q (port + 1) (omega (arith, same)), ← is) (more_due i.state (length i.records) round over due)
     go (inr other) = rw (asked_next round port q other) (order q j at)

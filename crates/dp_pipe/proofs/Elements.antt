@@ -8,11 +8,11 @@ use Rattle.toml.proofs.Views.{Entry}
 use Rattle.toml.specs.Data.{Data}
 use Rattle.toml.specs.View.{view, items_of, members_view}
 use Rattle.toml.specs.declared.value.Value.{Value}
-use Rattle.dp_pipe.specs.Keys.{listed, elements_of, is_array, is_array_of, is_among, has_only}
+use Rattle.dp_pipe.specs.Keys.{array_elements, elements_of, is_array, is_array_of, is_among, has_only}
 
-pub listed_items : (ds : List Data) → listed (items_of ds) ≡ ds
-listed_items [] = refl
-listed_items (d ∷ ds) = ap (λ (rest : List Data). d ∷ rest) (listed_items ds)
+pub array_elements_items : (ds : List Data) → array_elements (items_of ds) ≡ ds
+array_elements_items [] = refl
+array_elements_items (d ∷ ds) = ap (λ (rest : List Data). d ∷ rest) (array_elements_items ds)
 
 pub all_elements : (kind : Data → Bool) (d : Data) (vs : List Value) (b : Bool) → is_array d ≡ true → map view vs ≡ elements_of d →
     b ≡ list_all (λ v. kind (view v)) vs → b ≡ is_array_of kind d

@@ -1,5 +1,5 @@
 -- Devices that are called one after the other, and one that fails.
-use Rattle.std.proofs.Common.{◌≡◌, ◌≢◌, ◌⊎◌, inl, inr, ◌↔◌, ℕ, ◌+◌, ◌<◌, ◌≤◌, ◌||◌, List, Option, Some, Bool, true, false, Result, Ok, Err, length, refl, ap}
+use Rattle.std.proofs.Common.{◌≡◌, ◌≢◌, ◌⊎◌, inl, inr, ◌↔◌, ℕ, ◌+◌, ◌<◌, ◌≤◌, ◌||◌, List, Some, Bool, true, false, Result, Ok, Err, length, refl, ap}
 use Rattle.std.proofs.Common.{sym, ◌∙◌, subst, arith}
 use Rattle.std.specs.Prelude.{slice_get, slice_set, ◌==◌, if◌then◌else◌, IsTrue, IsOk, IsErrOf, ⊤}
 use Rattle.std.proofs.lemmas.Bool.{eq-eqb, ne_eqb, cases_lt}
@@ -47,8 +47,7 @@ fared_badly is_broken failures d d' is more = record { broken = is; count = more
 -- it failed at its own index
 pub failed_here : {D : Type 0} (is_broken : D → Bool) (failures : D → ℕ) (n : ℕ) (d d' : D) → is_broken d' ≡ true → failures d' ≡ failures d + 1 →
     Fared is_broken failures (n == n) d d'
-failed_here is_broken failures n d d' is more = subst (λ b. Fared is_broken failures b d d') (sym (eq-eqb n n refl))
-    (fared_badly is_broken failures d d' is more)
+failed_here is_broken failures n d d' is more = rw (eq-eqb n n refl) (fared_badly is_broken failures d d' is more)
 
 -- it failed in neither of two, or in the second
 pub fared_then : {D : Type 0} (is_broken : D → Bool) (failures : D → ℕ) (failed : Bool) (a b c : D) → Fared is_broken failures false a b →
@@ -63,8 +62,8 @@ fared_then is_broken failures failed a b c first next = record {
 pub all_same : {D : Type 0} (is_broken : D → Bool) (failures : D → ℕ) (failed : ℕ → Bool) (ds : List D) → ((q : ℕ) → failed q ≡ false) →
     AllFared is_broken failures failed ds ds
 all_same is_broken failures failed ds none q d d' here there =
-    let is : d ≡ d' = same_Some d d' (sym here ∙ there) in
-    subst (λ x. Fared is_broken failures (failed q) d x) is (subst (λ b. Fared is_broken failures b d d) (sym (none q)) (fared_same is_broken failures d))
+    let is : d' ≡ d = same_Some d' d (sym there ∙ here) in
+    rw (none q, is) (fared_same is_broken failures d)
 
 pub all_then : {D : Type 0} (is_broken : D → Bool) (failures : D → ℕ) (failed : ℕ → Bool) (olds mids news : List D) → length mids ≡ length olds
     → AllFared is_broken failures (λ q. false) olds mids → AllFared is_broken failures failed mids news → AllFared is_broken failures failed olds news
@@ -80,7 +79,7 @@ one_fared {D} is_broken failures failed n ds w w' at own others q d d' here ther
     go : (q ≡ n) ⊎ (q ≢ n) → Fared is_broken failures (failed q) d d'
     go (inl same) =
         let old : d ≡ w = same_Some d w (sym here ∙ ap (slice_get ds) same ∙ at) in
-        let new : d' ≡ w' = new_of n ds w w' d' at (ap (slice_get (slice_set ds n w')) (sym same) ∙ there) in
+        let new : d' ≡ w' = new_of n ds w w' d' at (rw same at there) in
         rw (same, old, new) own
     go (inr other) =
         let is : d' ≡ d = same_Some d' d (sym there ∙ get_set_other ds n q w' other ∙ here) in
@@ -115,16 +114,14 @@ pub reader_then : {D A : Type 0} (is_broken : D → Bool) (failures : D → ℕ)
     → AllFared is_broken failures (λ q. false) olds ds → slice_get ds n ≡ Some d → FaredAlone is_broken failures (failed_reader answer) n d d'
     → answer ≡ given → AllFared is_broken failures (failed_reader given) olds (slice_set ds n d')
 reader_then is_broken failures answer given n olds ds d d' many first at fared is =
-    subst (λ a. AllFared is_broken failures (failed_reader a) olds (slice_set ds n d')) is
-    (one_then is_broken failures (failed_reader answer) n olds ds d d' many first at fared.own fared.others)
+    rw (← is) (one_then is_broken failures (failed_reader answer) n olds ds d d' many first at fared.own fared.others)
 
 pub readers_then : {D A : Type 0} (is_broken : D → Bool) (failures : D → ℕ) (answer given : Result A RunCause) (olds mids news : List D) →
     length mids ≡ length olds
     → AllFared is_broken failures (λ q. false) olds mids → AllFared is_broken failures (failed_reader answer) mids news → answer ≡ given
     → AllFared is_broken failures (failed_reader given) olds news
 readers_then is_broken failures answer given olds mids news many first next is =
-    all_then is_broken failures (failed_reader given) olds mids news many first
-    (subst (λ a. AllFared is_broken failures (failed_reader a) mids news) is next)
+    all_then is_broken failures (failed_reader given) olds mids news many first (rw is at next)
 
 -- of writers that are sound
 pub writers_then : {D A : Type 0} (is_broken : D → Bool) (failures : D → ℕ) (answer given : Result A RunCause) (olds mids news : List D) →
@@ -134,8 +131,7 @@ pub writers_then : {D A : Type 0} (is_broken : D → Bool) (failures : D → ℕ
     → AllSound is_broken olds → AllFared is_broken failures (failed_writer given) olds news
 writers_then is_broken failures answer given olds mids news many first next is sound =
     all_then is_broken failures (failed_writer given) olds mids news many (first sound)
-    (subst (λ a. AllFared is_broken failures (failed_writer a) mids news) is
-    (next (still_sound is_broken failures olds mids many (first sound) sound)))
+    (rw is at (next (still_sound is_broken failures olds mids many (first sound) sound)))
 
 pub sound_readers : {D A : Type 0} (is_broken : D → Bool) (failures : D → ℕ) (answer : Result A RunCause) (olds news : List D) → length news ≡ length olds
     → AllFared is_broken failures (failed_reader answer) olds news → AllSound is_broken olds → IsOk answer → AllSound is_broken news

@@ -1,6 +1,6 @@
 -- The drains of all ports, one after the other.
-use Rattle.std.proofs.Common.{◌≡◌, ◌≢◌, ℕ, zero, suc, ◌+◌, ◌<◌, Bool, true, false, List, [], ◌∷◌, length, map, Option, Some, refl, sym, ◌∙◌}
-use Rattle.std.proofs.Common.{ap, subst, arith, ◌⊎◌, inl, inr}
+use Rattle.std.proofs.Common.{◌≡◌, ◌≢◌, ℕ, zero, suc, ◌+◌, ◌<◌, Bool, true, false, List, [], ◌∷◌, length, map, Some, refl, sym, ◌∙◌}
+use Rattle.std.proofs.Common.{ap, arith, ◌⊎◌, inl, inr}
 use Rattle.std.specs.Prelude.{slice_get, slice_set, nat_lt, flat_map, option_map, if◌then◌else◌, Result, Ok, Err, IfOk, IfErr, is_err}
 use Rattle.std.specs.Option.{option_map_or}
 use Rattle.std.proofs.lemmas.Bool.{lt-ltb, le-ltb, ltb-true, ltb-false}
@@ -18,30 +18,30 @@ use Rattle.dp_engine.specs.declared.report.Tallies.{Tallies}
 use Rattle.dp_engine.specs.Drains.{captured}
 use Rattle.dp_engine.specs.Engines.{EngineState, tallies_at, drained}
 use Rattle.dp_pipe.specs.Devices.{Device, IsGiven, At}
-use Rattle.dp_pipe.specs.Forwarding.{capture_of, records_text, drained_at, emptied, DrainedFirst, DrainedPart, DrainsStopped}
+use Rattle.dp_pipe.specs.Forwarding.{capture_of, records_text, drained_at, first_emptied, DrainedFirst, DrainedPart, DrainsStopped}
 use Rattle.dp_pipe.proofs.Giving.{given_then}
 
-pub emptied_all : (lists : List (List Packet)) → emptied (length lists) lists ≡ map (λ _. []) lists
+pub emptied_all : (lists : List (List Packet)) → first_emptied (length lists) lists ≡ map (λ _. []) lists
 emptied_all [] = refl
 emptied_all (packets ∷ lists) = ap (λ l. [] ∷ l) (emptied_all lists)
 
-emptied_more : (n : ℕ) (lists : List (List Packet)) → emptied (suc n) lists ≡ slice_set (emptied n lists) n []
+emptied_more : (n : ℕ) (lists : List (List Packet)) → first_emptied (suc n) lists ≡ slice_set (first_emptied n lists) n []
 emptied_more zero [] = refl
 emptied_more zero (packets ∷ lists) = refl
 emptied_more (suc n) [] = refl
 emptied_more (suc n) (packets ∷ lists) = ap (λ l. [] ∷ l) (emptied_more n lists)
 
-emptied_same : (n : ℕ) (lists : List (List Packet)) → slice_get (emptied n lists) n ≡ slice_get lists n
+emptied_same : (n : ℕ) (lists : List (List Packet)) → slice_get (first_emptied n lists) n ≡ slice_get lists n
 emptied_same zero lists = refl
 emptied_same (suc n) [] = refl
 emptied_same (suc n) (packets ∷ lists) = emptied_same n lists
 
 -- what a port's drain writes does not depend on those of the ports before it
-pub records_same : (time : Time) (w : World) (n : ℕ) → slice_get (records_at time (record w { outboxes = emptied n w.outboxes })) n
+pub records_same : (time : Time) (w : World) (n : ℕ) → slice_get (records_at time (record w { outboxes = first_emptied n w.outboxes })) n
     ≡ slice_get (records_at time w) n
 records_same time w n =
     let f : List Packet → List (Time × List ℕ) = λ packets. map (λ bytes. (time, bytes)) (map (packet_bytes w.buffers) packets) in
-    slice_get-map f (emptied n w.outboxes) n ∙ ap (option_map f) (emptied_same n w.outboxes) ∙ sym (slice_get-map f w.outboxes n)
+    slice_get-map f (first_emptied n w.outboxes) n ∙ ap (option_map f) (emptied_same n w.outboxes) ∙ sym (slice_get-map f w.outboxes n)
 
 -- an index of a list is another one, or it is this one
 pub split : (q n : ℕ) → (q ≡ n) ⊎ (q ≢ n)
@@ -91,13 +91,11 @@ pub record DrainsNext (n : ℕ) (unit : TimeUnit) (time : Time) (e1 e2 : EngineS
 -- the engine after the drain of one more port
 drained_stays : (n : ℕ) (unit : TimeUnit) (time : Time) (e e1 e2 : EngineState) (held mids holds : List Device) →
     DrainedFirst n unit time e e1 held mids → DrainsNext n unit time e1 e2 mids holds →
-    e2 ≡ record e { world = record e.world { outboxes = emptied (suc n) e.world.outboxes }; tallies = e2.tallies }
+    e2 ≡ record e { world = record e.world { outboxes = first_emptied (suc n) e.world.outboxes }; tallies = e2.tallies }
 drained_stays n unit time e e1 e2 held mids holds first next =
-    let a : e2 ≡ record e1 { world = record e1.world { outboxes = slice_set e1.world.outboxes n [] }; tallies = e2.tallies } =
-    subst (λ (x : EngineState). x ≡ record e1 { world = record e1.world { outboxes = slice_set e1.world.outboxes n [] }; tallies = x.tallies })
-    (sym next.is) refl in
+    let a : e2 ≡ record e1 { world = record e1.world { outboxes = slice_set e1.world.outboxes n [] }; tallies = e2.tallies } = rw next.is refl in
     let b : record e1 { world = record e1.world { outboxes = slice_set e1.world.outboxes n [] }; tallies = e2.tallies }
-    ≡ record e { world = record e.world { outboxes = slice_set (emptied n e.world.outboxes) n [] }; tallies = e2.tallies } =
+    ≡ record e { world = record e.world { outboxes = slice_set (first_emptied n e.world.outboxes) n [] }; tallies = e2.tallies } =
     ap (λ (x : EngineState). record x { world = record x.world { outboxes = slice_set x.world.outboxes n [] }; tallies = e2.tallies }) first.is in
     a ∙ b ∙ ap (λ l. record e { world = record e.world { outboxes = l }; tallies = e2.tallies }) (sym (emptied_more n e.world.outboxes))
 
@@ -125,12 +123,12 @@ drained_next n unit time e e1 e2 held mids holds lt many first next =
         let before = first.wrote q old new a (sym (next.others q other) ∙ b) in
         rw (below_more q n other) before
     wrote q old new a b (inl same) here =
-        let a' : slice_get held n ≡ Some old = ap (slice_get held) (sym same) ∙ a in
-        let b' : slice_get holds n ≡ Some new = ap (slice_get holds) (sym same) ∙ b in
+        let a' : slice_get held n ≡ Some old = rw same at a in
+        let b' : slice_get holds n ≡ Some new = rw same at b in
         let (mid, m) = get_within mids n (omega (arith, slice_get_within held n old a', many)) in
         let before : IsGiven old mid [] = rw (not_below n) at (first.wrote n old mid a' m) in
         let after : IsGiven old new (records_text unit (drained_at time e.world n)) = rw here (given_then old mid new [] _ before (next.own mid new m b')) in
-        subst (λ x. IsGiven old new (if nat_lt x (suc n) then records_text unit (drained_at time e.world x) else [])) (sym same) (rw (below_next n) after)
+        rw (same, below_next n) after
 
     tallied : (q : ℕ) → q < length e.setting.env.ports → (q ≡ n) ⊎ (q ≢ n) → length (drained_at time e.world n) ≡ length next.records
         → tallies_at e2.tallies q ≡ record (tallies_at e.tallies q) {
@@ -150,8 +148,7 @@ drained_next n unit time e e1 e2 held mids holds lt many first next =
         let u : tallies_at e2.tallies n ≡ record (tallies_at e.tallies n) { sent = (tallies_at e.tallies n).sent + length (drained_at time e.world n) } =
         t ∙ ap (λ (x : Tallies). record x { sent = x.sent + length next.records }) before
         ∙ ap (λ m. record (tallies_at e.tallies n) { sent = m }) (omega (arith, count)) in
-        subst (λ x. tallies_at e2.tallies x ≡ record (tallies_at e.tallies x)
-        { sent = (tallies_at e.tallies x).sent + (if nat_lt x (suc n) then length (drained_at time e.world x) else 0) }) (sym same) (rw (below_next n) u)
+        rw (same, below_next n) u
 
 -- ---- writers by their ports
 

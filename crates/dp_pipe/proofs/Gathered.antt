@@ -15,9 +15,9 @@ use Rattle.dp_pipe.specs.declared.error.PipeError.{PipeError}
 use Rattle.dp_pipe.specs.declared.nodes.How.{How}
 use Rattle.dp_pipe.specs.Setup.{NodeFiles}
 use Rattle.dp_pipe.specs.Files.{FileMap}
-use Rattle.dp_pipe.specs.Nodes.{Node, numbered, nodes_of, IsProgramOf, IsCertOf, HasCert, IsLoaded}
+use Rattle.dp_pipe.specs.Nodes.{Node, nodes_from, all_nodes, IsProgramOf, IsCertOf, HasCert, IsLoaded}
 use Rattle.dp_pipe.specs.Nodes.{Fails, AreLoaded, FailsAtFirst}
-use Rattle.dp_pipe.proofs.Indices.{taken_more, parted, zipped_more, length-numbered}
+use Rattle.dp_pipe.proofs.Indices.{taken_more, parted, zipped_more, length-nodes_from}
 
 -- ---- one node
 
@@ -75,9 +75,15 @@ fails_here known later env nodes k node loaded e stays at all fails = record {
   fails = subst (λ (f : Option FileMap). Fails f env node e) stays fails;
 }
 
-pub how_many : (how : How) (ports rings : List NodeFiles) → length (nodes_of how ports rings) ≡ length ports + length rings
+pub how_many : (how : How) (ports rings : List NodeFiles) → length (all_nodes how ports rings) ≡ length ports + length rings
 how_many how ports rings =
-    omega (arith, length-append (numbered how Port 0 ports) (numbered how Ring 0 rings), length-numbered how Port 0 ports, length-numbered how Ring 0 rings)
+    omega (
+      arith,
+      length-append (nodes_from how Port 0 ports) (nodes_from how Ring 0 rings),
+      length-nodes_from how Port 0 ports,
+      length-nodes_from how Ring 0
+          rings,
+    )
 
 pub whole : (known : Option FileMap) (env : Environment) (nodes : List Node) (n : ℕ) (loaded : List Question) → length nodes ≤ n →
     AreLoaded known env (take n nodes) loaded → AreLoaded known env nodes loaded

@@ -1,6 +1,6 @@
 -- What writers were given and what readers gave, piece by piece, with the calls for it.
 use Rattle.std.proofs.Common.{◌≡◌, ℕ, ◌+◌, ◌≤◌, List, [], ◌∷◌, ◌++◌, length, map, take, Option, Some, None, refl, sym, ◌∙◌, ap, subst, arith, length-append}
-use Rattle.std.proofs.Common.{append_assoc, take_all}
+use Rattle.std.proofs.Common.{take_all}
 use Rattle.std.specs.Prelude.{slice_get, flat_map}
 use Rattle.std.specs.Io.KnownBytes.{Appends}
 use Rattle.std.proofs.lemmas.Option.{same_Some}
@@ -18,7 +18,7 @@ use Rattle.dp_engine.specs.Drains.{captured, Written, WrotePart, IsCalledFor}
 use Rattle.dp_pipe.specs.Devices.{Device, IsGiven}
 use Rattle.dp_engine.specs.declared.report.InputState.{InputState}
 use Rattle.dp_engine.specs.declared.report.InputState.TheVariants.{Open, Whole, Cut}
-use Rattle.dp_pipe.specs.Forwarding.{Input, Gives, HasReadSo, IsRead, IsReadBy, DrainedPart, records_text}
+use Rattle.dp_pipe.specs.Forwarding.{Input, InputGives, HasReadSo, IsRead, IsReadBy, DrainedPart, records_text}
 
 -- ---- lengths of texts
 
@@ -94,7 +94,7 @@ known_map (Some x) None P Q f h = absurd h
 known_map (Some x) (Some y) P Q f h = f x y h
 
 gives_of : (state : InputState) (s : SourceState) (unit : TimeUnit) (records : List PacketRecord) (bytes rest : List ℕ) → s.unit ≡ unit →
-    HasReadSo state s records bytes rest → Gives state unit records bytes rest
+    HasReadSo state s records bytes rest → InputGives state unit records bytes rest
 gives_of Open s unit records bytes rest same has = (s, has, same)
 gives_of Whole s unit records bytes rest same has = rw (← same) has
 gives_of (Cut byte) s unit records bytes rest same has = rw (← same) has

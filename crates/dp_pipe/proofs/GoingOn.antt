@@ -1,7 +1,7 @@
 -- A run continues with one input's answer.
-use Rattle.std.proofs.Common.{◌*◌, ◌≡◌, ℕ, zero, suc, ◌+◌, ◌<◌, ◌≤◌, List, [], ◌∷◌, length, take, Option, Some, None}
+use Rattle.std.proofs.Common.{◌*◌, ◌≡◌, ℕ, zero, suc, ◌+◌, ◌<◌, ◌≤◌, List, [], ◌∷◌, length, take, Some}
 use Rattle.std.proofs.Common.{Result, Ok, Err, refl, sym, ◌∙◌, ap, subst, arith}
-use Rattle.std.specs.Prelude.{slice_get, slice_set, if◌then◌else◌}
+use Rattle.std.specs.Prelude.{slice_get, slice_set}
 use Rattle.std.proofs.lemmas.Bool.{le-ltb}
 use Rattle.std.proofs.lemmas.List.{length-append, length-map, length-set}
 use Rattle.std.proofs.lemmas.Option.{same_Some}
@@ -21,20 +21,24 @@ use Rattle.dp_engine.specs.declared.report.InputState.{InputState}
 use Rattle.dp_engine.specs.declared.report.InputState.TheVariants.{Open, Whole, Cut}
 use Rattle.dp_engine.specs.Engines.{EngineState}
 use Rattle.dp_pipe.specs.declared.forwarding.InputProgress.{InputProgress}
-use Rattle.dp_pipe.specs.Devices.{Device, transfer}
-use Rattle.dp_pipe.specs.Forwarding.{Input, HasReadSo, Stands, ReadsTurn, TakesTurn, DrainedAll, DrainedFirst, Follows}
-use Rattle.dp_pipe.specs.Forwarding.{Advances, Along, AnswersSo, asked, arrivals_of, HasRun, last_pulls, records_many, unit_for}
+use Rattle.dp_pipe.specs.Devices.{Device, Transfer}
+use Rattle.dp_pipe.specs.Forwarding.{Input, HasReadSo, IsProgressOf, ReadsTurn, HasTurn, DrainedAll, DrainedFirst, Follows}
+use Rattle.dp_pipe.specs.Forwarding.{Advances, RunUntil, AnswersSo, asked, arrivals_of, HasRun, last_pulls, records_many, unit_for}
 use Rattle.dp_pipe.proofs.RunOn.{run_on, arrival}
 use Rattle.dp_pipe.proofs.Advancing.{with_record, ended, arrivals_more, arrivals_ended, order_next, wrote_more, joined_many}
 use Rattle.dp_pipe.proofs.Units.{units_set}
-use Rattle.dp_pipe.proofs.Stepping.{input_at, all_stand, calls_ended, calls_more, known_then, open_read, stands_more, stands_ended}
+use Rattle.dp_pipe.proofs.Stepping.{input_at, all_progress, calls_ended, calls_more, known_then, open_read, progress_more, progress_ended}
 use Rattle.dp_pipe.proofs.Giving.{known_map}
 
 -- what all steps of a round share: as many inputs, readers and writers as ports
-pub record AreMany (e : EngineState) (olds news held mids : List Device) : Type 0 where
+pub record AreMany (e : EngineState) (holds : List Device) : Type 0 where
   pub counted : length e.tallies ≡ 8
   pub few : length e.setting.env.ports ≤ 8
-  pub mids_many : length mids ≡ length e.setting.env.ports
+  pub holds_many : length holds ≡ length e.setting.env.ports
+
+-- the devices after the reader of a port was called, and what the writers hold then
+abbrev pub after_asking : Transfer → ℕ → Device → List Device → Transfer
+after_asking t port reader holds = record t { left = slice_set t.left port reader; holds = holds }
 
 -- one record more
 many_more : (inputs : List Input) (n : ℕ) (i : Input) (r : PacketRecord) → slice_get inputs n ≡ Some i → records_many (slice_set inputs n (with_record r i))
@@ -70,9 +74,7 @@ many_least (x ∷ inputs) (suc n) i e few = let more = many_least inputs n i e (
 
 -- an open input returned as many records as there were reads of it
 pub wanted : (round port count : ℕ) (state : InputState) → state ≡ Open → AnswersSo state count (asked round port port) → count ≡ round
-wanted round port count Open e is = is ∙ ap (λ b. if b then round + 1 else round) (le-ltb port port (omega arith))
-wanted round port count Whole e lt = cc
-wanted round port count (Cut byte) e lt = cc
+wanted round port count state e is = rw (e, le-ltb port port (omega arith)) at is
 
 pub whole_read : (s s' : SourceState) (records : List PacketRecord) (bytes : List ℕ) → s' ≡ over s → IsCapture bytes s.unit records capture.Ending.Whole →
     IsCapture bytes s'.unit records capture.Ending.Whole
@@ -82,41 +84,41 @@ pub cut_read : (byte : ℕ) (s s' : SourceState) (records : List PacketRecord) (
     IsCapture bytes s.unit records (capture.Ending.Cut byte) → IsCapture bytes s'.unit records (capture.Ending.Cut byte)
 cut_read byte s s' records bytes is h = rw is h
 
-module _ (unit : TimeUnit) (e0 e : EngineState) (olds news held mids : List Device) (progress : List InputProgress) (inputs : List Input) (round port : ℕ)
-    (along : Along unit e0 e (transfer olds news held mids) progress inputs round port) (many : AreMany e0 olds news held mids)
-    (p p' : InputProgress) (here : slice_get progress port ≡ Some p) (open_p : p.state ≡ Open) (there : port < length e0.setting.env.ports)
-    (a b : Device) (left_a : slice_get news port ≡ Some a) where
+module _ {unit : TimeUnit} {e0 e : EngineState} {t : Transfer} {progress : List InputProgress} {inputs : List Input} {round port : ℕ}
+    (along : RunUntil unit e0 e t progress inputs round port) (many : AreMany e0 t.holds) {p : InputProgress} (p' : InputProgress)
+    (here : slice_get progress port ≡ Some p) (open_p : p.state ≡ Open) (there : port < length e0.setting.env.ports)
+    {a : Device} (b : Device) (left_a : slice_get t.left port ≡ Some a) where
   abbrev i : Input
-  i = (input_at olds news progress inputs port p along.stand here).0
+  i = (input_at port along.progress_is here).0
 
   i_here : slice_get inputs port ≡ Some i
-  i_here = (input_at olds news progress inputs port p along.stand here).1
+  i_here = (input_at port along.progress_is here).1
 
-  i_stands : Stands p i
-  i_stands = (input_at olds news progress inputs port p along.stand here).2
+  i_progress : IsProgressOf p i
+  i_progress = (input_at port along.progress_is here).2
 
   i_open : i.state ≡ Open
-  i_open = sym i_stands.state ∙ open_p
+  i_open = sym i_progress.state ∙ open_p
 
   count : length i.records ≡ round
   count = wanted round port (length i.records) i.state i_open (along.order port i i_here)
 
   -- a record came
-  pub record_on : (time : Time) (len : ℕ) (buf : List ℕ) (e1 e2 : EngineState) (holds : List Device)
+  record_on : (time : Time) (len : ℕ) (buf : List ℕ) (e1 e2 : EngineState) (holds : List Device)
       → len ≤ length buf → b.calls ≤ a.calls + (16 + len)
       → WhereKnown a.bytes b.bytes (λ left rest. Continues p.source p'.source left rest buf (Ok (Record time len))) → p.source.given < 16777216 →
       p'.source ≡ advanced p.source len
-      → TakesTurn port e e1 (take len buf) → p'.state ≡ Open → DrainedAll unit time e1 e2 mids holds
-      → Along unit e0 e2 (transfer olds (slice_set news port b) held holds) (slice_set progress port p')
+      → HasTurn port e e1 (take len buf) → p'.state ≡ Open → DrainedAll unit time e1 e2 t.holds holds
+      → RunUntil unit e0 e2 (after_asking t port b holds) (slice_set progress port p')
       (slice_set inputs port (with_record (record { time = time; bytes = take len buf }) i)) round (port + 1)
   record_on time len buf e1 e2 holds fits pulls more less moved turn open_p' drains =
       let r : PacketRecord = record { time = time; bytes = take len buf } in
       let i' = with_record r i in
-      let stands : Stands p' i' = stands_more p p' i time len buf i_stands open_p open_p' moved less in
+      let is_progress : IsProgressOf p' i' = progress_more p p' i time len buf i_progress open_p open_p' moved less in
       let setting1 = ap (λ (x : EngineState). x.setting) turn.is ∙ ap (λ (x : EngineState). x.setting) along.run.stays in
       let n = length e0.setting.env.ports in
       let boxes : length e1.world.outboxes ≡ n = turn.lists ∙ ap (λ (x : Setting). length x.env.ports) setting1 in
-      let all : DrainedFirst n unit time e1 e2 mids holds = subst (λ (x : Setting). DrainedFirst (length x.env.ports) unit time e1 e2 mids holds) setting1
+      let all : DrainedFirst n unit time e1 e2 t.holds holds = subst (λ (x : Setting). DrainedFirst (length x.env.ports) unit time e1 e2 t.holds holds) setting1
       drains in
       let long : length (records_at time e1.world) ≡ n = length-map e1.world.outboxes _ ∙ boxes in
       record {
@@ -127,8 +129,8 @@ module _ (unit : TimeUnit) (e0 e : EngineState) (olds news held mids : List Devi
         total = ap length (arrivals_more inputs round port i r along.order i_here i_open)
             ∙ length-append (arrivals_of inputs) (arrival port time (take len buf) ∷ [])
             ∙ omega (arith, along.total, many_more inputs port i r i_here);
-        stand = all_stand olds news progress inputs port p' i' b along.stand stands (λ old at.
-            let was = along.stand.read port p i here i_here old a at left_a in
+        progress_is = all_progress port b along.progress_is is_progress (λ old at.
+            let was = along.progress_is.read port p i here i_here old a at left_a in
             record {
               has = known_then old.bytes a.bytes b.bytes _ _ _ (λ bytes left rest before now. rw i_open
                   (now bytes i.records (open_read i.state p.source i.records bytes left i_open before))) was.has more;
@@ -137,28 +139,27 @@ module _ (unit : TimeUnit) (e0 e : EngineState) (olds news held mids : List Devi
         order = order_next inputs round port i' along.order (rw i_open (length-append i.records (r ∷ []) ∙ ap (λ m. m + 1) count));
         captures = joined along.captures (records_at time e1.world);
         many = joined_many along.captures (records_at time e1.world) (along.many ∙ sym long) ∙ along.many;
-        run = subst (λ l. HasRun e0 e2 l (joined along.captures (records_at time e1.world)))
-            (sym (arrivals_more inputs round port i r along.order i_here i_open))
-            (run_on e0 e e1 e2 port time (take len buf) (arrivals_of inputs) along.captures unit mids holds (omega (arith, there, many.counted, many.few))
+        run = rw (arrivals_more inputs round port i r along.order i_here i_open)
+            (run_on e0 e e1 e2 port time (take len buf) (arrivals_of inputs) along.captures unit t.holds holds (omega (arith, there, many.counted, many.few))
             boxes along.run turn all);
-        wrote = wrote_more unit time e1.world n along.captures held mids holds along.many long along.held_many many.mids_many along.wrote all.wrote;
+        wrote = wrote_more unit time e1.world n along.captures t.held t.holds holds along.many long along.held_many many.holds_many along.wrote all.wrote;
       }
 
   -- the input ended
-  pub ended_on : (state : InputState) → (state ≡ Open → ⊥)
+  ended_on : {e' : EngineState} {holds : List Device} (state : InputState) → (state ≡ Open → ⊥)
       → b.calls ≤ a.calls + last_pulls state
       → WhereKnown a.bytes b.bytes (λ left rest. (bytes : List ℕ) (records : List PacketRecord) → HasRead bytes p.source records left →
       HasReadSo state p'.source records bytes rest)
-      → p'.source ≡ over p.source → p'.state ≡ state
-      → Along unit e0 e (transfer olds (slice_set news port b) held mids) (slice_set progress port p') (slice_set inputs port (ended state i)) round (port + 1)
-  ended_on state closed pulls more moved is = record {
+      → p'.source ≡ over p.source → p'.state ≡ state → e' ≡ e → holds ≡ t.holds
+      → RunUntil unit e0 e' (after_asking t port b holds) (slice_set progress port p') (slice_set inputs port (ended state i)) round (port + 1)
+  ended_on state closed pulls more moved is e_is holds_is = rw (e_is, holds_is) (record {
     first = along.first;
     held_many = along.held_many;
     inputs_many = length-set inputs port (ended state i) ∙ along.inputs_many;
     unit_is = along.unit_is ∙ ap unit_for (sym (units_set inputs port i (ended state i) i_here refl));
     total = ap length (arrivals_ended inputs port i state i_here) ∙ along.total ∙ sym (many_ended inputs port i state i_here);
-    stand = all_stand olds news progress inputs port p' (ended state i) b along.stand (stands_ended p p' i state i_stands is moved closed) (λ old at.
-        let was = along.stand.read port p i here i_here old a at left_a in
+    progress_is = all_progress port b along.progress_is (progress_ended p p' i state i_progress is moved closed) (λ old at.
+        let was = along.progress_is.read port p i here i_here old a at left_a in
         record {
           has = known_then old.bytes a.bytes b.bytes _ _ _
               (λ bytes left rest before now. now bytes i.records (open_read i.state p.source i.records bytes left i_open before)) was.has more;
@@ -169,58 +170,33 @@ module _ (unit : TimeUnit) (e0 e : EngineState) (olds news held mids : List Devi
     many = along.many;
     run = subst (λ l. HasRun e0 e l along.captures) (sym (arrivals_ended inputs port i state i_here)) along.run;
     wrote = along.wrote;
-  }
+  })
     where
       less : (state : InputState) → (state ≡ Open → ⊥) → AnswersSo state (length i.records) (round + 1)
       less Open closed = absurd (closed refl)
       less Whole closed = omega (arith, count)
       less (Cut byte) closed = omega (arith, count)
 
--- the run continues, whatever the answer was, if it did not stop
-pub goes_on : (unit : TimeUnit) (e0 e e' : EngineState) (olds news held mids holds : List Device) (progress : List InputProgress) (inputs : List Input)
-    (round port : ℕ) (p p' : InputProgress) (a b : Device)
-    → Along unit e0 e (transfer olds news held mids) progress inputs round port → AreMany e0 olds news held mids → slice_get progress port ≡ Some p
-    → p.state ≡ Open →
-    port < length e0.setting.env.ports → slice_get news port ≡ Some a
-    → Advances port unit e e' p p' a b mids holds (Ok tt)
-    → (inputs' : List Input) × Along unit e0 e' (transfer olds (slice_set news port b) held holds) (slice_set progress port p') inputs' round (port + 1)
-goes_on unit e0 e e' olds news held mids holds progress inputs round port p p' a b along many here open_p there left_a step =
-    go step.next step.read step.pulls step.in_range step.moves step.follows
-  where
-    go : (answer : Result Next PcapError) → ReadsTurn port e step.engine p.source p'.source a.bytes b.bytes answer → b.calls ≤ a.calls + max_pulls answer →
-        IsInRange p.source answer →
-        Moves p.source p'.source answer → Follows port unit step.engine e' p'.state mids holds answer (Ok tt)
-        → (inputs' : List Input) × Along unit e0 e' (transfer olds (slice_set news port b) held holds) (slice_set progress port p') inputs' round (port + 1)
-    go (Ok (Record time len)) (buf, more, (fits, turn)) pulls (nano, few, less) moves (open_p', drains) = (
-      _,
-      record_on unit e0 e olds news held mids progress inputs round port along many p p' here open_p there a b left_a time len buf step.engine e' holds
-          fits pulls more less moves turn open_p' drains,
-    )
-    go (Ok End) (buf, more, same) pulls range moves (is, ok, e_is, holds_is) =
-        let x : (inputs' : List Input) × Along unit e0 e (transfer olds (slice_set news port b) held mids) (slice_set progress port p') inputs' round
-        (port + 1) = (
-          _,
-          ended_on unit e0 e olds news held mids progress inputs round port along many p p' here open_p there a b left_a Whole (λ c. cc) pulls
-              (known_map a.bytes b.bytes _ _ (λ left rest now bytes records has. whole_read p.source p'.source records bytes moves
-              (now bytes records has)) more) moves is,
-        ) in
-        subst (λ (z : EngineState). (inputs' : List Input) × Along unit e0 z (transfer olds (slice_set news port b) held holds)
-        (slice_set progress port p') inputs'
-        round (port + 1)) (sym (e_is ∙ same))
-        (subst (λ (hs : List Device). (inputs' : List Input)
-        × Along unit e0 e (transfer olds (slice_set news port b) held hs) (slice_set progress port p') inputs' round (port + 1)) (sym holds_is) x)
-    go (Ok (next.Cut byte)) (buf, more, same) pulls range moves (is, ok, e_is, holds_is) =
-        let x : (inputs' : List Input) × Along unit e0 e (transfer olds (slice_set news port b) held mids) (slice_set progress port p') inputs' round
-        (port + 1) = (
-          _,
-          ended_on unit e0 e olds news held mids progress inputs round port along many p p' here open_p there a b left_a (Cut byte) (λ c. cc) pulls
-              (known_map a.bytes b.bytes _ _ (λ left rest now bytes records has. cut_read byte p.source p'.source records bytes moves
-              (now bytes records has)) more) moves
-              is,
-        ) in
-        subst (λ (z : EngineState). (inputs' : List Input) × Along unit e0 z (transfer olds (slice_set news port b) held holds)
-        (slice_set progress port p') inputs'
-        round (port + 1)) (sym (e_is ∙ same))
-        (subst (λ (hs : List Device). (inputs' : List Input)
-        × Along unit e0 e (transfer olds (slice_set news port b) held hs) (slice_set progress port p') inputs' round (port + 1)) (sym holds_is) x)
-    go (Err error) reads pulls range moves (is, bad, e_is, holds_is) = cc
+  -- the run continues, whatever the answer was, if it did not stop
+  pub goes_on : {e' : EngineState} {holds : List Device} → Advances port unit e e' p p' a b t.holds holds (Ok tt)
+      → (inputs' : List Input) × RunUntil unit e0 e' (after_asking t port b holds) (slice_set progress port p') inputs' round (port + 1)
+  goes_on {e' = e'} {holds = holds} step = go step.next step.read step.pulls step.in_range step.moves step.follows
+    where
+      go : (answer : Result Next PcapError) → ReadsTurn port e step.engine p.source p'.source a.bytes b.bytes answer → b.calls ≤ a.calls + max_pulls answer
+          → IsInRange p.source answer → Moves p.source p'.source answer → Follows port unit step.engine e' p'.state t.holds holds answer (Ok tt)
+          → (inputs' : List Input) × RunUntil unit e0 e' (after_asking t port b holds) (slice_set progress port p') inputs' round (port + 1)
+      go (Ok (Record time len)) (buf, more, (fits, turn)) pulls (nano, few, less) moves (open_p', drains) =
+          (_, record_on time len buf step.engine e' holds fits pulls more less moves turn open_p' drains)
+      go (Ok End) (buf, more, same) pulls range moves (is, ok, e_is, holds_is) = (
+        _,
+        ended_on Whole (λ c. cc) pulls (known_map a.bytes b.bytes _ _
+            (λ left rest now bytes records has. whole_read p.source p'.source records bytes moves (now bytes records has)) more) moves is
+            (e_is ∙ same) holds_is,
+      )
+      go (Ok (next.Cut byte)) (buf, more, same) pulls range moves (is, ok, e_is, holds_is) = (
+        _,
+        ended_on (Cut byte) (λ c. cc) pulls (known_map a.bytes b.bytes _ _
+            (λ left rest now bytes records has. cut_read byte p.source p'.source records bytes moves (now bytes records has)) more) moves is
+            (e_is ∙ same) holds_is,
+      )
+      go (Err error) reads pulls range moves (is, bad, e_is, holds_is) = cc

@@ -1,7 +1,7 @@
 -- Inputs whose headers were read, and the reports of their states.
-use Rattle.std.proofs.Common.{◌≡◌, ◌⊎◌, inl, inr, ℕ, zero, suc, ◌+◌, ◌<◌, ◌≤◌, List, [], ◌∷◌, ◌++◌, Option, Some, None, Bool, false, length, map, take}
-use Rattle.std.proofs.Common.{refl, ap, sym, ◌∙◌, subst, arith}
-use Rattle.std.specs.Prelude.{option_map, slice_get, slice_set, slice_index_or, Err}
+use Rattle.std.proofs.Common.{◌≡◌, ◌⊎◌, inl, inr, ℕ, zero, suc, ◌+◌, ◌<◌, ◌≤◌, List, [], ◌∷◌, ◌++◌, Some, Bool, false, length, map, take}
+use Rattle.std.proofs.Common.{refl, ap, sym, ◌∙◌, arith}
+use Rattle.std.specs.Prelude.{option_map, slice_get, slice_set, slice_index_or}
 use Rattle.std.proofs.lemmas.List.{length-map, length-append, length-set}
 use Rattle.std.proofs.lemmas.Option.{same_Some, slice_get_within, slice_get-get_or, slice_get-map}
 use Rattle.dp_model.specs.Laws.Lists.{get_set_other, get_set_same, each_at, all_join, each_slot}
@@ -17,8 +17,8 @@ use Rattle.dp_engine.specs.declared.report.InputState.TheVariants.{Open}
 use Rattle.dp_engine.specs.declared.report.PortReport.{PortReport}
 use Rattle.dp_pipe.specs.declared.forwarding.InputProgress.{InputProgress}
 use Rattle.dp_pipe.specs.Devices.{Device, IsGiven, IsGivenPart, Fared}
-use Rattle.dp_pipe.specs.Forwarding.{is_nano, units_of, Stands, IsGoingOn, AllStand, IsReadBy, IsRead, AreRead}
-use Rattle.dp_pipe.specs.Running.{all_begun, with_states, AreUnread, HeadersStopped, IsBadHeader, HasHeaderFault, IsBegun, begun}
+use Rattle.dp_pipe.specs.Forwarding.{is_nano, units_of, IsProgressOf, AreProgressOf, IsReadBy, IsRead, AreRead}
+use Rattle.dp_pipe.specs.Running.{all_begun, with_states, AreUnread, HeadersStopped, ReadsBadHeader, HasHeaderFault, IsBegun, begun}
 use Rattle.dp_pipe.proofs.Giving.{length_none, read_as}
 
 -- an input has nanoseconds where its source has
@@ -66,9 +66,9 @@ answers_at f (x ∷ xs) zero a e = (x, refl, sym (same_Some _ _ e))
 answers_at f (x ∷ xs) (suc q) a e = answers_at f xs q a e
 
 -- one more
-pub changed_more : {W : Type 0} (R : W → W → Type 0) (n : ℕ) (olds news : List W) (w w' : W) → Changed R n olds news
+pub changed_more : {W : Type 0} {R : W → W → Type 0} {n : ℕ} {olds news : List W} {w : W} (w' : W) → Changed R n olds news
     → slice_get news n ≡ Some w → R w w' → Changed R (n + 1) olds (slice_set news n w')
-changed_more {W} R n olds news w w' c there is = record {
+changed_more {W = W} {R = R} {n = n} {olds = olds} {news = news} {w = w} w' c there is = record {
   many = length-set news n w' ∙ c.many;
   done = done;
   rest = λ q l. get_set_other news n q w' (λ e. absurd (omega (arith, l, e))) ∙ c.rest q (omega (arith, l));
@@ -79,16 +79,16 @@ changed_more {W} R n olds news w w' c there is = record {
       | inl same ↦
           let old : Some x ≡ Some w = sym e ∙ ap (slice_get olds) same ∙ sym (c.rest n (omega arith)) ∙ there in
           let new : Some x' ≡ Some w' = sym e' ∙ ap (slice_get (slice_set news n w')) same ∙ get_set_same news n w' w there in
-          let a = same_Some _ _ old in let b = same_Some _ _ new in subst (λ u. R u x') (sym a) (subst (R w) (sym b) is)
+          rw (same_Some _ _ old, same_Some _ _ new) is
       | inr other ↦ c.done q x x' (omega (arith, l, other)) e (sym (get_set_other news n q w' other) ∙ e')
     ]
 
 -- ---- a pass over all devices, and one that stopped
 
 -- what holds of a device and what it became, where each was changed so
-pub all_changed : {W : Type 0} (R : W → W → Type 0) (n : ℕ) (olds news : List W) → Changed R n olds news → n ≡ length olds
+pub all_changed : {W : Type 0} {R : W → W → Type 0} {n : ℕ} {olds news : List W} → Changed R n olds news → n ≡ length olds
     → (q : ℕ) (w w' : W) → slice_get olds q ≡ Some w → slice_get news q ≡ Some w' → R w w'
-all_changed R n olds news c e q w w' here there = c.done q w w' (omega (arith, e, slice_get_within olds q w here)) here there
+all_changed {olds = olds} c e q w w' here there = c.done q w w' (omega (arith, e, slice_get_within olds q w here)) here there
 
 -- a fact of the known bytes of devices, before and after
 pub in_answers : {W A : Type 0} (f : W → A) (P : A → A → Type 0) (olds news : List W) (q : ℕ) →
@@ -97,7 +97,7 @@ pub in_answers : {W A : Type 0} (f : W → A) (P : A → A → Type 0) (olds new
 in_answers f P olds news q is a a' e e' =
     let (w, here, a_is) = answers_at f olds q a e in
     let (w', there, a_is') = answers_at f news q a' e' in
-    subst (λ x. P x a') (sym a_is) (subst (P (f w)) (sym a_is') (is w w' here there))
+    rw (a_is, a_is') (is w w' here there)
 
 -- a device is what it was
 pub is_same : {W : Type 0} (olds news : List W) (q : ℕ) (w w' : W) → slice_get news q ≡ slice_get olds q → slice_get olds q ≡ Some w →
@@ -105,10 +105,10 @@ pub is_same : {W : Type 0} (olds news : List W) (q : ℕ) (w w' : W) → slice_g
 is_same olds news q w w' same here there = same_Some w' w (sym there ∙ same ∙ here)
 
 -- each device that was changed so
-pub new_all : {W : Type 0} (R : W → W → Type 0) (P : W → Type 0) (n : ℕ) (olds news : List W) → Changed R n olds news → n ≡ length olds →
+pub new_all : {W : Type 0} {R : W → W → Type 0} {n : ℕ} {olds news : List W} (P : W → Type 0) → Changed R n olds news → n ≡ length olds →
     ((w w' : W) → R w w' → P w')
     → AllByRecursion P news
-new_all {W = W} R P n olds news c e implies = each_slot P news each
+new_all {W = W} {olds = olds} {news = news} P c e implies = each_slot P news each
   where
     each : (q : ℕ) (w : W) → slice_get news q ≡ Some w → P w
     each q w there =
@@ -116,58 +116,51 @@ new_all {W = W} R P n olds news c e implies = each_slot P news each
         implies _ w (c.done q (slice_index_or olds q w) w (omega (arith, within, e)) (slice_get-get_or olds q w within) there)
 
 -- where a device is changed another way, those before it were changed so
-pub before_of : {W : Type 0} (R : W → W → Type 0) (n : ℕ) (olds news : List W) (u : W) → Changed R n olds news
+pub before_of : {W : Type 0} {R : W → W → Type 0} {n : ℕ} {olds news : List W} (u : W) → Changed R n olds news
     → (q : ℕ) (x x' : W) → q < n → slice_get olds q ≡ Some x → slice_get (slice_set news n u) q ≡ Some x' → R x x'
-before_of R n olds news u c q x x' l here there = c.done q x x' l here (sym (get_set_other news n q u (λ e. absurd (omega (arith, l, e)))) ∙ there)
+before_of {n = n} {news = news} u c q x x' l here there = c.done q x x' l here (sym (get_set_other news n q u (λ e. absurd (omega (arith, l, e)))) ∙ there)
 
 -- it is this one
-pub old_of : {W : Type 0} (R : W → W → Type 0) (n : ℕ) (olds news : List W) (w x : W) → Changed R n olds news → slice_get news n ≡ Some w →
+pub old_of : {W : Type 0} {R : W → W → Type 0} {n : ℕ} {olds news : List W} {w x : W} → Changed R n olds news → slice_get news n ≡ Some w →
     slice_get olds n ≡ Some x → x ≡ w
-old_of R n olds news w x c at here = same_Some x w (sym here ∙ sym (c.rest n (omega arith)) ∙ at)
+old_of {n = n} {w = w} {x = x} c at here = same_Some x w (sym here ∙ sym (c.rest n (omega arith)) ∙ at)
 
 pub new_of : {W : Type 0} (n : ℕ) (news : List W) (w u x' : W) → slice_get news n ≡ Some w → slice_get (slice_set news n u) n ≡ Some x' → x' ≡ u
 new_of n news w u x' at there = same_Some x' u (sym there ∙ get_set_same news n u w at)
 
--- and those after it are as they were
-pub after_of : {W : Type 0} (R : W → W → Type 0) (n : ℕ) (olds news : List W) (u : W) → Changed R n olds news
-    → (q : ℕ) (x x' : W) → n < q → slice_get olds q ≡ Some x → slice_get (slice_set news n u) q ≡ Some x' → x' ≡ x
-after_of R n olds news u c q x x' l here there =
-    same_Some x' x (sym there ∙ get_set_other news n q u (λ e. absurd (omega (arith, l, e))) ∙ c.rest q (omega (arith, l)) ∙ here)
-
 -- ---- writers
 
 -- those after one that was called are as they were
-same_after : {W : Type 0} (device : W → Device) (R : W → W → Type 0) (n : ℕ) (olds news : List W) (u : W) → Changed R n olds news → (q : ℕ) → n < q
+same_after : {W : Type 0} {R : W → W → Type 0} {n : ℕ} {olds news : List W} (device : W → Device) (u : W) → Changed R n olds news → (q : ℕ) → n < q
     → slice_get (map device (slice_set news n u)) q ≡ slice_get (map device olds) q
-same_after device R n olds news u c q l =
+same_after {n = n} {olds = olds} {news = news} device u c q l =
     slice_get-map device (slice_set news n u) q
     ∙ ap (option_map device) (get_set_other news n q u (λ e. absurd (omega (arith, l, e))) ∙ c.rest q (omega (arith, l)))
     ∙ sym (slice_get-map device olds q)
 
 -- the number of devices stays
-still_many : {W : Type 0} (device : W → Device) (R : W → W → Type 0) (n : ℕ) (olds news : List W) (u : W) → Changed R n olds news
+still_many : {W : Type 0} {R : W → W → Type 0} {n : ℕ} {olds news : List W} (device : W → Device) (u : W) → Changed R n olds news
     → length (map device (slice_set news n u)) ≡ length (map device olds)
-still_many device R n olds news u c =
+still_many {n = n} {olds = olds} {news = news} device u c =
     length-map (slice_set news n u) device ∙ length-set news n u ∙ c.many ∙ sym (length-map olds device)
 
-one_there : {W : Type 0} (device : W → Device) (R : W → W → Type 0) (n : ℕ) (olds news : List W) (w : W) → Changed R n olds news
+one_there : {W : Type 0} {R : W → W → Type 0} {n : ℕ} {olds news : List W} (device : W → Device) {w : W} → Changed R n olds news
     → slice_get news n ≡ Some w → n < length (map device olds)
-one_there device R n olds news w c at = omega (arith, slice_get_within news n w at, c.many, length-map olds device)
+one_there {n = n} {olds = olds} {news = news} device {w} c at = omega (arith, slice_get_within news n w at, c.many, length-map olds device)
 
 -- the header of a writer was written in part
-pub headers_stopped : {W : Type 0} (device : W → Device) (R : W → W → Type 0) (unit : TimeUnit) (n : ℕ) (olds news : List W) (w u : W) →
-    Changed R n olds news
-    → ((x x' : W) → R x x' → IsGiven (device x) (device x') (header_text unit)) → slice_get news n ≡ Some w →
+pub headers_stopped : {W : Type 0} {R : W → W → Type 0} {n : ℕ} {olds news : List W} (device : W → Device) (unit : TimeUnit) {w : W} (u : W)
+    → Changed R n olds news → ((x x' : W) → R x x' → IsGiven (device x) (device x') (header_text unit)) → slice_get news n ≡ Some w →
     IsGivenPart (device w) (device u) (header_text unit)
     → HeadersStopped unit (map device olds) (map device (slice_set news n u)) n
-headers_stopped device R unit n olds news w u c whole at part = record {
-  there = one_there device R n olds news w c at;
-  many = still_many device R n olds news u c;
+headers_stopped {n = n} {olds = olds} {news = news} device unit {w} u c whole at part = record {
+  there = one_there device c at;
+  many = still_many device u c;
   before = λ q l. in_answers device (λ a a'. IsGiven a a' (header_text unit)) olds (slice_set news n u) q
-      (λ x x' here there. whole x x' (before_of R n olds news u c q x x' l here there));
+      (λ x x' here there. whole x x' (before_of u c q x x' l here there));
   own = in_answers device (λ a a'. IsGivenPart a a' (header_text unit)) olds (slice_set news n u) n
-      (λ x x' here there. rw (old_of R n olds news w x c at here, new_of n news w u x' at there) part);
-  after = same_after device R n olds news u c;
+      (λ x x' here there. rw (old_of c at here, new_of n news w u x' at there) part);
+  after = same_after device u c;
 }
 
 -- ---- readers
@@ -199,14 +192,12 @@ get_front (z ∷ xs) y (suc q) x e = go (get_front xs y q x e)
     go (inr (same, at)) = inr (ap suc same, at)
 
 -- one header more
-pub read_more : {R : Type 0} (device : R → Device) (failures : R → ℕ) (is_broken : R →
-    Bool) (n : ℕ) (olds news : List R) (inputs : List InputProgress) (r u : R) (p : InputProgress)
-    → ReadFirst device failures is_broken n olds news inputs → slice_get news n ≡ Some r → Fared is_broken failures false r u → is_broken u ≡ false →
-    IsBegun p
-    → HeaderRead p.source (device r) (device u) →
+pub read_more : {R : Type 0} {device : R → Device} {failures : R → ℕ} {is_broken : R → Bool} {n : ℕ} {olds news : List R} {inputs : List InputProgress}
+    {r : R} (u : R) (p : InputProgress) → ReadFirst device failures is_broken n olds news inputs → slice_get news n ≡ Some r
+    → Fared is_broken failures false r u → is_broken u ≡ false → IsBegun p → HeaderRead p.source (device r) (device u) →
     ReadFirst device failures is_broken (n + 1) olds (slice_set news n u) (inputs ++ p ∷ [])
-read_more {R = R} device failures is_broken n olds news inputs r u p c at fared sound begun known = record {
-  changed = changed_more _ n olds news r u c.changed at (fared, sound);
+read_more {R = R} {device = device} {n = n} {olds = olds} {news = news} {inputs = inputs} {r = r} u p c at fared sound begun known = record {
+  changed = changed_more u c.changed at (fared, sound);
   many = omega (arith, length-append inputs (p ∷ []), c.many);
   begun = all_join IsBegun inputs (p ∷ []) c.begun (begun, tt);
   read = read;
@@ -221,16 +212,16 @@ read_more {R = R} device failures is_broken n olds news inputs r u p c at fared 
         go (inl (l, front)) = c.read q i x x' front here (sym (get_set_other news n q u (λ e. absurd (omega (arith, l, e, c.many)))) ∙ there)
         go (inr (e, is)) =
             let index : q ≡ n = e ∙ c.many in
-            let old : x ≡ r = old_of _ n olds news r x c.changed at (ap (slice_get olds) (sym index) ∙ here) in
-            let new : x' ≡ u = new_of n news r u x' at (ap (slice_get (slice_set news n u)) (sym index) ∙ there) in
+            let old : x ≡ r = old_of c.changed at (rw index at here) in
+            let new : x' ≡ u = new_of n news r u x' at (rw index at there) in
             rw (old, new, is) known
 
 -- all headers were read: the inputs are at their first records
-pub stand_begun : (p : InputProgress) → IsBegun p → Stands p (begun p)
-stand_begun p is = record {
+pub progress_begun : (p : InputProgress) → IsBegun p → IsProgressOf p (begun p)
+progress_begun p is = record {
   unit = refl;
   state = refl;
-  goes_on = subst (λ (state : InputState). IsGoingOn state p.source 0) (sym is.state) (is.source.is_open, is.source.given);
+  goes_on = rw is.state (is.source.is_open, is.source.given);
   few = omega arith;
 }
 
@@ -241,13 +232,13 @@ unread_by p a b is h = record {
   calls = rw is (omega (arith, h.calls, length_none p.source.unit));
 }
 
-pub all_stand : {R : Type 0} (device : R → Device) (failures : R → ℕ) (is_broken : R → Bool) (n : ℕ) (olds news : List R) (inputs : List InputProgress)
-    → ReadFirst device failures is_broken n olds news inputs → AllStand (map device olds) (map device news) inputs (all_begun inputs)
-all_stand {R = R} device failures is_broken n olds news inputs c = record {
+pub all_progress : {R : Type 0} {device : R → Device} {failures : R → ℕ} {is_broken : R → Bool} {n : ℕ} {olds news : List R} {inputs : List InputProgress}
+    → ReadFirst device failures is_broken n olds news inputs → AreProgressOf (map device olds) (map device news) inputs (all_begun inputs)
+all_progress {device = device} {olds = olds} {news = news} {inputs = inputs} c = record {
   many = sym (length-map inputs begun);
   each = λ q p i at at'. let (w, there, is) = answers_at begun inputs q i at' in
       let same : w ≡ p = same_Some w p (sym there ∙ at) in
-      rw (is, same) (stand_begun p (each_at IsBegun inputs q p c.begun at));
+      rw (is, same) (progress_begun p (each_at IsBegun inputs q p c.begun at));
   read = λ q p i at at'. let (w, there_w, is) = answers_at begun inputs q i at' in
       let same : w ≡ p = same_Some w p (sym there_w ∙ at) in
       let is_open = (each_at IsBegun inputs q p c.begun at).state in
@@ -256,10 +247,9 @@ all_stand {R = R} device failures is_broken n olds news inputs c = record {
 }
 
 -- what was read of inputs whose headers were read
-pub read_begun : {R : Type 0} (device : R → Device) (failures : R → ℕ) (is_broken : R →
-    Bool) (n : ℕ) (olds news : List R) (inputs : List InputProgress) (u : R)
-    → ReadFirst device failures is_broken n olds news inputs → AreRead (map device olds) (map device (slice_set news n u)) (all_begun inputs)
-read_begun {R = R} device failures is_broken n olds news inputs u c q i at =
+read_begun : {R : Type 0} {device : R → Device} {failures : R → ℕ} {is_broken : R → Bool} {n : ℕ} {olds news : List R} {inputs : List InputProgress}
+    (u : R) → ReadFirst device failures is_broken n olds news inputs → AreRead (map device olds) (map device (slice_set news n u)) (all_begun inputs)
+read_begun {device = device} {n = n} {olds = olds} {news = news} {inputs = inputs} u c q i at =
     let (p, there_p, is) = answers_at begun inputs q i at in
     let is_open = (each_at IsBegun inputs q p c.begun there_p).state in
     let below : q < n = omega (arith, slice_get_within inputs q p there_p, c.many) in
@@ -273,20 +263,19 @@ none_read [] begun = tt
 none_read (x ∷ progress) begun = ((refl, begun.0.state), none_read progress begun.1)
 
 -- the header of an input is at fault
-pub header_fault : {R : Type 0} (device : R → Device) (failures : R → ℕ) (is_broken : R →
-    Bool) (n : ℕ) (olds news : List R) (inputs : List InputProgress) (r u : R) (error : PcapError)
-    → ReadFirst device failures is_broken n olds news inputs → slice_get news n ≡ Some r → IsBadHeader error (device r) (device u)
-    → HasHeaderFault (map device olds) (map device (slice_set news n u)) n error
-header_fault device failures is_broken n olds news inputs r u error c at bad = record {
-  there = one_there device _ n olds news r c.changed at;
-  many = still_many device _ n olds news u c.changed;
+pub header_fault : {R : Type 0} {device : R → Device} {failures : R → ℕ} {is_broken : R → Bool} {n : ℕ} {olds news : List R} {inputs : List InputProgress}
+    {r : R} (u : R) (error : PcapError) → ReadFirst device failures is_broken n olds news inputs → slice_get news n ≡ Some r
+    → ReadsBadHeader error (device r) (device u) → HasHeaderFault (map device olds) (map device (slice_set news n u)) n error
+header_fault {device = device} {n = n} {olds = olds} {news = news} {inputs = inputs} {r = r} u error c at bad = record {
+  there = one_there device c.changed at;
+  many = still_many device u c.changed;
   before = (
     all_begun inputs,
     length-map inputs begun ∙ c.many,
     none_read inputs c.begun,
-    read_begun device failures is_broken n olds news inputs u c,
+    read_begun u c,
   );
-  fault = in_answers device (IsBadHeader error) olds (slice_set news n u) n
-      (λ x x' here there. rw (old_of _ n olds news r x c.changed at here, new_of n news r u x' at there) bad);
-  after = same_after device _ n olds news u c.changed;
+  fault = in_answers device (ReadsBadHeader error) olds (slice_set news n u) n
+      (λ x x' here there. rw (old_of c.changed at here, new_of n news r u x' at there) bad);
+  after = same_after device u c.changed;
 }

@@ -1,17 +1,18 @@
 -- What an open engine did is what a run promises.
-use Rattle.std.proofs.Common.{◌≡◌, ℕ, inl, inr, List, length, map, Option, Result, Ok, Err, ◌∙◌, ap, subst}
-use Rattle.std.specs.Prelude.{IfOk}
+use Rattle.std.proofs.Common.{◌≡◌, ℕ, inl, inr, List, length, map, Result, Ok, Err, ◌∙◌, ap, subst}
+use Rattle.std.specs.Prelude.{IfOk, ⊤}
 use Rattle.dp_pcap.specs.declared.time.Unit.{Unit as TimeUnit}
 use Rattle.dp_engine.specs.Engines.{EngineState}
 use Rattle.dp_engine.specs.declared.report.Report.{Report}
 use Rattle.dp_model.specs.Machine.{Setting}
 use Rattle.dp_pipe.specs.declared.forwarding.InputProgress.{InputProgress}
+use Rattle.dp_pipe.specs.declared.forwarding.RunCause.{RunCause}
 use Rattle.dp_pipe.specs.declared.running.RunFault.{RunFault}
-use Rattle.dp_pipe.specs.Devices.{Device, transfer}
-use Rattle.dp_pipe.specs.Forwarding.{Input, Went, arrivals_of, capture_at, unit_for, units_of}
-use Rattle.dp_pipe.specs.Headline.{PacketRun, HasNumbers, AreGiven, capture_text, Forwarded}
+use Rattle.dp_pipe.specs.Devices.{Transfer}
+use Rattle.dp_pipe.specs.Forwarding.{Input, RanOnInputs, arrivals_of, capture_at, unit_for, units_of}
+use Rattle.dp_pipe.specs.Headline.{PacketRun, HasRunNumbers, AreGiven, capture_text, Forwarded}
 use Rattle.dp_pipe.specs.Pipelines.{Plan}
-use Rattle.dp_pipe.specs.Running.{RunAnswers, RanOn, IsFirst, GoesForward, HeadersWritten, IsReportOf}
+use Rattle.dp_pipe.specs.Running.{RunAnswers, RanOn, RoundsMade, IsFirst, GoesForward, IsReportOf}
 use Rattle.dp_pipe.proofs.Loaded.{few}
 use Rattle.dp_pipe.proofs.Numbers.{numbers_reported}
 use Rattle.dp_pipe.proofs.PacketRuns.{IsReady, run_of, counted_run}
@@ -22,42 +23,39 @@ pub ports_in : (p : Plan) (pattern : List ℕ) (first : EngineState) → IsFirst
 ports_in p pattern first is = ap (λ (s : Setting). length s.env.ports) is.setting
 
 -- a run that went well: the run of packets, what was written of it, and its counts
-pub record Done (p : Plan) (pattern : List ℕ) (held holds : List Device) (inputs : List Input) (r : Report) : Type 0 where
+pub record Done (p : Plan) (pattern : List ℕ) (t : Transfer) (inputs : List Input) (r : Report) : Type 0 where
   pub many : length inputs ≡ length p.env.ports
   pub run : PacketRun p pattern (arrivals_of inputs)
-  pub wrote : AreGiven held holds (capture_text (unit_for (units_of inputs)) run.captures)
-  pub numbers : HasNumbers p pattern (arrivals_of inputs) run inputs (λ port. length (capture_at run.captures port)) r
+  pub wrote : AreGiven t.held t.holds (capture_text (unit_for (units_of inputs)) run.captures)
+  pub numbers : HasRunNumbers p pattern (arrivals_of inputs) run inputs (λ port. length (capture_at run.captures port)) r
 
-pub went_on : (p : Plan) (pattern : List ℕ) (first last : EngineState) (unit : TimeUnit) (olds news held mids holds : List Device)
-    (inputs : List Input) (progress : List InputProgress) (r : Report)
-    → IsReady p pattern → IsFirst p pattern first → length mids ≡ length held → HeadersWritten unit held mids → Went unit first last mids holds inputs
-    → map (λ (i : Input). i.state) inputs ≡ map (λ (x : InputProgress). x.state) progress → IsReportOf last progress r → Done p pattern held holds inputs r
-went_on p pattern first last unit olds news held mids holds inputs progress r ready is many headers went states reported =
+pub went_on : {p : Plan} {pattern : List ℕ} {first last : EngineState} {t : Transfer} {progress : List InputProgress} {answer : Result ⊤ RunCause}
+    {inputs : List Input} {r : Report} → IsReady p pattern → IsFirst p pattern first → (made : RoundsMade first last t progress answer)
+    → RanOnInputs made.unit first last made.mids t.holds inputs
+    → map (λ (i : Input). i.state) inputs ≡ map (λ (x : InputProgress). x.state) progress → IsReportOf last progress r → Done p pattern t inputs r
+went_on {p = p} {pattern = pattern} {first = first} {t = t} {inputs = inputs} ready is made went states reported =
     let (few_ports, few_rings, few_tables) = few p.env ready.limits in
     let ports = ports_in p pattern first is in
-    let run = run_of p pattern first last (arrivals_of inputs) went.captures ready is went.run in
+    let run = run_of ready is went.run in
     record {
       many = went.inputs_many ∙ ports;
       run = run;
-      wrote = subst (λ (u : TimeUnit). AreGiven held holds (capture_text u went.captures)) went.unit_is
-          (given_all unit went.captures held mids holds many headers went.wrote);
-      numbers = numbers_reported p pattern (arrivals_of inputs) run last progress inputs (λ port. length (capture_at went.captures port)) r few_ports few_rings
-          (went.inputs_many ∙ ports) states
-          (counted_run p pattern first last (arrivals_of inputs) went.captures ready is went.run (went.many ∙ ports)) reported;
+      wrote = subst (λ (u : TimeUnit). AreGiven t.held t.holds (capture_text u went.captures)) went.unit_is
+          (given_all made.unit went.captures t.held made.mids t.holds made.mids_many made.headers went.wrote);
+      numbers = numbers_reported inputs few_ports few_rings (went.inputs_many ∙ ports) states
+          (counted_run ready is went.run (went.many ∙ ports)) reported;
     }
 
 -- all inputs were forwarded
-pub forwarded : (p : Plan) (pattern : List ℕ) (olds news held holds : List Device) (answer : Result Report RunFault) → IsReady p pattern →
-    RanOn p pattern (transfer olds news held holds) answer
-    → IfOk answer (Forwarded p pattern (transfer olds news held holds))
-forwarded p pattern olds news held holds (Ok r) ready ran = go ran.went
+forwarded : {p : Plan} {pattern : List ℕ} {t : Transfer} (answer : Result Report RunFault) → IsReady p pattern → RanOn p pattern t answer
+    → IfOk answer (Forwarded p pattern t)
+forwarded {p = p} {pattern = pattern} {t = t} (Ok r) ready ran = go ran.went
   where
-    go : GoesForward ran.first ran.last (transfer olds news held holds) ran.progress (Ok tt) → Forwarded p pattern (transfer olds news held holds) r
+    go : GoesForward ran.first ran.last t ran.progress (Ok tt) → Forwarded p pattern t r
     go (inl fails) = absurd fails
     go (inr made) =
         let (inputs, states, went, read, over) = made.rounds in
-        let done = went_on p pattern ran.first ran.last made.unit olds news held made.mids holds inputs ran.progress r ready
-        ran.is_first made.mids_many made.headers went states ran.reported in
+        let done = went_on ready ran.is_first made went states ran.reported in
         record {
           room = ran.is_first.room;
           inputs = inputs;
@@ -68,11 +66,10 @@ forwarded p pattern olds news held holds (Ok r) ready ran = go ran.went
           wrote = done.wrote;
           numbers = done.numbers;
         }
-forwarded p pattern olds news held holds (Err fault) ready ran = tt
+forwarded (Err fault) ready ran = tt
 
-pub all_forwarded : (p : Plan) (pattern : List ℕ) (olds news held holds : List Device) (answer : Result Report RunFault) → IsReady p pattern →
-    RunAnswers p pattern (transfer olds news held holds) answer
-    → IfOk answer (Forwarded p pattern (transfer olds news held holds))
-all_forwarded p pattern olds news held holds answer ready (inl ran) = forwarded p pattern olds news held holds answer ready ran
-all_forwarded p pattern olds news held holds (Ok r) ready (inr unopened) = absurd unopened
-all_forwarded p pattern olds news held holds (Err fault) ready (inr unopened) = tt
+pub all_forwarded : {p : Plan} {pattern : List ℕ} {t : Transfer} (answer : Result Report RunFault) → IsReady p pattern → RunAnswers p pattern t answer
+    → IfOk answer (Forwarded p pattern t)
+all_forwarded answer ready (inl ran) = forwarded answer ready ran
+all_forwarded (Ok r) ready (inr unopened) = absurd unopened
+all_forwarded (Err fault) ready (inr unopened) = tt

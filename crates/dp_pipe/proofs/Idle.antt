@@ -1,19 +1,17 @@
 -- The report of an engine that took no turn.
-use Rattle.std.proofs.Common.{◌≡◌, ℕ, zero, suc, ◌+◌, ◌≤◌, List, [], ◌∷◌, length, map, take, replicate, refl, sym, ◌∙◌, ap, subst, arith, zero-add}
+use Rattle.std.proofs.Common.{◌≡◌, ℕ, zero, suc, ◌+◌, ◌≤◌, List, [], ◌∷◌, length, map, take, replicate, refl, sym, ◌∙◌, ap, arith, zero-add}
 use Rattle.std.specs.Prelude.{if◌then◌else◌}
 use Rattle.std.specs.List.{AllByRecursion}
 use Rattle.std.proofs.lemmas.Bool.{lt-leb}
 use Rattle.std.proofs.lemmas.List.{length-map}
 use Rattle.dp_model.specs.declared.env.PortSpec.{PortSpec}
 use Rattle.dp_model.specs.declared.env.RingSpec.{RingSpec}
-use Rattle.dp_model.specs.Machine.{Setting}
 use Rattle.dp_model.specs.Packets.{Packet}
 use Rattle.dp_engine.specs.declared.report.InputState.{InputState}
 use Rattle.dp_engine.specs.declared.report.InputState.TheVariants.{Open}
 use Rattle.dp_engine.specs.declared.report.Report.{Report}
-use Rattle.dp_engine.specs.declared.report.Tallies.{Tallies}
 use Rattle.dp_engine.specs.Engines.{EngineState, IsAscending, no_tallies, with_left}
-use Rattle.dp_engine.specs.Reports.{port_report, IsWhole}
+use Rattle.dp_engine.specs.Reports.{port_report}
 use Rattle.dp_engine.specs.Tallies.{refused_of}
 use Rattle.dp_pipe.specs.declared.forwarding.InputProgress.{InputProgress}
 use Rattle.dp_pipe.specs.Pipelines.{Plan}
@@ -43,27 +41,19 @@ none_refused least [] ascends = refl
 none_refused least (n ∷ pattern) (more, ascends) =
     ap (λ b. (if b then 1 else 0) + refused_of pattern 0) (lt-leb n 0 (omega (arith, more))) ∙ zero-add (refused_of pattern 0) ∙ none_refused n pattern ascends
 
-pub idle_reported : (p : Plan) (pattern : List ℕ) (first : EngineState) (progress : List InputProgress) (r : Report) → IsFirst p pattern first
+pub idle_reported : {p : Plan} {pattern : List ℕ} {first : EngineState} {progress : List InputProgress} {r : Report} → IsFirst p pattern first
     → IsAscending 0 pattern
     → length p.env.ports ≤ 8 → length p.env.rings ≤ 8 → AllByRecursion IsBegun progress → IsReportOf first progress r → IsIdle p.env r
-idle_reported p pattern first progress r is ascends few_ports few_rings begun reported =
+idle_reported {p = p} {pattern = pattern} {first = first} {progress = progress} {r = r} is ascends few_ports few_rings begun reported =
     let states = map (λ (x : InputProgress). x.state) progress in
     let none : RingSpec → ℕ = λ _. 0 in
     record {
-      ports = reported.ports
-          ∙ ap (λ (s : Setting). with_states states (map (port_report Open) (take (length s.env.ports) first.tallies))) is.setting
-          ∙ ap (λ (l : List Tallies). with_states states (map (port_report Open) (take (length p.env.ports) l))) is.tallies
-          ∙ open_ports progress p.env.ports 8 begun few_ports;
-      rings = reported.rings
-          ∙ ap (λ (s : Setting). take (length s.env.rings) (with_left first.left (map length first.world.rings))) is.setting
-          ∙ ap (λ l. take (length p.env.rings) (with_left l (map length first.world.rings))) is.left
-          ∙ ap (λ (l : List (List Packet)). take (length p.env.rings) (with_left (replicate 8 0) (map length l))) is.start.rings
-          ∙ ap (λ (l : List ℕ). take (length p.env.rings) (with_left (replicate 8 0) l)) (no_packets p.env.rings)
+      ports = (rw (is.setting, is.tallies) at reported.ports) ∙ open_ports progress p.env.ports 8 begun few_ports;
+      rings = (rw (is.setting, is.left, is.start.rings, no_packets p.env.rings) at reported.rings)
           ∙ ap (λ n. take n (with_left (replicate 8 0) (map none p.env.rings))) (sym (length-map p.env.rings none))
           ∙ left_only 8 (map none p.env.rings) (omega (arith, few_rings, length-map p.env.rings none));
-      pools = subst (λ (s : Setting). IsWhole s.env r) is.setting reported.pools;
+      pools = rw is.setting at reported.pools;
       calls = reported.calls ∙ is.start.calls;
-      refused = reported.refused ∙ ap (λ (s : Setting). refused_of s.pattern first.world.calls) is.setting ∙ ap (refused_of pattern) is.start.calls
-          ∙ none_refused 0 pattern ascends;
+      refused = (rw (is.setting, is.start.calls) at reported.refused) ∙ none_refused 0 pattern ascends;
       cut = reported.cut ∙ is.start.cuts;
     }

@@ -8,7 +8,7 @@ use Rattle.dp_model.specs.declared.env.Entry.{Entry}
 use Rattle.dp_model.specs.Laws.Lists.{take_more}
 use Rattle.dp_pipe.specs.Setup.{NodeFiles}
 use Rattle.dp_pipe.specs.declared.nodes.How.{How}
-use Rattle.dp_pipe.specs.Nodes.{Node, numbered, node_of}
+use Rattle.dp_pipe.specs.Nodes.{Node, nodes_from, node_of}
 
 -- ---- what is there, and what is set
 
@@ -50,31 +50,31 @@ beyond (x ∷ xs) ys k =
 
 -- ---- numbered nodes
 
-pub length-numbered : (how : How) (kind : ℕ → Entry) (k : ℕ) (files : List NodeFiles) → length (numbered how kind k files) ≡ length files
-length-numbered how kind k [] = refl
-length-numbered how kind k (f ∷ files) = ap suc (length-numbered how kind (k + 1) files)
+pub length-nodes_from : (how : How) (kind : ℕ → Entry) (k : ℕ) (files : List NodeFiles) → length (nodes_from how kind k files) ≡ length files
+length-nodes_from how kind k [] = refl
+length-nodes_from how kind k (f ∷ files) = ap suc (length-nodes_from how kind (k + 1) files)
 
-pub numbered_at : (how : How) (kind : ℕ → Entry) (k : ℕ) (files : List NodeFiles) (i : ℕ) (f : NodeFiles) → slice_get files i ≡ Some f →
-    slice_get (numbered how kind k files) i ≡ Some (node_of how (kind (k + i)) f)
-numbered_at how kind k [] i f e = absurd cc
-numbered_at how kind k (g ∷ files) zero f e =
+pub nodes_from_at : (how : How) (kind : ℕ → Entry) (k : ℕ) (files : List NodeFiles) (i : ℕ) (f : NodeFiles) → slice_get files i ≡ Some f →
+    slice_get (nodes_from how kind k files) i ≡ Some (node_of how (kind (k + i)) f)
+nodes_from_at how kind k [] i f e = absurd cc
+nodes_from_at how kind k (g ∷ files) zero f e =
     let same : g ≡ f = cc in rw (add-zero) (ap (λ h. Some (node_of how (kind k) h)) same)
-numbered_at how kind k (g ∷ files) (suc i) f e =
+nodes_from_at how kind k (g ∷ files) (suc i) f e =
     let next : (k + 1) + i ≡ k + suc i = omega arith in
-    numbered_at how kind (k + 1) files i f e ∙ ap (λ n. Some (node_of how (kind n) f)) next
+    nodes_from_at how kind (k + 1) files i f e ∙ ap (λ n. Some (node_of how (kind n) f)) next
 
 pub front_of : {A : Type 0} (xs ys : List A) (k : ℕ) → k < length xs → slice_get (xs ++ ys) k ≡ slice_get xs k
 front_of [] ys k lt = absurd (omega arith)
 front_of (x ∷ xs) ys zero lt = refl
 front_of (x ∷ xs) ys (suc k) lt = front_of xs ys k (omega arith)
 
-pub numbered_entry : (how : How) (kind : ℕ → Entry) (k : ℕ) (files : List NodeFiles) (i : ℕ) (node : Node) → slice_get (numbered how kind k files) i
+pub nodes_from_entry : (how : How) (kind : ℕ → Entry) (k : ℕ) (files : List NodeFiles) (i : ℕ) (node : Node) → slice_get (nodes_from how kind k files) i
     ≡ Some node → node.entry ≡ kind (k + i)
-numbered_entry how kind k [] i node e = absurd cc
-numbered_entry how kind k (g ∷ files) zero node e =
+nodes_from_entry how kind k [] i node e = absurd cc
+nodes_from_entry how kind k (g ∷ files) zero node e =
     let same : node_of how (kind k) g ≡ node = cc in rw add-zero (sym (ap (λ (n : Node). n.entry) same))
-numbered_entry how kind k (g ∷ files) (suc i) node e =
+nodes_from_entry how kind k (g ∷ files) (suc i) node e =
     let next : (k + 1) + i ≡ k + suc i = omega arith in
-    numbered_entry how kind (k + 1) files i node e ∙ ap kind next
+    nodes_from_entry how kind (k + 1) files i node e ∙ ap kind next
 
 -- ---- lists that fit, index by index

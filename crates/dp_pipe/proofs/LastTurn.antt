@@ -1,5 +1,5 @@
 -- A turn after which a writer failed: what was written until then, and what is counted.
-use Rattle.std.proofs.Common.{◌≡◌, ◌≢◌, ℕ, suc, ◌+◌, ◌<◌, ◌≤◌, ◌⊎◌, inl, inr, Bool, true, false, List, [], ◌∷◌, ◌++◌, length, take, Option, Some, refl}
+use Rattle.std.proofs.Common.{◌≡◌, ◌≢◌, ℕ, suc, ◌+◌, ◌<◌, ◌≤◌, ◌⊎◌, inl, inr, Bool, true, false, List, [], ◌∷◌, ◌++◌, length, take, Some, refl}
 use Rattle.std.proofs.Common.{sym, ◌∙◌, ap, subst, arith, append-nil, zero-add}
 use Rattle.std.specs.Prelude.{slice_get, nat_lt, ◌==◌, if◌then◌else◌}
 use Rattle.std.specs.Option.{option_map_or}
@@ -12,14 +12,14 @@ use Rattle.dp_pcap.specs.declared.time.Unit.{Unit as TimeUnit}
 use Rattle.dp_pcap.specs.Capture.{PacketRecord}
 use Rattle.dp_pcap.specs.Text.{header_text, record_text, text}
 use Rattle.dp_model.specs.Machine.{Setting}
-use Rattle.dp_model.specs.Runs.{Outcome, Nodes, Turn, Run, records_at, joined, with_empty_outboxes}
+use Rattle.dp_model.specs.Runs.{Outcome, Turn, Run, records_at, joined, with_empty_outboxes}
 use Rattle.dp_model.specs.Laws.Runs.{with_turn, run_push}
 use Rattle.dp_engine.specs.declared.report.Tallies.{Tallies}
 use Rattle.dp_engine.specs.Drains.{captured}
 use Rattle.dp_engine.specs.Engines.{EngineState, no_tallies, tallies_at, counted_at, sent_at}
 use Rattle.dp_engine.specs.Tallies.{counted}
-use Rattle.dp_pipe.specs.Devices.{Device, transfer, IsGiven}
-use Rattle.dp_pipe.specs.Forwarding.{Input, FailedAt, AreWritten, DrainsStopped, capture_at, capture_of, drained_at, records_text, tally_of}
+use Rattle.dp_pipe.specs.Devices.{Device, Transfer, IsGiven}
+use Rattle.dp_pipe.specs.Forwarding.{Input, FailedAt, capture_at, capture_of, drained_at, records_text, tally_of}
 use Rattle.dp_pipe.specs.Headline.{PacketRun, GoesOnBy, WroteFront, capture_text, sent_until}
 use Rattle.dp_pipe.specs.Pipelines.{Plan}
 use Rattle.dp_pipe.specs.Running.{HeadersWritten, IsFirst, setting_in, programs_in}
@@ -57,75 +57,71 @@ text_more unit xs ys = append_assoc (header_text unit) (records_text unit xs) (r
 
 -- ---- what was written
 
--- what a writer was given before the last turn: a header, and all that its port had sent
-given_before : (unit : TimeUnit) (captures : List (List (Time × List ℕ))) (held hdr mids : List Device) → length hdr ≡ length held →
-    length mids ≡ length hdr → HeadersWritten unit held hdr → AreWritten unit hdr mids (capture_at captures)
-    → (q : ℕ) (old : Device) → slice_get held q ≡ Some old → (mid : Device) × (slice_get mids q ≡ Some mid)
-    × IsGiven old mid (text unit (capture_at captures q))
-given_before unit captures held hdr mids many mids_many headers wrote q old here =
-    let within = slice_get_within held q old here in
-    let (h, at_h) = get_within hdr q (omega (arith, within, many)) in
-    let (m, at_m) = get_within mids q (omega (arith, within, many, mids_many)) in
-    (m, at_m, given_then old h m (header_text unit) (records_text unit (capture_at captures q)) (headers q old h here at_h) (wrote q h m at_h at_m))
+module _ {unit : TimeUnit} {first last : EngineState} {t : Transfer} {inputs : List Input} {port : ℕ} (f : FailedAt unit first last t inputs port)
+    (held : List Device) (many : length t.held ≡ length held) (headers : HeadersWritten unit held t.held) (long : length f.captures ≡ length held)
+    (new_long : length (records_at f.last.time f.beyond.world) ≡ length held) where
+  -- what a writer was given before the last turn: a header, and all that its port had sent
+  given_before : (q : ℕ) (old : Device) → slice_get held q ≡ Some old
+      → (mid : Device) × (slice_get f.mids q ≡ Some mid) × IsGiven old mid (text unit (capture_at f.captures q))
+  given_before q old here =
+      let within = slice_get_within held q old here in
+      let (h, at_h) = get_within t.held q (omega (arith, within, many)) in
+      let (m, at_m) = get_within f.mids q (omega (arith, within, many, f.mids_many)) in
+      (m, at_m, given_then old h m (header_text unit) (records_text unit (capture_at f.captures q)) (headers q old h here at_h) (f.wrote q h m at_h at_m))
 
-module _ (unit : TimeUnit) (captures : List (List (Time × List ℕ))) (time : Time) (e e' : EngineState) (held hdr mids holds : List Device) (port : ℕ)
-    (many : length hdr ≡ length held) (mids_many : length mids ≡ length hdr) (headers : HeadersWritten unit held hdr)
-    (wrote : AreWritten unit hdr mids (capture_at captures))
-    (long : length captures ≡ length held) (new_long : length (records_at time e.world)
-    ≡ length held) (stopped : DrainsStopped unit time e e' mids holds port) where
   abbrev all : List (List (Time × List ℕ))
-  all = joined captures (records_at time e.world)
+  all = joined f.captures (records_at f.last.time f.beyond.world)
 
-  both : (q : ℕ) (old : Device) → slice_get held q ≡ Some old → capture_at all q ≡ capture_at captures q ++ drained_at time e.world q
+  both : (q : ℕ) (old : Device) → slice_get held q ≡ Some old → capture_at all q ≡ capture_at f.captures q ++ drained_at f.last.time f.beyond.world q
   both q old here =
       let within = slice_get_within held q old here in
-      capture_joined captures (records_at time e.world) q (omega (arith, within, long)) (omega (arith, within, new_long))
+      capture_joined f.captures (records_at f.last.time f.beyond.world) q (omega (arith, within, long)) (omega (arith, within, new_long))
 
   -- a port before it has written all
-  pub given_ahead : (q : ℕ) (old new : Device) → q < port → slice_get held q ≡ Some old → slice_get holds q ≡ Some new →
+  pub given_ahead : (q : ℕ) (old new : Device) → q < port → slice_get held q ≡ Some old → slice_get t.holds q ≡ Some new →
       IsGiven old new (capture_text unit all q)
   given_ahead q old new less here there =
-      let (m, at_m, before) = given_before unit captures held hdr mids many mids_many headers wrote q old here in
+      let (m, at_m, before) = given_before q old here in
       let apart : q ≢ port = λ e. absurd (omega (arith, less, e)) in
-      let now = rw (lt-ltb q port less) at (stopped.first.wrote q m new at_m (sym (stopped.others q apart) ∙ there)) in
-      subst (IsGiven old new) (text_more unit (capture_at captures q) (drained_at time e.world q) ∙ ap (text unit) (sym (both q old here)))
-      (given_then old m new (text unit (capture_at captures q)) (records_text unit (drained_at time e.world q)) before now)
+      let now = rw (lt-ltb q port less) at (f.stopped.first.wrote q m new at_m (sym (f.stopped.others q apart) ∙ there)) in
+      subst (IsGiven old new) (text_more unit (capture_at f.captures q) (drained_at f.last.time f.beyond.world q) ∙ ap (text unit) (sym (both q old here)))
+      (given_then old m new (text unit (capture_at f.captures q)) (records_text unit (drained_at f.last.time f.beyond.world q)) before now)
 
   -- a port after it has written what was sent before
-  pub given_after : (q : ℕ) (old new : Device) → port < q → slice_get held q ≡ Some old → slice_get holds q ≡ Some new →
-      IsGiven old new (capture_text unit captures q)
+  pub given_after : (q : ℕ) (old new : Device) → port < q → slice_get held q ≡ Some old → slice_get t.holds q ≡ Some new →
+      IsGiven old new (capture_text unit f.captures q)
   given_after q old new less here there =
-      let (m, at_m, before) = given_before unit captures held hdr mids many mids_many headers wrote q old here in
+      let (m, at_m, before) = given_before q old here in
       let apart : q ≢ port = λ e. absurd (omega (arith, less, e)) in
-      let now = rw (le-ltb q port (omega (arith, less))) at (stopped.first.wrote q m new at_m (sym (stopped.others q apart) ∙ there)) in
-      subst (IsGiven old new) (append-nil (text unit (capture_at captures q))) (given_then old m new (text unit (capture_at captures q)) [] before now)
+      let now = rw (le-ltb q port (omega (arith, less))) at (f.stopped.first.wrote q m new at_m (sym (f.stopped.others q apart) ∙ there)) in
+      subst (IsGiven old new) (append-nil (text unit (capture_at f.captures q))) (given_then old m new (text unit (capture_at f.captures q)) [] before now)
 
   -- its own writer was given whole records, and a part of the next
-  pub given_own : (old new : Device) → slice_get held port ≡ Some old → slice_get holds port ≡ Some new →
-      WroteFront unit (capture_at all port) (length (capture_at captures port) + stopped.whole) old new
+  pub given_own : (old new : Device) → slice_get held port ≡ Some old → slice_get t.holds port ≡ Some new →
+      WroteFront unit (capture_at all port) (length (capture_at f.captures port) + f.stopped.whole) old new
   given_own old new here there =
-      let (m, at_m, before) = given_before unit captures held hdr mids many mids_many headers wrote port old here in
-      let own = stopped.own m new at_m there in
+      let (m, at_m, before) = given_before port old here in
+      let own = f.stopped.own m new at_m there in
       let part = own.part in
-      let xs = capture_at captures port in
-      let ys = drained_at time e.world port in
-      let front = take stopped.whole ys in
-      let more = take (stopped.whole + 1) ys in
+      let xs = capture_at f.captures port in
+      let ys = drained_at f.last.time f.beyond.world port in
+      let front = take f.stopped.whole ys in
+      let more = take (f.stopped.whole + 1) ys in
       let rest = take part.bytes (record_text unit part.next) in
       let is = both port old here in
-      let one_more : length xs + (stopped.whole + 1) ≡ length xs + stopped.whole + 1 = omega arith in
-      let longer : text unit xs ++ records_text unit more ≡ text unit (take (length xs + stopped.whole + 1) (capture_at all port)) =
-      text_more unit xs more ∙ ap (text unit) (sym (take_after xs ys (stopped.whole + 1)) ∙ ap (take (length xs + (stopped.whole + 1))) (sym is)
+      let one_more : length xs + (f.stopped.whole + 1) ≡ length xs + f.stopped.whole + 1 = omega arith in
+      let longer : text unit xs ++ records_text unit more ≡ text unit (take (length xs + f.stopped.whole + 1) (capture_at all port)) =
+      text_more unit xs more ∙ ap (text unit) (sym (take_after xs ys (f.stopped.whole + 1)) ∙ ap (take (length xs + (f.stopped.whole + 1))) (sym is)
       ∙ ap (λ n. take n (capture_at all port)) one_more) in
       record {
         next = part.next;
-        next_is = ap (λ l. slice_get l (length xs + stopped.whole)) is ∙ beyond xs ys stopped.whole ∙ part.next_is;
+        next_is = ap (λ l. slice_get l (length xs + f.stopped.whole)) is ∙ beyond xs ys f.stopped.whole ∙ part.next_is;
         bytes = part.bytes;
         part = part.part;
         wrote = subst (Appends old.bytes new.bytes)
             (sym (append_assoc (text unit xs) (records_text unit front) rest)
-            ∙ ap (λ l. l ++ rest) (text_more unit xs front ∙ ap (text unit) (sym (take_after xs ys stopped.whole)
-            ∙ ap (take (length xs + stopped.whole)) (sym is))))
+            ∙ ap (λ l. l ++ rest) (text_more unit xs front ∙ ap (text unit) (sym (take_after xs ys f.stopped.whole)
+            ∙ ap (take (length xs + f.stopped.whole)) (sym is))))
             (Appends-trans old.bytes m.bytes new.bytes (text unit xs) (records_text unit front ++ rest) before.grown part.wrote);
         calls = omega (arith, before.calls, own.calls, ap length longer, length-append (text unit xs) (records_text unit more));
       }
@@ -149,9 +145,8 @@ drained_tally q port whole tallies less = go (split q port)
   where
     go : (q ≡ port) ⊎ (q ≢ port) → tallies_at (sent_at port whole tallies) q
         ≡ record (tallies_at tallies q) { sent = (tallies_at tallies q).sent + (if q == port then whole else 0) }
-    go (inl same) = subst (λ x. tallies_at (sent_at port whole tallies) x
-        ≡ record (tallies_at tallies x) { sent = (tallies_at tallies x).sent + (if x == port then whole else 0) }) (sym same)
-        (rw (eq-eqb port port refl) (tallies_same tallies port (record (tallies_at tallies port) { sent = (tallies_at tallies port).sent + whole }) less))
+    go (inl same) = rw (same, eq-eqb port port refl)
+        (tallies_same tallies port (record (tallies_at tallies port) { sent = (tallies_at tallies port).sent + whole }) less)
     go (inr other) =
         let t = tallies_at tallies q in
         rw (ne_eqb q port other) (tallies_other tallies port q (record (tallies_at tallies port) { sent = (tallies_at tallies port).sent + whole }) other
@@ -176,10 +171,8 @@ sent_is q port own before all newest whole long mine = go (split q port) (cases_
 
 -- ---- the run through the last turn
 
-module _ (p : Plan) (pattern : List ℕ) (first last : EngineState) (unit : TimeUnit) (olds news hdr holds : List Device) (inputs : List Input)
-    (port : ℕ)
-    (ready : IsReady p pattern) (is : IsFirst p pattern first) (f : FailedAt unit first last (transfer olds news hdr holds) inputs port)
-    (few_ports : length p.env.ports ≤ 8) where
+module _ {p : Plan} {pattern : List ℕ} {first last : EngineState} {unit : TimeUnit} {t : Transfer} {inputs : List Input} {port : ℕ}
+    (ready : IsReady p pattern) (is : IsFirst p pattern first) (f : FailedAt unit first last t inputs port) (few_ports : length p.env.ports ≤ 8) where
   engine_setting : f.engine.setting ≡ setting_in p pattern
   engine_setting = ap (λ (e : EngineState). e.setting) f.run.stays ∙ is.setting
 
@@ -196,19 +189,16 @@ module _ (p : Plan) (pattern : List ℕ) (first last : EngineState) (unit : Time
   records_long = length-map f.beyond.world.outboxes _ ∙ boxes
 
   abbrev pub earlier : PacketRun p pattern f.before
-  earlier = run_of p pattern first f.engine f.before f.captures ready is f.run
+  earlier = run_of ready is f.run
 
   pub turned : Turn (setting_in p pattern) (programs_in p) f.last.port f.last.bytes f.engine.world f.turn.outcome f.turn.runs f.turn.answers f.beyond.world
-  turned = subst (λ (c : Setting). Turn c (programs_in p) f.last.port f.last.bytes f.engine.world f.turn.outcome f.turn.runs f.turn.answers f.beyond.world)
-      engine_setting
-      (subst (λ (n : Nodes). Turn f.engine.setting n f.last.port f.last.bytes f.engine.world f.turn.outcome f.turn.runs f.turn.answers f.beyond.world)
-      (ap (λ (e : EngineState). e.nodes) f.run.stays ∙ is.nodes) f.turn.turn)
+  turned = rw (engine_setting, ap (λ (e : EngineState). e.nodes) f.run.stays ∙ is.nodes) at f.turn.turn
 
   pub pushed : Run (setting_in p pattern) (programs_in p) (f.before ++ f.last ∷ []) first.world
       (with_turn f.last.time f.turn.outcome f.turn.answers f.beyond.world (shown_in f.run)) (with_empty_outboxes f.beyond.world)
   pushed = run_push (setting_in p pattern) (programs_in p) f.before f.last first.world f.engine.world f.beyond.world (shown_in f.run)
       f.turn.outcome f.turn.runs f.turn.answers boxes
-      (ran p pattern first f.engine f.before f.captures is f.run) turned
+      (ran is f.run) turned
 
   abbrev pub through : PacketRun p pattern (f.before ++ f.last ∷ [])
   through = packet_run p pattern (f.before ++ f.last ∷ []) first.world (with_empty_outboxes f.beyond.world) (f.run.answers ++ f.turn.answers) (f.run.outcomes
@@ -242,7 +232,7 @@ module _ (p : Plan) (pattern : List ℕ) (first last : EngineState) (unit : Time
       let before = length (capture_at f.captures q) in
       let newest = drained_at f.last.time f.beyond.world q in
       let records = records_at f.last.time f.beyond.world in
-      let c = counted_run p pattern first f.engine f.before f.captures ready is f.run captures_long in
+      let c = counted_run ready is f.run captures_long in
       let there : f.last.port < length f.engine.tallies = omega (
         arith,
         slice_get_within p.env.ports f.last.port turned.spec turned.spec_is,
@@ -251,7 +241,7 @@ module _ (p : Plan) (pattern : List ℕ) (first last : EngineState) (unit : Time
       ) in
       let t1 : tallies_at f.beyond.tallies q ≡ record after { sent = before } =
       ap (λ (e : EngineState). tallies_at e.tallies q) f.turn.is ∙ turned_tally q f.last.port o f.engine.tallies base before there (c.tallies q less) in
-      let inside : q < length f.beyond.setting.env.ports = subst (λ (s : Setting). q < length s.env.ports) (sym after_setting) less in
+      let inside : q < length f.beyond.setting.env.ports = rw after_setting less in
       let t2 : tallies_at f.stopped.engine.tallies q ≡ record after { sent = before + (if nat_lt q port then length newest else 0) } =
       f.stopped.first.tallies q inside ∙ ap (λ (t : Tallies). record t { sent = t.sent + (if nat_lt q port then length newest else 0) }) t1 in
       let port_in : port < length f.stopped.engine.tallies = omega (
@@ -271,7 +261,7 @@ module _ (p : Plan) (pattern : List ℕ) (first last : EngineState) (unit : Time
       t3 ∙ ap (λ n. record after { sent = n }) (sent_is q port own_sent f.captures through.captures (length newest) f.stopped.whole long refl)
       ∙ ap (λ (t : Tallies). record t { sent = sent_until port own_sent through.captures f.captures q })
       (sym (tally_more q f.before f.run.outcomes f.last o no_tallies (outcomes_many (setting_in p pattern) (programs_in p) f.before first.world f.engine.world
-      (shown_in f.run) (ran p pattern first f.engine f.before f.captures is f.run))))
+      (shown_in f.run) (ran is f.run))))
     where
       many_after : length f.beyond.tallies ≡ length f.engine.tallies
       many_after = ap (λ (e : EngineState). length e.tallies) f.turn.is
@@ -279,15 +269,14 @@ module _ (p : Plan) (pattern : List ℕ) (first last : EngineState) (unit : Time
 
   pub counted_failed : IsCounted p pattern (f.before ++ f.last ∷ []) through last (sent_until port own_sent through.captures f.captures)
   counted_failed =
-      let stays = stays_failed unit first last olds news hdr holds inputs port f in
+      let stays = stays_failed f in
       record {
         setting = stays.setting ∙ is.setting;
         tallies_many = stays.each ∙ ap length is.tallies;
         tallies = counted_one;
-        left = ap (λ (e : EngineState). e.left) f.stopped.is ∙ ap (λ (e : EngineState). e.left) f.stopped.first.is
-            ∙ ap (λ (e : EngineState). e.left) f.turn.is ∙ ap (λ (e : EngineState). e.left) f.run.stays ∙ is.left;
-        rings = ap (λ (e : EngineState). e.world.rings) f.stopped.is ∙ ap (λ (e : EngineState). e.world.rings) f.stopped.first.is;
-        rings_many = rings_there p pattern (f.before ++ f.last ∷ []) ready through;
-        calls = ap (λ (e : EngineState). e.world.calls) f.stopped.is ∙ ap (λ (e : EngineState). e.world.calls) f.stopped.first.is;
-        cuts = ap (λ (e : EngineState). e.world.cuts) f.stopped.is ∙ ap (λ (e : EngineState). e.world.cuts) f.stopped.first.is;
+        left = rw (f.stopped.is, f.stopped.first.is, f.turn.is, f.run.stays) is.left;
+        rings = rw (f.stopped.is, f.stopped.first.is) refl;
+        rings_many = rings_there ready through;
+        calls = rw (f.stopped.is, f.stopped.first.is) refl;
+        cuts = rw (f.stopped.is, f.stopped.first.is) refl;
       }

@@ -14,9 +14,9 @@ use Rattle.dp_pipe.specs.declared.error.PipeError.TheVariants.{Memory}
 use Rattle.dp_pipe.specs.declared.nodes.How.{How}
 use Rattle.dp_pipe.specs.Setup.{Setup, TablePart, NodeFiles}
 use Rattle.dp_pipe.specs.Views.{node_names, port_names}
-use Rattle.dp_pipe.specs.Config.{environment_of, names_of_port, HoldAll, IsConfig, IsConfigOf, IsFaultOf}
+use Rattle.dp_pipe.specs.Config.{environment_of, names_of_port, HaveTheirRoutes, IsConfig, IsConfigOf, IsFaultOf}
 use Rattle.dp_pipe.specs.Files.{FileMap}
-use Rattle.dp_pipe.specs.Nodes.{Node, nodes_of, AreLoaded, FailsAtFirst}
+use Rattle.dp_pipe.specs.Nodes.{Node, all_nodes, AreLoaded, FailsAtFirst}
 use Rattle.dp_pipe.specs.Pipelines.{Plan, HasNodes, input_of, output_of}
 use Rattle.dp_pipe.specs.Loads.{nodes_in, IsLoadedFrom, IsUnloaded}
 use Rattle.dp_pipe.proofs.Environments.{map_twice}
@@ -40,7 +40,7 @@ few e h =
     let (h4, tables) = and_parts (nat_le 1 (length e.pools) && nat_le (length e.pools) 8) (nat_le e.tables 4) h3 in
     (leb-true (length e.ports) 8 ports, leb-true (length e.rings) 8 rings, leb-true e.tables 4 tables)
 
-held_length : (ts : List TablePart) (tables : List RouteTable) → HoldAll ts tables → length tables ≡ length ts
+held_length : (ts : List TablePart) (tables : List RouteTable) → HaveTheirRoutes ts tables → length tables ≡ length ts
 held_length [] [] all = refl
 held_length [] (x ∷ tables) all = absurd all
 held_length (t ∷ ts) [] all = absurd all
@@ -61,32 +61,44 @@ limits_of s c is = subst (λ e. fault_of e ≡ None) (sym is.env) is.fits
 
 pub tables_of : (s : Setup) (c : Config) → IsConfig s c → length c.tables.items ≡ c.env.tables
 tables_of s c is =
-    let most : (environment_of s).tables ≤ 4 = (few (environment_of s) is.fits).2 in
-    let least : min (length s.tables) 255 ≡ length s.tables = omega arith in
+    let (ports, rings, most) = few (environment_of s) is.fits in
+    let least : min (length s.tables) 255 ≡ length s.tables = omega (arith, most) in
     held_length s.tables c.tables.items is.tables ∙ sym least ∙ sym (ap (λ (e : Environment). e.tables) is.env)
 
 -- ---- names
 
+abbrev node_part : NodeFiles × List ℕ × List ℕ → NodeFiles
+node_part (files, input, output) = files
+
+abbrev input_part : NodeFiles × List ℕ × List ℕ → List ℕ
+input_part (files, input, output) = input
+
+abbrev output_part : NodeFiles × List ℕ × List ℕ → List ℕ
+output_part (files, input, output) = output
+
 port_files : (s : Setup) (c : Config) → IsConfig s c → map (λ p. node_names p.files) c.ports.items ≡ map (λ p. p.files) s.ports
 port_files s c is =
-    sym (map_twice port_names (λ t. t.0) c.ports.items) ∙ ap (map (λ t. t.0)) is.ports ∙ map_twice names_of_port (λ t. t.0) s.ports
+    sym (map_twice port_names node_part c.ports.items) ∙ ap (map node_part) is.ports
+    ∙ map_twice names_of_port node_part s.ports
 
 port_inputs : (s : Setup) (c : Config) → IsConfig s c → map input_of c.ports.items ≡ map (λ p. p.input) s.ports
 port_inputs s c is =
-    sym (map_twice port_names (λ t. t.1) c.ports.items) ∙ ap (map (λ t. t.1)) is.ports ∙ map_twice names_of_port (λ t. t.1) s.ports
+    sym (map_twice port_names input_part c.ports.items) ∙ ap (map input_part) is.ports
+    ∙ map_twice names_of_port input_part s.ports
 
 port_outputs : (s : Setup) (c : Config) → IsConfig s c → map output_of c.ports.items ≡ map (λ p. p.output) s.ports
 port_outputs s c is =
-    sym (map_twice port_names (λ t. t.2) c.ports.items) ∙ ap (map (λ t. t.2)) is.ports ∙ map_twice names_of_port (λ t. t.2) s.ports
+    sym (map_twice port_names output_part c.ports.items) ∙ ap (map output_part) is.ports
+    ∙ map_twice names_of_port output_part s.ports
 
 -- the nodes by the names that are kept
 abbrev pub kept_nodes : How → Config → List Node
-kept_nodes how c = nodes_of how (map (λ port. node_names port.files) c.ports.items) (map node_names c.rings.items)
+kept_nodes how c = all_nodes how (map (λ port. node_names port.files) c.ports.items) (map node_names c.rings.items)
 
 same_nodes : (how : How) (s : Setup) (c : Config) → IsConfig s c → kept_nodes how c ≡ nodes_in how s
 same_nodes how s c is =
-    ap (λ (ps : List NodeFiles). nodes_of how ps (map node_names c.rings.items)) (port_files s c is)
-    ∙ ap (λ (rs : List NodeFiles). nodes_of how (map (λ p. p.files) s.ports) rs) is.rings
+    ap (λ (ps : List NodeFiles). all_nodes how ps (map node_names c.rings.items)) (port_files s c is)
+    ∙ ap (λ (rs : List NodeFiles). all_nodes how (map (λ p. p.files) s.ports) rs) is.rings
 
 -- ---- what is loaded
 
@@ -97,8 +109,8 @@ fit_nodes known how text c nodes is all =
     (length-map c.ports.items (λ port. node_names port.files) ∙ ports_of is.setup c is.config)
     (length-map c.rings.items node_names ∙ rings_of is.setup c is.config)
 
-abbrev pub plan_of : Config → List Question → Plan
-plan_of c nodes = record {
+abbrev pub config_plan : Config → List Question → Plan
+config_plan c nodes = record {
   env = c.env;
   region = c.region;
   tables = c.tables.items;
@@ -108,7 +120,7 @@ plan_of c nodes = record {
 }
 
 pub loaded_from : (known : Option FileMap) (how : How) (text : List ℕ) (c : Config) (nodes : List Question) → IsConfigOf text c →
-    AreLoaded known c.env (kept_nodes how c) nodes → IsLoadedFrom known how text (plan_of c nodes)
+    AreLoaded known c.env (kept_nodes how c) nodes → IsLoadedFrom known how text (config_plan c nodes)
 loaded_from known how text c nodes is all =
     let s : Setup = is.setup in
     let moved : AreLoaded known (environment_of s) (kept_nodes how c) nodes =

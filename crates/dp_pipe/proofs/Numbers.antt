@@ -1,5 +1,5 @@
 -- The counts of a report are those of a run.
-use Rattle.std.proofs.Common.{◌≡◌, ℕ, zero, suc, ◌<◌, ◌≤◌, Bool, true, false, List, [], ◌∷◌, length, map, take, replicate, Some, refl, sym, ◌∙◌, ap, subst}
+use Rattle.std.proofs.Common.{◌≡◌, ℕ, zero, suc, ◌<◌, ◌≤◌, Bool, true, false, List, [], ◌∷◌, length, map, take, replicate, Some, refl, sym, ◌∙◌, ap}
 use Rattle.std.proofs.Common.{arith, zero-add}
 use Rattle.std.specs.Prelude.{slice_get, ◌==◌, if◌then◌else◌}
 use Rattle.std.proofs.lemmas.List.{length-map, length-take-le}
@@ -13,11 +13,11 @@ use Rattle.dp_engine.specs.declared.report.PortReport.{PortReport}
 use Rattle.dp_engine.specs.declared.report.Report.{Report}
 use Rattle.dp_engine.specs.declared.report.Tallies.{Tallies}
 use Rattle.dp_engine.specs.Engines.{EngineState, no_tallies, tallies_at, with_left}
-use Rattle.dp_engine.specs.Reports.{port_report, IsWhole}
-use Rattle.dp_engine.specs.Tallies.{Tallied, counted, how_many, is_got, is_nobuf, is_oversize, refused_of}
+use Rattle.dp_engine.specs.Reports.{port_report}
+use Rattle.dp_engine.specs.Tallies.{Tallied, counted, how_many, is_got, is_nobuf, is_oversize}
 use Rattle.dp_pipe.specs.declared.forwarding.InputProgress.{InputProgress}
 use Rattle.dp_pipe.specs.Forwarding.{Input, tally_of}
-use Rattle.dp_pipe.specs.Headline.{PacketRun, HasNumbers, outcomes_at, port_numbers}
+use Rattle.dp_pipe.specs.Headline.{PacketRun, HasRunNumbers, outcomes_at, port_numbers}
 use Rattle.dp_pipe.specs.Pipelines.{Plan}
 use Rattle.dp_pipe.specs.Running.{IsReportOf, with_states, setting_in}
 
@@ -124,12 +124,13 @@ pub record IsCounted (p : Plan) (pattern : List ℕ) (arrivals : List (Arrival T
   pub calls : e.world.calls ≡ run.last.calls
   pub cuts : e.world.cuts ≡ run.last.cuts
 
-pub numbers_reported : (p : Plan) (pattern : List ℕ) (arrivals : List (Arrival Time)) (run : PacketRun p pattern arrivals) (e : EngineState)
-    (progress : List InputProgress) (inputs : List Input) (sent : ℕ → ℕ) (r : Report)
+pub numbers_reported : {p : Plan} {pattern : List ℕ} {arrivals : List (Arrival Time)} {run : PacketRun p pattern arrivals} {e : EngineState}
+    {progress : List InputProgress} (inputs : List Input) {sent : ℕ → ℕ} {r : Report}
     → length p.env.ports ≤ 8 → length p.env.rings ≤ 8 → length inputs ≡ length p.env.ports → map (λ (i : Input). i.state) inputs
     ≡ map (λ (x : InputProgress). x.state) progress
-    → IsCounted p pattern arrivals run e sent → IsReportOf e progress r → HasNumbers p pattern arrivals run inputs sent r
-numbers_reported p pattern arrivals run e progress inputs sent r few_ports few_rings many states c is_report =
+    → IsCounted p pattern arrivals run e sent → IsReportOf e progress r → HasRunNumbers p pattern arrivals run inputs sent r
+numbers_reported {p = p} {pattern = pattern} {arrivals = arrivals} {run = run} {e = e} {progress = progress} inputs {sent = sent} {r = r} few_ports few_rings
+    many states c is_report =
     let ports_same : length e.setting.env.ports ≡ length p.env.ports = ap (λ (s : Setting). length s.env.ports) c.setting in
     let rings_same : length e.setting.env.rings ≡ length p.env.rings = ap (λ (s : Setting). length s.env.rings) c.setting in
     let answers = map (port_report Open) (take (length e.setting.env.ports) e.tallies) in
@@ -146,12 +147,11 @@ numbers_reported p pattern arrivals run e progress inputs sent r few_ports few_r
           ∙ states_at (map (λ (x : InputProgress). x.state) progress) answers q i.state (port_report Open (tallies_at e.tallies q))
           (ap (λ l. slice_get l q) (sym states) ∙ state_at inputs q i at) here
           ∙ ap (λ (x : PortReport). Some (record x { state = i.state })) numbers;
-      rings = is_report.rings ∙ ap (λ l. take (length e.setting.env.rings) (with_left l (left_in_rings e.world))) c.left
-          ∙ ap (λ l. take (length e.setting.env.rings) (with_left (replicate 8 0) (map length l))) c.rings
+      rings = (rw (c.left, c.rings) at is_report.rings)
           ∙ ap (λ m. take m (with_left (replicate 8 0) (left_in_rings run.last))) (rings_same ∙ sym c.rings_many ∙ sym (length-map run.last.rings length))
           ∙ left_only 8 (left_in_rings run.last) (omega (arith, length-map run.last.rings length, c.rings_many, few_rings));
-      pools = subst (λ (s : Setting). IsWhole s.env r) c.setting is_report.pools;
+      pools = rw c.setting at is_report.pools;
       calls = is_report.calls ∙ c.calls;
-      refused = is_report.refused ∙ ap (λ (s : Setting). refused_of s.pattern e.world.calls) c.setting ∙ ap (refused_of pattern) c.calls;
+      refused = rw (c.setting, c.calls) at is_report.refused;
       cut = is_report.cut ∙ c.cuts;
     }

@@ -1,5 +1,5 @@
 -- A run of an engine is a run of packets: no node run in it is stuck, and its captures are those of copies.
-use Rattle.std.proofs.Common.{◌≡◌, ℕ, zero, suc, ◌+◌, Bool, List, [], length, replicate, Some, None, refl, sym, ◌∙◌, ap, subst, arith, zero-add}
+use Rattle.std.proofs.Common.{◌≡◌, ℕ, zero, suc, ◌+◌, Bool, List, [], length, replicate, Some, None, refl, sym, ◌∙◌, ap, arith, zero-add}
 use Rattle.std.specs.Prelude.{slice_get}
 use Rattle.std.specs.Option.{option_map_or}
 use Rattle.std.proofs.lemmas.List.{length-map}
@@ -63,25 +63,23 @@ packet_run p pattern arrivals first last answers outcomes captures ready start r
 }
 
 -- after a run every ring exists
-pub rings_there : (p : Plan) (pattern : List ℕ) (arrivals : List (Arrival Time)) → IsReady p pattern → (run : PacketRun p pattern arrivals) →
+pub rings_there : {p : Plan} {pattern : List ℕ} {arrivals : List (Arrival Time)} → IsReady p pattern → (run : PacketRun p pattern arrivals) →
     length run.last.rings ≡ length p.env.rings
-rings_there p pattern arrivals ready run =
+rings_there {p = p} {pattern = pattern} {arrivals = arrivals} ready run =
     let rest = (safe_runs p pattern arrivals run.first ready run.start).rests
     (record { answers = run.answers; outcomes = run.outcomes; captures = run.captures }) run.last run.run in
     AllZip-long _ p.env.rings run.last.rings rest.ready.world.rings
 
-pub ran : (p : Plan) (pattern : List ℕ) (first last : EngineState) (arrivals : List (Arrival Time)) (captures : List (List (Time × List ℕ))) →
+pub ran : {p : Plan} {pattern : List ℕ} {first last : EngineState} {arrivals : List (Arrival Time)} {captures : List (List (Time × List ℕ))} →
     IsFirst p pattern first → (r : HasRun first last arrivals captures)
     → Run (setting_in p pattern) (programs_in p) arrivals first.world (shown_in r) last.world
-ran p pattern first last arrivals captures is r =
-    subst (λ (c : Setting). Run c (programs_in p) arrivals first.world (shown_in r) last.world) is.setting
-    (subst (λ (n : Nodes). Run first.setting n arrivals first.world (shown_in r) last.world) is.nodes r.run)
+ran is r = rw (is.setting, is.nodes) at r.run
 
 -- what an engine ran
-abbrev pub run_of : (p : Plan) (pattern : List ℕ) (first last : EngineState) (arrivals : List (Arrival Time)) (captures : List (List (Time × List ℕ)))
+abbrev pub run_of : {p : Plan} {pattern : List ℕ} {first last : EngineState} {arrivals : List (Arrival Time)} {captures : List (List (Time × List ℕ))}
     → IsReady p pattern → IsFirst p pattern first → HasRun first last arrivals captures → PacketRun p pattern arrivals
-run_of p pattern first last arrivals captures ready is r =
-    packet_run p pattern arrivals first.world last.world r.answers r.outcomes captures ready is.start (ran p pattern first last arrivals captures is r)
+run_of {p = p} {pattern = pattern} {first = first} {last = last} {arrivals = arrivals} {captures = captures} ready is r =
+    packet_run p pattern arrivals first.world last.world r.answers r.outcomes captures ready is.start (ran is r)
 
 -- all counts are 0 at first
 none_in : (n q : ℕ) → tallies_at (replicate n no_tallies) q ≡ no_tallies
@@ -98,10 +96,10 @@ pub sent_many : (captures : List (List (Time × List ℕ))) (q : ℕ) (sent : Li
 sent_many captures q sent at = ap (λ o. length (option_map_or capture_of o [])) at ∙ length-map sent captured
 
 -- what it counted
-pub counted_run : (p : Plan) (pattern : List ℕ) (first last : EngineState) (arrivals : List (Arrival Time)) (captures : List (List (Time × List ℕ)))
+pub counted_run : {p : Plan} {pattern : List ℕ} {first last : EngineState} {arrivals : List (Arrival Time)} {captures : List (List (Time × List ℕ))}
     → (ready : IsReady p pattern) → (is : IsFirst p pattern first) → (r : HasRun first last arrivals captures) → length captures ≡ length p.env.ports
-    → IsCounted p pattern arrivals (run_of p pattern first last arrivals captures ready is r) last (λ q. length (capture_at captures q))
-counted_run p pattern first last arrivals captures ready is r many = record {
+    → IsCounted p pattern arrivals (run_of ready is r) last (λ q. length (capture_at captures q))
+counted_run {first = first} {arrivals = arrivals} {captures = captures} ready is r many = record {
   setting = ap (λ (e : EngineState). e.setting) r.stays ∙ is.setting;
   tallies_many = r.each ∙ ap length is.tallies;
   tallies = λ q less.
@@ -111,7 +109,7 @@ counted_run p pattern first last arrivals captures ready is r many = record {
       ∙ ap (λ n. record (tally_of q arrivals r.outcomes no_tallies) { sent = n }) (zero-add (length sent) ∙ sym (sent_many captures q sent at));
   left = ap (λ (e : EngineState). e.left) r.stays ∙ is.left;
   rings = refl;
-  rings_many = rings_there p pattern arrivals ready (run_of p pattern first last arrivals captures ready is r);
+  rings_many = rings_there ready (run_of ready is r);
   calls = refl;
   cuts = refl;
 }

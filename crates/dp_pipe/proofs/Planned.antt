@@ -1,5 +1,5 @@
 -- Loaded nodes are those of a pipeline.
-use Rattle.std.proofs.Common.{◌≡◌, ℕ, ◌+◌, ◌-◌, ◌<◌, List, length, Option, Some, ap, sym, ◌∙◌, arith, length-append, zero-add}
+use Rattle.std.proofs.Common.{◌≡◌, ℕ, ◌+◌, ◌<◌, List, length, Option, Some, ap, sym, ◌∙◌, arith, length-append, zero-add}
 use Rattle.std.proofs.Common.{get_or, refl, subst}
 use Rattle.std.proofs.lemmas.Option.{slice_get_read}
 use Rattle.std.specs.Prelude.{slice_get}
@@ -14,9 +14,9 @@ use Rattle.dp_pipe.proofs.PacketRuns.{IsReady, AreLaws}
 use Rattle.dp_pipe.specs.declared.nodes.How.{How}
 use Rattle.dp_pipe.specs.Setup.{NodeFiles}
 use Rattle.dp_pipe.specs.Files.{FileMap}
-use Rattle.dp_pipe.specs.Nodes.{Node, numbered, nodes_of, IsLoaded, AreLoaded}
+use Rattle.dp_pipe.specs.Nodes.{Node, nodes_from, all_nodes, IsLoaded, AreLoaded}
 use Rattle.dp_pipe.specs.Pipelines.{Plan, IsPlan, IsFor, HasNodes}
-use Rattle.dp_pipe.proofs.Indices.{length-numbered, numbered_entry, front_of, beyond}
+use Rattle.dp_pipe.proofs.Indices.{length-nodes_from, nodes_from_entry, front_of, beyond}
 use Rattle.dp_pipe.specs.Laws.{are_nodes, all_checked}
 
 for_entry : (known : Option FileMap) (env : Environment) (entry : Entry) (node : Node) (q : Question) → node.entry ≡ entry → IsLoaded known env node q →
@@ -24,35 +24,36 @@ for_entry : (known : Option FileMap) (env : Environment) (entry : Entry) (node :
 for_entry known env entry node q e loaded = record { env_is = loaded.env_is; entry_is = loaded.entry_is ∙ e; checked = loaded.checked }
 
 port_is : (known : Option FileMap) (env : Environment) (how : How) (ports rings : List NodeFiles) (nodes : List Question) →
-    AreLoaded known env (nodes_of how ports rings) nodes
+    AreLoaded known env (all_nodes how ports rings) nodes
     → (port : ℕ) (q : Question) → port < length ports → slice_get nodes port ≡ Some q → IsFor env (Port port) q
 port_is known env how ports rings nodes all port q lt e =
-    let (node, at, loaded) = zip_back (IsLoaded known env) (nodes_of how ports rings) nodes port q all e in
-    let few : port < length (numbered how Port 0 ports) = omega (arith, length-numbered how Port 0 ports) in
-    let here : slice_get (numbered how Port 0 ports) port ≡ Some node = sym (front_of (numbered how Port 0 ports) (numbered how Ring 0 rings) port few) ∙ at in
-    for_entry known env (Port port) node q (numbered_entry how Port 0 ports port node here ∙ ap Port (zero-add port)) loaded
+    let (node, at, loaded) = zip_back (IsLoaded known env) (all_nodes how ports rings) nodes port q all e in
+    let few : port < length (nodes_from how Port 0 ports) = omega (arith, length-nodes_from how Port 0 ports) in
+    let here : slice_get (nodes_from how Port 0 ports) port ≡ Some node = sym (front_of (nodes_from how Port 0 ports)
+    (nodes_from how Ring 0 rings) port few) ∙ at in
+    for_entry known env (Port port) node q (nodes_from_entry how Port 0 ports port node here ∙ ap Port (zero-add port)) loaded
 
 ring_is : (known : Option FileMap) (env : Environment) (how : How) (ports rings : List NodeFiles) (nodes : List Question) →
-    AreLoaded known env (nodes_of how ports rings) nodes
+    AreLoaded known env (all_nodes how ports rings) nodes
     → (ring : ℕ) (q : Question) → slice_get nodes (length ports + ring) ≡ Some q → IsFor env (Ring ring) q
 ring_is known env how ports rings nodes all ring q e =
-    let (node, at, loaded) = zip_back (IsLoaded known env) (nodes_of how ports rings) nodes (length ports + ring) q all e in
-    let index : length (numbered how Port 0 ports) + ring ≡ length ports + ring = ap (λ n. n + ring) (length-numbered how Port 0 ports) in
-    let here : slice_get (numbered how Ring 0 rings) ring ≡ Some node =
-    sym (beyond (numbered how Port 0 ports) (numbered how Ring 0 rings) ring) ∙ ap (slice_get (nodes_of how ports rings)) index ∙ at in
-    for_entry known env (Ring ring) node q (numbered_entry how Ring 0 rings ring node here ∙ ap Ring (zero-add ring)) loaded
+    let (node, at, loaded) = zip_back (IsLoaded known env) (all_nodes how ports rings) nodes (length ports + ring) q all e in
+    let index : length (nodes_from how Port 0 ports) + ring ≡ length ports + ring = ap (λ n. n + ring) (length-nodes_from how Port 0 ports) in
+    let here : slice_get (nodes_from how Ring 0 rings) ring ≡ Some node =
+    sym (beyond (nodes_from how Port 0 ports) (nodes_from how Ring 0 rings) ring) ∙ ap (slice_get (all_nodes how ports rings)) index ∙ at in
+    for_entry known env (Ring ring) node q (nodes_from_entry how Ring 0 rings ring node here ∙ ap Ring (zero-add ring)) loaded
 
 -- the nodes that are loaded are one for each port and each ring of the environment
 pub has_nodes : (known : Option FileMap) (env : Environment) (how : How) (ports rings : List NodeFiles) (nodes : List Question) →
-    AreLoaded known env (nodes_of how ports rings) nodes
+    AreLoaded known env (all_nodes how ports rings) nodes
     → length ports ≡ length env.ports → length rings ≡ length env.rings → HasNodes env nodes
 has_nodes known env how ports rings nodes all p r = record {
   count = omega (
     arith,
-    AllZip-long (IsLoaded known env) (nodes_of how ports rings) nodes all,
-    length-append (numbered how Port 0 ports) (numbered how Ring 0 rings),
-    length-numbered how Port 0 ports,
-    length-numbered how Ring 0 rings,
+    AllZip-long (IsLoaded known env) (all_nodes how ports rings) nodes all,
+    length-append (nodes_from how Port 0 ports) (nodes_from how Ring 0 rings),
+    length-nodes_from how Port 0 ports,
+    length-nodes_from how Ring 0 rings,
   );
   ports = λ port q lt e. port_is known env how ports rings nodes all port q (omega arith) e;
   rings = λ ring q e. ring_is known env how ports rings nodes all ring q (ap (λ n. slice_get nodes (n + ring)) p ∙ e);

@@ -1,8 +1,7 @@
 -- Rounds of a run: each input is read in its turn.
-use Rattle.std.proofs.Common.{suc, ◌≡◌, ℕ, ◌+◌, ◌<◌, ◌≤◌, true, List, [], ◌∷◌, length, map, Option, Some, Result, Ok, Err, refl}
+use Rattle.std.proofs.Common.{suc, ◌≡◌, ℕ, ◌+◌, ◌<◌, ◌≤◌, true, List, [], ◌∷◌, length, map, Some, Result, Ok, Err, refl}
 use Rattle.std.proofs.Common.{sym, ◌∙◌, ap, subst, arith, ◌⊎◌, inl, inr}
-use Rattle.std.specs.Prelude.{slice_get, slice_set, ⊤, if◌then◌else◌}
-use Rattle.std.specs.List.{AllByRecursion}
+use Rattle.std.specs.Prelude.{slice_get, slice_set, ⊤}
 use Rattle.std.proofs.lemmas.Bool.{le-ltb}
 use Rattle.std.proofs.lemmas.List.{length-map, map-set}
 use Rattle.std.proofs.lemmas.Option.{slice_get_within}
@@ -12,9 +11,9 @@ use Rattle.dp_engine.specs.declared.report.InputState.{InputState}
 use Rattle.dp_engine.specs.declared.report.InputState.TheVariants.{Open, Whole, Cut}
 use Rattle.dp_engine.specs.Engines.{EngineState}
 use Rattle.dp_pipe.specs.declared.forwarding.InputProgress.{InputProgress}
-use Rattle.dp_pipe.specs.Devices.{Device, transfer}
+use Rattle.dp_pipe.specs.Devices.{Device, Transfer, transfer}
 use Rattle.dp_pipe.specs.declared.forwarding.RunCause.{RunCause}
-use Rattle.dp_pipe.specs.Forwarding.{Input, Stands, Along, Advances, Stops, AreRounds, IsRound, NoneIsOpen, AreOver, asked, AnswersSo}
+use Rattle.dp_pipe.specs.Forwarding.{Input, IsProgressOf, RunUntil, AskedUntil, Advances, StopsRun, AreRounds, NoneIsOpen, AreOver}
 use Rattle.dp_pipe.proofs.Advancing.{order_ended, order_round}
 use Rattle.dp_pipe.proofs.Stepping.{input_at, open_going}
 use Rattle.dp_pipe.proofs.GoingOn.{goes_on, many_least}
@@ -26,59 +25,64 @@ decide Open = inl refl
 decide Whole = inr (λ e. cc)
 decide (Cut byte) = inr (λ e. cc)
 
-module _ (unit : TimeUnit) (e0 e : EngineState) (olds news held mids : List Device) (progress : List InputProgress) (inputs : List Input)
-    (round port : ℕ) (p : InputProgress)
-    (along : Along unit e0 e (transfer olds news held mids) progress inputs round port) (here : slice_get progress port ≡ Some p)
-    (open_p : p.state ≡ Open) where
+module _ {unit : TimeUnit} {e0 e : EngineState} {t : Transfer} {progress : List InputProgress} {inputs : List Input} {round port : ℕ}
+    (along : RunUntil unit e0 e t progress inputs round port) {p : InputProgress} (here : slice_get progress port ≡ Some p) (open_p : p.state ≡ Open) where
   abbrev pub i : Input
-  i = (input_at olds news progress inputs port p along.stand here).0
+  i = (input_at port along.progress_is here).0
 
   i_here : slice_get inputs port ≡ Some i
-  i_here = (input_at olds news progress inputs port p along.stand here).1
+  i_here = (input_at port along.progress_is here).1
 
-  i_stands : Stands p i
-  i_stands = (input_at olds news progress inputs port p along.stand here).2
+  i_progress : IsProgressOf p i
+  i_progress = (input_at port along.progress_is here).2
 
   pub open_source : (p.source.is_open ≡ true) × (p.source.given ≡ length i.records)
-  open_source = open_going i.state p.source (length i.records) (sym i_stands.state ∙ open_p) i_stands.goes_on
+  open_source = open_going i.state p.source (length i.records) (sym i_progress.state ∙ open_p) i_progress.goes_on
 
   pub few_turns : length progress ≤ 8 → e.turns + 16777216 ≤ 134217728 + p.source.given
   few_turns few =
       let least = many_least inputs port i i_here (λ q j at. small q j at) in
-      omega (arith, along.run.turns, along.first, along.total, least, open_source.1, few, along.stand.many)
+      omega (arith, along.run.turns, along.first, along.total, least, open_source.1, few, along.progress_is.many)
     where
       at_progress : (q : ℕ) (j : Input) → slice_get inputs q ≡ Some j → (x : InputProgress) × (slice_get progress q ≡ Some x)
-      at_progress q j at = get_within progress q (omega (arith, slice_get_within inputs q j at, along.stand.many))
+      at_progress q j at = get_within progress q (omega (arith, slice_get_within inputs q j at, along.progress_is.many))
 
       small : (q : ℕ) (j : Input) → slice_get inputs q ≡ Some j → length j.records ≤ 16777216
-      small q j at = let (x, there) = at_progress q j at in (along.stand.each q x j there at).few
+      small q j at = let (x, there) = at_progress q j at in (along.progress_is.each q x j there at).few
 
--- an input that has ended is skipped
-over_on : (unit : TimeUnit) (e0 e : EngineState) (olds news held mids : List Device) (progress : List InputProgress) (inputs : List Input)
-    (round port : ℕ) (p : InputProgress)
-    → Along unit e0 e (transfer olds news held mids) progress inputs round port → slice_get progress port ≡ Some p →
-    (p.state ≡ Open → ⊥) → Along unit e0 e (transfer olds news held mids) progress inputs round (port + 1)
-over_on unit e0 e olds news held mids progress inputs round port p along here closed =
-    let (i, i_here, stands) = input_at olds news progress inputs port p along.stand here in
-    record {
-      first = along.first;
-      held_many = along.held_many;
-      inputs_many = along.inputs_many;
-      unit_is = along.unit_is;
-      stand = along.stand;
-      order = order_ended inputs round port i i_here (λ e. closed (stands.state ∙ e)) along.order;
-      total = along.total;
-      captures = along.captures;
-      many = along.many;
-      run = along.run;
-      wrote = along.wrote;
-    }
+module _ {unit : TimeUnit} {e0 e : EngineState} {t : Transfer} {progress : List InputProgress} {inputs : List Input} {round port : ℕ}
+    (along : RunUntil unit e0 e t progress inputs round port) where
+  -- the same run, where another port comes next
+  comes_to : (round' port' : ℕ) → AskedUntil round' port' inputs → RunUntil unit e0 e t progress inputs round' port'
+  comes_to round' port' order = record {
+    first = along.first;
+    held_many = along.held_many;
+    inputs_many = along.inputs_many;
+    unit_is = along.unit_is;
+    progress_is = along.progress_is;
+    order = order;
+    total = along.total;
+    captures = along.captures;
+    many = along.many;
+    run = along.run;
+    wrote = along.wrote;
+  }
+
+  -- an input that has ended is skipped
+  over_on : {p : InputProgress} → slice_get progress port ≡ Some p → (p.state ≡ Open → ⊥) → RunUntil unit e0 e t progress inputs round (port + 1)
+  over_on here closed =
+      let (i, i_here, is_progress) = input_at port along.progress_is here in
+      comes_to round (port + 1) (order_ended inputs round port i i_here (λ e. closed (is_progress.state ∙ e)) along.order)
+
+  -- after all ports the next round begins
+  pub round_over : length progress ≤ port → RunUntil unit e0 e t progress inputs (round + 1) 0
+  round_over most = comes_to (round + 1) 0 (order_round inputs round port (omega (arith, along.progress_is.many, most)) along.order)
 
 -- A round has reached the input `p` of a port and its reader `r`.
 pub record Comes {R W : Type 0} (remaining : R → Device) (contents : W → Device) (unit : TimeUnit) (e0 e : EngineState)
     (olds held : List Device) (ins : List R) (outs : List W) (progress : List InputProgress) (round port : ℕ) (p : InputProgress) (r : R) : Type 0 where
   pub inputs : List Input
-  pub along : Along unit e0 e (transfer olds (map remaining ins) held (map contents outs)) progress inputs round port
+  pub along : RunUntil unit e0 e (transfer olds (map remaining ins) held (map contents outs)) progress inputs round port
   pub input : slice_get progress port ≡ Some p
   pub reader : slice_get ins port ≡ Some r
   pub there : port < length e0.setting.env.ports
@@ -103,12 +107,11 @@ module _ {R W : Type 0} {remaining : R → Device} {contents : W → Device} {un
   counted_now = c.along.run.each ∙ c.counted
 
   pub open_now : p.state ≡ Open → p.source.is_open ≡ true
-  open_now open_p = (open_source unit e0 e olds (map remaining ins) held (map contents outs) progress c.inputs round port p c.along c.input open_p).0
+  open_now open_p = (open_source c.along c.input open_p).0
 
   pub limit_now : p.state ≡ Open → e.turns + 16777216 ≤ 134217728 + p.source.given
   limit_now open_p =
-      few_turns unit e0 e olds (map remaining ins) held (map contents outs) progress c.inputs round port p c.along c.input open_p
-      (omega (arith, c.along.stand.many, c.along.inputs_many, c.few))
+      few_turns c.along c.input open_p (omega (arith, c.along.progress_is.many, c.along.inputs_many, c.few))
 
 -- the run after it
 module _ {R W : Type 0} {remaining : R → Device} {contents : W → Device} {unit : TimeUnit} {e0 e e' : EngineState}
@@ -122,54 +125,34 @@ module _ {R W : Type 0} {remaining : R → Device} {contents : W → Device} {un
       subst (λ (y : Result ⊤ RunCause). Advances port unit e e' p p' (remaining r) (remaining r') (map contents outs) (map contents outs') y) is (step open_p)
 
   -- the call was made, and the run continues
-  pub asked_on : answer ≡ Ok tt → (now : List Input) × Along unit e0 e' (transfer olds (map remaining (slice_set ins port r')) held (map contents outs'))
+  pub asked_on : answer ≡ Ok tt → (now : List Input) × RunUntil unit e0 e' (transfer olds (map remaining (slice_set ins port r')) held (map contents outs'))
       (slice_set progress port p') now round (port + 1)
   asked_on ok = go (decide p.state)
     where
-      go : (p.state ≡ Open) ⊎ (p.state ≡ Open → ⊥) → (now : List Input) × Along unit e0 e' (transfer olds (map remaining (slice_set ins port r')) held
+      go : (p.state ≡ Open) ⊎ (p.state ≡ Open → ⊥) → (now : List Input) × RunUntil unit e0 e' (transfer olds (map remaining (slice_set ins port r')) held
           (map contents outs')) (slice_set progress port p') now round (port + 1)
       go (inl open_p) =
-          rw (map-set remaining ins port r') (goes_on unit e0 e e' olds (map remaining ins) held (map contents outs) (map contents outs') progress c.inputs
-          round port p p' (remaining r) (remaining r') c.along
-          (record { counted = c.counted; few = c.few; mids_many = length-map outs contents ∙ c.many }) c.input open_p c.there
+          rw (map-set remaining ins port r') (goes_on c.along
+          (record { counted = c.counted; few = c.few; holds_many = length-map outs contents ∙ c.many }) p' c.input open_p c.there (remaining r')
           (map_get remaining ins port r c.reader) (answers (Ok tt) ok open_p))
       go (inr closed) =
           let (is_ok, e_is, p_is, r_is, outs_is) = over closed in
           rw (e_is, p_is, r_is, outs_is, set_itself ins port r c.reader, set_itself progress port p c.input) (
             c.inputs,
-            over_on unit e0 e olds (map remaining ins) held (map contents outs) progress c.inputs round port p c.along c.input closed,
+            over_on c.along c.input closed,
           )
 
   -- or it stops
   pub asked_stops : (cause : RunCause) → answer ≡ Err cause →
-      Stops unit e0 e' (transfer olds (map remaining (slice_set ins port r')) held (map contents outs')) (slice_set progress port p') cause
+      StopsRun unit e0 e' (transfer olds (map remaining (slice_set ins port r')) held (map contents outs')) (slice_set progress port p') cause
   asked_stops cause err = go (decide p.state)
     where
-      go : (p.state ≡ Open) ⊎ (p.state ≡ Open → ⊥) → Stops unit e0 e' (transfer olds (map remaining (slice_set ins port r')) held (map contents outs'))
+      go : (p.state ≡ Open) ⊎ (p.state ≡ Open → ⊥) → StopsRun unit e0 e' (transfer olds (map remaining (slice_set ins port r')) held (map contents outs'))
           (slice_set progress port p') cause
       go (inl open_p) =
-          rw (map-set remaining ins port r') (stops_at unit e0 e e' olds (map remaining ins) held (map contents outs) (map contents outs') progress c.inputs
-          round port p p' (remaining r) (remaining r') cause c.along (length-map outs contents ∙ c.many) c.input open_p
-          (map_get remaining ins port r c.reader) (answers (Err cause) err open_p))
+          rw (map-set remaining ins port r') (stops_at c.along (length-map outs contents ∙ c.many) p' c.input open_p (remaining r')
+          (map_get remaining ins port r c.reader) cause (answers (Err cause) err open_p))
       go (inr closed) = let bad : Err cause ≡ Ok tt = sym err ∙ (over closed).0 in cc
-
--- after all ports the next round begins
-pub round_over : (unit : TimeUnit) (e0 e : EngineState) (olds news held mids : List Device) (progress : List InputProgress) (inputs : List Input)
-    (round n : ℕ) → Along unit e0 e (transfer olds news held mids) progress inputs round n → length progress ≤ n
-    → Along unit e0 e (transfer olds news held mids) progress inputs (round + 1) 0
-round_over unit e0 e olds news held mids progress inputs round n along most = record {
-  first = along.first;
-  held_many = along.held_many;
-  inputs_many = along.inputs_many;
-  unit_is = along.unit_is;
-  stand = along.stand;
-  order = order_round inputs round n (omega (arith, along.stand.many, most)) along.order;
-  total = along.total;
-  captures = along.captures;
-  many = along.many;
-  run = along.run;
-  wrote = along.wrote;
-}
 
 all_closed : (progress : List InputProgress) (inputs : List Input) → length progress ≡ length inputs →
     ((q : ℕ) (p : InputProgress) (j : Input) → slice_get progress q ≡ Some p → slice_get inputs q ≡ Some j → p.state ≡ j.state) → NoneIsOpen progress
@@ -182,45 +165,29 @@ all_closed (p ∷ progress) (j ∷ inputs) many same none = (
   all_closed progress inputs (omega (arith, many)) (λ q a b c d. same (suc q) a b c d) (λ q a b c. none (suc q) a b c),
 )
 
--- every input has ended: the run went all the way
-pub went_all : (unit : TimeUnit) (e0 e : EngineState) (olds news held mids : List Device) (progress : List InputProgress) (inputs : List Input)
-    (round port : ℕ) → Along unit e0 e (transfer olds news held mids) progress inputs round port → NoneIsOpen progress
-    → AreRounds unit e0 e (transfer olds news held mids) progress (Ok tt)
-went_all unit e0 e olds news held mids progress inputs round port along none = (
-  inputs,
-  states_same olds news progress inputs along.stand,
-  record {
-    inputs_many = along.inputs_many;
-    unit_is = along.unit_is;
-    captures = along.captures;
-    many = along.many;
-    run = along.run;
-    wrote = along.wrote;
-  },
-  are_read olds news progress inputs along.stand,
-  all_closed progress inputs along.stand.many (λ q p j a b. (along.stand.each q p j a b).state) none,
-)
+module _ {unit : TimeUnit} {e0 e : EngineState} {t : Transfer} {progress : List InputProgress} {inputs : List Input} {round port : ℕ}
+    (along : RunUntil unit e0 e t progress inputs round port) where
+  -- every input has ended: the run went all the way
+  pub went_all : NoneIsOpen progress → AreRounds unit e0 e t progress (Ok tt)
+  went_all none = (
+    inputs,
+    states_same along.progress_is,
+    record {
+      inputs_many = along.inputs_many;
+      unit_is = along.unit_is;
+      captures = along.captures;
+      many = along.many;
+      run = along.run;
+      wrote = along.wrote;
+    },
+    are_read along.progress_is,
+    all_closed progress inputs along.progress_is.many (λ q p j a b. (along.progress_is.each q p j a b).state) none,
+  )
 
 -- no input has enough records to be still open
-pub none_left : (unit : TimeUnit) (e0 e : EngineState) (olds news held mids : List Device) (progress : List InputProgress) (inputs : List Input)
-    (round : ℕ) → Along unit e0 e (transfer olds news held mids) progress inputs round 0 → 16777217 ≤ round → NoneIsOpen progress
-none_left unit e0 e olds news held mids progress inputs round along most q p at open_p =
-    let (j, here, stands) = input_at olds news progress inputs q p along.stand at in
-    let wanted = exact j.state (length j.records) (asked round 0 q) (sym stands.state ∙ open_p) (along.order q j here) in
-    let all : asked round 0 q ≡ round = ap (λ b. if b then round + 1 else round) (le-ltb q 0 (omega arith)) in
-    absurd (omega (arith, stands.few, wanted, all, most))
-  where
-    exact : (state : InputState) (count many : ℕ) → state ≡ Open → AnswersSo state count many → count ≡ many
-    exact Open count many e is = is
-    exact Whole count many e lt = cc
-    exact (Cut byte) count many e lt = cc
-
-pub round_ok : (unit : TimeUnit) (e0 e e' : EngineState) (olds news held holds : List Device) (progress : List InputProgress) (round : ℕ)
-    (r : Result ⊤ RunCause) → r ≡ Ok tt → IsRound unit e0 e e' (transfer olds news held holds) progress round r
-    → (now : List Input) × Along unit e0 e' (transfer olds news held holds) progress now (round + 1) 0
-round_ok unit e0 e e' olds news held holds progress round r is h = rw is at h
-
-pub round_err : (unit : TimeUnit) (e0 e e' : EngineState) (olds news held holds : List Device) (progress : List InputProgress) (round : ℕ)
-    (r : Result ⊤ RunCause) (cause : RunCause) → r ≡ Err cause → IsRound unit e0 e e' (transfer olds news held holds) progress round r
-    → AreRounds unit e0 e' (transfer olds news held holds) progress (Err cause)
-round_err unit e0 e e' olds news held holds progress round r cause is h = rw is at h
+pub none_left : {unit : TimeUnit} {e0 e : EngineState} {t : Transfer} {progress : List InputProgress} {inputs : List Input} {round : ℕ}
+    → RunUntil unit e0 e t progress inputs round 0 → 16777217 ≤ round → NoneIsOpen progress
+none_left {round = round} along most q p at open_p =
+    let (j, here, is_progress) = input_at q along.progress_is at in
+    let given : length j.records ≡ round = rw (sym is_progress.state ∙ open_p, le-ltb q 0 (omega arith)) at (along.order q j here) in
+    absurd (omega (arith, is_progress.few, given, most))

@@ -1,5 +1,5 @@
 -- A run continues with a turn and the drains after it.
-use Rattle.std.proofs.Common.{◌≡◌, ◌≢◌, ℕ, zero, suc, ◌+◌, ◌<◌, ◌≤◌, Bool, true, false, List, [], ◌∷◌, ◌++◌, length, Option, Some, refl, sym, ◌∙◌}
+use Rattle.std.proofs.Common.{◌≡◌, ◌≢◌, ℕ, zero, suc, ◌+◌, ◌<◌, ◌≤◌, Bool, true, false, List, [], ◌∷◌, ◌++◌, length, Some, refl, sym, ◌∙◌}
 use Rattle.std.proofs.Common.{ap, subst, arith, ◌⊎◌, inl, inr}
 use Rattle.std.specs.Prelude.{slice_get, ◌==◌, if◌then◌else◌, replicate}
 use Rattle.std.specs.Option.{option_map_or}
@@ -9,14 +9,14 @@ use Rattle.std.proofs.lemmas.Option.{same_Some, slice_get_within}
 use Rattle.dp_pcap.specs.declared.time.Time.{Time}
 use Rattle.dp_pcap.specs.declared.time.Unit.{Unit as TimeUnit}
 use Rattle.dp_model.specs.Machine.{Setting, World}
-use Rattle.dp_model.specs.Runs.{Arrival, Outcome, Got, NoBuffer, Oversize, Nodes, Turn, Observed, Run, records_at, joined, with_empty_outboxes}
+use Rattle.dp_model.specs.Runs.{Arrival, Outcome, Got, NoBuffer, Oversize, Nodes, Observed, Run, records_at, joined, with_empty_outboxes}
 use Rattle.dp_model.specs.Laws.Runs.{with_turn, run_push}
 use Rattle.dp_engine.specs.declared.report.Tallies.{Tallies}
 use Rattle.dp_engine.specs.Drains.{captured}
 use Rattle.dp_engine.specs.Tallies.{counted}
 use Rattle.dp_engine.specs.Engines.{EngineState, tallies_at, counted_at}
 use Rattle.dp_pipe.specs.Devices.{Device}
-use Rattle.dp_pipe.specs.Forwarding.{capture_of, drained_at, emptied, tally_of, HasRun, TakesTurn, DrainedFirst}
+use Rattle.dp_pipe.specs.Forwarding.{capture_of, drained_at, first_emptied, tally_of, HasRun, HasTurn, DrainedFirst}
 use Rattle.dp_pipe.proofs.Forwarded.{emptied_all, tallies_other, tallies_same, split}
 
 abbrev pub arrival : ℕ → Time → List ℕ → Arrival Time
@@ -86,9 +86,7 @@ pub turn_tally : (q port : ℕ) (o : Outcome) (tallies : List Tallies) → port 
 turn_tally q port o tallies lt = go (split q port)
   where
     go : (q ≡ port) ⊎ (q ≢ port) → tallies_at (counted_at port o tallies) q ≡ (if port == q then counted o (tallies_at tallies q) else tallies_at tallies q)
-    go (inl same) = subst (λ x. tallies_at (counted_at port o tallies) x ≡ (if port == x then counted o (tallies_at tallies x) else tallies_at tallies x))
-        (sym same)
-        (rw (eq-eqb port port refl) (tallies_same tallies port (counted o (tallies_at tallies port)) lt))
+    go (inl same) = rw (same, eq-eqb port port refl) (tallies_same tallies port (counted o (tallies_at tallies port)) lt)
     go (inr other) = rw (ne_eqb port q (λ e. other (sym e))) (tallies_other tallies port q (counted o (tallies_at tallies port)) other)
 
 -- the counts of a port after a turn and the drains: what was counted, and what was sent
@@ -105,18 +103,17 @@ sums false o base t1 t2 t3 after n before now all was turned drained is many =
 pub run_on : (e e1 e2 e3 : EngineState) (port : ℕ) (time : Time) (bytes : List ℕ) (arrivals : List (Arrival Time)) (captures : List (List (Time × List ℕ)))
     (unit : TimeUnit) (mids holds : List Device)
     → port < length e.tallies → length e2.world.outboxes ≡ length e.setting.env.ports
-    → HasRun e e1 arrivals captures → TakesTurn port e1 e2 bytes → DrainedFirst (length e.setting.env.ports) unit time e2 e3 mids holds
+    → HasRun e e1 arrivals captures → HasTurn port e1 e2 bytes → DrainedFirst (length e.setting.env.ports) unit time e2 e3 mids holds
     → HasRun e e3 (arrivals ++ arrival port time bytes ∷ []) (joined captures (records_at time e2.world))
 run_on e e1 e2 e3 port time bytes arrivals captures unit mids holds there boxes run turn all =
     let setting1 = ap (λ (x : EngineState). x.setting) run.stays in
     let nodes1 = ap (λ (x : EngineState). x.nodes) run.stays in
-    let turned : Turn e.setting e.nodes port bytes e1.world turn.outcome turn.runs turn.answers e2.world =
-    subst (λ (x : EngineState). Turn x.setting x.nodes port bytes e1.world turn.outcome turn.runs turn.answers e2.world) (run.stays) turn.turn in
+    let turned = rw (setting1, nodes1) at turn.turn in
     let pushed = run_push e.setting e.nodes arrivals (arrival port time bytes) e.world e1.world e2.world (shown_in run) turn.outcome turn.runs
     turn.answers boxes run.run turned in
     let n = length e.setting.env.ports in
     let world3 : e3.world ≡ with_empty_outboxes e2.world =
-    ap (λ (x : EngineState). x.world) all.is ∙ ap (λ l. record e2.world { outboxes = l }) (ap (λ m. emptied m e2.world.outboxes) (sym boxes)
+    ap (λ (x : EngineState). x.world) all.is ∙ ap (λ l. record e2.world { outboxes = l }) (ap (λ m. first_emptied m e2.world.outboxes) (sym boxes)
     ∙ emptied_all e2.world.outboxes) in
     let many = outcomes_many e.setting e.nodes arrivals e.world e1.world (shown_in run) run.run in
     let stays2 : e2 ≡ record e { world = e2.world; turns = e1.turns + 1; tallies = e2.tallies } =

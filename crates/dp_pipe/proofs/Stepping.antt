@@ -8,14 +8,13 @@ use Rattle.dp_pcap.specs.declared.time.Time.{Time}
 use Rattle.dp_pcap.specs.SourceState.{SourceState}
 use Rattle.dp_pcap.specs.Capture.{PacketRecord}
 use Rattle.dp_pcap.specs.Source.{WhereKnown, HasRead, advanced, over}
-use Rattle.dp_pcap.specs.declared.time.Unit.{Unit as TimeUnit}
 use Rattle.dp_pcap.specs.Text.{text}
 use Rattle.dp_model.specs.Laws.Lists.{get_set_other, get_within}
 use Rattle.dp_engine.specs.declared.report.InputState.{InputState}
 use Rattle.dp_engine.specs.declared.report.InputState.TheVariants.{Open, Whole, Cut}
 use Rattle.dp_pipe.specs.declared.forwarding.InputProgress.{InputProgress}
 use Rattle.dp_pipe.specs.Devices.{Device}
-use Rattle.dp_pipe.specs.Forwarding.{Input, HasReadSo, IsReadBy, IsGoingOn, Stands, AllStand, last_pulls}
+use Rattle.dp_pipe.specs.Forwarding.{Input, HasReadSo, IsReadBy, IsGoingOn, IsProgressOf, AreProgressOf, last_pulls}
 use Rattle.dp_pipe.proofs.Giving.{length_more}
 use Rattle.dp_pipe.proofs.Forwarded.{split}
 use Rattle.dp_pipe.proofs.Indices.{set_here}
@@ -24,40 +23,40 @@ use Rattle.dp_pipe.proofs.Advancing.{with_record, ended}
 -- ---- inputs and the sources that read them
 
 -- the input of a progress
-pub input_at : (olds news : List Device) (progress : List InputProgress) (inputs : List Input) (q : ℕ) (p : InputProgress) →
-    AllStand olds news progress inputs → slice_get progress q ≡ Some p → (i : Input) × (slice_get inputs q ≡ Some i) × Stands p i
-input_at olds news progress inputs q p stand at =
-    let (i, here) = get_within inputs q (omega (arith, slice_get_within progress q p at, stand.many)) in
-    (i, here, stand.each q p i at here)
+pub input_at : {olds news : List Device} {progress : List InputProgress} {inputs : List Input} {p : InputProgress} (q : ℕ) →
+    AreProgressOf olds news progress inputs → slice_get progress q ≡ Some p → (i : Input) × (slice_get inputs q ≡ Some i) × IsProgressOf p i
+input_at {progress = progress} {inputs = inputs} {p = p} q progress_is at =
+    let (i, here) = get_within inputs q (omega (arith, slice_get_within progress q p at, progress_is.many)) in
+    (i, here, progress_is.each q p i at here)
 
 -- one input, its source and what its reader has left have changed
-pub all_stand : (olds news : List Device) (progress : List InputProgress) (inputs : List Input) (n : ℕ) (p' : InputProgress) (i' : Input) (b : Device)
-    → AllStand olds news progress inputs → Stands p' i' → ((old : Device) → slice_get olds n ≡ Some old → IsReadBy i' p'.source old b)
-    → AllStand olds (slice_set news n b) (slice_set progress n p') (slice_set inputs n i')
-all_stand olds news progress inputs n p' i' b stand stands read = record {
-  many = length-set progress n p' ∙ stand.many ∙ sym (length-set inputs n i');
+pub all_progress : {olds news : List Device} {progress : List InputProgress} {inputs : List Input} {p' : InputProgress} {i' : Input} (n : ℕ) (b : Device)
+    → AreProgressOf olds news progress inputs → IsProgressOf p' i' → ((old : Device) → slice_get olds n ≡ Some old → IsReadBy i' p'.source old b)
+    → AreProgressOf olds (slice_set news n b) (slice_set progress n p') (slice_set inputs n i')
+all_progress {olds = olds} {news = news} {progress = progress} {inputs = inputs} {p' = p'} {i' = i'} n b progress_is is_progress read = record {
+  many = length-set progress n p' ∙ progress_is.many ∙ sym (length-set inputs n i');
   each = λ q p i a c. each q p i a c (split q n);
   read = λ q p i a c old new d e. reads q p i old new a c d e (split q n);
 }
   where
     each : (q : ℕ) (p : InputProgress) (i : Input) → slice_get (slice_set progress n p') q ≡ Some p → slice_get (slice_set inputs n i') q ≡ Some i →
-        (q ≡ n) ⊎ (q ≢ n) → Stands p i
+        (q ≡ n) ⊎ (q ≢ n) → IsProgressOf p i
     each q p i a c (inl same) =
-        let x = set_here progress n p' p (ap (slice_get (slice_set progress n p')) (sym same) ∙ a) in
-        let y = set_here inputs n i' i (ap (slice_get (slice_set inputs n i')) (sym same) ∙ c) in
-        rw (← x, ← y) stands
-    each q p i a c (inr other) = stand.each q p i (sym (get_set_other progress n q p' other) ∙ a) (sym (get_set_other inputs n q i' other) ∙ c)
+        let x = set_here progress n p' p (rw same at a) in
+        let y = set_here inputs n i' i (rw same at c) in
+        rw (← x, ← y) is_progress
+    each q p i a c (inr other) = progress_is.each q p i (sym (get_set_other progress n q p' other) ∙ a) (sym (get_set_other inputs n q i' other) ∙ c)
 
     reads : (q : ℕ) (p : InputProgress) (i : Input) (old new : Device) → slice_get (slice_set progress n p') q ≡ Some p →
         slice_get (slice_set inputs n i') q ≡ Some i → slice_get olds q ≡ Some old → slice_get (slice_set news n b) q ≡ Some new
         → (q ≡ n) ⊎ (q ≢ n) → IsReadBy i p.source old new
     reads q p i old new a c d e (inl same) =
-        let x = set_here progress n p' p (ap (slice_get (slice_set progress n p')) (sym same) ∙ a) in
-        let y = set_here inputs n i' i (ap (slice_get (slice_set inputs n i')) (sym same) ∙ c) in
-        let z = set_here news n b new (ap (slice_get (slice_set news n b)) (sym same) ∙ e) in
-        rw (← x, ← y, ← z) (read old (ap (slice_get olds) (sym same) ∙ d))
+        let x = set_here progress n p' p (rw same at a) in
+        let y = set_here inputs n i' i (rw same at c) in
+        let z = set_here news n b new (rw same at e) in
+        rw (← x, ← y, ← z) (read old (rw same at d))
     reads q p i old new a c d e (inr other) =
-        stand.read q p i (sym (get_set_other progress n q p' other) ∙ a) (sym (get_set_other inputs n q i' other)
+        progress_is.read q p i (sym (get_set_other progress n q p' other) ∙ a) (sym (get_set_other inputs n q i' other)
         ∙ c) old new d (sym (get_set_other news n q b other) ∙ e)
 
 -- facts of the known bytes, one after the other
@@ -99,28 +98,28 @@ pub calls_ended : (i : Input) (a b c more : ℕ) → i.state ≡ Open → b ≤ 
 calls_ended i a b c more is before now = let none : last_pulls i.state ≡ 0 = rw is refl in omega (arith, before, now, none)
 
 -- after a record
-pub stands_more : (p p' : InputProgress) (i : Input) (time : Time) (len : ℕ) (buf : List ℕ) → Stands p i → p.state ≡ Open → p'.state ≡ Open →
+pub progress_more : (p p' : InputProgress) (i : Input) (time : Time) (len : ℕ) (buf : List ℕ) → IsProgressOf p i → p.state ≡ Open → p'.state ≡ Open →
     p'.source ≡ advanced p.source len → p.source.given < 16777216
-    → Stands p' (with_record (record { time = time; bytes = take len buf }) i)
-stands_more p p' i time len buf stands was is moved less =
-    let state : i.state ≡ Open = sym stands.state ∙ was in
-    let (on, given) = open_going i.state p.source (length i.records) state stands.goes_on in
+    → IsProgressOf p' (with_record (record { time = time; bytes = take len buf }) i)
+progress_more p p' i time len buf is_progress was is moved less =
+    let state : i.state ≡ Open = sym is_progress.state ∙ was in
+    let (on, given) = open_going i.state p.source (length i.records) state is_progress.goes_on in
     let more = length-append i.records (record { time = time; bytes = take len buf } ∷ []) in
     record {
-      unit = ap (λ (s : SourceState). s.unit) moved ∙ stands.unit;
+      unit = ap (λ (s : SourceState). s.unit) moved ∙ is_progress.unit;
       state = is ∙ sym state;
       goes_on = rw (state, moved) (on, omega (arith, given, more));
       few = omega (arith, given, more, less);
     }
 
 -- after the last
-pub stands_ended : (p p' : InputProgress) (i : Input) (state : InputState) → Stands p i → p'.state ≡ state → p'.source ≡ over p.source →
-    (state ≡ Open → ⊥) → Stands p' (ended state i)
-stands_ended p p' i state stands is moved closed = record {
-  unit = ap (λ (s : SourceState). s.unit) moved ∙ stands.unit;
+pub progress_ended : (p p' : InputProgress) (i : Input) (state : InputState) → IsProgressOf p i → p'.state ≡ state → p'.source ≡ over p.source →
+    (state ≡ Open → ⊥) → IsProgressOf p' (ended state i)
+progress_ended p p' i state is_progress is moved closed = record {
+  unit = ap (λ (s : SourceState). s.unit) moved ∙ is_progress.unit;
   state = is;
   goes_on = none state closed;
-  few = stands.few;
+  few = is_progress.few;
 }
   where
     none : (state : InputState) → (state ≡ Open → ⊥) → IsGoingOn state p'.source (length i.records)

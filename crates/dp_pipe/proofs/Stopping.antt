@@ -1,6 +1,6 @@
 -- A run stops at one input's answer, or at a writer after it.
-use Rattle.std.proofs.Common.{◌≡◌, ◌≢◌, ℕ, zero, suc, ◌+◌, ◌<◌, ◌≤◌, List, [], ◌∷◌, length, map, take, Option, Some, Result}
-use Rattle.std.proofs.Common.{Ok, Err, refl, sym, ◌∙◌, ap, subst, arith, ◌⊎◌, inl, inr}
+use Rattle.std.proofs.Common.{◌≡◌, ℕ, zero, suc, ◌+◌, ◌<◌, ◌≤◌, List, [], ◌∷◌, length, map, take, Some, Result}
+use Rattle.std.proofs.Common.{Ok, Err, refl, sym, ◌∙◌, ap, subst, arith}
 use Rattle.std.specs.Prelude.{slice_get, slice_set, ⊤}
 use Rattle.std.proofs.lemmas.List.{length-append, length-set}
 use Rattle.std.proofs.lemmas.Option.{same_Some, slice_get_within}
@@ -16,21 +16,20 @@ use Rattle.dp_pcap.specs.Capture.{PacketRecord}
 use Rattle.dp_pcap.specs.Source.{WhereKnown, Continues, ReadsOn, IsInRange, Moves, advanced, max_pulls}
 use Rattle.dp_model.specs.Laws.Lists.{get_set_other, get_within, set_itself}
 use Rattle.dp_engine.specs.declared.report.InputState.{InputState}
-use Rattle.dp_engine.specs.declared.report.InputState.TheVariants.{Open, Whole, Cut}
+use Rattle.dp_engine.specs.declared.report.InputState.TheVariants.{Open}
 use Rattle.dp_engine.specs.Engines.{EngineState}
 use Rattle.dp_pipe.specs.declared.forwarding.InputProgress.{InputProgress}
-use Rattle.dp_pipe.specs.Devices.{Device, transfer}
+use Rattle.dp_pipe.specs.Devices.{Device, Transfer}
 use Rattle.dp_pipe.specs.declared.forwarding.RunCause.{RunCause}
 use Rattle.dp_pipe.specs.declared.forwarding.RunCause.TheVariants.{In, Out}
-use Rattle.dp_pipe.specs.Forwarding.{Input, IsReadTo, AreRead, Refuses, Stands, AllStand, ReadsTurn, Follows, Advances, Along, Stops, arrivals_of}
-use Rattle.dp_pipe.specs.Forwarding.{TakesTurn, DrainsStopped, unit_for}
-use Rattle.dp_pipe.proofs.Forwarded.{split}
+use Rattle.dp_pipe.specs.Forwarding.{Input, IsReadTo, AreRead, Refuses, IsProgressOf, AreProgressOf, ReadsTurn, Follows, Advances, RunUntil, StopsRun}
+use Rattle.dp_pipe.specs.Forwarding.{HasTurn, DrainsStopped, arrivals_of, unit_for}
 use Rattle.dp_pipe.proofs.Indices.{set_here}
 use Rattle.dp_pipe.proofs.RunOn.{arrival}
 use Rattle.dp_pipe.proofs.Advancing.{with_record, arrivals_more, order_next}
-use Rattle.dp_pipe.proofs.GoingOn.{wanted}
+use Rattle.dp_pipe.proofs.GoingOn.{after_asking, wanted}
 use Rattle.dp_pipe.proofs.Units.{units_set}
-use Rattle.dp_pipe.proofs.Stepping.{input_at, all_stand, calls_ended, calls_more, known_then, open_read, stands_more}
+use Rattle.dp_pipe.proofs.Stepping.{input_at, all_progress, calls_ended, calls_more, known_then, open_read, progress_more}
 use Rattle.dp_pipe.proofs.Giving.{read_as}
 
 -- ---- states
@@ -51,9 +50,9 @@ states_each (p ∷ progress) (i ∷ inputs) many each =
     ap (λ x. x ∷ map state_of inputs) (sym (each 0 p i refl refl)) ∙ ap
     (λ l. p.state ∷ l) (states_each progress inputs (omega (arith, many)) (λ q a b c d. each (suc q) a b c d))
 
-pub states_same : (olds news : List Device) (progress : List InputProgress) (inputs : List Input) → AllStand olds news progress inputs →
+pub states_same : {olds news : List Device} {progress : List InputProgress} {inputs : List Input} → AreProgressOf olds news progress inputs →
     map state_of inputs ≡ map state_at progress
-states_same olds news progress inputs stand = states_each progress inputs stand.many (λ q p i a b. (stand.each q p i a b).state)
+states_same {progress = progress} {inputs = inputs} progress_is = states_each progress inputs progress_is.many (λ q p i a b. (progress_is.each q p i a b).state)
 
 states_set : (progress : List InputProgress) (n : ℕ) (p : InputProgress) → map state_at (slice_set progress n p) ≡ slice_set (map state_at progress) n p.state
 states_set [] n p = refl
@@ -71,11 +70,11 @@ progress_at : (progress : List InputProgress) (inputs : List Input) (q : ℕ) (i
     (p : InputProgress) × (slice_get progress q ≡ Some p)
 progress_at progress inputs q i many at = get_within progress q (omega (arith, slice_get_within inputs q i at, many))
 
-pub are_read : (olds news : List Device) (progress : List InputProgress) (inputs : List Input) → AllStand olds news progress inputs →
+pub are_read : {olds news : List Device} {progress : List InputProgress} {inputs : List Input} → AreProgressOf olds news progress inputs →
     AreRead olds news inputs
-are_read olds news progress inputs stand q i at old new a b =
-    let (p, here) = progress_at progress inputs q i stand.many at in
-    read_as i p.source old new (stand.each q p i here at).unit (stand.read q p i here at old new a b)
+are_read {progress = progress} {inputs = inputs} progress_is q i at old new a b =
+    let (p, here) = progress_at progress inputs q i progress_is.many at in
+    read_as i p.source old new (progress_is.each q p i here at).unit (progress_is.read q p i here at old new a b)
 
 -- a fault takes no more calls than the largest record
 pub pulls_most : (error : PcapError) → max_pulls (Err error) ≤ 262160
@@ -103,44 +102,45 @@ refuses_of Read s s' unit records bytes rest buf same has = (s, same, has)
 refuses_of error s s' unit records bytes rest buf same has = rw (← same) has
 
 -- an open input, whose source answers, in a run that continues
-module _ (unit : TimeUnit) (e0 e : EngineState) (olds news held mids : List Device) (progress : List InputProgress) (inputs : List Input) (round port : ℕ)
-    (along : Along unit e0 e (transfer olds news held mids) progress inputs round port) (p p' : InputProgress) (here : slice_get progress port ≡ Some p)
-    (open_p : p.state ≡ Open) (a b : Device) (left_a : slice_get news port ≡ Some a) where
+module _ {unit : TimeUnit} {e0 e : EngineState} {t : Transfer} {progress : List InputProgress} {inputs : List Input} {round port : ℕ}
+    (along : RunUntil unit e0 e t progress inputs round port) (holds_many : length t.holds ≡ length e0.setting.env.ports) {p : InputProgress}
+    (p' : InputProgress) (here : slice_get progress port ≡ Some p) (open_p : p.state ≡ Open) {a : Device} (b : Device)
+    (left_a : slice_get t.left port ≡ Some a) where
   abbrev i : Input
-  i = (input_at olds news progress inputs port p along.stand here).0
+  i = (input_at port along.progress_is here).0
 
   i_here : slice_get inputs port ≡ Some i
-  i_here = (input_at olds news progress inputs port p along.stand here).1
+  i_here = (input_at port along.progress_is here).1
 
-  i_stands : Stands p i
-  i_stands = (input_at olds news progress inputs port p along.stand here).2
+  i_progress : IsProgressOf p i
+  i_progress = (input_at port along.progress_is here).2
 
   i_open : i.state ≡ Open
-  i_open = sym i_stands.state ∙ open_p
+  i_open = sym i_progress.state ∙ open_p
 
   -- a writer failed after its record
   failed_after : (holds : List Device) (time : Time) (len : ℕ) (buf : List ℕ) (e1 e2 : EngineState) (q : ℕ)
-      → length mids ≡ length e0.setting.env.ports → len ≤ length buf → b.calls ≤ a.calls + (16 + len)
+      → len ≤ length buf → b.calls ≤ a.calls + (16 + len)
       → WhereKnown a.bytes b.bytes (λ left rest. Continues p.source p'.source left rest buf (Ok (Record time len)))
-      → p.source.given < 16777216 → p'.source ≡ advanced p.source len → TakesTurn port e e1 (take len buf) → p'.state ≡ Open
-      → DrainsStopped unit time e1 e2 mids holds q → Stops unit e0 e2 (transfer olds (slice_set news port b) held holds) (slice_set progress port p') (Out q)
-  failed_after holds time len buf e1 e2 q mids_many fits pulls more less moves turn is stops =
+      → p.source.given < 16777216 → p'.source ≡ advanced p.source len → HasTurn port e e1 (take len buf) → p'.state ≡ Open
+      → DrainsStopped unit time e1 e2 t.holds holds q → StopsRun unit e0 e2 (after_asking t port b holds) (slice_set progress port p') (Out q)
+  failed_after holds time len buf e1 e2 q fits pulls more less moves turn is stops =
       let r : PacketRecord = record { time = time; bytes = take len buf } in
       let i' = with_record r i in
-      let stands = stands_more p p' i time len buf i_stands open_p is moves less in
-      let stand = all_stand olds news progress inputs port p' i' b along.stand stands (λ old at.
-      let was = along.stand.read port p i here i_here old a at left_a in
+      let is_progress = progress_more p p' i time len buf i_progress open_p is moves less in
+      let progress_is = all_progress port b along.progress_is is_progress (λ old at.
+      let was = along.progress_is.read port p i here i_here old a at left_a in
       record {
         has = known_then old.bytes a.bytes b.bytes _ _ _ (λ bytes left rest before now. rw i_open
             (now bytes i.records (open_read i.state p.source i.records bytes left i_open before))) was.has more;
         calls = calls_more i time len buf old.calls a.calls b.calls i_open fits was.calls pulls;
       }) in (
         slice_set inputs port i',
-        states_same olds (slice_set news port b) (slice_set progress port p') (slice_set inputs port i') stand,
+        states_same progress_is,
         record {
           inputs_many = length-set inputs port i' ∙ along.inputs_many;
           unit_is = along.unit_is ∙ ap unit_for (sym (units_set inputs port i i' i_here refl));
-          read = are_read olds (slice_set news port b) (slice_set progress port p') (slice_set inputs port i') stand;
+          read = are_read progress_is;
           before = arrivals_of inputs;
           last = arrival port time (take len buf);
           arrivals_are = arrivals_more inputs round port i r along.order i_here i_open;
@@ -151,8 +151,8 @@ module _ (unit : TimeUnit) (e0 e : EngineState) (olds news held mids : List Devi
           captures = along.captures;
           many = along.many;
           run = along.run;
-          mids = mids;
-          mids_many = mids_many ∙ sym along.held_many;
+          mids = t.holds;
+          mids_many = holds_many ∙ sym along.held_many;
           wrote = along.wrote;
           beyond = e1;
           turn = turn;
@@ -161,19 +161,19 @@ module _ (unit : TimeUnit) (e0 e : EngineState) (olds news held mids : List Devi
       )
 
   states : p'.state ≡ Open → map state_of inputs ≡ map state_at (slice_set progress port p')
-  states is = states_same olds news progress inputs along.stand
+  states is = states_same along.progress_is
       ∙ sym (states_set progress port p' ∙ ap (slice_set (map state_at progress) port) (is ∙ sym open_p)
       ∙ set_itself (map state_at progress) port p.state (states_get progress port p here))
 
   -- what was read up to a fault
   read_to : (error : PcapError) (buf : List ℕ) → b.calls ≤ a.calls + max_pulls (Err error)
       → WhereKnown a.bytes b.bytes (λ left rest. Continues p.source p'.source left rest buf (Err error))
-      → (old : Device) → slice_get olds port ≡ Some old → IsReadTo i error old b
+      → (old : Device) → slice_get t.had port ≡ Some old → IsReadTo i error old b
   read_to error buf pulls more old at =
-      let was = along.stand.read port p i here i_here old a at left_a in
+      let was = along.progress_is.read port p i here i_here old a at left_a in
       record {
         refuses = known_then old.bytes a.bytes b.bytes _ _ _ (λ bytes left rest before now.
-            refuses_of error p.source p'.source i.unit i.records bytes rest buf i_stands.unit
+            refuses_of error p.source p'.source i.unit i.records bytes rest buf i_progress.unit
             (now bytes i.records (open_read i.state p.source i.records bytes left i_open before))) was.has more;
         calls = calls_ended i old.calls a.calls b.calls 262160 i_open was.calls (omega (arith, pulls, pulls_most error));
       }
@@ -181,7 +181,7 @@ module _ (unit : TimeUnit) (e0 e : EngineState) (olds news held mids : List Devi
   -- the input is at fault
   refused_here : (error : PcapError) (buf : List ℕ) → b.calls ≤ a.calls + max_pulls (Err error)
       → WhereKnown a.bytes b.bytes (λ left rest. Continues p.source p'.source left rest buf (Err error)) → p'.state ≡ Open
-      → Stops unit e0 e (transfer olds (slice_set news port b) held mids) (slice_set progress port p') (In port error)
+      → StopsRun unit e0 e (after_asking t port b t.holds) (slice_set progress port p') (In port error)
   refused_here error buf pulls more is = (
     inputs,
     states is,
@@ -199,33 +199,25 @@ module _ (unit : TimeUnit) (e0 e : EngineState) (olds news held mids : List Devi
       input = i;
       input_is = i_here;
       is_open = i_open;
-      fault = λ old new at c. subst (IsReadTo i error old) (set_here news port b new c) (read_to error buf pulls more old at);
+      fault = λ old new at c. subst (IsReadTo i error old) (set_here t.left port b new c) (read_to error buf pulls more old at);
       others = λ q j other at old new x y.
-          are_read olds news progress inputs along.stand q j at old new x (sym (get_set_other news port q b other) ∙ y);
+          are_read along.progress_is q j at old new x (sym (get_set_other t.left port q b other) ∙ y);
     },
   )
 
-pub stops_at : (unit : TimeUnit) (e0 e e' : EngineState) (olds news held mids holds : List Device) (progress : List InputProgress) (inputs : List Input)
-    (round port : ℕ) (p p' : InputProgress) (a b : Device) (cause : RunCause)
-    → Along unit e0 e (transfer olds news held mids) progress inputs round port → length mids ≡ length e0.setting.env.ports → slice_get progress port ≡ Some p →
-    p.state ≡ Open → slice_get news port ≡ Some a
-    → Advances port unit e e' p p' a b mids holds (Err cause)
-    → Stops unit e0 e' (transfer olds (slice_set news port b) held holds) (slice_set progress port p') cause
-stops_at unit e0 e e' olds news held mids holds progress inputs round port p p' a b cause along mids_many here open_p left_a step =
-    go step.next step.read step.pulls step.in_range step.moves step.follows
-  where
-    same_err : (x y : RunCause) → ◌≡◌ {A = Result ⊤ RunCause} (Err x) (Err y) → x ≡ y
-    same_err x y e = cc
+  pub stops_at : {e' : EngineState} {holds : List Device} (cause : RunCause) → Advances port unit e e' p p' a b t.holds holds (Err cause)
+      → StopsRun unit e0 e' (after_asking t port b holds) (slice_set progress port p') cause
+  stops_at {e' = e'} {holds = holds} cause step = go step.next step.read step.pulls step.in_range step.moves step.follows
+    where
+      same_err : (x y : RunCause) → ◌≡◌ {A = Result ⊤ RunCause} (Err x) (Err y) → x ≡ y
+      same_err x y e = cc
 
-    go : (answer : Result Next PcapError) → ReadsTurn port e step.engine p.source p'.source a.bytes b.bytes answer → b.calls ≤ a.calls + max_pulls answer →
-        IsInRange p.source answer →
-        Moves p.source p'.source answer → Follows port unit step.engine e' p'.state mids holds answer (Err cause)
-        → Stops unit e0 e' (transfer olds (slice_set news port b) held holds) (slice_set progress port p') cause
-    go (Ok (Record time len)) (buf, more, (fits, turn)) pulls (nano, few, less) moves (is, q, cause_is, stops) =
-        rw cause_is (failed_after unit e0 e olds news held mids progress inputs round port along p p' here open_p a b left_a holds time len buf step.engine e'
-        q mids_many fits pulls more less moves turn is stops)
-    go (Ok End) reads pulls range moves (is, bad, e_is, holds_is) = cc
-    go (Ok (next.Cut byte)) reads pulls range moves (is, bad, e_is, holds_is) = cc
-    go (Err error) (buf, more, same) pulls range moves (is, answer_is, e_is, holds_is) =
-        rw (same_err cause (In port error) answer_is, e_is ∙ same, holds_is)
-        (refused_here unit e0 e olds news held mids progress inputs round port along p p' here open_p a b left_a error buf pulls more is)
+      go : (answer : Result Next PcapError) → ReadsTurn port e step.engine p.source p'.source a.bytes b.bytes answer → b.calls ≤ a.calls + max_pulls answer
+          → IsInRange p.source answer → Moves p.source p'.source answer → Follows port unit step.engine e' p'.state t.holds holds answer (Err cause)
+          → StopsRun unit e0 e' (after_asking t port b holds) (slice_set progress port p') cause
+      go (Ok (Record time len)) (buf, more, (fits, turn)) pulls (nano, few, less) moves (is, q, cause_is, stops) =
+          rw cause_is (failed_after holds time len buf step.engine e' q fits pulls more less moves turn is stops)
+      go (Ok End) reads pulls range moves (is, bad, e_is, holds_is) = cc
+      go (Ok (next.Cut byte)) reads pulls range moves (is, bad, e_is, holds_is) = cc
+      go (Err error) (buf, more, same) pulls range moves (is, answer_is, e_is, holds_is) =
+          rw (same_err cause (In port error) answer_is, e_is ∙ same, holds_is) (refused_here error buf pulls more is)

@@ -12,7 +12,7 @@ use Rattle.dp_pipe.specs.declared.error.PipeError.TheVariants as errors
 use Rattle.dp_pipe.specs.declared.setup.TablePart as code
 use Rattle.dp_pipe.specs.Routes.{Takes, TakesAll}
 use Rattle.dp_pipe.specs.Setup.{TablePart}
-use Rattle.dp_pipe.specs.Config.{Holds, HoldAll, IsFillFault, IsTablesFault}
+use Rattle.dp_pipe.specs.Config.{HasItsRoutes, HaveTheirRoutes, IsFillFault, IsTablesFault}
 use Rattle.dp_pipe.specs.Views.{values, table_part}
 
 -- the first elements, seen through a view, and one more
@@ -33,20 +33,22 @@ pub route_more : (old middle new : RouteTable) (vs : List Value) (i : ℕ) (v : 
     → TakesAll old middle (take i (values vs)) → Takes middle new (view v) → TakesAll old new (take (i + 1) (values vs))
 route_more old middle new vs i v lt here before t = rw (take_seen view vs i v lt here) (takes_more old middle new (take i (values vs)) (view v) before t)
 
-hold_more : (ts : List TablePart) (tables : List RouteTable) (t : TablePart) (table : RouteTable) → HoldAll ts tables → Holds t table →
-    HoldAll (ts ++ t ∷ []) (tables ++ table ∷ [])
+hold_more : (ts : List TablePart) (tables : List RouteTable) (t : TablePart) (table : RouteTable) → HaveTheirRoutes ts tables → HasItsRoutes t table →
+    HaveTheirRoutes (ts ++ t ∷ []) (tables ++ table ∷ [])
 hold_more [] [] t table h here = (here, tt)
 hold_more [] (x ∷ tables) t table h here = absurd h
 hold_more (s ∷ ts) [] t table h here = absurd h
 hold_more (s ∷ ts) (x ∷ tables) t table (first, others) here = (first, hold_more ts tables t table others here)
 
 pub table_more : (ts : List code.TablePart) (tables : List RouteTable) (i : ℕ) (t : code.TablePart) (table : RouteTable) → i < length ts → get_or ts i t ≡ t
-    → HoldAll (take i (map table_part ts)) tables → Holds (table_part t) table → HoldAll (take (i + 1) (map table_part ts)) (tables ++ table ∷ [])
+    → HaveTheirRoutes (take i (map table_part ts)) tables → HasItsRoutes (table_part t) table → HaveTheirRoutes (take (i + 1) (map table_part ts))
+    (tables ++ table ∷ [])
 table_more ts tables i t table lt here before h = rw (take_seen table_part ts i t lt here)
     (hold_more (take i (map table_part ts)) tables (table_part t) table before h)
 
 -- a table that is not filled
-fault_at : (ts : List TablePart) (tables : List RouteTable) (i : ℕ) (t : TablePart) (e : PipeError) → HoldAll (take i ts) tables → slice_get ts i ≡ Some t →
+fault_at : (ts : List TablePart) (tables : List RouteTable) (i : ℕ) (t : TablePart) (e : PipeError) → HaveTheirRoutes (take i ts) tables
+    → slice_get ts i ≡ Some t →
     IsFillFault i t e → IsTablesFault ts e
 fault_at ts tables i t errors.Memory before here h = tt
 fault_at ts tables i t errors.NotToml before here h = absurd h
@@ -61,5 +63,5 @@ fault_at ts tables i t (errors.NotInferred node label rule) before here h = absu
 fault_at ts tables i t (errors.Refused node label rule) before here h = absurd h
 
 pub table_fault : (ts : List code.TablePart) (tables : List RouteTable) (i : ℕ) (t : code.TablePart) (e : PipeError) → i < length ts → get_or ts i t ≡ t
-    → HoldAll (take i (map table_part ts)) tables → IsFillFault i (table_part t) e → IsTablesFault (map table_part ts) e
+    → HaveTheirRoutes (take i (map table_part ts)) tables → IsFillFault i (table_part t) e → IsTablesFault (map table_part ts) e
 table_fault ts tables i t e lt here before h = fault_at (map table_part ts) tables i (table_part t) e before (get_seen table_part ts i t lt here) h

@@ -1,5 +1,5 @@
 -- Where all rounds of a run begin, and what an engine keeps after them.
-use Rattle.std.proofs.Common.{◌≡◌, ◌⊎◌, inl, inr, ℕ, zero, suc, ◌+◌, List, [], ◌∷◌, ◌++◌, Option, Some, Result, Ok, Err, length, map, take}
+use Rattle.std.proofs.Common.{◌≡◌, ◌⊎◌, inl, inr, ℕ, zero, suc, ◌+◌, List, [], ◌∷◌, ◌++◌, Some, Result, Ok, Err, length, map, take}
 use Rattle.std.proofs.Common.{replicate, refl, ap, sym, ◌∙◌, subst, arith, zero-add}
 use Rattle.std.specs.Prelude.{slice_get, ⊤}
 use Rattle.std.specs.List.{AllByRecursion}
@@ -13,18 +13,18 @@ use Rattle.dp_engine.specs.declared.report.Tallies.{Tallies}
 use Rattle.std.proofs.lemmas.Bool.{le-ltb}
 use Rattle.dp_model.specs.Laws.Lists.{each_at}
 use Rattle.dp_pipe.specs.declared.forwarding.InputProgress.{InputProgress}
-use Rattle.dp_pipe.specs.Devices.{Device, transfer}
+use Rattle.dp_pipe.specs.Devices.{Device, Transfer, transfer}
 use Rattle.dp_pipe.specs.declared.forwarding.RunCause.{RunCause}
 use Rattle.dp_pipe.specs.declared.forwarding.RunCause.TheVariants.{Memory, NoRoom, In, Out}
-use Rattle.dp_pipe.specs.Forwarding.{Input, AllStand, asked, Along, HasRun, AreRounds, FailedAt, arrivals_of}
-use Rattle.dp_pipe.specs.Forwarding.{records_in, records_many, capture_at, tally_of, AreRead, unit_for, units_of}
+use Rattle.dp_pipe.specs.Forwarding.{Input, AreProgressOf, asked, RunUntil, HasRun, AreRounds, FailedAt, arrivals_of}
+use Rattle.dp_pipe.specs.Forwarding.{timed_records, records_many, capture_at, tally_of, AreRead, unit_for, units_of}
 use Rattle.dp_pipe.specs.Running.{all_begun, begun, IsBegun, GoesForward, HeadersFail, IsHeaderCause, IsWriteCause}
 use Rattle.dp_pipe.proofs.Giving.{given_nothing}
 use Rattle.dp_pipe.proofs.Heading.{answers_at}
 
 -- ---- before the first round
 
-longest_none : (inputs : List InputProgress) → longest (map records_in (all_begun inputs)) ≡ 0
+longest_none : (inputs : List InputProgress) → longest (map timed_records (all_begun inputs)) ≡ 0
 longest_none [] = refl
 longest_none (p ∷ inputs) = rw (longest_none inputs) refl
 
@@ -71,14 +71,14 @@ asked_none q = rw (le-ltb q 0 (omega arith)) refl
 
 pub along_none : (unit : TimeUnit) (e : EngineState) (olds news mids : List Device) (progress : List InputProgress)
     → e.turns ≡ 0 → length mids ≡ length e.setting.env.ports → length progress ≡ length e.setting.env.ports →
-    unit ≡ unit_for (units_of (all_begun progress)) → AllStand olds news progress (all_begun progress) → AllByRecursion IsBegun progress
-    → Along unit e e (transfer olds news mids mids) progress (all_begun progress) 0 0
-along_none unit e olds news mids progress first many inputs_many unit_is stand begins = record {
+    unit ≡ unit_for (units_of (all_begun progress)) → AreProgressOf olds news progress (all_begun progress) → AllByRecursion IsBegun progress
+    → RunUntil unit e e (transfer olds news mids mids) progress (all_begun progress) 0 0
+along_none unit e olds news mids progress first many inputs_many unit_is progress_is begins = record {
   first = first;
   held_many = many;
   inputs_many = length-map progress begun ∙ inputs_many;
   unit_is = unit_is;
-  stand = stand;
+  progress_is = progress_is;
   order = λ q i at. let (p, there, is) = answers_at begun progress q i at in
       let is_open = (each_at IsBegun progress q p begins there).state in
       rw (is, is_open) (sym (asked_none q));
@@ -106,13 +106,13 @@ fail_read e olds news held progress NoRoom begins is = absurd is
 fail_read e olds news held progress (Out port) begins is = absurd is
 fail_read e olds news held progress (In port error) begins is = (is, refl, begins, refl)
 
-pub fail_write : (e : EngineState) (olds news held holds : List Device) (progress : List InputProgress) (cause : RunCause) →
-    length progress ≡ length e.setting.env.ports → AreRead olds news (all_begun progress) → AllByRecursion IsBegun progress
-    → IsWriteCause (unit_for (units_of (all_begun progress))) held holds cause → HeadersFail e e (transfer olds news held holds) progress (Err cause)
-fail_write e olds news held holds progress Memory many read begins is = absurd is
-fail_write e olds news held holds progress NoRoom many read begins is = absurd is
-fail_write e olds news held holds progress (In port error) many read begins is = absurd is
-fail_write e olds news held holds progress (Out port) many read begins is = (many, read, is, begins, refl)
+pub fail_write : (e : EngineState) (t : Transfer) (progress : List InputProgress) (cause : RunCause) →
+    length progress ≡ length e.setting.env.ports → AreRead t.had t.left (all_begun progress) → AllByRecursion IsBegun progress
+    → IsWriteCause (unit_for (units_of (all_begun progress))) t.held t.holds cause → HeadersFail e e t progress (Err cause)
+fail_write e t progress Memory many read begins is = absurd is
+fail_write e t progress NoRoom many read begins is = absurd is
+fail_write e t progress (In port error) many read begins is = absurd is
+fail_write e t progress (Out port) many read begins is = (many, read, is, begins, refl)
 
 -- ---- after the last
 
@@ -124,36 +124,34 @@ pub record Stays (e e' : EngineState) : Type 0 where
 stays_run : (e e' : EngineState) (arrivals : List (Arrival Time)) (captures : List (List (Time × List ℕ))) → HasRun e e' arrivals captures → Stays e e'
 stays_run e e' arrivals captures run = record { setting = ap (λ (x : EngineState). x.setting) run.stays; each = run.each }
 
-pub stays_failed : (unit : TimeUnit) (e e' : EngineState) (olds news held holds : List Device) (inputs : List Input) (port : ℕ) →
-    FailedAt unit e e' (transfer olds news held holds) inputs port → Stays e e'
-stays_failed unit e e' olds news held holds inputs port f =
+pub stays_failed : {unit : TimeUnit} {e e' : EngineState} {t : Transfer} {inputs : List Input} {port : ℕ} → FailedAt unit e e' t inputs port → Stays e e'
+stays_failed {e = e} {port = port} f =
     let ran = stays_run e f.engine f.before f.captures f.run in
     let turn = f.turn.is in
     let first = f.stopped.first in
     let last = f.stopped.is in
     record {
-      setting = ap (λ (x : EngineState). x.setting) last ∙ ap (λ (x : EngineState). x.setting) first.is ∙ ap (λ (x : EngineState). x.setting) turn
-          ∙ ran.setting;
+      setting = rw (last, first.is, turn) ran.setting;
       each = ap (λ (x : EngineState). length x.tallies) last ∙ length-set f.stopped.engine.tallies port _ ∙ first.each
           ∙ ap (λ (x : EngineState). length x.tallies) turn ∙ length-set f.engine.tallies f.last.port _ ∙ ran.each;
     }
 
-pub stays_rounds : (unit : TimeUnit) (e e' : EngineState) (olds news held holds : List Device) (progress : List InputProgress)
-    (answer : Result ⊤ RunCause) → AreRounds unit e e' (transfer olds news held holds) progress answer → Stays e e'
-stays_rounds unit e e' olds news held holds progress (Ok done) (inputs, states, went, read, over) = stays_run e e' _ _ went.run
-stays_rounds unit e e' olds news held holds progress (Err (In port error)) (inputs, states, went, fault) = stays_run e e' _ _ went.run
-stays_rounds unit e e' olds news held holds progress (Err (Out port)) (inputs, states, failed) = stays_failed unit e e' olds news held holds inputs port failed
-stays_rounds unit e e' olds news held holds progress (Err Memory) stops = absurd stops
-stays_rounds unit e e' olds news held holds progress (Err NoRoom) stops = absurd stops
+pub stays_rounds : (unit : TimeUnit) (e e' : EngineState) (t : Transfer) (progress : List InputProgress) (answer : Result ⊤ RunCause)
+    → AreRounds unit e e' t progress answer → Stays e e'
+stays_rounds unit e e' t progress (Ok done) (inputs, states, went, read, over) = stays_run e e' _ _ went.run
+stays_rounds unit e e' t progress (Err (In port error)) (inputs, states, went, fault) = stays_run e e' _ _ went.run
+stays_rounds unit e e' t progress (Err (Out port)) (inputs, states, failed) = stays_failed failed
+stays_rounds unit e e' t progress (Err Memory) stops = absurd stops
+stays_rounds unit e e' t progress (Err NoRoom) stops = absurd stops
 
 -- the run of an open engine stops neither for memory nor for room
-pub not_before : (e e' : EngineState) (olds news held holds : List Device) (progress : List InputProgress) (cause : RunCause)
-    → GoesForward e e' (transfer olds news held holds) progress (Err cause) → (cause ≡ Memory) ⊎ (cause ≡ NoRoom) → ⊥
-not_before e e' olds news held holds progress Memory (inl fails) why = absurd fails
-not_before e e' olds news held holds progress Memory (inr made) why = absurd made.rounds
-not_before e e' olds news held holds progress NoRoom (inl fails) why = absurd fails
-not_before e e' olds news held holds progress NoRoom (inr made) why = absurd made.rounds
-not_before e e' olds news held holds progress (In port error) went (inl why) = cc
-not_before e e' olds news held holds progress (In port error) went (inr why) = cc
-not_before e e' olds news held holds progress (Out port) went (inl why) = cc
-not_before e e' olds news held holds progress (Out port) went (inr why) = cc
+pub not_before : (e e' : EngineState) (t : Transfer) (progress : List InputProgress) (cause : RunCause)
+    → GoesForward e e' t progress (Err cause) → (cause ≡ Memory) ⊎ (cause ≡ NoRoom) → ⊥
+not_before e e' t progress Memory (inl fails) why = absurd fails
+not_before e e' t progress Memory (inr made) why = absurd made.rounds
+not_before e e' t progress NoRoom (inl fails) why = absurd fails
+not_before e e' t progress NoRoom (inr made) why = absurd made.rounds
+not_before e e' t progress (In port error) went (inl why) = cc
+not_before e e' t progress (In port error) went (inr why) = cc
+not_before e e' t progress (Out port) went (inl why) = cc
+not_before e e' t progress (Out port) went (inr why) = cc

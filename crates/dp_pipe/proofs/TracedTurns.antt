@@ -1,5 +1,5 @@
 -- Records that are traced, one after the other.
-use Rattle.std.proofs.Common.{◌≡◌, ℕ, ◌+◌, List, [], ◌∷◌, ◌++◌, length, Option, refl, sym, ◌∙◌, ap, subst, arith}
+use Rattle.std.proofs.Common.{◌≡◌, ℕ, ◌+◌, List, [], ◌∷◌, ◌++◌, length, Option, refl, ◌∙◌, ap, arith}
 use Rattle.std.proofs.lemmas.List.{length-append}
 use Rattle.dp_model.specs.Machine.{Setting, World}
 use Rattle.dp_model.specs.Runs.{Arrival, Nodes, with_empty_outboxes}
@@ -18,7 +18,7 @@ traces_more : {V : Type 0} (sees : V → Event → V → Type 0) (noted : V → 
 traces_more sees noted v mid v' c nodes [] a w0 w w' (same, is) turn = (
   v',
   w',
-  subst (λ (x : World). TracesTurn sees noted v v' c nodes a x w') is (subst (λ x. TracesTurn sees noted x v' c nodes a w w') same turn),
+  rw (same, is) at turn,
   (refl, refl),
 )
 traces_more sees noted v mid v' c nodes (b ∷ arrivals) a w0 w w' (next, turned, first, rest) turn =
@@ -39,16 +39,15 @@ traced_none sees noted v only e = record {
   turns = omega arith;
 }
 
--- a record more, after which all transmit lists are emptied
-pub traced_push : {V : Type 0} (sees : V → Event → V → Type 0) (noted : V → Note → V → Type 0) (v0 v v' : V) (only : Option ℕ) (count : ℕ)
-    (e0 e e' : EngineState) (port : ℕ) (time : Time) (h : HasTraced sees noted v0 v only count e0 e) (r : TracesRead sees noted v v' port time e e')
+-- a record more, after which all transmit lists are first_emptied
+pub traced_push : {V : Type 0} {sees : V → Event → V → Type 0} {noted : V → Note → V → Type 0} {v0 v v' : V} {only : Option ℕ} {count : ℕ}
+    {e0 e e' : EngineState} {port : ℕ} {time : Time} (h : HasTraced sees noted v0 v only count e0 e) (r : TracesRead sees noted v v' port time e e')
     → IsTraced only port
     → (t : HasTraced sees noted v0 v' only (count + 1) e0 (record e' { world = with_empty_outboxes e'.world }))
     × (t.arrivals ≡ h.arrivals ++ arrival port time r.bytes ∷ [])
-traced_push sees noted v0 v v' only count e0 e e' port time h r of =
+traced_push {sees = sees} {noted = noted} {v0 = v0} {v = v} {v' = v'} {only = only} {e0 = e0} {e = e} {e' = e'} {port = port} {time = time} h r of =
     let a : Arrival Time = arrival port time r.bytes in
-    let turn = subst (λ (c : Setting). TracesTurn sees noted v v' c e0.nodes a e.world e'.world) h.setting
-    (subst (λ (nodes : Nodes). TracesTurn sees noted v v' e.setting nodes a e.world e'.world) h.nodes r.traces) in (
+    let turn = rw (h.setting, h.nodes) at r.traces in (
       record {
         arrivals = h.arrivals ++ a ∷ [];
         traces = traces_more sees noted v0 v v' e0.setting e0.nodes h.arrivals a e0.world e.world e'.world h.traces turn;
@@ -61,27 +60,19 @@ traced_push sees noted v0 v v' only count e0 e e' port time h r of =
       refl,
     )
 
--- nothing more
-pub traced_same : {V : Type 0} (sees : V → Event → V → Type 0) (noted : V → Note → V → Type 0) (v0 v v' : V) (only : Option ℕ) (count : ℕ)
-    (e0 e e' : EngineState) → HasTraced sees noted v0 v only count e0 e → v' ≡ v → e' ≡ e → HasTraced sees noted v0 v' only count e0 e'
-traced_same sees noted v0 v v' only count e0 e e' h same is =
-    subst (λ x. HasTraced sees noted v0 v' only count e0 x) (sym is) (subst (λ x. HasTraced sees noted v0 x only count e0 e) (sym same) h)
-
 traces_join : {V : Type 0} (sees : V → Event → V → Type 0) (noted : V → Note → V → Type 0) (v mid v' : V) (c : Setting) (nodes : Nodes)
     (arrivals more : List (Arrival Time)) (w0 w w' : World) → Traces sees noted v mid c nodes arrivals w0 w → Traces sees noted mid v' c nodes more w w'
     → Traces sees noted v v' c nodes (arrivals ++ more) w0 w'
-traces_join sees noted v mid v' c nodes [] more w0 w w' (same, is) rest =
-    subst (λ (x : World). Traces sees noted v v' c nodes more x w') is (subst (λ x. Traces sees noted x v' c nodes more w w') same rest)
+traces_join sees noted v mid v' c nodes [] more w0 w w' (same, is) rest = rw (same, is) at rest
 traces_join sees noted v mid v' c nodes (a ∷ arrivals) more w0 w w' (next, turned, first, others) rest =
     (next, turned, first, traces_join sees noted next mid v' c nodes arrivals more (with_empty_outboxes turned) w w' others rest)
 
 -- a round after others
-pub traced_join : {V : Type 0} (sees : V → Event → V → Type 0) (noted : V → Note → V → Type 0) (v0 v v' : V) (only : Option ℕ) (count more : ℕ)
-    (e0 e e' : EngineState) → HasTraced sees noted v0 v only count e0 e → HasTraced sees noted v v' only more e e'
+pub traced_join : {V : Type 0} {sees : V → Event → V → Type 0} {noted : V → Note → V → Type 0} {v0 v v' : V} {only : Option ℕ} {count more : ℕ}
+    {e0 e e' : EngineState} → HasTraced sees noted v0 v only count e0 e → HasTraced sees noted v v' only more e e'
     → HasTraced sees noted v0 v' only (count + more) e0 e'
-traced_join sees noted v0 v v' only count more e0 e e' h r =
-    let rest = subst (λ (c : Setting). Traces sees noted v v' c e0.nodes r.arrivals e.world e'.world) h.setting
-    (subst (λ (nodes : Nodes). Traces sees noted v v' e.setting nodes r.arrivals e.world e'.world) h.nodes r.traces) in
+traced_join {sees = sees} {noted = noted} {v0 = v0} {v = v} {v' = v'} {only = only} {count = count} {e0 = e0} {e = e} {e' = e'} h r =
+    let rest = rw (h.setting, h.nodes) at r.traces in
     record {
       arrivals = h.arrivals ++ r.arrivals;
       traces = traces_join sees noted v0 v v' e0.setting e0.nodes h.arrivals r.arrivals e0.world e.world e'.world h.traces rest;

@@ -13,21 +13,21 @@ use Rattle.dp_engine.specs.Engines.{EngineState, drained}
 use Rattle.dp_engine.specs.Watching.{Event}
 use Rattle.dp_pipe.specs.declared.forwarding.RunCause.{RunCause}
 use Rattle.dp_pipe.specs.Devices.{Device}
-use Rattle.dp_pipe.specs.Forwarding.{emptied, DrainedAll, DrainsStopped}
+use Rattle.dp_pipe.specs.Forwarding.{first_emptied, DrainedAll, DrainsStopped}
 use Rattle.dp_pipe.specs.Tracing.{TracesRead}
 use Rattle.dp_pipe.specs.Watched.{unnoted, HasShown, DiffersInLists, ShowsTurns, ShowsNext}
 use Rattle.dp_pipe.proofs.Forwarded.{emptied_all}
-use Rattle.dp_pipe.proofs.TracedTurns.{traced_none, traced_same, traced_join}
+use Rattle.dp_pipe.proofs.TracedTurns.{traced_none, traced_join}
 
 -- ---- one after the other
 
 -- no turn
 pub shown_none : {V : Type 0} (sees : V → Event → V → Type 0) (v v' : V) (e e' : EngineState) → v' ≡ v → e' ≡ e → HasShown sees v v' e e'
-shown_none sees v v' e e' same is = (0, traced_same sees unnoted v v v' None 0 e e e' (traced_none sees unnoted v None e) same is)
+shown_none sees v v' e e' same is = rw (same, is) (0, traced_none sees unnoted v None e)
 
 shown_join : {V : Type 0} (sees : V → Event → V → Type 0) (v0 v v' : V) (e0 e e' : EngineState) → HasShown sees v0 v e0 e → HasShown sees v v' e e'
     → HasShown sees v0 v' e0 e'
-shown_join sees v0 v v' e0 e e' (count, h) (more, r) = (count + more, traced_join sees unnoted v0 v v' None count more e0 e e' h r)
+shown_join sees v0 v v' e0 e e' (count, h) (more, r) = (count + more, traced_join h r)
 
 -- turns, and then those of a run that ended so
 pub shown_then : {V : Type 0} (sees : V → Event → V → Type 0) (v0 v v' : V) (e0 e e' : EngineState) (answer : Result ⊤ RunCause) → HasShown sees v0 v e0 e
@@ -51,7 +51,7 @@ no_difference e = record {
   turns = refl;
 }
 
--- a turn, after which all transmit lists are emptied
+-- a turn, after which all transmit lists are first_emptied
 shown_turn : {V : Type 0} (sees : V → Event → V → Type 0) (v v' : V) (port : ℕ) (time : Time) (e mid e' : EngineState)
     → TracesRead sees unnoted v v' port time e mid → e'.world ≡ with_empty_outboxes mid.world → e'.setting ≡ mid.setting → e'.nodes ≡ mid.nodes
     → e'.turns ≡ mid.turns → HasShown sees v v' e e'
@@ -74,7 +74,7 @@ all_empty : (unit : TimeUnit) (time : Time) (e e' : EngineState) (held holds : L
 all_empty unit time e e' held holds lists all =
     ap (λ (x : EngineState). x.world) all.is
     ∙ ap (λ (l : List (List Packet)). record e.world { outboxes = l })
-    (ap (λ n. emptied n e.world.outboxes) (sym lists) ∙ emptied_all e.world.outboxes)
+    (ap (λ n. first_emptied n e.world.outboxes) (sym lists) ∙ emptied_all e.world.outboxes)
 
 pub shown_drained : {V : Type 0} (sees : V → Event → V → Type 0) (v v' : V) (port : ℕ) (unit : TimeUnit) (e mid e' : EngineState) (held holds : List Device)
     (r : Result Next PcapError) (time : Time) (len : ℕ) → r ≡ Ok (Record time len) → ShowsNext sees v v' port e mid r

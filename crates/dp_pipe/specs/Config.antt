@@ -14,8 +14,8 @@ use Rattle.dp_pipe.specs.Setup.{Setup, TablePart, PortPart, NodeFiles, setup_in}
 use Rattle.dp_pipe.specs.Views.{node_names, port_names}
 
 -- the bytes are a TOML text with this table
-abbrev pub IsTable : List ℕ → Members → Type 0
-IsTable text top = IsUtf8 text × (parse_document text ≡ Some top)
+abbrev pub IsTomlTable : List ℕ → Members → Type 0
+IsTomlTable text top = IsUtf8 text × (parse_document text ≡ Some top)
 
 -- the bytes are not a TOML text
 abbrev pub IsNotToml : List ℕ → Type 0
@@ -34,14 +34,14 @@ abbrev pub empty_of : TablePart → RouteTable
 empty_of t = record { routes = []; max_rules = t.rules; groups = t.groups }
 
 -- the table has the routes of its list, added in order
-abbrev pub Holds : TablePart → RouteTable → Type 0
-Holds t table = TakesAll (empty_of t) table t.routes
+abbrev pub HasItsRoutes : TablePart → RouteTable → Type 0
+HasItsRoutes t table = TakesAll (empty_of t) table t.routes
 
 -- each table has the routes of its list
-abbrev pub HoldAll : List TablePart → List RouteTable → Type 0
-HoldAll [] [] = Unit {0}
-HoldAll (t ∷ ts) (table ∷ tables) = Holds t table × HoldAll ts tables
-HoldAll _ _ = ⊥
+abbrev pub HaveTheirRoutes : List TablePart → List RouteTable → Type 0
+HaveTheirRoutes [] [] = Unit {0}
+HaveTheirRoutes (t ∷ ts) (table ∷ tables) = HasItsRoutes t table × HaveTheirRoutes ts tables
+HaveTheirRoutes _ _ = ⊥
 
 -- the first route of the table with this index that is refused
 abbrev pub IsRouteFault : Option TablePart → ℕ → RouteError → Type 0
@@ -51,7 +51,7 @@ IsRouteFault (Some t) route cause = IsFirstRefused (empty_of t) t.routes route c
 -- the tables before this index have their routes, and this is its first route that is refused
 pub record IsTableFault (ts : List TablePart) (index route : ℕ) (cause : RouteError) : Type 0 where
   pub filled : List RouteTable
-  pub before : HoldAll (take index ts) filled
+  pub before : HaveTheirRoutes (take index ts) filled
   pub here : IsRouteFault (slice_get ts index) route cause
 
 -- a configuration: the region, the environment, the tables and the file names
@@ -59,7 +59,7 @@ pub record IsConfig (s : Setup) (c : Config) : Type 0 where
   pub region : c.region ≡ s.region
   pub fits : fault_of (environment_of s) ≡ None
   pub env : c.env ≡ environment_of s
-  pub tables : HoldAll s.tables c.tables.items
+  pub tables : HaveTheirRoutes s.tables c.tables.items
   pub ports : map port_names c.ports.items ≡ map names_of_port s.ports
   pub rings : map node_names c.rings.items ≡ map (λ r. r.files) s.rings
 
@@ -74,7 +74,7 @@ IsSetupFault s _ = ⊥
 pub record IsConfigOf (text : List ℕ) (c : Config) : Type 0 where
   pub top : Members
   pub setup : Setup
-  pub toml : IsTable text top
+  pub toml : IsTomlTable text top
   pub reads : setup_in top ≡ Ok setup
   pub config : IsConfig setup c
 
@@ -82,7 +82,7 @@ pub record IsConfigOf (text : List ℕ) (c : Config) : Type 0 where
 pub record HasSetup (text : List ℕ) (P : Setup → Type 0) : Type 0 where
   pub top : Members
   pub setup : Setup
-  pub toml : IsTable text top
+  pub toml : IsTomlTable text top
   pub reads : setup_in top ≡ Ok setup
   pub holds : P setup
 
@@ -90,7 +90,7 @@ pub record HasSetup (text : List ℕ) (P : Setup → Type 0) : Type 0 where
 abbrev pub IsFaultOf : List ℕ → PipeError → Type 0
 IsFaultOf text Memory = IsUtf8 text
 IsFaultOf text NotToml = IsNotToml text
-IsFaultOf text (BadKey kind index) = (top : Members) × IsTable text top × (setup_in top ≡ Err (kind, index))
+IsFaultOf text (BadKey kind index) = (top : Members) × IsTomlTable text top × (setup_in top ≡ Err (kind, index))
 IsFaultOf text (BadEnv cause) = HasSetup text (λ s. IsSetupFault s (BadEnv cause))
 IsFaultOf text (BadTable table route cause) = HasSetup text (λ s. IsSetupFault s (BadTable table route cause))
 IsFaultOf text _ = ⊥

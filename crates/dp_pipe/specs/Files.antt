@@ -23,8 +23,8 @@ abbrev pub HasBytes : Option FileMap → List ℕ → List ℕ → Type 0
 HasBytes known name bytes = (files : FileMap) → known ≡ Some files → files name ≡ Some bytes
 
 -- if the files are known, none has this name
-abbrev pub HasNone : Option FileMap → List ℕ → Type 0
-HasNone known name = (files : FileMap) → known ≡ Some files → files name ≡ None
+abbrev pub NoneIsNamed : Option FileMap → List ℕ → Type 0
+NoneIsNamed known name = (files : FileMap) → known ≡ Some files → files name ≡ None
 
 -- if the files are known, the one of this name has these bytes, which are not too many
 abbrev pub IsFile : Option FileMap → List ℕ → List ℕ → Type 0

@@ -26,7 +26,7 @@ use Rattle.dp_engine.specs.declared.report.Tallies.{Tallies}
 use Rattle.dp_engine.specs.Drains.{captured, WrotePart}
 use Rattle.dp_engine.specs.Tallies.{counted}
 use Rattle.dp_engine.specs.Engines.{EngineState, tallies_at, counted_at, drained}
-use Rattle.dp_pipe.specs.Devices.{Device, Transfer, IsGiven, At}
+use Rattle.dp_pipe.specs.Devices.{Device, Transfer, IsGiven, At, transfer}
 use Rattle.dp_pipe.specs.declared.forwarding.RunCause.{RunCause}
 use Rattle.dp_pipe.specs.declared.forwarding.RunCause.TheVariants.{In, Out}
 use Rattle.dp_pipe.specs.declared.forwarding.InputProgress.{InputProgress}
@@ -40,10 +40,10 @@ pub record Input : Type 0 where
   pub state : InputState
 
 -- if the input is open, this was read of these bytes and the rest is left; if it has ended, the bytes are this capture
-abbrev pub Gives : InputState → TimeUnit → List PacketRecord → List ℕ → List ℕ → Type 0
-Gives Open unit records bytes rest = (s : SourceState) × HasRead bytes s records rest × (s.unit ≡ unit)
-Gives Whole unit records bytes rest = IsCapture bytes unit records capture.Ending.Whole
-Gives (Cut byte) unit records bytes rest = IsCapture bytes unit records (capture.Ending.Cut byte)
+abbrev pub InputGives : InputState → TimeUnit → List PacketRecord → List ℕ → List ℕ → Type 0
+InputGives Open unit records bytes rest = (s : SourceState) × HasRead bytes s records rest × (s.unit ≡ unit)
+InputGives Whole unit records bytes rest = IsCapture bytes unit records capture.Ending.Whole
+InputGives (Cut byte) unit records bytes rest = IsCapture bytes unit records (capture.Ending.Cut byte)
 
 -- the maximum number of calls of a reader that find the end of its input
 abbrev pub last_pulls : InputState → ℕ
@@ -53,7 +53,7 @@ last_pulls (Cut byte) = HEAD_SIZE + MAX_RECORD
 
 -- this input was read, with at most one call for each byte of its header and its records, and those that find its end
 pub record IsRead (i : Input) (old new : Device) : Type 0 where
-  pub gives : WhereKnown old.bytes new.bytes (Gives i.state i.unit i.records)
+  pub gives : WhereKnown old.bytes new.bytes (InputGives i.state i.unit i.records)
   pub calls : new.calls ≤ old.calls + length (text i.unit i.records) + last_pulls i.state
 
 -- each of these inputs was read
@@ -83,11 +83,11 @@ abbrev pub units_of : List Input → List TimeUnit
 units_of inputs = map (λ (i : Input). i.unit) inputs
 
 -- the records of inputs in the order of a run: record k of each port, in port order, round by round
-abbrev pub records_in : Input → List (Time × List ℕ)
-records_in i = map (λ (r : PacketRecord). (r.time, r.bytes)) i.records
+abbrev pub timed_records : Input → List (Time × List ℕ)
+timed_records i = map (λ (r : PacketRecord). (r.time, r.bytes)) i.records
 
 abbrev pub arrivals_of : List Input → List (Arrival Time)
-arrivals_of inputs = interleaved (map records_in inputs)
+arrivals_of inputs = interleaved (map timed_records inputs)
 
 -- how often each input was read when this port comes next in a round
 abbrev pub asked : ℕ → ℕ → ℕ → ℕ
@@ -145,7 +145,7 @@ AreWritten unit held holds records = (port : ℕ) → At held holds port (λ old
 
 -- The run was on the records of these inputs, one for each port: each turn and each drain, and everything was written, in nanoseconds if any input
 -- has them.
-pub record Went (unit : TimeUnit) (before after : EngineState) (held holds : List Device) (inputs : List Input) : Type 0 where
+pub record RanOnInputs (unit : TimeUnit) (before after : EngineState) (held holds : List Device) (inputs : List Input) : Type 0 where
   pub inputs_many : length inputs ≡ length before.setting.env.ports
   pub unit_is : unit ≡ unit_for (units_of inputs)
   pub captures : List (List (Time × List ℕ))
@@ -154,7 +154,7 @@ pub record Went (unit : TimeUnit) (before after : EngineState) (held holds : Lis
   pub wrote : AreWritten unit held holds (capture_at captures)
 
 -- the input of this port has a fault after its records, and the others were read in their turn
-pub record HasFault (had left : List Device) (inputs : List Input) (port : ℕ) (error : PcapError) : Type 0 where
+pub record HasInputFault (had left : List Device) (inputs : List Input) (port : ℕ) (error : PcapError) : Type 0 where
   pub round : ℕ
   pub order : AskedUntil round port inputs
   pub input : Input
@@ -170,7 +170,7 @@ AreOver inputs = AllByRecursion (λ (i : Input). i.state ≢ Open) inputs
 -- ---- turns and drains of a run
 
 -- a turn with these bytes at a port
-pub record TakesTurn (port : ℕ) (before after : EngineState) (bytes : List ℕ) : Type 0 where
+pub record HasTurn (port : ℕ) (before after : EngineState) (bytes : List ℕ) : Type 0 where
   pub outcome : Outcome
   pub runs : ℕ
   pub answers : List Bool
@@ -181,7 +181,7 @@ pub record TakesTurn (port : ℕ) (before after : EngineState) (bytes : List ℕ
 
 -- after a record there was a turn with its bytes; after any other result there was none
 abbrev pub TurnsOn : ℕ → EngineState → EngineState → List ℕ → Result Next PcapError → Type 0
-TurnsOn port before after bytes (Ok (Record time len)) = (len ≤ length bytes) × TakesTurn port before after (take len bytes)
+TurnsOn port before after bytes (Ok (Record time len)) = (len ≤ length bytes) × HasTurn port before after (take len bytes)
 TurnsOn port before after bytes answer = after ≡ before
 
 -- what comes next in a capture was read; if it is a record, a turn was taken
@@ -194,15 +194,15 @@ abbrev pub drained_at : Time → World → ℕ → List PacketRecord
 drained_at time w port = capture_at (records_at time w) port
 
 -- the first n transmit lists are empty
-abbrev pub emptied : ℕ → List (List Packet) → List (List Packet)
-emptied zero lists = lists
-emptied (suc n) [] = []
-emptied (suc n) (packets ∷ lists) = [] ∷ emptied n lists
+abbrev pub first_emptied : ℕ → List (List Packet) → List (List Packet)
+first_emptied zero lists = lists
+first_emptied (suc n) [] = []
+first_emptied (suc n) (packets ∷ lists) = [] ∷ first_emptied n lists
 
 -- the drains of the first n ports: what each wrote, and what was counted for it
 pub record DrainedFirst (n : ℕ) (unit : TimeUnit) (time : Time) (before after : EngineState) (held holds : List Device) : Type 0 where
   pub wrote : (q : ℕ) → At held holds q (λ old new. IsGiven old new (if nat_lt q n then records_text unit (drained_at time before.world q) else []))
-  pub is : after ≡ record before { world = record before.world { outboxes = emptied n before.world.outboxes }; tallies = after.tallies }
+  pub is : after ≡ record before { world = record before.world { outboxes = first_emptied n before.world.outboxes }; tallies = after.tallies }
   pub each : length after.tallies ≡ length before.tallies
   pub tallies : (q : ℕ) → q < length before.setting.env.ports
       → tallies_at after.tallies q ≡ record (tallies_at before.tallies q) {
@@ -244,7 +244,7 @@ IsGoingOn Whole source count = ⊤
 IsGoingOn (Cut byte) source count = ⊤
 
 -- an input, and the source that reads it
-pub record Stands (p : InputProgress) (i : Input) : Type 0 where
+pub record IsProgressOf (p : InputProgress) (i : Input) : Type 0 where
   pub unit : p.source.unit ≡ i.unit
   pub state : p.state ≡ i.state
   pub goes_on : IsGoingOn i.state p.source (length i.records)
@@ -255,9 +255,9 @@ pub record IsReadBy (i : Input) (source : SourceState) (old new : Device) : Type
   pub has : WhereKnown old.bytes new.bytes (HasReadSo i.state source i.records)
   pub calls : new.calls ≤ old.calls + length (text i.unit i.records) + last_pulls i.state
 
-pub record AllStand (had left : List Device) (progress : List InputProgress) (inputs : List Input) : Type 0 where
+pub record AreProgressOf (had left : List Device) (progress : List InputProgress) (inputs : List Input) : Type 0 where
   pub many : length progress ≡ length inputs
-  pub each : (q : ℕ) (p : InputProgress) (i : Input) → slice_get progress q ≡ Some p → slice_get inputs q ≡ Some i → Stands p i
+  pub each : (q : ℕ) (p : InputProgress) (i : Input) → slice_get progress q ≡ Some p → slice_get inputs q ≡ Some i → IsProgressOf p i
   pub read : (q : ℕ) (p : InputProgress) (i : Input) → slice_get progress q ≡ Some p → slice_get inputs q ≡ Some i → At had left q (IsReadBy i p.source)
 
 -- how many records all inputs have given
@@ -266,19 +266,27 @@ records_many [] = 0
 records_many (i ∷ inputs) = length i.records + records_many inputs
 
 -- a run from an engine before its first turn to another one, in a round in which a port comes next
-pub record Along (unit : TimeUnit) (before after : EngineState) (t : Transfer) (progress : List InputProgress) (inputs : List Input)
+pub record RunUntil (unit : TimeUnit) (before after : EngineState) (t : Transfer) (progress : List InputProgress) (inputs : List Input)
     (round port : ℕ) : Type 0 where
   pub first : before.turns ≡ 0
   pub held_many : length t.held ≡ length before.setting.env.ports
   pub inputs_many : length inputs ≡ length before.setting.env.ports
   pub unit_is : unit ≡ unit_for (units_of inputs)
-  pub stand : AllStand t.had t.left progress inputs
+  pub progress_is : AreProgressOf t.had t.left progress inputs
   pub order : AskedUntil round port inputs
   pub total : length (arrivals_of inputs) ≡ records_many inputs
   pub captures : List (List (Time × List ℕ))
   pub many : length captures ≡ length before.setting.env.ports
   pub run : HasRun before after (arrivals_of inputs) captures
   pub wrote : AreWritten unit t.held t.holds (capture_at captures)
+
+-- a run that has come to a port in a round, from some engine and some devices
+pub record IsUnderway (unit : TimeUnit) (after : EngineState) (left holds : List Device) (progress : List InputProgress) (round port : ℕ) : Type 0 where
+  pub before : EngineState
+  pub had : List Device
+  pub held : List Device
+  pub inputs : List Input
+  pub run : RunUntil unit before after (transfer had left held holds) progress inputs round port
 
 -- ---- one step of a run
 
@@ -306,7 +314,7 @@ pub record Advances (port : ℕ) (unit : TimeUnit) (before after : EngineState) 
 
 -- A writer failed in the drains after a turn. There was a run on all records but the last, whose output was all written; then a turn with the last
 -- record; and then the drains after it, in port order, which stopped at one port. Until then the inputs were asked in turn.
-pub record FailedAt (unit : TimeUnit) (e e' : EngineState) (t : Transfer) (inputs : List Input) (port : ℕ) : Type 0 where
+pub record FailedAt (unit : TimeUnit) (e engine' : EngineState) (t : Transfer) (inputs : List Input) (port : ℕ) : Type 0 where
   pub inputs_many : length inputs ≡ length e.setting.env.ports
   pub unit_is : unit ≡ unit_for (units_of inputs)
   pub read : AreRead t.had t.left inputs
@@ -323,29 +331,29 @@ pub record FailedAt (unit : TimeUnit) (e e' : EngineState) (t : Transfer) (input
   pub mids_many : length mids ≡ length t.held
   pub wrote : AreWritten unit t.held mids (capture_at captures)
   pub beyond : EngineState
-  pub turn : TakesTurn last.port engine beyond last.bytes
-  pub stopped : DrainsStopped unit last.time beyond e' mids t.holds port
+  pub turn : HasTurn last.port engine beyond last.bytes
+  pub stopped : DrainsStopped unit last.time beyond engine' mids t.holds port
 
 -- a run stops in a round
-abbrev pub Stops : TimeUnit → EngineState → EngineState → Transfer → List InputProgress → RunCause → Type 0
-Stops unit before after t progress (In port error) =
+abbrev pub StopsRun : TimeUnit → EngineState → EngineState → Transfer → List InputProgress → RunCause → Type 0
+StopsRun unit before after t progress (In port error) =
     (inputs : List Input) × (map (λ (i : Input). i.state) inputs ≡ map (λ (p : InputProgress). p.state) progress)
-    × Went unit before after t.held t.holds inputs × HasFault t.had t.left inputs port error
-Stops unit before after t progress (Out port) =
+    × RanOnInputs unit before after t.held t.holds inputs × HasInputFault t.had t.left inputs port error
+StopsRun unit before after t progress (Out port) =
     (inputs : List Input) × (map (λ (i : Input). i.state) inputs ≡ map (λ (p : InputProgress). p.state) progress) × FailedAt unit before after t inputs port
-Stops unit before after t progress cause = ⊥
+StopsRun unit before after t progress cause = ⊥
 
 -- a round, from a run in which its first port comes next
 abbrev pub IsRound : TimeUnit → EngineState → EngineState → EngineState → Transfer → List InputProgress → ℕ → Result ⊤ RunCause → Type 0
-IsRound unit e0 before after t progress round (Ok done) = (inputs : List Input) × Along unit e0 after t progress inputs (round + 1) 0
-IsRound unit e0 before after t progress round (Err cause) = Stops unit e0 after t progress cause
+IsRound unit e0 before after t progress round (Ok done) = (inputs : List Input) × RunUntil unit e0 after t progress inputs (round + 1) 0
+IsRound unit e0 before after t progress round (Err cause) = StopsRun unit e0 after t progress cause
 
 -- all rounds: at the end every input has ended
 abbrev pub AreRounds : TimeUnit → EngineState → EngineState → Transfer → List InputProgress → Result ⊤ RunCause → Type 0
 AreRounds unit before after t progress (Ok done) =
     (inputs : List Input) × (map (λ (i : Input). i.state) inputs ≡ map (λ (p : InputProgress). p.state) progress)
-    × Went unit before after t.held t.holds inputs × AreRead t.had t.left inputs × AreOver inputs
-AreRounds unit before after t progress (Err cause) = Stops unit before after t progress cause
+    × RanOnInputs unit before after t.held t.holds inputs × AreRead t.had t.left inputs × AreOver inputs
+AreRounds unit before after t progress (Err cause) = StopsRun unit before after t progress cause
 
 -- every input has ended
 abbrev pub NoneIsOpen : List InputProgress → Type 0

@@ -22,7 +22,7 @@ use Rattle.dp_pipe.specs.Devices.{Device, Transfer, IsGiven, At}
 use Rattle.dp_pipe.specs.declared.forwarding.RunCause.{RunCause}
 use Rattle.dp_pipe.specs.declared.forwarding.RunCause.TheVariants.{Memory, NoRoom, In, Out}
 use Rattle.dp_pipe.specs.Pipelines.{Plan}
-use Rattle.dp_pipe.specs.Forwarding.{Input, AreRead, AskedUntil, HasFault, arrivals_of, capture_at, AreOver, unit_for, units_of}
+use Rattle.dp_pipe.specs.Forwarding.{Input, AreRead, AskedUntil, HasInputFault, arrivals_of, capture_at, AreOver, unit_for, units_of}
 use Rattle.dp_pipe.specs.Running.{setting_in, programs_in, IsIdle, AreUnread, HasHeaderFault, HeadersStopped}
 
 -- ---- a run of packets
@@ -72,7 +72,7 @@ port_numbers outcomes sent state = record {
 }
 
 -- the counts of a run on what was read of these inputs, in which each port has written this many records whole
-pub record HasNumbers (p : Plan) (pattern : List ℕ) (arrivals : List (Arrival Time)) (run : PacketRun p pattern arrivals) (inputs : List Input) (sent : ℕ →
+pub record HasRunNumbers (p : Plan) (pattern : List ℕ) (arrivals : List (Arrival Time)) (run : PacketRun p pattern arrivals) (inputs : List Input) (sent : ℕ →
     ℕ) (r : Report) : Type 0 where
   pub many : length r.ports.items ≡ length p.env.ports
   pub ports : (port : ℕ) (i : Input) → slice_get inputs port ≡ Some i
@@ -97,7 +97,7 @@ pub record Forwarded (p : Plan) (pattern : List ℕ) (t : Transfer) (r : Report)
   pub ended : AreOver inputs
   pub run : PacketRun p pattern (arrivals_of inputs)
   pub wrote : AreGiven t.held t.holds (capture_text (unit_for (units_of inputs)) run.captures)
-  pub numbers : HasNumbers p pattern (arrivals_of inputs) run inputs (λ port. length (capture_at run.captures port)) r
+  pub numbers : HasRunNumbers p pattern (arrivals_of inputs) run inputs (λ port. length (capture_at run.captures port)) r
 
 -- ---- an input is at fault
 
@@ -114,10 +114,10 @@ pub record StoppedReading (p : Plan) (pattern : List ℕ) (t : Transfer) (port :
   pub room : bytes_needed p.env ≤ p.region
   pub inputs : List Input
   pub many : length inputs ≡ length p.env.ports
-  pub fault : HasFault t.had t.left inputs port error
+  pub fault : HasInputFault t.had t.left inputs port error
   pub run : PacketRun p pattern (arrivals_of inputs)
   pub wrote : AreGiven t.held t.holds (capture_text (unit_for (units_of inputs)) run.captures)
-  pub numbers : HasNumbers p pattern (arrivals_of inputs) run inputs (λ port. length (capture_at run.captures port)) r
+  pub numbers : HasRunNumbers p pattern (arrivals_of inputs) run inputs (λ port. length (capture_at run.captures port)) r
 
 -- ---- a writer fails
 
@@ -183,7 +183,7 @@ pub record StoppedWriting (p : Plan) (pattern : List ℕ) (t : Transfer) (port :
   pub not_less : length (capture_at earlier.captures port) ≤ sent
   pub own : At t.held t.holds port (WroteFront (unit_for (units_of inputs)) (capture_at run.captures port) sent)
   pub after : (q : ℕ) → port < q → At t.held t.holds q (λ old new. IsGiven old new (capture_text (unit_for (units_of inputs)) earlier.captures q))
-  pub numbers : HasNumbers p pattern (before ++ last ∷ []) run inputs (sent_until port sent run.captures earlier.captures) r
+  pub numbers : HasRunNumbers p pattern (before ++ last ∷ []) run inputs (sent_until port sent run.captures earlier.captures) r
 
 -- ---- the result
 

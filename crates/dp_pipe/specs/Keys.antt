@@ -6,13 +6,13 @@ use Rattle.std.specs.Str.{bytes_eq}
 use Rattle.toml.specs.Data.{Data, Items, no_items, item, Members, no_members, member, get_member, as_integer, as_str, as_array, as_table}
 
 -- the elements of an array, in order
-abbrev pub listed : Items → List Data
-listed no_items = []
-listed (item d ds) = d ∷ listed ds
+abbrev pub array_elements : Items → List Data
+array_elements no_items = []
+array_elements (item d ds) = d ∷ array_elements ds
 
 -- the elements of a value; none if it is not an array
 abbrev pub elements_of : Data → List Data
-elements_of d = option_map_or listed (as_array d) []
+elements_of d = option_map_or array_elements (as_array d) []
 
 -- the elements of the array at a key; none if there is no array
 abbrev pub elements_at : List ℕ → Members → List Data

@@ -17,9 +17,10 @@ are_nodes env nodes h = record {
 }
 
 -- each of their programs is checked
-pub all_checked : (env : Environment) (nodes : List Question) → HasNodes env nodes → (k : ℕ) (q : Question) → slice_get nodes k ≡ Some q → IsChecked q
-all_checked env nodes h k q at = go (cases_lt k (length env.ports))
+pub all_checked : (env : Environment) (nodes : List Question) → HasNodes env nodes → (k : ℕ) (question : Question) → slice_get nodes k ≡ Some question
+    → IsChecked question
+all_checked env nodes h k question at = go (cases_lt k (length env.ports))
   where
-    go : (k < length env.ports) ⊎ (length env.ports ≤ k) → IsChecked q
-    go (inl less) = (h.ports k q less at).checked
-    go (inr most) = (h.rings (k - length env.ports) q (ap (slice_get nodes) (omega (arith, most)) ∙ at)).checked
+    go : (k < length env.ports) ⊎ (length env.ports ≤ k) → IsChecked question
+    go (inl less) = (h.ports k question less at).checked
+    go (inr most) = (h.rings (k - length env.ports) question (ap (slice_get nodes) (omega (arith, most)) ∙ at)).checked

@@ -6,20 +6,20 @@ use Rattle.toml.specs.Data.{Members}
 use Rattle.dp_pipe.specs.declared.error.PipeError.{PipeError}
 use Rattle.dp_pipe.specs.declared.nodes.How.{How}
 use Rattle.dp_pipe.specs.Setup.{Setup, setup_in}
-use Rattle.dp_pipe.specs.Config.{IsTable, environment_of, HoldAll, IsFaultOf}
+use Rattle.dp_pipe.specs.Config.{IsTomlTable, environment_of, HaveTheirRoutes, IsFaultOf}
 use Rattle.dp_pipe.specs.Files.{FileMap}
-use Rattle.dp_pipe.specs.Nodes.{Node, nodes_of, AreLoaded, FailsAtFirst}
+use Rattle.dp_pipe.specs.Nodes.{Node, all_nodes, AreLoaded, FailsAtFirst}
 use Rattle.dp_pipe.specs.Pipelines.{Plan}
 
 -- the nodes in a file
 abbrev pub nodes_in : How → Setup → List Node
-nodes_in how s = nodes_of how (map (λ port. port.files) s.ports) (map (λ ring. ring.files) s.rings)
+nodes_in how s = all_nodes how (map (λ port. port.files) s.ports) (map (λ ring. ring.files) s.rings)
 
 -- the pipeline of a configuration
 pub record IsPlanOf (known : Option FileMap) (how : How) (s : Setup) (p : Plan) : Type 0 where
   pub region : p.region ≡ s.region
   pub env : p.env ≡ environment_of s
-  pub tables : HoldAll s.tables p.tables
+  pub tables : HaveTheirRoutes s.tables p.tables
   pub nodes : AreLoaded known (environment_of s) (nodes_in how s) p.nodes
   pub inputs : p.inputs ≡ map (λ port. port.input) s.ports
   pub outputs : p.outputs ≡ map (λ port. port.output) s.ports
@@ -28,7 +28,7 @@ pub record IsPlanOf (known : Option FileMap) (how : How) (s : Setup) (p : Plan) 
 pub record IsLoadedFrom (known : Option FileMap) (how : How) (text : List ℕ) (p : Plan) : Type 0 where
   pub top : Members
   pub setup : Setup
-  pub toml : IsTable text top
+  pub toml : IsTomlTable text top
   pub reads : setup_in top ≡ Ok setup
   pub fits : fault_of (environment_of setup) ≡ None
   pub plan : IsPlanOf known how setup p
@@ -37,11 +37,11 @@ pub record IsLoadedFrom (known : Option FileMap) (how : How) (text : List ℕ) (
 pub record HasBadNode (known : Option FileMap) (how : How) (text : List ℕ) (e : PipeError) : Type 0 where
   pub top : Members
   pub setup : Setup
-  pub toml : IsTable text top
+  pub toml : IsTomlTable text top
   pub reads : setup_in top ≡ Ok setup
   pub fits : fault_of (environment_of setup) ≡ None
   pub tables : List RouteTable
-  pub filled : HoldAll setup.tables tables
+  pub filled : HaveTheirRoutes setup.tables tables
   pub fails : FailsAtFirst known (environment_of setup) (nodes_in how setup) e
 
 -- why no pipeline is loaded: what is wrong with the text, else the first node that is not loaded; but memory can run out once the text is known to be

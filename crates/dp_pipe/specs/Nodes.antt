@@ -37,13 +37,13 @@ abbrev pub node_of : How → Entry → NodeFiles → Node
 node_of how entry files = record { entry = entry; program = files.node; cert = cert_read how files }
 
 -- nodes with entries of one kind, starting at this index
-abbrev pub numbered : How → (ℕ → Entry) → ℕ → List NodeFiles → List Node
-numbered how kind k [] = []
-numbered how kind k (files ∷ more) = node_of how (kind k) files ∷ numbered how kind (k + 1) more
+abbrev pub nodes_from : How → (ℕ → Entry) → ℕ → List NodeFiles → List Node
+nodes_from how kind k [] = []
+nodes_from how kind k (files ∷ more) = node_of how (kind k) files ∷ nodes_from how kind (k + 1) more
 
 -- the nodes: one for each port, then one for each ring
-abbrev pub nodes_of : How → List NodeFiles → List NodeFiles → List Node
-nodes_of how ports rings = numbered how Port 0 ports ++ numbered how Ring 0 rings
+abbrev pub all_nodes : How → List NodeFiles → List NodeFiles → List Node
+all_nodes how ports rings = nodes_from how Port 0 ports ++ nodes_from how Ring 0 rings
 
 -- ---- what a node has
 
@@ -67,12 +67,12 @@ HasCert known None q = IsWith q (certificate_of q.rows) × SaysMost q.program q.
 HasCert known (Some name) q = (cert : Certificate) × IsWith q cert × IsCertOf known name (length q.program) cert
 
 -- a program is loaded: it is checked for the environment and the node's entry, and comes from the node's files
-pub record IsLoaded (known : Option FileMap) (env : Environment) (node : Node) (q : Question) : Type 0 where
-  pub env_is : q.env ≡ env
-  pub entry_is : q.entry ≡ node.entry
-  pub checked : IsChecked q
-  pub program : IsProgramOf known node.program q.program
-  pub cert : HasCert known node.cert q
+pub record IsLoaded (known : Option FileMap) (env : Environment) (node : Node) (question : Question) : Type 0 where
+  pub env_is : question.env ≡ env
+  pub entry_is : question.entry ≡ node.entry
+  pub checked : IsChecked question
+  pub program : IsProgramOf known node.program question.program
+  pub cert : HasCert known node.cert question
 
 -- ---- why a node has none
 

@@ -19,16 +19,16 @@ pub record Plan : Type 0 where
   pub outputs : List (List ℕ)
 
 -- checked with this environment and entry
-pub record IsFor (env : Environment) (entry : Entry) (q : Question) : Type 0 where
-  pub env_is : q.env ≡ env
-  pub entry_is : q.entry ≡ entry
-  pub checked : IsChecked q
+pub record IsFor (env : Environment) (entry : Entry) (question : Question) : Type 0 where
+  pub env_is : question.env ≡ env
+  pub entry_is : question.entry ≡ entry
+  pub checked : IsChecked question
 
 -- one node for each port and then one for each ring, each checked with the environment and its entry
 pub record HasNodes (env : Environment) (nodes : List Question) : Type 0 where
   pub count : length nodes ≡ length env.ports + length env.rings
-  pub ports : (port : ℕ) (q : Question) → port < length env.ports → slice_get nodes port ≡ Some q → IsFor env (Port port) q
-  pub rings : (ring : ℕ) (q : Question) → slice_get nodes (length env.ports + ring) ≡ Some q → IsFor env (Ring ring) q
+  pub ports : (port : ℕ) (question : Question) → port < length env.ports → slice_get nodes port ≡ Some question → IsFor env (Port port) question
+  pub rings : (ring : ℕ) (question : Question) → slice_get nodes (length env.ports + ring) ≡ Some question → IsFor env (Ring ring) question
 
 -- the environment and the hops of the tables are within the limits, and the parts of a pipeline fit together
 pub record IsPlan (p : Plan) : Type 0 where
@@ -49,8 +49,8 @@ abbrev pub output_of : PortNames → List ℕ
 output_of port = string_bytes port.output
 
 -- the value of a pipeline with these parts
-abbrev pub plan_of : Environment → ℕ → List RouteTable → List Question → List PortNames → Plan
-plan_of env region tables nodes ports = record {
+abbrev pub plan_with : Environment → ℕ → List RouteTable → List Question → List PortNames → Plan
+plan_with env region tables nodes ports = record {
   env = env;
   region = region;
   tables = tables;

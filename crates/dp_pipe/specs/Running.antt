@@ -77,7 +77,7 @@ abbrev pub HeadersRead : ℕ → List Device → List Device → Type 0
 HeadersRead n had left = (inputs : List Input) × (length inputs ≡ n) × AreUnread inputs × AreRead had left inputs
 
 -- a reader gave bytes that are not a header, or failed inside one, in at most one call for each byte of a header
-pub record IsBadHeader (error : PcapError) (old new : Device) : Type 0 where
+pub record ReadsBadHeader (error : PcapError) (old new : Device) : Type 0 where
   pub answers : WhereKnown old.bytes new.bytes (λ bytes rest. HeaderAnswers bytes rest (Err error))
   pub calls : new.calls ≤ old.calls + HEADER_SIZE
 
@@ -86,7 +86,7 @@ pub record HasHeaderFault (had left : List Device) (port : ℕ) (error : PcapErr
   pub there : port < length had
   pub many : length left ≡ length had
   pub before : HeadersRead port had left
-  pub fault : At had left port (IsBadHeader error)
+  pub fault : At had left port (ReadsBadHeader error)
   pub after : (q : ℕ) → port < q → slice_get left q ≡ slice_get had q
 
 -- each writer was given a header
@@ -139,13 +139,14 @@ abbrev pub GoesForward : EngineState → EngineState → Transfer → List Input
 GoesForward before after t progress answer = HeadersFail before after t progress answer ⊎ RoundsMade before after t progress answer
 
 -- the counts of an engine whose inputs were read so far
-pub record IsReportOf (e : EngineState) (progress : List InputProgress) (r : Report) : Type 0 where
-  pub ports : r.ports.items ≡ with_states (map (λ (p : InputProgress). p.state) progress) (map (port_report Open) (take (length e.setting.env.ports) e.tallies))
-  pub rings : r.rings.items ≡ take (length e.setting.env.rings) (flushed e).left
-  pub pools : IsWhole e.setting.env r
-  pub calls : r.calls ≡ e.world.calls
-  pub refused : r.refused ≡ refused_of e.setting.pattern e.world.calls
-  pub cut : r.cut ≡ e.world.cuts
+pub record IsReportOf (engine : EngineState) (progress : List InputProgress) (r : Report) : Type 0 where
+  pub ports : r.ports.items ≡ with_states (map (λ (p : InputProgress). p.state) progress)
+      (map (port_report Open) (take (length engine.setting.env.ports) engine.tallies))
+  pub rings : r.rings.items ≡ take (length engine.setting.env.rings) (flushed engine).left
+  pub pools : IsWhole engine.setting.env r
+  pub calls : r.calls ≡ engine.world.calls
+  pub refused : r.refused ≡ refused_of engine.setting.pattern engine.world.calls
+  pub cut : r.cut ≡ engine.world.cuts
 
 -- the report of a result, and the outcome of its run
 abbrev pub report_of : Result Report RunFault → Report

@@ -50,8 +50,8 @@ pub record Setup : Type 0 where
   pub ports : List PortPart
 
 -- the maximum integer at a key that has no other limit
-abbrev pub greatest : ℕ
-greatest = 4294967295
+abbrev pub max_integer : ℕ
+max_integer = 4294967295
 
 -- ---- one table of each kind
 
@@ -60,9 +60,9 @@ abbrev pub pool_in : Members → Option PoolSpec
 pool_in table =
     if has_only (codes "count" ∷ codes "cache" ∷ codes "room" ∷ []) table then
     option_and_then (λ count. option_and_then (λ cache. option_map (λ room. record { count = count; cache = cache; room = room })
-    (number_at (codes "room") greatest table))
-    (number_at (codes "cache") greatest table))
-    (number_at (codes "count") greatest table)
+    (number_at (codes "room") max_integer table))
+    (number_at (codes "cache") max_integer table))
+    (number_at (codes "count") max_integer table)
     else None
 
 -- a number of at least 1
@@ -121,7 +121,7 @@ abbrev pub ring_spec_in : Members → Option RingSpec
 ring_spec_in table =
     option_and_then (λ count. option_map (λ fact. record { count = count; fact = fact })
     (fact_in table))
-    (number_at (codes "count") greatest table)
+    (number_at (codes "count") max_integer table)
 
 -- a `[[ring]]`
 abbrev pub ring_in : Members → Option RingPart
@@ -141,9 +141,9 @@ port_keys =
 abbrev pub port_spec_in : Members → Option PortSpec
 port_spec_in table =
     option_and_then (λ pool. option_and_then (λ segs. option_map (λ queue. record { pool = pool; segs = segs; queue = queue })
-    (number_at (codes "queue") greatest table))
+    (number_at (codes "queue") max_integer table))
     (number_at (codes "segs") max_small table))
-    (number_at (codes "pool") greatest table)
+    (number_at (codes "pool") max_integer table)
 
 -- a `[[port]]`
 abbrev pub port_in : Members → Option PortPart

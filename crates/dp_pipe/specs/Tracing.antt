@@ -17,7 +17,7 @@ use Rattle.dp_engine.specs.Engines.{EngineState}
 use Rattle.dp_engine.specs.Outcomes.{outcome_of}
 use Rattle.dp_engine.specs.Watching.{Event, WatchesTurn}
 use Rattle.dp_pipe.specs.Devices.{Device, At}
-use Rattle.dp_pipe.specs.Forwarding.{Input, AreRead, IsRead, IsReadTo, AllStand, AnswersSo, arrivals_of, asked}
+use Rattle.dp_pipe.specs.Forwarding.{Input, AreRead, IsRead, IsReadTo, AreProgressOf, AnswersSo, arrivals_of, asked}
 use Rattle.dp_pipe.specs.Pipelines.{Plan}
 use Rattle.dp_pipe.specs.Running.{IsFirst, HasHeaderFault}
 use Rattle.dp_pipe.specs.declared.forwarding.InputProgress.{InputProgress}
@@ -30,13 +30,14 @@ pub data Note : Type 0 where
   Ended : (turn : Turn) → (world : World) → Note
 
 -- a record comes: it is reported, its turn is watched, and how it ended is reported
-pub record TracesTurn {V : Type 0} (sees : V → Event → V → Type 0) (noted : V → Note → V → Type 0) (v v' : V) (c : Setting) (nodes : Nodes) (a : Arrival Time)
+pub record TracesTurn {V : Type 0} (sees : V → Event → V → Type 0) (noted : V → Note → V → Type 0) (v v' : V) (setting : Setting) (nodes : Nodes)
+    (a : Arrival Time)
     (w w' : World) : Type 0 where
   pub before : V
   pub came : noted v (Came a.port a.time (length a.bytes)) before
   pub turn : Turn
   pub after : V
-  pub watched : WatchesTurn sees before after c nodes a.port a.bytes w (outcome_of turn.outcome) turn.runs w'
+  pub watched : WatchesTurn sees before after setting nodes a.port a.bytes w (outcome_of turn.outcome) turn.runs w'
   pub took : Consumed w w' turn.steps turn.cuts
   pub ended : noted after (Ended turn w') v'
 
@@ -148,7 +149,7 @@ TracesNext sees noted v v' port before after source source' a b answer =
     (bytes : List ℕ) × WhereKnown a b (λ left rest. Continues source source' left rest bytes answer)
     × TracesBytes sees noted v v' port before after bytes answer
 
--- what follows: after a record all transmit lists are emptied, and one record fewer is wanted
+-- what follows: after a record all transmit lists are first_emptied, and one record fewer is wanted
 abbrev pub FollowsTraced : EngineState → EngineState → InputState → ℕ → ℕ → Result Next PcapError → Result ⊤ PcapError → Type 0
 FollowsTraced before after state wanted wanted' (Ok (Record time len)) answer =
     (state ≡ Open) × (answer ≡ Ok tt) × (after ≡ record before { world = with_empty_outboxes before.world }) × (wanted' + 1 ≡ wanted)
@@ -187,7 +188,7 @@ pub record TracesUntil {V : Type 0} (sees : V → Event → V → Type 0) (noted
     (before after : EngineState) (had left : List Device) (progress : List InputProgress) (round port wanted : ℕ) : Type 0 where
   pub inputs : List Input
   pub many : length inputs ≡ length had
-  pub stand : AllStand had left progress inputs
+  pub progress_is : AreProgressOf had left progress inputs
   pub reached : ℕ
   pub coming : ℕ
   pub order : TracedUntil only reached coming inputs

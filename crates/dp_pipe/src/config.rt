@@ -34,7 +34,7 @@ pub(crate) struct Config {
 
 /// Parses a text as TOML.
 fn table_of(alloc: Global, text: &[u8]) -> Result<Table, PipeError>
-    ensures ok { IfOk result (λ t. spec.IsTable text.now (table_view t)) }
+    ensures ok { IfOk result (λ t. spec.IsTomlTable text.now (table_view t)) }
     ensures err { IfErr result (spec.IsTextFault text.now) }
 {
     let Ok(text) = str::from_utf8(text) else {
@@ -125,7 +125,7 @@ fn names_of_ports(alloc: Global, ports: &[PortPart<'_>]) -> Result<Vec<PortNames
 
 /// Makes a table with its routes.
 fn filled(alloc: Global, index: usize, part: &TablePart<'_>) -> Result<Lpm, PipeError>
-    ensures ok { IfOk result (λ table. spec.Holds (view.table_part part.now) table) }
+    ensures ok { IfOk result (λ table. spec.HasItsRoutes (view.table_part part.now) table) }
     ensures err { IfErr result (spec.IsFillFault index (view.table_part part.now)) }
     ensures hops { IfOk result HasSmallHops }
 {
@@ -145,7 +145,7 @@ fn filled(alloc: Global, index: usize, part: &TablePart<'_>) -> Result<Lpm, Pipe
 
 /// Makes all tables with their routes.
 fn tables_of(alloc: Global, tables: &[TablePart<'_>]) -> Result<Vec<Lpm>, PipeError>
-    ensures ok { IfOk result (λ v. spec.HoldAll (map view.table_part tables.now) v.items) }
+    ensures ok { IfOk result (λ v. spec.HaveTheirRoutes (map view.table_part tables.now) v.items) }
     ensures err { IfErr result (spec.IsTablesFault (map view.table_part tables.now)) }
     ensures hops { IfOk result (λ v. All HasSmallHops v.items) }
 {

@@ -1,7 +1,7 @@
 //! Where the files of programs and certificates come from.
 
 ghost use Rattle.std.specs.Prelude.{◌≡◌, ℕ, List, Option, IfOk, IsErrOf};
-ghost use Rattle.dp_pipe.specs.Files.{HasBytes, HasNone};
+ghost use Rattle.dp_pipe.specs.Files.{HasBytes, NoneIsNamed};
 
 use crate::error::FetchFault;
 use std::alloc::Global;
@@ -23,6 +23,6 @@ pub trait Files {
     /// [`FetchFault::Missing`] if there is no such file or it cannot be read, and [`FetchFault::Memory`] if memory for its bytes is refused.
     fn fetch(&mut self, alloc: Global, name: &str) -> Result<Vec<u8>, FetchFault>
         ensures found { IfOk result (λ bytes. HasBytes (known self.old) name.now bytes.items) }
-        ensures missing { IsErrOf result FetchFault.Missing → HasNone (known self.old) name.now }
+        ensures missing { IsErrOf result FetchFault.Missing → NoneIsNamed (known self.old) name.now }
         ensures stays { known self.new ≡ known self.old };
 }

@@ -3,7 +3,7 @@ ghost use Rattle.std.specs.Prelude.{◌≡◌, ℕ, ◌+◌, ◌<◌, ◌≤◌,
 ghost use Rattle.std.specs.Prelude.{IfOk, IfErr, IsOk, IsErr, IsErrOf, IsTrue};
 ghost use Rattle.dp_pcap.specs.Source.{body_in, IsInRange, Moves, max_pulls, failed_pulls};
 ghost use Rattle.dp_pipe.specs.Devices.{Device, seen, transfer, AllSound, AllFared, FaredAlone, failed_reader, failed_writer, failed_drain};
-ghost use Rattle.dp_pipe.specs.Forwarding.{Input, ReadsTurn, DrainedAll, DrainsStopped, DrainedFirst, Advances, Along, IsRound, AreRounds};
+ghost use Rattle.dp_pipe.specs.Forwarding.{Input, ReadsTurn, DrainedAll, DrainsStopped, DrainedFirst, Advances, RunUntil, IsUnderway, IsRound, AreRounds};
 ghost use Rattle.dp_pipe.specs.Forwarding.{NoneIsOpen, SomeIsOpen};
 ghost use Rattle.dp_pipe.specs.Watched.{ShowsNext, ShowsTurns};
 ghost use Rattle.dp_engine.specs.Engines.{EngineState};
@@ -18,7 +18,7 @@ use dp_pcap::{
 };
 
 /// The maximum number of turns of a run: the most records that eight captures can have.
-pub const MAX_TURNS: u64 = 8 * MAX_RECORDS as u64;
+pub const MAX_RUN_TURNS: u64 = 8 * MAX_RECORDS as u64;
 
 /// The maximum number of rounds of a run: one for each record of an input, and one in which all have ended.
 pub(crate) const ROUNDS: u32 = MAX_RECORDS + 1;
@@ -72,7 +72,7 @@ fn next_turn<K: Known, R: Feed, V: Watch>(
     requires exists { port < length engine.old.setting.env.ports }
     requires buf { MAX_RECORD ≤ length buf.old }
     // Eight inputs with at most that many records make no more turns than an engine takes.
-    requires limit { engine.old.turns + MAX_RECORDS ≤ MAX_TURNS + source.old.given }
+    requires limit { engine.old.turns + MAX_RECORDS ≤ MAX_RUN_TURNS + source.old.given }
     requires open { source.old.is_open ≡ true }
     ensures turn { ReadsTurn port engine.old engine.new source.old source.new (R.remaining r.old) (R.remaining r.new) result }
     ensures in_range { IsInRange source.old result }
@@ -150,7 +150,7 @@ fn ask<K: Known, R: Feed, W: Sink, V: Watch>(
     requires counted { length engine.old.tallies ≡ 8 }
     requires buf { MAX_RECORD ≤ length buf.old }
     requires open { input.old.state ≡ InputState.Open → input.old.source.is_open ≡ true }
-    requires limit { input.old.state ≡ InputState.Open → engine.old.turns + MAX_RECORDS ≤ MAX_TURNS + input.old.source.given }
+    requires limit { input.old.state ≡ InputState.Open → engine.old.turns + MAX_RECORDS ≤ MAX_RUN_TURNS + input.old.source.given }
     ensures step { input.old.state ≡ InputState.Open → Advances port unit engine.old engine.new input.old input.new
         (seen R.remaining R.calls r.old) (seen R.remaining R.calls r.new)
         (map (seen W.contents W.calls) outs.old) (map (seen W.contents W.calls) outs.new) result }
@@ -199,10 +199,9 @@ fn round<K: Known, R: Feed, W: Sink, V: Watch>(
     requires few { length outs.old ≤ 8 }
     requires counted { length engine.old.tallies ≡ 8 }
     requires buf { MAX_RECORD ≤ length buf.old }
-    requires along { (e0 : EngineState) × (had : List Device) × (held : List Device) × (read : List Input) × (k : ℕ)
-        × Along unit e0 engine.old (transfer had (map (seen R.remaining R.calls) ins.old) held (map (seen W.contents W.calls) outs.old)) inputs.old read k 0 }
+    requires underway { (k : ℕ) × IsUnderway unit engine.old (map (seen R.remaining R.calls) ins.old) (map (seen W.contents W.calls) outs.old) inputs.old k 0 }
     ensures goes { (e0 : EngineState) (had held : List Device) (read : List Input) (k : ℕ) →
-        Along unit e0 engine.old (transfer had (map (seen R.remaining R.calls) ins.old) held (map (seen W.contents W.calls) outs.old)) inputs.old read k 0
+        RunUntil unit e0 engine.old (transfer had (map (seen R.remaining R.calls) ins.old) held (map (seen W.contents W.calls) outs.old)) inputs.old read k 0
         → IsRound unit e0 engine.old engine.new (transfer had (map (seen R.remaining R.calls) ins.new) held (map (seen W.contents W.calls) outs.new))
         inputs.new k result }
     ensures many { (length inputs.new ≡ length inputs.old) × (length ins.new ≡ length ins.old) × (length outs.new ≡ length outs.old)
@@ -256,10 +255,9 @@ pub(crate) fn rounds<K: Known, R: Feed, W: Sink, V: Watch>(
     requires few { length outs.old ≤ 8 }
     requires counted { length engine.old.tallies ≡ 8 }
     requires buf { MAX_RECORD ≤ length buf.old }
-    requires along { (e0 : EngineState) × (had : List Device) × (held : List Device) × (read : List Input)
-        × Along unit e0 engine.old (transfer had (map (seen R.remaining R.calls) ins.old) held (map (seen W.contents W.calls) outs.old)) inputs.old read 0 0 }
+    requires underway { IsUnderway unit engine.old (map (seen R.remaining R.calls) ins.old) (map (seen W.contents W.calls) outs.old) inputs.old 0 0 }
     ensures goes { (e0 : EngineState) (had held : List Device) (read : List Input) →
-        Along unit e0 engine.old (transfer had (map (seen R.remaining R.calls) ins.old) held (map (seen W.contents W.calls) outs.old)) inputs.old read 0 0
+        RunUntil unit e0 engine.old (transfer had (map (seen R.remaining R.calls) ins.old) held (map (seen W.contents W.calls) outs.old)) inputs.old read 0 0
         → AreRounds unit e0 engine.new (transfer had (map (seen R.remaining R.calls) ins.new) held (map (seen W.contents W.calls) outs.new))
         inputs.new result }
     ensures many { length inputs.new ≡ length inputs.old }

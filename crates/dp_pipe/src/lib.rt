@@ -32,7 +32,7 @@ mod tracing;
 pub use causes::NodeName;
 pub use error::{FetchFault, Part, PipeError, RouteError};
 pub use files::{Files, MAX_FILE};
-pub use forwarding::{MAX_TURNS, RunCause};
+pub use forwarding::{MAX_RUN_TURNS, RunCause};
 pub use listed::{Listed, NamedBytes};
 pub use loading::load;
 pub use nodes::{How, bytes_of, cert_of};

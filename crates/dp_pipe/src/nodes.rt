@@ -5,7 +5,7 @@ ghost use Rattle.std.specs.Option.{option_map};
 ghost use Rattle.dp_pipe.specs.Files.{IsFile};
 ghost use Rattle.dp_pipe.specs.declared.nodes.How.{How};
 ghost use Rattle.dp_pipe.specs.Views.{node_names};
-ghost use Rattle.dp_pipe.specs.Nodes.{cert_read, node_of, nodes_of, IsProgramOf, IsCertOf, HasCert, IsLoaded, IsMissing, HasNoProgram, IsBadCert};
+ghost use Rattle.dp_pipe.specs.Nodes.{cert_read, node_of, all_nodes, IsProgramOf, IsCertOf, HasCert, IsLoaded, IsMissing, HasNoProgram, IsBadCert};
 ghost use Rattle.dp_pipe.specs.Nodes.{IsRefusedBy, IsWithoutCert, HasNoCert, Fails, AreLoaded, FailsAtFirst};
 ghost use Rattle.dp_cert.specs.Spelling.{certificate_of};
 ghost use Rattle.dp_check.specs.Faults.{question, IsWith, IsChecked};
@@ -201,7 +201,7 @@ fn node_at<'a>(
     requires few_ports { length ports.now ≤ 8 }
     requires few_rings { length rings.now ≤ 8 }
     requires index { index < length ports.now + length rings.now }
-    ensures { (how : How) → slice_get (nodes_of how (map (λ port. node_names port.files) ports.now) (map node_names rings.now)) index
+    ensures { (how : How) → slice_get (all_nodes how (map (λ port. node_names port.files) ports.now) (map node_names rings.now)) index
         ≡ Some (node_of how result.0 (node_names result.1.now)) }
 {
     if index < ports.len() {
@@ -228,9 +228,9 @@ pub(crate) fn load_nodes<F: Files>(
     requires few_ports { length ports.now ≤ 8 }
     requires few_rings { length rings.now ≤ 8 }
     ensures loaded { IfOk result (λ nodes. AreLoaded (F.known files.old) env.now
-        (nodes_of how (map (λ port. node_names port.files) ports.now) (map node_names rings.now)) nodes.items) }
+        (all_nodes how (map (λ port. node_names port.files) ports.now) (map node_names rings.now)) nodes.items) }
     ensures fails { IfErr result (λ e. (e ≡ PipeError.Memory) ⊎ FailsAtFirst (F.known files.old) env.now
-        (nodes_of how (map (λ port. node_names port.files) ports.now) (map node_names rings.now)) e) }
+        (all_nodes how (map (λ port. node_names port.files) ports.now) (map node_names rings.now)) e) }
     ensures stays { F.known files.new ≡ F.known files.old }
 {
     let mut nodes = Vec::new(alloc);

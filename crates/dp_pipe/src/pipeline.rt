@@ -5,7 +5,7 @@ ghost use Rattle.dp_model.specs.declared.env.Entry.TheVariants.{Port, Ring};
 ghost use Rattle.dp_model.specs.Environments.{fault_of};
 ghost use Rattle.dp_region.specs.Region.{IsRegionSize};
 ghost use Rattle.dp_lpm.specs.Routes.{RouteTable, HasSmallHops};
-ghost use Rattle.dp_pipe.specs.Pipelines.{HasNodes, IsFor, IsPlan, plan_of};
+ghost use Rattle.dp_pipe.specs.Pipelines.{HasNodes, IsFor, IsPlan, plan_with};
 
 use crate::file_names::PortNames;
 use dp_check::Checked;
@@ -25,13 +25,13 @@ pub struct Pipeline {
 }
 
 impl Model for Pipeline {
-    ghost use Rattle.dp_pipe.specs.Pipelines.{Plan, IsPlan, plan_of};
+    ghost use Rattle.dp_pipe.specs.Pipelines.{Plan, IsPlan, plan_with};
 
     ghost Value = { Plan };
 
-    ghost view = { λ a. plan_of a.env a.region a.tables.items a.nodes.items a.ports.items };
+    ghost view = { λ a. plan_with a.env a.region a.tables.items a.nodes.items a.ports.items };
 
-    ghost invariant = { λ a. IsPlan (plan_of a.env a.region a.tables.items a.nodes.items a.ports.items) };
+    ghost invariant = { λ a. IsPlan (plan_with a.env a.region a.tables.items a.nodes.items a.ports.items) };
 }
 
 impl Pipeline {
@@ -50,7 +50,7 @@ impl Pipeline {
         requires tables { length tables.items ≡ env.tables }
         requires hops { (k : ℕ) (t : RouteTable) → slice_get tables.items k ≡ Some t → HasSmallHops t }
         requires ports { length ports.items ≡ length env.ports }
-        ensures { result ≡ plan_of env region tables.items nodes.items ports.items }
+        ensures { result ≡ plan_with env region tables.items nodes.items ports.items }
     {
         Pipeline {
             env,

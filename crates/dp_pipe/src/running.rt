@@ -10,7 +10,7 @@ ghost use Rattle.dp_engine.specs.Needs.{bytes_needed};
 ghost use Rattle.dp_engine.specs.Reports.{port_report, IsWhole};
 ghost use Rattle.dp_pipe.specs.Devices.{seen, transfer, AllSound, AllFared, failed_reader, failed_writer};
 ghost use Rattle.dp_pipe.specs.Forwarding as forwarding;
-ghost use Rattle.dp_pipe.specs.Forwarding.{AllStand, units_of};
+ghost use Rattle.dp_pipe.specs.Forwarding.{AreProgressOf, units_of};
 ghost use Rattle.dp_model.specs.Environments.{Environment};
 ghost use Rattle.dp_pipe.specs.Headline.{Forwarded, StoppedBy};
 ghost use Rattle.dp_pipe.specs.Pipelines.{IsPlan};
@@ -59,7 +59,7 @@ pub(crate) fn read_headers<R: Feed>(
     requires few { length ins.old ≤ 8 }
     requires none { (inputs.old.items ≡ []) × (vec_len inputs.old ≡ 0) }
     requires room { 8 ≤ vec_capacity inputs.old }
-    ensures ok { OnOk result (AllStand (map (seen R.remaining R.calls) ins.old) (map (seen R.remaining R.calls) ins.new) inputs.new.items
+    ensures ok { OnOk result (AreProgressOf (map (seen R.remaining R.calls) ins.old) (map (seen R.remaining R.calls) ins.new) inputs.new.items
         (spec.all_begun inputs.new.items)) }
     ensures all { OnOk result (length inputs.new.items ≡ length ins.old) }
     ensures most { length inputs.new.items ≤ length ins.old }

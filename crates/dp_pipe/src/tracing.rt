@@ -9,7 +9,7 @@ ghost use Rattle.dp_pipe.specs.Devices.{Device, seen};
 ghost use Rattle.dp_pipe.specs.Tracing.{IsTraced, TracesNext, TracesStep, TracesUntil, TracesRound, TracesRecords, TracesFirst, NoneIsWanted};
 ghost use Rattle.dp_pipe.specs.Tracing.{IsOfInput};
 
-use crate::forwarding::{InputProgress, MAX_TURNS, ROUNDS, RunCause, is_open};
+use crate::forwarding::{InputProgress, MAX_RUN_TURNS, ROUNDS, RunCause, is_open};
 use crate::opening::opened;
 use crate::pipeline::Pipeline;
 use crate::running::read_headers;
@@ -38,7 +38,7 @@ pub trait Tracer: Watch {
 /// Which records are traced.
 #[derive(Clone, Copy, Debug, PartialEq, Eq)]
 pub struct Traced {
-    /// The maximum number of records: up to [`MAX_TURNS`].
+    /// The maximum number of records: up to [`MAX_RUN_TURNS`].
     pub records: u32,
     /// Only those of one port, or those of all ports in the order of a run.
     pub port: Option<u8>,
@@ -67,7 +67,7 @@ fn trace_next<K: Known, R: Feed, T: Tracer>(
 ) -> Result<Next, PcapError>
     requires exists { port < length engine.old.setting.env.ports }
     requires buf { MAX_RECORD ≤ length buf.old }
-    requires limit { engine.old.turns < MAX_TURNS }
+    requires limit { engine.old.turns < MAX_RUN_TURNS }
     requires open { source.old.is_open ≡ true }
     ensures turn { TracesNext T.Watch.sees T.noted tracer.old tracer.new port engine.old engine.new source.old source.new (R.remaining r.old)
         (R.remaining r.new) result }
@@ -99,7 +99,7 @@ fn trace_port<K: Known, R: Feed, T: Tracer>(
 ) -> Result<(), PcapError>
     requires exists { port < length engine.old.setting.env.ports }
     requires buf { MAX_RECORD ≤ length buf.old }
-    requires limit { engine.old.turns + which.old.records ≤ MAX_TURNS }
+    requires limit { engine.old.turns + which.old.records ≤ MAX_RUN_TURNS }
     requires open { input.old.state ≡ InputState.Open → input.old.source.is_open ≡ true }
     ensures step { TracesStep T.Watch.sees T.noted tracer.old tracer.new which.old.port port engine.old engine.new input.old input.new
         (seen R.remaining R.calls) r.old r.new which.old.records which.new.records result }
@@ -146,7 +146,7 @@ fn trace_round<K: Known, R: Feed, T: Tracer>(
     requires ins { length ins.old ≡ length engine.old.setting.env.ports }
     requires few { length ins.old ≤ 8 }
     requires buf { MAX_RECORD ≤ length buf.old }
-    requires limit { engine.old.turns + which.old.records ≤ MAX_TURNS }
+    requires limit { engine.old.turns + which.old.records ≤ MAX_RUN_TURNS }
     requires until { (v0 : T) × (e0 : EngineState) × (most : ℕ) × (had : List Device) × (k : ℕ)
         × TracesUntil T.Watch.sees T.noted v0 tracer.old which.old.port most e0 engine.old had (map (seen R.remaining R.calls) ins.old) inputs.old k 0
         which.old.records }
@@ -209,7 +209,7 @@ fn trace_rounds<K: Known, R: Feed, T: Tracer>(
     requires ins { length ins.old ≡ length engine.old.setting.env.ports }
     requires few { length ins.old ≤ 8 }
     requires buf { MAX_RECORD ≤ length buf.old }
-    requires limit { engine.old.turns + which.records ≤ MAX_TURNS }
+    requires limit { engine.old.turns + which.records ≤ MAX_RUN_TURNS }
     requires until { (v0 : T) × (e0 : EngineState) × (most : ℕ) × (had : List Device)
         × TracesUntil T.Watch.sees T.noted v0 tracer.old which.port most e0 engine.old had (map (seen R.remaining R.calls) ins.old) inputs.old 0 0
         which.records }
@@ -244,7 +244,7 @@ fn trace_records<K: Known, R: Feed, T: Tracer>(
     requires none { (inputs.old.items ≡ []) × (vec_len inputs.old ≡ 0) }
     requires room { 8 ≤ vec_capacity inputs.old }
     requires buf { MAX_RECORD ≤ length buf.old }
-    requires limit { which.records ≤ MAX_TURNS }
+    requires limit { which.records ≤ MAX_RUN_TURNS }
     ensures traced { TracesRecords T.Watch.sees T.noted tracer.old tracer.new which.port which.records engine.old engine.new
         (map (seen R.remaining R.calls) ins.old) (map (seen R.remaining R.calls) ins.new) result }
     ensures cause { IfErr result IsOfInput }
@@ -272,7 +272,7 @@ pub fn trace<K: Known, R: Feed, T: Tracer>(
 ) -> Result<(), RunCause>
     requires readers { length ins.old ≡ length pipeline.env.ports }
     requires pattern { IsAscending 0 pattern.items }
-    requires limit { which.records ≤ MAX_TURNS }
+    requires limit { which.records ≤ MAX_RUN_TURNS }
     // Whether there is room is known before memory is asked for.
     ensures no_room { result ≡ Err RunCause.NoRoom ↔ pipeline.region < bytes_needed pipeline.env }
     // It is shown the first turns of a run, and nothing else. These records are what the readers gave, and no fewer than are wanted unless each traced

@@ -73,17 +73,17 @@ dpv_begin_spec 𝓤 𝓛 𝓜 𝓡 wired =
     f.Key.name code.function (code.unfolded 𝓤 𝓛.H 𝓜 𝓡 wired)
     (λ κs. ((λ _. heap_val ∷ []), (rawptr_vals, (shr_slice_vals, (shr_slice_vals, tt)))))
     (λ κs. (heap_Tells, (rawptr_Tells, (shr_slice_Tells (named 0) κs.0 u8, (shr_slice_Tells (named 1) κs.1.0 u8, tt))))) (λ κs qs bounds a _ are.
-    let heap = a.0 in let s = a.1.1.0 in let t = a.1.1.1.0 in let vs = heap_val ∷ [] in
-    let s_room = are.1.1.0.0.1 in let t_room = are.1.1.1.0.0.1 in
+    let (heap, (at, (s, (t, _)))) = a in let vs = heap_val ∷ [] in
+    let (_, (_, (((_, s_room), _), (((_, t_room), _), _)))) = are in
     let heap_typed = ((heap_laws.the_row_laws.lawful 𝓛).typed heap vs are.0).0 in
     let y : Ptr → W.Ghost = λ p. ((κs, qs, bounds, (heap, (p, (s, (t, tt)))), (vs, (rawptr_vals p, (shr_slice_vals s, (shr_slice_vals t, tt))))), tt) in
     let Tokens = ‵ (flft κs.0 qs.0) ⊛ (‵ (flft κs.1.0 qs.1.0) ⊛ ‵ ftrue) in
-    qed 𝓛 ((Tokens ⊛ (‵ (Heap.own_val heap vs) ⊛ (‵ (RawPtr.own_val a.1.0 (rawptr_vals a.1.0)) ⊛ (‵ ((ShrSlice (named 0) κs.0 u8).own_val s (shr_slice_vals
+    qed 𝓛 ((Tokens ⊛ (‵ (Heap.own_val heap vs) ⊛ (‵ (RawPtr.own_val at (rawptr_vals at)) ⊛ (‵ ((ShrSlice (named 0) κs.0 u8).own_val s (shr_slice_vals
     s)) ⊛
-    (‵ ((ShrSlice (named 1) κs.1.0 u8).own_val t (shr_slice_vals t)) ⊛ ‵ ftrue))))) ∷ ‵ (room_at R a.1.0) ∷ []) ∵
+    (‵ ((ShrSlice (named 1) κs.1.0 u8).own_val t (shr_slice_vals t)) ⊛ ‵ ftrue))))) ∷ ‵ (room_at R at) ∷ []) ∵
     split ! $ move ! (1 ∷ []) $ split ! $ move ! (1 ∷ []) $ split ! $ move ! (1 ∷ []) $ split ! $ move ! (1 ∷ []) $ split ! $
     keep ! (6 ∷ 4 ∷ 2 ∷ 0 ∷ 5 ∷ []) $
-    in_a_block ! a.1.0 (λ p. room_at R p) (id⊢ 𝓤 _) (λ b o e.
+    in_a_block ! at (λ p. room_at R p) (id⊢ 𝓤 _) (λ b o e.
     regoal ! (λ p. prop (WpFn 𝓤 𝓛.H 𝓣.C 𝓣.Λ code.function (heap_val ∷ ptr_val p ∷ slice_val s.ref_ptr (length s.now) ∷ slice_val t.ref_ptr (length t.now) ∷
     []) (W.post (y p)))) e refl $
     enter ! _ _ _ _ _ $ alloc_all ! (λ l. pass_all ! refl (

@@ -98,8 +98,8 @@ dpv_pass_into_spec 𝓤 𝓛 𝓜 𝓡 wired =
         ),
       ),
     )) (λ κs qs bounds a h are.
-    let port = a.1.0 in let time = a.1.1.0 in let s = a.1.1.1.0 in let rs = a.1.1.1.1.0 in let bs = a.1.1.1.1.1.0 in let r = a.1.1.1.1.1.1.0 in
-    let fits = are.1.0.1 in let timely = are.1.1.0.1 in let s_room = are.1.1.1.0.0.1 in let rs_room = are.1.1.1.1.0.0.1 in let bs_room = are.1.1.1.1.1.0.0.1 in
+    let (at, (port, (time, (s, (rs, (bs, (r, _))))))) = a in
+    let (_, ((_, fits), ((_, timely), (((_, s_room), _), (((_, rs_room), _), (((_, bs_room), _), _)))))) = are in
     let y : Ptr → W.Ghost = λ p. (
       (
         κs,
@@ -111,15 +111,15 @@ dpv_pass_into_spec 𝓤 𝓛 𝓜 𝓡 wired =
       h,
     ) in
     let Tokens = ‵ (flft κs.0 qs.0) ⊛ (‵ (flft κs.1.0 qs.1.0) ⊛ (‵ (flft κs.1.1.0 qs.1.1.0) ⊛ (‵ (flft κs.1.1.1.0 qs.1.1.1.0) ⊛ ‵ ftrue))) in
-    qed 𝓛 ((Tokens ⊛ (‵ (RawPtr.own_val a.0 (rawptr_vals a.0)) ⊛ (‵ (u32.own_val port (uint_vals w32 port)) ⊛ (‵ (u64.own_val time (uint_vals w64 time)) ⊛
+    qed 𝓛 ((Tokens ⊛ (‵ (RawPtr.own_val at (rawptr_vals at)) ⊛ (‵ (u32.own_val port (uint_vals w32 port)) ⊛ (‵ (u64.own_val time (uint_vals w64 time)) ⊛
     (‵ ((ShrSlice (named 0) κs.0 u8).own_val s (shr_slice_vals s)) ⊛ (‵ ((MutSlice (named 1) κs.1.0 E).own_val rs (mut_slice_vals rs)) ⊛
     (‵ ((MutSlice (named 2) κs.1.1.0 u8).own_val bs (mut_slice_vals bs)) ⊛ (‵ ((MutRef (named 3) κs.1.1.1.0 F).own_val r (mut_vals r)) ⊛ ‵ ftrue)))))))) ∷
-    ‵ (lies_at R full_share a.0 h) ∷ []) ∵
+    ‵ (lies_at R full_share at h) ∷ []) ∵
     split ! $ move ! (1 ∷ []) $ split ! $ move ! (1 ∷ []) $ split ! $ move ! (1 ∷ []) $ split ! $ move ! (1 ∷ []) $ split ! $ move ! (1 ∷ []) $ split ! $
     move ! (1 ∷ []) $ split ! $ move ! (1 ∷ []) $ split ! $
     -- [the memory; the frame; the records; the bytes; the struct; the tokens]
     keep ! (9 ∷ 4 ∷ 3 ∷ 2 ∷ 0 ∷ 8 ∷ []) $
-    in_a_block ! a.0 (λ p. lies_at R full_share p h) (id⊢ 𝓤 _) (λ b o e.
+    in_a_block ! at (λ p. lies_at R full_share p h) (id⊢ 𝓤 _) (λ b o e.
     regoal ! (λ p. prop (WpFn 𝓤 𝓛.H 𝓣.C 𝓣.Λ code.function (ptr_val p ∷ vint w32 port ∷ vint w64 time ∷ slice_val s.ref_ptr (length s.now)
     ∷ slice_val rs.ref_ptr (length rs.now) ∷ slice_val bs.ref_ptr (length bs.now) ∷ vptr r.ref_ptr.0 r.ref_ptr.1 ∷ []) (W.post (y p)))) e refl $
     enter ! _ _ _ _ _ $ alloc_all ! (λ l. pass_all ! refl (
@@ -180,12 +180,13 @@ dpv_pass_into_spec 𝓤 𝓛 𝓜 𝓡 wired =
     (and_then ! (get ! refl) (no_more !)))))))) (λ v.
     use1 𝓛 (later (some (λ (n : ℕ). ((‵ (flft (α ∷ []) full_share) ⊛ Tokens) ⊛ ‵ (u32.own_val n (v ∷ []))) ⊛
     some (λ (ws : R.Denot × (Unit {0} × (Unit {0} × (Unit {0} × (List E.Denot × (List ℕ × (F.Denot × Unit {0}))))))).
-    ‵ (lasts g.ended z.0.0 z.0.3 ws) ⊛ raw (fact 𝓤 (Says h port time s.now rs.now bs.now n ws.0 ws.1.1.1.1.0 ws.1.1.1.1.1.0 ws.1.1.1.1.1.1.0)))))) (id⊢ 𝓤 _) $
+    ‵ (lasts g.ended z.0.0 z.0.3 ws) ⊛ raw (fact 𝓤 (let (h', (_, (_, (_, (records, (bytes, (filled, _))))))) = ws in
+    Says h port time s.now rs.now bs.now n h' records bytes filled)))))) (id⊢ 𝓤 _) $
     await ! tt $ pick ! (λ n. split ! $ split ! $ split ! $ lft_end ! tt $
-    move ! (3 ∷ []) $ pick ! (λ ws. split ! $ move ! (1 ∷ []) $ heard ! _ (λ said.
+    move ! (3 ∷ []) $ pick ! (λ ws. let (now, (_, (_, (_, (records, (bytes, (filled, _))))))) = ws in split ! $ move ! (1 ∷ []) $ heard ! _ (λ said.
     -- [what the loan was at last, and the rest; α is over; the tokens; the result; the lender's part]
     fsplit ! $ fsplit ! $ move ! (3 ∷ 6 ∷ 0 ∷ []) $
-    use3 𝓛 (later (‵ ((mem R).own_at ws.0 b o))) (ref_back 𝓛 R (α ∷ []) γ ws.0 b o) $ await ! tt $
+    use3 𝓛 (later (‵ ((mem R).own_at now b o))) (ref_back 𝓛 R (α ∷ []) γ now b o) $ await ! tt $
     move ! (4 ∷ []) $ peeks ! u32 (Is u32) (shows 𝓛 u32) n (v ∷ []) (λ is. lands_as ! refl refl ((uint_Lawful 𝓛 w32).typed n _ is).0 $
     returns ! (look_at ! 0 refl) $ free_all ! refl $
     -- [what the other parameters were at last; the tokens; the result; the memory]
@@ -197,13 +198,13 @@ dpv_pass_into_spec 𝓤 𝓛 𝓜 𝓡 wired =
     move ! (1 ∷ []) $ fsplit ! $ fsplit ! $ move ! (1 ∷ []) $ feq_l ! (λ same_bytes. fjoin ! $
     -- [the bytes; the records; the struct; the tokens; the result; the memory]
     suffices ! _ (ends_at 𝓛 f.ended stayed c (y (block_ptr b o)) v n
-    (tt, (tt, (tt, (tt, (ws.1.1.1.1.0, (ws.1.1.1.1.1.0, (ws.1.1.1.1.1.1.0, tt))))))) (tt, (tt, (tt, (tt, (same_records, (same_bytes, (tt, tt)))))))) $
-    use0 𝓛 (raw (fact 𝓤 (Says h port time s.now rs.now bs.now n ws.0 ws.1.1.1.1.0 ws.1.1.1.1.1.0 ws.1.1.1.1.1.1.0))) (fact_i 𝓤 _ (emp 𝓤) said) $
+    (tt, (tt, (tt, (tt, (records, (bytes, (filled, tt))))))) (tt, (tt, (tt, (tt, (same_records, (same_bytes, (tt, tt)))))))) $
+    use0 𝓛 (raw (fact 𝓤 (Says h port time s.now rs.now bs.now n now records bytes filled))) (fact_i 𝓤 _ (emp 𝓤) said) $
     move ! (6 ∷ 0 ∷ []) $ join ! $
     use1 𝓛 (raw (ex 𝓤 (λ (h' : R.Denot). sep 𝓤 (sem 𝓛 (lies_at R full_share (block_ptr b o) h'))
-    (fact 𝓤 (Says h port time s.now rs.now bs.now n h' ws.1.1.1.1.0 ws.1.1.1.1.1.0 ws.1.1.1.1.1.1.0)))))
+    (fact 𝓤 (Says h port time s.now rs.now bs.now n h' records bytes filled)))))
     (ex_i 𝓤 (λ (h' : R.Denot). sep 𝓤 (sem 𝓛 (lies_at R full_share (block_ptr b o) h'))
-    (fact 𝓤 (Says h port time s.now rs.now bs.now n h' ws.1.1.1.1.0 ws.1.1.1.1.1.0 ws.1.1.1.1.1.1.0))) ws.0) $
+    (fact 𝓤 (Says h port time s.now rs.now bs.now n h' records bytes filled))) now) $
     -- [the memory; the bytes; the records; the struct; the tokens; the result]
     nothing ! $ move ! (4 ∷ 0 ∷ []) $ join ! $ move ! (2 ∷ 0 ∷ []) $ join ! $ move ! (2 ∷ 0 ∷ []) $ join ! $
     nothing ! $ join ! $ nothing ! $ join ! $ nothing ! $ join ! $ nothing ! $ join ! $

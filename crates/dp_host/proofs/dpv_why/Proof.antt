@@ -52,14 +52,14 @@ dpv_why_spec 𝓤 𝓛 𝓜 𝓡 wired =
     (Goes-dropped 𝓛 1 (plain (λ _. RawPtr)) yes (λ κs x w. refl), (Goes-ref 𝓛 1 0 tt (plain (λ _. F)), tt))
     f.Key.name code.function (code.unfolded 𝓤 𝓛.H 𝓜 𝓡 wired)
     (λ κs. (rawptr_vals, (mut_vals, tt))) (λ κs. (rawptr_Tells, (mut_Tells (named 0) κs.0 F, tt))) (λ κs qs bounds a h are.
-    let κ = κs.0 in let q = qs.0 in let r = a.1.0 in let rb = r.ref_ptr.0 in let ro = r.ref_ptr.1 in let vs = mut_vals r in
+    let κ = κs.0 in let q = qs.0 in let (at, (r, _)) = a in let (rb, ro) = r.ref_ptr in let vs = mut_vals r in
     let y : Ptr → W.Ghost = λ p. ((κs, qs, bounds, (p, (r, tt)), (rawptr_vals p, (vs, tt))), h) in
     let Ref = λ (κ' : List ℕ) (x : MutBor F.Denot). (MutRef (named 0) κ' F).own_val x vs in
-    qed 𝓛 (((‵ (flft κ q) ⊛ ‵ ftrue) ⊛ (‵ (RawPtr.own_val a.0 (rawptr_vals a.0)) ⊛ (‵ (Ref κ r) ⊛ ‵ ftrue))) ∷ ‵ (lies_at R full_share a.0 h) ∷ []) ∵
+    qed 𝓛 (((‵ (flft κ q) ⊛ ‵ ftrue) ⊛ (‵ (RawPtr.own_val at (rawptr_vals at)) ⊛ (‵ (Ref κ r) ⊛ ‵ ftrue))) ∷ ‵ (lies_at R full_share at h) ∷ []) ∵
     -- [the token of κ; the frame; the memory]
     split ! $ split ! $ move ! (2 ∷ []) $ split ! $ move ! (1 ∷ []) $ split ! $
     keep ! (5 ∷ 0 ∷ 3 ∷ []) $
-    in_a_block ! a.0 (λ p. lies_at R full_share p h) (id⊢ 𝓤 _) (λ b o e.
+    in_a_block ! at (λ p. lies_at R full_share p h) (id⊢ 𝓤 _) (λ b o e.
     regoal ! (λ p. prop (WpFn 𝓤 𝓛.H 𝓣.C 𝓣.Λ code.function (ptr_val p ∷ vptr rb ro ∷ []) (W.post (y p)))) e refl $
     enter ! _ _ _ _ _ $ alloc_all ! (λ l. pass_all ! refl ((tt, tt), ((tt, tt), tt)) $
     -- &mut *at, &mut *frame
@@ -88,24 +88,25 @@ dpv_why_spec 𝓤 𝓛 𝓜 𝓡 wired =
     calls_at ! (framed 𝓤 𝓛.H 𝓜 (tables 𝓤 𝓛.H 𝓜 𝓡 𝓡.env)) G (met 𝓤 𝓛 𝓜 𝓡 (code.calls-dp_host::host::reason 𝓡.env wired)) z
     (and_then ! (get ! refl) (and_then ! (get ! refl) (no_more !))) (λ v.
     use1 𝓛 (later (some (λ (n : ℕ). ((‵ (flft (α ∷ []) full_share) ⊛ (‵ (flft (β ∷ []) full_share) ⊛ ‵ ftrue)) ⊛ ‵ (u32.own_val n (v ∷ []))) ⊛
-    some (λ (ws : R.Denot × (F.Denot × Unit {0})). ‵ (lasts g.ended z.0.0 z.0.3 ws) ⊛ raw (fact 𝓤 (Says h n r.now ws.0 ws.1.0)))))) (id⊢ 𝓤 _) $
+    some (λ (ws : R.Denot × (F.Denot × Unit {0})). ‵ (lasts g.ended z.0.0 z.0.3 ws) ⊛ raw (fact 𝓤 (let (h', (out, _)) = ws in Says h n r.now h' out))))))
+    (id⊢ 𝓤 _) $
     await ! tt $ pick ! (λ n. split ! $ split ! $ split ! $ lft_end ! tt $ move ! (1 ∷ []) $ split ! $ lft_end ! tt $
     -- [β is over; nothing; α is over; the result; what the call says; what the frame's holder keeps; the lender's part]
-    move ! (4 ∷ []) $ pick ! (λ ws. split ! $ move ! (1 ∷ []) $ heard ! _ (λ said.
+    move ! (4 ∷ []) $ pick ! (λ ws. let (now, (out, _)) = ws in split ! $ move ! (1 ∷ []) $ heard ! _ (λ said.
     fsplit ! $ move ! (1 ∷ []) $ fsplit ! $
     -- [what the struct's loan was at last; nothing; the memory's; β is over; nothing; α is over; the result; what its holder keeps; the lender's part]
     fsplit ! $ move ! (4 ∷ 8 ∷ 0 ∷ []) $
-    use3 𝓛 (later (‵ (Ref κ (record r { now = ws.1.0 })) ⊛ ‵ (flft κ q)))
-    (comes_back 𝓛 F (named 0) κ (β ∷ []) q r.ghost_name rb ro δ r.now ws.1.0) $ await ! tt $ split ! $
+    use3 𝓛 (later (‵ (Ref κ (record r { now = out })) ⊛ ‵ (flft κ q)))
+    (comes_back 𝓛 F (named 0) κ (β ∷ []) q r.ghost_name rb ro δ r.now out) $ await ! tt $ split ! $
     move ! (4 ∷ []) $ fsplit ! $ move ! (7 ∷ 9 ∷ 0 ∷ []) $
-    use3 𝓛 (later (‵ ((mem R).own_at ws.0 b o))) (ref_back 𝓛 R (α ∷ []) γ ws.0 b o) $ await ! tt $
+    use3 𝓛 (later (‵ ((mem R).own_at now b o))) (ref_back 𝓛 R (α ∷ []) γ now b o) $ await ! tt $
     -- [the memory; ..; the frame; the token of κ; ..; the result]
     move ! (7 ∷ []) $ peeks ! u32 (Is u32) (shows 𝓛 u32) n (v ∷ []) (λ is. lands_as ! refl refl ((uint_Lawful 𝓛 w32).typed n _ is).0 $
     returns ! (look_at ! 0 refl) $ free_all ! refl $ keep ! (4 ∷ 3 ∷ 0 ∷ 1 ∷ []) $
-    suffices ! _ (ends_at 𝓛 f.ended stayed c (y (block_ptr b o)) v n (tt, (ws.1.0, tt)) (tt, (tt, tt))) $
+    suffices ! _ (ends_at 𝓛 f.ended stayed c (y (block_ptr b o)) v n (tt, (out, tt)) (tt, (tt, tt))) $
     -- [the token of κ; the frame; the result; the memory]
-    use0 𝓛 (raw (fact 𝓤 (Says h n r.now ws.0 ws.1.0))) (fact_i 𝓤 _ (emp 𝓤) said) $ move ! (4 ∷ 0 ∷ []) $ join ! $
-    use1 𝓛 (raw (ex 𝓤 (λ (h' : R.Denot). sep 𝓤 (sem 𝓛 (lies_at R full_share (block_ptr b o) h')) (fact 𝓤 (Says h n r.now h' ws.1.0)))))
-    (ex_i 𝓤 (λ (h' : R.Denot). sep 𝓤 (sem 𝓛 (lies_at R full_share (block_ptr b o) h')) (fact 𝓤 (Says h n r.now h' ws.1.0))) ws.0) $
+    use0 𝓛 (raw (fact 𝓤 (Says h n r.now now out))) (fact_i 𝓤 _ (emp 𝓤) said) $ move ! (4 ∷ 0 ∷ []) $ join ! $
+    use1 𝓛 (raw (ex 𝓤 (λ (h' : R.Denot). sep 𝓤 (sem 𝓛 (lies_at R full_share (block_ptr b o) h')) (fact 𝓤 (Says h n r.now h' out)))))
+    (ex_i 𝓤 (λ (h' : R.Denot). sep 𝓤 (sem 𝓛 (lies_at R full_share (block_ptr b o) h')) (fact 𝓤 (Says h n r.now h' out))) now) $
     nothing ! $ move ! (3 ∷ 0 ∷ []) $ join ! $ nothing ! $ join ! $
     nothing ! $ move ! (3 ∷ 0 ∷ []) $ join ! $ move ! (0 ∷ 1 ∷ 3 ∷ 2 ∷ []) $ group ! 3 $ done !))))))))))))

@@ -1,8 +1,8 @@
 -- A pass that was taken is one call more; a refused one has the returned reason.
 use Rattle.std.proofs.Common.{◌≡◌, inl, inr, Some, refl, sym, ap, subst}
 use Rattle.dp_engine.specs.Batches.{Holds, KeepsRest, Passes}
-use Rattle.dp_host.specs.Calls.{frames_from, sent_in}
-use Rattle.dp_host.specs.Hosts.{PassAnswers, size_of}
+use Rattle.dp_host.specs.Calls.{frames_by_port, sent_in}
+use Rattle.dp_host.specs.Hosts.{PassAnswers, batch_size_of}
 use Rattle.dp_host.proofs.Serving.{batch_is, served_more}
 use Rattle.dp_host.proofs.host.passed.Goals as goal
 
@@ -14,7 +14,7 @@ returns-in-Ok c =
     let bytes = c.pass.new.bytes in
     let turn = c.in-Ok.pass.turn in
     let p : Passes e e' c.args.port c.args.frame.now turn c.args.time records bytes c.in-Ok.pass.sent = c.in-Ok.ensures.ok in
-    let size : size_of c.room_of.result ≡ c.in-Ok.pass.sent = ap size_of c.room_of.ensures in (
+    let size : batch_size_of c.room_of.result ≡ c.in-Ok.pass.sent = ap batch_size_of c.room_of.ensures in (
       subst (λ o. PassAnswers o c.args.host.now.missing (Some e') c.args.port c.args.time c.args.frame.now
           (record { records = c.args.records.now; bytes = c.args.bytes.now }) (record { records = records; bytes = bytes }) c.room_of.result
           c.outcome_number.result) (sym c.in-Some.is) (inl (record {
@@ -22,7 +22,7 @@ returns-in-Ok c =
             number = c.outcome_number.ensures;
             passes = subst (Passes e e' c.args.port c.args.frame.now turn c.args.time records bytes) (sym size) p;
             sent = sent_in p.mid.world;
-            batch = subst (Holds c.args.time (frames_from 0 (sent_in p.mid.world)) records bytes) (sym size)
+            batch = subst (Holds c.args.time (frames_by_port 0 (sent_in p.mid.world)) records bytes) (sym size)
                 (batch_is c.args.time p.mid.world records bytes c.in-Ok.pass.sent p.batch);
             rest = subst (λ filled. KeepsRest filled c.args.records.now records c.args.bytes.now bytes) (sym size) c.in-Ok.ensures.rest;
             serves = λ plan calls was. served_more plan calls e e' c.args.port c.args.frame.now turn c.args.time records bytes c.in-Ok.pass.sent p was;
@@ -33,11 +33,11 @@ returns-in-Ok c =
 
 pub returns-in-Err : goal.returns-in-Err
 returns-in-Err c =
-    let why = c.in-Err.ensures.err in (
+    let (same, same_records, same_bytes, refuses) = c.in-Err.ensures.err in (
       subst (λ o. PassAnswers o c.args.host.now.missing (Some c.pass.new.self) c.args.port c.args.time c.args.frame.now
           (record { records = c.args.records.now; bytes = c.args.bytes.now }) (record { records = c.pass.new.records; bytes = c.pass.new.bytes })
           (record { records = 0; bytes = 0 }) c.number.result) (sym c.in-Some.is)
-          (inr (c.in-Err.why, c.number.ensures, why.3, why.0, (λ i. record { records = why.1 i; bytes = why.2 i }), refl)),
+          (inr (c.in-Err.why, c.number.ensures, refuses, same, (λ i. record { records = same_records i; bytes = same_bytes i }), refl)),
       refl,
       refl,
     )

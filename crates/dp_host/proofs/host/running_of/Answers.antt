@@ -2,7 +2,7 @@
 use Rattle.std.proofs.Common.{[], length, sym, ◌∙◌, ap, subst}
 use Rattle.dp_model.specs.Machine.{Setting}
 use Rattle.dp_pipe.specs.Running.{IsFirst}
-use Rattle.dp_host.specs.Calls.{HasServed}
+use Rattle.dp_host.specs.Calls.{HasServedCalls}
 use Rattle.dp_host.proofs.Serving.{first_served}
 use Rattle.dp_host.proofs.host.running_of.Goals as goal
 use Rattle.dp_host.proofs.host.running_of.Goals.{In-Ok}
@@ -26,5 +26,5 @@ of-requires-clause-few_rings c = c.counts_of-ports.ensures.rings.1
 
 pub returns-in-Ok-clause-ok : goal.returns-in-Ok-clause-ok
 returns-in-Ok-clause-ok c =
-    subst (HasServed c.args.pipeline []) (sym c.of.ensures)
+    subst (HasServedCalls c.args.pipeline []) (sym c.of.ensures)
     (first_served c.args.pipeline c.in-Ok.engine c.counts_of-ports.ensures.plan (first (goal.at.returns-in-Ok-clause-ok c).In-Ok))

@@ -1,7 +1,7 @@
 -- `ask`: an input at a record, at its end, or at a fault.
-use Rattle.std.proofs.Common.{ap, ◌∙◌, Ok}
+use Rattle.std.proofs.Common.{ap, refl, ◌∙◌, Ok}
 use Rattle.dp_pipe.specs.declared.forwarding.RunCause.TheVariants.{Out}
-use Rattle.dp_pipe.proofs.Following.{follows_drained, follows_stopped, follows_end, follows_cut, drained_ok, stopped_err}
+use Rattle.dp_pipe.proofs.Following.{drained_ok, stopped_err}
 use Rattle.dp_pipe.proofs.Watched.{shown_drained, shown_stopped}
 use Rattle.dp_pipe.proofs.forwarding.ask.Goals as goal
 
@@ -13,8 +13,8 @@ returns-in-Ok-clause-step g c goes = record {
   pulls = c.next_turn.ensures.counted;
   in_range = c.next_turn.ensures.in_range;
   moves = c.next_turn.ensures.source;
-  follows = follows_drained _ _ _ _ _ _ _ _ _ _ (c.in-Ok-Record.is ∙ ap Ok c.in-Ok-Record.field-0-is) goes
-      (drained_ok c.drain_all.result _ c.in-Ok.is c.drain_all.ensures.ok);
+  follows = rw (c.in-Ok-Record.is ∙ ap Ok c.in-Ok-Record.field-0-is)
+      (goes, drained_ok c.drain_all.result _ c.in-Ok.is c.drain_all.ensures.ok);
 }
 
 pub returns-in-Err-drain_all-clause-step : goal.returns-in-Err-drain_all-clause-step
@@ -25,8 +25,8 @@ returns-in-Err-drain_all-clause-step g c goes = record {
   pulls = c.next_turn.ensures.counted;
   in_range = c.next_turn.ensures.in_range;
   moves = c.next_turn.ensures.source;
-  follows = follows_stopped _ _ _ _ _ _ _ _ _ _ c.in-Err-drain_all.failed (c.in-Ok-Record.is
-      ∙ ap Ok c.in-Ok-Record.field-0-is) goes (stopped_err c.drain_all.result _ _ c.in-Err-drain_all.is c.drain_all.ensures.err);
+  follows = rw (c.in-Ok-Record.is ∙ ap Ok c.in-Ok-Record.field-0-is)
+      (goes, c.in-Err-drain_all.failed, refl, stopped_err c.drain_all.result _ _ c.in-Err-drain_all.is c.drain_all.ensures.err);
 }
 
 pub returns-in-Ok-End-clause-step : goal.returns-in-Ok-End-clause-step
@@ -37,7 +37,7 @@ returns-in-Ok-End-clause-step g c goes = record {
   pulls = c.next_turn.ensures.counted;
   in_range = c.next_turn.ensures.in_range;
   moves = c.next_turn.ensures.source;
-  follows = follows_end _ _ _ _ _ (c.in-Ok-End.is ∙ ap Ok c.in-Ok-End.field-0-is);
+  follows = rw (c.in-Ok-End.is ∙ ap Ok c.in-Ok-End.field-0-is) (refl, refl, refl, refl);
 }
 
 pub returns-in-Ok-Cut-clause-step : goal.returns-in-Ok-Cut-clause-step
@@ -48,7 +48,7 @@ returns-in-Ok-Cut-clause-step g c goes = record {
   pulls = c.next_turn.ensures.counted;
   in_range = c.next_turn.ensures.in_range;
   moves = c.next_turn.ensures.source;
-  follows = follows_cut _ _ _ _ _ _ (c.in-Ok-Cut.is ∙ ap Ok c.in-Ok-Cut.field-0-is);
+  follows = rw (c.in-Ok-Cut.is ∙ ap Ok c.in-Ok-Cut.field-0-is) (refl, refl, refl, refl);
 }
 
 pub returns-in-Ok-clause-shown : goal.returns-in-Ok-clause-shown

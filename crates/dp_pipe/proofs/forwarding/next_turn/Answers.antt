@@ -8,17 +8,21 @@ use Rattle.dp_pipe.proofs.Lending.{lent, copied, has_room, found, read_from, not
 use Rattle.dp_pipe.proofs.forwarding.next_turn.Goals.{in-Some, in-None+in-Ok-Record}
 use Rattle.dp_pipe.proofs.forwarding.next_turn.Goals as goal
 
+-- whether a record was buffered
+abbrev held_in : Time × ℕ × Bool → Bool
+held_in (time, len, is_held) = is_held
+
 pub returns-then-is_held-clause-turn : goal.returns-then-is_held-clause-turn
 returns-then-is_held-clause-turn g c =
     let m = c.match-record_at_hand in
     let (answers, turn) = c.watched_turn-turn.ensures.taken.turn in
     elim m.branch [
       | in-Some w ↦
-          let held = found _ _ _ _ m.len w.in-Some.time w.in-Some.len w.source-is (ap g.R.Feed.at_hand w.r-is) w.len-is w.in-Some.ensures.some in
-          read_from c.args.port c.args.engine.now c.watched_turn-turn.new.self _ _ _ _ _ _ (Ok (Record m.len.0 m.len.1)) w.source-is (ap
+          let held = found w.source-is (ap g.R.Feed.at_hand w.r-is) w.len-is w.in-Some.ensures.some in
+          read_from c.args.port c.args.engine.now c.watched_turn-turn.new.self _ _ (Ok (Record m.len.0 m.len.1)) w.source-is (ap
           g.R.Feed.remaining w.r-is)
           (lent c.args.port c.args.engine.now c.watched_turn-turn.new.self m.source _ (g.R.Feed.remaining m.r) _ (g.R.Feed.at_hand m.r) c.bytes_of.result.now
-          m.len.0 m.len.1 held (c.pass_record.ensures.continues m.len.0 held) (c.bytes_of.ensures.held (ap (λ (x : Time × ℕ × Bool). x.2) w.len-is)).0
+          m.len.0 m.len.1 held (c.pass_record.ensures.continues m.len.0 held) (c.bytes_of.ensures.held (ap held_in w.len-is)).0
           (record {
             outcome = outcome_of c.watched_turn-turn.result.outcome;
             runs = c.watched_turn-turn.result.runs;
@@ -27,7 +31,7 @@ returns-then-is_held-clause-turn g c =
             is = c.watched_turn-turn.ensures.taken.rest;
             lists = c.watched_turn-turn.ensures.taken.lists;
           }))
-      | in-None+in-Ok-Record w ↦ absurd (not_both _ (ap (λ (x : Time × ℕ × Bool). x.2) w.len-is) c.if-is_held.true)
+      | in-None+in-Ok-Record w ↦ absurd (not_both _ (ap held_in w.len-is) c.if-is_held.true)
     ]
 
 pub returns-else-is_held-clause-turn : goal.returns-else-is_held-clause-turn
@@ -36,10 +40,9 @@ returns-else-is_held-clause-turn g c =
     let took = c.watched_turn-turn.ensures.taken in
     let (answers, turn) = took.turn in
     elim m.branch [
-      | in-Some w ↦ absurd (not_both _ c.if-is_held.false (ap (λ (x : Time × ℕ × Bool). x.2) w.len-is))
+      | in-Some w ↦ absurd (not_both _ c.if-is_held.false (ap held_in w.len-is))
       | in-None+in-Ok-Record w ↦
-          copied c.args.port c.args.engine.now c.watched_turn-turn.new.self _ _ _ _ _ _ _ _ c.bytes_of.result.now m.len w.in-Ok-Record.time
-          w.in-Ok-Record.len w.next_record.result (w.in-Ok-Record.is ∙ ap Ok w.in-Ok-Record.field-0-is) w.source-is (ap g.R.Feed.remaining w.r-is) w.buf-is
+          copied c.args.source.now _ (w.in-Ok-Record.is ∙ ap Ok w.in-Ok-Record.field-0-is) w.source-is (ap g.R.Feed.remaining w.r-is) w.buf-is
           w.len-is (w.next_record.ensures.continues c.requires.open) (has_room c.args.source.now w.next_record.result _ _ _ (w.in-Ok-Record.is
           ∙ ap Ok w.in-Ok-Record.field-0-is) w.next_record.ensures.in_range (rw w.next_record.auto.buf c.requires.buf))
           (c.bytes_of.ensures.copied c.if-is_held.false)

@@ -7,7 +7,7 @@ use Rattle.dp_pcap.specs.declared.format.TheConstants.{MAX_RECORD}
 use Rattle.dp_engine.specs.Engines.{EngineState}
 use Rattle.dp_pipe.specs.declared.forwarding.RunCause.{RunCause}
 use Rattle.dp_pipe.specs.Devices.{Device, seen, transfer, AllFared, AllSound, failed_reader, failed_writer}
-use Rattle.dp_pipe.specs.Forwarding.{Input, Along}
+use Rattle.dp_pipe.specs.Forwarding.{Input, RunUntil}
 use Rattle.dp_pipe.specs.Watched.{ShowsTurns}
 use Rattle.dp_pipe.proofs.Watched.{shown_on}
 use Rattle.dp_pipe.proofs.Faring.{reader_then, writers_then}
@@ -17,7 +17,7 @@ use Rattle.dp_pipe.proofs.forwarding.round.Goals.{After-index-ins-k, After-ask}
 
 -- the input of the port and its reader, where the run continues
 opened : (g : _) (c : After-index-ins-k g) (e0 : EngineState) (olds held : List Device) (read : List Input) (k : ℕ)
-    → Along c.args.unit e0 c.args.engine.now (transfer olds (map (seen g.R.Feed.remaining g.R.Feed.calls) c.args.ins.now) held (map
+    → RunUntil c.args.unit e0 c.args.engine.now (transfer olds (map (seen g.R.Feed.remaining g.R.Feed.calls) c.args.ins.now) held (map
     (seen g.W.Sink.contents g.W.Sink.calls) c.args.outs.now)) c.args.inputs.now read k
     0 → Comes (seen g.R.Feed.remaining g.R.Feed.calls) (seen g.W.Sink.contents g.W.Sink.calls) c.args.unit e0 c.loop-port.engine olds held c.loop-port.ins
     c.loop-port.outs c.loop-port.inputs k
@@ -40,11 +40,11 @@ opened g c e0 olds held read k start =
     }
 
 -- the same, of the run that there is
-found : (g : _) (c : After-index-ins-k g) → Comes (seen g.R.Feed.remaining g.R.Feed.calls)
-    (seen g.W.Sink.contents g.W.Sink.calls) c.args.unit c.requires.along.0 c.loop-port.engine c.requires.along.1
-    c.requires.along.2 c.loop-port.ins c.loop-port.outs c.loop-port.inputs c.requires.along.4 c.loop-port.port
+found : (g : _) (c : After-index-ins-k g) → let (k, start) = c.requires.underway in Comes (seen g.R.Feed.remaining g.R.Feed.calls)
+    (seen g.W.Sink.contents g.W.Sink.calls) c.args.unit start.before c.loop-port.engine start.had start.held c.loop-port.ins c.loop-port.outs
+    c.loop-port.inputs k c.loop-port.port
     (slice_index_or c.loop-port.inputs c.loop-port.port c.index-inputs-k.result) (slice_index_or c.loop-port.ins c.loop-port.port c.index-ins-k.result)
-found g c = opened g c _ _ _ _ _ c.requires.along.5
+found g c = let (k, start) = c.requires.underway in opened g c start.before start.had start.held start.inputs k start.run
 
 -- how the devices are after each result
 readers : (g : _) (c : After-ask g) (given : Result ⊤ RunCause) → c.ask.result ≡ given
@@ -114,8 +114,7 @@ pub returns-clause-goes : goal.returns-clause-goes
 returns-clause-goes g c e0 olds held read k start =
     let (now, along) = c.loop-port.invariant.goes e0 olds held read k start in (
       now,
-      round_over c.args.unit e0 c.loop-port.engine olds _ held _ c.loop-port.inputs now k c.loop-port.port along
-          (omega (arith, c.loop-port.invariant.inputs, c.loop-port-test.false)),
+      round_over along (omega (arith, c.loop-port.invariant.inputs, c.loop-port-test.false)),
     )
 
 pub returns-clause-fared_readers : goal.returns-clause-fared_readers

@@ -2,7 +2,7 @@
 use Rattle.std.proofs.Common.{◌≡◌, ℕ, false, List, length, map}
 use Rattle.dp_engine.specs.Engines.{EngineState}
 use Rattle.dp_pipe.specs.Devices.{Device, seen, transfer, AllSound, AllFared}
-use Rattle.dp_pipe.specs.Forwarding.{Input, Along}
+use Rattle.dp_pipe.specs.Forwarding.{Input, RunUntil}
 use Rattle.dp_pipe.specs.Watched.{HasShown}
 use Rattle.dp_pipe.proofs.forwarding.round.Given as goal
 
@@ -13,9 +13,9 @@ invariant-loop-port g l = record {
   outs : length l.outs ≡ length l.fn.outs;
   buf : length l.buf ≡ length l.fn.buf;
   goes : (e0 : EngineState) (olds held : List Device) (read : List Input) (k : ℕ) →
-      Along l.unit e0 l.fn.engine (transfer olds (map (seen g.R.Feed.remaining g.R.Feed.calls) l.fn.ins) held (map
+      RunUntil l.unit e0 l.fn.engine (transfer olds (map (seen g.R.Feed.remaining g.R.Feed.calls) l.fn.ins) held (map
       (seen g.W.Sink.contents g.W.Sink.calls) l.fn.outs)) l.fn.inputs read k 0
-      → (now : List Input) × Along l.unit e0 l.engine (transfer olds (map (seen g.R.Feed.remaining g.R.Feed.calls) l.ins) held (map
+      → (now : List Input) × RunUntil l.unit e0 l.engine (transfer olds (map (seen g.R.Feed.remaining g.R.Feed.calls) l.ins) held (map
       (seen g.W.Sink.contents g.W.Sink.calls) l.outs)) l.inputs now k l.port;
   readers : AllFared g.R.Feed.is_broken g.R.Feed.failures (λ q. false) l.fn.ins l.ins;
   writers : AllSound g.W.Sink.is_broken l.fn.outs → AllFared g.W.Sink.is_broken g.W.Sink.failures (λ q. false) l.fn.outs l.outs;

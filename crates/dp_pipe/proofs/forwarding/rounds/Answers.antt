@@ -5,29 +5,29 @@ use Rattle.dp_pcap.specs.declared.format.TheConstants.{MAX_RECORD}
 use Rattle.dp_engine.specs.Engines.{EngineState}
 use Rattle.dp_pipe.specs.declared.forwarding.RunCause.{RunCause}
 use Rattle.dp_pipe.specs.Devices.{Device, seen, transfer, AllFared, AllSound, failed_reader, failed_writer}
-use Rattle.dp_pipe.specs.Forwarding.{Input, Along, IsRound}
+use Rattle.dp_pipe.specs.Forwarding.{Input, RunUntil, IsRound}
 use Rattle.dp_pipe.specs.Watched.{ShowsTurns}
 use Rattle.dp_pipe.proofs.Watched.{shown_on}
 use Rattle.dp_pipe.proofs.Faring.{readers_then, writers_then}
-use Rattle.dp_pipe.proofs.Rounding.{went_all, none_left, round_ok, round_err}
+use Rattle.dp_pipe.proofs.Rounding.{went_all, none_left}
 use Rattle.dp_pipe.proofs.forwarding.rounds.Goals as goal
 use Rattle.dp_pipe.proofs.forwarding.rounds.Goals.{In-loop-k, After-round}
 
 -- the run continues, in the round that comes next
-along : (g : _) (c : In-loop-k g) → (now : List Input) × Along c.args.unit c.requires.along.0 c.loop-k.engine (transfer c.requires.along.1 (map
-    (seen g.R.Feed.remaining g.R.Feed.calls) c.loop-k.ins) c.requires.along.2 (map
-    (seen g.W.Sink.contents g.W.Sink.calls) c.loop-k.outs)) c.loop-k.inputs now c.loop-k.k 0
-along g c = c.loop-k.invariant.goes _ _ _ _ c.requires.along.4
+along : (g : _) (c : In-loop-k g) → (now : List Input) × RunUntil c.args.unit c.requires.underway.before c.loop-k.engine
+    (transfer c.requires.underway.had (map (seen g.R.Feed.remaining g.R.Feed.calls) c.loop-k.ins)
+    c.requires.underway.held (map (seen g.W.Sink.contents g.W.Sink.calls) c.loop-k.outs)) c.loop-k.inputs now c.loop-k.k 0
+along g c = let start = c.requires.underway in c.loop-k.invariant.goes start.before start.had start.held start.inputs start.run
 
 -- as many ports as at first
 ports : (g : _) (c : In-loop-k g) → length c.args.engine.now.setting.env.ports ≡ length c.loop-k.engine.setting.env.ports
 ports g c =
-    ap (λ (x : EngineState). length x.setting.env.ports) c.requires.along.4.run.stays
+    ap (λ (x : EngineState). length x.setting.env.ports) c.requires.underway.run.run.stays
     ∙ sym (ap (λ (x : EngineState). length x.setting.env.ports) (along g c).1.run.stays)
 
 -- the round that was made
 went : (g : _) (c : After-round g) (e0 : EngineState) (olds held : List Device) (read : List Input)
-    → Along c.args.unit e0 c.args.engine.now (transfer olds (map (seen g.R.Feed.remaining g.R.Feed.calls) c.args.ins.now) held (map
+    → RunUntil c.args.unit e0 c.args.engine.now (transfer olds (map (seen g.R.Feed.remaining g.R.Feed.calls) c.args.ins.now) held (map
     (seen g.W.Sink.contents g.W.Sink.calls) c.args.outs.now)) c.args.inputs.now read 0
     0 → IsRound c.args.unit e0 c.loop-k.engine c.round.new.engine (transfer olds (map (seen g.R.Feed.remaining g.R.Feed.calls) c.round.new.ins) held (map
     (seen g.W.Sink.contents g.W.Sink.calls) c.round.new.outs)) c.round.new.inputs c.loop-k.k c.round.result
@@ -63,9 +63,10 @@ gone g c = search rules
 pub round-requires : goal.round-requires
 round-requires g c =
     let inv = c.loop-k.invariant in
+    let start = c.requires.underway in
     let same = ports g (goal.at.round-requires g c).In-loop-k in
     let (now, going) = along g (goal.at.round-requires g c).In-loop-k in
-    let counted = going.run.each ∙ sym c.requires.along.4.run.each ∙ c.requires.counted in
+    let counted = going.run.each ∙ sym c.requires.underway.run.run.each ∙ c.requires.counted in
     let few : length c.loop-k.outs ≤ 8 = omega (arith, inv.outs, c.requires.few) in
     let buf : MAX_RECORD ≤ length c.loop-k.buf = rw inv.buf c.requires.buf in (
       omega arith,
@@ -82,12 +83,8 @@ round-requires g c =
                 (
                   buf,
                   (
-                    c.requires.along.0,
-                    c.requires.along.1,
-                    c.requires.along.2,
-                    now,
                     c.loop-k.k,
-                    going,
+                    record { before = start.before; had = start.had; held = start.held; inputs = now; run = going },
                   ),
                 ),
               ),
@@ -107,8 +104,7 @@ loop-k-preserved g c =
       outs = outs ∙ inv.outs;
       buf = buf ∙ inv.buf;
       goes = λ e0 olds held read start.
-          round_ok c.args.unit e0 c.loop-k.engine c.round.new.engine olds _ held _ c.round.new.inputs c.loop-k.k c.round.result c.in_ok-round.was
-          (went g (goal.at.loop-k-preserved g c).After-round e0 olds held read start);
+          rw c.in_ok-round.was at (went g (goal.at.loop-k-preserved g c).After-round e0 olds held read start);
       readers = readers g (goal.at.loop-k-preserved g c).After-round (Ok tt) c.in_ok-round.was;
       writers = writers g (goal.at.loop-k-preserved g c).After-round (Ok tt) c.in_ok-round.was;
       shown = shown g (goal.at.loop-k-preserved g c).After-round (Ok tt) c.in_ok-round.was;
@@ -117,7 +113,7 @@ loop-k-preserved g c =
 pub returns-then-not-is_any_open-clause-goes : goal.returns-then-not-is_any_open-clause-goes
 returns-then-not-is_any_open-clause-goes g c e0 olds held read start =
     let (now, along) = c.loop-k.invariant.goes e0 olds held read start in
-    went_all c.args.unit e0 c.loop-k.engine olds _ held _ c.loop-k.inputs now c.loop-k.k 0 along (c.if-not-is_any_open.ensures.none refl)
+    went_all along (c.if-not-is_any_open.ensures.none refl)
 
 pub returns-then-not-is_any_open-clause-fared_readers : goal.returns-then-not-is_any_open-clause-fared_readers
 returns-then-not-is_any_open-clause-fared_readers g c = c.loop-k.invariant.readers
@@ -127,8 +123,7 @@ returns-then-not-is_any_open-clause-fared_writers g c = c.loop-k.invariant.write
 
 pub returns-in_err-round-clause-goes : goal.returns-in_err-round-clause-goes
 returns-in_err-round-clause-goes g c e0 olds held read start =
-    rw (gone g c) (round_err c.args.unit e0 c.loop-k.engine c.round.new.engine olds _ held _ c.round.new.inputs c.loop-k.k c.round.result
-    c.in_err-round.field-0.0 c.in_err-round.was (went g (goal.at.returns-in_err-round-clause-goes g c).After-round e0 olds held read start))
+    rw (gone g c) (rw c.in_err-round.was at (went g (goal.at.returns-in_err-round-clause-goes g c).After-round e0 olds held read start))
 
 pub returns-in_err-round-clause-fared_readers : goal.returns-in_err-round-clause-fared_readers
 returns-in_err-round-clause-fared_readers g c =
@@ -141,8 +136,7 @@ returns-in_err-round-clause-fared_writers g c =
 pub returns-clause-goes : goal.returns-clause-goes
 returns-clause-goes g c e0 olds held read start =
     let (now, along) = c.loop-k.invariant.goes e0 olds held read start in
-    went_all c.args.unit e0 c.loop-k.engine olds _ held _ c.loop-k.inputs now c.loop-k.k 0 along
-    (none_left c.args.unit e0 c.loop-k.engine olds _ held _ c.loop-k.inputs now c.loop-k.k along (omega (arith, c.loop-k-test.false)))
+    went_all along (none_left along (omega (arith, c.loop-k-test.false)))
 
 pub returns-clause-fared_readers : goal.returns-clause-fared_readers
 returns-clause-fared_readers g c = c.loop-k.invariant.readers

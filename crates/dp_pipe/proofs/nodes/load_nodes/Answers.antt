@@ -4,13 +4,13 @@ use Rattle.std.proofs.lemmas.List.{length-map}
 use Rattle.std.proofs.lemmas.Result.{err_from_is_err_and}
 use Rattle.dp_pipe.specs.Setup.{NodeFiles}
 use Rattle.dp_pipe.specs.Views.{node_names}
-use Rattle.dp_pipe.specs.Nodes.{Node, node_of, nodes_of}
+use Rattle.dp_pipe.specs.Nodes.{Node, node_of, all_nodes}
 use Rattle.dp_pipe.proofs.Gathered.{one_more, fails_here, how_many, whole}
 use Rattle.dp_pipe.proofs.nodes.load_nodes.Goals as goal
 
 pub returns-in_err-checked-clause-fails : goal.returns-in_err-checked-clause-fails
 returns-in_err-checked-clause-fails g c =
-    let nodes : List Node = nodes_of c.args.how (map (λ port. node_names port.files) c.args.ports.now) (map node_names c.args.rings.now) in
+    let nodes : List Node = all_nodes c.args.how (map (λ port. node_names port.files) c.args.ports.now) (map node_names c.args.rings.now) in
     let node : Node = node_of c.args.how c.node_at-node.result.0 (node_names c.node_at-node.result.1.now) in
     let p = err_from_is_err_and c.from_residual.result c.from_residual.ensures.1 in
     rw (p.1, p.2) (inr (fails_here (g.F.Files.known c.args.files.now) (g.F.Files.known c.loop-index.files) c.args.env.now nodes c.loop-index.index node
@@ -19,7 +19,7 @@ returns-in_err-checked-clause-fails g c =
 
 pub loop-index-preserved : goal.loop-index-preserved
 loop-index-preserved g c =
-    let nodes : List Node = nodes_of c.args.how (map (λ port. node_names port.files) c.args.ports.now) (map node_names c.args.rings.now) in
+    let nodes : List Node = all_nodes c.args.how (map (λ port. node_names port.files) c.args.ports.now) (map node_names c.args.rings.now) in
     let node : Node = node_of c.args.how c.node_at-node.result.0 (node_names c.node_at-node.result.1.now) in
     record {
       stays = c.in_ok-checked.ensures.stays ∙ c.loop-index.invariant.stays;
@@ -33,7 +33,7 @@ pub returns-clause-loaded : goal.returns-clause-loaded
 returns-clause-loaded g c =
     let ports : List NodeFiles = map (λ port. node_names port.files) c.args.ports.now in
     let rings : List NodeFiles = map node_names c.args.rings.now in
-    let many : length (nodes_of c.args.how ports rings) ≤ c.loop-index.index =
+    let many : length (all_nodes c.args.how ports rings) ≤ c.loop-index.index =
     omega (
       arith,
       how_many c.args.how ports rings,
@@ -41,5 +41,5 @@ returns-clause-loaded g c =
       length-map c.args.rings.now node_names,
       c.loop-index-test.false,
     ) in
-    whole (g.F.Files.known c.args.files.now) c.args.env.now (nodes_of c.args.how ports rings) c.loop-index.index c.loop-index.nodes.items many
+    whole (g.F.Files.known c.args.files.now) c.args.env.now (all_nodes c.args.how ports rings) c.loop-index.index c.loop-index.nodes.items many
     c.loop-index.invariant.loaded

@@ -1,12 +1,12 @@
 -- The nodes up to the index are loaded, and the files are known as before.
 use Rattle.std.proofs.Common.{◌≡◌, map, take}
 use Rattle.dp_pipe.specs.Views.{node_names}
-use Rattle.dp_pipe.specs.Nodes.{nodes_of, AreLoaded}
+use Rattle.dp_pipe.specs.Nodes.{all_nodes, AreLoaded}
 use Rattle.dp_pipe.proofs.nodes.load_nodes.Given as goal
 
 abbrev pub invariant-loop-index : goal.invariant-loop-index
 invariant-loop-index g l = record {
   stays : g.F.Files.known l.files ≡ g.F.Files.known l.fn.files;
-  loaded : AreLoaded (g.F.Files.known l.fn.files) l.env (take l.index (nodes_of l.how (map (λ port. node_names port.files) l.ports) (map node_names l.rings)))
+  loaded : AreLoaded (g.F.Files.known l.fn.files) l.env (take l.index (all_nodes l.how (map (λ port. node_names port.files) l.ports) (map node_names l.rings)))
       l.nodes.items;
 }

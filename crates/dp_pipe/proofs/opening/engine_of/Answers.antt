@@ -21,11 +21,12 @@ setting g c =
 pub open-requires : goal.open-requires
 open-requires g c =
     let parts = c.into_parts-env.ensures in
-    let tables : length c.into_parts-env.result.1.items ≡ c.into_parts-env.result.0.tables = rw (parts.env, parts.tables) parts.plan.tables in
-    let nodes : AreNodes c.into_parts-env.result.0 c.into_parts-env.result.2.items =
+    let (env, tables, nodes) = c.into_parts-env.result in
+    let many : length tables.items ≡ env.tables = rw (parts.env, parts.tables) parts.plan.tables in
+    let are : AreNodes env nodes.items =
     rw (parts.env, parts.nodes) (are_nodes c.args.pipeline.env c.args.pipeline.nodes parts.plan.nodes)
     in
-    (omega arith, (c.in-Ok.ensures.1, (tables, nodes)))
+    (omega arith, (c.in-Ok.ensures.1, (many, are)))
 
 pub returns-clause-engine : goal.returns-clause-engine
 returns-clause-engine g c =

@@ -1,5 +1,5 @@
 -- `forward`: headers in, headers out, and all rounds.
-use Rattle.std.proofs.Common.{rules, ◌≡◌, ◌≤◌, ◌∙◌, inl, inr, Err, sym, ap, subst, arith, length, map, drop, refl, false}
+use Rattle.std.proofs.Common.{rules, ◌≡◌, ◌≤◌, ◌∙◌, inl, inr, Err, sym, ap, arith, length, map, drop, refl, false}
 use Rattle.std.proofs.lemmas.List.{length-map}
 use Rattle.dp_pipe.specs.Forwarding.{AreRounds}
 use Rattle.dp_pipe.specs.Running.{all_begun}
@@ -19,9 +19,7 @@ not_written g c = search rules
 
 -- how the readers are after all headers were read
 read : (g : _) (c : In_ok-read_headers g) → AllFared g.R.Feed.is_broken g.R.Feed.failures (λ q. false) c.args.ins.now c.read_headers.new.ins
-read g c =
-    subst (λ x. AllFared g.R.Feed.is_broken g.R.Feed.failures (failed_reader x) c.args.ins.now c.read_headers.new.ins) c.in_ok-read_headers.was
-    c.read_headers.ensures.fared
+read g c = rw c.in_ok-read_headers.was at c.read_headers.ensures.fared
 
 pub returns-in_err-read_headers-clause-forward : goal.returns-in_err-read_headers-clause-forward
 returns-in_err-read_headers-clause-forward g c =
@@ -38,15 +36,13 @@ pub returns-in_err-put_headers-clause-forward : goal.returns-in_err-put_headers-
 returns-in_err-put_headers-clause-forward g c =
     let gone = not_written g (goal.at.returns-in_err-put_headers-clause-forward g c).After-from_residual-in_err-put_headers in
     let here : c.as_slice.result.now ≡ c.read_headers.new.inputs.items = search rules in
-    let stand = c.in_ok-read_headers.ensures.ok in
+    let progress_is = c.in_ok-read_headers.ensures.ok in
     let cause = rw (c.unit_for-unit.ensures, here) at c.in_err-put_headers.ensures.err in
-    rw gone (inl (fail_write c.args.engine.now (map (seen g.R.Feed.remaining g.R.Feed.calls) c.args.ins.now) (map
+    rw gone (inl (fail_write c.args.engine.now (transfer (map (seen g.R.Feed.remaining g.R.Feed.calls) c.args.ins.now) (map
     (seen g.R.Feed.remaining g.R.Feed.calls) c.read_headers.new.ins)
-    (map (seen g.W.Sink.contents g.W.Sink.calls) c.args.outs.now) (map (seen g.W.Sink.contents g.W.Sink.calls) c.put_headers.new.outs)
+    (map (seen g.W.Sink.contents g.W.Sink.calls) c.args.outs.now) (map (seen g.W.Sink.contents g.W.Sink.calls) c.put_headers.new.outs))
     c.read_headers.new.inputs.items c.in_err-put_headers.field-0.0 (c.in_ok-read_headers.ensures.all
-    ∙ c.requires.readers) (are_read (map (seen g.R.Feed.remaining g.R.Feed.calls) c.args.ins.now) (map
-    (seen g.R.Feed.remaining g.R.Feed.calls) c.read_headers.new.ins)
-    c.read_headers.new.inputs.items (all_begun c.read_headers.new.inputs.items) stand)
+    ∙ c.requires.readers) (are_read progress_is)
     c.read_headers.ensures.begun cause))
 
 pub rounds-requires : goal.rounds-requires
@@ -79,13 +75,13 @@ rounds-requires g c =
                 c.requires.counted,
                 (
                   c.requires.buf,
-                  (
-                    c.args.engine.now,
-                    map (seen g.R.Feed.remaining g.R.Feed.calls) c.args.ins.now,
-                    mids,
-                    all_begun c.read_headers.new.inputs.items,
-                    rw here along,
-                  ),
+                  record {
+                    before = c.args.engine.now;
+                    had = map (seen g.R.Feed.remaining g.R.Feed.calls) c.args.ins.now;
+                    held = mids;
+                    inputs = all_begun c.read_headers.new.inputs.items;
+                    run = rw here along;
+                  },
                 ),
               ),
             ),
@@ -130,18 +126,17 @@ returns-clause-forward g c =
 
 pub returns-clause-setting : goal.returns-clause-setting
 returns-clause-setting g c =
-    (stays_rounds c.unit_for-unit.result c.args.engine.now c.rounds.new.engine _ _ _ _ c.rounds.new.inputs c.rounds.result (went g c)).setting
+    (stays_rounds c.unit_for-unit.result c.args.engine.now c.rounds.new.engine _ c.rounds.new.inputs c.rounds.result (went g c)).setting
 
 pub returns-clause-counted : goal.returns-clause-counted
 returns-clause-counted g c =
-    (stays_rounds c.unit_for-unit.result c.args.engine.now c.rounds.new.engine _ _ _ _ c.rounds.new.inputs c.rounds.result (went g c)).each
+    (stays_rounds c.unit_for-unit.result c.args.engine.now c.rounds.new.engine _ c.rounds.new.inputs c.rounds.result (went g c)).each
     ∙ c.requires.counted
 
 pub returns-in_err-read_headers-clause-fared_readers : goal.returns-in_err-read_headers-clause-fared_readers
 returns-in_err-read_headers-clause-fared_readers g c =
     let gone = not_read g (goal.at.returns-in_err-read_headers-clause-fared_readers g c).After-from_residual in
-    subst (λ x. AllFared g.R.Feed.is_broken g.R.Feed.failures (failed_reader x) c.args.ins.now c.read_headers.new.ins) (c.in_err-read_headers.was
-    ∙ sym gone) c.read_headers.ensures.fared
+    rw gone (rw c.in_err-read_headers.was at c.read_headers.ensures.fared)
 
 pub returns-in_err-read_headers-clause-fared_writers : goal.returns-in_err-read_headers-clause-fared_writers
 returns-in_err-read_headers-clause-fared_writers g c =
@@ -158,8 +153,7 @@ returns-in_err-put_headers-clause-fared_readers g c =
 pub returns-in_err-put_headers-clause-fared_writers : goal.returns-in_err-put_headers-clause-fared_writers
 returns-in_err-put_headers-clause-fared_writers g c =
     let gone = not_written g (goal.at.returns-in_err-put_headers-clause-fared_writers g c).After-from_residual-in_err-put_headers in
-    subst (λ x. AllFared g.W.Sink.is_broken g.W.Sink.failures (failed_writer x) c.args.outs.now c.put_headers.new.outs) (c.in_err-put_headers.was
-    ∙ sym gone) c.put_headers.ensures.fared
+    rw gone (rw c.in_err-put_headers.was at c.put_headers.ensures.fared)
 
 pub returns-clause-sound : goal.returns-clause-sound
 returns-clause-sound g c ok =
@@ -180,8 +174,7 @@ returns-clause-fared_readers g c =
 
 pub returns-clause-fared_writers : goal.returns-clause-fared_writers
 returns-clause-fared_writers g c =
-    let written = subst (λ x. AllFared g.W.Sink.is_broken g.W.Sink.failures (failed_writer x) c.args.outs.now c.put_headers.new.outs) c.in_ok-put_headers.was
-    c.put_headers.ensures.fared in
+    let written = rw c.in_ok-put_headers.was at c.put_headers.ensures.fared in
     all_then g.W.Sink.is_broken g.W.Sink.failures (failed_writer c.rounds.result) c.args.outs.now c.put_headers.new.outs c.rounds.new.outs
     c.put_headers.ensures.many written
     (c.rounds.ensures.fared_writers (c.put_headers.ensures.sound (rw c.in_ok-put_headers.was refl)))

@@ -5,7 +5,7 @@ use Rattle.std.proofs.lemmas.Option.{slice_get-get_or}
 use Rattle.dp_pipe.specs.declared.forwarding.RunCause.TheVariants.{In}
 use Rattle.dp_pipe.specs.Devices.{seen, failed_reader}
 use Rattle.dp_pipe.proofs.Faring.{fared_well, all_well, one_then, refused, not_other}
-use Rattle.dp_pipe.proofs.Heading.{ReadFirst, read_more, all_stand, new_all, header_fault}
+use Rattle.dp_pipe.proofs.Heading.{ReadFirst, read_more, all_progress, new_all, header_fault}
 use Rattle.dp_pipe.proofs.running.read_headers.Goals as goal
 
 pub loop-port-preserved : goal.loop-port-preserved
@@ -14,10 +14,7 @@ loop-port-preserved g c =
     record {
       read = subst (ReadFirst (seen g.R.Feed.remaining g.R.Feed.calls) g.R.Feed.failures g.R.Feed.is_broken (c.loop-port.port + 1) c.args.ins.now _)
           (sym c.keep.ensures.items)
-          (read_more (seen g.R.Feed.remaining g.R.Feed.calls) g.R.Feed.failures g.R.Feed.is_broken c.loop-port.port c.args.ins.now c.loop-port.ins
-          c.loop-port.inputs.items
-          (slice_index_or c.loop-port.ins c.loop-port.port c.index-ins-port.result)
-          c.read_header.new.r _ c.loop-port.invariant.read (slice_get-get_or c.loop-port.ins c.loop-port.port c.index-ins-port.result within)
+          (read_more c.read_header.new.r _ c.loop-port.invariant.read (slice_get-get_or c.loop-port.ins c.loop-port.port c.index-ins-port.result within)
           (fared_well g.R.Feed.is_broken g.R.Feed.failures (slice_index_or c.loop-port.ins c.loop-port.port c.index-ins-port.result) c.read_header.new.r
           (search rules) (search rules) (search rules)) (search rules) (search rules)
           (record { has = search rules; calls = c.read_header.ensures.counted }));
@@ -26,19 +23,16 @@ loop-port-preserved g c =
     }
 
 pub returns-clause-ok : goal.returns-clause-ok
-returns-clause-ok g c = all_stand (seen g.R.Feed.remaining g.R.Feed.calls) g.R.Feed.failures g.R.Feed.is_broken c.loop-port.port c.args.ins.now c.loop-port.ins
-    c.loop-port.inputs.items c.loop-port.invariant.read
+returns-clause-ok g c = all_progress c.loop-port.invariant.read
 
 pub returns-clause-sound : goal.returns-clause-sound
-returns-clause-sound g c = λ ok. new_all _ _ c.loop-port.port c.args.ins.now c.loop-port.ins c.loop-port.invariant.read.changed
+returns-clause-sound g c = λ ok. new_all _ c.loop-port.invariant.read.changed
     (omega (arith, c.loop-port-test.false, c.loop-port.auto.port-end)) (λ r r' changed. changed.1)
 
 pub returns-in-Err-clause-err : goal.returns-in-Err-clause-err
 returns-in-Err-clause-err g c =
     let within : c.loop-port.port < length c.loop-port.ins = omega (arith, c.loop-port-test.true, c.loop-port.invariant.read.changed.many) in
-    header_fault (seen g.R.Feed.remaining g.R.Feed.calls) g.R.Feed.failures g.R.Feed.is_broken c.loop-port.port c.args.ins.now c.loop-port.ins
-    c.loop-port.inputs.items
-    (slice_index_or c.loop-port.ins c.loop-port.port c.index-ins-port.result) c.read_header.new.r c.in-Err.error c.loop-port.invariant.read
+    header_fault c.read_header.new.r c.in-Err.error c.loop-port.invariant.read
     (slice_get-get_or c.loop-port.ins c.loop-port.port c.index-ins-port.result within)
     (record { answers = c.in-Err.ensures.answer; calls = c.read_header.ensures.counted })
 

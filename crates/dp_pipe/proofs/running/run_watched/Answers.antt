@@ -1,5 +1,5 @@
 -- `run_watched`: the result, as the laws of runs have it for a pipeline that is ready.
-use Rattle.std.proofs.Common.{◌∙◌, map}
+use Rattle.std.proofs.Common.{◌∙◌}
 use Rattle.std.proofs.lemmas.List.{length-map}
 use Rattle.dp_pipe.specs.Devices.{seen}
 use Rattle.dp_pipe.proofs.Headline.{all_forwarded}
@@ -16,22 +16,13 @@ ready g c =
 
 pub returns-clause-forwarded : goal.returns-clause-forwarded
 returns-clause-forwarded g c =
-    all_forwarded c.args.pipeline c.args.pattern.items (map (seen g.R.Feed.remaining g.R.Feed.calls) c.args.ins.now) (map
-    (seen g.R.Feed.remaining g.R.Feed.calls) c.answer.new.ins)
-    (map (seen g.W.Sink.contents g.W.Sink.calls) c.args.outs.now) (map (seen g.W.Sink.contents g.W.Sink.calls) c.answer.new.outs) c.answer.result
-    (ready g (goal.at.returns-clause-forwarded g c).After-answer) c.answer.ensures.answers
+    all_forwarded c.answer.result (ready g (goal.at.returns-clause-forwarded g c).After-answer) c.answer.ensures.answers
 
 pub returns-clause-stopped : goal.returns-clause-stopped
 returns-clause-stopped g c =
-    all_stopped c.args.pipeline c.args.pattern.items (map (seen g.R.Feed.remaining g.R.Feed.calls) c.args.ins.now) (map
-    (seen g.R.Feed.remaining g.R.Feed.calls) c.answer.new.ins)
-    (map (seen g.W.Sink.contents g.W.Sink.calls) c.args.outs.now) (map (seen g.W.Sink.contents g.W.Sink.calls) c.answer.new.outs) c.answer.result
-    (ready g (goal.at.returns-clause-stopped g c).After-answer) c.requires.pattern
-    (length-map c.args.outs.now (seen g.W.Sink.contents g.W.Sink.calls) ∙ c.requires.writers) c.answer.ensures.answers
+    all_stopped (ready g (goal.at.returns-clause-stopped g c).After-answer) c.requires.pattern
+    (length-map c.args.outs.now (seen g.W.Sink.contents g.W.Sink.calls) ∙ c.requires.writers) c.answer.result c.answer.ensures.answers
 
 pub returns-clause-no_room : goal.returns-clause-no_room
 returns-clause-no_room g c =
-    no_room_so c.args.pipeline c.args.pattern.items (map (seen g.R.Feed.remaining g.R.Feed.calls) c.args.ins.now) (map
-    (seen g.R.Feed.remaining g.R.Feed.calls) c.answer.new.ins)
-    (map (seen g.W.Sink.contents g.W.Sink.calls) c.args.outs.now) (map
-    (seen g.W.Sink.contents g.W.Sink.calls) c.answer.new.outs) c.answer.result c.answer.ensures.answers
+    no_room_so c.answer.result c.answer.ensures.answers

@@ -2,7 +2,6 @@
 use Rattle.std.proofs.Common.{refl, ap, ◌∙◌, arith, inl, inr}
 use Rattle.std.specs.Prelude.{Ok}
 use Rattle.dp_pipe.proofs.Lending.{not_both}
-use Rattle.dp_pipe.proofs.TracedReads.{follows_record, follows_end, follows_cut}
 use Rattle.dp_pipe.proofs.tracing.trace_port.Goals as goal
 
 pub returns-then-not-is_open-clause-step : goal.returns-then-not-is_open-clause-step
@@ -22,8 +21,8 @@ returns-in-Ok-Record-clause-step g c = inr (record {
   pulls = c.trace_next.ensures.counted;
   in_range = c.trace_next.ensures.in_range;
   moves = c.trace_next.ensures.source;
-  follows = follows_record _ _ _ _ _ _ _ _ (c.in-Ok-Record.is ∙ ap Ok c.in-Ok-Record.field-0-is) (c.if-not-is_open.ensures.0 refl) c.flush_lists.ensures
-      (omega (arith, c.if-which-eq0.false));
+  follows = rw (c.in-Ok-Record.is ∙ ap Ok c.in-Ok-Record.field-0-is)
+      (c.if-not-is_open.ensures.0 refl, refl, c.flush_lists.ensures, omega (arith, c.if-which-eq0.false));
 })
 
 pub returns-in-Ok-End-clause-step : goal.returns-in-Ok-End-clause-step
@@ -37,7 +36,7 @@ returns-in-Ok-End-clause-step g c = inr (record {
   pulls = c.trace_next.ensures.counted;
   in_range = c.trace_next.ensures.in_range;
   moves = c.trace_next.ensures.source;
-  follows = follows_end _ _ _ (c.in-Ok-End.is ∙ ap Ok c.in-Ok-End.field-0-is);
+  follows = rw (c.in-Ok-End.is ∙ ap Ok c.in-Ok-End.field-0-is) (refl, refl, refl, refl);
 })
 
 pub returns-in-Ok-Cut-clause-step : goal.returns-in-Ok-Cut-clause-step
@@ -51,5 +50,5 @@ returns-in-Ok-Cut-clause-step g c = inr (record {
   pulls = c.trace_next.ensures.counted;
   in_range = c.trace_next.ensures.in_range;
   moves = c.trace_next.ensures.source;
-  follows = follows_cut _ _ _ _ (c.in-Ok-Cut.is ∙ ap Ok c.in-Ok-Cut.field-0-is);
+  follows = rw (c.in-Ok-Cut.is ∙ ap Ok c.in-Ok-Cut.field-0-is) (refl, refl, refl, refl);
 })

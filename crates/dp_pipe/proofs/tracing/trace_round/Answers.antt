@@ -35,8 +35,7 @@ trace_port-requires g c =
           buf,
           (
             omega (arith, inv.turns, c.requires.limit),
-            open_until _ _ v0 _ _ most e0 _ had _ c.loop-port.inputs k c.loop-port.port _ c.loop-port.port _ (inv.goes v0 e0 most had k until)
-                (input_here g (goal.at.trace_port-requires g c).After-index-ins-k),
+            open_until (inv.goes v0 e0 most had k until) c.loop-port.port (input_here g (goal.at.trace_port-requires g c).After-index-ins-k),
           ),
         ),
       ),
@@ -55,7 +54,7 @@ loop-port-preserved g c =
     let inv = c.loop-port.invariant in
     let t = c.trace_port in
     let after = (goal.at.loop-port-preserved g c).After-trace_port in
-    let (turns, setting) = step_counts _ _ _ _ _ _ _ _ _ _ (seen g.R.Feed.remaining g.R.Feed.calls) _ _ _ _ _ (step g after) in
+    let (turns, setting) = step_counts (seen g.R.Feed.remaining g.R.Feed.calls) (step g after) in
     record {
       inputs = length-set c.loop-port.inputs c.loop-port.port t.new.input ∙ inv.inputs;
       ins = length-set c.loop-port.ins c.loop-port.port t.new.r ∙ inv.ins;
@@ -64,7 +63,7 @@ loop-port-preserved g c =
       turns = turns ∙ inv.turns;
       setting = setting ∙ inv.setting;
       goes = λ v0 e0 most had k until.
-          step_on _ _ _ _ _ _ _ _ _ _ (seen g.R.Feed.remaining g.R.Feed.calls) _ _ _ _ _ (step g after) v0 most e0 had c.loop-port.ins c.loop-port.inputs k
+          step_on (seen g.R.Feed.remaining g.R.Feed.calls) (step g after) c.loop-port.ins
           (inv.goes v0 e0 most had k until) (input_here g (goal.at.loop-port-preserved g c).After-index-ins-k)
           (reader_here g (goal.at.loop-port-preserved g c).After-index-ins-k) c.in-Ok.is;
     }
@@ -72,26 +71,26 @@ loop-port-preserved g c =
 pub returns-in-Err-clause-goes : goal.returns-in-Err-clause-goes
 returns-in-Err-clause-goes g c v0 e0 most had k until =
     let inv = c.loop-port.invariant in
-    step_stops _ _ _ _ _ _ _ _ _ _ (seen g.R.Feed.remaining g.R.Feed.calls) _ _ _ _ _ (step g (goal.at.returns-in-Err-clause-goes g c).After-trace_port)
-    v0 most e0 had c.loop-port.ins c.loop-port.inputs k (inv.goes v0 e0 most had k until)
+    step_stops (seen g.R.Feed.remaining g.R.Feed.calls) (step g (goal.at.returns-in-Err-clause-goes g c).After-trace_port)
+    c.loop-port.ins (inv.goes v0 e0 most had k until)
     (input_here g (goal.at.returns-in-Err-clause-goes g c).After-index-ins-k) (reader_here g (goal.at.returns-in-Err-clause-goes g c).After-index-ins-k)
     c.in-Err.error c.in-Err.is
 
 pub returns-in-Err-clause-turns : goal.returns-in-Err-clause-turns
 returns-in-Err-clause-turns g c =
-    let counts = step_counts _ _ _ _ _ _ _ _ _ _ (seen g.R.Feed.remaining g.R.Feed.calls) _ _ _ _ _
+    let counts = step_counts (seen g.R.Feed.remaining g.R.Feed.calls)
     (step g (goal.at.returns-in-Err-clause-turns g c).After-trace_port) in
     counts.0 ∙ c.loop-port.invariant.turns
 
 pub returns-in-Err-clause-setting : goal.returns-in-Err-clause-setting
 returns-in-Err-clause-setting g c =
-    let counts = step_counts _ _ _ _ _ _ _ _ _ _ (seen g.R.Feed.remaining g.R.Feed.calls) _ _ _ _ _
+    let counts = step_counts (seen g.R.Feed.remaining g.R.Feed.calls)
     (step g (goal.at.returns-in-Err-clause-setting g c).After-trace_port) in
     counts.1 ∙ c.loop-port.invariant.setting
 
 pub returns-clause-goes : goal.returns-clause-goes
 returns-clause-goes g c v0 e0 most had k until =
-    round_over _ _ v0 _ _ most e0 _ had _ c.loop-port.inputs k c.loop-port.port _ (c.loop-port.invariant.goes v0 e0 most had k until)
+    round_over (c.loop-port.invariant.goes v0 e0 most had k until)
     (omega (arith, c.loop-port.invariant.inputs, c.loop-port-test.false, c.requires.inputs, c.requires.ins))
 
 pub loop-port-init : goal.loop-port-init

@@ -4,7 +4,7 @@ use Rattle.std.specs.Prelude.{Err}
 use Rattle.dp_pcap.specs.declared.format.TheConstants.{MAX_RECORD}
 use Rattle.dp_pipe.specs.Devices.{seen}
 use Rattle.dp_pipe.specs.Tracing.{TracesRound, TracesUntil}
-use Rattle.dp_pipe.proofs.TracedReads.{all_traced, none_wanted, round_done, round_stopped}
+use Rattle.dp_pipe.proofs.TracedReads.{all_traced, none_wanted}
 use Rattle.dp_pipe.proofs.tracing.trace_rounds.Goals as goal
 use Rattle.dp_pipe.proofs.tracing.trace_rounds.Goals.{In-loop-k, After-trace_round}
 
@@ -61,22 +61,19 @@ loop-k-preserved g c =
       turns = t.ensures.turns ∙ inv.turns;
       setting = t.ensures.setting ∙ inv.setting;
       goes = λ v0 e0 most had until.
-          round_done _ _ v0 _ _ most e0 _ had _ t.new.inputs c.loop-k.k _ t.result c.in_ok-trace_round.was
-          (went g (goal.at.loop-k-preserved g c).After-trace_round v0 e0 most had until);
+          rw c.in_ok-trace_round.was at (went g (goal.at.loop-k-preserved g c).After-trace_round v0 e0 most had until);
     }
 
 pub returns-then-not-is_any_left-clause-goes : goal.returns-then-not-is_any_left-clause-goes
 returns-then-not-is_any_left-clause-goes g c v0 e0 most had until =
-    all_traced _ _ v0 _ _ most e0 _ had _ c.loop-k.inputs c.loop-k.k 0 _ (c.loop-k.invariant.goes v0 e0 most had until)
+    all_traced (c.loop-k.invariant.goes v0 e0 most had until)
     (rw (← c.loop-k.invariant.only) (c.if-not-is_any_left.ensures.none refl))
 
 pub returns-in_err-trace_round-clause-goes : goal.returns-in_err-trace_round-clause-goes
 returns-in_err-trace_round-clause-goes g c v0 e0 most had until =
-    rw (gone g c) (round_stopped _ _ v0 _ _ most e0 _ had _ c.trace_round.new.inputs c.loop-k.k _ c.trace_round.result c.in_err-trace_round.field-0.0
-    c.in_err-trace_round.was (went g (goal.at.returns-in_err-trace_round-clause-goes g c).After-trace_round v0 e0 most had until))
+    rw (gone g c) (rw c.in_err-trace_round.was at (went g (goal.at.returns-in_err-trace_round-clause-goes g c).After-trace_round v0 e0 most had until))
 
 pub returns-clause-goes : goal.returns-clause-goes
 returns-clause-goes g c v0 e0 most had until =
     let here = c.loop-k.invariant.goes v0 e0 most had until in
-    all_traced _ _ v0 _ _ most e0 _ had _ c.loop-k.inputs c.loop-k.k 0 _ here
-    (none_wanted _ _ v0 _ _ most e0 _ had _ c.loop-k.inputs c.loop-k.k _ here (omega (arith, c.loop-k-test.false)))
+    all_traced here (none_wanted here refl (omega (arith, c.loop-k-test.false)))
