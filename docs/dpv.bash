@@ -18,7 +18,7 @@ _dpv_files() {
     compgen -d -- "$2"
 }
 
-# What may stand where the cursor is, a line each: the command, how many operands are before it, the first of them, the word so far.
+# The words that may come at the cursor, one a line. Arguments: the command, how many operands come before, the first of them, the word so far.
 _dpv_operands() {
     case "$1 $2" in
         "build 0") _dpv_files pkt "$4" ;;
@@ -28,12 +28,13 @@ _dpv_operands() {
         "one 1" | "explain-one 1" | "show-one 1") _dpv_files cert "$4" ;;
         "one 2" | "one 3") _dpv_files pcap "$4" ;;
         "mem 0") compgen -f -- "$4" ;;
+        "library 0") compgen -d -- "$4" ;;
     esac
 }
 
 _dpv() {
     local word="${COMP_WORDS[COMP_CWORD]}" command first= count=0 place begin=1
-    local commands="one check compile infer infer-one explain explain-one show show-one run trace mem help" more=" build --unproved --compiled"
+    local commands="one check compile infer infer-one explain explain-one show show-one run trace mem help" more=" build library --unproved --compiled"
     if ((COMP_CWORD > 1)) && [ "${COMP_WORDS[1]}" = --unproved ]; then
         begin=2 more=
     fi
@@ -59,6 +60,7 @@ _dpv() {
     for ((place = begin + 1; place < COMP_CWORD; place++)); do
         case "${COMP_WORDS[place]}" in
             --in | --out | --no-in | --no-out | --refuse | --records | --port | --only | --instr | =) place=$((place + 1)) ;;
+            --counts) [ "$command" != show ] || place=$((place + 1)) ;;
             -*) ;;
             *)
                 [ "$count" -gt 0 ] || first="${COMP_WORDS[place]}"

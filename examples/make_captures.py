@@ -43,7 +43,7 @@ class Ip:
 
 @dataclass(frozen=True)
 class Frame:
-    """An Ethernet frame with its tags, each a number of 16 bits behind the type 0x8100."""
+    """An Ethernet frame with its tags, each a number of 16 bits after the type 0x8100."""
 
     payload: object
     kind: int = 0x0800
