@@ -60,7 +60,7 @@ pub(crate) fn clone_of(
     branch(!m.clone_of(env, pattern, into, from, pool), refused, label)
 }
 
-// Moves a packet to a queue, or goes to the label if that is full.
+// Moves a packet to a queue, or goes to the label if that is full. The environment is for the contract, which names the size of the queue.
 #[inline(always)]
 pub(crate) fn leave(
     m: &mut Machine,

@@ -156,7 +156,7 @@ pub record PassTaken (old new : EngineState) (port time : ℕ) (frame : List ℕ
   pub serves : (p : Plan) (calls : List Call) → HasServedCalls p calls old →
       HasServedCalls p (calls ++ record { port = port; time = time; bytes = frame; sent = sent } ∷ []) new
 
--- what a pass returns: a turn's outcome; or why it was refused, and nothing changes
+-- what a pass returns: a turn's outcome; or why it was refused, and then only the batch changes: it is empty
 abbrev pub PassAnswers : Option EngineState → Refusal → Option EngineState → ℕ → ℕ → List ℕ → Arrays → Arrays → Room → ℕ → Type 0
 PassAnswers (Some engine) missing (Some engine') port time frame old new filled n =
     PassTaken engine engine' port time frame old new filled n

@@ -39,7 +39,7 @@ traced_none sees noted v only e = record {
   turns = omega arith;
 }
 
--- a record more, after which all transmit lists are first_emptied
+-- a record more, after which all transmit lists are empty
 pub traced_push : {V : Type 0} {sees : V → Event → V → Type 0} {noted : V → Note → V → Type 0} {v0 v v' : V} {only : Option ℕ} {count : ℕ}
     {e0 e e' : EngineState} {port : ℕ} {time : Time} (h : HasTraced sees noted v0 v only count e0 e) (r : TracesRead sees noted v v' port time e e')
     → IsTraced only port

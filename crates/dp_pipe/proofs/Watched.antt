@@ -51,7 +51,7 @@ no_difference e = record {
   turns = refl;
 }
 
--- a turn, after which all transmit lists are first_emptied
+-- a turn, after which all transmit lists are empty
 shown_turn : {V : Type 0} (sees : V → Event → V → Type 0) (v v' : V) (port : ℕ) (time : Time) (e mid e' : EngineState)
     → TracesRead sees unnoted v v' port time e mid → e'.world ≡ with_empty_outboxes mid.world → e'.setting ≡ mid.setting → e'.nodes ≡ mid.nodes
     → e'.turns ≡ mid.turns → HasShown sees v v' e e'

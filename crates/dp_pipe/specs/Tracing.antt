@@ -149,7 +149,7 @@ TracesNext sees noted v v' port before after source source' a b answer =
     (bytes : List ℕ) × WhereKnown a b (λ left rest. Continues source source' left rest bytes answer)
     × TracesBytes sees noted v v' port before after bytes answer
 
--- what follows: after a record all transmit lists are first_emptied, and one record fewer is wanted
+-- what follows: after a record all transmit lists are empty, and one record fewer is wanted
 abbrev pub FollowsTraced : EngineState → EngineState → InputState → ℕ → ℕ → Result Next PcapError → Result ⊤ PcapError → Type 0
 FollowsTraced before after state wanted wanted' (Ok (Record time len)) answer =
     (state ≡ Open) × (answer ≡ Ok tt) × (after ≡ record before { world = with_empty_outboxes before.world }) × (wanted' + 1 ≡ wanted)
