@@ -39,7 +39,13 @@ enum dpv_answer {
     DPV_NO_RING = 20,         /* no such ring */
     DPV_TOO_LONG = 21,        /* the frame has more than DPV_MAX_FRAME bytes */
     DPV_NO_TURNS = 22,        /* the engine has taken DPV_MAX_TURNS frames */
-    DPV_BATCH_TOO_SMALL = 23  /* the batch is smaller than dpv_batch_size says */
+    DPV_BATCH_TOO_SMALL = 23, /* the batch is smaller than dpv_batch_size says */
+    DPV_NO_TABLE = 24,        /* no such table */
+    DPV_BAD_DEPTH = 25,       /* the depth is not 1 to 32 */
+    DPV_BAD_HOP = 26,         /* the hop is above 16777215 */
+    DPV_RULES_FULL = 27,      /* the table has as many routes as it was made for */
+    DPV_GROUPS_FULL = 28,     /* the route is deeper than 24 bits, and no group is left for it */
+    DPV_NO_RULE = 29          /* the table has no such route */
 };
 
 #define DPV_MAX_FRAME 262144u                           /* bytes of a frame */
@@ -97,6 +103,14 @@ struct dpv_ring_stats {
     uint64_t waiting;
 };
 
+/* A route of a table; addresses are numbers, as 0x0a010203 for 10.1.2.3. */
+struct dpv_route {
+    uint32_t ip;   /* bits below the depth are ignored */
+    uint32_t hop;  /* a deletion ignores it */
+    uint8_t table;
+    uint8_t depth;
+};
+
 /* The counts of a closed engine. */
 struct dpv_totals {
     uint64_t turns; /* frames that were passed in */
@@ -122,6 +136,10 @@ uint32_t dpv_batch_size(dpv_t *engine, struct dpv_batch_size *size);
 uint32_t dpv_port(dpv_t *engine, uint32_t port, struct dpv_port_stats *stats);
 uint32_t dpv_pool(dpv_t *engine, uint32_t pool, struct dpv_pool_stats *stats);
 uint32_t dpv_ring(dpv_t *engine, uint32_t ring, struct dpv_ring_stats *stats);
+/* Change a route of a table, between two passes: the next pass has the change. `route` is only read. DPV_OK, DPV_NOT_OPEN, DPV_CLOSED, DPV_NO_TABLE,
+   DPV_BAD_DEPTH; of an addition DPV_BAD_HOP, DPV_RULES_FULL, DPV_GROUPS_FULL; of a deletion DPV_NO_RULE. */
+uint32_t dpv_add_route(dpv_t *engine, struct dpv_route *route);
+uint32_t dpv_delete_route(dpv_t *engine, struct dpv_route *route);
 /* Ends the engine: frees the packets in rings, so each pool has all its buffers, each once, and frees the region's memory. All later calls
    but dpv_why return DPV_CLOSED. DPV_OK, DPV_NOT_OPEN or DPV_CLOSED. */
 uint32_t dpv_close(dpv_t *engine, struct dpv_totals *totals);

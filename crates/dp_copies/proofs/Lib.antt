@@ -28,4 +28,5 @@ pub mod TwoClonesStates
 pub mod TwoClonesSteps
 pub mod Unchanged
 pub mod WholeRuns
+pub mod WholeUses
 pub mod Writes

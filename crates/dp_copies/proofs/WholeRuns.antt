@@ -30,7 +30,7 @@ drains {T} time run o outcome x z records more captures turn drained rest are =
     ∙ (ap (λ r. Some (joined r more, z)) drained ∙ ap (λ cs. Some (cs, z)) (sym are)))
 
 -- each record in turn
-run_lands : {T : Type 0} (c : Setting) (nodes : Nodes) (arrivals : List (Arrival T)) (w w' : World) (later : List Bool) (shown : Observed T)
+pub run_lands : {T : Type 0} (c : Setting) (nodes : Nodes) (arrivals : List (Arrival T)) (w w' : World) (later : List Bool) (shown : Observed T)
     (x : CopyState) → HaveRoom c.env → IsInside c (between w) → Shows c.env.pools w (shown.answers ++ later) x → Run c nodes arrivals w shown w' →
     Lands c w' later (λ fuel. copy_run c.env c.tables fuel nodes arrivals x) (λ t. (shown.captures, t))
 run_lands {T} c nodes [] w w' later shown x rooms well shows (none, is) =

@@ -1,2 +1,3 @@
+pub mod CopiedUses
 pub mod Seen
 pub mod TwoClones

@@ -11,6 +11,8 @@ ghost use Rattle.dp_model.specs.Runs.{Nodes, Arrival, Receives, Observed, Run};
 ghost use Rattle.dp_model.specs.Starts.{IsStart};
 ghost use Rattle.dp_model.specs.Copies.{copy_of};
 ghost use Rattle.dp_model.specs.CopyMachine.{Captures};
+ghost use Rattle.dp_model.specs.Uses.{Stretch, Uses};
+ghost use Rattle.dp_copies.specs.CopiedUses.{Shown};
 ghost use Rattle.dp_copies.specs.Seen.{IsQueued, IsBeside};
 
 /// Clones are copies: a whole run over shared buffers in which no node run is stuck has the captures, and the number of cuts, of the machine in which
@@ -51,4 +53,11 @@ pub fn writes_are_not_seen()
         (received : Receives setting program port spec bytes w answers w') (packet : Packet) →
         IsQueued w packet →
         copy_of setting.env.pools received.reception.buffers packet ≡ copy_of setting.env.pools w.buffers packet }
+{}
+
+/// Clones are copies in uses in stretches, between which the routes of the tables change: in each stretch the machine of copies, with the routes of
+/// that stretch, has the captures that the stretch showed, given the same answers to allocation calls, and the same number of cuts in all.
+pub fn uses_are_copied<T>()
+    ensures { (setting : Setting) (nodes : Nodes) (stretches : List (Stretch T)) (w w' : World) →
+        fault_of setting.env ≡ None → IsStart setting.env w → Uses setting nodes stretches w w' → Shown setting.env nodes stretches w'.cuts }
 {}

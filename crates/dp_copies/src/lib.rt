@@ -15,5 +15,6 @@ mod laws;
 
 pub use examples::two_clones_in_both_machines;
 pub use laws::{
-    buffers_are_not_seen, clones_are_copies, copies_are_deterministic, writes_are_not_seen,
+    buffers_are_not_seen, clones_are_copies, copies_are_deterministic, uses_are_copied,
+    writes_are_not_seen,
 };

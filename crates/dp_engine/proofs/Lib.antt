@@ -38,6 +38,7 @@ pub mod Writing
 pub mod Resting
 pub mod Emptied
 pub mod Reporting
+pub mod Retabling
 pub mod Served
 pub mod Turning
 pub mod Batches

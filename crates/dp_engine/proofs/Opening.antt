@@ -118,6 +118,7 @@ module _ (home : Home) (size : ℕ) (env : Environment) (memory : EngineMemoryVi
       → IsOpened home size env tables questions (engine_of (scheme_of env tables questions []) core memory 0 (replicate 8 no_tallies) (replicate 8 0))
   is_opened tables questions = record {
     setting = refl;
+    tables_are = refl;
     nodes = refl;
     start = starts;
     turns = refl;

@@ -24,10 +24,11 @@ use Rattle.dp_engine.specs.Serving.{Rests}
 use Rattle.dp_engine.specs.Memories.{EngineMemoryView}
 use Rattle.dp_engine.specs.Tallies.{counted, packet_count}
 
--- an engine as contracts see it: what never changes, its programs, its world, its counts for each port and each ring (eight slots, the first of them
--- in use), and its region
+-- an engine as contracts see it: its setting, its tables with their sizes, its programs, its world, its counts for each port and each ring
+-- (eight slots, the first of them in use), and its region
 pub record EngineState : Type 0 where
   pub setting : Setting
+  pub tables : List RouteTable
   pub nodes : Nodes
   pub world : World
   pub turns : ℕ
@@ -39,6 +40,7 @@ pub record EngineState : Type 0 where
 abbrev pub engine_of : Scheme → Core → EngineMemoryView → ℕ → List Tallies → List ℕ → EngineState
 engine_of s core memory turns tallies left = record {
   setting = s.setting;
+  tables = s.tables;
   nodes = s.nodes;
   world = core.state.world;
   turns = turns;
@@ -98,6 +100,7 @@ no_tallies = record { received = 0; nobuf = 0; oversize = 0; sent = 0 }
 -- an engine before its first turn, in a region of this size: no call is refused, there are no packets, and all counts are 0
 pub record IsOpened (home : Home) (size : ℕ) (env : Environment) (tables : List RouteTable) (questions : List Question) (engine : EngineState) : Type 0 where
   pub setting : engine.setting ≡ (scheme_of env tables questions []).setting
+  pub tables_are : engine.tables ≡ tables
   pub nodes : engine.nodes ≡ (scheme_of env tables questions []).nodes
   pub start : IsStart env engine.world
   pub turns : engine.turns ≡ 0

@@ -13,6 +13,7 @@ pub mod Needs
 pub mod Outcomes
 pub mod Queues
 pub mod Reports
+pub mod Rerouting
 pub mod Schemes
 pub mod Serving
 pub mod Shapes

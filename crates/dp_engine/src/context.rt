@@ -1,15 +1,21 @@
 //! The read-only context of node runs: an environment, its tables, a checked program for each port and each ring, and the pattern of refused calls.
-ghost use Rattle.std.specs.Prelude.{◌≡◌, ◌+◌, ◌<◌, ◌≤◌, [], drop, length, slice_get, take, Some};
+ghost use Rattle.std.specs.Prelude.{◌≡◌, ◌+◌, ◌<◌, ◌≤◌, [], drop, length, slice_get, option_and_then, take, Some, IfErr, OnOk};
 ghost use Rattle.std.specs.List.{AllByRecursion};
 ghost use Rattle.dp_check.specs.Faults.{IsChecked};
 ghost use Rattle.dp_lang.specs.Programs.{IsProgram};
 ghost use Rattle.dp_model.specs.Safety.{IsPipeline, KeepsSafe};
 ghost use Rattle.dp_model.specs.Meaning.{TablesFit};
+ghost use Rattle.dp_model.specs.Prefixes.{hop_for};
+ghost use Rattle.dp_lpm.specs.Changes.{AddsRoute, DeletesRoute};
+ghost use Rattle.dp_lpm.specs.Faults.{add_fault, delete_fault};
+ghost use Rattle.dp_lpm.specs.Routes.{RouteTable};
+ghost use Rattle.dp_engine.specs.Rerouting.{RefusesRoute, IsRetabled};
 ghost use Rattle.dp_engine.specs.Steps.{routes_of};
 ghost use Rattle.dp_engine.specs.Schemes.{scheme_of, programs_of, AreNodes};
 
 use crate::known::Known;
 use crate::node::Node;
+use crate::rerouting::RouteFault;
 use arrayvec::ArrayVec;
 use dp_check::Checked;
 use dp_lpm::{Lpm, Tables};
@@ -131,5 +137,51 @@ impl<K: Known> Context<K> {
         ensures program { IsProgram result.now }
     {
         &self.rings[usize::from(ring)]
+    }
+
+    // Adds a route to a table.
+    pub(crate) fn add_route(
+        &mut self,
+        table: u8,
+        ip: u32,
+        depth: u8,
+        hop: u32,
+    ) -> Result<(), RouteFault>
+        ensures kept { IsRetabled self.old self.new }
+        ensures ok { OnOk result (AddsRoute table ip depth hop self.old.tables self.new.tables) }
+        ensures err { IfErr result (λ why. RefusesRoute (λ t. add_fault t ip depth hop) table self.old.tables why × (self.new ≡ self.old)) }
+    {
+        if usize::from(table) >= self.tables.count() {
+            return Err(RouteFault::NoTable);
+        }
+        match self.tables.add(table, ip, depth, hop) {
+            Ok(()) => Ok(()),
+            Err(error) => Err(RouteFault::Refused(error)),
+        }
+    }
+
+    // Deletes a route of a table.
+    pub(crate) fn delete_route(&mut self, table: u8, ip: u32, depth: u8) -> Result<(), RouteFault>
+        ensures kept { IsRetabled self.old self.new }
+        ensures ok { OnOk result (DeletesRoute table ip depth self.old.tables self.new.tables) }
+        ensures err { IfErr result (λ why. RefusesRoute (λ t. delete_fault t ip depth) table self.old.tables why × (self.new ≡ self.old)) }
+    {
+        if usize::from(table) >= self.tables.count() {
+            return Err(RouteFault::NoTable);
+        }
+        match self.tables.delete(table, ip, depth) {
+            Ok(()) => Ok(()),
+            Err(error) => Err(RouteFault::Refused(error)),
+        }
+    }
+
+    // The hop of a table for an address, if the table exists.
+    pub(crate) fn route(&self, table: u8, ip: u32) -> Option<u32>
+        ensures { result ≡ option_and_then (λ (t : RouteTable). hop_for t.routes ip) (slice_get self.now.tables table) }
+    {
+        if usize::from(table) >= self.tables.count() {
+            return None;
+        }
+        self.tables.lookup(table, ip)
     }
 }

@@ -10,6 +10,7 @@ ghost use Rattle.dp_engine.specs.Memories.{IsOneFree};
 mod drains;
 mod pass;
 mod reporting;
+mod routes;
 mod turns;
 
 use crate::context::Context;

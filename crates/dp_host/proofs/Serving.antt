@@ -1,35 +1,38 @@
--- What an engine has served is a run of its pipeline, pass by pass, and the promise holds of such runs.
-use Rattle.std.proofs.Common.{◌≡◌, ℕ, ◌+◌, ◌-◌, ◌≤◌, Bool, List, [], ◌∷◌, ◌++◌, length, map, replicate, None, refl, sym, ◌∙◌, ap}
-use Rattle.std.proofs.Common.{subst, arith, length-append}
+-- What an engine has served is a use of its pipeline, event by event, and the promise holds of such uses.
+use Rattle.std.proofs.Common.{◌≡◌, ℕ, zero, suc, ◌+◌, ◌≤◌, Bool, List, [], ◌∷◌, ◌++◌, length, map, replicate, None, refl, sym, ◌∙◌, ap, subst, arith}
 use Rattle.std.specs.Prelude.{true}
-use Rattle.std.specs.List.{fold}
-use Rattle.std.proofs.lemmas.List.{map-append}
-use Rattle.std.proofs.lemmas.List.Sums.{fold-append}
+use Rattle.std.proofs.lemmas.List.{append-nil, length-map}
+use Rattle.dp_lpm.specs.Routes.{RouteTable}
 use Rattle.dp_model.specs.declared.env.PoolSpec.{PoolSpec}
 use Rattle.dp_model.specs.Buffers.{Number, Buffers}
 use Rattle.dp_model.specs.Environments.{fault_of, count_at}
 use Rattle.dp_model.specs.Machine.{Setting, World, live}
 use Rattle.dp_model.specs.Meaning.{TablesFit}
 use Rattle.dp_model.specs.Packets.{Packet, available, is_free, packet_bytes}
-use Rattle.dp_model.specs.Runs.{Arrival, Nodes, Run, Observed, WholeRun, between, drained, joined, left_in_rings, records_at, with_empty_outboxes}
-use Rattle.dp_model.specs.Runs.{with_empty_rings}
-use Rattle.dp_model.specs.Safety.{IsPipeline, KeepsRunsSafe}
+use Rattle.dp_model.specs.Runs.{Nodes, Run, Outcome, Observed, between, drained, joined, records_at, with_empty_outboxes, with_empty_rings}
+use Rattle.dp_model.specs.Runs.{Turn as IsTurn}
+use Rattle.dp_model.specs.Safety.{IsPipeline}
 use Rattle.dp_model.specs.Starts.{IsStart}
-use Rattle.dp_model.specs.CopyMachine.{Captures}
+use Rattle.dp_model.specs.Uses.{Stretch, Uses, AllFit, KeepsUsesSafe, with_tables}
 use Rattle.dp_model.specs.Laws.Limits.{numbers_known, numbers_pass}
-use Rattle.dp_model.specs.Laws.Runs.{run_push, safe_never_stuck}
+use Rattle.dp_model.specs.Laws.Runs.{safe_never_stuck}
+use Rattle.dp_copies.specs.CopiedUses.{Shown}
 use Rattle.dp_engine.specs.Batches as batches
-use Rattle.dp_engine.specs.Batches.{Frame, Holds, Passes, frame_of, frames_in, all_drained}
+use Rattle.dp_engine.specs.Batches.{Frame, Holds, Passes, frame_of, frames_in}
 use Rattle.dp_engine.specs.declared.batch.BatchSize.{BatchSize}
 use Rattle.dp_engine.specs.declared.batch.SentRecord.{SentRecord}
 use Rattle.dp_engine.specs.declared.engine.Turn.{Turn}
 use Rattle.dp_engine.specs.Engines.{EngineState}
 use Rattle.dp_engine.specs.Laws.{plan_of}
 use Rattle.dp_engine.specs.Outcomes.{outcome_of}
+use Rattle.dp_engine.specs.Rerouting as rerouting
+use Rattle.dp_engine.specs.Schemes.{IsScheme, scheme_of}
+use Rattle.dp_engine.specs.Steps.{routes_of}
 use Rattle.dp_pipe.specs.Pipelines.{Plan, IsPlan}
 use Rattle.dp_pipe.specs.Running.{IsFirst, setting_in, programs_in}
 use Rattle.dp_pipe.specs.Laws.{are_nodes, all_checked}
-use Rattle.dp_host.specs.Calls.{Call, HasServedCalls, Promised, arrival_of, arrivals_of_calls, captures_of, frames_by_port, sent_in, timed}
+use Rattle.dp_host.specs.Calls.{Call, Change, Event, Passed, Changed, Changes, HasServedCalls, Promised, arrival_of, frames_by_port, sent_in, stretch_of}
+use Rattle.dp_host.specs.Calls.{stretches_of, tables_after, timed}
 
 -- ---- what is sent
 
@@ -55,70 +58,124 @@ pub batch_is : (time : ℕ) (w : World) (records : List SentRecord) (bytes : Lis
     → Holds time (frames_by_port 0 (sent_in w)) records bytes filled
 batch_is time w records bytes filled holds = subst (λ frames. Holds time frames records bytes filled) (lists_are 0 w.buffers w.outboxes) holds
 
--- ---- calls
+-- ---- events
+
+-- a pipeline's context
+ready : (p : Plan) → IsPlan p → IsScheme (scheme_of p.env p.tables p.nodes [])
+ready p plan = plan_of p.env p.tables p.nodes [] plan.limits (are_nodes p.env p.nodes plan.nodes) plan.tables (all_checked p.env p.nodes plan.nodes) plan.hops
 
 pub first_served : (p : Plan) (e : EngineState) → IsPlan p → IsFirst p [] e → HasServedCalls p [] e
 first_served p e plan is = record {
   plan = plan;
   first = e;
   is_first = is;
-  setting = refl;
-  nodes = refl;
+  setting = is.setting ∙ ap (λ (ts : List RouteTable). with_tables (routes_of ts) (setting_in p [])) (sym is.tables_are);
+  tables = is.tables_are;
+  nodes = is.nodes;
   turns = is.turns;
-  answers = [];
-  outcomes = [];
-  run = (ap (λ n. record { answers = []; outcomes = []; captures = replicate n [] }) (sym (ap (λ (s : Setting). length s.env.ports) is.setting)), refl);
+  changes = tt;
+  fits = subst TablesFit (sym is.setting) (ready p plan).tables_fit;
+  all_fit = tt;
+  uses = refl;
 }
 
-captures_push : (ports : ℕ) (calls : List Call) (c : Call) → captures_of ports (calls ++ c ∷ []) ≡ joined (captures_of ports calls) (timed c)
-captures_push ports calls c = fold-append (λ (captures : List (List (ℕ × List ℕ))) (x : Call). joined captures (timed x)) (replicate ports []) calls (c ∷ [])
+none_after : {A : Type 0} (n : ℕ) (xs : List (List A)) → length xs ≡ n → joined xs (replicate n []) ≡ xs
+none_after zero [] is = refl
+none_after zero (x ∷ xs) is = absurd (omega (arith, is))
+none_after (suc n) [] is = absurd (omega (arith, is))
+none_after {A} (suc n) (x ∷ xs) is = ap (λ (y : List A). y ∷ joined xs (replicate n [])) (append-nil x)
+    ∙ ap (λ (ys : List (List A)). x ∷ ys) (none_after n xs (omega (arith, is)))
 
-pub served_more : (p : Plan) (calls : List Call) (old new : EngineState) (port : ℕ) (frame : List ℕ) (turn : Turn) (time : ℕ) (records : List SentRecord)
-    (bytes : List ℕ) (filled : BatchSize) (pass : Passes old new port frame turn time records bytes filled)
-    → HasServedCalls p calls old → HasServedCalls p (calls ++ record { port = port; time = time; bytes = frame; sent = sent_in pass.mid.world } ∷ []) new
-served_more p calls old new port frame turn time records bytes filled pass was =
-    let c : Call = record { port = port; time = time; bytes = frame; sent = sent_in pass.mid.world } in
+-- a turn and the drains are a run of one record
+run_once : (s : Setting) (nodes : Nodes) (c : Call) (w mid : World) (runs : ℕ) → IsTurn s nodes c.port c.bytes w c.outcome runs c.answers mid
+    → length mid.outboxes ≡ length s.env.ports → c.sent ≡ sent_in mid
+    → Run s nodes (arrival_of c ∷ []) w (record { answers = c.answers; outcomes = c.outcome ∷ []; captures = timed c }) (with_empty_outboxes mid)
+run_once s nodes c w mid runs turn long sent =
+    let ports = length s.env.ports in
+    let records = records_at c.time mid in
+    let captures : timed c ≡ joined records (replicate ports []) =
+    timed_is c mid sent ∙ sym (none_after ports records (length-map mid.outboxes _ ∙ long)) in
+    let answers : c.answers ≡ c.answers ++ [] = sym (append-nil c.answers) in (
+      c.outcome,
+      c.answers,
+      runs,
+      mid,
+      record { answers = []; outcomes = []; captures = replicate ports [] },
+      turn,
+      (refl, refl),
+      (λ i. record { answers = answers i; outcomes = c.outcome ∷ []; captures = captures i }),
+    )
+
+pub served_more : (p : Plan) (events : List Event) (old new : EngineState) (port : ℕ) (frame : List ℕ) (turn : Turn) (time : ℕ) (records : List SentRecord)
+    (bytes : List ℕ) (filled : BatchSize) (pass : Passes old new port frame turn time records bytes filled) → HasServedCalls p events old
+    → HasServedCalls p (Passed (record {
+      port = port;
+      time = time;
+      bytes = frame;
+      outcome = outcome_of turn.outcome;
+      answers = pass.turn_is.turn.0;
+      sent = sent_in pass.mid.world;
+    }) ∷ events) new
+served_more p events old new port frame turn time records bytes filled pass was =
     let mid = pass.mid in
     let t = pass.turn_is in
     let (answers, turned) = t.turn in
-    let shown : Observed ℕ = record { answers = was.answers; outcomes = was.outcomes; captures = captures_of (length p.env.ports) calls } in
+    let c : Call = record {
+      port = port;
+      time = time;
+      bytes = frame;
+      outcome = outcome_of turn.outcome;
+      answers = answers;
+      sent = sent_in mid.world;
+    } in
+    let now : Setting = with_tables (routes_of (tables_after p.tables events)) (setting_in p []) in
+    let is_now : old.setting ≡ now = was.setting ∙ ap (λ (ts : List RouteTable). with_tables (routes_of ts) (setting_in p [])) was.tables in
+    let tables : new.tables ≡ old.tables = ap (λ (e : EngineState). e.tables) pass.new_is ∙ ap (λ (e : EngineState). e.tables) t.rest in
     let same : mid.setting ≡ old.setting = ap (λ (e : EngineState). e.setting) t.rest in
-    let long : length mid.world.outboxes ≡ length old.setting.env.ports = t.lists ∙ ap (λ (s : Setting). length s.env.ports) same in
-    let pushed = run_push old.setting old.nodes (arrivals_of_calls calls) (arrival_of c) was.first.world old.world mid.world shown
-    (outcome_of turn.outcome) turn.runs
-    answers long was.run turned in
     let setting : new.setting ≡ old.setting = ap (λ (e : EngineState). e.setting) pass.new_is ∙ same in
     let nodes : new.nodes ≡ old.nodes = ap (λ (e : EngineState). e.nodes) pass.new_is ∙ ap (λ (e : EngineState). e.nodes) t.rest in
     let world : with_empty_outboxes mid.world ≡ new.world = sym (ap (λ (e : EngineState). e.world) pass.new_is) in
-    let captures : joined (captures_of (length p.env.ports) calls) (records_at time mid.world) ≡ captures_of (length p.env.ports) (calls ++ c ∷ []) =
-    ap (joined (captures_of (length p.env.ports) calls)) (sym (timed_is c mid.world refl)) ∙ sym (captures_push (length p.env.ports) calls c) in
-    let arrivals : arrivals_of_calls calls ++ arrival_of c ∷ [] ≡ arrivals_of_calls (calls ++ c ∷ []) = sym (map-append arrival_of calls (c ∷ [])) in
-    let with_captures : List (List (ℕ × List ℕ)) → Observed ℕ =
-    λ l. record { answers = was.answers ++ answers; outcomes = was.outcomes ++ outcome_of turn.outcome ∷ []; captures = l } in
-    let more : Observed ℕ = with_captures (joined (captures_of (length p.env.ports) calls) (records_at time mid.world)) in
-    let now : Observed ℕ → Type 0 = λ s. Run new.setting new.nodes (arrivals_of_calls (calls ++ c ∷ [])) was.first.world s new.world in
+    let long : length mid.world.outboxes ≡ length now.env.ports = t.lists ∙ ap (λ (s : Setting). length s.env.ports) (same ∙ is_now) in
+    let turn_now : IsTurn now (programs_in p) port frame old.world (outcome_of turn.outcome) turn.runs answers mid.world =
+    subst (λ (s : Setting). IsTurn s (programs_in p) port frame old.world (outcome_of turn.outcome) turn.runs answers mid.world) is_now
+    (subst (λ (n : Nodes). IsTurn old.setting n port frame old.world (outcome_of turn.outcome) turn.runs answers mid.world) was.nodes turned) in
+    let run = run_once now (programs_in p) c old.world mid.world turn.runs turn_now long refl in
     record {
       plan = was.plan;
       first = was.first;
       is_first = was.is_first;
-      setting = setting ∙ was.setting;
+      setting = setting ∙ (was.setting ∙ ap (λ (ts : List RouteTable). with_tables (routes_of ts) (setting_in p [])) (sym tables));
+      tables = tables ∙ was.tables;
       nodes = nodes ∙ was.nodes;
-      turns = omega (
-        arith,
-        was.turns,
-        ap (λ (e : EngineState). e.turns) t.rest,
-        ap (λ (e : EngineState). e.turns) pass.new_is,
-        length-append calls (c ∷ []),
+      turns = omega (arith, was.turns, ap (λ (e : EngineState). e.turns) t.rest, ap (λ (e : EngineState). e.turns) pass.new_is);
+      changes = was.changes;
+      fits = subst TablesFit (sym setting) was.fits;
+      all_fit = (subst TablesFit is_now was.fits, was.all_fit);
+      uses = (
+        old.world,
+        was.uses,
+        subst (λ (w : World). Run now (programs_in p) (arrival_of c ∷ []) old.world (stretch_of (tables_after p.tables events) c).shown w)
+            world run,
       );
-      answers = was.answers ++ answers;
-      outcomes = was.outcomes ++ outcome_of turn.outcome ∷ [];
-      run = subst now (ap with_captures captures)
-          (subst (λ w. Run new.setting new.nodes (arrivals_of_calls (calls ++ c ∷ [])) was.first.world more w) world
-          (subst (λ a. Run new.setting new.nodes a was.first.world more (with_empty_outboxes mid.world)) arrivals
-          (subst (λ s. Run s new.nodes (arrivals_of_calls calls ++ arrival_of c ∷ []) was.first.world more (with_empty_outboxes mid.world)) (sym setting)
-          (subst (λ n. Run old.setting n (arrivals_of_calls calls ++ arrival_of c ∷ []) was.first.world more (with_empty_outboxes mid.world))
-          (sym nodes) pushed))));
     }
+
+-- a change of a route is one event more
+pub served_changed : (p : Plan) (events : List Event) (old new : EngineState) (change : Change) → new ≡ rerouting.with_tables new.tables old
+    → TablesFit new.setting → Changes change old.tables new.tables → HasServedCalls p events old → HasServedCalls p (Changed change new.tables ∷ events) new
+served_changed p events old new change rest fits changed was = record {
+  plan = was.plan;
+  first = was.first;
+  is_first = was.is_first;
+  setting = ap (λ (e : EngineState). e.setting) rest ∙ ap (with_tables (routes_of new.tables)) was.setting;
+  tables = refl;
+  nodes = ap (λ (e : EngineState). e.nodes) rest ∙ was.nodes;
+  turns = ap (λ (e : EngineState). e.turns) rest ∙ was.turns;
+  changes = (subst (λ (ts : List RouteTable). Changes change ts new.tables) was.tables changed, was.changes);
+  fits = fits;
+  all_fit = was.all_fit;
+  uses = subst (λ (w : World). Uses (setting_in p []) (programs_in p) (stretches_of p.tables events) was.first.world w)
+      (sym (ap (λ (e : EngineState). e.world) rest)) was.uses;
+}
 
 -- a pipeline has few ports and rings
 pub few : (p : Plan) → IsPlan p → (length p.env.ports ≤ 8) × (length p.env.rings ≤ 8)
@@ -126,39 +183,33 @@ few p plan = let (_, rings, ports) = numbers_known p.env (numbers_pass p.env pla
 
 -- ---- the promise
 
--- the laws of runs that it needs
+-- the laws of uses that it needs
 pub record AreLaws : Type 0 where
-  pub safe : (c : Setting) (nodes : Nodes) (arrivals : List (Arrival ℕ)) (w : World) → TablesFit c → IsPipeline c nodes → IsStart c.env w
-      → KeepsRunsSafe c nodes arrivals w
-  pub copies : (c : Setting) (nodes : Nodes) (arrivals : List (Arrival ℕ)) (w w' : World) (shown : Observed ℕ)
-      → fault_of c.env ≡ None → IsStart c.env w → Run c nodes arrivals w shown w'
-      → Captures c.env c.tables nodes arrivals shown.answers shown.captures w'.cuts
-  pub nothing : (c : Setting) (nodes : Nodes) (arrivals : List (Arrival ℕ)) (w w' : World) (shown : Observed ℕ) (left : List ℕ) →
-      IsStart c.env w → WholeRun c nodes arrivals w shown left w' → live (between w') ≡ []
+  pub safe : (c : Setting) (nodes : Nodes) (stretches : List (Stretch ℕ)) (w : World) → TablesFit c → IsPipeline c nodes → AllFit c stretches
+      → IsStart c.env w → KeepsUsesSafe c nodes stretches w
+  pub copies : (c : Setting) (nodes : Nodes) (stretches : List (Stretch ℕ)) (w w' : World) → fault_of c.env ≡ None → IsStart c.env w
+      → Uses c nodes stretches w w' → Shown c.env nodes stretches w'.cuts
+  pub nothing : (c : Setting) (nodes : Nodes) (stretches : List (Stretch ℕ)) (w w' : World) → IsStart c.env w → Uses c nodes stretches w w'
+      → live (between (with_empty_rings w')) ≡ []
   pub free : (pools : List PoolSpec) (w : World) (pool : ℕ) (b : Number) → live (between w) ≡ [] →
       (is_free (live (between w)) b ≡ true) × (available pools (live (between w)) pool ≡ count_at pools pool)
 
-pub promised : (p : Plan) (calls : List Call) (e : EngineState) → AreLaws → HasServedCalls p calls e → Promised p calls e
-promised p calls e laws was =
+pub promised : (p : Plan) (events : List Event) (e : EngineState) → AreLaws → HasServedCalls p events e → Promised p events e
+promised p events e laws was =
     let s = setting_in p [] in
-    let ready = plan_of p.env p.tables p.nodes [] was.plan.limits (are_nodes p.env p.nodes was.plan.nodes) was.plan.tables
-    (all_checked p.env p.nodes was.plan.nodes) was.plan.hops in
-    let shown : Observed ℕ = record { answers = was.answers; outcomes = was.outcomes; captures = captures_of (length p.env.ports) calls } in
-    let run : Run s (programs_in p) (arrivals_of_calls calls) was.first.world shown e.world =
-    subst (λ (c : Setting). Run c (programs_in p) (arrivals_of_calls calls) was.first.world shown e.world) (was.setting ∙ was.is_first.setting)
-    (subst (λ (n : Nodes). Run e.setting n (arrivals_of_calls calls) was.first.world shown e.world) (was.nodes ∙ was.is_first.nodes) was.run) in
-    let safe = laws.safe s (programs_in p) (arrivals_of_calls calls) was.first.world ready.tables_fit ready.pipeline was.is_first.start in
-    let none = laws.nothing s (programs_in p) (arrivals_of_calls calls) was.first.world (with_empty_rings e.world) shown
-    (left_in_rings e.world) was.is_first.start
-    (record { last = e.world; run = run; left_are = refl; is = refl }) in
+    let stretches = stretches_of p.tables events in
+    let first = was.first.world in
+    let start = was.is_first.start in
+    let scheme = ready p was.plan in
+    let safe = laws.safe s (programs_in p) stretches first scheme.tables_fit scheme.pipeline was.all_fit start in
+    let none = laws.nothing s (programs_in p) stretches first e.world start was.uses in
     record {
-      first = was.first.world;
-      start = was.is_first.start;
-      answers = was.answers;
-      outcomes = was.outcomes;
-      run = run;
-      never_stuck = λ b of. safe_never_stuck s b (safe.runs b of);
-      copies = laws.copies s (programs_in p) (arrivals_of_calls calls) was.first.world e.world shown was.plan.limits was.is_first.start run;
+      first = first;
+      start = start;
+      changes = was.changes;
+      uses = was.uses;
+      never_stuck = λ b of. safe_never_stuck (with_tables of.stretch.tables s) b (safe.runs b of);
+      copies = laws.copies s (programs_in p) stretches first e.world was.plan.limits start was.uses;
       free = λ b. (laws.free p.env.pools (with_empty_rings e.world) 0 b none).0;
       whole = λ pool. (laws.free p.env.pools (with_empty_rings e.world) pool (record { pool = 0; index = 0 }) none).1;
     }

@@ -1,14 +1,17 @@
--- The calls of a C caller, and the promise that they are a run of the pipeline.
-use Rattle.std.specs.Prelude.{◌≡◌, ℕ, ◌+◌, Bool, true, List, [], ◌∷◌, ◌++◌, length, map, replicate}
-use Rattle.std.specs.List.{fold}
+-- The calls of a C caller, and the promise that they are a use of the pipeline.
+use Rattle.std.specs.Prelude.{◌≡◌, ℕ, ◌+◌, Bool, true, List, [], ◌∷◌, ◌++◌, map}
+use Rattle.dp_lpm.specs.Changes.{AddsRoute, DeletesRoute}
+use Rattle.dp_lpm.specs.Routes.{RouteTable}
 use Rattle.dp_model.specs.Buffers.{Number}
 use Rattle.dp_model.specs.Environments.{count_at}
 use Rattle.dp_model.specs.Machine.{World, live}
+use Rattle.dp_model.specs.Meaning.{TablesFit}
 use Rattle.dp_model.specs.Packets.{available, is_free}
-use Rattle.dp_model.specs.Runs.{Arrival, Outcome, Run, NeverStuck, between, joined, drained, with_empty_rings}
-use Rattle.dp_model.specs.Safety.{Beginning, IsOfRun}
+use Rattle.dp_model.specs.Runs.{Arrival, Outcome, NeverStuck, between, drained, with_empty_rings}
+use Rattle.dp_model.specs.Safety.{Beginning}
 use Rattle.dp_model.specs.Starts.{IsStart}
-use Rattle.dp_model.specs.CopyMachine.{Captures}
+use Rattle.dp_model.specs.Uses.{Stretch, Uses, AllFit, IsOfUse, with_tables}
+use Rattle.dp_copies.specs.CopiedUses.{Shown}
 use Rattle.dp_engine.specs.Batches.{Frame}
 use Rattle.dp_engine.specs.Engines.{EngineState}
 use Rattle.dp_engine.specs.Steps.{routes_of}
@@ -17,18 +20,28 @@ use Rattle.dp_pipe.specs.Running.{IsFirst, setting_in, programs_in}
 
 -- ---- calls
 
--- a call: the frame that was handed in, with its port and its time, and what was handed out for each port, in order
+-- a pass: the frame that was handed in, with its port and its time; its outcome and the answers to its allocation calls; and what was handed out for
+-- each port, in order
 pub record Call : Type 0 where
   pub port : ℕ
   pub time : ℕ
   pub bytes : List ℕ
+  pub outcome : Outcome
+  pub answers : List Bool
   pub sent : List (List (List ℕ))
+
+-- a change of a route of a table
+pub data Change : Type 0 where
+  Added : (table ip depth hop : ℕ) → Change
+  Deleted : (table ip depth : ℕ) → Change
+
+-- what a caller did: a pass, or a change of a route that was not refused, and the tables after it
+pub data Event : Type 0 where
+  Passed : (call : Call) → Event
+  Changed : (change : Change) (tables : List RouteTable) → Event
 
 abbrev pub arrival_of : Call → Arrival ℕ
 arrival_of c = record { port = c.port; time = c.time; bytes = c.bytes }
-
-abbrev pub arrivals_of_calls : List Call → List (Arrival ℕ)
-arrivals_of_calls calls = map arrival_of calls
 
 -- the bytes in the transmit lists of a world, a list for each port
 abbrev pub sent_in : World → List (List (List ℕ))
@@ -43,40 +56,74 @@ frames_by_port port (list ∷ lists) = map (λ bytes. (port, bytes)) list ++ fra
 abbrev pub timed : Call → List (List (ℕ × List ℕ))
 timed c = map (map (λ bytes. (c.time, bytes))) c.sent
 
--- what calls handed out for each port, in the order of the calls
-abbrev pub captures_of : ℕ → List Call → List (List (ℕ × List ℕ))
-captures_of ports calls = fold (λ captures c. joined captures (timed c)) (replicate ports []) calls
+-- ---- events, the latest first
+
+-- the tables after these events
+abbrev pub tables_after : List RouteTable → List Event → List RouteTable
+tables_after first [] = first
+tables_after first (Passed c ∷ events) = tables_after first events
+tables_after first (Changed change tables ∷ events) = tables
+
+-- what a change does: one route of one table
+abbrev pub Changes : Change → List RouteTable → List RouteTable → Type 0
+Changes (Added table ip depth hop) old new = AddsRoute table ip depth hop old new
+Changes (Deleted table ip depth) old new = DeletesRoute table ip depth old new
+
+-- the tables after each change are those before it with that one route changed
+abbrev pub AreChanges : List RouteTable → List Event → Type 0
+AreChanges first [] = Unit {0}
+AreChanges first (Passed c ∷ events) = AreChanges first events
+AreChanges first (Changed change tables ∷ events) = Changes change (tables_after first events) tables × AreChanges first events
+
+-- the number of passes
+abbrev pub passes_in : List Event → ℕ
+passes_in [] = 0
+passes_in (Passed c ∷ events) = passes_in events + 1
+passes_in (Changed change tables ∷ events) = passes_in events
+
+-- a pass is a stretch of one record, with the routes of its moment
+abbrev pub stretch_of : List RouteTable → Call → Stretch ℕ
+stretch_of tables c = record {
+  tables = routes_of tables;
+  arrivals = arrival_of c ∷ [];
+  shown = record { answers = c.answers; outcomes = c.outcome ∷ []; captures = timed c };
+}
+
+abbrev pub stretches_of : List RouteTable → List Event → List (Stretch ℕ)
+stretches_of first [] = []
+stretches_of first (Passed c ∷ events) = stretch_of (tables_after first events) c ∷ stretches_of first events
+stretches_of first (Changed change tables ∷ events) = stretches_of first events
 
 -- ---- what an engine has done
 
--- An engine that was opened for a pipeline has served these calls: there was a run on the frames that were handed in, in order, whose captures are
--- what was handed out.
-pub record HasServedCalls (p : Plan) (calls : List Call) (engine : EngineState) : Type 0 where
+-- An engine that was opened for a pipeline has served these events: there was a use on the frames that were handed in, in order, each with the routes
+-- of its moment, which sent what was handed out.
+pub record HasServedCalls (p : Plan) (events : List Event) (engine : EngineState) : Type 0 where
   pub plan : IsPlan p
   pub first : EngineState
   pub is_first : IsFirst p [] first
-  pub setting : engine.setting ≡ first.setting
-  pub nodes : engine.nodes ≡ first.nodes
-  pub turns : engine.turns ≡ length calls
-  pub answers : List Bool
-  pub outcomes : List Outcome
-  pub run : Run engine.setting engine.nodes (arrivals_of_calls calls) first.world
-      (record { answers = answers; outcomes = outcomes; captures = captures_of (length p.env.ports) calls }) engine.world
+  pub setting : engine.setting ≡ with_tables (routes_of engine.tables) (setting_in p [])
+  pub tables : engine.tables ≡ tables_after p.tables events
+  pub nodes : engine.nodes ≡ programs_in p
+  pub turns : engine.turns ≡ passes_in events
+  pub changes : AreChanges p.tables events
+  pub fits : TablesFit engine.setting
+  pub all_fit : AllFit (setting_in p []) (stretches_of p.tables events)
+  pub uses : Uses (setting_in p []) (programs_in p) (stretches_of p.tables events) first.world engine.world
 
 -- ---- the promise about all calls
 
--- All calls on an engine, from its opening to its end, were a run of the buffer machine on the frames that were handed in, in order, which sent for
--- each port what the calls handed out. No node run in it was stuck. The machine in which each packet has its own bytes sends the same, given the same
--- outcomes of allocation calls. And at the end, when what waits in rings is freed, every buffer is free, so each pool has all its buffers.
-pub record Promised (p : Plan) (calls : List Call) (engine : EngineState) : Type 0 where
+-- All calls on an engine, from its opening to its end, were a use of the buffer machine on the frames that were handed in, in order, each with the
+-- routes of its moment, which sent for each port what the calls handed out; and each change changed one route, and nothing else. No node run in it was
+-- stuck. The machine in which each packet has its own bytes sends the same, with the same routes, given the same outcomes of allocation calls. And at
+-- the end, when what waits in rings is freed, every buffer is free, so each pool has all its buffers.
+pub record Promised (p : Plan) (events : List Event) (engine : EngineState) : Type 0 where
   pub first : World
   pub start : IsStart p.env first
-  pub answers : List Bool
-  pub outcomes : List Outcome
-  pub run : Run (setting_in p []) (programs_in p) (arrivals_of_calls calls) first
-      (record { answers = answers; outcomes = outcomes; captures = captures_of (length p.env.ports) calls }) engine.world
-  pub never_stuck : (b : Beginning) → IsOfRun (setting_in p []) (programs_in p) (arrivals_of_calls calls) first b →
-      NeverStuck (setting_in p []) b.program b.packet b.number b.world
-  pub copies : Captures p.env (routes_of p.tables) (programs_in p) (arrivals_of_calls calls) answers (captures_of (length p.env.ports) calls) engine.world.cuts
+  pub changes : AreChanges p.tables events
+  pub uses : Uses (setting_in p []) (programs_in p) (stretches_of p.tables events) first engine.world
+  pub never_stuck : (b : Beginning) (of : IsOfUse (setting_in p []) (programs_in p) (stretches_of p.tables events) first b) →
+      NeverStuck (with_tables of.stretch.tables (setting_in p [])) b.program b.packet b.number b.world
+  pub copies : Shown p.env (programs_in p) (stretches_of p.tables events) engine.world.cuts
   pub free : (b : Number) → is_free (live (between (with_empty_rings engine.world))) b ≡ true
   pub whole : (pool : ℕ) → available p.env.pools (live (between (with_empty_rings engine.world))) pool ≡ count_at p.env.pools pool

@@ -1,6 +1,10 @@
 -- The effects and the results of the calls of a C host.
-use Rattle.std.specs.Prelude.{◌≡◌, ℕ, ◌+◌, ◌-◌, ◌<◌, ◌≤◌, ◌⊎◌, min, List, [], ◌∷◌, ◌++◌, length, take, replicate, Option, Some, None, slice_get, codes}
+use Rattle.std.specs.Prelude.{◌≡◌, ℕ, ◌+◌, ◌-◌, ◌<◌, ◌≤◌, ◌⊎◌, min, Bool, List, [], ◌∷◌, ◌++◌, length, take, replicate, Option, Some, None, slice_get, codes}
 use Rattle.dp_pcap.specs.declared.format.TheConstants.{MAX_RECORD}
+use Rattle.dp_lpm.specs.declared.error.LpmError.{LpmError}
+use Rattle.dp_lpm.specs.declared.error.LpmError.TheVariants as lpm
+use Rattle.dp_lpm.specs.Changes.{HasTable}
+use Rattle.dp_lpm.specs.Routes.{RouteTable}
 use Rattle.dp_model.specs.declared.env.PoolSpec.{PoolSpec}
 use Rattle.dp_model.specs.Packets.{available}
 use Rattle.dp_model.specs.Machine.{live}
@@ -13,6 +17,8 @@ use Rattle.dp_engine.specs.declared.engine.Outcome.TheVariants.{Got, NoBuffer, O
 use Rattle.dp_engine.specs.declared.report.Tallies.{Tallies}
 use Rattle.dp_engine.specs.Batches.{Holds, KeepsRest, Passes, max_batch}
 use Rattle.dp_engine.specs.Engines.{EngineState, max_turns}
+use Rattle.dp_engine.specs.Outcomes.{outcome_of}
+use Rattle.dp_engine.specs.Rerouting.{with_tables}
 use Rattle.dp_engine.specs.Shapes.{AreWaiting}
 use Rattle.dp_pipe.specs.declared.error.PipeError.{PipeError}
 use Rattle.dp_pipe.specs.declared.forwarding.RunCause.{RunCause}
@@ -36,7 +42,7 @@ use Rattle.dp_host.specs.declared.numbers.Totals.{Totals}
 use Rattle.dp_host.specs.declared.packed.Unread.TheVariants as unread
 use Rattle.dp_host.specs.declared.refusal.Refusal.{Refusal}
 use Rattle.dp_host.specs.declared.refusal.Refusal.TheVariants as refusal
-use Rattle.dp_host.specs.Calls.{Call, HasServedCalls, Promised, frames_by_port}
+use Rattle.dp_host.specs.Calls.{Call, Change, Event, Passed, Changed, Changes, HasServedCalls, Promised, frames_by_port}
 use Rattle.dp_host.specs.Packing.{ArePacked, NotPacked}
 
 -- ---- the numbers of answers
@@ -50,6 +56,12 @@ refusal_number refusal.NoRing = 20
 refusal_number refusal.TooLong = 21
 refusal_number refusal.NoTurns = 22
 refusal_number refusal.BatchTooSmall = 23
+refusal_number refusal.NoTable = 24
+refusal_number refusal.BadDepth = 25
+refusal_number refusal.BadHop = 26
+refusal_number refusal.RulesFull = 27
+refusal_number refusal.GroupsFull = 28
+refusal_number refusal.NoRule = 29
 
 abbrev pub outcome_number : Outcome → ℕ
 outcome_number Got = 0
@@ -150,11 +162,19 @@ pub record PassTaken (old new : EngineState) (port time : ℕ) (frame : List ℕ
   pub turn : Turn
   pub number : n ≡ outcome_number turn.outcome
   pub passes : Passes old new port frame turn time has.records has.bytes (batch_size_of filled)
+  pub answers : List Bool
   pub sent : List (List (List ℕ))
   pub batch : Holds time (frames_by_port 0 sent) has.records has.bytes (batch_size_of filled)
   pub rest : KeepsRest (batch_size_of filled) had.records has.records had.bytes has.bytes
-  pub serves : (p : Plan) (calls : List Call) → HasServedCalls p calls old →
-      HasServedCalls p (calls ++ record { port = port; time = time; bytes = frame; sent = sent } ∷ []) new
+  pub serves : (p : Plan) (events : List Event) → HasServedCalls p events old →
+      HasServedCalls p (Passed (record {
+        port = port;
+        time = time;
+        bytes = frame;
+        outcome = outcome_of turn.outcome;
+        answers = answers;
+        sent = sent;
+      }) ∷ events) new
 
 -- what a pass returns: a turn's outcome; or why it was refused, and then only the batch changes: it is empty
 abbrev pub PassAnswers : Option EngineState → Refusal → Option EngineState → ℕ → ℕ → List ℕ → Arrays → Arrays → Room → ℕ → Type 0
@@ -165,6 +185,34 @@ PassAnswers (Some engine) missing (Some engine') port time frame old new filled 
 PassAnswers None missing None port time frame old new filled n = (n ≡ refusal_number missing) × (new ≡ old) × (filled ≡ empty_room)
 PassAnswers None missing (Some engine') port time frame old new filled n = ⊥
 PassAnswers (Some engine) missing None port time frame old new filled n = ⊥
+
+-- ---- changes of routes
+
+-- why tables refuse a change: there is no such table, or it refuses the change for this reason
+abbrev pub RefusesChange : (RouteTable → Option LpmError) → ℕ → List RouteTable → Refusal → Type 0
+RefusesChange fault table tables refusal.NoTable = length tables ≤ table
+RefusesChange fault table tables refusal.BadDepth = HasTable table tables (λ t. fault t ≡ Some lpm.BadDepth)
+RefusesChange fault table tables refusal.BadHop = HasTable table tables (λ t. fault t ≡ Some lpm.BadHop)
+RefusesChange fault table tables refusal.RulesFull = HasTable table tables (λ t. fault t ≡ Some lpm.RulesFull)
+RefusesChange fault table tables refusal.GroupsFull = HasTable table tables (λ t. fault t ≡ Some lpm.GroupsFull)
+RefusesChange fault table tables refusal.NoRule = HasTable table tables (λ t. fault t ≡ Some lpm.NoRule)
+RefusesChange fault table tables other = ⊥
+
+-- A change of a route that returned 0. One route of one table changes, and nothing else of the engine. Whatever events the engine had served before, it
+-- has now served this one too.
+pub record ChangeMade (old new : EngineState) (change : Change) : Type 0 where
+  pub changes : Changes change old.tables new.tables
+  pub rest : new ≡ with_tables new.tables old
+  pub serves : (p : Plan) (events : List Event) → HasServedCalls p events old → HasServedCalls p (Changed change new.tables ∷ events) new
+
+-- what a change returns: 0; or why it was refused, and then nothing changes
+abbrev pub ChangeAnswers : Change → (RouteTable → Option LpmError) → ℕ → Option EngineState → Refusal → Option EngineState → ℕ → Type 0
+ChangeAnswers change fault table (Some engine) missing (Some engine') n =
+    ((n ≡ 0) × ChangeMade engine engine' change)
+    ⊎ ((why : Refusal) × (n ≡ refusal_number why) × RefusesChange fault table engine.tables why × (engine' ≡ engine))
+ChangeAnswers change fault table None missing None n = n ≡ refusal_number missing
+ChangeAnswers change fault table None missing (Some engine') n = ⊥
+ChangeAnswers change fault table (Some engine) missing None n = ⊥
 
 -- ---- numbers
 
@@ -215,5 +263,5 @@ pub record IsTotal (engine : EngineState) (t : Totals) : Type 0 where
 -- What a close does: the engine ends, and the promise holds of all calls that it served; or none was open, and nothing changes.
 abbrev pub CloseAnswers : Option EngineState → Refusal → Option EngineState → Refusal → Totals → Totals → ℕ → Type 0
 CloseAnswers (Some e) missing new missing' old t n =
-    (n ≡ 0) × (new ≡ None) × (missing' ≡ refusal.Closed) × IsTotal e t × ((p : Plan) (calls : List Call) → HasServedCalls p calls e → Promised p calls e)
+    (n ≡ 0) × (new ≡ None) × (missing' ≡ refusal.Closed) × IsTotal e t × ((p : Plan) (events : List Event) → HasServedCalls p events e → Promised p events e)
 CloseAnswers None missing new missing' old t n = (n ≡ refusal_number missing) × (new ≡ None) × (missing' ≡ missing) × (t ≡ old)

@@ -3,18 +3,19 @@
 ghost use Rattle.std.specs.Prelude.{◌≡◌, ◌≤◌, [], ◌++◌, drop, length, IfErr, IfOk};
 ghost use Rattle.dp_pipe.specs.Pipelines.{IsPlan};
 ghost use Rattle.dp_pipe.specs.Running.{IsUnopened};
-ghost use Rattle.dp_host.specs.Calls.{HasServedCalls};
-ghost use Rattle.dp_host.specs.Hosts.{SetsOrRefuses, CloseAnswers, IsOpenErrorFor, IsOpenedFor, IsPoolStats, IsPortStats, IsReasonFor, IsReasonIn};
+ghost use Rattle.dp_lpm.specs.Faults.{add_fault, delete_fault};
+ghost use Rattle.dp_host.specs.Calls.{Added, Deleted, HasServedCalls};
+ghost use Rattle.dp_host.specs.Hosts.{ChangeAnswers, SetsOrRefuses, CloseAnswers, IsOpenErrorFor, IsOpenedFor, IsPoolStats, IsPortStats, IsReasonFor, IsReasonIn};
 ghost use Rattle.dp_host.specs.Hosts.{IsRingStats, IsRoom, Opens, PassAnswers};
 ghost use Rattle.dp_host.specs.Hosts.{NoPool, NoPort, NoRing, outcome_number, padded, reason_with};
 
-use crate::numbers::{MAX_REASON, PoolStats, PortStats, Reason, RingStats, Room, Totals};
+use crate::numbers::{MAX_REASON, PoolStats, PortStats, Reason, RingStats, Room, Route, Totals};
 use crate::packed::{Unread, files_in};
 use crate::refusal::Refusal;
 use crate::running::Running;
-use dp_copies::clones_are_copies;
+use dp_copies::uses_are_copied;
 use dp_engine::{Outcome, Pass, SentRecord};
-use dp_model::{runs_keep_safe, whole_runs_end_with_whole_pools};
+use dp_model::{uses_keep_safe, whole_runs_end_with_whole_pools};
 use dp_pipe::{How, Listed, PipeError, Pipeline, RunCause, engine_of, load};
 use std::alloc::Global;
 
@@ -209,6 +210,38 @@ pub(crate) fn passed(
     }
 }
 
+/// Adds a route to a table; returns 0 or the number of a refusal.
+pub(crate) fn route_added(host: &mut Host, route: &mut Route) -> u32
+    ensures { (ChangeAnswers (Added route.old.table route.old.ip route.old.depth route.old.hop) (λ t. add_fault t route.old.ip route.old.depth route.old.hop) route.old.table
+        host.old.running host.old.missing host.new.running result)
+        × (host.new.missing ≡ host.old.missing) × (host.new.reason ≡ host.old.reason) × (route.new ≡ route.old) }
+{
+    let missing = host.missing;
+    match &mut host.running {
+        Some(running) => match running.add_route(route.table, route.ip, route.depth, route.hop) {
+            Ok(()) => 0,
+            Err(why) => why.number(),
+        },
+        None => missing.number(),
+    }
+}
+
+/// Deletes a route of a table; returns 0 or the number of a refusal.
+pub(crate) fn route_deleted(host: &mut Host, route: &mut Route) -> u32
+    ensures { (ChangeAnswers (Deleted route.old.table route.old.ip route.old.depth) (λ t. delete_fault t route.old.ip route.old.depth) route.old.table
+        host.old.running host.old.missing host.new.running result)
+        × (host.new.missing ≡ host.old.missing) × (host.new.reason ≡ host.old.reason) × (route.new ≡ route.old) }
+{
+    let missing = host.missing;
+    match &mut host.running {
+        Some(running) => match running.delete_route(route.table, route.ip, route.depth) {
+            Ok(()) => 0,
+            Err(why) => why.number(),
+        },
+        None => missing.number(),
+    }
+}
+
 /// Sets `size` to the size that a batch needs.
 pub(crate) fn batch_size(host: &mut Host, size: &mut Room) -> u32
     ensures { (host.new ≡ host.old) × SetsOrRefuses IsRoom (λ e. ⊥) Refusal.NotOpen host.old.running host.old.missing size.old size.new result }
@@ -298,9 +331,9 @@ pub(crate) fn closed(host: &mut Host, totals: &mut Totals) -> u32
     ensures { CloseAnswers host.old.running host.old.missing host.new.running host.new.missing totals.old totals.new result
         × (host.new.reason ≡ host.old.reason) }
 {
-    // The laws of whole runs.
-    runs_keep_safe::<u64>();
-    clones_are_copies::<u64>();
+    // The laws of uses.
+    uses_keep_safe::<u64>();
+    uses_are_copied::<u64>();
     whole_runs_end_with_whole_pools::<u64>();
     let Some(running) = host.running.take() else {
         return host.missing.number();

@@ -26,10 +26,12 @@ ghost use Rattle.std.specs.Ptr.{lies_at, room_at};
 ghost use types.Logic.{sem};
 ghost use Rattle.dp_host.specs.contracts.host.Host.{the_row};
 ghost use Rattle.dp_host.specs.declared.refusal.Refusal.TheVariants as refusal;
-ghost use Rattle.dp_host.specs.Hosts.{SetsOrRefuses, CloseAnswers, IsPoolStats, IsPortStats, IsRingStats, IsRoom, NoPool, NoPort, NoRing, Opens, PassAnswers};
+ghost use Rattle.dp_lpm.specs.Faults.{add_fault, delete_fault};
+ghost use Rattle.dp_host.specs.Calls.{Added, Deleted};
+ghost use Rattle.dp_host.specs.Hosts.{ChangeAnswers, SetsOrRefuses, CloseAnswers, IsPoolStats, IsPortStats, IsRingStats, IsRoom, NoPool, NoPort, NoRing, Opens, PassAnswers};
 
 use crate::host::Host;
-use crate::numbers::{PoolStats, PortStats, Reason, RingStats, Room, Totals};
+use crate::numbers::{PoolStats, PortStats, Reason, RingStats, Room, Route, Totals};
 use dp_engine::SentRecord;
 use std::alloc::Global;
 
@@ -132,6 +134,30 @@ pub unsafe extern "C" fn dpv_ring(at: *mut u8, which: u32, out: &mut RingStats) 
         × SetsOrRefuses (IsRingStats which) (NoRing which) refusal.NoRing h.running h.missing out.old out.new result ⌝) }
 {
     host::ring_stats(&mut *(at as *mut Host), which, out)
+}
+
+/// Adds a route to a table, or replaces the hop of its route of this prefix and depth. Returns 0, or the number of a refusal.
+#[unsafe(no_mangle)]
+pub unsafe extern "C" fn dpv_add_route(at: *mut u8, route: &mut Route) -> u32
+    ghost h: { Host }
+    requires* { sem 𝓛 (lies_at the_row full_share at h) }
+    ensures* { ∃ₛ (λ (h' : Host). sem 𝓛 (lies_at the_row full_share at h') ∗ ⌜ ChangeAnswers (Added route.old.table route.old.ip route.old.depth route.old.hop)
+        (λ t. add_fault t route.old.ip route.old.depth route.old.hop) route.old.table h.running h.missing h'.running result
+        × (h'.missing ≡ h.missing) × (h'.reason ≡ h.reason) × (route.new ≡ route.old) ⌝) }
+{
+    host::route_added(&mut *(at as *mut Host), route)
+}
+
+/// Deletes a route of a table. Returns 0, or the number of a refusal.
+#[unsafe(no_mangle)]
+pub unsafe extern "C" fn dpv_delete_route(at: *mut u8, route: &mut Route) -> u32
+    ghost h: { Host }
+    requires* { sem 𝓛 (lies_at the_row full_share at h) }
+    ensures* { ∃ₛ (λ (h' : Host). sem 𝓛 (lies_at the_row full_share at h') ∗ ⌜ ChangeAnswers (Deleted route.old.table route.old.ip route.old.depth)
+        (λ t. delete_fault t route.old.ip route.old.depth) route.old.table h.running h.missing h'.running result
+        × (h'.missing ≡ h.missing) × (h'.reason ≡ h.reason) × (route.new ≡ route.old) ⌝) }
+{
+    host::route_deleted(&mut *(at as *mut Host), route)
 }
 
 /// Ends the engine: frees every buffer and the region. Returns 0, or the number of a refusal.

@@ -70,3 +70,17 @@ pub struct Totals {
     /// The number of pools. Each has all its buffers.
     pub pools: u64,
 }
+
+/// A route of a table, by numbers.
+#[repr(C)]
+#[derive(Clone, Copy, Drop)]
+pub struct Route {
+    /// The address; its bits below the depth are ignored.
+    pub ip: u32,
+    /// The hop, which a deletion ignores.
+    pub hop: u32,
+    /// The number of the table.
+    pub table: u8,
+    /// The depth.
+    pub depth: u8,
+}

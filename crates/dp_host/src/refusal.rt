@@ -19,6 +19,18 @@ pub enum Refusal {
     NoTurns,
     /// The batch is smaller than one turn may need.
     BatchTooSmall,
+    /// There is no such table.
+    NoTable,
+    /// The depth is not from 1 to 32.
+    BadDepth,
+    /// The hop is above 16,777,215.
+    BadHop,
+    /// The table has as many rules as it was made for.
+    RulesFull,
+    /// The rule is deeper than 24 bits, and no group is left for it.
+    GroupsFull,
+    /// There is no such rule.
+    NoRule,
 }
 
 impl Refusal {
@@ -38,6 +50,12 @@ impl Refusal {
             Refusal::TooLong => 21,
             Refusal::NoTurns => 22,
             Refusal::BatchTooSmall => 23,
+            Refusal::NoTable => 24,
+            Refusal::BadDepth => 25,
+            Refusal::BadHop => 26,
+            Refusal::RulesFull => 27,
+            Refusal::GroupsFull => 28,
+            Refusal::NoRule => 29,
         }
     }
 }

@@ -1,14 +1,21 @@
 //! An open engine, with a test for each condition of its calls.
 
-ghost use Rattle.std.specs.Prelude.{◌≡◌, ◌+◌, ◌<◌, ◌≤◌, length, None, IfOk, IfErr, IfSome, IfNone};
+ghost use Rattle.std.specs.Prelude.{◌≡◌, ◌+◌, ◌<◌, ◌≤◌, length, None, IfOk, IfErr, IfSome, IfNone, OnOk, ℕ, List, Option};
+ghost use Rattle.dp_lpm.specs.declared.error.LpmError.{LpmError};
+ghost use Rattle.dp_lpm.specs.Changes.{AddsRoute, DeletesRoute};
+ghost use Rattle.dp_lpm.specs.Faults.{add_fault, delete_fault};
+ghost use Rattle.dp_lpm.specs.Routes.{RouteTable};
+ghost use Rattle.dp_model.specs.Meaning.{TablesFit};
+ghost use Rattle.dp_engine.specs.Rerouting.{RefusesRoute, with_tables};
 ghost use Rattle.dp_engine.specs.Batches.{KeepsRest, Passes, max_batch};
 ghost use Rattle.dp_engine.specs.Engines.{flushed};
 ghost use Rattle.dp_engine.specs.Reports.{IsReport, IsWhole};
 ghost use Rattle.dp_engine.specs.Shapes.{AreWaiting};
-ghost use Rattle.dp_host.specs.Hosts.{RefusesPass};
+ghost use Rattle.dp_host.specs.Hosts.{RefusesPass, RefusesChange};
 
 use crate::refusal::Refusal;
-use dp_engine::{BatchSize, Engine, Pass, Report, SentRecord};
+use dp_engine::{BatchSize, Engine, Pass, Report, RouteFault, SentRecord};
+use dp_lpm::LpmError;
 use dp_pcap::MAX_RECORD;
 use std::marker::Model;
 
@@ -35,6 +42,21 @@ impl Model for Running {
     ghost invariant = { λ r. (r.ports ≡ length r.engine.setting.env.ports) × (r.ports ≤ 8)
         × (r.rings ≡ length r.engine.setting.env.rings) × (r.rings ≤ 8)
         × (r.room ≡ max_batch r.engine.setting.env) };
+}
+
+// The refusal of a change of a route.
+fn refusal_of(fault: RouteFault) -> Refusal
+    ensures { (refuses : RouteTable → Option LpmError) (table : ℕ) (tables : List RouteTable) → RefusesRoute refuses table tables fault →
+        RefusesChange refuses table tables result }
+{
+    match fault {
+        RouteFault::NoTable => Refusal::NoTable,
+        RouteFault::Refused(LpmError::BadDepth) => Refusal::BadDepth,
+        RouteFault::Refused(LpmError::BadHop) => Refusal::BadHop,
+        RouteFault::Refused(LpmError::RulesFull) => Refusal::RulesFull,
+        RouteFault::Refused(LpmError::GroupsFull) => Refusal::GroupsFull,
+        RouteFault::Refused(LpmError::NoRule) => Refusal::NoRule,
+    }
 }
 
 impl Running {
@@ -89,6 +111,32 @@ impl Running {
             return Err(Refusal::BatchTooSmall);
         }
         Ok(self.engine.pass(port as u8, frame, time, records, bytes))
+    }
+
+    /// Adds a route to a table, or returns why it is refused.
+    pub fn add_route(&mut self, table: u8, ip: u32, depth: u8, hop: u32) -> Result<(), Refusal>
+        ensures rest { self.new ≡ with_tables self.new.tables self.old }
+        ensures fits { TablesFit self.new.setting }
+        ensures ok { OnOk result (AddsRoute table ip depth hop self.old.tables self.new.tables) }
+        ensures err { IfErr result (λ why. RefusesChange (λ t. add_fault t ip depth hop) table self.old.tables why × (self.new ≡ self.old)) }
+    {
+        match self.engine.add_route(table, ip, depth, hop) {
+            Ok(()) => Ok(()),
+            Err(fault) => Err(refusal_of(fault)),
+        }
+    }
+
+    /// Deletes a route of a table, or returns why it is refused.
+    pub fn delete_route(&mut self, table: u8, ip: u32, depth: u8) -> Result<(), Refusal>
+        ensures rest { self.new ≡ with_tables self.new.tables self.old }
+        ensures fits { TablesFit self.new.setting }
+        ensures ok { OnOk result (DeletesRoute table ip depth self.old.tables self.new.tables) }
+        ensures err { IfErr result (λ why. RefusesChange (λ t. delete_fault t ip depth) table self.old.tables why × (self.new ≡ self.old)) }
+    {
+        match self.engine.delete_route(table, ip, depth) {
+            Ok(()) => Ok(()),
+            Err(fault) => Err(refusal_of(fault)),
+        }
     }
 
     /// The report so far.

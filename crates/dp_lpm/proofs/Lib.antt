@@ -2,6 +2,7 @@
 pub mod Adding
 pub mod Answering
 pub mod Blocks
+pub mod ChangedTables
 pub mod Closing
 pub mod Counting
 pub mod Deepest

@@ -31,4 +31,6 @@ pub mod SoundMoves
 pub mod SoundNumbers
 pub mod Sharing
 pub mod Soundness
+pub mod UsesJoined
+pub mod UsesSafe
 pub mod WholeRuns

@@ -30,7 +30,7 @@ use Rattle.dp_model.specs.Laws.Waiting.{nothing_listed}
 
 -- ---- nothing is live
 
-run_outboxes : {T : Type 0} (c : Setting) (nodes : Nodes) (arrivals : List (Arrival T)) (w w' : World) (shown : Observed T) →
+pub run_outboxes : {T : Type 0} (c : Setting) (nodes : Nodes) (arrivals : List (Arrival T)) (w w' : World) (shown : Observed T) →
     segments_listed w.outboxes ≡ [] → Run c nodes arrivals w shown w' → segments_listed w'.outboxes ≡ []
 run_outboxes c nodes [] w w' shown none (_, is) = ap (λ (x : World). segments_listed x.outboxes) is ∙ none
 run_outboxes c nodes (a ∷ arrivals) w w' shown none (outcome, answers, runs, mid, rest, turn, run, _) =
@@ -114,7 +114,7 @@ turn_counts c nodes port bytes w w' outcome runs answers t =
       serves_counts c nodes.rings 32 t.mid w' t.later t.more t.serves,
     )
 
-run_counts : {T : Type 0} (c : Setting) (nodes : Nodes) (arrivals : List (Arrival T)) (w w' : World) (shown : Observed T) →
+pub run_counts : {T : Type 0} (c : Setting) (nodes : Nodes) (arrivals : List (Arrival T)) (w w' : World) (shown : Observed T) →
     Run c nodes arrivals w shown w' → w'.calls ≡ w.calls + length shown.answers
 run_counts {T} c nodes [] w w' shown (none, is) =
     let no_call : length shown.answers ≡ 0 = ap (λ (s : Observed T). length s.answers) none in

@@ -19,3 +19,4 @@ pub mod Runs
 pub mod Safety
 pub mod Starts
 pub mod Stores
+pub mod Uses

@@ -1,16 +1,17 @@
 //! Laws of accepted programs, as contracts of functions that do nothing.
 
-ghost use Rattle.std.specs.Prelude.{◌≡◌, ◌+◌, ◌*◌, ◌<◌, ◌≤◌, ℕ, List, Bool, Some, length, slice_get};
+ghost use Rattle.std.specs.Prelude.{◌≡◌, ◌+◌, ◌*◌, ◌<◌, ◌≤◌, ℕ, List, [], ◌∷◌, ◌++◌, Bool, Some, length, slice_get};
 ghost use Rattle.std.specs.List.{AllByRecursion};
 ghost use Rattle.dp_model.specs.Laws.{Begins, IsSound, Ready, AreChecked};
 ghost use Rattle.dp_model.specs.Limits.{max_ring_runs};
-ghost use Rattle.dp_model.specs.Machine.{Setting, World, jump_budget};
+ghost use Rattle.dp_model.specs.Machine.{Setting, World, live, jump_budget};
 ghost use Rattle.dp_model.specs.Meaning.{TablesFit};
 ghost use Rattle.dp_model.specs.Packets.{Packet};
 ghost use Rattle.dp_model.specs.Rules.{Question, IsCertified};
-ghost use Rattle.dp_model.specs.Runs.{Nodes, Outcome, Turn, Arrival};
+ghost use Rattle.dp_model.specs.Runs.{Nodes, Outcome, Turn, Arrival, Run, between, with_empty_rings};
 ghost use Rattle.dp_model.specs.Safety.{BeginsWell, IsSafeRun, IsAtRest, IsPipeline, AreShort, IsSafeTurn, CanArrive, AreSafe, KeepsSafe, KeepsRunsSafe};
 ghost use Rattle.dp_model.specs.Starts.{IsStart};
+ghost use Rattle.dp_model.specs.Uses.{Stretch, Uses, AllFit, KeepsUsesSafe, answers_of, joined_stretch};
 ghost use Rattle.dp_model.specs.declared.env.PortSpec.{PortSpec};
 
 /// Accepted programs are never stuck, for every environment, program, certificate, entry, set of tables and pattern of refused calls. A node run
@@ -56,4 +57,25 @@ pub fn pipelines_keep_safe()
 pub fn runs_keep_safe<T>()
     ensures { (setting : Setting) (nodes : Nodes) (arrivals : List (Arrival T)) (w : World) →
         TablesFit setting → IsPipeline setting nodes → IsStart setting.env w → KeepsRunsSafe setting nodes arrivals w }
+{}
+
+/// The same for uses in stretches, between which the routes of the tables change: every node run is safe with the routes of its moment, the world
+/// is at rest after each stretch, and where what waits in rings is freed nothing is live. `T` is the time of a record.
+pub fn uses_keep_safe<T>()
+    ensures safe { (setting : Setting) (nodes : Nodes) (stretches : List (Stretch T)) (w : World) →
+        TablesFit setting → IsPipeline setting nodes → AllFit setting stretches → IsStart setting.env w → KeepsUsesSafe setting nodes stretches w }
+    ensures nothing { (setting : Setting) (nodes : Nodes) (stretches : List (Stretch T)) (w w' : World) →
+        IsStart setting.env w → Uses setting nodes stretches w w' → live (between (with_empty_rings w')) ≡ [] }
+    ensures calls { (setting : Setting) (nodes : Nodes) (stretches : List (Stretch T)) (w w' : World) →
+        Uses setting nodes stretches w w' → w'.calls ≡ w.calls + length (answers_of stretches) }
+{}
+
+/// Two runs, one after the other, are one run, and two stretches with the same tables are one stretch; a use of one stretch is a run. So a use in
+/// which no route changes is a run. `T` is the time of a record.
+pub fn uses_join<T>()
+    ensures stretches { (setting : Setting) (nodes : Nodes) (later : List (Stretch T)) (b a : Stretch T) (earlier : List (Stretch T)) (w w' : World) →
+        TablesFit setting → IsPipeline setting nodes → AllFit setting (later ++ (b ∷ a ∷ earlier)) → IsStart setting.env w → b.tables ≡ a.tables →
+        Uses setting nodes (later ++ (b ∷ a ∷ earlier)) w w' → Uses setting nodes (later ++ (joined_stretch a b ∷ earlier)) w w' }
+    ensures one { (setting : Setting) (nodes : Nodes) (s : Stretch T) (w w' : World) → s.tables ≡ setting.tables →
+        Uses setting nodes (s ∷ []) w w' → Run setting nodes s.arrivals w s.shown w' }
 {}

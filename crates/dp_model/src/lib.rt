@@ -30,7 +30,7 @@ pub use env::{Entry, Env, EnvError, PoolSpec, PortSpec, RingSpec};
 pub use instr::Instr;
 pub use laws::{
     accepted_programs_are_safe, accepted_programs_are_sound, pipelines_keep_safe, runs_keep_safe,
-    turns_stay_ready,
+    turns_stay_ready, uses_join, uses_keep_safe,
 };
 pub use limits::{
     DEFAULT_HEADROOM, MAX_BUFFERS, MAX_CACHED, MAX_HOP, MAX_RING, MAX_ROOM, MAX_SEGMENTS,

@@ -163,6 +163,7 @@ answer_of (Err fault) = Err fault.cause
 pub record IsFirst (p : Plan) (pattern : List ℕ) (first : EngineState) : Type 0 where
   pub room : bytes_needed p.env ≤ p.region
   pub setting : first.setting ≡ setting_in p pattern
+  pub tables_are : first.tables ≡ p.tables
   pub nodes : first.nodes ≡ programs_in p
   pub start : starts.IsStart p.env first.world
   pub turns : first.turns ≡ 0

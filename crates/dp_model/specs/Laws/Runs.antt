@@ -31,7 +31,7 @@ start_ready setting w tables start =
     }
 
 module _ {A : Type 0} where
-  joined_none_left : (n : ℕ) (xs : List (List A)) → length xs ≡ n → joined (replicate n []) xs ≡ xs
+  pub joined_none_left : (n : ℕ) (xs : List (List A)) → length xs ≡ n → joined (replicate n []) xs ≡ xs
   joined_none_left zero [] is = refl
   joined_none_left zero (x ∷ xs) is = absurd (omega (arith, is))
   joined_none_left (suc n) [] is = absurd (omega (arith, is))
@@ -44,7 +44,7 @@ module _ {A : Type 0} where
   joined_none_right (suc n) (x ∷ xs) is = ap (λ y. y ∷ joined xs (replicate n [])) (append-nil x)
       ∙ ap (λ ys. x ∷ ys) (joined_none_right n xs (omega (arith, is)))
 
-  joined_assoc : (xs ys zs : List (List A)) → joined (joined xs ys) zs ≡ joined xs (joined ys zs)
+  pub joined_assoc : (xs ys zs : List (List A)) → joined (joined xs ys) zs ≡ joined xs (joined ys zs)
   joined_assoc [] ys zs = refl
   joined_assoc (x ∷ xs) [] zs = refl
   joined_assoc (x ∷ xs) (y ∷ ys) [] = refl

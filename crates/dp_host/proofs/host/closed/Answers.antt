@@ -16,9 +16,9 @@ returns c =
     let report = c.end-report.ensures in
     let t : Totals = record { turns = c.turns-turns.result; calls = c.end-report.result.calls; cut = c.end-report.result.cut; pools = c.len.result } in
     let laws : AreLaws = record {
-      safe = c.runs_keep_safe.ensures;
-      copies = c.clones_are_copies.ensures;
-      nothing = c.whole_runs_end_with_whole_pools.ensures.nothing;
+      safe = c.uses_keep_safe.ensures.safe;
+      copies = c.uses_are_copied.ensures;
+      nothing = c.uses_keep_safe.ensures.nothing;
       free = c.whole_runs_end_with_whole_pools.ensures.free;
     } in
     let whole : PoolSpec → PoolReport = λ p. record { free = p.count; count = p.count } in
@@ -29,6 +29,6 @@ returns c =
       pools = c.len.ensures.value ∙ ap length report.whole ∙ length-map e.setting.env.pools whole;
     } in (
       subst (λ o. CloseAnswers o c.args.host.now.missing c.take.new.self refusal.Closed c.args.totals.now t 0) (sym was)
-          (refl, c.take.ensures.after, refl, total, (λ p calls served. promised p calls e laws served)),
+          (refl, c.take.ensures.after, refl, total, (λ p events served. promised p events e laws served)),
       refl,
     )

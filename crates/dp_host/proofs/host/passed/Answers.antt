@@ -21,11 +21,12 @@ returns-in-Ok c =
             turn = turn;
             number = c.outcome_number.ensures;
             passes = subst (Passes e e' c.args.port c.args.frame.now turn c.args.time records bytes) (sym size) p;
+            answers = p.turn_is.turn.0;
             sent = sent_in p.mid.world;
             batch = subst (Holds c.args.time (frames_by_port 0 (sent_in p.mid.world)) records bytes) (sym size)
                 (batch_is c.args.time p.mid.world records bytes c.in-Ok.pass.sent p.batch);
             rest = subst (λ filled. KeepsRest filled c.args.records.now records c.args.bytes.now bytes) (sym size) c.in-Ok.ensures.rest;
-            serves = λ plan calls was. served_more plan calls e e' c.args.port c.args.frame.now turn c.args.time records bytes c.in-Ok.pass.sent p was;
+            serves = λ plan events was. served_more plan events e e' c.args.port c.args.frame.now turn c.args.time records bytes c.in-Ok.pass.sent p was;
           })),
       refl,
       refl,

@@ -39,6 +39,7 @@ returns-clause-engine g c =
       setting = setting g (goal.at.returns-clause-engine g c).After-refuse
           ∙ ap (λ e. setting_of e c.into_parts-env.result.1.items c.args.pattern.items) parts.env
           ∙ ap (λ t. setting_of c.args.pipeline.env t c.args.pattern.items) parts.tables;
+      tables_are = ap (λ (x : EngineState). x.tables) c.refuse.ensures ∙ (opened.tables_are ∙ parts.tables);
       nodes = ap (λ (x : EngineState). x.nodes) c.refuse.ensures ∙ opened.nodes ∙ ap (λ e. nodes_of e c.into_parts-env.result.2.items) parts.env
           ∙ ap (λ q. nodes_of c.args.pipeline.env q) parts.nodes;
       start = subst (λ e. IsStart e c.refuse.new.self.world) parts.env

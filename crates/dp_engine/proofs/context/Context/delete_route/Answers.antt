@@ -1,0 +1,21 @@
+-- A context with the tables that the call left.
+use Rattle.std.proofs.Common.{refl, subst}
+use Rattle.dp_engine.specs.Rerouting.{IsRetabled, retabled}
+use Rattle.dp_engine.specs.Schemes.{Scheme, scheme_in}
+use Rattle.dp_engine.proofs.Retabling.{retabled_fits, retabled_scheme}
+use Rattle.dp_engine.proofs.context.Context.delete_route.Goals as goal
+
+pub invariant_of-self : goal.invariant_of-self
+invariant_of-self g c =
+    let p = c.self.inside in
+    retabled_scheme (scheme_in p.env p.tables p.ports.items p.rings.items p.pattern.items) p.tables c.delete.new.self refl c.delete.ensures.many
+    c.delete.ensures.hops c.self.invariant
+
+pub returns-clause-kept : goal.returns-clause-kept
+returns-clause-kept g c =
+    let p = c.self.inside in
+    let s = scheme_in p.env p.tables p.ports.items p.rings.items p.pattern.items in
+    subst (λ (old : Scheme). IsRetabled old (retabled c.delete.new.self s)) c.self.view_is (record {
+      new_is = refl;
+      fits = retabled_fits s p.tables c.delete.new.self refl c.delete.ensures.many c.delete.ensures.hops c.self.invariant;
+    })
