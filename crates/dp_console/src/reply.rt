@@ -1,0 +1,87 @@
+//! What a command says on both streams, and its exit status.
+
+ghost use Rattle.std.specs.Prelude.{◌≡◌, ◌⊎◌, [], false, true};
+ghost use Rattle.dp_console.specs.Replies.{IsWhole, Says};
+
+use std::alloc::Global;
+use std::fmt::Display;
+use std::io::Write;
+
+/// The exit status of a command that is done, and of help that was asked for.
+pub const DONE: u8 = 0;
+
+/// The exit status if a program is refused, or has no certificate.
+pub const REFUSED: u8 = 1;
+
+/// The exit status for wrong words.
+pub const USAGE: u8 = 2;
+
+/// The exit status for a fault, and for a text that could not be written.
+pub const FAULT: u8 = 3;
+
+/// The exit status for lack of memory.
+pub const MEMORY: u8 = 4;
+
+/// A text that grows. Once memory is refused for it, it is no longer whole.
+#[derive(Drop)]
+pub struct Text {
+    pub bytes: Vec<u8>,
+    pub has_failed: bool,
+}
+
+impl Text {
+    /// The empty text.
+    pub fn new(alloc: Global) -> Text
+        ensures empty { result.bytes.items ≡ [] }
+        ensures whole { result.has_failed ≡ false }
+    {
+        Text {
+            bytes: Vec::new(alloc),
+            has_failed: false,
+        }
+    }
+
+    /// Adds what is displayed.
+    pub fn say<T: Display + Drop>(&mut self, text: T)
+        ensures { Says self.old self.new (T.output text) }
+    {
+        if write!(self.bytes, "{text}").is_err() {
+            self.has_failed = true;
+        }
+    }
+}
+
+/// What a command says on both streams, and its exit status.
+#[derive(Drop)]
+pub struct Reply {
+    pub status: u8,
+    pub out: Text,
+    pub err: Text,
+    /// Whether `out` is a JSON document. Then lack of memory is a document, too.
+    pub is_json: bool,
+}
+
+impl Reply {
+    /// A reply that says nothing yet.
+    pub fn new(alloc: Global) -> Reply
+        ensures status { result.status ≡ 0 }
+        ensures out { result.out.bytes.items ≡ [] }
+        ensures err { result.err.bytes.items ≡ [] }
+        ensures whole { IsWhole result }
+    {
+        Reply {
+            status: DONE,
+            out: Text::new(alloc),
+            err: Text::new(alloc),
+            is_json: false,
+        }
+    }
+
+    /// Whether there was memory for both texts.
+    pub fn is_whole(&self) -> bool
+        ensures whole { result ≡ true → IsWhole self.now }
+        ensures cut { result ≡ false → (self.now.out.has_failed ≡ true) ⊎ (self.now.err.has_failed ≡ true) }
+    {
+        !(self.out.has_failed || self.err.has_failed)
+    }
+}
