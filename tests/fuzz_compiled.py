@@ -44,13 +44,19 @@ def does_ttl(program: str, made: str) -> bool:
         return all(compiled.does_the_same(program, made, folder / "ttl/ttl.toml"))
 
 
+def limit_of(asked: argparse.Namespace) -> list[str]:
+    """How long tests/fuzz.py goes on: 100,000 cases if nothing is said."""
+    return ["--seconds", str(asked.seconds)] if asked.seconds else ["--cases", str(asked.cases or 100_000)]
+
+
 def main() -> int:
     """All of it."""
     parser = argparse.ArgumentParser(description="Runs random cases of tests/fuzz.py with compiled node programs.")
     parser.add_argument("program", nargs="?", metavar="PROGRAM")
     parser.add_argument("--seed", default="1")
     parser.add_argument("--families", type=int, default=12)
-    parser.add_argument("--cases", type=int, default=100_000)
+    parser.add_argument("--cases", type=int, default=0)
+    parser.add_argument("--seconds", type=float, default=0)
     parser.add_argument("--gate", action="store_true")
     asked = parser.parse_args()
     program, nodes = program_of(asked.program), texts(asked.seed, asked.families)
@@ -60,7 +66,7 @@ def main() -> int:
             return 1
     else:
         made = with_machine_code(program, nodes)
-    words = ["--seed", asked.seed, "--families", str(asked.families), "--only", ",".join(KINDS), "--cases", str(asked.cases), made]
+    words = ["--seed", asked.seed, "--families", str(asked.families), "--only", ",".join(KINDS), *limit_of(asked), made]
     return subprocess.run([sys.executable, str(TOP / "tests/fuzz.py"), *words], check=False).returncode
 
 

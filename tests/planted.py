@@ -16,9 +16,9 @@ Where nothing says which, all are tried.
   --most N     of what CRATE and --since ask for beyond the part no more than N, beginning with the part behind it; the others
                are left for another time, and counted
   --must-fail  those of must-fail/ as well, which `rt ci` tries each time
-  --gate       what the gate tries at this commit: all of planted/always; and of the others --since the commit 8 changes back,
-               --part N 8, where N is the number of changes so far by 8, and --most 16; where there is no such history every crate
-               counts as changed, and the day is N
+  --gate       what the gate tries at this commit, at most 70: all of planted/always; then edits that are new since the commit 8
+               changes back, then those of functions whose text has changed since, then part N of 24, where N is the number of
+               changes so far by 24, or the day where there is no such history
   --count      tries none: writes how many each crate has into the table of docs/notes/wrong_bodies.md
   --alone      each in a check of its own
   --jobs N     N checks side by side (by default as many as there are processors and memory)
@@ -36,6 +36,7 @@ import collections
 import concurrent.futures
 import dataclasses
 import functools
+import itertools
 import os
 import pathlib
 import re
@@ -49,8 +50,8 @@ import zlib
 from collections.abc import Iterable
 
 TOP = pathlib.Path(__file__).resolve().parent.parent
-# Where the gate's turn comes round, and how many more edits than those of its turn it tries at most.
-PARTS, MOST = 8, 16
+# How many parts take turns in the gate, how many changes back the gate looks, and how many edits it tries at most.
+PARTS, BACK, MOST = 24, 8, 70
 # The folders of wrong bodies: those that `rt ci` tries, those that the gate tries each time, and those that have a turn.
 MUST_FAIL, ALWAYS, PLANTED = FOLDERS = ("must-fail", "planted/always", "planted")
 # How many edits share a check at first, and again if something else hid the result of one.
@@ -394,7 +395,27 @@ def at_this_commit() -> tuple[int, str | None]:
     count = git("rev-list", "--count", "--first-parent", "HEAD")
     if count is None or git("rev-parse", "--is-shallow-repository") != "false":
         return int(time.time()) // 86_400 % PARTS, None
-    return int(count) % PARTS, git("rev-parse", "-q", "--verify", f"HEAD~{PARTS}")
+    return int(count) % PARTS, git("rev-parse", "-q", "--verify", f"HEAD~{BACK}")
+
+
+def changed_functions(commit: str) -> dict[str, set[str]]:
+    """For each crate the ends of the names of the functions whose text differs from a commit."""
+    said = git("diff", "-U0", "--no-renames", commit, "--", "crates/*/src/*.rt") or ""
+    found: dict[str, set[str]] = collections.defaultdict(set)
+    crate, text = "", ""
+    for row in said.splitlines():
+        if row.startswith("+++ "):
+            at = row[4:].removeprefix("b/").split("/")
+            is_there = row[4:] != "/dev/null" and at[1] in CRATES
+            crate, text = (at[1], (TOP / "/".join(at)).read_text()) if is_there else ("", "")
+            modules = [it for it in "/".join(at[3:]).removesuffix(".rt").split("/") if it not in ("lib", "main", "mod")] if crate else []
+        hunk = re.match(r"@@ -\S+ \+(\d+)(?:,(\d+))? @@", row)
+        if hunk and crate:
+            starts = [0, *itertools.accumulate(len(it) + 1 for it in text.split("\n"))]
+            for line in range(int(hunk[1]) - 1, int(hunk[1]) - 1 + max(1, int(hunk[2] or 1))):
+                name = function_at(text, starts[max(0, line)]) if line < len(starts) else None
+                found[crate] |= {"::".join(name if len(name) == 2 else [*modules[-1:], *name])} if name else set()
+    return found
 
 
 def all_edits(folders: Iterable[str]) -> list[Edit]:
@@ -426,16 +447,37 @@ def asked() -> argparse.Namespace:
     return by
 
 
+def ends_of(edit: Edit) -> set[str]:
+    """The ends of the names of the functions that an edit changes; none where it cannot be tried."""
+    try:
+        return edit.functions
+    except (Unfit, ValueError):
+        return set()
+
+
+def of_the_gate(edits: list[Edit]) -> tuple[list[Edit], int]:
+    """The edits that the gate tries at this commit, the ones that matter most first, and how many are left for another time."""
+    turn, since = at_this_commit()
+    news, changed = (changed_since(since)[1], changed_functions(since)) if since else (set(), {})
+    ranks = (
+        lambda it: it.is_always,
+        lambda it: it.name in news,
+        lambda it: bool(ends_of(it) & changed.get(it.crate.name, set())),
+        lambda it: it.turn(PARTS) == turn,
+    )
+    ranked = [(next((k for k, is_so in enumerate(ranks) if is_so(it)), len(ranks)), it) for it in edits]
+    asked = [it for rank, it in sorted(ranked, key=lambda pair: pair[0]) if rank < len(ranks)]
+    return asked[:MOST], len(edits) - len(asked[:MOST])
+
+
 def chosen(by: argparse.Namespace) -> tuple[list[Edit], int]:
     """The edits to try, and how many are left for another time."""
     if by.files:
         return [it for it in all_edits(FOLDERS) if it.file in by.files], 0
     edits = all_edits([PLANTED, ALWAYS] + [MUST_FAIL] * by.must_fail)
-    part, crates, news, most = by.part, set(by.crates), set(), by.most
     if by.gate:
-        turn, since = at_this_commit()
-        part, most, by.since = (turn, PARTS), MOST, since
-        crates |= set() if since else set(CRATES)
+        return of_the_gate(edits)
+    part, crates, news, most = by.part, set(by.crates), set(), by.most
     if by.since:
         found = changed_since(by.since)
         crates, news = crates | found[0], news | found[1]
@@ -443,7 +485,7 @@ def chosen(by: argparse.Namespace) -> tuple[list[Edit], int]:
         crates = set(CRATES)
     turn, parts = part or (0, 1)
     distance = lambda it: (it.turn(parts) - turn) % parts
-    first = [it for it in edits if part and distance(it) == 0 or by.gate and it.is_always]
+    first = [it for it in edits if part and distance(it) == 0]
     others = sorted((it for it in edits if it not in first and (it.crate.name in crates or it.name in news)), key=distance)
     return first + others[:most], len(others) - len(others[:most])
 

@@ -43,7 +43,8 @@ impl<O: Write, E: Write> Console<O, E> {
 
     /// Prints a line on standard output. Returns whether it was written.
     pub fn print_line<T: Display + Drop>(&mut self, text: T) -> bool
-        ensures printed { Prints result self.old.has_failed self.new.has_failed (O.contents self.old.out) (O.contents self.new.out) (with_newline (T.output text)) }
+        ensures printed { Prints result self.old.has_failed self.new.has_failed (O.contents self.old.out) (O.contents self.new.out)
+            (with_newline (T.output text)) }
         ensures err { self.new.err ≡ self.old.err }
     {
         let written = writeln!(self.out, "{text}").is_ok();
@@ -55,7 +56,8 @@ impl<O: Write, E: Write> Console<O, E> {
 
     /// Prints a line on standard error. Returns whether it was written.
     pub fn report_line<T: Display + Drop>(&mut self, text: T) -> bool
-        ensures printed { Prints result self.old.has_failed self.new.has_failed (E.contents self.old.err) (E.contents self.new.err) (with_newline (T.output text)) }
+        ensures printed { Prints result self.old.has_failed self.new.has_failed (E.contents self.old.err) (E.contents self.new.err)
+            (with_newline (T.output text)) }
         ensures out { self.new.out ≡ self.old.out }
     {
         let written = writeln!(self.err, "{text}").is_ok();
