@@ -1,11 +1,12 @@
 #!/usr/bin/env python3
 """Compiles random programs of the language pkt, has `dpv` infer, check and run them, and compares what they send with an interpreter.
 
-Usage: tests/fuzz_pkt.py [--seed N] [--cases N | --seconds N] [--jobs N] [--keep FOLDER] [PROGRAM]
-       tests/fuzz_pkt.py --again FOLDER [PROGRAM]
+Usage: tests/fuzz_pkt.py [--seed N] [--cases N | --seconds N] [--jobs N] [--keep FOLDER] [--model | PROGRAM]
+       tests/fuzz_pkt.py --again FOLDER [--model | PROGRAM]
 A case is a pipeline in which each port and each ring has a program of its own, which uses any statement. tools/pkt compiles the programs,
 and they run on 10 to 40 frames a port. tests/pkt_model, an interpreter of the source that knows no instruction, works out what each port
-sends and what the report says. The same seed makes the same cases with any number of jobs. PROGRAM is by default the one that ./dpv builds.
+sends and what the report says. The same seed makes the same cases with any number of jobs. PROGRAM is by default the one that ./dpv builds;
+with --model the checker and the machine of tests/model stand in for it, so nothing needs to be built.
 
 Findings are other bytes, another report, a program that the checker refuses, and a compiler that raises anything but SourceError. A program
 that the compiler refuses with an error is no finding: `send 0` takes its place, and the errors are counted by kind. One case in six is wild:
@@ -23,16 +24,16 @@ import shutil
 import sys
 import time
 from collections import Counter
+from collections.abc import Iterator
 from dataclasses import dataclass, field, replace
 from functools import lru_cache
 from random import Random
-from typing import NamedTuple
+from typing import NamedTuple, Protocol
 
-from command import TOP
-from fuzz import Place, Sums, all_jobs, own_place, parser_of, shown, words
-from model import captures
-from model.machine import Input, Pool, Port, Ring, run
-from model.machine import Env
+from command import TOP, program_of
+from fuzz import Place, Sums, all_jobs, own_place, parser_of, shown
+from model import captures, programs as assembler, rules
+from model.machine import Env, Input, Pool, Port, Ring, Stuck, World, run
 from pkt_cases.frames import frames
 from pkt_cases.pipelines import FACTS, Case, case, table_of
 from pkt_cases.shrinking import PLAIN, end_of_block, shrunk
@@ -49,6 +50,24 @@ SHRINK_SECONDS = 30.0
 WILD = 6
 # How the compiler reports a statement that control never reaches, and how many of them are removed from a text.
 UNREACHED, MAX_MENDS = "control never comes here", 60
+
+
+class Outcome(Protocol):
+    """How a run ended: its status, what it printed, and the files that it wrote."""
+
+    status: int
+    printed: str
+    reported: str
+    written: dict[str, bytes]
+
+
+class Modelled(NamedTuple):
+    """How a run of tests/model ended."""
+
+    status: int
+    printed: str
+    reported: str
+    written: dict[str, bytes]
 
 
 class Finding(NamedTuple):
@@ -161,7 +180,24 @@ def put(place: Place, it: Case, programs: list[str]) -> list[str]:
     return ["run", "it.toml", *(["--refuse", ",".join(map(str, it.refused))] if it.refused else [])]
 
 
-def judged(place: Place, it: Case, tally: Tally) -> Finding | None:
+def modelled(it: Case, texts: list[str]) -> Outcome:
+    """Checks and runs compiled programs by tests/model."""
+    nodes = []
+    for place, text in enumerate(texts):
+        node = assembler.assemble(text.encode())
+        # The model may infer too little for a loop; the machine then finds what goes wrong in a run.
+        is_good = isinstance(node, list) and (not rules.is_forward(node) or rules.infer(it.env, node, rules.entry_row(it.env, place)) is not None)
+        if not isinstance(node, list) or not is_good:
+            return Modelled(1, "", f"node {place} is refused\n{text}", {})
+        nodes.append(node)
+    try:
+        done = run(World(it.env, nodes, frozenset(it.refused)), [Input(it.records(port), "whole") for port in range(len(it.env.ports))])
+    except Stuck as stuck:
+        return Modelled(1, "", f"{stuck}\n" + "--\n".join(texts), {})
+    return Modelled(0, done.report, "", {f"o{port}": captures.written(False, records) for port, records in enumerate(done.sent)})
+
+
+def judged(place: Place | None, it: Case, tally: Tally) -> Finding | None:
     """Compiles, runs and interprets a case. Returns what is wrong."""
     programs = {text: compiled(text) for text in it.texts}
     for answer in programs.values():
@@ -172,7 +208,7 @@ def judged(place: Place, it: Case, tally: Tally) -> Finding | None:
     texts = [text for name in it.texts if isinstance(text := programs[name], str)]
     given = sum(map(len, it.inputs))
     it, report, written, sent = expected(it)
-    ended = place.run(put(place, it, texts))
+    ended: Outcome = place.run(put(place, it, texts)) if place else modelled(it, texts)
     tally.programs += len(programs.keys() - {PLAIN})
     tally.records += sum(map(len, it.inputs))
     tally.left_out += given - sum(map(len, it.inputs))
@@ -201,7 +237,7 @@ def difference(wanted: bytes, came: bytes) -> str:
     return f"packet {number} of {len(mine)}, {len(yours)} came\n wanted {said[0]}\n came   {said[1]}"
 
 
-def is_same(place: Place, it: Case, kind: str) -> bool:
+def is_same(place: Place | None, it: Case, kind: str) -> bool:
     """Whether a case has a finding of this kind."""
     try:
         finding = judged(place, it, Tally())
@@ -210,7 +246,7 @@ def is_same(place: Place, it: Case, kind: str) -> bool:
     return finding is not None and finding.kind == kind
 
 
-def keep(place: Place, it: Case, finding: Finding, folder: pathlib.Path) -> None:
+def keep(place: Place | None, it: Case, finding: Finding, folder: pathlib.Path) -> None:
     """Reduces a finding, writes it to a folder and prints it."""
     it = shrunk(it, lambda less: is_same(place, less, finding.kind), SHRINK_SECONDS)
     finding = judged(place, it, Tally()) or finding
@@ -238,7 +274,7 @@ def kept(folder: pathlib.Path) -> Case:
 def work(asked: argparse.Namespace, first: int, until: float) -> Tally:
     """Runs the cases of one job."""
     tally = Tally()
-    with own_place(asked.program) as place:
+    with place_of(asked.program) as place:
         for number in range(first, asked.cases, asked.jobs):
             if time.monotonic() >= until:
                 break
@@ -251,12 +287,22 @@ def work(asked: argparse.Namespace, first: int, until: float) -> Tally:
     return tally
 
 
-def found_before(program: str) -> Tally:
+@contextlib.contextmanager
+def place_of(program: str | None) -> Iterator[Place | None]:
+    """A folder to run the program in; none for the model."""
+    if program is None:
+        yield None
+    else:
+        with own_place(program) as place:
+            yield place
+
+
+def found_before(program: str | None) -> Tally:
     """Runs the programs that once were findings, on ports whose lists are soon full, and with allocations refused. The compiler has to
     refuse those that begin with `# refused:`, in these words."""
     tally, rng = Tally(), Random("found")
     env = Env([Pool(16, 0, 2176), Pool(2, 0, 0)], [], [Ring(4, FACTS["any"])], [Port(0, 1, queue) for queue in (2, 4, 32)])
-    with own_place(program) as place:
+    with place_of(program) as place:
         for path in sorted(FOUND.glob("*.pkt")):
             text = path.read_text()
             it = Case(env, (text, text, text, PLAIN), tuple(tuple(frames(rng, 60)) for _ in env.ports), (7, 20, 21))
@@ -277,7 +323,7 @@ def found_before(program: str) -> Tally:
 def again(asked: argparse.Namespace) -> int:
     """Runs a finding once more."""
     folder = asked.again.resolve()
-    with own_place(asked.program) as place:
+    with place_of(asked.program) as place:
         finding = judged(place, kept(folder), Tally())
     print(finding.text if finding else "as it has to be")
     return 1 if finding else 0
@@ -286,7 +332,11 @@ def again(asked: argparse.Namespace) -> int:
 def main() -> int:
     """Runs all jobs and prints the counts."""
     description = "Compiles random programs of the language pkt, runs them, and compares what they send with an interpreter."
-    asked = words(parser_of(description, "dpv_pkt_findings"), 1_000)
+    parser = parser_of(description, "dpv_pkt_findings")
+    parser.add_argument("--model", action="store_true")
+    asked = parser.parse_args()
+    asked.program, asked.keep = None if asked.model else program_of(asked.program), asked.keep.resolve()
+    asked.cases = asked.cases or (sys.maxsize if asked.seconds else 1_000)
     if asked.again:
         return again(asked)
     tally = found_before(asked.program)

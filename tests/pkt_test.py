@@ -331,6 +331,11 @@ send port"""
         self.assertEqual(sent(source, eth(inner))[0], [wanted])
         self.assertEqual(sent("need gre\npop ipv4/gre\nsend port", wanted)[0], [wanted[:14] + inner])
 
+    def test_constants_beside_a_field_that_is_pushed(self) -> None:
+        frame = eth(b"x" * 46)
+        self.assertEqual(sent("header h { a:20 b:4 = 5 }\npush h { a = eth.type }\nsend port", frame)[0], [b"\0\x80\x05" + frame])
+        self.assertEqual(sent("header h { a:4 = 9 b:40 c:4 = 5 }\npush h { b = eth.dst }\nsend port", frame)[0], [bytes.fromhex("9000000000b5") + frame])
+
     def test_a_length_that_varies_is_popped_whole(self) -> None:
         frame = eth(ipv4(17, b"payload", bytes(12)))
         self.assertEqual(sent("pop ipv4\nsend port", frame, frame[:45])[0], [frame[:14] + b"payload"])

@@ -63,6 +63,7 @@ class Writer:
 
     def __init__(self, rng: Random, setting: Setting, headers: dict[str, Header], wild: bool) -> None:
         self.rng, self.setting, self.headers, self.wild = rng, setting, headers, wild
+        self.own = [name for name in headers if name.startswith("mine")]
         self.numbers = Numbers(rng, headers)
         self.names = 0
         self.left = rng.choice((2, 3, 3, 4, 4, 5, 6, 8, 12))
@@ -373,6 +374,8 @@ class Writer:
         """Some fields of a header that is pushed."""
         header = self.headers[name]
         names = [it for it, bits in header.fields.items() if (not bits.is_alias or self.chance(0.3)) and it != header.next]
+        if name in self.own and self.chance(0.5):
+            return f"{self.rng.choice(names)} = eth.{self.rng.choice(list(self.headers['eth'].fields))}" if names else ""
         part = self.rng.choice((0.2, 0.3, 0.7))
         chosen: list[str] = []
         for it in self.rng.sample(names, sum(1 for _ in names if self.chance(part))):
@@ -397,6 +400,14 @@ class Writer:
             tag = self.rng.choice([name for name, header in self.headers.items() if header.next])
             return [f"push {tag} {{ {self.pushed_fields(tag)} }}".replace("{  }", "{ }")], False
         return self.pushed(""), False
+
+    def push_own(self, state: State, _deep: int) -> tuple[Lines, bool] | None:
+        """A header of the program's own at the front."""
+        if not self.own or not self.may_write(state):
+            return None
+        state.pushed += 60
+        name = self.rng.choice(self.own)
+        return [f"push {name} {{ {self.pushed_fields(name)} }}".replace("{  }", "{ }")], False
 
     def pop(self, state: State, _deep: int) -> tuple[Lines, bool] | None:
         """Headers that are taken out."""
@@ -450,7 +461,7 @@ def touches(bits: Bits, other: Bits) -> bool:
 
 # What parts the words of a statement; and the makers of those that touch headers and make no name.
 NAMES = re.compile(r"[^A-Za-z0-9_]+")
-GUARDED = (Writer.assign, Writer.put, Writer.mend, Writer.push, Writer.pop)
+GUARDED = (Writer.assign, Writer.put, Writer.mend, Writer.push, Writer.push_own, Writer.pop)
 # The makers of statements, and how often each is chosen.
 MAKERS: list[tuple[Callable[[Writer, State, int], tuple[Lines, bool] | None], float]] = [
     (Writer.let, 0.8),
@@ -469,22 +480,24 @@ MAKERS: list[tuple[Callable[[Writer, State, int], tuple[Lines, bool] | None], fl
     (Writer.release_held, 0.5),
     (Writer.cut_named, 0.4),
     (Writer.push, 0.8),
+    (Writer.push_own, 1.0),
+    (Writer.push_own, 1.0),
     (Writer.pop, 0.8),
     (Writer.cut, 0.5),
 ]
 
 
 def own_header(rng: Random, name: str, before: str) -> str:
-    """A header of the program's own, which follows another."""
-    fields, at = [], 0
-    for number in range(rng.choice((1, 2, 3, 4))):
-        count = rng.choice((8, 8, 16, 16, 32, 48, 64, 4, 3, 13))
+    """A header of the program's own, which follows another. Every third one is narrow: its bits share the bytes of one load."""
+    fields, at, is_narrow = [], 0, rng.random() < 0.35
+    for number in range(rng.choice((2, 2, 3) if is_narrow else (1, 2, 3, 4))):
+        count = rng.choice((1, 3, 4, 5, 12, 20) if is_narrow else (8, 8, 16, 16, 32, 48, 64, 4, 3, 13, 20, 24, 40))
         count = min(count, 64 - at % 8)
-        default = rng.choice(("", "", "", f"={rng.getrandbits(count)}", "=auto" if count == 16 and at % 16 == 0 else ""))
+        default = rng.choice(("", *([f"={rng.getrandbits(count)}"] * 2 if is_narrow else ("", "")), f"={rng.getrandbits(count)}", "=auto" if count == 16 and at % 16 == 0 else ""))
         fields.append(f"f{number}:{count}{default}")
         at += count
     if at % 8:
-        fields.append(f"pad:{8 - at % 8}")
+        fields.append(f"pad:{8 - at % 8}{rng.choice(('', f'={rng.getrandbits(8 - at % 8)}'))}")
         at += 8 - at % 8
     texts = list(fields)
     if rng.random() < 0.3:
@@ -517,6 +530,6 @@ def own_sum(rng: Random, fields: Lines) -> str:
 def program(rng: Random, setting: Setting, prelude: str, wild: bool) -> str:
     """A program; a wild one writes what the page does not allow now and then."""
     own = ""
-    if rng.random() < 0.15:
+    if rng.random() < 0.25:
         own = "\n".join(own_header(rng, f"mine{k}", rng.choice(("eth", "eth", "vlan", "ipv4", "udp", "gre"))) for k in range(rng.choice((1, 1, 2)))) + "\n"
     return own + Writer(rng, setting, read(own, prelude).headers, wild).text()

@@ -166,8 +166,9 @@ class Packets(Checksums):
     def write(self, data: bytes, others: Others, front: int, packet: int, over_zeros: bool = True) -> None:
         """Writes headers, perhaps over zeros: constants in pieces as large as possible, and then the other fields."""
         known = {front + k: byte for k, byte in enumerate(data)}
-        # With several such fields, the constant bits of a byte that one of them covers in part are written first.
-        later = {k for span, _ in others for k in span.bytes if len(others) == 1 or span.bit <= 8 * k and 8 * k + 8 <= span.end}
+        # The constant bits of a byte that a field covers in part are written first, unless its store writes only bytes that are known.
+        is_known = len(others) == 1 and {*self.written(others[0][0].moved(front), packet)} <= known.keys()
+        later = {k for span, _ in others for k in span.bytes if is_known or span.bit <= 8 * k and 8 * k + 8 <= span.end}
         zeros = {at for at, byte in enumerate(data) if over_zeros and not byte}
         for at, width in pieces({*range(len(data))} - later, zeros):
             self.store(Span(8 * (front + at), 8 * width), Value(int.from_bytes(data[at : at + width], "big")), packet)

@@ -7,6 +7,8 @@ from .syntax import BIGGEST, THIS, Binary, Bits, Field, Name, Node, Number, Sour
 from .ways import Way
 
 INSTRUCTIONS = {"+": "add", "-": "sub", "&": "and", "|": "or", "^": "xor", "<<": "shl", ">>": "shr"}
+# How many bits a field of whole bytes has that is stored without a load.
+WIDTHS = (8, 16, 32, 48, 64)
 
 
 @dataclass
@@ -128,11 +130,18 @@ class Registers(Way):
         is_alone = self.packets[packet].sharers <= {SOMEBODY_THE_REST}
         require(is_alone, self.at, f"the bytes of the packet cannot be written here: {who}", cure)
 
+    def written(self, span: Span, packet: int) -> range:
+        """The bytes that a store of these bits writes."""
+        if span.bit % 8 == 0 and span.bits in WIDTHS:
+            return span.bytes
+        start, width, _ = self.window(span, packet)
+        return range(start, start + width)
+
     def store(self, span: Span, value: Value, packet: int | None = None, known: dict[int, int] | None = None) -> None:
         """Writes the low bits of a value, and releases the value. `known` has bytes of the packet whose values are known."""
         packet = self.held[THIS] if packet is None else packet
         self.may_write(packet)
-        if span.bit % 8 or span.bits not in (8, 16, 32, 48, 64):
+        if span.bit % 8 or span.bits not in WIDTHS:
             self.store_bits(span, value, packet, known or {})
         elif value.register is None and span.bit < 4 * FAR:
             scratch = self.fresh()
