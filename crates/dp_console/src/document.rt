@@ -5,11 +5,15 @@ use serde::{Described, Serialize, Serializer};
 use std::alloc::Global;
 use std::fmt;
 
+/// The largest number that is printed as one, 2^53: a float of 64 bits holds each number up to it.
+const MAX_NUMBER: u64 = 9_007_199_254_740_992;
+
 /// A value of a member.
 #[derive(Clone, Copy)]
 pub enum Item<'a> {
     Null,
     Bool(bool),
+    /// A number; above 2^53 a string of its digits.
     Number(u64),
     Text(&'a str),
 }
@@ -21,6 +25,7 @@ impl Serialize for Item<'_> {
         match *self {
             Item::Null => out.unit(),
             Item::Bool(value) => out.bool(value),
+            Item::Number(number) if number > MAX_NUMBER => out.collect_str(&number),
             Item::Number(number) => out.u64(number),
             Item::Text(text) => out.str(text),
         }
