@@ -1,0 +1,120 @@
+//! The files that a command reads before it judges any of them.
+
+ghost use Rattle.std.specs.Prelude.{◌≡◌, IfErr, IfOk, Some, find, option_map, string_bytes};
+ghost use Rattle.std.specs.Str.{bytes_eq};
+ghost use Rattle.dp_sources.specs.Sources.{bytes_of, files_of};
+
+use dp_pipe::{FetchFault, Files};
+use std::alloc::Global;
+use std::{fmt, io};
+
+/// Why a file was not read.
+#[derive(Clone, Copy)]
+pub enum ReadError {
+    /// The system's error.
+    System(io::Error),
+    /// It has more than 1,048,576 bytes.
+    TooLong,
+}
+
+impl fmt::Display for ReadError {
+    fn fmt<W: fmt::Write>(&self, f: &mut fmt::Formatter<W>) -> fmt::Result {
+        match self {
+            ReadError::System(error) => write!(f, "{error}"),
+            ReadError::TooLong => write!(f, "it is longer than 1048576 bytes"),
+        }
+    }
+}
+
+/// A file that was not read.
+#[derive(Clone, Copy)]
+pub struct Unread<'a> {
+    pub name: &'a str,
+    pub error: ReadError,
+}
+
+/// A file: its bytes, or why it was not read.
+#[derive(Drop)]
+pub struct Source {
+    pub name: String,
+    /// Its bytes. If there is an error, they may be those of its beginning.
+    pub bytes: Vec<u8>,
+    pub error: Option<ReadError>,
+}
+
+/// The programs and certificates of a command, each file once.
+#[derive(Drop)]
+pub struct Sources {
+    pub files: Vec<Source>,
+}
+
+impl Source {
+    /// Its bytes, if it was read.
+    fn bytes(&self) -> Option<&[u8]>
+        ensures { option_map (λ bytes. bytes.now) result ≡ bytes_of self.now }
+    {
+        if self.error.is_none() {
+            Some(self.bytes.as_slice())
+        } else {
+            None
+        }
+    }
+
+    /// Why it was not read, if it was not.
+    pub fn unread(&self) -> Option<Unread<'_>> {
+        match self.error {
+            Some(error) => Some(Unread {
+                name: self.name.as_str(),
+                error,
+            }),
+            None => None,
+        }
+    }
+}
+
+impl Sources {
+    /// No files.
+    pub fn new(alloc: Global) -> Sources {
+        Sources {
+            files: Vec::new(alloc),
+        }
+    }
+
+    /// The file of this name.
+    pub fn find(&self, name: &str) -> Option<&Source>
+        ensures { option_map (λ file. file.now) result ≡ find (λ file. bytes_eq (string_bytes file.name) name.now) self.now.files.items }
+    {
+        self.files.iter().find(|file| file.name.as_str() == name)
+    }
+
+    /// The bytes of the file of this name, if it was read.
+    pub fn get(&self, name: &str) -> Option<&[u8]>
+        ensures { option_map (λ bytes. bytes.now) result ≡ files_of self.now name.now }
+    {
+        match self.find(name) {
+            Some(file) => file.bytes(),
+            None => None,
+        }
+    }
+}
+
+/// Sources that are lent. They stay as they are.
+#[derive(Clone, Copy)]
+pub struct Lent<'a>(pub &'a Sources);
+
+impl Files for Lent<'_> {
+    ghost use Rattle.std.specs.Prelude.{Some};
+    ghost use Rattle.dp_sources.specs.Sources.{files_of};
+
+    ghost known = { λ lent. Some (files_of lent.0.now) };
+
+    fn fetch(&mut self, alloc: Global, name: &str) -> Result<Vec<u8>, FetchFault> {
+        match self.0.get(name) {
+            Some(bytes) => match bytes.to_vec(alloc) {
+                Ok(bytes) => Ok(bytes),
+                Err(_) => Err(FetchFault::Memory),
+            },
+            None => Err(FetchFault::Missing),
+        }
+    }
+}
