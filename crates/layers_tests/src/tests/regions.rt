@@ -5,7 +5,6 @@ ghost use Rattle.dp_region.specs.Region.{IsRegionSize, min_region};
 use dp_region::{Block, MAX_REGION, Memory, Region};
 use std::alloc::Global;
 use std::process::Abort;
-use std::test::Fail;
 
 fn write_low(low: &mut Block)
     requires { length low.old.bytes ≡ 3 }
@@ -64,22 +63,28 @@ fn overlaid(region: &mut Region) -> u32
     region.load_u32(5)
 }
 
-#[test]
-fn bytes_stay_as_the_holder_left_them(rt: HostRuntime) -> Result<(), Fail> {
-    let mut region = Region::new(rt.alloc(), 4096).expect(&rt, "memory");
+// What is stored and lent, in turn.
+fn is_kept(region: &mut Region) -> bool
+    requires { (region.old.lent ≡ []) × (min_region ≤ length region.old.bytes) }
+    ensures { region.new.lent ≡ [] }
+{
     region.store_u32(60, 0x0403_0201);
-    let first = visit(&mut region);
-    let last = numbers(&region);
-    let low = overlaid(&mut region);
+    if visit(region) != (2, 4, 0, 64, 64) {
+        return false;
+    }
+    if numbers(region) != (0x0503_0901, 0x0605_0403_0000_0807, 0x0807) {
+        return false;
+    }
+    overlaid(region) == 0x0102_0304
+}
+
+#[test]
+fn bytes_stay_as_the_holder_left_them(rt: HostRuntime) {
+    let mut region = Region::new(rt.alloc(), 4096).expect(&rt, "memory");
+    let kept = is_kept(&mut region);
     let size = region.size();
     region.close();
-    assert_eq!(rt; first, (2, 4, 0, 64, 64));
-    assert_eq!(rt; last, (0x0503_0901, 0x0605_0403_0000_0807, 0x0807));
-    assert_eq!(rt; low, 0x0102_0304);
-    assert_eq!(rt; size, 4096);
-    let text = format!(in rt.alloc(); "{Memory}")?;
-    assert_eq!(rt; text.as_str(), "out of memory");
-    Ok(())
+    assert!(&rt; kept && size == 4096);
 }
 
 // With the first allocation refused, `new` returns `Memory`.
@@ -109,9 +114,9 @@ fn used(rt: &impl Abort, alloc: Global, size: u32, number: u32) -> (u32, u32)
 
 // A region of the maximum size can be allocated if there is memory.
 #[test]
-fn the_largest_region_can_be_had(rt: HostRuntime) {
+fn the_largest_region(rt: HostRuntime) {
     let number = 0x0102_0304;
-    assert_eq!(rt; used(&rt, rt.alloc(), MAX_REGION, number), (number, number));
+    assert!(&rt; used(&rt, rt.alloc(), MAX_REGION, number) == (number, number));
 }
 
 // All memory is freed, so any number of regions can follow one another.
@@ -120,9 +125,8 @@ fn ten_thousand_regions_follow_one_another(rt: HostRuntime) {
     for k in 0..2500u32 {
         for size in [4096u32, 8192, 12_288, 16_384] {
             let number = k * 1000 + size % 1000;
-            assert_eq!(rt;
-                used(&rt, rt.alloc(), size, number),
-                (number, number),
+            assert!(&rt;
+                used(&rt, rt.alloc(), size, number) == (number, number),
                 "{k} {size}"
             );
         }

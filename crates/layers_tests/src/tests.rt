@@ -1,0 +1,8 @@
+//! Calls with their answers, by the layer that they are of, and the words of all errors.
+
+mod causes;
+mod heaps;
+mod pools;
+mod regions;
+mod rings;
+mod zones;

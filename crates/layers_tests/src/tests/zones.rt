@@ -1,0 +1,301 @@
+//! Zones that are reserved, looked up and given back, call by call.
+ghost use Rattle.std.specs.Prelude.{◌≡◌, All};
+
+use Step::{GiveAllBack, GiveBack, Keep, KeepAll, Lookup, Try, Whole};
+use ZoneError::{BadAlign, BadLength, BadName, Exists, Full, NoRoom};
+use arrayvec::ArrayString;
+use dp_heap::{Element, Heap, State};
+use dp_region::Region;
+use dp_zone::{Zone, ZoneError, ZoneInfo, ZoneName, Zones};
+use std::alloc::Global;
+use std::process::Abort;
+
+/// A call, and what it answers.
+enum Step {
+    /// A zone of a name, a length and an alignment is refused, or reserved and given back at once.
+    Try(&'static str, u32, u32, Option<ZoneError>),
+    /// A zone of these has this offset and this length, and is the last of those that are kept.
+    Keep(&'static str, u32, u32, (u32, u32)),
+    /// This number of zones of 64 bytes are kept, with names of one character from '"' on.
+    KeepAll(u8),
+    /// The k-th of those that are kept is given back.
+    GiveBack(usize),
+    /// All are given back, the first one first.
+    GiveAllBack,
+    /// The zone of this name has this offset and this length, or there is none.
+    Lookup(&'static str, Option<(u32, u32)>),
+    /// The heap begins with one free element of 4,096 bytes.
+    Whole,
+}
+
+/// The bytes of a heap, and calls.
+static SCRIPTS: [(u32, &[Step]); 3] = [
+    // Refusals, in their order.
+    (
+        4096,
+        &[
+            Keep("a", 100, 0, (3968, 128)),
+            Try("a", 100, 0, Some(Exists)),
+            Try("abcdefghijklmnopqrstuvwxyz123456", 0, 96, Some(BadName)),
+            Try("abcdefghijklmnopqrstuvwxyz12345", 64, 0, None),
+            Try("", 64, 0, Some(BadName)),
+            Try("a b", 64, 0, Some(BadName)),
+            Try("b", 0, 96, Some(BadLength)),
+            Try("b", 1_073_741_825, 0, Some(BadLength)),
+            Try("a", 64, 96, Some(BadAlign)),
+            Try("b", 4096, 0, Some(NoRoom)),
+            GiveBack(0),
+            Try("a", 100, 0, None),
+            Whole,
+        ],
+    ),
+    // Zones are looked up by whole names.
+    (
+        4096,
+        &[
+            Keep("ab", 64, 0, (4032, 64)),
+            Keep("abc", 100, 1024, (3072, 128)),
+            Lookup("a", None),
+            Lookup("ab", Some((4032, 64))),
+            Lookup("abc", Some((3072, 128))),
+            Lookup("abcd", None),
+            GiveBack(0),
+            Lookup("ab", None),
+            Lookup("abc", Some((3072, 128))),
+            GiveBack(0),
+        ],
+    ),
+    // At most 64 zones.
+    (
+        16384,
+        &[
+            KeepAll(63),
+            Try("new", 64, 0, None),
+            Try("A", 64, 0, Some(Exists)),
+            Try("new", 0, 0, Some(BadLength)),
+            GiveAllBack,
+            KeepAll(64),
+            Try("new", 64, 0, Some(Full)),
+            Try("A", 64, 0, Some(Exists)),
+            Try("new", 0, 0, Some(BadLength)),
+            GiveAllBack,
+        ],
+    ),
+];
+
+/// A heap, the zones in it, and those that are kept.
+struct Bench {
+    heap: Heap,
+    zones: Zones,
+    kept: Vec<Zone>,
+    ghost at_home: { All (λ z. z.home ≡ heap.home) kept.items },
+}
+
+fn try_one(bench: &mut Bench, name: &str, len: u32, align: u32) -> Option<ZoneError> {
+    match bench.zones.reserve(&mut bench.heap, name, len, align) {
+        Ok(zone) => {
+            bench.zones.give_back(&mut bench.heap, zone);
+            None
+        }
+        Err(error) => Some(error),
+    }
+}
+
+fn keep(bench: &mut Bench, name: &str, len: u32, align: u32) -> Option<(u32, u32)> {
+    let Ok(zone) = bench.zones.reserve(&mut bench.heap, name, len, align) else {
+        return None;
+    };
+    let info = (zone.offset(), zone.len());
+    if let Err(failed) = bench.kept.push(zone) {
+        bench.zones.give_back(&mut bench.heap, failed.value);
+    }
+    Some(info)
+}
+
+fn keep_all(bench: &mut Bench, number: u8) -> bool {
+    for k in 0..number.min(64) {
+        let mut name = ArrayString::<4>::new();
+        name.push((34 + k) as char);
+        if keep(bench, name.as_str(), 64, 0) == None {
+            return false;
+        }
+    }
+    true
+}
+
+fn give_back(bench: &mut Bench, k: usize) -> bool {
+    if k >= bench.kept.len() {
+        return false;
+    }
+    let zone = bench.kept.remove(k);
+    bench.zones.give_back(&mut bench.heap, zone);
+    true
+}
+
+fn give_all_back(bench: &mut Bench) -> bool {
+    for _ in 0..64u8 {
+        give_back(bench, 0);
+    }
+    bench.kept.is_empty()
+}
+
+fn lookup(zones: &Zones, name: &str) -> Option<(u32, u32)> {
+    match zones.lookup(name) {
+        Some(ZoneInfo { offset, len }) => Some((offset, len)),
+        None => None,
+    }
+}
+
+fn is_whole(heap: &Heap) -> bool {
+    let whole = Element {
+        offset: 0,
+        size: 4096,
+        state: State::Free,
+        pad: 0,
+    };
+    heap.element(0) == Some(whole)
+}
+
+fn does(bench: &mut Bench, step: &Step) -> bool {
+    match step {
+        Try(name, len, align, why) => try_one(bench, name, *len, *align) == *why,
+        Keep(name, len, align, info) => keep(bench, name, *len, *align) == Some(*info),
+        KeepAll(number) => keep_all(bench, *number),
+        GiveBack(k) => give_back(bench, *k),
+        GiveAllBack => give_all_back(bench),
+        Lookup(name, info) => lookup(&bench.zones, name) == *info,
+        Whole => is_whole(&bench.heap),
+    }
+}
+
+// Ends a heap whose zones are all given back.
+fn close(rt: &impl Abort, bench: Bench) {
+    let Bench {
+        heap,
+        zones: _,
+        kept,
+    } = bench;
+    assert!(rt; kept.is_empty());
+    kept.destroy_empty();
+    let busy = heap.stats().busy_count;
+    assert!(rt; busy == 0);
+    heap.close().close();
+}
+
+// The first step that is not as its row says, from 0.
+fn differs(rt: &impl Abort, alloc: Global, size: u32, steps: &[Step]) -> Option<usize> {
+    assert!(rt; size == 4096 || size == 16384);
+    let heap = Heap::new(Region::new(alloc, size).expect(rt, "memory"));
+    let mut bench = Bench {
+        heap,
+        zones: Zones::new(),
+        kept: Vec::new(alloc),
+    };
+    let mut first = None;
+    for (k, step) in steps.iter().enumerate() {
+        if first == None && !does(&mut bench, step) {
+            first = Some(k);
+        }
+    }
+    close(rt, bench);
+    first
+}
+
+#[test]
+fn scripts(rt: HostRuntime) {
+    for (k, (size, steps)) in SCRIPTS.iter().enumerate() {
+        assert_eq!(rt; differs(&rt, rt.alloc(), *size, steps), None, "script {k}");
+    }
+}
+
+/// How the bytes of a zone are written.
+enum Edit {
+    /// All of them, with this byte.
+    Fill(u8),
+    /// From an offset, in this number, with zeros.
+    Clear(u32, u32),
+    /// A number of 4 bytes at an offset.
+    StoreU32(u32, u32),
+    /// A number of 2 bytes at an offset.
+    StoreU16(u32, u16),
+    /// These from an offset, in a part that is lent.
+    Part(u32, &'static [u8]),
+    /// These from an offset, by `write`.
+    Write(u32, &'static [u8]),
+    /// The bytes from an offset, in this number, are copied to another offset.
+    Copy(u32, u32, u32),
+}
+
+static EDITS: [Edit; 7] = [
+    Edit::Fill(255),
+    Edit::Clear(0, 16),
+    Edit::StoreU32(0, 0x0403_0201),
+    Edit::StoreU16(4, 0x0605),
+    Edit::Part(6, &[7, 8]),
+    Edit::Write(62, &[9, 9]),
+    Edit::Copy(0, 8, 4),
+];
+
+// Writes a zone of 64 bytes; returns whether it has 64 afterwards.
+fn write(zone: &mut Zone, edit: &Edit) -> bool
+    ensures { zone.new.home ≡ zone.old.home }
+{
+    if zone.len() != 64 {
+        return false;
+    }
+    match edit {
+        Edit::Fill(byte) => zone.bytes_mut().fill(*byte),
+        Edit::Clear(at, len) if *at <= 32 && *len <= 32 => zone.clear(*at, *len),
+        Edit::StoreU32(at, number) if *at <= 60 => zone.store_u32(*at, *number),
+        Edit::StoreU16(at, number) if *at <= 62 => zone.store_u16(*at, *number),
+        Edit::Part(at, bytes) if *at <= 62 && bytes.len() == 2 => {
+            zone.part_mut(*at, 2).copy_from_slice(bytes);
+        }
+        Edit::Write(at, bytes) if *at <= 62 && bytes.len() == 2 => zone.write(*at, bytes),
+        Edit::Copy(from, len, to) if *from <= 32 && *len <= 32 && *to <= 32 => {
+            zone.copy_within(*from, *len, *to);
+        }
+        _ => return false,
+    }
+    zone.len() == 64
+}
+
+fn is_edited(zone: &mut Zone) -> bool
+    ensures { zone.new.home ≡ zone.old.home }
+{
+    for row in EDITS.iter() {
+        if !write(zone, row) {
+            return false;
+        }
+    }
+    true
+}
+
+fn reads(zone: &Zone) -> bool {
+    let bytes = zone.bytes();
+    zone.name().is("z")
+        && zone.len() == 64
+        && bytes.get(0..17) == Some(&[1u8, 2, 3, 4, 1, 2, 3, 4, 5, 6, 7, 8, 0, 0, 0, 0, 255][..])
+        && bytes.get(61..64) == Some(&[255u8, 9, 9][..])
+        && zone.load_u32(7) == 0x0706_0504
+        && zone.load_u16(15) == 0xff00
+}
+
+#[test]
+fn bytes_of_a_zone(rt: HostRuntime) {
+    let mut heap = Heap::new(Region::new(rt.alloc(), 4096).expect(&rt, "memory"));
+    let mut zones = Zones::new();
+    let mut zone = zones.reserve(&mut heap, "z", 64, 0).expect(&rt, "z");
+    let edited = is_edited(&mut zone) && reads(&zone);
+    zones.give_back(&mut heap, zone);
+    heap.close().close();
+    assert!(&rt; edited);
+}
+
+#[test]
+fn names(rt: HostRuntime) {
+    let name = ZoneName::new("port~!").expect(&rt, "a name");
+    let copy = name.copy();
+    assert!(&rt; copy.as_str() == "port~!" && ZoneName::new("port 1").is_none());
+    assert!(&rt; copy.is("port~!") && !copy.is("port~") && !copy.is("port~!!"));
+}
