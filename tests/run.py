@@ -56,6 +56,7 @@ STEPS = (
     Step("program", "tests/pipes.py", "live runs in pipes, a record at a time; `-` for standard input and output, which keep what they had; captures that the command line gives, beside edited pipeline files; each wrong word, and which fault is first", ON_PROGRAM),
     Step("program", "tests/mistakes.py", "60 one-letter mistakes in the examples: each message names the file and the line, and 50 of them the word", ON_PROGRAM),
     Step("program", "tests/messages.py", "the lines after a fault or a refused certificate, and those of `--progress`", ON_PROGRAM),
+    Step("program", "tests/scripts.py", "heap scripts: what they print, and each kind of line that is no command", ON_PROGRAM),
     Step("program", "tests/causes.py", "each cause for which a pipeline is refused, at each place, with each of its numbers", ON_PROGRAM),
     Step("program", "tests/program.py", "runs with each allocation refused in turn, a full disk, and a large region, which must be returned", ON_PROGRAM),
     Step("program", "tests/growths.py", "each command with each of its allocations refused in turn", ON_PROGRAM),
