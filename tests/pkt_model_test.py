@@ -158,6 +158,15 @@ class Sums(unittest.TestCase):
             self.assertEqual(sent("mend udp.sport += 1 send 0", datagram.format(old))[0], [data_of(datagram.format(new).replace("0035", "0036", 1)).hex()])
 
 
+    def test_of_one_that_another_covers(self) -> None:
+        # The inner word becomes 2 more and its checksum 2 less: the outer checksum, 1234, stays.
+        text = "header mine { a:16 s:16 } after udp if udp.dport == 53 sum s mend mine.a += 2 send 0"
+        datagram = PLAIN + "0035 0035 000c 1234 {}"
+        self.assertEqual(sent(text, datagram.format("0001 fffe"))[0], [data_of(datagram.format("0003 fffc")).hex()])
+        # Without that checksum it is 2 less.
+        self.assertEqual(sent(text.replace(" sum s", ""), datagram.format("0001 fffe"))[0], [data_of(datagram.replace("1234", "1232").format("0003 fffe")).hex()])
+
+
 class Packets(unittest.TestCase):
     """Packets that are made, sent or queued, and dropped."""
 

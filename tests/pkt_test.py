@@ -318,6 +318,34 @@ class Programs(unittest.TestCase):
         after = bytes.fromhex("fd00000000000099") + ends[0][8:]
         self.assertEqual(sent("need ipv6\nmend ipv6.src_hi = 0xfd00000000000099\nsend port", frame(ends[0]))[0], [frame(after)])
 
+    def test_mend_of_what_two_checksums_cover(self) -> None:
+        """A checksum that covers another one counts what changes in it: of a quoted packet, and of one in a tunnel."""
+        quoted = """
+header quoted { vhl:8 tos:8 len:16 id:16 pieces:16 ttl:8 proto:8 sum:16 src:32 dst:32 } after icmp if icmp.type == 3
+       length (v & 15) * 4 for v:8 in 0x45..0x4f sum sum
+header inner { sport:16 dport:16 len:16 sum:16 } after quoted if quoted.proto == 17 and quoted.pieces & 0x1fff == 0
+       sum sum payload over quoted.src quoted.dst inner.len optional
+"""
+
+        def error(inner: bytes) -> bytes:
+            message = bytes([3, 1, 0, 0, 0, 0, 0, 0]) + inner[14:]
+            return eth(ipv4(1, message[:2] + struct.pack(">H", checksum(message)) + message[4:]))
+
+        for options in (b"", bytes(8)):
+            for summed in (True, False):
+                here, there, port = (error(udp(it, 53, b"abc", src, options=options, summed=summed))
+                                     for it, src in ((7, "10.0.0.1"), (7, "198.51.100.1"), (9, "10.0.0.1")))
+                self.assertEqual(sent(quoted + "need ipv4.ihl == 5 mend quoted.src = 198.51.100.1\nsend port", here)[0], [there])
+                self.assertEqual(sent(quoted + "need ipv4.ihl == 5 and inner mend inner.sport = 9\nsend port", here)[0], [port])
+        tunnel = """
+header inside { dst:48 src:48 type:16 } after vxlan if vxlan.flags == 8
+header quoted { vhl:8 tos:8 len:16 id:16 pieces:16 ttl:8 proto:8 sum:16 src:32 dst:32 } after inside if inside.type == 0x0800 sum sum
+need ipv4.ihl == 5 mend quoted.ttl -= 1
+send port"""
+        for summed in (True, False):
+            here, there = (udp(1, 4789, bytes([8, 0, 0, 0, 0, 0, 9, 0]) + eth(ipv4(1, bytes(8), ttl=it)), summed=summed) for it in (64, 63))
+            self.assertEqual(sent(tunnel, here)[0], [there])
+
     def test_pushed_headers(self) -> None:
         inner = ipv4(1, bytes(8))
         source = """need ipv4

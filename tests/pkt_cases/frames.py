@@ -66,9 +66,10 @@ def udp(rng: Random, ends: bytes, data: bytes | None = None, dport: int | None =
 
 
 def icmp(rng: Random) -> bytes:
-    """An ICMP message, most often an echo request."""
-    kind = rng.choice((8, 8, 0, 3, rng.randrange(256)))
-    message = struct.pack(">BBHHH", kind, rng.choice((0, 0, 1)), 0, rng.randrange(65_536), rng.randrange(65_536)) + payload(rng)
+    """An ICMP message, most often an echo request; an error quotes a packet."""
+    kind = rng.choice((8, 8, 0, 3, 3, 11, rng.randrange(256)))
+    data = ipv4(rng, 1)[: rng.choice((28, 28, 36, 1500))] if kind in (3, 11) and rng.random() < 0.8 else payload(rng)
+    message = struct.pack(">BBHHH", kind, rng.choice((0, 0, 1)), 0, rng.randrange(65_536), rng.randrange(65_536)) + data
     return message[:2] + struct.pack(">H", checksum(message)) + message[4:]
 
 

@@ -23,7 +23,7 @@ OFTEN: dict[str, tuple[str, ...]] = {
     "tcp.flags": ("2", "18", "16"),
     "udp.dport": ("53", "4789", "80"),
     "l4.dport": ("80", "443", "53"),
-    "icmp.type": ("8", "0"),
+    "icmp.type": ("8", "0", "3"),
     "mpls.bottom": ("0", "1"),
     "arp.op": ("1", "2"),
     "gre.type": ("0x0800",),

@@ -65,6 +65,8 @@ class Writer:
         self.rng, self.setting, self.headers, self.wild = rng, setting, headers, wild
         self.own = [name for name in headers if name.startswith("mine")]
         self.numbers = Numbers(rng, headers)
+        # Where a packet is quoted, checksums lie within what others cover.
+        self.numbers.likely += ["icmp", "quoted", "inner"] if "quoted" in headers else []
         self.names = 0
         self.left = rng.choice((2, 3, 3, 4, 4, 5, 6, 8, 12))
         self.whiles = rng.choice((0, 0, 1, 1, 2))
@@ -165,6 +167,8 @@ class Writer:
         if not self.may_write(state) or not fields:
             return None
         likely = [it for it in fields if it.split(".")[0] in self.numbers.likely]
+        if self.own and self.chance(0.4):
+            likely = [it for it in fields if it.split(".")[0] in self.own] or likely
         target = self.rng.choice(likely if likely and self.chance(0.7) else fields)
         return [f"mend {target} {self.rng.choice(('=', '=', '+=', '-='))} {self.value_for(target)}"], False
 
@@ -487,6 +491,14 @@ MAKERS: list[tuple[Callable[[Writer, State, int], tuple[Lines, bool] | None], fl
 ]
 
 
+# The IPv4 header that an ICMP error quotes, and a header after it.
+QUOTED = """header quoted { vhl:8 tos:8 len:16 id:16 pieces:16 ttl:8 proto:8 sum:16 src:32 dst:32 } after icmp if icmp.type == 3
+       length (v & 15) * 4 for v:8 in 0x45..0x4f sum sum
+header inner { sport:16 dport:16 len:16 sum:16 } after quoted if quoted.proto == 17 and quoted.pieces & 0x1fff == 0
+       sum sum payload over quoted.src quoted.dst inner.len optional
+"""
+
+
 def own_header(rng: Random, name: str, before: str) -> str:
     """A header of the program's own, which follows another. Every third one is narrow: its bits share the bytes of one load."""
     fields, at, is_narrow = [], 0, rng.random() < 0.35
@@ -532,4 +544,5 @@ def program(rng: Random, setting: Setting, prelude: str, wild: bool) -> str:
     own = ""
     if rng.random() < 0.25:
         own = "\n".join(own_header(rng, f"mine{k}", rng.choice(("eth", "eth", "vlan", "ipv4", "udp", "gre"))) for k in range(rng.choice((1, 1, 2)))) + "\n"
+    own += QUOTED if rng.random() < 0.1 else ""
     return own + Writer(rng, setting, read(own, prelude).headers, wild).text()

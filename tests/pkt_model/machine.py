@@ -282,31 +282,38 @@ class SourceRun:
         return words(self.headers.data[place + span.start : place + span.stop])
 
     def mend(self, field: Field, value: int) -> None:
-        """Assigns to a field, and keeps the checksums that cover it."""
+        """Assigns to a field, and keeps the checksums that cover it, or a checksum that changes."""
         old = self.words_with(field)
         self.headers.put(field, value)
         new = self.words_with(field)
         more = sum(new) + 0xFFFF * len(new) - sum(old)
-        own = self.program.headers[field.header].sum
-        if own is not None:
-            self.keep(field.header, own, more)
-        for name in self.headers.all_before(field.header):
-            around = self.program.headers[name].sum
-            if around is not None and around.has_payload:
-                self.keep(name, around, more)
-        for header in self.program.headers.values():
-            if header.sum is not None and field in header.sum.over and self.headers.finds(header.name):
-                self.keep(header.name, header.sum, more)
-                break
+        known, found, changes = self.program.headers, self.headers.found, dict[str, int]()
+        over = next((it.name for it in known.values() if it.sum is not None and field in it.sum.over and self.headers.finds(it.name)), None)
+        for name in sorted(self.around(field.header, over), key=lambda it: (found[it], self.source.order[it]), reverse=True):
+            kept = known[name].sum
+            terms = [more] * ((name == field.header or self.covers(name, field.header)) + (name == over))
+            terms += [change for other, change in changes.items() if self.covers(name, other)]
+            if kept is not None and terms:
+                changes[name] = self.keep(name, kept, sum(terms))
 
-    def keep(self, header: str, kept: Sum, more: int) -> None:
-        """Updates a checksum for what changed."""
+    def around(self, *headers: str | None) -> set[str]:
+        """Headers that are found, and those before them."""
+        return {name for header in headers if header is not None for name in [header, *self.headers.all_before(header)]}
+
+    def covers(self, header: str, other: str) -> bool:
+        """Whether the checksum of a header covers another one, which comes after it."""
+        kept = self.program.headers[header].sum
+        return kept is not None and kept.has_payload and header in self.headers.all_before(other)
+
+    def keep(self, header: str, kept: Sum, more: int) -> int:
+        """Updates a checksum for what changed. Returns what that changes in a sum of words, plus 0xffff."""
         field = Field(header, kept.field)
         old = self.headers.get(field)
         new = 0xFFFF - folded(0xFFFF - old + more)
         if kept.is_optional:
             new = 0 if old == 0 else new or 0xFFFF
         self.headers.put(field, new)
+        return new + 0xFFFF - old
 
     # Ways through the program
 

@@ -1,14 +1,16 @@
 """Lowering of Internet checksums: those that `mend` updates, and those of pushed headers."""
+from collections.abc import Iterator
 from typing import Self
 
 from .conditions import Conditions
 from .headers import Header, Span
 from .registers import Value
+from .state import FAR, Needs
 from .syntax import Field, Mend, Pushed, require
 from .ways import Join, paths
 
-# The name of the variable with the difference by which checksums are updated.
-DIFFERENCE = "$difference"
+# The variables with the difference of the words of the field that is mended, and with that of the checksums that were updated so far.
+DIFFERENCE, CHANGES = "$difference", "$changes"
 # The fields of pushed headers that are not constant, each with its value.
 Others = list[tuple[Span, Value]]
 
@@ -24,31 +26,90 @@ class Checksums(Conditions):
         return " else ".join(f"if {it} {{ mend {it}.{target.name} = .. }}" for it in others) or "assign without `mend`"
 
     def do_mend(self, it: Mend, after: Join[Self], _: Join[Self]) -> None:
-        """Assigns to a field, and updates each checksum that covers it; the headers were found."""
+        """Assigns to a field, and updates each checksum that covers it, or a checksum that changes; the headers were found."""
         own, over, field = self.headers[it.target.header], self.headers.covering(it.target), f"{it.target.header}.{it.target.name}"
-        names = [*([own.name] if own.sum else []), *self.outer(own.name)]
+        names = [name for name in self.chain(own.name) if self.headers[name].payload or name == own.name and own.sum]
         require(names or over, self.at, f"no checksum covers {field}", self.without_sum(it.target))
         require(own.sum != it.target.name, self.at, f"{field} is the checksum itself", "assign without `mend`")
+        for name in names:
+            self.require_even(name, own.name)
         self.assign_field(it.target, self.evaluate(it.value))
         if len(names) + len(over) > 1:
             self.fold(Value(register=self.variables[DIFFERENCE]))
+        needs, way = after.needs | self.unit.needs_of(it), self
+        if len(names) > 1 or own.payload and {*over} - {own.name}:
+            return self.cover_nested(own.name, names, over, needs, after)
+        for name in names:
+            (way,) = paths(lambda updated: way.update(name, updated, [DIFFERENCE]))
+        for s in paths(lambda done: way.cover(over, own.name, done), needs):
+            s.end_mend(after)
+
+    def end_mend(self, after: Join[Self]) -> None:
+        """Ends a path after `mend`."""
+        for name in {DIFFERENCE, CHANGES} & self.variables.keys():
+            del self.variables[name]
+        self.jump(after)
+
+    def chain(self, name: str | None) -> list[str]:
+        """A header that was found, and those before it, the nearest first."""
+        return [name, *self.chain(self.header_before(name))] if name else []
+
+    def places(self, name: str) -> list[int]:
+        """The places where a header that was found may be."""
+        if self.found[name] < FAR // 2:
+            return [self.found[name]]
+        before = next(it for it in self.chain(name) if self.found[it] < FAR // 2)
+        return [self.found[before] + self.headers[before].sizes[value] + self.found[name] - FAR for value in self.far.lengths]
+
+    def require_even(self, outer: str, inner: str) -> None:
+        """Refuses a checksum whose words begin at other bytes than those of a header within what it covers."""
+        is_far = self.found[outer] >= FAR // 2
+        distances = [self.found[inner] - self.found[outer]] if is_far else [it - self.found[outer] for it in self.places(inner)]
+        is_even = all(it % 2 == 0 for it in distances)
+        require(is_even, self.at, f"the words of the checksum of {outer} begin at other bytes", "`mend` needs a header at an even place")
+
+    def cover_nested(self, own: str, names: list[str], over: list[str], needs: Needs, after: Join[Self]) -> None:
+        """Updates checksums that cover one another, those furthest back first."""
+        absent = Join[Self](needs)
+        for s, name in self.first_of(over, needs, absent):
+            is_before = name in s.chain(own)
+            require(is_before or own in s.chain(name), s.at, f"{name} and {own} are side by side, and a checksum covers both", "assign without `mend`")
+            s.update_inside(name, own, is_counted=True).update_chain(names, name if is_before else "", after)
+        for s in absent.begin():
+            s.update_chain(names, "", after)
+
+    def first_of(self, names: list[str], needs: Needs, absent: Join[Self]) -> Iterator[tuple[Self, str]]:
+        """The paths on which one of these headers is the first that is present, with its name. Ends this path."""
+        ways = [self]
+        for name in names:
+            no = Join[Self](needs)
+            for way in ways:
+                for s in paths(lambda yes: way.look_for(name, yes, no), needs):
+                    yield s, name
+            ways = list(no.begin())
+        for way in ways:
+            way.jump(absent)
+
+    def update_inside(self, name: str, own: str, is_counted: bool) -> Self:
+        """Updates a checksum over a field, and those of headers between it and the field's header that cover it. Returns the path after that."""
+        found, way = self.chain(name), self
+        if own not in found[1:]:
+            return self
+        between = [it for it in found[1 : found.index(own)] if self.headers[it].payload]
+        for it in between:
+            self.require_even(it, name)
+        for it in (name, *between):
+            terms, is_last = [CHANGES if it in between else DIFFERENCE], it == (name, *between)[-1]
+            (way,) = paths(lambda updated: way.update(it, updated, terms, is_counted or not is_last))
+        return way
+
+    def update_chain(self, names: list[str], twice: str, after: Join[Self]) -> None:
+        """Updates the checksums of headers, those furthest back first, each by what changed in the words that it covers."""
         way = self
         for name in names:
-            (way,) = paths(lambda updated: way.update(name, updated))
-        for s in paths(lambda done: way.cover(over, done), after.needs | self.unit.needs_of(it)):
-            del s.variables[DIFFERENCE]
-            s.jump(after)
-
-    def outer(self, name: str) -> list[str]:
-        """The headers before a header whose checksums cover what follows them."""
-        found, begin = [], self.found[name]
-        while before := self.header_before(name):
-            name = before
-            if self.headers[name].payload:
-                found.append(name)
-                is_even = (begin - self.found[name]) % 2 == 0
-                require(is_even, self.at, f"the words of the checksum of {name} begin at other bytes", "`mend` needs a header at an even place")
-        return found
+            terms = [DIFFERENCE] * (1 + (name == twice)) + [CHANGES] * (self.headers[name].payload and CHANGES in way.variables)
+            (way,) = paths(lambda updated: way.update(name, updated, terms, name != names[-1]))
+        way.end_mend(after)
 
     def words_of(self, it: Field, span: Span) -> Span:
         """The 16-bit words of its header that a field has bits in."""
@@ -83,33 +144,51 @@ class Checksums(Conditions):
             self.release(new)
         self.variables[DIFFERENCE] = total.r
 
-    def cover(self, names: list[str], done: Join[Self]) -> None:
+    def cover(self, names: list[str], own: str, done: Join[Self]) -> None:
         """Updates the checksum of the first of these headers that is present."""
         if not names:
             return self.jump(done)
         no = Join[Self](done.needs)
         for s in paths(lambda yes: self.look_for(names[0], yes, no)):
-            s.update(names[0], done)
+            if own not in s.chain(names[0])[1:]:
+                s.update(names[0], done, [DIFFERENCE])
+                continue
+            s = s.update_inside(names[0], own, is_counted=False)
+            s.variables.pop(CHANGES, None)
+            s.jump(done)
         for s in no.begin():
-            s.cover(names[1:], done)
+            s.cover(names[1:], own, done)
 
-    def update(self, name: str, done: Join[Self]) -> None:
-        """Updates a checksum by the difference."""
-        header = self.headers[name]
+    def update(self, name: str, done: Join[Self], terms: list[str], is_counted: bool = False) -> None:
+        """Updates a checksum by differences. One that is counted adds to the variable of changes what changes in a sum of words, plus 0xffff."""
+        header, same = self.headers[name], Join[Self](done.needs)
         span = header.fields[header.sum].moved(self.found[name])
+        if is_counted and CHANGES not in self.variables:
+            self.variables[CHANGES] = self.own(Value(0)).r
         total = self.load(span)
         if header.optional:
-            self.emit("jeq", total, 0, to=done)
+            self.emit("jeq", total, 0, to=same if is_counted else done)
         total = self.own(total)
         self.apply(total, "^", Value(0xFFFF))
-        self.apply(total, "+", Value(register=self.variables[DIFFERENCE]))
-        self.complement(total, header.optional)
+        old = self.fresh() if is_counted else Value()
+        if is_counted:
+            self.set(old, total)
+        for term in terms:
+            self.apply(total, "+", Value(register=self.variables[term]))
+        self.complement(total, header.optional or is_counted)
         if header.optional:
             zero = self.emit("jeq", total, 0, to=Join())
             zero.emit("set", total, "0xffff")
             self.unite([zero])
+        if is_counted:
+            for part in (old, total):
+                self.apply(Value(register=self.variables[CHANGES]), "+", part)
+            self.release(old)
         self.store(span, total)
         self.jump(done)
+        for s in same.ways:
+            s.apply(Value(register=s.variables[CHANGES]), "+", Value(0xFFFF))
+            s.jump(done)
 
     def halve(self, value: Value) -> None:
         """Makes room in a sum for more; as a checksum it is unchanged."""
