@@ -130,7 +130,8 @@ class HeaderRules(unittest.TestCase):
                          {"eth": 14, "arp": 28, "ipv6": 40, "tcp": 20, "vxlan": 8})
 
     def test_what_follows(self) -> None:
-        self.assertEqual(self.headers.looked_for("vxlan"), {"vxlan", "udp", "ipv4", "eth"})
+        self.assertEqual(self.headers.looked_for("vxlan"), {"vxlan", "udp", "ipv4", "ipv6", "eth"})
+        self.assertEqual([self.headers.tried(name) for name in ("ipv4", "mpls", "tcp")], [["eth"], ["eth"], ["ipv4", "ipv6"]])
         self.assertIn("vlan", self.headers["tcp"].before)
         self.assertEqual(self.headers.after("udp"), {"vxlan"})
         self.assertEqual(self.headers["ipv4"].sizes[0x4F], 60)
@@ -276,6 +277,14 @@ class Programs(unittest.TestCase):
         frame = udp(5, 53)
         self.assertEqual(sent("need udp.dport == 53\nsend port", frame, frame[:41], b"\2", eth(b"", 0x0806))[0], [frame])
         self.assertEqual(sent("if udp.dport != 53 { drop }\nsend port", frame[:41], b"")[0], [frame[:41], b""])
+
+    def test_each_header_that_may_come_before_is_looked_for(self) -> None:
+        far = eth(struct.pack(">IHBB", 0x60000000, 20, 6, 64) + bytes(32) + struct.pack(">HHIIBBHHH", 4000, 22, 1, 2, 0x50, 2, 9, 0, 0), 0x86DD)
+        web, near = far[:56] + b"\0\x50" + far[58:], tcp(2, 22)
+        rule, tags = "if tcp.dport == 22 { drop }\nsend port", "if qinq { }\nif vlan { }\n"
+        self.assertEqual(sent(rule, far, web, near, far[:-1], tagged(far))[0], [web, far[:-1], tagged(far)])
+        self.assertEqual(sent(tags + rule, far, web, *(tagged(it) for it in (far, web, near)), tagged(tagged(near), 9, 0x88A8))[0], [web, tagged(web)])
+        self.assertEqual(sent("need ipv6\n" + rule, far, near, web)[0], [web])
 
     def test_otherwise(self) -> None:
         frame = udp(5, 53)

@@ -66,6 +66,13 @@ def inputs() -> list[bytes]:
         far = IPv6(src="2001:db8::1:2", dst="2001:db8:1::3:4", hlim=hops)
         frames += [ether / far / UDP(sport=1, dport=2), ether / Dot1Q(vlan=5) / far / TCP(dport=80), ether / far / ICMPv6EchoRequest()]
         frames.append(ether / Dot1Q(vlan=6) / IP(src="10.1.2.3", dst="192.0.2.1", ttl=hops) / UDP(dport=53))
+    for far in (IPv6(src="2001:db8::1:2", dst="2001:db8:1::3:4"), IPv6(src="2001:db8::53", dst="2001:db8::1")):
+        for ports in ((53, 4000), (4000, 53), (4000, 80)):
+            frames.append(ether / far / UDP(sport=ports[0], dport=ports[1]) / Raw(bytes(range(120))))
+        for size in (1220, 1361, 1440):
+            for flags in ("S", "SA", "A"):
+                frames.append(ether / far / TCP(flags=flags, options=[("MSS", size), ("NOP", None), ("NOP", None), ("SAckOK", b"")]))
+        frames.append(ether / far / TCP(flags="S", options=[("NOP", None), ("MSS", 1460)]))
     whole = [raw(it) for it in frames]
     cut = [it[: chance.randrange(len(it))] for it in whole for _ in range(2)]
     return whole + cut
@@ -85,6 +92,15 @@ def top_of(data: bytes, kind: type[Packet]) -> Packet | None:
     if ip is None or ip.version != 4 or ip.ihl < 5 or ip.proto != number or ip.frag or len(data) < 14 + 4 * ip.ihl + size:
         return None
     return kind(data[14 + 4 * ip.ihl :])
+
+
+def reached(data: bytes, kind: type[Packet]) -> tuple[Packet, int] | None:
+    """The header of a kind after IPv4 or IPv6, if it is whole, and where it begins."""
+    number, size = HEADS[kind]
+    if len(data) >= 54 + size and data[12:14] == b"\x86\xdd" and data[20] == number:
+        return kind(data[54:]), 54
+    ip, top = ip_of(data), top_of(data, kind)
+    return (top, 14 + 4 * ip.ihl) if ip is not None and top is not None else None
 
 
 def is_in(address: str, *nets: str) -> bool:
@@ -193,16 +209,16 @@ def ranges(data: bytes) -> Iterator[Sent]:
 
 
 def mirror_dns(data: bytes) -> Iterator[Sent]:
-    udp = top_of(data, UDP)
+    udp = reached(data, UDP)
     yield 0, data
-    if udp is not None and 53 in (udp.sport, udp.dport):
+    if udp is not None and 53 in (udp[0].sport, udp[0].dport):
         yield 1, data[:128]
 
 
 def mss_clamp(data: bytes) -> Iterator[Sent]:
-    tcp, ip = top_of(data, TCP), ip_of(data)
-    if tcp is not None and tcp.flags.S and data[14 + 4 * ip.ihl + 12] >> 4 > 5:
-        at = 14 + 4 * ip.ihl + 20
+    tcp = reached(data, TCP)
+    if tcp is not None and tcp[0].flags.S and data[tcp[1] + 12] >> 4 > 5:
+        at = tcp[1] + 20
         kind, size, value = struct.unpack(">BBH", data[at : at + 4]) if len(data) >= at + 4 else (0, 0, 0)
         if (kind, size) == (2, 4) and value > 1360:
             data = mended(data, at + 2, (1360).to_bytes(2, "big"))

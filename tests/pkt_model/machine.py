@@ -96,7 +96,7 @@ class Headers:
         if not self.known[name].after:
             return 0
         before = self.preceding(name)
-        if not self.finds(before) or not self.holds(self.known[name].after[before]):
+        if before is None or not self.holds(self.known[name].after[before]):
             return None
         self.before[name] = before
         end = self.end_of(before)
@@ -104,10 +104,11 @@ class Headers:
             raise Open
         return end
 
-    def preceding(self, name: str) -> str:
-        """The header that another follows: the one that is found and begins last, or the first that its clauses name."""
+    def preceding(self, name: str) -> str | None:
+        """The header that another follows: the one that is found and begins last, or the first that its clauses name and that is present."""
         after = list(self.known[name].after)
-        return max((it for it in after if it in self.found), key=self.found.__getitem__, default=after[0])
+        last = max((it for it in after if it in self.found), key=self.found.__getitem__, default=None)
+        return last or next((it for it in after if self.finds(it)), None)
 
     def all_before(self, name: str) -> Iterator[str]:
         """The headers before one that is found, the nearest first."""
@@ -416,7 +417,9 @@ class SourceRun:
     def push_tag(self, tag: Header, data: bytearray) -> None:
         """Inserts a tag after the header that it follows, and makes that header's last field ask for it."""
         before = self.headers.preceding(tag.name)
-        self.touch([before])
+        if before is None:
+            self.ends_by(self.program.otherwise)
+            return
         end = self.headers.end_of(before)
         if end is None or end > len(self.headers.data):
             self.ends_by(self.program.otherwise)

@@ -1,5 +1,4 @@
 """Lowering of Internet checksums: those that `mend` updates, and those of pushed headers."""
-from collections.abc import Iterator
 from typing import Self
 
 from .conditions import Conditions
@@ -71,24 +70,12 @@ class Checksums(Conditions):
     def cover_nested(self, own: str, names: list[str], over: list[str], needs: Needs, after: Join[Self]) -> None:
         """Updates checksums that cover one another, those furthest back first."""
         absent = Join[Self](needs)
-        for s, name in self.first_of(over, needs, absent):
+        for s, name in self.first_of(over, absent, needs):
             is_before = name in s.chain(own)
             require(is_before or own in s.chain(name), s.at, f"{name} and {own} are side by side, and a checksum covers both", "assign without `mend`")
             s.update_inside(name, own, is_counted=True).update_chain(names, name if is_before else "", after)
         for s in absent.begin():
             s.update_chain(names, "", after)
-
-    def first_of(self, names: list[str], needs: Needs, absent: Join[Self]) -> Iterator[tuple[Self, str]]:
-        """The paths on which one of these headers is the first that is present, with its name. Ends this path."""
-        ways = [self]
-        for name in names:
-            no = Join[Self](needs)
-            for way in ways:
-                for s in paths(lambda yes: way.look_for(name, yes, no), needs):
-                    yield s, name
-            ways = list(no.begin())
-        for way in ways:
-            way.jump(absent)
 
     def update_inside(self, name: str, own: str, is_counted: bool) -> Self:
         """Updates a checksum over a field, and those of headers between it and the field's header that cover it. Returns the path after that."""

@@ -7,7 +7,7 @@ from typing import Self
 from .headers import Header, Span
 from .parser import COMPARISONS, substituted
 from .registers import Registers, Value
-from .state import ABSENT, FAR, NEAR, SOMEBODY_THE_REST, Far
+from .state import ABSENT, EVERYTHING, FAR, NEAR, SOMEBODY_THE_REST, Far, Needs
 from .syntax import THIS, And, Bits, Compare, Field, Found, Length, Node, Not, Number, Or, parts, require
 from .ways import Join, paths
 
@@ -142,10 +142,25 @@ class Conditions(Registers):
         """Looks for a header after the one that it follows."""
         if not header.follows:
             return self.at_place(header, 0, found, missing)
-        before, here = self.header_before(header.name) or next(iter(header.follows)), Join[Self]()
-        for s in paths(lambda there: self.look_for(before, there, missing)):
-            s.decide(header.follows[before], here, missing)
-        for s in here.begin():
+        last = self.header_before(header.name)
+        for s, before in self.first_of([last] if last else self.headers.tried(header.name), missing):
+            s.search_after(header, before, found, missing)
+
+    def first_of(self, names: list[str], absent: Join[Self], needs: Needs = EVERYTHING) -> Iterator[tuple[Self, str]]:
+        """The paths on which one of these headers is the first that is present, with its name. Ends this path."""
+        ways = [self]
+        for name in names:
+            no = Join[Self](needs)
+            for way in ways:
+                for s in paths(lambda yes: way.look_for(name, yes, no), needs):
+                    yield s, name
+            ways = list(no.begin())
+        for way in ways:
+            way.jump(absent)
+
+    def search_after(self, header: Header, before: str, found: Join[Self], missing: Join[Self]) -> None:
+        """Looks for a header after one that was found."""
+        for s in paths(lambda here: self.decide(header.follows[before], here, missing)):
             s.after(header, self.headers[before], found, missing)
 
     def header_before(self, name: str) -> str | None:

@@ -72,9 +72,23 @@ class Headers(dict[str, Header]):
         """All headers that may come after a header."""
         return {other for other, it in self.items() if other != name and name in it.before}
 
+    def tried(self, name: str) -> list[str]:
+        """The headers that one may follow, in the order in which they are looked for if none was found, without those that are absent if one
+        before them is."""
+        found: list[str] = []
+        for other in self[name].follows:
+            if not any(self.requires(other, it) for it in found):
+                found.append(other)
+        return found
+
+    def requires(self, name: str, other: str) -> bool:
+        """Whether a header is absent wherever another one is."""
+        follows = self[name].follows
+        return name == other or bool(follows) and all(self.requires(it, other) for it in follows)
+
     def looked_for(self, name: str) -> set[str]:
         """A header, and all that are looked for if none before it was found."""
-        return {name}.union(*(self.looked_for(other) for other in list(self[name].follows)[:1]))
+        return {name}.union(*(self.looked_for(other) for other in self.tried(name)))
 
     def covering(self, target: Field) -> list[str]:
         """The headers whose checksum is over a field of another header."""

@@ -121,8 +121,8 @@ class Packets(Checksums):
             self.unite([short])
 
     def do_push(self, it: Push, _: Join[Self]) -> None:
-        if before := self.unit.tag_follows(it):
-            self.push_tag(it.headers[0], self.header_before(it.headers[0].header) or before[0])
+        if self.unit.tag_follows(it) and (before := self.header_before(it.headers[0].header)):
+            self.push_tag(it.headers[0], before)
         else:
             data, others = self.values(it.headers)
             others += self.sums(it.headers, data, others)

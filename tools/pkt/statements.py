@@ -88,7 +88,7 @@ class Statements(Packets):
         self.at, do, missing = it.at, f"do_{type(it).__name__.lower()}", Join[Self]()
         if isinstance(it, (If, While, Need)):
             return getattr(self, do)(it, after)
-        for s in paths(lambda found: self.touch(self.needed_by(it), found, missing)):
+        for s in paths(lambda found: self.touch_needed(it, found, missing)):
             s.unit.needs, failed = after.needs, Join[Self]()
             if isinstance(it, (Send, Drop, Mend, Pop, Cut)):
                 getattr(s, do)(it, after, missing)
@@ -99,14 +99,18 @@ class Statements(Packets):
         for s in missing.begin():
             s.otherwise()
 
-    def needed_by(self, it: Node) -> list[str]:
-        """The headers that a statement needs."""
+    def touch_needed(self, it: Node, found: Join[Self], missing: Join[Self]) -> None:
+        """Looks for the headers that a statement needs."""
         if isinstance(it, Pop):
-            return list(it.path)
+            return self.touch(it.path, found, missing)
         names = self.headers_of(replace(it, fallback=None) if hasattr(it, "fallback") else it)  # type: ignore[call-arg]
-        if isinstance(it, Push) and (before := self.unit.tag_follows(it)) and self.header_before(it.headers[0].header) is None:
-            names = self.headers.in_order([*names, before[0]])
-        return names
+        if not isinstance(it, Push) or not self.unit.tag_follows(it):
+            return self.touch(names, found, missing)
+        tag = it.headers[0].header
+        for s in paths(lambda there: self.touch(names, there, missing)):
+            before = s.header_before(tag)
+            for t, _ in s.first_of([before] if before else s.headers.tried(tag), missing):
+                t.jump(found)
 
     def otherwise(self) -> None:
         """The `otherwise` part, for a packet without a header that a statement needs."""
