@@ -1,6 +1,6 @@
 //! What a command says on both streams, and its exit status.
 
-ghost use Rattle.std.specs.Prelude.{◌≡◌, ◌⊎◌, [], false, true};
+ghost use Rattle.std.specs.Prelude.{◌≡◌, ◌⊎◌, [], false, true, IsTrue, Some};
 ghost use Rattle.dp_console.specs.Replies.{IsWhole, Says};
 
 use std::alloc::Global;
@@ -48,6 +48,16 @@ impl Text {
         if write!(self.bytes, "{text}").is_err() {
             self.has_failed = true;
         }
+    }
+
+    /// Adds bytes. Returns whether the text is still whole.
+    pub fn add(&mut self, bytes: &[u8]) -> bool
+        ensures { IsTrue result → Says self.old self.new (Some bytes.now) }
+    {
+        if self.bytes.extend_from_slice(bytes).is_err() {
+            self.has_failed = true;
+        }
+        !self.has_failed
     }
 }
 

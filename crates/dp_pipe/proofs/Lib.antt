@@ -17,6 +17,7 @@ pub mod Advancing
 pub mod Lending
 pub mod Heading
 pub mod Following
+pub mod SinglePlans
 pub mod Stepping
 pub mod Units
 pub mod Texts

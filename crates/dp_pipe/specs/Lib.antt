@@ -14,6 +14,7 @@ pub mod Routes
 pub mod Running
 pub mod Headline
 pub mod Setup
+pub mod Singles
 pub mod Surveys
 pub mod Tracing
 pub mod Views

@@ -1,6 +1,6 @@
 //! Loads pipeline files with the node programs that they name, and runs them from captures to captures.
 //!
-//! Who owns what: a `Pipeline` owns its environment, tables and checked programs; only `load` makes one, so every program in it is accepted.
+//! Who owns what: a `Pipeline` owns its environment, tables and checked programs; only `load` and `load_single` make one, so every program in it is accepted.
 //! `run` and `trace` take it, and own the engine, its region and one buffer until they return. Readers and writers stay the caller's.
 //!
 //! What to call: `load` (or `survey_of`, which reads the file alone), then `run`, or `trace`, which writes nothing. Both take all memory before
@@ -26,6 +26,7 @@ mod reader;
 mod routes;
 mod running;
 mod setup;
+mod single;
 mod surveying;
 mod tracing;
 
@@ -39,5 +40,6 @@ pub use nodes::{How, bytes_of, cert_of};
 pub use opening::engine_of;
 pub use pipeline::Pipeline;
 pub use running::{RunFault, run, run_watched};
+pub use single::{SingleFiles, load_single};
 pub use surveying::{Survey, survey_of};
 pub use tracing::{Traced, Tracer, trace};
