@@ -16,7 +16,7 @@ MULTICAST = TOP / "examples/multicast"
 
 def built() -> pathlib.Path:
     """The program that ./dpv runs, which builds it if needed."""
-    subprocess.run([str(TOP / "dpv"), "--version"], check=True, stdout=subprocess.DEVNULL)
+    subprocess.run([str(TOP / "dpv"), "help"], check=True, stdout=subprocess.DEVNULL)
     return TOP / "crates/dpv/out/dpv"
 
 

@@ -1,5 +1,5 @@
 # Completes the words of dpv in bash: commands, options, the names of nodes, and files by their endings.
-# To use it: source docs/dpv.bash
+# To use it: source share/dpv.bash
 
 # The nodes of a pipeline file, as port0 and ring1.
 _dpv_nodes() {
