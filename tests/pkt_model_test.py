@@ -120,6 +120,8 @@ class Numbers(unittest.TestCase):
             "ipv4.pieces == 0 and ipv4.flags == 2 and ipv4.vhl == 0x45 and ipv4.dscp == 0",
             "1 == 2 and 1 == 2 or 1 == 1",
             "not 1 == 2 and 5",
+            "ipv4.dst in 0xc0a80000/16 and eth.src in 02:00:00:00:00:00/24 and not eth.src in 03:00:00:00:00:00/8",
+            "2001:db8::1 == 2001:db8:0:0:0:0:0:1 and ::1 in ::/127 and not ::2 in ::/127 and 1:: in 0:0:0:0::/0",
         ):
             self.assertTrue(self.holds(condition), condition)
         self.assertFalse(self.holds("0"))

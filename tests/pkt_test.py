@@ -4,6 +4,7 @@ compiled programs send. The checker and the machine are those of tests/model.
 
 Usage: tests/pkt_test.py   (needs no program; some seconds)
 """
+import ipaddress
 import operator
 import pathlib
 import re
@@ -183,6 +184,30 @@ class Errors(unittest.TestCase):
             "if tcp {\n  drop": "x.pkt:2:7: no statement begins with 'the end of the text'",
             "accept": "help: statements begin with let, if, while",
             "send (1 == 1) + 1": "x.pkt:1:7: a condition is where a number is wanted",
+            "need tcp.dport == 80 or 443": "x.pkt:1:25: 443 alone is a condition that never changes",
+            "need 80 and tcp": "help: x in {1, 2} compares x with each",
+            "need ipv4.ttl in 9..2": "x.pkt:1:18: no number is from 9 to 2\n",
+            "need ipv4.ttl == 300": "x.pkt:1:18: ipv4.ttl has 8 bits, and is at most 255: this is 300",
+            "ipv4.ttl = 300": "help: 44 are its lowest 8 bits",
+            "need 70000 > udp.sport": "x.pkt:1:6: udp.sport has 16 bits",
+            "push vlan { vid = 4096 }": "x.pkt:1:19: vlan.vid has 12 bits",
+            "header h { a:8 = 256 }": "x.pkt:1:18: a has 8 bits, and 256 needs more",
+            "const A = 1 - 2": "x.pkt:1:11: A is not from 0 to 2^64 - 1, and would be cut to 64 bits",
+            "given headroom 64\ngiven headroom 32": "x.pkt:2:7: `given` has headroom already",
+            "given eth\ngiven eth/ipv4": "x.pkt:2:7: `given` has a path already",
+            "push tcp { sum = auto }": "x.pkt:1:6: tcp.sum covers more than the header, and `auto` is of the header alone",
+            "push udp { len = 8 sum = auto }": "help: sum = 0 where that means that there is none",
+            "header h { a:16 = auto b:16 } sum a payload": "x.pkt:1:8: a covers more than the header, and `auto` is of the header alone",
+            "header h { a:16 = auto b:16 = auto }": "x.pkt:1:8: a and b are both `auto`, and each would count the other",
+            "push ipv4 { len = 20 id = auto }": "x.pkt:1:6: sum and id are both `auto`",
+            "push ipv4 { ttl = 9 }": "x.pkt:1:6: ipv4.len is not named, and would be 0",
+            "need ipv4.src in 10.0.0.0/33": "x.pkt:1:27: the prefix has at most 32 bits, and this is 33",
+            "need ipv4.src in 02:00:00:00:00:00/24": "x.pkt:1:18: the address has 48 bits, and the field before `in` 32",
+            "let x = eth.src >> 8\nneed x in 5/8": "x.pkt:2:11: how many bits has this number?",
+            "need ipv6.src == 1": "x.pkt:1:18: an IPv6 address is wanted here",
+            "need ipv6.src < ::1": "x.pkt:1:6: IPv6 addresses are compared with == and !=",
+            "let x = ipv6.src": "x.pkt:1:9: an IPv6 address is only compared with == and !=",
+            "need ipv6.src == 1::2::3": "x.pkt:1:18: 1::2::3 is no IPv6 address",
             "header o { k:32 } length v * 4 for v:8 in 1..9\nheader p { x:32 } after o if o.k == 3\nneed tcp.dport == 1 and p.x == 3":
                 "x.pkt:3:1: p is after two headers whose lengths vary",
         }
@@ -277,6 +302,25 @@ class Programs(unittest.TestCase):
         frame = udp(5, 53)
         self.assertEqual(sent("need udp.dport == 53\nsend port", frame, frame[:41], b"\2", eth(b"", 0x0806))[0], [frame])
         self.assertEqual(sent("if udp.dport != 53 { drop }\nsend port", frame[:41], b"")[0], [frame[:41], b""])
+
+    def test_prefixes_count_from_the_first_bit(self) -> None:
+        def frame(source: str, target: str) -> bytes:
+            ends = b"".join(ipaddress.IPv6Address(it).packed for it in (source, target))
+            return eth(struct.pack(">IHBB", 0x60000000, 0, 59, 64) + ends, 0x86DD)
+
+        here, there, none = frame("2001:db8::7", "::1"), frame("2001:db9::7", "2001:db8::7"), eth(ipv4(1, bytes(8)))
+        for condition, wanted in {
+            "ipv6.src_hi in 0x20010db800000000/32": [here], "ipv6.src in 2001:db8::/32": [here], "ipv6.src in 2001:db8::/31": [here, there],
+            "ipv6.src in 2001:db8:0:0::/127": [], "ipv6.src in 2001:db8::6/127": [here], "ipv6.src in ::/0": [here, there],
+            "ipv6.dst == ::1": [here], "ipv6.dst != ::1": [there], "ipv6.dst in {::2, 2001:db8::/64, fe80::/10}": [there],
+            "eth.src in 02:00:00:00:00:00/24": [here, there, none], "eth.src in 03:00:00:00:00:00/8": [], "ipv4.src in 10.0.0.0/8": [none],
+            "ipv4.src in 0/0": [none], "ipv6.flow in 0xfffff/0": [here, there], "ipv6.src != ipv6.dst and ipv6.dst == ME": [here],
+        }.items():
+            self.assertEqual(sent(f"const ME = ::1\nneed {condition}\nsend port", here, there, none)[0], wanted, condition)
+        self.assertEqual(sent("ipv6.src = ipv6.dst ipv6.dst = 2001:db8:1:2:3:4:5:6\nsend port", here)[0], [frame("::1", "2001:db8:1:2:3:4:5:6")])
+        self.assertEqual(sent("push ipv6 { len = 0 next = 59 hops = 64 src = ::7 dst = ipv6.src }\ncut 40 send port", here)[0], [here])
+        self.assertEqual(sent("push ipv6 { len = 0 next = 59 hops = 64 src = ::7 dst = ipv6.src }\ntruncate 40 send port", here)[0],
+                         [frame("::7", "2001:db8::7")[14:]])
 
     def test_each_header_that_may_come_before_is_looked_for(self) -> None:
         far = eth(struct.pack(">IHBB", 0x60000000, 20, 6, 64) + bytes(32) + struct.pack(">HHIIBBHHH", 4000, 22, 1, 2, 0x50, 2, 9, 0, 0), 0x86DD)

@@ -1,4 +1,5 @@
 """Numbers and conditions of the language pkt, at random."""
+import re
 from random import Random
 
 from pkt_model.syntax import Header
@@ -32,6 +33,11 @@ NETS = ("10.0.0.0/8", "192.0.2.0/24", "203.0.113.9/32", "0.0.0.0/0", "8.0.0.0/6"
 LENGTHS = (0, 1, 13, 14, 34, 40, 42, 54, 60, 64, 74, 100, 128, 1500)
 # How often a header is chosen.
 WEIGHTS = {"eth": 6, "vlan": 4, "qinq": 2, "mpls": 2, "arp": 1, "ipv4": 12, "ipv6": 2, "tcp": 6, "udp": 5, "icmp": 2, "icmp6": 1, "l4": 2, "gre": 2, "vxlan": 1}
+
+
+# A constant, and a field.
+CONSTANT, FIELD = re.compile(r"[0-9][0-9a-fx.:]*|K[0-9]+"), re.compile(r"[a-z][a-z0-9_]*\.[a-z][a-z0-9_]*")
+SIXES = ("2001:db8::1", "2001:db8::", "fe80::2", "::", "::1", "2001:db8:1:2:3:4:5:6")
 
 
 class Numbers:
@@ -71,9 +77,10 @@ class Numbers:
     def literal(self, bits: int) -> str:
         """A number, spelled in some way."""
         rng = self.rng
-        value = rng.choice((0, 1, 2, 5, 80, 255, 256, (1 << bits) - 1, rng.getrandbits(bits), rng.getrandbits(bits)))
-        if self.constants and self.chance(0.1):
-            return rng.choice(list(self.constants))
+        value = rng.choice((0, 1, 2, 5, 80, 255, 256, (1 << bits) - 1, rng.getrandbits(bits), rng.getrandbits(bits))) & (1 << bits) - 1
+        fit = [name for name, number in self.constants.items() if number < 1 << bits]
+        if fit and self.chance(0.1):
+            return rng.choice(fit)
         if bits == 32 and self.chance(0.6):
             return ".".join(str(value >> shift & 255) for shift in (24, 16, 8, 0))
         if bits == 48 and self.chance(0.6):
@@ -84,7 +91,11 @@ class Numbers:
         """A constant that a field may be compared with or assigned."""
         if field in OFTEN and self.chance(0.75):
             return self.rng.choice(OFTEN[field])
-        return self.literal(self.width(field) if self.chance(0.9) else 64)
+        return self.literal(self.width(field) if self.chance(0.99) else 64)
+
+    def fitting(self, field: str, number: str) -> str:
+        """A number that a field may be assigned or compared with: a constant is one of its values."""
+        return self.value_for(field) if CONSTANT.fullmatch(number) else number
 
     def number(self, deep: int) -> str:
         """A number."""
@@ -132,13 +143,19 @@ class Numbers:
         if kind < 0.37:
             return f"port {self.comparison()} {rng.randrange(3)}"
         if kind < 0.42:
-            return rng.choice((self.field(), f"{self.field()} & {self.literal(8)}", self.number(1)))
+            number = self.number(1)
+            return rng.choice((self.field(), f"{self.field()} & {self.literal(8)}", self.field() if CONSTANT.fullmatch(number) else number))
         if kind < 0.55:
             return self.membership()
         if kind < 0.85:
             field = self.field()
             return f"{field} {self.comparison()} {self.value_for(field)}"
-        return f"{self.number(1)} {self.comparison()} {self.number(1)}"
+        left, right = self.number(1), self.number(1)
+        if FIELD.fullmatch(left):
+            right = self.fitting(left, right)
+        elif FIELD.fullmatch(right):
+            left = self.fitting(right, left)
+        return f"{left} {self.comparison()} {right}"
 
     def comparison(self) -> str:
         """A sign."""
@@ -147,12 +164,25 @@ class Numbers:
     def membership(self) -> str:
         """What lies in some values, a range or a prefix."""
         rng, field = self.rng, self.field()
+        wide = [f"{name}.{it}" for name, header in self.headers.items() for it in header.wide if name in self.likely or self.chance(0.1)]
+        if wide and self.chance(0.4):
+            return self.of_wide(rng.choice(wide))
         if self.width(field) == 32 and self.chance(0.6):
             return f"{field} in {rng.choice(NETS)}"
+        if self.chance(0.15):
+            return f"{field} in {rng.getrandbits(self.width(field)):#x}/{rng.randrange(self.width(field) + 1)}"
         if self.chance(0.1) and self.variables:
             return f"{rng.choice(self.variables)} in {{{self.field()}, {self.literal(16)}}}"
         items = [self.item(field) for _ in range(rng.choice((1, 2, 2, 3)))]
         return f"{field} in {items[0]}" if len(items) == 1 and self.chance(0.5) else f"{field} in {{{', '.join(items)}}}"
+
+    def of_wide(self, field: str) -> str:
+        """A condition about an IPv6 address."""
+        rng = self.rng
+        sixes = [rng.choice(SIXES) for _ in range(2)]
+        items = ", ".join(f"{six}/{rng.choice((0, 10, 32, 64, 65, 128))}" if self.chance(0.6) else six for six in sixes)
+        other = field.replace("src", "dst") if "src" in field else sixes[0]
+        return rng.choice((f"{field} in {{{items}}}", f"{field} in {items.split(',')[0]}", f"{field} {rng.choice(('==', '!='))} {rng.choice((sixes[1], other))}"))
 
     def item(self, field: str) -> str:
         """A value or a range."""

@@ -7,7 +7,7 @@ from random import Random
 from pkt_model.reader import read
 from pkt_model.syntax import Bits, Header
 
-from .numbers import Numbers
+from .numbers import SIXES, Numbers
 
 INDENT = "    "
 MAX_SEGMENTS = 64
@@ -154,18 +154,28 @@ class Writer:
         """Another value of a field."""
         if not self.may_write(state):
             return None
+        wide = self.wide()
+        if wide and self.chance(0.3):
+            target = self.rng.choice(wide)
+            return [f"{target} = {self.rng.choice((*SIXES, self.rng.choice(wide)))}"], False
         target = self.numbers.field()
         return [f"{target} {self.rng.choice(('=', '=', '=', '+=', '-=', '^='))} {self.value_for(target)}"], False
 
+    def wide(self) -> list[str]:
+        """The IPv6 addresses of headers that were looked for."""
+        return [f"{name}.{it}" for name in self.numbers.likely for it in self.headers[name].wide]
+
     def value_for(self, target: str) -> str:
         """What a field is assigned."""
-        return self.numbers.value_for(target) if self.chance(0.4) else self.number()
+        return self.numbers.value_for(target) if self.chance(0.4) else self.numbers.fitting(target, self.number())
 
     def mend(self, state: State, _deep: int) -> tuple[Lines, bool] | None:
         """Another value of a field that a checksum covers."""
-        fields = self.covered()
+        fields, wide = self.covered(), self.wide()
         if not self.may_write(state) or not fields:
             return None
+        if wide and self.chance(0.3):
+            return [f"mend {self.rng.choice(wide)} = {self.rng.choice((*SIXES, self.rng.choice(wide)))}"], False
         likely = [it for it in fields if it.split(".")[0] in self.numbers.likely]
         if self.own and self.chance(0.4):
             likely = [it for it in fields if it.split(".")[0] in self.own] or likely
@@ -381,7 +391,8 @@ class Writer:
         if name in self.own and self.chance(0.5):
             return f"{self.rng.choice(names)} = eth.{self.rng.choice(list(self.headers['eth'].fields))}" if names else ""
         part = self.rng.choice((0.2, 0.3, 0.7))
-        chosen: list[str] = []
+        chosen = [it for it, bits in header.fields.items() if bits.is_needed]
+        names = [it for it in names if it not in chosen]
         for it in self.rng.sample(names, sum(1 for _ in names if self.chance(part))):
             if self.wild or not any(touches(header.fields[it], header.fields[other]) for other in chosen):
                 chosen.append(it)
@@ -389,9 +400,10 @@ class Writer:
 
     def pushed_value(self, header: Header, name: str) -> str:
         """The value of a field of a header that is pushed."""
-        if header.sum is not None and header.sum.field == name and self.chance(0.8):
+        if header.sum is not None and header.sum.field == name and not header.sum.has_payload and not header.sum.over and self.chance(0.8):
             return "auto"
-        return self.numbers.value_for(f"{header.name}.{name}") if self.chance(0.7) else self.numbers.number(1)
+        field = f"{header.name}.{name}"
+        return self.numbers.value_for(field) if self.chance(0.7) else self.numbers.fitting(field, self.numbers.number(1))
 
     def push(self, state: State, _deep: int) -> tuple[Lines, bool] | None:
         """Headers at the front, or a tag."""
@@ -506,6 +518,7 @@ def own_header(rng: Random, name: str, before: str) -> str:
         count = rng.choice((1, 3, 4, 5, 12, 20) if is_narrow else (8, 8, 16, 16, 32, 48, 64, 4, 3, 13, 20, 24, 40))
         count = min(count, 64 - at % 8)
         default = rng.choice(("", *([f"={rng.getrandbits(count)}"] * 2 if is_narrow else ("", "")), f"={rng.getrandbits(count)}", "=auto" if count == 16 and at % 16 == 0 else ""))
+        default = "" if default == "=auto" and "=auto" in " ".join(fields) else default
         fields.append(f"f{number}:{count}{default}")
         at += count
     if at % 8:
@@ -532,6 +545,11 @@ def own_sum(rng: Random, fields: Lines) -> str:
     at = 0
     for text in fields:
         name, count = text.split("=")[0].split(":")
+        if "=auto" in " ".join(fields) and "=auto" not in text:
+            at += int(count)
+            continue
+        if "=auto" in text:
+            return f" sum {name}{rng.choice(('', ' optional'))}"
         if int(count) == 16 and at % 16 == 0:
             over = rng.choice(("", "", " over ipv4.src ipv4.dst", " over eth.src"))
             return f" sum {name}{rng.choice(('', ' payload'))}{over}{rng.choice(('', ' optional'))}"

@@ -10,7 +10,7 @@ from model.machine import BACKWARD, HEADROOM, Buffer, Env, Packet, Segment, Worl
 from .arithmetic import BINARY, COMPARE, MASK, folded, words
 from .fields import asked_of, bits_at, fields_in, followers, put_bits, words_of, written
 from .syntax import (
-    Arrival, Assign, Binary, Block, Both, Chain, Clone, Complement, Condition, Constant, Cut, Drop, Either, Field, Free, Header, If,
+    Arrival, Assign, AssignWide, Binary, Block, Both, Chain, Clone, Complement, Condition, Constant, Cut, Drop, Either, Field, Free, Header, If,
     Length, Let, Lookup, Need, Negated, New, Number, Pop, Present, Program, Push, Queue, Send, Sum, Truncate, Truth, Variable, While,
 )
 
@@ -276,6 +276,10 @@ class SourceRun:
         else:
             self.headers.put(it.target, value)
 
+    def do_assign_wide(self, it: AssignWide) -> None:
+        self.do_assign(it.first)
+        self.do_assign(it.second)
+
     def words_with(self, field: Field) -> list[int]:
         """The 16-bit words of a header that a field has bits in."""
         header, place = self.program.headers[field.header], self.headers.found[field.header]
@@ -476,6 +480,7 @@ DO: dict[type, Callable[[SourceRun, object], None]] = {
     Let: SourceRun.do_let,
     Lookup: SourceRun.do_lookup,
     Assign: SourceRun.do_assign,
+    AssignWide: SourceRun.do_assign_wide,
     If: SourceRun.do_if,
     While: SourceRun.do_while,
     Need: SourceRun.do_need,

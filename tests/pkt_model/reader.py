@@ -6,9 +6,9 @@ from typing import NamedTuple, TypeVar
 
 from .arithmetic import BINARY, MASK
 from .syntax import (
-    Arrival, Assign, Binary, Bits, Block, Both, Chain, Clone, Compare, Complement, Condition, Constant, Cut, Drop, Either, Extent, Field, Free,
+    Arrival, Assign, AssignWide, Binary, Bits, Block, Both, Chain, Clone, Compare, Complement, Condition, Constant, Cut, Drop, Either, Extent, Field, Free,
     Header, If, Length, Let, Lookup, Need, Negated, New, Number, Pop, Present, Program, Push, Pushed, Queue, Send, Statement, Sum, Truncate, Truth,
-    Variable, While,
+    Variable, While, Wide,
 )
 
 RESERVED = frozenset(
@@ -17,6 +17,7 @@ RESERVED = frozenset(
 )
 TOKEN = re.compile(
     r"""(?P<blank>[ \t\r\n]+|\#[^\n]*)
+    |(?P<six>(?:[0-9a-fA-F]{1,4}:){7}[0-9a-fA-F]{1,4}|[0-9a-fA-F:]*::[0-9a-fA-F:]*)
     |(?P<ether>[0-9a-fA-F]{2}(?::[0-9a-fA-F]{2}){5}(?![0-9a-zA-Z_:]))
     |(?P<dotted>[0-9]+\.[0-9]+\.[0-9]+\.[0-9]+)
     |(?P<hex>0[xX][0-9a-fA-F]+)
@@ -58,6 +59,15 @@ def value_of(kind: str, text: str) -> int:
     return int(text, 16 if kind == "hex" else 10)
 
 
+def six(text: str) -> int:
+    """The number of an IPv6 address; `::` are the groups of 0 that lack."""
+    ends = [[int(group, 16) for group in end.split(":") if group] for end in text.split("::")]
+    groups = ends[0] + [0] * (8 - sum(map(len, ends))) + ends[1] if len(ends) == 2 else ends[0]
+    if len(ends) > 2 or len(groups) != 8 or max(groups) > 0xFFFF:
+        raise Fault(f"no address: {text}")
+    return int.from_bytes(b"".join(group.to_bytes(2, "big") for group in groups), "big")
+
+
 def tokens(text: str) -> list[Token]:
     """The words of a text, and an end."""
     found, at, line = [], 0, 1
@@ -77,7 +87,7 @@ class Reader:
 
     def __init__(self, text: str, headers: dict[str, Header]) -> None:
         self.tokens, self.at = tokens(text), 0
-        self.constants: dict[str, int] = {}
+        self.constants: dict[str, Constant | Wide] = {}
         self.program = Program(dict(headers), [])
 
     @property
@@ -166,19 +176,28 @@ class Reader:
             return Arrival()
         if self.token.kind in ("decimal", "hex", "dotted", "ether"):
             token = self.take()
-            return Constant(value_of(token.kind, token.text))
+            return Constant(value_of(token.kind, token.text), {"dotted": 32, "ether": 48}.get(token.kind, 0))
+        if self.token.kind == "six":
+            value = six(self.take().text)
+            return Wide(Constant(value >> 64), Constant(value & MASK))
         return self.named()
 
     def named(self) -> Number | Condition:
         """A field, a constant, a variable, or a path of headers."""
         name = self.name()
         if self.takes("."):
-            return Field(name, self.word())
+            return self.field_of(name)
         if name in self.program.headers:
             return Present(self.path(name))
         if name in self.constants:
-            return Constant(self.constants[name])
+            return self.constants[name]
         return Variable(name)
+
+    def field_of(self, header: str) -> Field | Wide:
+        """A field of a header; one of 128 bits is two."""
+        name = self.word()
+        halves = self.program.headers[header].wide.get(name) if header in self.program.headers else None
+        return Wide(Field(header, halves[0]), Field(header, halves[1])) if halves else Field(header, name)
 
     def path(self, first: str | None = None) -> tuple[str, ...]:
         """Headers with `/` between them."""
@@ -220,7 +239,7 @@ class Reader:
         if isinstance(left, CONDITIONS):
             return left
         if self.token.kind == "sign" and self.token.text in COMPARISONS:
-            return Compare(self.take().text, left, self.number())
+            return compared(self.take().text, left, self.number())
         return self.membership(left) if self.takes("in") else left
 
     def membership(self, left: Number) -> Condition:
@@ -237,9 +256,25 @@ class Reader:
         if self.takes(".."):
             return Both(Compare(">=", left, first), Compare("<=", left, Constant(self.constant())))
         if self.takes("/"):
-            bits = 32 - self.constant()
-            return Compare("==", Binary(">>", left, Constant(bits)), Constant(known(first) >> bits))
-        return Compare("==", left, first)
+            return self.in_prefix(left, first, self.constant(), self.width(left, first))
+        return compared("==", left, first)
+
+    def width(self, left: Number, first: Number) -> int:
+        """How many bits the numbers have whose first ones are a prefix."""
+        if isinstance(left, Wide):
+            return 128
+        if isinstance(left, Field):
+            return self.program.headers[left.header].fields[left.name].count
+        return first.width if isinstance(first, Constant) else 0
+
+    def in_prefix(self, left: Number, first: Number, depth: int, width: int) -> Condition:
+        """Whether the first bits of a number are those of a constant."""
+        if isinstance(left, Wide) and isinstance(first, Wide):
+            high = self.in_prefix(left.high, first.high, min(depth, 64), 64)
+            return Both(high, self.in_prefix(left.low, first.low, depth - 64, 64)) if depth > 64 else high
+        if width - depth == 64:
+            return Compare(">=", left, Constant(0))
+        return Compare("==", Binary(">>", left, Constant(width - depth)), Constant(known(first) >> width - depth))
 
     # Declarations
 
@@ -255,7 +290,8 @@ class Reader:
         if self.takes("const"):
             name = self.name()
             self.want("=")
-            self.constants[name] = self.constant()
+            value = self.number()
+            self.constants[name] = value if isinstance(value, Constant | Wide) else Constant(known(value))
         elif self.takes("ports"):
             self.program.ports = self.constant()
         elif self.takes("segments"):
@@ -297,11 +333,17 @@ class Reader:
         begin = self.constant() if is_alias else at
         self.want(":")
         count, default = self.constant(), 0
+        if count == 128:
+            header.wide[name] = f"{name}_hi", f"{name}_lo"
+            for number, half in enumerate(header.wide[name]):
+                header.fields[half] = Bits(begin + 64 * number, 64, 0, is_alias)
+            return 0 if is_alias else count
         has_default = self.takes("=")
         is_auto = has_default and self.takes("auto")
-        if has_default and not is_auto:
+        is_needed = has_default and self.takes("need")
+        if has_default and not is_auto and not is_needed:
             default = self.constant()
-        header.fields[name] = Bits(begin, count, None if is_auto else default, is_alias)
+        header.fields[name] = Bits(begin, count, None if is_auto else default, is_alias, is_needed)
         return 0 if is_alias else count
 
     def clause(self, header: Header) -> bool:
@@ -339,7 +381,8 @@ class Reader:
             while self.token.kind == "name" and self.tokens[self.at + 1].text == ".":
                 header = self.name()
                 self.want(".")
-                over.append(Field(header, self.word()))
+                covered = self.field_of(header)
+                over += [covered.high, covered.low] if isinstance(covered, Wide) else [covered]
         return Sum(field, has_payload, tuple(over), self.takes("optional"))
 
     # Statements
@@ -381,7 +424,13 @@ class Reader:
     def assignment(self, mends: bool) -> Statement:
         """Another value for a variable or a field."""
         name = self.name()
-        target = Field(name, self.word()) if self.takes(".") else Variable(name)
+        target = self.field_of(name) if self.takes(".") else Variable(name)
+        if isinstance(target, Wide):
+            self.want("=")
+            value = self.number()
+            if not isinstance(value, Wide):
+                raise self.fault("an IPv6 address is wanted before this")
+            return AssignWide(Assign(target.high, value.high, mends), Assign(target.low, value.low, mends))
         sign = self.take().text
         if sign == "=":
             return Assign(target, self.number(), mends)
@@ -442,13 +491,14 @@ class Reader:
         """A header and the fields that are given."""
         header = self.name()
         self.want("{")
-        return Pushed(header, dict(self.each("}", self.pushed_field)))
+        return Pushed(header, dict(field for fields in self.each("}", lambda: self.pushed_field(header)) for field in fields))
 
-    def pushed_field(self) -> tuple[str, Number | None]:
-        """A field and its value."""
+    def pushed_field(self, header: str) -> list[tuple[str, Number | None]]:
+        """A field and its value; one of 128 bits is two."""
         name = self.word()
         self.want("=")
-        return name, None if self.takes("auto") else self.number()
+        value = None if self.takes("auto") else self.number()
+        return [*zip(self.program.headers[header].wide[name], (value.high, value.low))] if isinstance(value, Wide) else [(name, value)]
 
     def push(self) -> Statement:
         """Headers that are put in front."""
@@ -483,6 +533,15 @@ STATEMENTS: dict[str, Callable[[Reader], Statement]] = {
     "cut": lambda reader: Cut(*reader.packet_and_count()),
     "truncate": lambda reader: Truncate(*reader.packet_and_count()),
 }
+
+
+def compared(sign: str, left: Number, right: Number) -> Condition:
+    """A comparison; that of IPv6 addresses is one of each half."""
+    if isinstance(left, Wide) and isinstance(right, Wide) and sign in ("==", "!="):
+        return (Both if sign == "==" else Either)(Compare(sign, left.high, right.high), Compare(sign, left.low, right.low))
+    if isinstance(left, Wide) or isinstance(right, Wide):
+        raise Fault(f"{left} {sign} {right}")
+    return Compare(sign, left, right)
 
 
 def truth(found: Number | Condition) -> Condition:

@@ -14,15 +14,17 @@ class Part:
 
 
 # fmt: off
-# Numbers. `Arrival` is the number of the port or ring that the packet came from, `Complement` has all 64 bits turned.
-class Constant(Part): value: int  # noqa: E302, E701
+# Numbers. `width` has the bits of an address, and else 0. `Arrival` is the number of the port or ring that the packet came from, `Complement`
+# has all 64 bits turned. `Wide` is an IPv6 address, in two halves.
+class Constant(Part): value: int; width: int = 0  # noqa: E302, E701, E702
 class Variable(Part): name: str
 class Field(Part): header: str; name: str  # noqa: E702
 class Length(Part): pass
 class Arrival(Part): pass
 class Binary(Part): operator: str; left: Number; right: Number
 class Complement(Part): inner: Number
-Number = Constant | Variable | Field | Length | Arrival | Binary | Complement  # noqa: E305
+class Wide(Part): high: Number; low: Number
+Number = Constant | Variable | Field | Length | Arrival | Binary | Complement | Wide  # noqa: E305
 
 # Conditions. `Truth` is a number that is not 0, `Present` are headers that are all found, looked for in turn.
 class Truth(Part): number: Number  # noqa: E302
@@ -37,6 +39,7 @@ Condition = Truth | Compare | Present | Both | Either | Negated  # noqa: E305
 class Let(Part): name: str; number: Number  # noqa: E302
 class Lookup(Part): name: str; table: int; number: Number; otherwise: Block | None
 class Assign(Part): target: Variable | Field; number: Number; mends: bool = False
+class AssignWide(Part): first: Assign; second: Assign
 class If(Part): condition: Condition; then: Block; otherwise: Block | None
 class While(Part): condition: Condition; body: Block
 class Need(Part): condition: Condition; otherwise: Block | None
@@ -52,18 +55,20 @@ class Push(Part): headers: list[Pushed]; on: str | None
 class Pop(Part): path: tuple[str, ...]
 class Cut(Part): packet: str | None; count: int
 class Truncate(Part): packet: str | None; count: int
-Statement = Let | Lookup | Assign | If | While | Need | Drop | Send | Queue | Clone | New | Free | Chain | Push | Pop | Cut | Truncate  # noqa: E305
+Statement = Let | Lookup | Assign | AssignWide | If | While | Need | Drop | Send | Queue | Clone | New | Free | Chain | Push | Pop | Cut | Truncate  # noqa: E305
 Block = list[Statement]
 # fmt: on
 
 
 class Bits(Part):
-    """A field of a header: its first bit, how many it has, and what `push` writes where nothing is said; `auto` is no number."""
+    """A field of a header: its first bit, how many it has, and what `push` writes where nothing is said; `auto` is no number. A needed one is
+    named by each `push`."""
 
     at: int
     count: int
     default: int | None
     is_alias: bool
+    is_needed: bool = False
 
 
 class Extent(Part):
@@ -95,6 +100,8 @@ class Header:
     extent: Extent | None = None
     next: str | None = None
     sum: Sum | None = None
+    # The halves of fields of 128 bits.
+    wide: dict[str, tuple[str, str]] = field(default_factory=dict)
 
     @property
     def size(self) -> int:

@@ -40,14 +40,17 @@ class Span(NamedTuple):
 
 @dataclass
 class Header:
-    """A header. `follows` has the condition for each header that it may follow; `before` has it and all that may come before it. The value of
-    its first `bits` gives its length, in `sizes` and by a formula. Its checksum `sum` may cover what follows it, `over` fields of others, and be 0."""
+    """A header. `wide` has the halves of fields of 128 bits, `needed` the fields that each `push` names. `follows` has the condition for each header that it may follow; `before` has it and
+    all that may come before it. The value of its first `bits` gives its length, in `sizes` and by a formula. Its checksum `sum` may cover what
+    follows it, `over` fields of others, and be 0."""
 
     name: str
     at: Place
     before: frozenset[str] = frozenset()
     fields: dict[str, Span] = field(default_factory=dict)
+    wide: dict[str, tuple[str, str]] = field(default_factory=dict)
     defaults: dict[str, int | None] = field(default_factory=dict)
+    needed: tuple[str, ...] = ()
     follows: dict[str, Node] = field(default_factory=dict)
     size: int = 0
     bits: int = 0
@@ -116,6 +119,10 @@ def check(header: Header, headers: Headers) -> None:
             is_own = not isinstance(it, Name) and (not isinstance(it, Field) or it.header == other)
             require(is_own, it.at, f"the condition after {other} is about fields of {other} and constants")
     require(min(header.sizes.values()) >= size, at, f"a length of {header.name} is less than the {size} bytes of its fields")
+    automatic = [name for name, value in header.defaults.items() if value is None]
+    require(len(automatic) < 2, at, f"{' and '.join(automatic)} are both `auto`, and each would count the other", "leave one of them out")
+    is_plain = header.sum not in automatic or not (header.payload or header.over)
+    require(is_plain, at, f"{header.sum} covers more than the header, and `auto` is of the header alone", "leave `= auto` out")
     is_word = not header.sum or header.fields[header.sum].bits == 16 and header.fields[header.sum].bit % 16 == 0
     require(is_word, at, f"the checksum {header.sum} is one 16-bit word of the header")
     if header.next:

@@ -5,7 +5,8 @@ from .headers import Headers
 from .syntax import Path, Place, require
 
 WORD = re.compile(
-    r"(?P<blank>[ \t\r]+|\#[^\n]*)|(?P<line>\n)|(?P<ethernet>[0-9a-fA-F]{2}(?::[0-9a-fA-F]{2}){5}(?![0-9a-fA-F:]))"
+    r"(?P<blank>[ \t\r]+|\#[^\n]*)|(?P<line>\n)"
+    r"|(?P<ip6>(?:[0-9a-fA-F]{1,4}:){7}[0-9a-fA-F]{1,4}(?![\w:])|[0-9a-fA-F:]*::[0-9a-fA-F:]*)|(?P<ethernet>[0-9a-fA-F]{2}(?::[0-9a-fA-F]{2}){5}(?![0-9a-fA-F:]))"
     r"|(?P<ip>\d+\.\d+\.\d+\.\d+(?!\d|\.\d))|(?P<number>0x[0-9a-fA-F]+|\d+)|(?P<name>[A-Za-z_]\w*)|(?P<string>\"[^\"\n]*\")"
     r"|(?P<sign>\.\.|<<=|>>=|<<|>>|==|!=|<=|>=|[-+*&|^]=|[-+*&|^~<>=(){}.,:/@])|(?P<wrong>.)",
     re.ASCII,
@@ -18,7 +19,7 @@ RESERVED = frozenset(
 CURES = {
     "=": "compare with ==", "/": "a prefix comes after `in`; there is no division, and >> n divides by 2^n; a comment begins with #",
     "!": "write `not`", ";": "no sign ends a statement", "&": "write `and`", "|": "write `or`", "-": "write x -= 1", "+": "write x += 1",
-    ":": "write half of an IPv6 address as 0x20010db800000000", '"': "a text ends in its line", "lookup": "let x = lookup ..",
+    ":": "an IPv6 address has eight groups, or :: for groups of 0", '"': "a text ends in its line", "lookup": "let x = lookup ..",
     "else": "an `else` comes after its statement", "the end of the text": "a block ends with }", "true": "write 1",
 }  # fmt: skip
 
@@ -94,7 +95,7 @@ class Lexer:
 
     def field_name(self, header: str) -> str:
         """The name of a field of a header."""
-        name, fields = self.name("a field", may_be_reserved=True), self.headers[header].fields
+        name, fields = self.name("a field", may_be_reserved=True), {**self.headers[header].fields, **self.headers[header].wide}
         require(name.word in fields, name, f"{header} has no field {name.word}", f"its fields are {', '.join(fields)}")
         return name.word
 

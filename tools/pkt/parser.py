@@ -1,12 +1,13 @@
 """The parser: reads a text by the grammar of docs/users/pkt.md, and resolves each name."""
+import ipaddress
 import operator
-from dataclasses import dataclass
+from dataclasses import dataclass, replace
 
 from .headers import Header, Headers, Span, check
 from .lexer import RESERVED, Lexer, require_word
 from .syntax import (
     BIGGEST, PORT, THIS, And, Assign, Binary, Block, Chain, Clone, Compare, Cut, Drop, Field, Found, Free, If, Length, Let, Lookup, Mend, Name, Need,
-    New, Node, Not, Number, Numeric, Or, Path, Place, Pop, Push, Pushed, Send, SourceError, Truncate, While, goes_on, parts, require,
+    New, Node, Not, Number, Numeric, Or, Path, Place, Pop, Push, Pushed, Send, SourceError, Truncate, While, Wide, goes_on, parts, require,
 )
 
 OPERATORS = {
@@ -52,7 +53,9 @@ def as_side(node: Node) -> Node:
 
 
 def as_number(node: Node) -> Node:
-    """A node that must be a number other than the length."""
+    """A node that must be a number of at most 64 bits, other than the length."""
+    is_one = not isinstance(node, Wide)
+    require(is_one, node.at, "an IPv6 address is only compared with == and !=, looked for by `in`, and assigned", "its halves are numbers, as ipv6.src_hi")
     require(not isinstance(node, Length), node.at, "the length is only compared with a constant", "the machine has no length as a number")
     return as_side(node)
 
@@ -68,17 +71,37 @@ def compared(sign: str, left: Node, right: Node) -> Node:
         left, right, sign = right, left, COMPARISONS[sign]
     if isinstance(left, Length) and not isinstance(right, Number):
         as_number(left)
+    if isinstance(left, Wide) or isinstance(right, Wide):
+        return compared_wide(sign, as_wide(left), as_wide(right))
     if isinstance(left, Length) and sign in ("==", "!="):
         equal = And(left.at, Compare(left.at, ">=", left, right), Compare(left.at, "<=", left, right))
         return equal if sign == "==" else Not(left.at, equal)
     return Compare(left.at, sign, as_side(left), as_side(right))
 
 
-def joined(sign: str, left: Node, right: Node) -> Node:
-    """A comparison or two conditions joined by a word."""
-    if sign in COMPARISONS:
-        return compared(sign, left, right)
-    return (And if sign == "and" else Or)(left.at, as_condition(left), as_condition(right))
+def as_wide(node: Node) -> Wide:
+    """A node that must be an IPv6 address."""
+    if not isinstance(node, Wide):
+        raise SourceError(node.at, "an IPv6 address is wanted here", "as ipv6.src, 2001:db8::1 or ::")
+    return node
+
+
+def compared_wide(sign: str, left: Wide, right: Wide) -> Node:
+    """A comparison of IPv6 addresses, by their halves."""
+    require(sign in ("==", "!="), left.at, "IPv6 addresses are compared with == and !=", "ipv6.src in 2001:db8::/32")
+    return (And if sign == "==" else Or)(left.at, Compare(left.at, sign, left.high, right.high), Compare(left.at, sign, left.low, right.low))
+
+
+def in_prefix(left: Node, right: Node, depth: int, bits: int) -> Node:
+    """Whether the first bits of a number are those of a constant."""
+    if isinstance(left, Wide):
+        right = as_wide(right)
+        high = in_prefix(left.high, right.high, min(depth, 64), 64)
+        return high if depth <= 64 else And(left.at, high, in_prefix(left.low, right.low, depth - 64, 64))
+    if bits - depth == 64:
+        return Compare(left.at, ">=", left, Number(right.at, 0))
+    shift = Number(right.at, bits - depth)
+    return Compare(left.at, "==", combined(">>", left, shift), Number(right.at, constant_of(right) >> shift.value))
 
 
 def combined(sign: str, left: Node, right: Node) -> Node:
@@ -88,7 +111,8 @@ def combined(sign: str, left: Node, right: Node) -> Node:
     require(sign not in ("<<", ">>") or by is not None and by < 64, right.at, "a shift goes by a constant from 0 to 63")
     require(sign != "*" or isinstance(left, Number) or by is not None, right.at, "one side of a product is a constant")
     if isinstance(left, Number) and by is not None:
-        return Number(left.at, OPERATORS[sign](left.value, by) & BIGGEST)
+        value = OPERATORS[sign](left.value, by)
+        return Number(left.at, value & BIGGEST, wraps=left.wraps or value != value & BIGGEST)
     return Binary(left.at, sign, left, right)
 
 
@@ -112,8 +136,9 @@ class Parser(Lexer):
     def __init__(self, text: str, headers: Headers) -> None:
         super().__init__(text, headers)
         self.names: dict[str, str] = {**dict.fromkeys(headers, "a header"), PORT: "a variable"}
-        self.constants: dict[str, int] = {}
+        self.constants: dict[str, Number | Wide] = {}
         self.unknown: list[Place] = []
+        self.given: set[str] = set()
 
     def condition(self) -> Node:
         """A condition."""
@@ -145,8 +170,17 @@ class Parser(Lexer):
             if sign == "in":
                 node = self.items(as_side(node))
             else:
-                node = (joined if level < NUMBERS else combined)(sign, node, self.operation(level + 1))
+                node = self.joined(sign, node, self.operation(level + 1)) if level < NUMBERS else combined(sign, node, self.operation(level + 1))
         return node
+
+    def joined(self, sign: str, left: Node, right: Node) -> Node:
+        """A comparison or two conditions joined by a word."""
+        if sign in COMPARISONS:
+            return self.compared(sign, left, right)
+        for side in (left, right):
+            is_open = not isinstance(side, Number) or not side.at.word[:1].isdigit()
+            require(is_open, side.at, f"{side.at.word} alone is a condition that never changes", "x in {1, 2} compares x with each")
+        return (And if sign == "and" else Or)(left.at, as_condition(left), as_condition(right))
 
     def items(self, left: Node) -> Node:
         """The items after `in`: a comparison for each."""
@@ -163,19 +197,52 @@ class Parser(Lexer):
         right = as_side(self.operation(NUMBERS))
         if self.may(".."):
             low, high = Number(right.at, constant_of(right)), Number(right.at, self.constant())
-            return And(left.at, compared(">=", left, low), compared("<=", left, high))
+            require(low.value <= high.value, low.at, f"no number is from {low.value:,} to {high.value:,}", "the smaller one comes first")
+            return And(left.at, self.compared(">=", left, low), self.compared("<=", left, high))
         if self.may("/"):
-            at, depth = self.place(), self.constant()
-            require(depth <= 32, at, f"a prefix has at most 32 bits, and this is {depth}")
-            shift = Number(right.at, 32 - depth)
-            return Compare(left.at, "==", combined(">>", left, shift), Number(right.at, constant_of(right) >> shift.value))
-        return compared("==", left, right)
+            at, depth, bits = self.place(), self.constant(), self.prefix_bits(left, right)
+            require(depth <= bits, at, f"the prefix has at most {bits} bits, and this is {depth}")
+            return in_prefix(left, right, depth, bits)
+        return self.compared("==", left, right)
+
+    def prefix_bits(self, left: Node, right: Node) -> int:
+        """How many bits the numbers have whose first ones are a prefix: those of the field, or of the address."""
+        bits = 128 if isinstance(left, Wide) else self.span_of(left).bits if isinstance(left, Field) else 0
+        of_address = 128 if isinstance(right, Wide) else right.width if isinstance(right, Number) else 0
+        if not isinstance(right, Wide):
+            constant_of(right)
+        require(bits or of_address, right.at, "how many bits has this number? A prefix counts from the first one", "compare with >> and ==")
+        fits = not bits or not of_address or bits == of_address
+        require(fits, right.at, f"the address has {of_address} bits, and the field before `in` {bits}", "write the prefix as wide as the field")
+        if isinstance(left, Field):
+            self.require_fits(left, right)
+        return bits or of_address
+
+    def span_of(self, it: Field) -> Span:
+        """The bits of a field within its header."""
+        return self.headers[it.header].fields[it.name]
+
+    def require_fits(self, it: Node, value: Node) -> None:
+        """Refuses a constant that no value of a field is."""
+        if isinstance(it, Field) and isinstance(value, Number):
+            span, name = self.span_of(it), f"{it.header}.{it.name}"
+            require(value.value <= span.largest, value.at, f"{name} has {span.bits} bits, and is at most {span.largest:,}: this is {value.value:,}",
+                    f"{value.value & span.largest} are its lowest {span.bits} bits")
+
+    def compared(self, sign: str, left: Node, right: Node) -> Node:
+        """A comparison of sides that fit one another."""
+        self.require_fits(left, right)
+        self.require_fits(right, left)
+        return compared(sign, left, right)
 
     def operand(self) -> Node:
         """A number without operators, a path, or an expression in parentheses."""
         at = self.place()
+        if self.kind == "ip6":
+            return self.ipv6()
         if self.kind in ("number", "ip", "ethernet"):
-            return Number(at, self.literal())
+            width = {"ip": 32, "ethernet": 48}.get(self.kind, 0)
+            return Number(at, self.literal(), width)
         if self.may("~"):
             return combined("^", self.operand(), Number(at, BIGGEST))
         if self.may("("):
@@ -192,12 +259,21 @@ class Parser(Lexer):
         if at.word in self.headers:
             return self.field() if self.place(1).word == "." else Found(at, self.path())
         if at.word in self.constants:
-            return Number(self.take(), self.constants[at.word])
+            return replace(self.constants[at.word], at=self.take())
         require(self.place(1).word != ".", at, f"there is no header {at.word}", self.known_headers())
         require_word(at.word not in RESERVED - {PORT}, at, f"a number or a condition is wanted here, and this is {at.word!r}")
         if self.names.get(at.word) != "a variable":
             self.unknown.append(at)
         return Name(self.take(), at.word)
+
+    def ipv6(self) -> Wide:
+        """An IPv6 address."""
+        at = self.take()
+        try:
+            value = int(ipaddress.IPv6Address(at.word))
+        except ValueError:
+            raise SourceError(at, f"{at.word} is no IPv6 address", "it has eight groups of up to four digits, or one :: for groups of 0") from None
+        return Wide(at, Number(at, value >> 64), Number(at, value & BIGGEST))
 
     def literal(self) -> int:
         """The value of a literal."""
@@ -210,11 +286,13 @@ class Parser(Lexer):
         require(value <= BIGGEST, at, "a number has at most 64 bits")
         return value
 
-    def field(self) -> Field:
-        """A header's field."""
+    def field(self) -> Field | Wide:
+        """A header's field; one of 128 bits is two."""
         header = self.header_name()
         self.take(".")
-        return Field(header, header.word, self.field_name(header.word))
+        name = self.field_name(header.word)
+        high, low = self.headers[header.word].wide.get(name, ("", ""))
+        return Wide(header, Field(header, header.word, high), Field(header, header.word, low)) if high else Field(header, header.word, name)
 
     def declare(self, at: Place, name: str, what: str) -> None:
         """Gives a new name its meaning."""
@@ -260,11 +338,11 @@ class Parser(Lexer):
         """Statements in braces, or one after `else`."""
         outside, found = dict(self.names), list[Node]()
         if may_be_one and not self.sees("{"):
-            found = [self.statement()]
+            found = [*self.statement()]
         else:
             self.take("{")
             while not self.may("}"):
-                found.append(self.statement(tuple(found[-1:])))
+                found += self.statement(tuple(found[-1:]))
         self.names = outside
         return tuple(found)
 
@@ -276,14 +354,15 @@ class Parser(Lexer):
         """An `else` part, which may be absent."""
         return self.fallback() or ()
 
-    def statement(self, before: Block = ()) -> Node:
-        """A statement: its first word gives its kind, and the table the syntax after it."""
+    def statement(self, before: Block = ()) -> Block:
+        """A statement: its first word gives its kind, and the table the syntax after it. An assignment to an IPv6 address is two."""
         at = self.place()
         if self.kind == "name" and self.sees(*STATEMENTS):
             kind, slots = STATEMENTS[self.take().word]
-            it = self.let(at) if kind is Let else kind(at, *self.slots(slots))
+            all_of = (self.let(at) if kind is Let else kind(at, *self.slots(slots)),)
         else:
-            it = self.assignment(at, self.kind == "name" and self.may("mend"))
+            all_of = self.assignment(at, self.kind == "name" and self.may("mend"))
+        it = all_of[-1]
         if isinstance(it, Drop) and self.kind == "string":
             self.take()
         self.refuse_unknown()
@@ -292,7 +371,7 @@ class Parser(Lexer):
             require(not goes_on(it.fallback), at, "what is after this `else` has to end the program", "end it with drop or send")
         if isinstance(it, (Let, Lookup, Clone, New)):
             self.declare(at, it.name, "a variable" if isinstance(it, (Let, Lookup)) else "a packet")
-        return it
+        return all_of
 
     def slots(self, slots: str) -> list[object]:
         """The parts after the first word of a statement; a word in quotes has no value."""
@@ -321,12 +400,29 @@ class Parser(Lexer):
             at, name = self.place(), self.field_name(header.word)
             require(name not in values, at, f"{name} is given twice")
             self.take("=")
-            values[name] = None if self.may("auto") else self.number()
+            if name in self.headers[header.word].wide:
+                value = as_wide(self.operation(NUMBERS))
+                values |= dict(zip(self.headers[header.word].wide[name], (value.high, value.low)))
+            else:
+                values[name] = None if self.may("auto") else self.number()
+                self.require_fits(Field(at, header.word, name), values[name] or Length(at))
             self.may(",")
+        self.check_pushed(header, values)
         more = self.pushed() if self.sees_header("{") else ()
         return Pushed(header, header.word, tuple(values.items())), *more
 
-    def assignment(self, at: Place, mends: bool) -> Node:
+    def check_pushed(self, at: Place, values: dict[str, Node | None]) -> None:
+        """Refuses a pushed header without a field that it needs, or with a checksum that `auto` is not."""
+        header = self.headers[at.word]
+        for name in header.needed:
+            require(name in values, at, f"{at.word}.{name} is not named, and would be 0", f"{name} = .. has what comes after it")
+        automatic = [name for name, value in (header.defaults | values).items() if value is None]
+        require(len(automatic) < 2, at, f"{' and '.join(automatic)} are both `auto`, and each would count the other", "give one of them a value")
+        is_plain = header.sum not in automatic or not (header.payload or header.over)
+        cure = f"{header.sum} = 0 where that means that there is none" if header.optional else "push the header, and assign the checksum"
+        require(is_plain, at, f"{at.word}.{header.sum} covers more than the header, and `auto` is of the header alone", cure)
+
+    def assignment(self, at: Place, mends: bool) -> Block:
         """An assignment to a variable or field."""
         first, fault = self.place(), f"no statement begins with {self.place().word!r}"
         is_name = self.kind == "name" and first.word not in RESERVED - {PORT}
@@ -334,13 +430,19 @@ class Parser(Lexer):
         target = self.operand()
         is_assigned = not isinstance(target, Name) or self.sees(*ASSIGNMENTS, "-", "+")
         require(is_assigned, first, fault, f"statements begin with {', '.join(STATEMENTS)}, mend, or are assignments")
+        kind = Mend if mends else Assign
+        if isinstance(target, Wide) and isinstance(target.high, Field):
+            self.take("=")
+            value = as_wide(self.operation(NUMBERS))
+            return kind(at, target.high, value.high), kind(at, target.low, value.low)
         if not isinstance(target, Field) and (mends or not isinstance(target, Name)):
             raise SourceError(first, "`mend` assigns to a field" if mends else f"{first.word} cannot be assigned to")
         sign = self.take()
         require_word(sign.word in ASSIGNMENTS, sign, f"an assignment is wanted here, and this is {sign.word!r}")
         value = self.number()
         require(target != Name(at, PORT), at, "port is where the packet came from, and is not assigned to", "let x = port")
-        return (Mend if mends else Assign)(at, target, value if sign.word == "=" else combined(sign.word[:-1], target, value))
+        self.require_fits(target, value)
+        return (kind(at, target, value if sign.word == "=" else combined(sign.word[:-1], target, value)),)
 
     def program(self) -> Program:
         """The whole text."""
@@ -348,7 +450,7 @@ class Parser(Lexer):
         while self.kind != "end":
             at = self.place()
             if not self.sees("const", "ports", "segments", "otherwise", "given", "header"):
-                program.statements += (self.statement(program.statements),)
+                program.statements += self.statement(program.statements[-1:])
                 continue
             require(at.word not in said & {"ports", "segments", "otherwise"}, at, f"{at.word} is declared twice")
             said.add(self.take().word)
@@ -362,16 +464,24 @@ class Parser(Lexer):
         at = self.name("a constant")
         self.declare(at, at.word, "a constant")
         self.take("=")
-        self.constants[at.word] = self.constant()
+        value = self.operation(NUMBERS)
+        if not isinstance(value, Wide) or not isinstance(value.high, Number):
+            constant_of(as_number(value))
+        is_whole = not isinstance(value, Number) or not value.wraps
+        require(is_whole, value.at, f"{at.word} is not from 0 to 2^64 - 1, and would be cut to 64 bits", "~0 has all 64 bits")
+        self.constants[at.word] = value  # type: ignore[assignment]
 
     def declare_otherwise(self, program: Program) -> None:
-        at, it = self.place(), self.statement()
+        at, (it, *_) = self.place(), self.statement()
         is_sent = isinstance(it, Send) and it.packet == THIS and it.fallback is None and (isinstance(it.port, (int, Number)) or it.port == Name(at, PORT))
         require(is_sent or isinstance(it, Drop), at, "after `otherwise` is `drop`, `send port`, `send` with a constant, or `queue`, and no `else`")
         program.otherwise = it
 
     def declare_given(self, program: Program) -> None:
         at, program.is_for_ring = self.place(), True
+        what = at.word if self.sees("shared", "length") or at.word == "headroom" else "a path"
+        require(what not in self.given, at, f"`given` has {what} already", "one of each is enough")
+        self.given.add(what)
         if self.may("shared"):
             program.is_shared = True
         elif self.may("headroom"):
@@ -404,14 +514,30 @@ class Parser(Lexer):
             require(name.word not in header.fields, name, f"{name.word} is there twice")
             alias = self.constant() if self.may("@") else None
             self.take(":")
-            bits = self.constant()
-            header.fields[name.word] = Span(total if alias is None else alias, bits)
+            bits, first = self.constant(), total if alias is None else alias
             total += bits if alias is None else 0
+            if bits == 128:
+                self.halves(header, name, first)
+                continue
+            header.fields[name.word] = Span(first, bits)
             if self.may("="):
-                header.defaults[name.word] = None if self.may("auto") else self.constant()
+                at = self.place()
+                if self.may("need"):
+                    header.needed += (name.word,)
+                    continue
+                header.defaults[name.word] = default = None if self.may("auto") else self.constant()
+                require(not default or default <= header.fields[name.word].largest, at, f"{name.word} has {bits} bits, and {default} needs more")
         require(total and total % 8 == 0, header.at, f"the {total} bits of {header.name} do not make whole bytes")
         header.size = total // 8
         header.sizes = {0: header.size}
+
+    def halves(self, header: Header, name: Place, first: int) -> None:
+        """The two halves of a field of 128 bits, which are fields too."""
+        names = f"{name.word}_hi", f"{name.word}_lo"
+        for number, half in enumerate(names):
+            require(half not in header.fields, name, f"{half} is there twice")
+            header.fields[half] = Span(first + 64 * number, 64)
+        header.wide[name.word] = names
 
     def clause_after(self, header: Header) -> None:
         other = self.header_name()
@@ -441,5 +567,6 @@ class Parser(Lexer):
         header.sum, header.payload, header.over = self.field_name(header.name), self.may("payload"), ()
         is_over = self.may("over")
         while is_over and (not header.over or self.sees_header(".")):
-            header.over += (self.field(),)
+            it = self.field()
+            header.over += (it.high, it.low) if isinstance(it, Wide) else (it,)  # type: ignore[assignment]
         header.optional = self.may("optional")

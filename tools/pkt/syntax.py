@@ -44,9 +44,11 @@ Block = tuple[Node, ...]
 Path = tuple[str, ...]
 
 # fmt: off
-# Numbers. `Bits` are bits of the packet that the compiler reads for its own use.
+# Numbers. `width` has the bits of an address, and else 0; one that `wraps` was cut to 64 bits. `Bits` are bits of the packet that the compiler reads for its own use, `Wide` is an
+# IPv6 address in two halves, which the parser takes apart.
 class Numeric(Node): pass  # noqa: E302, E701
-class Number(Numeric): value: int
+class Number(Numeric): value: int; width: int = field(default=0, compare=False); wraps: bool = field(default=False, compare=False)  # noqa: E702
+class Wide(Numeric): high: Node; low: Node
 class Name(Numeric): name: str
 class Field(Numeric): header: str; name: str  # noqa: E702
 class Bits(Numeric): bit: int; bits: int
