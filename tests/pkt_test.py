@@ -417,6 +417,19 @@ send port"""
         self.assertEqual(sent("header h { a:20 b:4 = 5 }\npush h { a = eth.type }\nsend port", frame)[0], [b"\0\x80\x05" + frame])
         self.assertEqual(sent("header h { a:4 = 9 b:40 c:4 = 5 }\npush h { b = eth.dst }\nsend port", frame)[0], [bytes.fromhex("9000000000b5") + frame])
 
+    def test_fields_that_no_load_has_alone(self) -> None:
+        frames = [b"\0\0\0\0\0\5", b"\1\2\3\4\5\6", b"\1\2\3\4\5\6\7", b"\1\2\3\4\5\6\7\7\7"]
+        wanted = [it[:5] + bytes([it[5] + 1]) + it[6:] for it in frames]
+        self.assertEqual(sent("header h { a:48 }\nneed h.a in {5, 0x010203040506}\nh.a += 1\nsend port", *frames)[0], wanted)
+        self.assertEqual(sent("header h { a:4 b:40 c:4 }\nh.b = 0x1234567890\nsend port", b"\xf0\0\0\0\0\5")[0], [bytes.fromhex("f12345678905")])
+        self.assertEqual(sent("header h { a:3 b:20 c:1 }\nneed h.b == 0 h.b -= 1\nsend port", b"\xe0\0\1", b"\xe0\1\1")[0], [b"\xff\xff\xff"])
+
+    def test_headers_longer_than_any_packet(self) -> None:
+        source = "header o { k:8 } after eth if eth.type == 5 length v * {} for v:8 in 9..12\nheader p { x:32 } after o if o.k < 20\n"
+        for factor in (1, 400, 6000, 70_000, 1 << 50):
+            frame = eth(b"\x0a" * 14, 5)
+            self.assertEqual(sent(source.replace("{}", str(factor)) + "need not p\nsend port", frame)[0], [frame] * (factor != 1), factor)
+
     def test_a_length_that_varies_is_popped_whole(self) -> None:
         frame = eth(ipv4(17, b"payload", bytes(12)))
         self.assertEqual(sent("pop ipv4\nsend port", frame, frame[:45])[0], [frame[:14] + b"payload"])

@@ -11,6 +11,8 @@ from .state import ABSENT, EVERYTHING, FAR, NEAR, SOMEBODY_THE_REST, Far, Needs
 from .syntax import THIS, And, Bits, Compare, Field, Found, Length, Node, Not, Number, Or, parts, require
 from .ways import Join, paths
 
+# No packet has more bytes in its first segment, and so many zeros are appended at most where a header is at an offset in a register.
+MAX_BYTES, MAX_PADDING = 65_535, 36
 CONTRARY = {"!=": "==", ">": "<=", ">=": "<"}
 
 
@@ -47,7 +49,7 @@ class Conditions(Registers):
         match left, right:
             case Number(_, a), Number(_, b):
                 self.jump(yes if {"==": a == b, "<": a < b, "<=": a <= b}[sign] else no)
-            case Length(), Number(_, value) if value + (sign == "<=") + self.far.padding > 65_535:
+            case Length(), Number(_, value) if value + (sign == "<=") + self.far.padding > MAX_BYTES:
                 self.jump(yes)
             case Length(), Number(_, value):
                 self.has_bytes(value + (sign == "<="), yes)
@@ -170,6 +172,8 @@ class Conditions(Registers):
 
     def at_place(self, header: Header, at: int, found: Join[Self], missing: Join[Self]) -> None:
         """Looks for a header at a constant place, where all its bytes have to be."""
+        if at + header.size + self.far.padding > MAX_BYTES:
+            return self.jump(missing)
         self.has_bytes(at + header.size, missing)
         self.found[header.name] = at
         self.jump(found)
@@ -181,12 +185,12 @@ class Conditions(Registers):
             return self.at_place(header, base + before.size, found, missing)
         is_one = base < FAR // 2 and (self.far == NEAR or self.far.base == base)
         require(is_one, self.at, f"{header.name} is after two headers whose lengths vary", f"`need` one length of {before.name} before")
-        if self.far != NEAR and header.size <= self.far.size and self.may_be_far(header):
+        if self.far != NEAR and header.size <= self.far.size and self.may_be_far(header, before):
             self.found[header.name] = FAR
             return self.jump(found)
         left = self.sizes_left(before)
         is_dense = len(left) > 2 and max(left) - min(left) == len(left) - 1
-        if is_dense and all(a < b for a, b in pairwise(left.values())) and self.may_be_far(header):
+        if is_dense and all(a < b for a, b in pairwise(left.values())) and self.may_be_far(header, before):
             return self.at_register(header, before, left, found, missing)
         for s, size in self.each_length(before, missing):
             s.at_place(header, base + size, found, missing)
@@ -219,10 +223,11 @@ class Conditions(Registers):
         self.release(a)
         return there
 
-    def may_be_far(self, header: Header) -> bool:
-        """Whether a header may be at an offset in a register: zeros can be appended, and no header after it is used."""
-        this = self.packets[self.held[THIS]]
-        may_append = this.sharers <= {SOMEBODY_THE_REST} and this.segments == 1
+    def may_be_far(self, header: Header, before: Header) -> bool:
+        """Whether a header may be at an offset in a register: few zeros can be appended, and no header after it is used."""
+        this, most = self.packets[self.held[THIS]], max(before.sizes.values())
+        is_short = most - min(before.sizes.values()) <= MAX_PADDING + 4 and self.found[before.name] + most + header.size + MAX_PADDING <= MAX_BYTES
+        may_append = is_short and this.sharers <= {SOMEBODY_THE_REST} and this.segments == 1
         return may_append and header.name not in self.unit.near and not self.headers.after(header.name) & self.unit.used_headers
 
     def at_register(self, header: Header, before: Header, left: dict[int, int], found: Join[Self], missing: Join[Self]) -> None:

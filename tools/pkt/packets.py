@@ -3,6 +3,7 @@ from itertools import combinations
 from typing import Self
 
 from .checksums import Checksums, Others
+from .conditions import MAX_BYTES
 from .headers import Span, asked_of
 from .registers import Value
 from .state import FAR, NEAR, SOMEBODY, SOMEBODY_THE_REST
@@ -99,6 +100,9 @@ class Packets(Checksums):
         for s, size in self.each_length(last, missing):
             begin, end = s.found[it.path[0]], s.found[last.name] + size
             count = end - begin
+            if end > MAX_BYTES:
+                s.jump(missing)
+                continue
             s.has_bytes(end, missing)
             if last.next and begin:
                 begin -= last.fields[last.next].bits // 8
@@ -124,6 +128,8 @@ class Packets(Checksums):
         if self.unit.tag_follows(it) and (before := self.header_before(it.headers[0].header)):
             self.push_tag(it.headers[0], before)
         else:
+            size = sum(self.headers[pushed.header].size for pushed in it.headers)
+            require(size <= MAX_BUFFER, self.at, f"these headers have {size:,} bytes, and a buffer has at most {MAX_BUFFER:,}", "push fewer")
             data, others = self.values(it.headers)
             others += self.sums(it.headers, data, others)
             self.write(data, others, 0, self.prepend(it.packet, len(data)))

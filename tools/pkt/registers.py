@@ -3,8 +3,8 @@ from dataclasses import dataclass
 
 from .headers import Span
 from .state import ABSENT, ALL, FAR, SOMEBODY_THE_REST
-from .syntax import BIGGEST, THIS, Binary, Bits, Field, Name, Node, Number, SourceError, parts, require
-from .ways import Way
+from .syntax import BIGGEST, THIS, Binary, Bits, Field, Name, Node, Number, parts, require
+from .ways import Way, pieces
 
 INSTRUCTIONS = {"+": "add", "-": "sub", "&": "and", "|": "or", "^": "xor", "<<": "shl", ">>": "shr"}
 # How many bits a field of whole bytes has that is stored without a load.
@@ -88,15 +88,15 @@ class Registers(Way):
         """The place of a field whose header was found."""
         return self.headers[it.header].fields[it.name].moved(self.found[it.header])
 
-    def window(self, span: Span, packet: int) -> tuple[int, int, int]:
-        """The place and the width of a load with the bits, and their distance from its end."""
+    def window(self, span: Span, packet: int) -> tuple[int, int, int] | None:
+        """The place and the width of a load with the bits, and their distance from its end; none if no load within the packet has them all."""
         low, high = span.bytes.start, span.bytes.stop
         least, limit = (FAR, FAR + self.far.size) if low >= FAR else (0, self.packets[packet].first)
         for width in (1, 2, 4, 8):
             start = max(least, high - width) if high - width < low else low
             if high - width <= start <= low and start + width <= limit:
                 return start, width, 8 * (start + width) - span.end
-        raise SourceError(self.at, "this field cannot be read in one piece here", "split it in the declaration of its header")
+        return None
 
     def access(self, word: str, packet: int, start: int, width: int, value: Value) -> None:
         """A load or a store, at a constant offset or at one in a register."""
@@ -110,17 +110,35 @@ class Registers(Way):
         if span in self.loaded and into is None:
             self.pins[self.loaded[span]] += 1
             return Value(register=self.loaded[span], span=span, field=field)
-        start, width, shift = self.window(span, self.held[THIS])
+        window = self.window(span, self.held[THIS])
         value = Value(register=self.fresh().r if into is None else into, span=span, field=field)
-        self.access("load", self.held[THIS], start, width, value)
+        if window is None:
+            self.load_pieces(span, value)
+            above, shift = 8 * len(span.bytes), -span.end % 8
+        else:
+            start, width, shift = window
+            self.access("load", self.held[THIS], start, width, value)
+            above = 8 * width
         if shift:
             self.emit("shr", value, shift)
-        if 8 * width - shift > span.bits:
+        if above - shift > span.bits:
             self.emit("and", value, f"{span.largest:#x}")
         self.bounds[value.r] = span.largest
         if into is None:
             self.loaded[span] = value.r
         return value
+
+    def load_pieces(self, span: Span, value: Value) -> None:
+        """Loads bytes that are three, or five to seven, in pieces that have no other byte."""
+        for at, width in pieces(span.bytes):
+            if at == span.bytes.start:
+                self.access("load", self.held[THIS], at, width, value)
+                continue
+            part = self.fresh()
+            self.emit("shl", value, 8 * width)
+            self.access("load", self.held[THIS], at, width, part)
+            self.emit("or", value, part)
+            self.release(part)
 
     def may_write(self, packet: int) -> None:
         """Refuses a write to shared bytes."""
@@ -134,8 +152,8 @@ class Registers(Way):
         """The bytes that a store of these bits writes."""
         if span.bit % 8 == 0 and span.bits in WIDTHS:
             return span.bytes
-        start, width, _ = self.window(span, packet)
-        return range(start, start + width)
+        window = self.window(span, packet)
+        return range(window[0], window[0] + window[1]) if window else span.bytes
 
     def store(self, span: Span, value: Value, packet: int | None = None, known: dict[int, int] | None = None) -> None:
         """Writes the low bits of a value, and releases the value. `known` has bytes of the packet whose values are known."""
@@ -167,7 +185,10 @@ class Registers(Way):
 
     def store_bits(self, span: Span, value: Value, packet: int, known: dict[int, int]) -> None:
         """Writes some bits of a window and keeps the others."""
-        start, width, shift = self.window(span, packet)
+        found = self.window(span, packet)
+        if found is None:
+            return self.store_pieces(span, value, packet, known)
+        start, width, shift = found
         others = (1 << 8 * width) - 1 ^ span.largest << shift
         rest, window = Value(), range(start, start + width)
         if known.keys() >= {*window}:
@@ -182,6 +203,22 @@ class Registers(Way):
         self.apply(rest, "|", value)
         self.access("store", packet, start, width, rest)
         self.release(rest)
+        self.release(value)
+
+    def store_pieces(self, span: Span, value: Value, packet: int, known: dict[int, int]) -> None:
+        """Writes some bits of bytes that are three, or five to seven, in pieces that have no other byte."""
+        for at, width in pieces(span.bytes):
+            first, end = max(span.bit, 8 * at), min(span.end, 8 * (at + width))
+            part = Value(value.constant >> span.end - end)
+            if value.register is not None:
+                part = self.fresh()
+                self.set(part, value)
+                self.apply(part, ">>", Value(span.end - end))
+            piece = Span(first, end - first)
+            if piece.bits == 8 * width:
+                self.store_bytes(piece, part, packet)
+            else:
+                self.store_bits(piece, part, packet, known)
         self.release(value)
 
     def shifted(self, value: Value, span: Span, shift: int) -> Value:
