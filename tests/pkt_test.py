@@ -12,6 +12,7 @@ import struct
 import subprocess
 import sys
 import tempfile
+import time
 import unittest
 
 TOP = pathlib.Path(__file__).resolve().parent.parent
@@ -225,6 +226,49 @@ class Errors(unittest.TestCase):
     def test_too_many_instructions(self) -> None:
         said = self.said("let x = port\n" + "".join(f"x = (x << 1) ^ eth.type ^ {k}\n" for k in range(400)) + "eth.src = x\nsend port")
         self.assertRegex(said, r"the program has 1\d\d\d instructions, and 1,024 are possible; this line takes \d")
+
+
+class Limits(unittest.TestCase):
+    """Texts of any size end soon, in a program or in an error with a place, without deep calls."""
+
+    def test_long_and_deep_texts(self) -> None:
+        addresses = [f"10.{k >> 8}.{k & 255}.1" for k in range(20_000)]
+        texts = {
+            "a number has at most 64 bits": f"let x = {'9' * 4400}\nsend x",
+            "a part of an address": f"let x = 1.2.3.{'1' * 4400}\nsend x",
+            "more than 40 parentheses": f"let x = {'(' * 6000}1{')' * 6000}\nsend x",
+            "more than 40 parentheses and `not`": f"need {'not ' * 20_000}eth\nsend port",
+            "more than 40 parentheses and ~": f"let x = {'~' * 20_000}port\nsend x",
+            "more than 1,024 `else if`": "if port == 9 { drop }" + "".join(f" else if eth.type == {k} {{ drop }}" for k in range(20_000)),
+            "more than 40 blocks": "if eth.type == 5 { " * 5000 + "drop" + " }" * 5000,
+            "a list has at most 1,024 items": f"need ipv4.src in {{{', '.join(addresses)}}}\nsend port",
+            "more than 1,024 operators": f"need {' or '.join(f'ipv4.src == {it}' for it in addresses)}\nsend port",
+            "more than 200 operators": f"let x = {' + '.join(['port'] * 20_000)}\nsend x",
+            "more than 4,096 statements": "let x = 1\n" + "x += port\n" * 50_000 + "send x",
+            "more than 32 headers": "header h0 { a:8 } after eth if eth.type == 5\n"
+                                    + "".join(f"header h{k} {{ a:8 }} after h{k - 1} if h{k - 1}.a == 1\n" for k in range(1, 1500)),
+            "these headers have 70,000 bytes": f"push {'eth { } ' * 5000}send port",
+            "the program has": "".join(f"while eth.type == {k} {{ eth.type += 1 }}\n" for k in range(250)) + "send port",
+        }
+        limit = sys.getrecursionlimit()
+        for wanted, text in texts.items():
+            with self.subTest(wanted):
+                begun = time.monotonic()
+                with self.assertRaises(SourceError) as caught:
+                    compile_text(text)
+                self.assertIn(wanted, error_text(caught.exception, "x.pkt", text))
+                self.assertGreater(caught.exception.at.line, 0)
+                self.assertLess(time.monotonic() - begun, 10)
+        self.assertEqual(sys.getrecursionlimit(), limit)
+
+    def test_what_is_just_possible(self) -> None:
+        deep = "".join(f"if eth.type > {k} {{\n" for k in range(40)) + "drop" + " }" * 40 + "\nsend port"
+        chain = "if port == 7 { drop }" + "".join(f" else if eth.type == {k} {{ drop }}" for k in range(900)) + "\nsend port"
+        listed = f"need ipv4.src in {{{', '.join(f'10.0.{k >> 8}.{k & 255}' for k in range(1000))}}}\nsend port"
+        terms = f"let x = {' + '.join(['port'] * 200)}\nsend x"
+        within = f"let x = {'(' * 40}port{' + 1)' * 40}\nif x == 40 {{ if tcp.dport == 5 {{ drop }} }}\nsend port"
+        for text in (deep, chain, listed, terms, within):
+            self.assertLess(count(text), 1025)
 
 
 class Knowledge(unittest.TestCase):
@@ -524,6 +568,10 @@ class Command(unittest.TestCase):
             self.assertIn("drop.pkt:1:1: no statement begins with 'dropp'", run.stderr)
             run = subprocess.run([str(TOP / "dpv"), "build", name + "/none.pkt"], capture_output=True, text=True)
             self.assertEqual(run.returncode, 1)
+            path.write_text("drop\n")
+            with open("/dev/full", "w", encoding="utf-8") as full:
+                run = subprocess.run([str(TOP / "dpv"), "build", str(path)], stdout=full, stderr=subprocess.PIPE, text=True)
+            self.assertEqual((run.returncode, run.stderr), (1, "the program cannot be written: No space left on device\n"))
 
 
 if __name__ == "__main__":

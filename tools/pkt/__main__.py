@@ -1,6 +1,7 @@
 """Usage: dpv build FILE.pkt > FILE.dpv
 
 Compiles a program of docs/users/pkt.md to a node program. An error is printed to standard error with its line, and gives status 1."""
+import os
 import pathlib
 import sys
 
@@ -26,9 +27,21 @@ def main() -> int:
     except SourceError as error:
         print(error_text(error, str(path), source), file=sys.stderr)
     else:
-        sys.stdout.write(text)
-        return 0
+        return written(text)
     return 1
+
+
+def written(text: str) -> int:
+    """Prints a program. Returns the status: 0, or 1 for an output that cannot be written."""
+    try:
+        sys.stdout.write(text)
+        sys.stdout.flush()
+    except OSError as error:
+        print(f"the program cannot be written: {error.strerror}", file=sys.stderr)
+        # What is left of it would be written, and fail, once more at the end.
+        os.dup2(os.open(os.devnull, os.O_WRONLY), 1)
+        return 1
+    return 0
 
 
 if __name__ == "__main__":

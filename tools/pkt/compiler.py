@@ -1,6 +1,5 @@
 """Compiles a text to a node program."""
 import pathlib
-import sys
 from functools import lru_cache
 
 from .headers import Headers
@@ -10,8 +9,8 @@ from .syntax import SourceError
 from .writer import printable, write
 
 PRELUDE = pathlib.Path(__file__).resolve().parent / "prelude.pkt"
-# Nested statements are nested calls; a text may have some thousands of them.
-MAX_DEPTH = 60_000
+# More instructions than a program can have after it was shortened.
+MAX_INSTRUCTIONS = 12_000
 
 
 @lru_cache
@@ -27,9 +26,8 @@ def parse(source: str) -> Program:
 
 def compile_text(source: str, name: str = "a text") -> str:
     """The node program of a text; raises SourceError."""
-    sys.setrecursionlimit(MAX_DEPTH)
     graph = compile_program(parse(source))
-    graph.shorten()
+    graph.shorten(MAX_INSTRUCTIONS)
     return f"# Built from {printable(name)} by `dpv build`; docs/users/pkt.md has its language.\n" + write(graph, source)
 
 

@@ -2,7 +2,7 @@
 from collections.abc import Iterable, Iterator
 from dataclasses import replace
 from itertools import pairwise
-from typing import Self
+from typing import Self, cast
 
 from .headers import Header, Span
 from .parser import COMPARISONS, substituted
@@ -22,10 +22,8 @@ class Conditions(Registers):
     def decide(self, it: Node, yes: Join[Self], no: Join[Self]) -> None:
         """Ends this path."""
         match it:
-            case And(_, left, right) | Or(_, left, right):
-                more = yes.needs | no.needs | self.unit.needs_of(right)
-                for s in paths(lambda middle: self.decide(left, *((middle, no) if isinstance(it, And) else (yes, middle))), more):
-                    s.decide(right, yes, no)
+            case And() | Or():
+                self.decide_all(it, yes, no)
             case Not(_, condition):
                 self.decide(condition, no, yes)
             case Found(_, path):
@@ -34,6 +32,22 @@ class Conditions(Registers):
                 for s in paths(lambda found: self.touch(self.headers_of(it), found, no)):
                     s.unit.needs = yes.needs | no.needs
                     s.compare(it, yes, no)
+
+    def decide_all(self, it: And | Or, yes: Join[Self], no: Join[Self]) -> None:
+        """Conditions joined by the same word, one after another."""
+        kind, conditions, left = type(it), list[Node](), cast(Node, it)
+        while isinstance(left, kind):
+            conditions.append(left.right)
+            left = left.left
+        ways, needs = [self], self.unit.needs_from(tuple(reversed(conditions)))
+        for number, condition in enumerate([left, *reversed(conditions)]):
+            more = Join[Self](yes.needs | no.needs | needs[min(number, len(conditions))])
+            for way in ways:
+                if number == len(conditions):
+                    way.decide(condition, yes, no)
+                else:
+                    way.decide(condition, *((more, no) if kind is And else (yes, more)))
+            ways = list(more.begin())
 
     def headers_of(self, it: object) -> list[str]:
         """The headers whose fields a part of the text uses."""

@@ -52,6 +52,7 @@ class Header:
     defaults: dict[str, int | None] = field(default_factory=dict)
     needed: tuple[str, ...] = ()
     follows: dict[str, Node] = field(default_factory=dict)
+    depth: int = 0
     size: int = 0
     bits: int = 0
     sizes: dict[int, int] = field(default_factory=dict)

@@ -66,9 +66,9 @@ class Graph:
                 pending.pop()
         return order[::-1]
 
-    def shorten(self) -> None:
-        """Removes unnecessary instructions, until nothing changes."""
-        while self.unite() or self.widen() or self.forget_known():
+    def shorten(self, limit: int = 1 << 20) -> None:
+        """Removes unnecessary instructions, until nothing changes; of more than a limit only equal ones."""
+        while self.unite() or len(self.order()) <= limit and (self.widen() or self.forget_known()):
             pass
 
     def unite(self) -> bool:

@@ -1,6 +1,8 @@
 """The parser: reads a text by the grammar of docs/users/pkt.md, and resolves each name."""
 import ipaddress
 import operator
+from collections.abc import Iterator
+from contextlib import contextmanager
 from dataclasses import dataclass, replace
 
 from .headers import Header, Headers, Span, check
@@ -19,6 +21,9 @@ ASSIGNMENTS = ("=", *(f"{sign}=" for sign in OPERATORS))
 # The binary operators, those that bind least first. `not` binds closer than `and`, and `in` like a comparison.
 LEVELS = (("or",), ("and",), (*COMPARISONS, "in"), ("|",), ("^",), ("&",), ("<<", ">>"), ("+", "-"), ("*",))
 NOT, NUMBERS = 2, 3
+# How many digits a number has, how many parentheses or braces lie in one another, how many operators follow one another, how many items a
+# list has, how many statements a text, and how many headers follow one another.
+MAX_DIGITS, MAX_NESTING, MAX_OPERATORS, MAX_ITEMS, MAX_STATEMENTS, MAX_HEADERS = 20, 40, 200, 1_024, 4_096, 32
 LIMITS = {"table": 3, "ring": 7, "pool": 7, "count": 65_535, "length": 4_096, "number of ports": 8, "number of segments": 64, "headroom": 65_535}
 # The syntax after the first word of a statement: methods of the parser, words, and constants within limits.
 STATEMENTS: dict[str, tuple[type[Node], str]] = {
@@ -138,6 +143,7 @@ class Parser(Lexer):
         self.names: dict[str, str] = {**dict.fromkeys(headers, "a header"), PORT: "a variable"}
         self.constants: dict[str, Number | Wide] = {}
         self.unknown: list[Place] = []
+        self.depth = self.statements = 0
         self.given: set[str] = set()
 
     def condition(self) -> Node:
@@ -163,15 +169,27 @@ class Parser(Lexer):
         if level == len(LEVELS):
             return self.operand()
         if level == NOT and self.sees("not"):
-            return Not(self.take(), as_condition(self.operation(level)))
-        node = self.operation(level + 1)
+            with self.nested("parentheses and `not`"):
+                return Not(self.take(), as_condition(self.operation(level)))
+        node, count = self.operation(level + 1), 0
         while self.sees(*LEVELS[level]):
+            count += 1
+            limit = MAX_OPERATORS if level >= NUMBERS else MAX_ITEMS
+            require(count <= limit, self.place(), f"more than {limit:,} operators in a row", "let x = .. has a part of it; a prefix or a table has many addresses")
             sign = self.take().word
             if sign == "in":
                 node = self.items(as_side(node))
             else:
                 node = self.joined(sign, node, self.operation(level + 1)) if level < NUMBERS else combined(sign, node, self.operation(level + 1))
         return node
+
+    @contextmanager
+    def nested(self, what: str) -> Iterator[None]:
+        """What lies within parentheses or braces; refuses too many of them in one another."""
+        self.depth += 1
+        require(self.depth <= MAX_NESTING, self.place(), f"more than {MAX_NESTING} {what} in one another", "let x = .. has a part of it, or `else if` the next case")
+        yield
+        self.depth -= 1
 
     def joined(self, sign: str, left: Node, right: Node) -> Node:
         """A comparison or two conditions joined by a word."""
@@ -184,9 +202,11 @@ class Parser(Lexer):
 
     def items(self, left: Node) -> Node:
         """The items after `in`: a comparison for each."""
-        is_list = self.may("{")
+        is_list, count = self.may("{"), 1
         node = self.item(left)
         while is_list and self.may(","):
+            count += 1
+            require(count <= MAX_ITEMS, self.place(), f"a list has at most {MAX_ITEMS:,} items: each takes an instruction", "a prefix, or `lookup` in a table")
             node = Or(left.at, node, self.item(left))
         if is_list:
             self.take("}")
@@ -243,12 +263,13 @@ class Parser(Lexer):
         if self.kind in ("number", "ip", "ethernet"):
             width = {"ip": 32, "ethernet": 48}.get(self.kind, 0)
             return Number(at, self.literal(), width)
-        if self.may("~"):
-            return combined("^", self.operand(), Number(at, BIGGEST))
-        if self.may("("):
-            node = self.operation()
-            self.take(")")
-            return node
+        if self.sees("~", "("):
+            with self.nested("parentheses and ~"):
+                if self.take().word == "~":
+                    return combined("^", self.operand(), Number(at, BIGGEST))
+                node = self.operation()
+                self.take(")")
+                return node
         if self.may("length"):
             return Length(at)
         require_word(self.kind == "name", at, f"a number or a condition is wanted here, and this is {at.word!r}")
@@ -279,11 +300,13 @@ class Parser(Lexer):
         """The value of a literal."""
         kind, at = self.kind, self.take()
         if kind == "ip":
-            digits = [int(part) for part in at.word.split(".")]
+            digits = [int(part[-4:]) + 256 * (len(part.lstrip("0")) > 3) for part in at.word.split(".")]
             require(max(digits) <= 255, at, "a part of an address is at most 255")
             return int.from_bytes(bytes(digits), "big")
-        value = int(at.word.replace(":", ""), 16) if kind == "ethernet" or at.word.startswith("0x") else int(at.word)
-        require(value <= BIGGEST, at, "a number has at most 64 bits")
+        is_hex = kind == "ethernet" or at.word.startswith("0x")
+        digits = at.word.replace(":", "").removeprefix("0x").lstrip("0") or "0"
+        value = int(digits, 16 if is_hex else 10) if len(digits) <= MAX_DIGITS else BIGGEST + 1
+        require(value <= BIGGEST, at, "a number has at most 64 bits", f"the greatest one is {BIGGEST}")
         return value
 
     def field(self) -> Field | Wide:
@@ -341,8 +364,9 @@ class Parser(Lexer):
             found = [*self.statement()]
         else:
             self.take("{")
-            while not self.may("}"):
-                found += self.statement(tuple(found[-1:]))
+            with self.nested("blocks"):
+                while not self.may("}"):
+                    found += self.statement(tuple(found[-1:]))
         self.names = outside
         return tuple(found)
 
@@ -351,12 +375,24 @@ class Parser(Lexer):
         return self.block(may_be_one=True) if self.may("else") else None
 
     def other_block(self) -> Block:
-        """An `else` part, which may be absent."""
-        return self.fallback() or ()
+        """An `else` part, which may be absent. The `if` after an `else`, and the one after its `else`, are read one after another."""
+        found = list[tuple[Place, Node, Block]]()
+        while self.sees("else") and self.place(1).word == "if":
+            self.take()
+            at, condition = self.take(), self.condition()
+            self.refuse_unknown()
+            require(len(found) <= MAX_ITEMS, at, f"more than {MAX_ITEMS:,} `else if`: each takes an instruction", "a table: let x = lookup ..")
+            found.append((at, condition, self.block()))
+        rest = self.fallback() or ()
+        for at, condition, body in reversed(found):
+            rest = (If(at, condition, body, rest),)
+        return rest
 
     def statement(self, before: Block = ()) -> Block:
         """A statement: its first word gives its kind, and the table the syntax after it. An assignment to an IPv6 address is two."""
         at = self.place()
+        self.statements += 1
+        require(self.statements <= MAX_STATEMENTS, at, f"more than {MAX_STATEMENTS:,} statements", "a program has at most 1,024 instructions")
         if self.kind == "name" and self.sees(*STATEMENTS):
             kind, slots = STATEMENTS[self.take().word]
             all_of = (self.let(at) if kind is Let else kind(at, *self.slots(slots)),)
@@ -394,6 +430,13 @@ class Parser(Lexer):
 
     def pushed(self) -> tuple[Pushed, ...]:
         """Pushed headers, with their fields."""
+        found = [self.pushed_header()]
+        while self.sees_header("{"):
+            found.append(self.pushed_header())
+        return tuple(found)
+
+    def pushed_header(self) -> Pushed:
+        """One pushed header, with its fields."""
         header, values = self.header_name(), dict[str, Node | None]()
         self.take("{")
         while not self.may("}"):
@@ -408,8 +451,7 @@ class Parser(Lexer):
                 self.require_fits(Field(at, header.word, name), values[name] or Length(at))
             self.may(",")
         self.check_pushed(header, values)
-        more = self.pushed() if self.sees_header("{") else ()
-        return Pushed(header, header.word, tuple(values.items())), *more
+        return Pushed(header, header.word, tuple(values.items()))
 
     def check_pushed(self, at: Place, values: dict[str, Node | None]) -> None:
         """Refuses a pushed header without a field that it needs, or with a checksum that `auto` is not."""
@@ -501,6 +543,8 @@ class Parser(Lexer):
         self.headers[at.word] = header
         while self.sees("after", "length", "next", "sum"):
             getattr(self, f"clause_{self.take().word}")(header)
+        header.depth = 1 + max((self.headers[other].depth for other in header.follows), default=0)
+        require(header.depth <= MAX_HEADERS, at, f"more than {MAX_HEADERS} headers follow one another", "declare several of them as one header")
         check(header, self.headers)
         header.before = frozenset({header.name}).union(*(self.headers[other].before for other in header.follows))
         self.unknown = []

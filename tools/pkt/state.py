@@ -109,8 +109,7 @@ class State:
         self.packets = {p: it.joined(other.packets[p]) for p, it in self.packets.items()}
         lengths = tuple(sorted({*self.far.lengths, *other.far.lengths}))
         self.far = replace(self.far, size=min(self.far.size, other.far.size), lengths=lengths)
-        unlike = {bit // 8 for bit, _ in self.bits.items() ^ other.bits.items()}
-        self.bits = {bit: it for bit, it in self.bits.items() if bit // 8 not in unlike}
+        self.bits = dict(self.bits.items() & other.bits.items())
         self.loaded = dict(self.loaded.items() & other.loaded.items())
         self.bounds = {r: max(b, other.bounds[r]) for r, b in self.bounds.items() if r in other.bounds}
         self.sharer = self.sharer if self.sharer[0] else other.sharer

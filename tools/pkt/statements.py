@@ -1,4 +1,6 @@
 """Lowering of statements: assignments, branches, loops, and packets that are made or sent."""
+from __future__ import annotations
+
 from dataclasses import replace
 from typing import Self
 
@@ -14,6 +16,7 @@ from .syntax import (
 from .ways import Join, Unit, paths
 
 MAX_PORT = 7
+UNREACHED = "control never comes here: what was asked before decides it"
 
 
 def compile_program(program: Program) -> Graph:
@@ -29,58 +32,64 @@ def compile_program(program: Program) -> Graph:
     needs = unit.needs_of(program.otherwise)
     way.forget(needs | unit.needs_of(program.statements))
     end = Join[Statements](needs)
-    way.block(program.statements, end)
+    block([way], program.statements, end)
     for way in end.ways:
         way.drop()
     refuse_unreached(program.statements, unit.reached)
     return Graph(first)
 
 
+def block(ways: list[Statements], statements: Block, after: Join[Statements]) -> None:
+    """The paths through a block, after which its variables are gone and its packets dropped."""
+    if not ways:
+        return
+    variables, packets, end = set(ways[0].variables), set(ways[0].held), Join[Statements](after.needs)
+    for number, it in enumerate(statements):
+        ready = Join[Statements](end.needs | ways[0].unit.needs_of(statements, number + 1))
+        for way in ways:
+            for s in paths(lambda done: way.statement(it, done), ready.needs):
+                s.at = it.at
+                if FAR not in s.found.values():
+                    s.come_near()
+                s.jump(ready)
+        ways = list(ready.begin())
+        if not ways:
+            return
+    for s in ways:
+        s.variables = {name: r for name, r in s.variables.items() if name in variables or name.startswith("$")}
+        for name in [name for name in s.held if name not in packets]:
+            s.free(name)
+        s.jump(after)
+
+
+def body(statements: Block | None, join: Join[Statements], after: Join[Statements]) -> None:
+    """A block that paths lead to; if it is an `else` part that is missing, all packets are dropped."""
+    if statements is None:
+        for s in join.ways:
+            s.drop()
+    elif join.ways:
+        join.needs = after.needs | join.ways[0].unit.needs_of(statements)
+        block(list(join.begin()), statements, after)
+
+
 def refuse_unreached(block: Block, reached: set[int]) -> None:
     """Refuses statements that control never reaches, except in `else` parts and under conditions made of constants."""
-    for it in block:
-        require(id(it) in reached, it.at, "control never comes here: what was asked before decides it", "delete it, or ask another question before")
-        if isinstance(it, (If, While)) and has(it.condition, Name, Field, Found, Length):
+    for number, it in enumerate(block):
+        # The second half of an assignment to an IPv6 address stands at the place of the first.
+        is_half = number > 0 and it.at == block[number - 1].at
+        require(id(it) in reached or is_half, it.at, UNREACHED, "delete it, or ask another question before")
+        while isinstance(it, (If, While)) and has(it.condition, Name, Field, Found, Length):
             refuse_unreached(it.body, reached)
-            refuse_unreached(it.fallback if isinstance(it, If) else (), reached)
+            rest = it.fallback if isinstance(it, If) else ()
+            if len(rest) != 1 or not isinstance(rest[0], If):
+                refuse_unreached(rest, reached)
+                break
+            it = rest[0]
+            require(id(it) in reached, it.at, UNREACHED, "delete it, or ask another question before")
 
 
 class Statements(Packets):
     """Compiles statements: each ends the path and leads to a join after it."""
-
-    def block(self, block: Block, after: Join[Self]) -> None:
-        """Statements, after which their variables are gone and their packets dropped."""
-        variables, packets, end = set(self.variables), set(self.held), Join[Self](after.needs)
-        self.sequence(block, 0, end)
-        for s in end.ways:
-            s.variables = {name: r for name, r in s.variables.items() if name in variables or name.startswith("$")}
-            for name in [name for name in s.held if name not in packets]:
-                s.free(name)
-            s.jump(after)
-
-    def sequence(self, block: Block, first: int, end: Join[Self]) -> None:
-        """The statements of a block from one on, one after another."""
-        if first == len(block):
-            return self.jump(end)
-        it, later = block[first], end.needs | self.unit.needs_of(block, first + 1)
-        ready = Join[Self](later)
-        for s in paths(lambda after: self.statement(it, after), later):
-            s.at = it.at
-            if FAR not in s.found.values():
-                s.come_near()
-            s.jump(ready)
-        for s in ready.begin():
-            s.sequence(block, first + 1, end)
-
-    def body(self, block: Block | None, join: Join[Self], after: Join[Self]) -> None:
-        """A block that paths lead to; if it is an `else` part that is missing, all packets are dropped."""
-        if block is None:
-            for s in join.ways:
-                s.drop()
-            return
-        join.needs = after.needs | self.unit.needs_of(block)
-        for s in join.begin():
-            s.block(block, after)
 
     def statement(self, it: Node, after: Join[Self]) -> None:
         """One statement: the headers that it needs are found, or `otherwise` runs."""
@@ -95,7 +104,7 @@ class Statements(Packets):
             else:
                 getattr(s, do)(it, failed)
                 s.jump(after)
-                s.body(getattr(it, "fallback", None), failed, after)
+                body(getattr(it, "fallback", None), failed, after)
         for s in missing.begin():
             s.otherwise()
 
@@ -121,10 +130,20 @@ class Statements(Packets):
             self.drop()
 
     def do_if(self, it: If | Need, after: Join[Self]) -> None:
-        yes, no = (Join[Self](after.needs | self.unit.needs_of(block)) for block in (it.body, it.fallback))
-        self.decide(it.condition, yes, no)
-        self.body(it.body, yes, after)
-        self.body(it.fallback, no, after)
+        """Its blocks; the `if` after an `else` is part of it."""
+        ways = [self]
+        while ways:
+            yes, no = (Join[Self](after.needs | self.unit.needs_of(block)) for block in (it.body, it.fallback))
+            for way in ways:
+                way.at = it.at
+                way.decide(it.condition, yes, no)
+            body(it.body, yes, after)
+            rest = it.fallback
+            if rest is None or len(rest) != 1 or not isinstance(rest[0], If):
+                return body(rest, no, after)
+            ways, it = list(no.begin()), rest[0]
+            if ways:
+                self.unit.reached.add(id(it))
 
     do_need = do_if
 
@@ -137,7 +156,7 @@ class Statements(Packets):
         head, held, variables = self.last, dict(self.held), dict(self.variables)
         yes, again = Join[Self](more), Join[Self](more)
         self.decide(it.condition, yes, after)
-        self.body(it.body, yes, again)
+        body(it.body, yes, again)
         for s in again.begin():
             s.at = it.at
             s.enter_round(more)
@@ -238,7 +257,7 @@ class Statements(Packets):
             self.emit("append", f"p{self.held[THIS]}", far.padding)
             self.far, self.found = far, dict(found)
         if it.fallback is not None:
-            self.block(it.fallback, after)
+            block([self], it.fallback, after)
         elif it.packet == THIS:
             self.drop()
         else:

@@ -1,6 +1,7 @@
 """The parts of a text. Each knows its place in the text, which is ignored when two parts are compared."""
 from collections.abc import Iterator
 from dataclasses import dataclass, field, fields
+from functools import cache
 from typing import Any, NamedTuple, dataclass_transform
 
 BIGGEST = (1 << 64) - 1
@@ -84,14 +85,27 @@ class Truncate(Node): packet: str; count: int
 # fmt: on
 
 
+@cache
+def members(kind: type[Node]) -> tuple[str, ...]:
+    """The names of what a node consists of."""
+    return tuple(member.name for member in fields(kind) if member.name != "at")
+
+
+def children(it: Any) -> tuple[Any, ...]:
+    """What a node or a tuple consists of."""
+    if isinstance(it, Node):
+        return tuple(getattr(it, name) for name in members(type(it)))
+    return it if isinstance(it, tuple) else ()
+
+
 def parts(it: Any) -> Iterator[Node]:
     """A node and all nodes in it, or all nodes in a tuple."""
-    if isinstance(it, Node):
-        yield it
-        it = tuple(getattr(it, member.name) for member in fields(it) if member.name != "at")
-    if isinstance(it, tuple):
-        for part in it:
-            yield from parts(part)
+    pending = [it]
+    while pending:
+        part = pending.pop()
+        if isinstance(part, Node):
+            yield part
+        pending += reversed(children(part))
 
 
 def has(it: Any, *kinds: type[Node]) -> bool:
@@ -101,10 +115,15 @@ def has(it: Any, *kinds: type[Node]) -> bool:
 
 def goes_on(it: Node | Block) -> bool:
     """Whether control can reach the end of a statement, or of a block whose statements it can reach."""
-    if isinstance(it, tuple):
-        return not it or goes_on(it[-1])
-    if isinstance(it, If):
-        return goes_on(it.body) or goes_on(it.fallback)
-    if isinstance(it, Send) and it.packet == THIS:
-        return it.fallback is not None and goes_on(it.fallback)
-    return not isinstance(it, Drop)
+    while it:
+        if isinstance(it, tuple):
+            it = it[-1]
+        elif isinstance(it, If):
+            if goes_on(it.body):
+                return True
+            it = it.fallback
+        elif isinstance(it, Send) and it.packet == THIS and it.fallback is not None:
+            it = it.fallback
+        else:
+            return not isinstance(it, Drop) and not (isinstance(it, Send) and it.packet == THIS)
+    return True

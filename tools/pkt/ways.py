@@ -10,9 +10,11 @@ from .layout import Instruction
 from .headers import Headers
 from .parser import Program
 from .state import EVERYTHING, NOTHING, Needs, State
-from .syntax import THIS, Field, Found, Mend, Name, Node, Place, Pop, Push, parts, require
+from .syntax import THIS, Field, Found, Mend, Name, Node, Place, Pop, Push, children, parts, require
 
-MAX_BLOCKS = 20_000
+# Limits of a program before it is shortened: far beyond any that fits afterwards.
+MAX_BLOCKS, MAX_APPENDED = 20_000, 40_000
+TOO_MUCH = "`need` what most packets have, or find it out once for all; a prefix or a table in place of a list of addresses"
 
 
 class Unit:
@@ -20,29 +22,45 @@ class Unit:
 
     def __init__(self, program: Program) -> None:
         self.program, self.headers, self.needs, self.blocks, self.reached = program, program.headers, NOTHING, 0, set[int]()
-        self.known: dict[tuple[int, int], tuple[Any, Needs]] = {}
+        self.known: dict[int, tuple[Any, Needs]] = {}
+        self.known_from: dict[int, tuple[Any, list[Needs]]] = {}
+        self.appended = 0
         used = self.needs_of(program.statements) | self.needs_of(program.otherwise)
         self.used_headers = {name for name in self.headers if (name, False) in used}
         self.near = {name for it in parts(program.statements) if isinstance(it, (Pop, Push)) for name in self.headers_of(it)}
 
     def needs_of(self, it: Any, first: int = 0) -> Needs:
         """The needs of a part of the text, or of a block from one of its statements on; computed once."""
-        key = id(it), first
-        if key not in self.known:
-            if isinstance(it, tuple):
-                needs = self.needs_of(it[first]) | self.needs_of(it, first + 1) if first < len(it) else NOTHING
-            else:
-                needs = self.needs_of_all(it)
-            self.known[key] = it, needs
-        return self.known[key][1]
+        if isinstance(it, tuple):
+            return self.needs_from(it)[first]
+        pending = [it]
+        while id(it) not in self.known:
+            part = pending[-1]
+            left = [other for other in nodes_of(part) if id(other) not in self.known]
+            if left:
+                pending += left
+                continue
+            self.known[id(part)] = part, self.own_needs(part).union(*(self.known[id(other)][1] for other in nodes_of(part)))
+            pending.pop()
+        return self.known[id(it)][1]
 
-    def needs_of_all(self, it: Any) -> Needs:
-        """The needs of all parts of a part together."""
-        values = [part.name if isinstance(part, Name) else part for part in parts(it) if isinstance(part, (Name, Field))]
-        names = {name for part in parts(it) for name in self.headers_of(part)}
+    def needs_from(self, block: tuple[Any, ...]) -> list[Needs]:
+        """The needs of a block from each of its statements on, and none at its end."""
+        if id(block) not in self.known_from:
+            found = [NOTHING]
+            for it in reversed(block):
+                found.append(found[-1] | self.needs_of(it))
+            self.known_from[id(block)] = block, found[::-1]
+        return self.known_from[id(block)][1]
+
+    def own_needs(self, it: Any) -> Needs:
+        """The needs of a part without those of the parts in it."""
+        if not isinstance(it, Node):
+            return NOTHING
+        names = set(self.headers_of(it))
         found = {(other, True) for name in names for other in self.headers[name].before}
         absent = {(other, False) for name in names for other in self.headers.looked_for(name)}
-        return Needs({*values, *found, *absent})
+        return Needs({*([it.name] if isinstance(it, Name) else [it] if isinstance(it, Field) else []), *found, *absent})
 
     def headers_of(self, it: Node) -> Iterable[str]:
         """The headers that a node itself uses."""
@@ -61,6 +79,19 @@ class Unit:
         """The headers that a tag which is pushed alone may follow."""
         header = self.headers[it.headers[0].header]
         return list(header.follows) if it.packet == THIS and len(it.headers) == 1 and header.next else []
+
+
+def nodes_of(it: Any) -> list[Any]:
+    """The nodes that a part of the text consists of, those in its tuples too."""
+    found: list[Any] = []
+    pending = [*children(it)]
+    while pending:
+        part = pending.pop()
+        if isinstance(part, Node):
+            found.append(part)
+        elif isinstance(part, tuple):
+            pending += part
+    return found
 
 
 W = TypeVar("W", bound="Way")
@@ -131,6 +162,8 @@ class Way(State):
     def append(self, word: str, *operands: object, line: int | None = None) -> None:
         """Appends an instruction as it is."""
         groups = tuple(sorted((p, *it.clones()) for p, it in self.packets.items() if it.sharers and it.clones()))
+        self.unit.appended += 1
+        require(self.unit.appended <= MAX_APPENDED, self.at, "the program has too many instructions", TOO_MUCH)
         it = Instruction(word, tuple(map(str, operands)), self.at.line if line is None else line, groups)
         self.last.next = self.last = it
 
@@ -141,7 +174,7 @@ class Way(State):
     def unite(self, others: list[Self]) -> None:
         """This way goes on with what it has in common with others."""
         self.unit.blocks += 1
-        require(self.unit.blocks <= MAX_BLOCKS, self.at, "the program has too many ways", "`need` what most packets have, or test it once for all")
+        require(self.unit.blocks <= MAX_BLOCKS, self.at, "the program has too many ways", TOO_MUCH)
         label = Instruction()
         for way in (self, *others):
             way.flush()
