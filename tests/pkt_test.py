@@ -415,6 +415,16 @@ class Programs(unittest.TestCase):
         after = bytes.fromhex("fd00000000000099") + ends[0][8:]
         self.assertEqual(sent("need ipv6\nmend ipv6.src_hi = 0xfd00000000000099\nsend port", frame(ends[0]))[0], [frame(after)])
 
+    def test_mend_leaves_what_is_after_an_extension_header(self) -> None:
+        def frame(source: int, extension: bytes) -> bytes:
+            body = extension + struct.pack(">HHHH", 1, 2, 8, 0x1234)
+            return eth(struct.pack(">IHBB", 0x60000000, len(body), 0 if extension else 17, 64) + source.to_bytes(16, "big") + bytes(16) + body, 0x86DD)
+
+        for extension, after in ((b"", "1233"), (bytes([17, 0, 1, 4, 0, 0, 0, 0]), "1234")):
+            wanted = frame(8, extension)[:-2] + bytes.fromhex(after)
+            self.assertEqual(sent("mend ipv6.src_lo += 1\nsend port", frame(7, extension))[0], [wanted])
+        self.assertEqual(sent("need ipv6.next in {6, 17, 58}\nmend ipv6.src_lo += 1\nsend port", frame(7, bytes([17, 0, 1, 4, 0, 0, 0, 0])))[0], [])
+
     def test_mend_of_what_two_checksums_cover(self) -> None:
         """A checksum that covers another one counts what changes in it: of a quoted packet, and of one in a tunnel."""
         quoted = """

@@ -33,8 +33,11 @@ class Checksums(Conditions):
         for name in names:
             self.require_even(name, own.name)
         self.assign_field(it.target, self.evaluate(it.value))
-        if len(names) + len(over) > 1:
-            self.fold(Value(register=self.variables[DIFFERENCE]))
+        difference, sites = Value(register=self.variables[DIFFERENCE]), len(names) + len(over) * (2 if own.bits else 1)
+        if sites > 4:
+            self.reduce(difference)
+        elif sites > 1:
+            self.fold(difference)
         needs, way = after.needs | self.unit.needs_of(it), self
         if len(names) > 1 or own.payload and {*over} - {own.name}:
             return self.cover_nested(own.name, names, over, needs, after)
@@ -191,6 +194,14 @@ class Checksums(Conditions):
             if is_exact:
                 self.apply(total, "&", Value(0xFFFF))
         self.apply(total, "^", Value(0xFFFF))
+
+    def reduce(self, total: Value) -> None:
+        """Folds a sum to 16 bits."""
+        while self.bound(total) > 0xFFFF:
+            is_last = self.bound(total) <= 0x1FFFE
+            self.fold(total)
+            if is_last:
+                self.bounds[total.r] = 0xFFFF
 
     def fold(self, total: Value, keeps: bool = False) -> None:
         """Adds the bits above the low ones of a sum to them; `keeps` also leaves them there."""
