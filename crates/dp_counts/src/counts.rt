@@ -5,9 +5,10 @@ ghost use Rattle.dp_engine.specs.Watching.{IsOneOfEight};
 ghost use Rattle.dp_counts.specs.Counting.{place_of, one_more, on_from, ran_at, step_counts, AreZero, HasNone};
 
 use crate::levels::{Gauge, Levels};
+use crate::losses::{Losses, Refusals};
 use crate::node_counts::NodeCounts;
 use dp_engine::{View, Watch, Way};
-use dp_lang::MAX_INSTRS;
+use dp_lang::{MAX_INSTRS, Program};
 use dp_model::Entry;
 use std::alloc::{AllocError, Global};
 use std::marker::Model;
@@ -37,6 +38,7 @@ pub struct Counts {
     // Where the counts of the running node begin.
     place: usize,
     gauge: Gauge,
+    losses: Losses,
 }
 
 impl Model for Counts {
@@ -59,6 +61,16 @@ pub(crate) fn place_of(node: Entry) -> usize
     match node {
         Entry::Port(port) => MAX_INSTRS * usize::from(port),
         Entry::Ring(ring) => MAX_INSTRS * (MAX_OF_A_KIND + usize::from(ring)),
+    }
+}
+
+// Where the counts of a node begin; a place that there is not, if there is no such node.
+#[inline(always)]
+pub(crate) fn place_of_any(node: Entry) -> usize {
+    if is_one_of_eight(node) {
+        place_of(node)
+    } else {
+        ALL_LABELS
     }
 }
 
@@ -116,7 +128,20 @@ impl Counts {
             cut: zeros(alloc, ALL_LABELS)?,
             place: 0,
             gauge: Gauge::NEW,
+            losses: Losses::new(alloc)?,
         })
+    }
+
+    /// Adds the program of a node, so that what it is refused is counted.
+    pub fn add(&mut self, node: Entry, program: &Program)
+        ensures { self.new ≡ self.old }
+    {
+        self.losses.add(node, program);
+    }
+
+    /// How often each was refused. This is tested, not proved.
+    pub fn refusals(&self) -> Refusals {
+        self.losses.refusals()
     }
 
     /// The counts of a node, to be read label by label.
@@ -225,6 +250,7 @@ impl Watch for Counts {
         let place = place_of(node);
         self.place = place;
         count(&mut self.came, place);
+        self.losses.note_begin(node);
         self.gauge.note_begin(node, &view);
     }
 
@@ -232,10 +258,12 @@ impl Watch for Counts {
     fn see(&mut self, label: u16, way: Way, view: View<'_>) {
         let k = self.place + usize::from(label);
         match way {
-            Way::On => {}
+            Way::On => self.gauge.note_step(&view),
             Way::To(to) => {
                 count(&mut self.came, self.place + usize::from(to) % MAX_INSTRS);
                 count(&mut self.taken, k);
+                self.losses.note_jump(label, &view);
+                self.gauge.note_step(&view);
             }
             Way::Out => {
                 count(&mut self.ended, k);
@@ -243,6 +271,7 @@ impl Watch for Counts {
             }
             Way::Cut => {
                 count(&mut self.cut, k);
+                self.losses.note_jump(label, &view);
                 self.gauge.note_end(&view);
             }
         }

@@ -3,12 +3,12 @@
 use dp_engine::View;
 use dp_model::Entry;
 
-/// How full rings were at the ends of node runs, and how many buffers were free at their beginnings and ends.
+/// How full rings were at the ends of node runs, and how many buffers were free after each allocation call.
 #[derive(Clone, Copy, Debug, PartialEq, Eq)]
 pub struct Levels {
     /// The greatest number of packets that waited in each ring; 0 if there is no such ring.
     pub waited: [u32; 8],
-    /// The least number of buffers of each pool that were free; `u32::MAX` if there is no such pool, and before a node run.
+    /// The least number of buffers of each pool that were free; `u32::MAX` if there is no such pool, and before an allocation call.
     pub free: [u32; 8],
 }
 
@@ -19,20 +19,9 @@ impl Levels {
         free: [u32::MAX; 8],
     };
 
-    // Reads how many buffers of each pool are free; the first pool is read apart from the others, since most pipelines have one pool.
-    #[inline(always)]
+    // Reads how many buffers of each pool are free.
     fn note_pools(&mut self, view: &View<'_>) {
-        if let Some(free) = view.free(0) {
-            self.free[0] = free.min(self.free[0]);
-            if view.free(1).is_some() {
-                self.note_other_pools(view);
-            }
-        }
-    }
-
-    #[inline(never)]
-    fn note_other_pools(&mut self, view: &View<'_>) {
-        for k in 1..8u8 {
+        for k in 0..8u8 {
             let Some(free) = view.free(u32::from(k)) else {
                 return;
             };
@@ -42,19 +31,8 @@ impl Levels {
     }
 
     // Reads how full each ring is.
-    #[inline(always)]
     fn note_rings(&mut self, view: &View<'_>) {
-        if let Some(waiting) = view.waiting(0) {
-            self.waited[0] = waiting.max(self.waited[0]);
-            if view.waiting(1).is_some() {
-                self.note_other_rings(view);
-            }
-        }
-    }
-
-    #[inline(never)]
-    fn note_other_rings(&mut self, view: &View<'_>) {
-        for k in 1..8u8 {
+        for k in 0..8u8 {
             let Some(waiting) = view.waiting(k) else {
                 return;
             };
@@ -89,15 +67,15 @@ impl Gauge {
     }
 
     // Reads how many buffers are free.
-    #[inline(always)]
+    #[inline(never)]
     fn note_pools(&mut self, view: &View<'_>) {
         self.calls = view.calls();
         self.levels.note_pools(view);
     }
 
-    // Reads how many buffers are free, if there was an allocation call since the last time.
+    /// Looks after an instruction: if it was an allocation call, at the pools.
     #[inline(always)]
-    fn note_pools_after_calls(&mut self, view: &View<'_>) {
+    pub(crate) fn note_step(&mut self, view: &View<'_>) {
         if view.calls() != self.calls {
             self.note_pools(view);
         }
@@ -108,14 +86,14 @@ impl Gauge {
     pub(crate) fn note_begin(&mut self, node: Entry, view: &View<'_>) {
         match node {
             Entry::Port(_) => self.note_pools(view),
-            Entry::Ring(_) => self.note_pools_after_calls(view),
+            Entry::Ring(_) => self.note_step(view),
         }
     }
 
     /// Looks at the end of a node run.
     #[inline(always)]
     pub(crate) fn note_end(&mut self, view: &View<'_>) {
-        self.note_pools_after_calls(view);
+        self.note_step(view);
         self.levels.note_rings(view);
     }
 }

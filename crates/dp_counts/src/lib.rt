@@ -1,31 +1,41 @@
 //! Counts node runs: for each instruction of each node, how often it ran, how often its jump was taken, and how often a node run was cut there.
 //!
 //! A caller makes `Counts` and gives them to `run_watched` of dp_pipe, or to an engine's `watched_turn`, as the watcher. A step to the next
-//! instruction costs nothing: control comes to a label from the one before, unless an event says otherwise. So only the beginnings of node
+//! instruction counts nothing: control comes to a label from the one before, unless an event says otherwise. So only the beginnings of node
 //! runs, taken jumps, ends and cuts are counted, and how often an instruction ran is their sum up to its label. An event takes no memory.
 //! After the run, `print_programs` prints the programs in the words of their source with their counts, and `print_tables` and `print_rings`
-//! the sums for each table and ring.
+//! the sums for each table and ring; `CountsDocument` is all of that as JSON, which `counts_of` reads. `Losses` is a watcher that counts only what
+//! was refused.
 //!
-//! Who owns what: the caller owns the `Counts` and lends them to the run; `NodeCounts` borrows them. Only `Counts::new` takes memory, 512 kB.
+//! Who owns what: the caller owns the `Counts` and lends them to the run; `NodeCounts` borrows them. Only `new` takes memory, 560 kB.
 //!
 //! What not to assume: a number wraps at 2^64, which no run of captures reaches. `step` adds up from label 0 each time: use `Counts::node` to read
-//! many labels of a node. A step that was cut counts as one that ran and not as a jump. `levels` are tested, not proved.
+//! many labels of a node. A step that was cut counts as one that ran and not as a jump. `levels`, refusals and documents are tested, not proved.
 #![tactic(auto)]
 
+mod by_line;
 mod counts;
+mod document;
 mod laws;
 mod levels;
 mod listing;
+mod losses;
 mod node_counts;
+mod reader;
 mod source;
 mod sums;
 mod totals;
+mod words;
 
+pub use by_line::{DropCause, DropPlace, LineCounts, NodeProgram, drop_places, lines_counted};
 pub use counts::{Counts, StepCounts};
+pub use document::{CountsDocument, Named};
 pub use laws::{counts_are_of_steps, counts_are_of_turns, counts_begin_at_zero, turns_are_runs};
 pub use levels::Levels;
 pub use listing::print_programs;
+pub use losses::{Losses, Refusals};
 pub use node_counts::NodeCounts;
+pub use reader::{CountsError, Member, ReadCount, counts_of};
 pub use source::{NodeSource, Role, SourceLine, Step, lines_of};
 pub use sums::{Total, total_of};
 pub use totals::{print_pools, print_rings, print_tables};

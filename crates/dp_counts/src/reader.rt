@@ -1,0 +1,175 @@
+//! Reads the counts of a node from the document that `dpv run FILE --counts --json` prints.
+
+use serde_json::Value;
+use std::alloc::Global;
+use std::fmt;
+
+/// How often an instruction ran, as read from a document.
+#[derive(Clone, Copy, PartialEq, Eq)]
+pub struct ReadCount {
+    /// How often it ran.
+    pub ran: u64,
+    /// How often its jump was taken; none for an instruction without a condition.
+    pub taken: Option<u64>,
+}
+
+/// A member of a document: of the document itself, of a node, or of an instruction of a node, each by its index from 0.
+#[derive(Clone, Copy, PartialEq, Eq)]
+pub struct Member {
+    /// The index of the node, if the member is inside one.
+    pub node: Option<usize>,
+    /// The index of the instruction, if the member is inside one.
+    pub instruction: Option<usize>,
+    /// Its name.
+    pub name: &'static str,
+    /// What its value must be.
+    pub wanted: &'static str,
+}
+
+impl fmt::Display for Member {
+    fn fmt<W: fmt::Write>(&self, f: &mut fmt::Formatter<W>) -> fmt::Result {
+        if let Some(node) = self.node {
+            write!(f, "counts.nodes[{node}].")?;
+        }
+        if let Some(instruction) = self.instruction {
+            write!(f, "instructions[{instruction}].")?;
+        }
+        write!(f, "{} is not {}", self.name, self.wanted)
+    }
+}
+
+/// Why there are no counts of a node in a text.
+#[derive(Clone, Copy, PartialEq, Eq)]
+pub enum CountsError {
+    /// Memory was refused.
+    Memory,
+    /// The text is not JSON, from this line and column; both count from 1, and are 0 for a text that is not UTF-8.
+    NotJson { line: usize, column: usize },
+    /// A member is missing, or is not what it must be.
+    BadMember(Member),
+    /// There is no node with the name.
+    NoNode,
+}
+
+impl fmt::Display for CountsError {
+    fn fmt<W: fmt::Write>(&self, f: &mut fmt::Formatter<W>) -> fmt::Result {
+        match *self {
+            CountsError::Memory => write!(f, "memory"),
+            CountsError::NotJson { line, column } => {
+                write!(f, "line {line} column {column}: the text is not JSON")
+            }
+            CountsError::BadMember(member) => write!(f, "{member}"),
+            CountsError::NoNode => write!(f, "it has no counts of this node"),
+        }
+    }
+}
+
+/// The error for a member.
+fn bad(
+    node: Option<usize>,
+    instruction: Option<usize>,
+    (name, wanted): (&'static str, &'static str),
+) -> CountsError {
+    CountsError::BadMember(Member {
+        node,
+        instruction,
+        name,
+        wanted,
+    })
+}
+
+/// Reads a number below 2^64: a JSON number, or a string of its decimal digits.
+fn number_of(value: &Value) -> Option<u64> {
+    match value.as_str() {
+        Some(digits) => digits.parse::<u64>().ok(),
+        None => value.as_u64(),
+    }
+}
+
+/// The counts of an instruction with this number; or the name of the first member that is not what it must be, and what that is.
+fn step_of(value: &Value, number: usize) -> Result<ReadCount, (&'static str, &'static str)> {
+    if value.get("label").and_then(Value::as_u64) != Some(number as u64) {
+        return Err(("label", "the number of the instruction, from 0"));
+    }
+    let Some(ran) = value.get("ran").and_then(number_of) else {
+        return Err(("ran", "a number, or its digits as a text"));
+    };
+    let taken = match value.get("taken") {
+        Some(taken) if taken.is_null() => return Ok(ReadCount { ran, taken: None }),
+        Some(taken) => number_of(taken),
+        None => None,
+    };
+    match taken {
+        None => Err(("taken", "a number, its digits as a text, or null")),
+        Some(taken) if taken > ran => Err(("taken", "at most ran")),
+        taken => Ok(ReadCount { ran, taken }),
+    }
+}
+
+/// The counts of the instructions of the node with this index.
+fn steps_of(
+    alloc: Global,
+    instructions: &[Value],
+    node: usize,
+) -> Result<Vec<ReadCount>, CountsError> {
+    let mut steps = Vec::new(alloc);
+    for (number, value) in instructions.iter().enumerate() {
+        let step = match step_of(value, number) {
+            Ok(step) => step,
+            Err(member) => return Err(bad(Some(node), Some(number), member)),
+        };
+        if steps.push(step).is_err() {
+            return Err(CountsError::Memory);
+        }
+    }
+    Ok(steps)
+}
+
+/// The index of the node with this name, and its value.
+fn node_named<'a>(nodes: &'a [Value], name: &str) -> Result<(usize, &'a Value), CountsError> {
+    for (k, node) in nodes.iter().enumerate() {
+        match node.get("node").and_then(Value::as_str) {
+            None => return Err(bad(Some(k), None, ("node", "a text"))),
+            Some(found) if found == name => return Ok((k, node)),
+            Some(_) => {}
+        }
+    }
+    Err(CountsError::NoNode)
+}
+
+/// The value of a text.
+fn value_of(alloc: Global, text: &[u8]) -> Result<Value, CountsError> {
+    let Ok(text) = std::str::from_utf8(text) else {
+        return Err(CountsError::NotJson { line: 0, column: 0 });
+    };
+    match Value::from_str(alloc, text) {
+        Ok(value) => Ok(value),
+        Err(error) if error.is_memory() => Err(CountsError::Memory),
+        Err(error) => Err(CountsError::NotJson {
+            line: error.line(),
+            column: error.column(),
+        }),
+    }
+}
+
+/// Returns the counts of each instruction of a node, given by its name, as `port 0`, in a document of `dpv run FILE --counts --json`. They need not be
+/// of the program that the caller has, and there may be more or fewer of them than instructions; in each a jump was taken at most as often as it ran.
+/// Members that are not needed may be missing or have any value.
+///
+/// # Errors
+///
+/// Why there are none, as [`CountsError`] has it.
+pub fn counts_of(alloc: Global, text: &[u8], node: &str) -> Result<Vec<ReadCount>, CountsError> {
+    let document = value_of(alloc, text)?;
+    let Some(counts) = document.get("counts") else {
+        return Err(bad(None, None, ("counts", "an object")));
+    };
+    let Some(nodes) = counts.get("nodes").and_then(Value::as_array) else {
+        return Err(bad(None, None, ("counts.nodes", "a list")));
+    };
+    let (k, found) = node_named(nodes.as_slice(), node)?;
+    let Some(instructions) = found.get("instructions").and_then(Value::as_array) else {
+        return Err(bad(Some(k), None, ("instructions", "a list")));
+    };
+    steps_of(alloc, instructions.as_slice(), k)
+}
