@@ -1,5 +1,6 @@
 //! Calls with their answers, by the layer that they are of, and the words of all errors.
 
+mod captures;
 mod causes;
 mod heaps;
 mod pools;

@@ -1,6 +1,7 @@
 //! The numbers and the words of all errors.
 
 use dp_heap::HeapError;
+use dp_pcap::{Failed, PcapError};
 use dp_pool::PoolError;
 use dp_region::Memory;
 use dp_zone::ZoneError;
@@ -13,12 +14,14 @@ enum Cause {
     OfHeap(HeapError),
     OfZone(ZoneError),
     OfPool(PoolError),
+    OfDevice,
+    OfCapture(PcapError),
 }
 
-use Cause::{OfHeap, OfPool, OfRegion, OfZone};
+use Cause::{OfCapture, OfDevice, OfHeap, OfPool, OfRegion, OfZone};
 
-/// The causes, with their numbers and their words. The region's has no number.
-static CAUSES: [(Cause, u8, &str); 14] = [
+/// The causes, with their numbers and their words. Those of regions and of devices have no number.
+static CAUSES: [(Cause, u8, &str); 24] = [
     (OfRegion, 0, "out of memory"),
     (OfHeap(HeapError::ZeroSize), 1, "the size is 0"),
     (
@@ -45,14 +48,49 @@ static CAUSES: [(Cause, u8, &str); 14] = [
         4,
         "too many zones",
     ),
+    (OfDevice, 0, "the device failed"),
+    (
+        OfCapture(PcapError::BadMagic),
+        1,
+        "no magic number of a pcap file",
+    ),
+    (
+        OfCapture(PcapError::BadVersion),
+        2,
+        "the version is not 2.4",
+    ),
+    (OfCapture(PcapError::BadLink), 3, "the link type is not 1"),
+    (
+        OfCapture(PcapError::BadTime),
+        4,
+        "the fraction of a record's time is a second or more",
+    ),
+    (
+        OfCapture(PcapError::TooLong),
+        5,
+        "a record has more than 262144 bytes",
+    ),
+    (
+        OfCapture(PcapError::ShortHeader),
+        6,
+        "fewer than the 24 bytes of a header",
+    ),
+    (
+        OfCapture(PcapError::TooMany),
+        7,
+        "more than 16777216 records",
+    ),
+    (OfCapture(PcapError::Read), 8, "the reader failed"),
+    (OfCapture(PcapError::Write), 9, "the writer failed"),
 ];
 
 fn number(cause: &Cause) -> u8 {
     match cause {
-        OfRegion => 0,
+        OfRegion | OfDevice => 0,
         OfHeap(error) => error.number(),
         OfZone(error) => error.number(),
         OfPool(error) => error.number(),
+        OfCapture(error) => error.number(),
     }
 }
 
@@ -62,6 +100,8 @@ fn shows(alloc: Global, cause: &Cause, words: &str) -> Result<bool, Fail> {
         OfHeap(error) => format!(in alloc; "{error}")?,
         OfZone(error) => format!(in alloc; "{error}")?,
         OfPool(error) => format!(in alloc; "{error}")?,
+        OfDevice => format!(in alloc; "{Failed}")?,
+        OfCapture(error) => format!(in alloc; "{error}")?,
     };
     Ok(shown.as_str() == words)
 }

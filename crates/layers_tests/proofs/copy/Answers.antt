@@ -1,8 +1,8 @@
 -- `copy`: each way in which it ends.
 use Rattle.std.proofs.Common.{rules}
 use Rattle.std.proofs.lemmas.Result.{err_from_is_err_and}
-use Rattle.dp_pcap_tests.proofs.Copying.{went_on, write_failed, header_failed, read_failed}
-use Rattle.dp_pcap_tests.proofs.copy.Goals as goal
+use Rattle.layers_tests.proofs.Copying.{went_on, write_failed, header_failed, read_failed}
+use Rattle.layers_tests.proofs.copy.Goals as goal
 
 pub returns-in_err-put_header-clause-copied : goal.returns-in_err-put_header-clause-copied
 returns-in_err-put_header-clause-copied g c =

@@ -13,7 +13,7 @@ use Rattle.dp_pcap.specs.SourceState.{SourceState}
 use Rattle.dp_pcap.specs.Source.{WhereKnown, HasRead, Continues, IsInRange, advanced}
 use Rattle.dp_pcap.specs.Text.{header_text, record_text, text, AppendsPart}
 use Rattle.dp_pcap.specs.Laws.Chaining.{AppendsPart-after, text-push, WhereKnown-trans}
-use Rattle.dp_pcap_tests.specs.Copied.{Copied}
+use Rattle.layers_tests.specs.Copied.{Copied}
 
 -- these records were read and written so far
 pub record Going (a b c d : Option (List ℕ)) (source : SourceState) (unit : TimeUnit) : Type 0 where

@@ -1,2 +1,0 @@
--- The lemmas of dp_pcap_tests.
-pub mod Copying

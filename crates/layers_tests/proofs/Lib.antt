@@ -1,0 +1,2 @@
+-- The lemmas of layers_tests.
+pub mod Copying

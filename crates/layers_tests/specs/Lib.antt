@@ -1,0 +1,2 @@
+-- The definitions that contracts of layers_tests name.
+pub mod Copied

@@ -1,0 +1,80 @@
+//! Captures that are read and written, and devices that fail.
+
+mod devices;
+mod reading;
+mod whole_records;
+mod writing;
+
+use crate::copy;
+use dp_pcap::{Feed, Next, PcapError, Sink, Source, next_record};
+
+/// A header: little endian, microseconds.
+const MICRO_HEADER: [u8; 24] = [
+    0xd4, 0xc3, 0xb2, 0xa1, 2, 0, 4, 0, 0, 0, 0, 0, 0, 0, 0, 0, 0, 0, 4, 0, 1, 0, 0, 0,
+];
+
+/// A header: little endian, nanoseconds.
+const NANO_HEADER: [u8; 24] = [
+    0x4d, 0x3c, 0xb2, 0xa1, 2, 0, 4, 0, 0, 0, 0, 0, 0, 0, 0, 0, 0, 0, 4, 0, 1, 0, 0, 0,
+];
+
+/// The bytes of the record in `HUNDRED`.
+const BODY: [u8; 60] = [
+    0, 1, 2, 3, 4, 5, 6, 7, 8, 9, 10, 11, 12, 13, 14, 15, 16, 17, 18, 19, 20, 21, 22, 23, 24, 25,
+    26, 27, 28, 29, 30, 31, 32, 33, 34, 35, 36, 37, 38, 39, 40, 41, 42, 43, 44, 45, 46, 47, 48, 49,
+    50, 51, 52, 53, 54, 55, 56, 57, 58, 59,
+];
+
+/// A capture of 100 bytes: one record of 60 bytes at second 1, microsecond 2.
+const HUNDRED: [u8; 100] = [
+    212, 195, 178, 161, 2, 0, 4, 0, 0, 0, 0, 0, 0, 0, 0, 0, 0, 0, 4, 0, 1, 0, 0, 0, 1, 0, 0, 0, 2,
+    0, 0, 0, 60, 0, 0, 0, 60, 0, 0, 0, 0, 1, 2, 3, 4, 5, 6, 7, 8, 9, 10, 11, 12, 13, 14, 15, 16,
+    17, 18, 19, 20, 21, 22, 23, 24, 25, 26, 27, 28, 29, 30, 31, 32, 33, 34, 35, 36, 37, 38, 39, 40,
+    41, 42, 43, 44, 45, 46, 47, 48, 49, 50, 51, 52, 53, 54, 55, 56, 57, 58, 59,
+];
+
+/// A capture of 146 bytes: records of 14, 0 and 60 bytes at second 0, in nanoseconds.
+const THREE_RECORDS: [u8; 146] = [
+    77, 60, 178, 161, 2, 0, 4, 0, 0, 0, 0, 0, 0, 0, 0, 0, 0, 0, 4, 0, 1, 0, 0, 0, 0, 0, 0, 0, 0, 0,
+    0, 0, 14, 0, 0, 0, 14, 0, 0, 0, 0, 1, 2, 3, 4, 5, 6, 7, 8, 9, 10, 11, 12, 13, 0, 0, 0, 0, 0, 0,
+    0, 0, 0, 0, 0, 0, 0, 0, 0, 0, 0, 0, 0, 0, 0, 0, 0, 0, 60, 0, 0, 0, 60, 0, 0, 0, 0, 1, 2, 3, 4,
+    5, 6, 7, 8, 9, 10, 11, 12, 13, 14, 15, 16, 17, 18, 19, 20, 21, 22, 23, 24, 25, 26, 27, 28, 29,
+    30, 31, 32, 33, 34, 35, 36, 37, 38, 39, 40, 41, 42, 43, 44, 45, 46, 47, 48, 49, 50, 51, 52, 53,
+    54, 55, 56, 57, 58, 59,
+];
+
+/// The most bytes of a record, as a buffer has to hold.
+const ROOM: usize = 262_144;
+
+/// Room for a record.
+type Buffer = [u8; ROOM];
+
+// Puts bytes into a room, with other values at some offsets; returns them.
+fn edited<'a>(room: &'a mut [u8; 146], bytes: &[u8], edits: &[(usize, u8)]) -> &'a [u8] {
+    for (place, byte) in room.iter_mut().zip(bytes) {
+        *place = *byte;
+    }
+    for (at, byte) in edits {
+        if let Some(place) = room.get_mut(*at) {
+            *place = *byte;
+        }
+    }
+    match room.get(..bytes.len()) {
+        Some(front) => front,
+        None => &[],
+    }
+}
+
+// Reads the next record.
+fn next<R: Feed>(r: &mut R, source: &mut Source, buf: &mut Buffer) -> Result<Next, PcapError> {
+    next_record(r, source, buf.as_mut_slice())
+}
+
+// Copies a capture.
+fn copied<R: Feed, W: Sink>(
+    r: &mut R,
+    w: &mut W,
+    buf: &mut Buffer,
+) -> Result<Option<u64>, PcapError> {
+    copy(r, w, buf.as_mut_slice())
+}

@@ -1,0 +1,371 @@
+//! How often readers are called, and what their buffers hold.
+
+use super::writing::Taker;
+use super::{Buffer, HUNDRED, ROOM, THREE_RECORDS, copied, edited, next};
+use dp_pcap::{
+    Failed, FailingFeed, Feed, Next, OfBufReader, OfBufWriter, OfRead, OfWrite, PcapError, Source,
+    Time, pass_record, read_header, record_at_hand,
+};
+use std::alloc::Global;
+use std::io;
+use std::io::{BufReader, BufWriter, Read};
+
+/// Counts the calls of a feed.
+#[derive(Drop)]
+struct Counting<F> {
+    inner: F,
+    count: usize,
+}
+
+impl<F: Feed> Feed for Counting<F> {
+    ghost is_broken = { λ d. F.is_broken d.inner };
+
+    ghost calls = { λ d. F.calls d.inner };
+
+    ghost failures = { λ d. F.failures d.inner };
+
+    ghost remaining = { λ d. F.remaining d.inner };
+
+    ghost at_hand = { λ d. F.at_hand d.inner };
+
+    ghost truncated = { λ d. F.truncated d.inner };
+
+    fn held(&self) -> &[u8] {
+        self.inner.held()
+    }
+
+    fn pass(&mut self, n: usize) {
+        self.inner.pass(n);
+    }
+
+    fn note_truncated(&mut self) {
+        self.inner.note_truncated();
+    }
+
+    fn pull(&mut self, buf: &mut [u8]) -> Result<usize, Failed> {
+        self.count = self.count.wrapping_add(1);
+        self.inner.pull(buf)
+    }
+}
+
+/// A feed over `THREE_RECORDS` with a buffer of this room.
+fn buffered(alloc: Global, room: usize) -> Option<OfBufReader<&'static [u8]>> {
+    match BufReader::with_capacity(alloc, room, THREE_RECORDS.as_slice()) {
+        Ok(inner) => Some(OfBufReader::new(inner)),
+        Err(_) => None,
+    }
+}
+
+// Whether a record is at hand; none if it is not the one in `buf` that comes next, or if stepping over it is a call.
+fn step<F: Feed>(
+    r: &mut Counting<F>,
+    source: &mut Source,
+    comes: Result<Next, PcapError>,
+    buf: &mut Buffer,
+) -> Option<bool> {
+    let calls = r.count;
+    let Some((time, len)) = record_at_hand(r, source) else {
+        let same = next(r, source, buf) == comes;
+        return if same { Some(false) } else { None };
+    };
+    if comes != Ok(Next::Record(time, len)) || r.held().get(16..16 + len) != buf.get(..len) {
+        return None;
+    }
+    pass_record(r, source, len);
+    if r.count == calls { Some(true) } else { None }
+}
+
+// How many of the records of a feed are at hand. None if one of them is not as in a feed without a buffer.
+fn at_hand<F: Feed>(r: &mut Counting<F>, buf: &mut Buffer) -> Option<usize> {
+    let mut plain = OfRead::new(THREE_RECORDS.as_slice());
+    let (Ok(mut other), Ok(mut source)) = (read_header(&mut plain), read_header(r)) else {
+        return None;
+    };
+    let mut seen = 0usize;
+    for _ in 0..4 {
+        let comes = next(&mut plain, &mut other, buf);
+        seen = seen.wrapping_add(usize::from(step(r, &mut source, comes, buf)?));
+    }
+    if r.held().is_empty() {
+        Some(seen)
+    } else {
+        None
+    }
+}
+
+// The same for a feed with a buffer of this room.
+fn at_hand_in(alloc: Global, room: usize, buf: &mut Buffer) -> Option<usize> {
+    let inner = buffered(alloc, room)?;
+    at_hand(&mut Counting { inner, count: 0 }, buf)
+}
+
+// A record at hand is the one that comes next, and stepping over it is no call.
+#[test]
+fn what_is_at_hand_comes_next(rt: HostRuntime) {
+    let mut buf = [0u8; ROOM];
+    for (room, lent) in [(0usize, 0usize), (16, 0), (54, 1), (146, 3), (200, 3)] {
+        assert_eq!(rt;
+            at_hand_in(rt.alloc(), room, &mut buf),
+            Some(lent),
+            "{room}"
+        );
+    }
+}
+
+// How many bytes are buffered after the header, if no record is at hand.
+fn without_a_record<R: Feed>(r: &mut R) -> Option<usize> {
+    match read_header(r) {
+        Ok(source) if record_at_hand(r, &source).is_none() => Some(r.held().len()),
+        _ => None,
+    }
+}
+
+// The same for a feed with a buffer over these bytes.
+fn left_in(alloc: Global, bytes: &[u8]) -> Option<usize> {
+    match BufReader::with_capacity(alloc, 256, bytes) {
+        Ok(inner) => without_a_record(&mut OfBufReader::new(inner)),
+        Err(_) => None,
+    }
+}
+
+// The same for a feed with a buffer that fails after some bytes.
+fn left_where_it_fails(alloc: Global, after: usize) -> Option<usize> {
+    without_a_record(&mut FailingFeed::new(buffered(alloc, 256)?, after))
+}
+
+// A part of a record is not at hand, and neither is one with a bad head.
+#[test]
+fn nothing_else_is_at_hand(rt: HostRuntime) {
+    for (at, byte) in [(31usize, 255u8), (35, 1), (32, 255)] {
+        let mut room = [0; 146];
+        let wrong = edited(&mut room, &THREE_RECORDS, &[(at, byte)]);
+        assert_eq!(rt; left_in(rt.alloc(), wrong), Some(122), "{at}");
+    }
+}
+
+// A device that is broken or keeps nothing has nothing at hand.
+#[test]
+fn nothing_is_at_hand_without_a_buffer(rt: HostRuntime) {
+    let mut plain = OfRead::new(THREE_RECORDS.as_slice());
+    assert_eq!(rt; without_a_record(&mut plain), Some(0));
+    assert_eq!(rt; left_where_it_fails(rt.alloc(), 30), Some(0));
+}
+
+// Reads every record, those that are at hand there; returns how many.
+fn read_all<R: Feed>(r: &mut R, buf: &mut Buffer) -> Result<usize, PcapError> {
+    let mut source = read_header(r)?;
+    let mut count = 0usize;
+    for _ in 0..5 {
+        match record_at_hand(r, &source) {
+            Some((_, len)) => pass_record(r, &mut source, len),
+            None => match next(r, &mut source, buf)? {
+                Next::Record(_, _) => {}
+                _ => return Ok(count),
+            },
+        }
+        count = count.wrapping_add(1);
+    }
+    Ok(count)
+}
+
+/// The bytes of `THREE_RECORDS` that have other values, how many bytes come, how many records are read, and how many of them are truncated.
+static TRUNCATED: [(&[(usize, u8)], usize, usize, u64); 12] = [
+    // A record is truncated if its packet had more bytes than were captured.
+    (&[(36, 14)], 146, 3, 0),
+    (&[(36, 15)], 146, 3, 1),
+    (&[(37, 1)], 146, 3, 1),
+    (&[(36, 13)], 146, 3, 0),
+    (&[(66, 1)], 146, 3, 1),
+    (&[(69, 255)], 146, 3, 1),
+    // A record that ends before its captured bytes do was not read, so it is not counted.
+    (&[(36, 200), (82, 200)], 146, 3, 2),
+    (&[(36, 200), (82, 200)], 145, 2, 1),
+    (&[(36, 200), (82, 200)], 86, 2, 1),
+    (&[(36, 200), (82, 200)], 54, 1, 1),
+    (&[(36, 200), (82, 200)], 53, 0, 0),
+    (&[(36, 200), (82, 200)], 24, 0, 0),
+];
+
+// How many records a feed with a buffer of this room, or without one, reads in these bytes, and how many of them are truncated.
+fn counted(
+    alloc: Global,
+    bytes: &[u8],
+    room: Option<usize>,
+    buf: &mut Buffer,
+) -> (Result<usize, PcapError>, u64) {
+    let Some(room) = room else {
+        let mut r = OfRead::new(bytes);
+        return (read_all(&mut r, buf), r.truncated());
+    };
+    match BufReader::with_capacity(alloc, room, bytes) {
+        Ok(inner) => {
+            let mut r = OfBufReader::new(inner);
+            (read_all(&mut r, buf), r.truncated())
+        }
+        Err(_) => (Err(PcapError::Read), 0),
+    }
+}
+
+// Whether feeds with buffers of any room, and one without, count as a row says.
+fn are_counted(alloc: Global, bytes: &[u8], records: usize, truncated: u64) -> bool {
+    let mut buf = [0u8; ROOM];
+    for room in [
+        None,
+        Some(0usize),
+        Some(16),
+        Some(54),
+        Some(146),
+        Some(200),
+        Some(256),
+    ] {
+        if counted(alloc, bytes, room, &mut buf) != (Ok(records), truncated) {
+            return false;
+        }
+    }
+    true
+}
+
+// Whether the record is at hand or read in parts, its truncation is counted.
+#[test]
+fn truncated_records_are_counted(rt: HostRuntime) {
+    for (k, (edits, len, records, truncated)) in TRUNCATED.iter().enumerate() {
+        let mut room = [0; 146];
+        let bytes = edited(&mut room, &THREE_RECORDS, edits);
+        assert!(&rt; *len <= bytes.len(), "row {k}");
+        let front = &bytes[..*len];
+        assert!(&rt;
+            are_counted(rt.alloc(), front, *records, *truncated),
+            "row {k}"
+        );
+    }
+}
+
+/// What each call returns, with the calls of the reader until then.
+static CALLS: [(Next, usize); 5] = [
+    (Next::Record(Time { sec: 0, nano: 0 }, 14), 3),
+    (Next::Record(Time { sec: 0, nano: 0 }, 0), 4),
+    (Next::Record(Time { sec: 0, nano: 0 }, 60), 6),
+    (Next::End, 7),
+    (Next::End, 7),
+];
+
+// The first call that differs, from 1; 0 is that of the header.
+fn miscalls<F: Feed>(r: &mut Counting<F>) -> Option<usize> {
+    let mut buf = [0u8; ROOM];
+    let Ok(mut source) = read_header(r) else {
+        return Some(0);
+    };
+    if r.count != 1 {
+        return Some(0);
+    }
+    for (k, (wanted, calls)) in CALLS.iter().enumerate() {
+        if next(r, &mut source, &mut buf) != Ok(*wanted) || r.count != *calls {
+            return Some(k.wrapping_add(1));
+        }
+    }
+    None
+}
+
+// A reader that gives all that it is asked for is called once for the header, a record's head, and its bytes.
+#[test]
+fn a_call_a_piece(rt: HostRuntime) {
+    let inner = OfRead::new(THREE_RECORDS.as_slice());
+    assert_eq!(rt; miscalls(&mut Counting { inner, count: 0 }), None);
+}
+
+// The calls of a feed of which `THREE_RECORDS` is copied, and the writer afterwards.
+fn calls_of_copy(taker: Taker) -> (usize, Taker) {
+    let mut buf = [0u8; ROOM];
+    let inner = OfRead::new(THREE_RECORDS.as_slice());
+    let mut r = Counting { inner, count: 0 };
+    let mut w = OfWrite::new(taker);
+    match copied(&mut r, &mut w, &mut buf) {
+        Ok(None) => (r.count, w.into_inner()),
+        _ => (0, w.into_inner()),
+    }
+}
+
+// So it is for a copy, and a writer that takes all that it is offered is called once for each piece too.
+#[test]
+fn a_copy_makes_a_call_a_piece(rt: HostRuntime) {
+    let (calls, taker) = calls_of_copy(Taker::new(rt.alloc(), &[], 1000));
+    assert!(&rt;
+        calls == 7
+            && taker.held.as_slice() == THREE_RECORDS.as_slice()
+            && taker.offered.as_slice() == &[24usize, 16, 14, 16, 16, 60][..]
+    );
+}
+
+/// A reader that fails its first call only, and counts all calls.
+#[derive(Drop)]
+struct FailsOnce {
+    count: usize,
+}
+
+impl Read for FailsOnce {
+    fn read(&mut self, _buf: &mut [u8]) -> io::Result<usize> {
+        self.count = self.count.wrapping_add(1);
+        if self.count == 1 {
+            return Err(io::ErrorKind::Interrupted.into());
+        }
+        Ok(0)
+    }
+}
+
+// Whether two headers in turn fail.
+fn fails_twice<R: Feed>(r: &mut R) -> bool {
+    let first = read_header(r).err() == Some(PcapError::Read);
+    first && read_header(r).err() == Some(PcapError::Read)
+}
+
+// The calls of a reader with a buffer, of which two headers in turn fail.
+fn calls_with_a_buffer(alloc: Global) -> Option<usize> {
+    let Ok(inner) = BufReader::with_capacity(alloc, 64, FailsOnce { count: 0 }) else {
+        return None;
+    };
+    let mut r = OfBufReader::new(inner);
+    if fails_twice(&mut r) {
+        Some(r.get_ref().get_ref().count)
+    } else {
+        None
+    }
+}
+
+// An interrupted read breaks the device, and the reader is not called again, with a buffer in between or without.
+#[test]
+fn a_failed_reader_is_left_alone(rt: HostRuntime) {
+    let mut r = OfRead::new(FailsOnce { count: 0 });
+    assert!(&rt; fails_twice(&mut r) && r.into_inner().count == 1);
+    assert_eq!(rt; calls_with_a_buffer(rt.alloc()), Some(1));
+}
+
+// Whether a copy of `HUNDRED` through buffers of this room is the same, and leaves nothing in the reader.
+fn is_same(alloc: Global, room: usize, buf: &mut Buffer) -> bool {
+    let Ok(inner) = BufReader::with_capacity(alloc, room, HUNDRED.as_slice()) else {
+        return false;
+    };
+    let mut r = OfBufReader::new(inner);
+    is_written(alloc, room, &mut r, buf)
+        && r.get_ref().buffer().is_empty()
+        && r.get_ref().get_ref().is_empty()
+}
+
+// Whether a copy from this feed through a buffer is `HUNDRED`.
+fn is_written<R: Feed>(alloc: Global, room: usize, r: &mut R, buf: &mut Buffer) -> bool {
+    let Ok(inner) = BufWriter::with_capacity(alloc, room, Vec::new(alloc)) else {
+        return false;
+    };
+    let mut w = OfBufWriter::new(inner);
+    copied(r, &mut w, buf) == Ok(None)
+        && w.flush().is_ok()
+        && w.get_ref().get_ref().as_slice() == HUNDRED.as_slice()
+}
+
+// Buffers that end at every byte of a header, of a record's head and of its bytes.
+#[test]
+fn buffers_of_any_room_change_nothing(rt: HostRuntime) {
+    let mut buf = [0u8; ROOM];
+    for room in 0..102usize {
+        assert!(&rt; is_same(rt.alloc(), room, &mut buf), "{room}");
+    }
+}

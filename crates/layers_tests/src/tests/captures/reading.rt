@@ -1,0 +1,333 @@
+//! What captures are read as, call by call.
+
+use super::{BODY, Buffer, HUNDRED, MICRO_HEADER, NANO_HEADER, ROOM, copied, edited, next};
+use Answer::{Cut, End, Record, Refused};
+use PcapError::{BadLink, BadMagic, BadTime, BadVersion, ShortHeader, TooLong, TooMany};
+use Unit::{Micro, Nano};
+use dp_pcap::{
+    FailingFeed, Feed, Next, OfRead, OfWrite, PcapError, Source, Time, Unit, link_type, read_header,
+};
+use std::alloc::Global;
+use std::io;
+use std::io::Read;
+use std::test::Fail;
+
+/// What a call of `next_record` returns.
+enum Answer {
+    /// A record at this second and nanosecond, with these bytes.
+    Record(u32, u32, &'static [u8]),
+    End,
+    /// The capture ends inside the record at this byte.
+    Cut(u64),
+    Refused(PcapError),
+}
+
+/// A header of microseconds, and the head of a record without bytes.
+const EMPTY_RECORD: [u8; 40] = [
+    0xd4, 0xc3, 0xb2, 0xa1, 2, 0, 4, 0, 0, 0, 0, 0, 0, 0, 0, 0, 0, 0, 4, 0, 1, 0, 0, 0, 0, 0, 0, 0,
+    0, 0, 0, 0, 0, 0, 0, 0, 0, 0, 0, 0,
+];
+
+/// The bytes of a capture, those of them that have other values, what the header is read as, and what each call after it returns.
+static CAPTURES: [(&[u8], &[(usize, u8)], Result<Unit, PcapError>, &[Answer]); 18] = [
+    // Big endian, nanoseconds: a record of 14 bytes at (10, 5).
+    (
+        &[
+            0xa1, 0xb2, 0x3c, 0x4d, 0, 2, 0, 4, 9, 9, 9, 9, 9, 9, 9, 9, 9, 9, 9, 9, 0, 0, 0, 1, 0,
+            0, 0, 10, 0, 0, 0, 5, 0, 0, 0, 14, 0, 0, 0, 99, 1, 2, 3, 4, 5, 6, 7, 8, 9, 10, 11, 12,
+            13, 14,
+        ],
+        &[],
+        Ok(Nano),
+        &[
+            Record(10, 5, &[1, 2, 3, 4, 5, 6, 7, 8, 9, 10, 11, 12, 13, 14]),
+            End,
+            End,
+        ],
+    ),
+    // Little endian, microseconds: a record of 14 bytes at (10, 7), and 3 bytes of one of 20.
+    (
+        &[
+            0xd4, 0xc3, 0xb2, 0xa1, 2, 0, 4, 0, 0, 0, 0, 0, 0, 0, 0, 0, 0, 0, 4, 0, 1, 0, 0, 0, 10,
+            0, 0, 0, 7, 0, 0, 0, 14, 0, 0, 0, 14, 0, 0, 0, 1, 1, 1, 1, 1, 1, 1, 1, 1, 1, 1, 1, 1,
+            1, 11, 0, 0, 0, 8, 0, 0, 0, 20, 0, 0, 0, 20, 0, 0, 0, 2, 2, 2,
+        ],
+        &[],
+        Ok(Micro),
+        &[
+            Record(10, 7000, &[1, 1, 1, 1, 1, 1, 1, 1, 1, 1, 1, 1, 1, 1]),
+            Cut(54),
+            End,
+            End,
+        ],
+    ),
+    // One byte of the header is changed, or two.
+    (&MICRO_HEADER, &[(0, 0xd5)], Err(BadMagic), &[]),
+    (&MICRO_HEADER, &[(3, 0xa2)], Err(BadMagic), &[]),
+    (&MICRO_HEADER, &[(4, 3)], Err(BadVersion), &[]),
+    (&MICRO_HEADER, &[(5, 2)], Err(BadVersion), &[]),
+    (&MICRO_HEADER, &[(6, 3)], Err(BadVersion), &[]),
+    (&MICRO_HEADER, &[(20, 101)], Err(BadLink), &[]),
+    (&MICRO_HEADER, &[(23, 4)], Err(BadLink), &[]),
+    (&MICRO_HEADER, &[(8, 1)], Ok(Micro), &[End]),
+    (&MICRO_HEADER, &[(12, 1)], Ok(Micro), &[End]),
+    (&MICRO_HEADER, &[(16, 1)], Ok(Micro), &[End]),
+    (&MICRO_HEADER, &[(4, 3), (20, 101)], Err(BadVersion), &[]),
+    // A fraction of 1,000,000, a length of 262,145, both of these, and the largest that are accepted.
+    (
+        &EMPTY_RECORD,
+        &[(28, 0x40), (29, 0x42), (30, 0x0f)],
+        Ok(Micro),
+        &[Refused(BadTime), End],
+    ),
+    (
+        &EMPTY_RECORD,
+        &[(32, 1), (34, 4)],
+        Ok(Micro),
+        &[Refused(TooLong), End],
+    ),
+    (
+        &EMPTY_RECORD,
+        &[(28, 0x40), (29, 0x42), (30, 0x0f), (32, 1), (34, 4)],
+        Ok(Micro),
+        &[Refused(BadTime), End],
+    ),
+    (
+        &EMPTY_RECORD,
+        &[(28, 0x3f), (29, 0x42), (30, 0x0f)],
+        Ok(Micro),
+        &[Record(0, 999_999_000, &[]), End],
+    ),
+    (&EMPTY_RECORD, &[(34, 4)], Ok(Micro), &[Cut(24), End]),
+];
+
+// The result of a call, and the bytes that it read.
+fn wanted(answer: &Answer) -> (Result<Next, PcapError>, &[u8]) {
+    match answer {
+        Record(sec, nano, bytes) => {
+            let time = Time {
+                sec: *sec,
+                nano: *nano,
+            };
+            (Ok(Next::Record(time, bytes.len())), bytes)
+        }
+        End => (Ok(Next::End), &[]),
+        Cut(byte) => (Ok(Next::Cut(*byte)), &[]),
+        Refused(error) => (Err(*error), &[]),
+    }
+}
+
+// The first call after the header that does not return what it should, from 1.
+fn differs_after<R: Feed>(
+    r: &mut R,
+    source: Source,
+    answers: &[Answer],
+    buf: &mut Buffer,
+) -> Option<usize> {
+    let mut source = source;
+    for (k, answer) in answers.iter().enumerate() {
+        let (result, bytes) = wanted(answer);
+        let next = next(r, &mut source, buf);
+        if next != result || !buf.as_slice().starts_with(bytes) {
+            return Some(k.wrapping_add(1));
+        }
+    }
+    None
+}
+
+// The first call that does not return what it should; 0 is that of the header.
+fn differs<R: Feed>(
+    r: &mut R,
+    header: Result<Unit, PcapError>,
+    answers: &[Answer],
+    buf: &mut Buffer,
+) -> Option<usize> {
+    match read_header(r) {
+        Ok(source) if header == Ok(source.unit()) => differs_after(r, source, answers, buf),
+        Err(error) if header == Err(error) => None,
+        _ => Some(0),
+    }
+}
+
+// The first call that does not return what it should, in a capture of these bytes with other values at some offsets.
+fn differs_in(
+    bytes: &[u8],
+    edits: &[(usize, u8)],
+    header: Result<Unit, PcapError>,
+    answers: &[Answer],
+) -> Option<usize> {
+    let mut room = [0; 146];
+    let mut buf = [0u8; ROOM];
+    let mut r = OfRead::new(edited(&mut room, bytes, edits));
+    differs(&mut r, header, answers, &mut buf)
+}
+
+#[test]
+fn captures(rt: HostRuntime) {
+    for (k, (bytes, edits, header, answers)) in CAPTURES.iter().enumerate() {
+        let first = differs_in(bytes, edits, *header, answers);
+        assert_eq!(rt; first, None, "capture {k}");
+    }
+}
+
+// The bytes after those of a record stay as they were.
+#[test]
+fn a_record_changes_only_its_front(rt: HostRuntime) {
+    let mut buf = [7u8; ROOM];
+    let mut r = OfRead::new(HUNDRED.as_slice());
+    let first = differs(&mut r, Ok(Micro), &[Record(1, 2000, &BODY)], &mut buf);
+    assert!(rt; first == None && buf.get(60) == Some(&7));
+}
+
+// The longest record that is accepted, whole.
+#[test]
+fn the_longest_record(rt: HostRuntime) -> Result<(), Fail> {
+    let mut buf = [0u8; ROOM];
+    let head = [0u8, 0, 0, 0, 0, 0, 0, 0, 0, 0, 4, 0, 0, 0, 0, 0];
+    let bytes = head.as_slice().chain(io::repeat(7).take(262_144));
+    let mut r = OfRead::new(MICRO_HEADER.as_slice().chain(bytes));
+    let mut source = read_header(&mut r)?;
+    let time = Time { sec: 0, nano: 0 };
+    let answer = next(&mut r, &mut source, &mut buf);
+    assert_eq!(rt; answer, Ok(Next::Record(time, 262_144)));
+    assert!(rt; buf.iter().all(|&byte| byte == 7));
+    assert_eq!(rt; next(&mut r, &mut source, &mut buf), Ok(Next::End));
+    Ok(())
+}
+
+// How many records without bytes at second 0 come first, at most 16,777,216.
+fn empty_records<R: Feed>(r: &mut R, source: &mut Source, buf: &mut Buffer) -> u32 {
+    let time = Time { sec: 0, nano: 0 };
+    for k in 0..16_777_216u32 {
+        if next(r, source, buf) != Ok(Next::Record(time, 0)) {
+            return k;
+        }
+    }
+    16_777_216
+}
+
+// 16,777,216 records without bytes, and one byte more.
+#[test]
+fn counts_records(rt: HostRuntime) -> Result<(), Fail> {
+    let mut buf = [0u8; ROOM];
+    let mut r = OfRead::new(MICRO_HEADER.as_slice().chain(io::repeat(0)));
+    let mut source = read_header(&mut r)?;
+    let count = empty_records(&mut r, &mut source, &mut buf);
+    assert_eq!(rt; count, 16_777_216);
+    let first = differs_after(&mut r, source, &[Refused(TooMany), End], &mut buf);
+    assert_eq!(rt; first, None);
+    Ok(())
+}
+
+/// From one number of bytes up to another, without that: the first bytes of `HUNDRED`, what the header is read as, and what each call after it returns.
+static FRONTS: [(usize, usize, Result<Unit, PcapError>, &[Answer]); 4] = [
+    (0, 24, Err(ShortHeader), &[]),
+    (24, 25, Ok(Micro), &[End, End]),
+    (25, 100, Ok(Micro), &[Cut(24), End]),
+    (100, 101, Ok(Micro), &[Record(1, 2000, &BODY), End]),
+];
+
+// The first bytes of `HUNDRED` come, and then the end. Returns the first number of bytes that is not read as it should be.
+fn differs_in_front(
+    row: &(usize, usize, Result<Unit, PcapError>, &[Answer]),
+    buf: &mut Buffer,
+) -> Option<usize> {
+    let (from, to, header, answers) = row;
+    for len in *from..*to {
+        let mut r = OfRead::new(HUNDRED.get(..len)?);
+        if differs(&mut r, *header, answers, buf) != None {
+            return Some(len);
+        }
+    }
+    None
+}
+
+#[test]
+fn every_front(rt: HostRuntime) {
+    let mut buf = [0u8; ROOM];
+    for row in FRONTS.iter() {
+        assert_eq!(rt; differs_in_front(row, &mut buf), None, "{}", row.0);
+    }
+}
+
+/// The same, but the reader fails after these bytes; and how many bytes a copy has.
+static FAILURES: [(usize, usize, Result<Unit, PcapError>, &[Answer], usize); 3] = [
+    (0, 24, Err(PcapError::Read), &[], 0),
+    (24, 100, Ok(Micro), &[Refused(PcapError::Read), End], 24),
+    (
+        100,
+        101,
+        Ok(Micro),
+        &[Record(1, 2000, &BODY), Refused(PcapError::Read), End],
+        100,
+    ),
+];
+
+// Whether a copy from a reader that fails after `len` bytes has `copy` bytes, and the reader has the rest.
+fn fails(alloc: Global, len: usize, copy: usize, buf: &mut Buffer) -> bool {
+    let mut r = FailingFeed::new(OfRead::new(HUNDRED.as_slice()), len);
+    let mut w = OfWrite::new(Vec::new(alloc));
+    let answer = copied(&mut r, &mut w, buf);
+    let rest = r.into_inner().into_inner().len();
+    answer == Err(PcapError::Read)
+        && HUNDRED.get(..copy) == Some(w.into_inner().as_slice())
+        && rest == HUNDRED.len().saturating_sub(len)
+}
+
+// The first number of bytes after which a failure is not reported as it should be.
+fn differs_at_failure(
+    alloc: Global,
+    row: &(usize, usize, Result<Unit, PcapError>, &[Answer], usize),
+    buf: &mut Buffer,
+) -> Option<usize> {
+    let (from, to, header, answers, copy) = row;
+    for len in *from..*to {
+        let mut r = FailingFeed::new(OfRead::new(HUNDRED.as_slice()), len);
+        let first = differs(&mut r, *header, answers, buf);
+        if first != None || !fails(alloc, len, *copy, buf) {
+            return Some(len);
+        }
+    }
+    None
+}
+
+#[test]
+fn readers_fail_anywhere(rt: HostRuntime) {
+    let mut buf = [0u8; ROOM];
+    for row in FAILURES.iter() {
+        let first = differs_at_failure(rt.alloc(), row, &mut buf);
+        assert_eq!(rt; first, None, "{}", row.0);
+    }
+}
+
+/// A header, the bytes of it that have other values, its length, and its link type.
+static LINK_TYPES: [(&[u8], &[(usize, u8)], usize, Option<u32>); 5] = [
+    (&NANO_HEADER, &[], 24, Some(1)),
+    (&NANO_HEADER, &[(20, 113), (23, 4)], 24, Some(0x0400_0071)),
+    (&NANO_HEADER, &[(20, 113), (23, 4)], 23, None),
+    (&NANO_HEADER, &[(20, 113), (23, 4), (1, 0)], 24, None),
+    (
+        &[
+            0xa1, 0xb2, 0xc3, 0xd4, 0, 2, 0, 4, 0, 0, 0, 0, 0, 0, 0, 0, 0, 0, 0, 0, 0, 0, 1, 20, 0,
+        ],
+        &[],
+        25,
+        Some(276),
+    ),
+];
+
+fn link_in(bytes: &[u8], len: usize) -> Option<u32> {
+    link_type(bytes.get(..len)?)
+}
+
+// The whole field, in the order of the capture; none without a magic number, or before the header's end.
+#[test]
+fn link_types(rt: HostRuntime) {
+    for (k, (bytes, edits, len, link)) in LINK_TYPES.iter().enumerate() {
+        let mut room = [0; 146];
+        assert!(rt;
+            link_in(edited(&mut room, bytes, edits), *len) == *link,
+            "header {k}"
+        );
+    }
+}

@@ -1,0 +1,455 @@
+//! What writers of captures are offered, and what they hold.
+
+use super::{BODY, Buffer, HUNDRED, ROOM, copied};
+use Put::{Bytes, Head, Header, Record};
+use Taking::{AtMost, Fails};
+use dp_pcap::{
+    FailingSink, MAX_RECORD, NANOS_A_SECOND, OfBufReader, OfBufWriter, OfRead, OfWrite, PcapError,
+    Sink, Time, Unit, put_bytes, put_head, put_header, put_record,
+};
+use std::alloc::Global;
+use std::io::{BufReader, BufWriter, Write};
+use std::test::Fail;
+use std::{fs, io};
+
+/// A capture with one record of 2 bytes in each of the four spellings, and the spelling in which it is written.
+static SPELLINGS: [([u8; 42], [u8; 42]); 4] = [
+    (
+        [
+            0xd4, 0xc3, 0xb2, 0xa1, 2, 0, 4, 0, 0, 0, 0, 0, 0, 0, 0, 0, 0, 0, 4, 0, 1, 0, 0, 0, 4,
+            3, 2, 1, 3, 0, 0, 0, 2, 0, 0, 0, 2, 0, 0, 0, 5, 6,
+        ],
+        [
+            0xd4, 0xc3, 0xb2, 0xa1, 2, 0, 4, 0, 0, 0, 0, 0, 0, 0, 0, 0, 0, 0, 4, 0, 1, 0, 0, 0, 4,
+            3, 2, 1, 3, 0, 0, 0, 2, 0, 0, 0, 2, 0, 0, 0, 5, 6,
+        ],
+    ),
+    (
+        [
+            0xa1, 0xb2, 0xc3, 0xd4, 0, 2, 0, 4, 0, 0, 0, 0, 0, 0, 0, 0, 0, 4, 0, 0, 0, 0, 0, 1, 1,
+            2, 3, 4, 0, 0, 0, 3, 0, 0, 0, 2, 0, 0, 0, 2, 5, 6,
+        ],
+        [
+            0xd4, 0xc3, 0xb2, 0xa1, 2, 0, 4, 0, 0, 0, 0, 0, 0, 0, 0, 0, 0, 0, 4, 0, 1, 0, 0, 0, 4,
+            3, 2, 1, 3, 0, 0, 0, 2, 0, 0, 0, 2, 0, 0, 0, 5, 6,
+        ],
+    ),
+    (
+        [
+            0x4d, 0x3c, 0xb2, 0xa1, 2, 0, 4, 0, 0, 0, 0, 0, 0, 0, 0, 0, 0, 0, 4, 0, 1, 0, 0, 0, 4,
+            3, 2, 1, 3, 0, 0, 0, 2, 0, 0, 0, 2, 0, 0, 0, 5, 6,
+        ],
+        [
+            0x4d, 0x3c, 0xb2, 0xa1, 2, 0, 4, 0, 0, 0, 0, 0, 0, 0, 0, 0, 0, 0, 4, 0, 1, 0, 0, 0, 4,
+            3, 2, 1, 3, 0, 0, 0, 2, 0, 0, 0, 2, 0, 0, 0, 5, 6,
+        ],
+    ),
+    (
+        [
+            0xa1, 0xb2, 0x3c, 0x4d, 0, 2, 0, 4, 0, 0, 0, 0, 0, 0, 0, 0, 0, 4, 0, 0, 0, 0, 0, 1, 1,
+            2, 3, 4, 0, 0, 0, 3, 0, 0, 0, 2, 0, 0, 0, 2, 5, 6,
+        ],
+        [
+            0x4d, 0x3c, 0xb2, 0xa1, 2, 0, 4, 0, 0, 0, 0, 0, 0, 0, 0, 0, 0, 0, 4, 0, 1, 0, 0, 0, 4,
+            3, 2, 1, 3, 0, 0, 0, 2, 0, 0, 0, 2, 0, 0, 0, 5, 6,
+        ],
+    ),
+];
+
+// Whether a capture is copied as these bytes.
+fn is_copied_as(alloc: Global, read: &[u8], written: &[u8]) -> bool {
+    let mut buf = [0u8; ROOM];
+    let mut w = OfWrite::new(Vec::new(alloc));
+    let answer = copied(&mut OfRead::new(read), &mut w, &mut buf);
+    answer == Ok(None) && w.into_inner().as_slice() == written
+}
+
+#[test]
+fn copies_all_spellings(rt: HostRuntime) {
+    for (k, (read, written)) in SPELLINGS.iter().enumerate() {
+        assert!(&rt; is_copied_as(rt.alloc(), read, written), "capture {k}");
+    }
+}
+
+/// A call that writes a part of a capture.
+enum Put {
+    Header,
+    /// A record at a second and a nanosecond, with these bytes.
+    Record(u32, u32, &'static [u8]),
+    /// The head of a record of this length.
+    Head(u32, u32, usize),
+    Bytes(&'static [u8]),
+}
+
+fn write_part<W: Sink>(w: &mut W, unit: Unit, step: &Put) -> Result<(), PcapError> {
+    match step {
+        Header => put_header(w, unit),
+        Record(sec, nano, bytes) if *nano < NANOS_A_SECOND && bytes.len() <= MAX_RECORD => {
+            let time = Time {
+                sec: *sec,
+                nano: *nano,
+            };
+            put_record(w, unit, time, bytes)
+        }
+        Head(sec, nano, len) if *nano < NANOS_A_SECOND && *len <= MAX_RECORD => {
+            let time = Time {
+                sec: *sec,
+                nano: *nano,
+            };
+            put_head(w, unit, time, *len)
+        }
+        Bytes(bytes) => put_bytes(w, bytes),
+        _ => Err(PcapError::BadTime),
+    }
+}
+
+// The first call that does not write what it should, or that does not fail where `false` says that the writer fails.
+fn differs<W: Sink>(w: &mut W, unit: Unit, steps: &[(Put, bool)]) -> Option<usize> {
+    for (k, (step, written)) in steps.iter().enumerate() {
+        let wanted = if *written {
+            Ok(())
+        } else {
+            Err(PcapError::Write)
+        };
+        if write_part(w, unit, step) != wanted {
+            return Some(k);
+        }
+    }
+    None
+}
+
+/// Calls, whether each writes what it should, how many bytes the writer takes in each call and in all, and what it holds at the end.
+static WRITTEN: [(Unit, &[(Put, bool)], usize, usize, &[u8]); 3] = [
+    // A record at (1, 2999) has the fraction 2 in microseconds, and 2999 in nanoseconds.
+    (
+        Unit::Micro,
+        &[
+            (Header, true),
+            (Record(1, 2999, &[5, 6]), true),
+            (Head(1, 2999, 2), true),
+            (Bytes(&[5]), true),
+            (Bytes(&[]), true),
+            (Bytes(&[6]), true),
+        ],
+        1000,
+        1000,
+        &[
+            0xd4, 0xc3, 0xb2, 0xa1, 2, 0, 4, 0, 0, 0, 0, 0, 0, 0, 0, 0, 0, 0, 4, 0, 1, 0, 0, 0, 1,
+            0, 0, 0, 2, 0, 0, 0, 2, 0, 0, 0, 2, 0, 0, 0, 5, 6, 1, 0, 0, 0, 2, 0, 0, 0, 2, 0, 0, 0,
+            2, 0, 0, 0, 5, 6,
+        ],
+    ),
+    (
+        Unit::Nano,
+        &[
+            (Header, true),
+            (Record(1, 2999, &[5, 6]), true),
+            (Head(1, 2999, 2), true),
+            (Bytes(&[5]), true),
+            (Bytes(&[]), true),
+            (Bytes(&[6]), true),
+        ],
+        1000,
+        1000,
+        &[
+            0x4d, 0x3c, 0xb2, 0xa1, 2, 0, 4, 0, 0, 0, 0, 0, 0, 0, 0, 0, 0, 0, 4, 0, 1, 0, 0, 0, 1,
+            0, 0, 0, 0xb7, 0x0b, 0, 0, 2, 0, 0, 0, 2, 0, 0, 0, 5, 6, 1, 0, 0, 0, 0xb7, 0x0b, 0, 0,
+            2, 0, 0, 0, 2, 0, 0, 0, 5, 6,
+        ],
+    ),
+    // A writer that takes 8 bytes a call and fails its fifth call holds the first 32 bytes.
+    (
+        Unit::Micro,
+        &[
+            (Header, true),
+            (
+                Record(
+                    1,
+                    2000,
+                    &[
+                        9, 9, 9, 9, 9, 9, 9, 9, 9, 9, 9, 9, 9, 9, 9, 9, 9, 9, 9, 9, 9, 9, 9, 9, 9,
+                        9, 9, 9, 9, 9, 9, 9, 9, 9, 9, 9, 9, 9, 9, 9, 9, 9, 9, 9, 9, 9,
+                    ],
+                ),
+                false,
+            ),
+            (Header, false),
+        ],
+        8,
+        32,
+        &[
+            0xd4, 0xc3, 0xb2, 0xa1, 2, 0, 4, 0, 0, 0, 0, 0, 0, 0, 0, 0, 0, 0, 4, 0, 1, 0, 0, 0, 1,
+            0, 0, 0, 2, 0, 0, 0,
+        ],
+    ),
+];
+
+#[test]
+fn written(rt: HostRuntime) {
+    for (k, (unit, steps, most, all, bytes)) in WRITTEN.iter().enumerate() {
+        assert!(&rt; *most > 0);
+        let mut w = FailingSink::new(OfWrite::new(Vec::new(rt.alloc())), *most, *all);
+        let first = differs(&mut w, *unit, steps);
+        assert_eq!(rt; first, None, "row {k}");
+        assert!(&rt; w.into_inner().into_inner().as_slice() == *bytes, "row {k}");
+    }
+}
+
+// Copies `HUNDRED` to a writer that takes `most` bytes a call and fails after `len` bytes. Returns whether it holds these.
+fn holds(alloc: Global, most: usize, len: usize, buf: &mut Buffer) -> bool {
+    if most == 0 {
+        return false;
+    }
+    let mut r = OfRead::new(HUNDRED.as_slice());
+    let mut w = FailingSink::new(OfWrite::new(Vec::new(alloc)), most, len);
+    let answer = copied(&mut r, &mut w, buf);
+    let wanted = if len < 100 {
+        Err(PcapError::Write)
+    } else {
+        Ok(None)
+    };
+    answer == wanted && HUNDRED.get(..len) == Some(w.into_inner().into_inner().as_slice())
+}
+
+#[test]
+fn writers_fail_anywhere(rt: HostRuntime) {
+    let mut buf = [0u8; ROOM];
+    for most in [1usize, 7, 1000] {
+        for len in 0..=100usize {
+            assert!(&rt; holds(rt.alloc(), most, len, &mut buf), "{most} {len}");
+        }
+    }
+}
+
+// From one file to another; returns what is written.
+fn through_files(rt: &HostRuntime, buf: &mut Buffer) -> Result<Vec<u8>, Fail> {
+    let mut r = OfRead::new(fs::open(rt, "pcap_copy_in")?);
+    let mut w = OfWrite::new(fs::create(rt, "pcap_copy_out")?);
+    copied(&mut r, &mut w, buf)?;
+    Ok(fs::read(rt, "pcap_copy_out")?)
+}
+
+// The same with buffers.
+fn through_buffers(rt: &HostRuntime, buf: &mut Buffer) -> Result<Vec<u8>, Fail> {
+    let file = fs::open(rt, "pcap_copy_in")?;
+    let mut r = OfBufReader::new(BufReader::new(rt.alloc(), file)?);
+    let file = fs::create(rt, "pcap_copy_out")?;
+    let mut w = OfBufWriter::new(BufWriter::new(rt.alloc(), file)?);
+    copied(&mut r, &mut w, buf)?;
+    w.flush()?;
+    Ok(fs::read(rt, "pcap_copy_out")?)
+}
+
+#[test]
+fn copies_files(rt: HostRuntime) -> Result<(), Fail> {
+    let mut buf = [0u8; ROOM];
+    fs::write(&rt, "pcap_copy_in", &HUNDRED[..])?;
+    assert!(&rt; through_files(&rt, &mut buf)?.as_slice() == HUNDRED.as_slice());
+    assert!(&rt; through_buffers(&rt, &mut buf)?.as_slice() == HUNDRED.as_slice());
+    fs::remove_file(&rt, "pcap_copy_in")?;
+    fs::remove_file(&rt, "pcap_copy_out")?;
+    Ok(())
+}
+
+// Whether a record of 76 bytes fits into a buffer of this room with room left, and the buffer holds `held` bytes afterwards.
+fn goes_into(alloc: Global, room: usize, fits: bool, held: usize) -> bool {
+    let Ok(inner) = BufWriter::with_capacity(alloc, room, Vec::new(alloc)) else {
+        return false;
+    };
+    let mut w = OfBufWriter::new(inner);
+    w.has_room(16, 60) == fits
+        && write_part(&mut w, Unit::Micro, &Record(1, 2000, &BODY)) == Ok(())
+        && w.get_ref().buffer().len() == held
+        && !w.has_room(16, 60)
+        && w.flush().is_ok()
+        && HUNDRED.get(24..) == Some(w.get_ref().get_ref().as_slice())
+        && w.has_room(16, 60) == fits
+}
+
+// A buffer that has room left after the record, one that it fills, and one that is a byte too short. A writer without a buffer has no room.
+#[test]
+fn a_record_goes_into_a_buffer_at_once_or_in_parts(rt: HostRuntime) {
+    for (room, fits, held) in [(77usize, true, 76usize), (76, false, 76), (75, false, 1)] {
+        assert!(&rt; goes_into(rt.alloc(), room, fits, held), "{room}");
+    }
+    assert!(rt; !OfWrite::new(Vec::new(rt.alloc())).has_room(0, 0));
+}
+
+/// How many of the bytes that it is offered a writer takes in a call.
+pub(super) enum Taking {
+    AtMost(usize),
+    Fails,
+}
+
+/// A writer that takes bytes as it is asked to in its first calls, and then at most `most` a call. It has the lengths that it was offered in each
+/// call, and what it took.
+#[derive(Drop)]
+pub(super) struct Taker {
+    first: &'static [Taking],
+    most: usize,
+    pub(super) offered: Vec<usize>,
+    pub(super) held: Vec<u8>,
+}
+
+impl Taker {
+    pub(super) fn new(alloc: Global, first: &'static [Taking], most: usize) -> Taker {
+        Taker {
+            first,
+            most,
+            offered: Vec::new(alloc),
+            held: Vec::new(alloc),
+        }
+    }
+}
+
+impl Write for Taker {
+    fn write(&mut self, buf: &[u8]) -> io::Result<usize> {
+        let most = match self.first.get(self.offered.len()) {
+            Some(AtMost(most)) => buf.len().min(*most),
+            Some(Fails) => buf.len().saturating_add(1),
+            None => buf.len().min(self.most),
+        };
+        if self.offered.push(buf.len()).is_err() {
+            return Err(io::ErrorKind::OutOfMemory.into());
+        }
+        match buf.get(..most) {
+            Some(front) if self.held.extend_from_slice(front).is_ok() => Ok(most),
+            _ => Err(io::ErrorKind::BrokenPipe.into()),
+        }
+    }
+
+    fn flush(&mut self) -> io::Result<()> {
+        Ok(())
+    }
+}
+
+/// What a writer takes in its first calls, the room of a buffer before it, calls, and the lengths that it is offered.
+static LEFT_ALONE: [(&[Taking], Option<usize>, &[(Put, bool)], &[usize]); 6] = [
+    // A writer that takes nothing has failed, and is not called again.
+    (
+        &[AtMost(10), AtMost(0)],
+        None,
+        &[(Header, false), (Header, false)],
+        &[24, 14],
+    ),
+    // Neither is one that failed.
+    (&[Fails], None, &[(Header, false), (Header, false)], &[24]),
+    // With a buffer too, whether it is smaller than a piece or holds some.
+    (
+        &[Fails],
+        Some(0),
+        &[
+            (Header, false),
+            (Header, false),
+            (Header, false),
+            (Header, false),
+            (Header, false),
+        ],
+        &[24],
+    ),
+    (
+        &[Fails],
+        Some(8),
+        &[
+            (Header, false),
+            (Header, false),
+            (Header, false),
+            (Header, false),
+            (Header, false),
+        ],
+        &[8],
+    ),
+    (
+        &[Fails],
+        Some(25),
+        &[
+            (Header, true),
+            (Header, false),
+            (Header, false),
+            (Header, false),
+            (Header, false),
+        ],
+        &[25],
+    ),
+    (
+        &[Fails],
+        Some(60),
+        &[
+            (Header, true),
+            (Header, true),
+            (Header, false),
+            (Header, false),
+            (Header, false),
+        ],
+        &[60],
+    ),
+];
+
+// Whether the calls return what they should, and the writer is offered these lengths, with a buffer of this room or without one.
+fn is_left_alone(
+    alloc: Global,
+    inner: Taker,
+    room: Option<usize>,
+    steps: &[(Put, bool)],
+    offered: &[usize],
+) -> bool {
+    let Some(room) = room else {
+        let mut w = OfWrite::new(inner);
+        let first = differs(&mut w, Unit::Micro, steps);
+        return first == None && w.into_inner().offered.as_slice() == offered;
+    };
+    let Ok(inner) = BufWriter::with_capacity(alloc, room, inner) else {
+        return false;
+    };
+    let mut w = OfBufWriter::new(inner);
+    let first = differs(&mut w, Unit::Micro, steps);
+    first == None && w.get_ref().get_ref().offered.as_slice() == offered
+}
+
+#[test]
+fn a_failed_writer_is_left_alone(rt: HostRuntime) {
+    for (k, (first, room, steps, offered)) in LEFT_ALONE.iter().enumerate() {
+        let inner = Taker::new(rt.alloc(), first, 1000);
+        assert!(&rt;
+            is_left_alone(rt.alloc(), inner, *room, steps, offered),
+            "row {k}"
+        );
+    }
+}
+
+// Whether these are the lengths of what a writer that takes `most` bytes a call is offered of some pieces.
+fn are_offers(offered: &[usize], most: usize, pieces: &[usize]) -> bool {
+    let mut rest = offered;
+    for piece in pieces {
+        for taken in (0..*piece).step_by(most.max(1)) {
+            match rest.split_first() {
+                Some((first, others)) if *first == piece.saturating_sub(taken) => rest = others,
+                _ => return false,
+            }
+        }
+    }
+    rest.is_empty()
+}
+
+// Copies `HUNDRED` to a writer; returns it if all is written.
+fn taken(taker: Taker) -> Option<Taker> {
+    let mut buf = [0u8; ROOM];
+    let mut w = OfWrite::new(taker);
+    match copied(&mut OfRead::new(HUNDRED.as_slice()), &mut w, &mut buf) {
+        Ok(None) => Some(w.into_inner()),
+        _ => None,
+    }
+}
+
+// The header, the record's head and its bytes are one piece each: a writer is offered a whole piece, and then the rest of it.
+#[test]
+fn a_writer_is_offered_a_piece_and_then_its_rest(rt: HostRuntime) {
+    for most in [1usize, 7, 16, 23, 24, 59, 60, 1000] {
+        let taker = taken(Taker::new(rt.alloc(), &[], most)).expect(&rt, "all is written");
+        assert!(&rt;
+            taker.held.as_slice() == HUNDRED.as_slice()
+                && are_offers(taker.offered.as_slice(), most, &[24, 16, 60]),
+            "{most}"
+        );
+    }
+}
