@@ -47,16 +47,7 @@ pub struct Because<'a> {
 }
 
 impl<'a> Because<'a> {
-    /// A reason alone.
-    pub fn of(reason: Reason<'a>) -> Because<'a> {
-        Because {
-            file: None,
-            reason,
-            help: None,
-        }
-    }
-
-    /// A reason, and the file that it is about.
+    /// A reason, and the file that it is about if the line does not name it.
     pub fn in_file(file: Option<&'a str>, reason: Reason<'a>) -> Because<'a> {
         Because {
             file,
@@ -116,7 +107,17 @@ impl fmt::Display for Fault<'_> {
 impl<'a> Fault<'a> {
     /// The fault of a file that was not read.
     pub fn of_unread(file: Unread<'a>) -> Fault<'a> {
-        Fault::File(file.name, Because::of(Reason::Read(file.error)))
+        Fault::File(file.name, Because::in_file(None, Reason::Read(file.error)))
+    }
+
+    /// The fault of a pipeline that is not loaded. A file that was not read is not named.
+    pub fn of_pipeline(error: PipeError) -> Fault<'a>
+        ensures { IsFaultOf error result }
+    {
+        match error {
+            PipeError::Memory => Fault::Memory,
+            _ => Fault::Pipeline(error, None),
+        }
     }
 
     /// The exit status.
@@ -139,7 +140,7 @@ impl<'a> Fault<'a> {
                 Some(file.name),
                 Reason::Read(file.error),
             )),
-            Fault::Pipeline(error, None) => Some(Because::of(Reason::Pipeline(error))),
+            Fault::Pipeline(error, None) => Some(Because::in_file(None, Reason::Pipeline(error))),
             Fault::Memory | Fault::Region | Fault::Line(_) => None,
         }
     }
@@ -173,8 +174,7 @@ pub fn fault_of<'a>(error: PipeError, subject: Subject<'a>, sources: &'a Sources
     ensures { IsFaultOf error result }
 {
     match error {
-        PipeError::Memory => Fault::Memory,
         PipeError::File(node) => Fault::Pipeline(error, unread_of(node, subject, sources)),
-        _ => Fault::Pipeline(error, None),
+        _ => Fault::of_pipeline(error),
     }
 }

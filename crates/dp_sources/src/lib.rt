@@ -3,16 +3,26 @@
 //! A command first reads the files that it needs as [`Sources`]. A [`Subject`] is a pipeline or one program by itself; it has nodes, each with the
 //! names of its files. Everything after that is decided from these bytes alone, so contracts speak of the contents of the files.
 //!
-//! A [`Fault`] is what ends a command: its line, its exit status and its reason.
+//! A [`Fault`] is what ends a command: its line, its exit status and its reason. After it, [`say_pipeline_help`] and [`say_remedy`] say which line of a
+//! text is at fault, and what helps. They find the fault again in the text; no contract has their words.
 #![tactic(auto)]
 
 mod cause_words;
 mod fault;
 mod host;
+mod keys;
+mod nearest;
+mod one;
+mod pipeline_help;
+mod program_help;
+mod remedy;
 mod source;
 mod subject;
 
 pub use fault::{Because, Fault, Reason, fault_of};
 pub use host::{MAX_NODES, entry_at, read, read_sources};
+pub use one::{OneFiles, load_one};
+pub use pipeline_help::say_pipeline_help;
+pub use remedy::{program_of, say_remedy};
 pub use source::{Lent, ReadError, Source, Sources, Unread};
-pub use subject::{Asked, ONE_COUNT, ONE_QUEUE, ONE_REGION, ONE_ROOM, Subject, one_env};
+pub use subject::{Asked, Subject, one_env};

@@ -6,31 +6,19 @@ ghost use Rattle.dp_sources.specs.Subjects.{asked_node, env_of, node_in, node_of
 use dp_model::{Entry, Env, PoolSpec, PortSpec};
 use dp_pipe::Survey;
 
-/// The number of buffers of the pool of `dpv one`.
-pub const ONE_COUNT: u32 = 64;
-
-/// The number of bytes of each of them.
-pub const ONE_ROOM: u32 = 2_176;
-
-/// The size of the transmit list of its port.
-pub const ONE_QUEUE: u32 = 32;
-
-/// The number of bytes of its region.
-pub const ONE_REGION: u32 = 262_144;
-
-/// The environment of `dpv one`: a pool without a cache, and a port that takes packets of one segment.
+/// The environment of `dpv one`: a pool of 64 buffers with room for 2,176 bytes and no cache, and a port that takes packets of one segment.
 pub fn one_env() -> Env
     ensures { result ≡ one_port }
 {
     let pool = PoolSpec {
-        count: ONE_COUNT,
+        count: 64,
         cache: 0,
-        room: ONE_ROOM,
+        room: 2_176,
     };
     let port = PortSpec {
         pool: 0,
         segs: 1,
-        queue: ONE_QUEUE,
+        queue: 32,
     };
     match Env::new(&[pool], 0, &[], &[port]) {
         Ok(env) => env,
