@@ -1,0 +1,9 @@
+pub mod Words
+pub mod Names
+pub mod Files
+pub mod Guarding
+pub mod Opening
+pub mod Outlets
+pub mod Closing
+pub mod Outputs
+pub mod Runs

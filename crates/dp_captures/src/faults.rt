@@ -1,0 +1,127 @@
+//! Why a capture is at fault.
+
+use crate::inlet::Inlet;
+use crate::link_type::LinkType;
+use crate::names::CaptureNames;
+use crate::watched::Seen;
+use dp_pcap::PcapError;
+use dp_pipe::RunCause;
+use std::fmt;
+use std::io::Error;
+
+/// Why a capture is at fault.
+#[derive(Clone, Copy)]
+pub enum Reason {
+    /// The system's error.
+    System(Error),
+    /// The output is read by the same run.
+    IsRead,
+    /// The output is another port's too.
+    IsOutput,
+    /// What is printed goes to the output too.
+    IsStdout,
+    /// What is reported goes to the output too.
+    IsStderr,
+    /// What is wrong with the capture.
+    Capture(PcapError),
+    /// The input has another format, which can be converted to a capture.
+    IsPcapng,
+    /// The link type of the input, which is not read.
+    Link(LinkType),
+}
+
+impl fmt::Display for Reason {
+    fn fmt<W: fmt::Write>(&self, f: &mut fmt::Formatter<W>) -> fmt::Result {
+        match self {
+            Reason::System(error) => write!(f, "{error}"),
+            Reason::Capture(error) => write!(f, "{error}"),
+            Reason::Link(link) => write!(f, "{link}"),
+            Reason::IsRead => write!(f, "the run reads this file, so it is not overwritten"),
+            Reason::IsOutput => write!(f, "another port writes this file, too"),
+            Reason::IsStdout => write!(f, "standard output goes to this file, too"),
+            Reason::IsStderr => write!(f, "standard error goes to this file, too"),
+            Reason::IsPcapng => write!(
+                f,
+                "it is a pcapng file; editcap -F pcap IN OUT converts it to a capture"
+            ),
+        }
+    }
+}
+
+impl Reason {
+    /// What helps, if there is a line for it.
+    pub fn cure(self) -> Option<&'static str> {
+        match self {
+            Reason::Link(link) => Some(link.cure()),
+            _ => None,
+        }
+    }
+}
+
+/// A reason, and the file it concerns.
+#[derive(Clone, Copy)]
+pub struct Finding<'a> {
+    /// The file's name, if it is to be reported.
+    pub file: Option<&'a str>,
+    /// Why.
+    pub reason: Reason,
+}
+
+/// Why captures are not opened.
+#[derive(Clone, Copy)]
+pub enum CaptureFault<'a> {
+    /// Memory was refused.
+    Memory,
+    /// The capture of this name cannot be opened, or may not be made.
+    File { name: &'a str, finding: Finding<'a> },
+}
+
+/// The name of the file at which a run stopped, if it stopped at one.
+fn file_of(names: &[CaptureNames], cause: RunCause) -> Option<&str> {
+    match cause {
+        RunCause::In(port, _) => Some(names.get(usize::from(port))?.input.as_str()),
+        RunCause::Out(port) => Some(names.get(usize::from(port))?.output.as_str()),
+        RunCause::Memory | RunCause::NoRoom => None,
+    }
+}
+
+/// The reason for a fault of an input: the system's error if its reader failed, otherwise the fault of the capture.
+fn reason_of_input(cause: PcapError, seen: Option<Seen>) -> Reason {
+    let Some(seen) = seen else {
+        return Reason::Capture(cause);
+    };
+    match (cause, seen.failure, seen.link) {
+        (PcapError::Read, Some(error), _) => Reason::System(error),
+        (PcapError::BadMagic, _, _) if seen.is_pcapng => Reason::IsPcapng,
+        (PcapError::BadLink, _, Some(link)) => Reason::Link(link),
+        _ => Reason::Capture(cause),
+    }
+}
+
+/// The reason why a run stopped at a capture, if it stopped at one. `failure` is the error of an output's file.
+fn reason_for<I: Inlet>(ins: &[I], cause: RunCause, failure: Option<Error>) -> Option<Reason> {
+    match (cause, failure) {
+        (RunCause::In(port, error), _) => {
+            let seen = match ins.get(usize::from(port)) {
+                Some(input) => input.seen(),
+                None => None,
+            };
+            Some(reason_of_input(error, seen))
+        }
+        (RunCause::Out(_), Some(error)) => Some(Reason::System(error)),
+        (RunCause::Out(_), None) => Some(Reason::Capture(PcapError::Write)),
+        (RunCause::Memory | RunCause::NoRoom, _) => None,
+    }
+}
+
+/// The finding for the capture at which a run stopped, if it stopped at one.
+pub fn finding_of<'a, I: Inlet>(
+    names: &'a [CaptureNames],
+    ins: &[I],
+    cause: RunCause,
+    failure: Option<Error>,
+) -> Option<Finding<'a>> {
+    let reason = reason_for(ins, cause, failure)?;
+    let file = file_of(names, cause);
+    Some(Finding { file, reason })
+}

@@ -1,0 +1,385 @@
+//! Captures that words give ports in place of those that a pipeline names.
+
+ghost use Rattle.std.specs.Prelude.{◌≡◌, ◌≢◌, ◌==◌, ◌∷◌, [], Some, None, find, map, nat_le, option_map, IfErr, IfOk, OnOk};
+ghost use Rattle.std.specs.List.{list_any};
+ghost use Rattle.std.specs.Result.{result_ok};
+ghost use Rattle.dp_captures.specs.Words as spec;
+ghost use Rattle.dp_captures.specs.Words.{row_of};
+
+use std::alloc::{AllocError, Global};
+use std::fmt;
+
+/// Where a capture is.
+#[derive(Clone, Copy, Debug, PartialEq, Eq)]
+pub enum Place {
+    /// A file.
+    File,
+    /// Standard input, or standard output.
+    Stream,
+    /// Nowhere: no records come in, or what is sent is dropped.
+    Nowhere,
+}
+
+/// The capture that a word gives a port.
+#[derive(Clone, Copy)]
+pub struct Replaced<'a> {
+    /// The word.
+    pub word: &'a str,
+    /// The port.
+    pub port: u8,
+    /// Where the capture is.
+    pub place: Place,
+    /// Its name: `-` for a stream, and nothing for one that is nowhere.
+    pub name: &'a str,
+}
+
+/// Whether captures are read or written.
+#[derive(Clone, Copy)]
+pub enum Direction {
+    /// They are read.
+    In,
+    /// They are written.
+    Out,
+}
+
+/// The syntax of a word.
+#[derive(Clone, Copy)]
+pub enum WordForm {
+    /// As PORT=NAME.
+    Named,
+    /// As PORT, whose capture is nowhere.
+    Bare,
+}
+
+/// Why words are rejected.
+#[derive(Clone, Copy)]
+pub enum WordProblem<'a> {
+    /// Memory was refused.
+    Memory,
+    /// This word does not have its form.
+    Unread(&'a str, WordForm),
+    /// The first of these captures cannot be given together with the second, of an earlier word.
+    Clash(Direction, Replaced<'a>, Replaced<'a>),
+}
+
+/// Parses a word as a port: one digit from 0 to 7.
+fn port_digit(word: &str) -> Option<u8>
+    ensures { result ≡ spec.port_digit word.now }
+{
+    match word.as_bytes() {
+        [digit @ b'0'..=b'7'] => Some(digit - b'0'),
+        _ => None,
+    }
+}
+
+/// Where the capture of this name is: `-` names a standard stream, anything else a file.
+pub fn place_named(name: &str) -> Place
+    ensures { result ≡ spec.place_named name.now }
+{
+    if name == "-" {
+        Place::Stream
+    } else {
+        Place::File
+    }
+}
+
+/// The parts of a word before and after its first `=`.
+fn parts_in(word: &str) -> Option<(&str, &str)>
+    ensures { option_map (λ parts. (parts.0.now, parts.1.now)) result ≡ spec.parts_in word.now }
+{
+    word.split_once('=')
+}
+
+/// Parses a word PORT=NAME: the capture that it gives a port.
+pub fn replaced_in(word: &str) -> Option<Replaced<'_>>
+    ensures { option_map row_of result ≡ spec.replaced_in word.now }
+{
+    let (port, name) = parts_in(word)?;
+    let port = port_digit(port)?;
+    if name.is_empty() {
+        return None;
+    }
+    let place = place_named(name);
+    Some(Replaced {
+        word,
+        port,
+        place,
+        name,
+    })
+}
+
+/// Parses a word PORT: the port that it gives no capture.
+pub fn nowhere_in(word: &str) -> Option<Replaced<'_>>
+    ensures { option_map row_of result ≡ spec.nowhere_in word.now }
+{
+    let port = port_digit(word)?;
+    Some(Replaced {
+        word,
+        port,
+        place: Place::Nowhere,
+        name: "",
+    })
+}
+
+/// The capture that a word of this form gives.
+fn given_by<'a>(form: WordForm, word: &'a str) -> Option<Replaced<'a>>
+    ensures { option_map row_of result ≡ spec.given_by form word.now }
+{
+    match form {
+        WordForm::Named => replaced_in(word),
+        WordForm::Bare => nowhere_in(word),
+    }
+}
+
+/// Whether a capture is a standard stream.
+fn is_stream(place: Place) -> bool
+    ensures { result ≡ spec.is_stream place }
+{
+    match place {
+        Place::Stream => true,
+        Place::File | Place::Nowhere => false,
+    }
+}
+
+/// Whether two captures cannot be given together.
+fn clashes(other: &Replaced<'_>, one: Replaced<'_>) -> bool
+    ensures { result ≡ spec.clashes (row_of other.now) (row_of one.entry) }
+{
+    other.port == one.port || (is_stream(other.place) && is_stream(one.place))
+}
+
+/// The first of these captures that cannot be given together with this one.
+fn first_clash<'b, 'a>(one: Replaced<'_>, earlier: &'b [Replaced<'a>]) -> Option<&'b Replaced<'a>>
+    ensures { option_map (λ other. other.now) result ≡ find (λ other. spec.clashes (row_of other) (row_of one.entry)) earlier.now }
+{
+    earlier.iter().find(|other| clashes(other, one))
+}
+
+/// The capture that a word gives besides earlier ones.
+fn added<'a>(
+    direction: Direction,
+    form: WordForm,
+    word: &'a str,
+    earlier: &[Replaced<'a>],
+) -> Result<Replaced<'a>, WordProblem<'a>>
+    ensures { option_map row_of (result_ok result) ≡ spec.added form (map row_of earlier.now) word.now }
+{
+    let Some(one) = given_by(form, word) else {
+        return Err(WordProblem::Unread(word, form));
+    };
+    match first_clash(one, earlier) {
+        Some(other) => Err(WordProblem::Clash(direction, one, *other)),
+        None => Ok(one),
+    }
+}
+
+/// Adds the captures that words give.
+fn add_words<'a>(
+    direction: Direction,
+    form: WordForm,
+    words: &[&'a str],
+    given: &mut Vec<Replaced<'a>>,
+) -> Result<(), WordProblem<'a>>
+    ensures given { OnOk result (Some (map row_of given.new.items) ≡ spec.rows_from form (map row_of given.old.items) (map (λ word. word.now) words.now)) }
+    ensures none { IfErr result (λ fault. fault ≢ WordProblem.Memory → spec.rows_from form (map row_of given.old.items) (map (λ word. word.now) words.now)
+        ≡ None) }
+{
+    for word in words {
+        let one = added(direction, form, word, given.as_slice())?;
+        if given.push(one).is_err() {
+            return Err(WordProblem::Memory);
+        }
+    }
+    Ok(())
+}
+
+/// The captures that words PORT=NAME and words PORT give.
+///
+/// # Errors
+///
+/// The first word that does not have its form, or whose capture cannot be given together with an earlier one; or that memory was refused.
+pub fn captures_of<'a>(
+    alloc: Global,
+    direction: Direction,
+    named: &[&'a str],
+    bare: &[&'a str],
+) -> Result<Vec<Replaced<'a>>, WordProblem<'a>>
+    ensures given { IfOk result (λ given. Some (map row_of given.items) ≡ spec.rows_of (map (λ word. word.now) named.now) (map (λ word. word.now) bare.now)) }
+    ensures none { IfErr result (λ fault. fault ≢ WordProblem.Memory → spec.rows_of (map (λ word. word.now) named.now) (map (λ word. word.now) bare.now)
+        ≡ None) }
+{
+    let mut given = Vec::new(alloc);
+    add_words(direction, WordForm::Named, named, &mut given)?;
+    add_words(direction, WordForm::Bare, bare, &mut given)?;
+    Ok(given)
+}
+
+/// Writes which other word gives the same port a capture, or the same stream.
+fn write_clash<W: fmt::Write>(
+    f: &mut fmt::Formatter<W>,
+    direction: Direction,
+    one: Replaced<'_>,
+    other: Replaced<'_>,
+) -> fmt::Result {
+    let (word, earlier, port) = (one.word, other.word, one.port);
+    let (capture, option, stream) = match direction {
+        Direction::In => ("input", "in", "read standard input"),
+        Direction::Out => ("output", "out", "write standard output"),
+    };
+    if other.port == port {
+        write!(
+            f,
+            "error: '{word}' gives port {port} another {capture} than '{earlier}': "
+        )?;
+        write!(f, "one --{option} or --no-{option} for each port")
+    } else {
+        write!(
+            f,
+            "error: '{earlier}' and '{word}' both {stream}: one port alone can"
+        )
+    }
+}
+
+impl fmt::Display for WordProblem<'_> {
+    fn fmt<W: fmt::Write>(&self, f: &mut fmt::Formatter<W>) -> fmt::Result {
+        match *self {
+            WordProblem::Memory => write!(f, "fault: memory"),
+            WordProblem::Unread(word, WordForm::Named) => write!(
+                f,
+                "error: '{word}' is not PORT=NAME: PORT a digit from 0 to 7, NAME a capture, or - for the standard stream"
+            ),
+            WordProblem::Unread(word, WordForm::Bare) => {
+                write!(f, "error: '{word}' is not a port: a digit from 0 to 7")
+            }
+            WordProblem::Clash(direction, one, other) => write_clash(f, direction, one, other),
+        }
+    }
+}
+
+/// The words that give ports captures.
+#[derive(Clone, Copy)]
+pub struct CaptureWords<'b, 'a> {
+    /// Words PORT=NAME for inputs.
+    pub inputs: &'b [&'a str],
+    /// Words PORT for inputs without records.
+    pub no_inputs: &'b [&'a str],
+    /// Words PORT=NAME for outputs.
+    pub outputs: &'b [&'a str],
+    /// Words PORT for outputs that are dropped.
+    pub no_outputs: &'b [&'a str],
+}
+
+/// The capture that is given to a port.
+fn first_of_port<'b, 'a>(port: usize, given: &'b [Replaced<'a>]) -> Option<&'b Replaced<'a>>
+    ensures { option_map (λ one. one.now) result ≡ find (λ one. one.port == port) given.now }
+{
+    given.iter().find(|one| usize::from(one.port) == port)
+}
+
+/// The capture of a port: the one that is given, or else the file of this name.
+pub(crate) fn capture_at<'a>(given: &[Replaced<'a>], port: usize, name: &'a str) -> (Place, &'a str)
+    ensures { (result.0, result.1.now) ≡ spec.capture_at given.now port name.now }
+{
+    match first_of_port(port, given) {
+        Some(one) => (one.place, one.name),
+        None => (Place::File, name),
+    }
+}
+
+/// The first port of these captures that a pipeline with this number of ports does not have.
+fn missing_in(given: &[Replaced<'_>], ports: usize) -> Option<u8>
+    ensures { option_map (λ port. port) result ≡ option_map (λ one. one.port) (find (λ one. nat_le ports one.port) given.now) }
+{
+    let one = given.iter().find(|one| ports <= usize::from(one.port))?;
+    Some(one.port)
+}
+
+/// The capture that a word gives the only port of a pipeline.
+fn only<'a>(word: &'a str) -> Replaced<'a>
+    ensures { row_of result ≡ spec.only word.now }
+{
+    Replaced {
+        word,
+        port: 0,
+        place: place_named(word),
+        name: word,
+    }
+}
+
+/// The captures that words give the ports of a pipeline.
+#[derive(Drop)]
+pub struct Replacements<'a> {
+    /// Those that are read.
+    pub inputs: Vec<Replaced<'a>>,
+    /// Those that are written.
+    pub outputs: Vec<Replaced<'a>>,
+}
+
+impl<'a> Replacements<'a> {
+    /// None: each port has the captures that the pipeline names.
+    pub fn none(alloc: Global) -> Replacements<'a>
+        ensures inputs { result.inputs.items ≡ [] }
+        ensures outputs { result.outputs.items ≡ [] }
+    {
+        Replacements {
+            inputs: Vec::new(alloc),
+            outputs: Vec::new(alloc),
+        }
+    }
+
+    /// The captures that words give.
+    ///
+    /// # Errors
+    ///
+    /// As [`captures_of`], for the inputs and then for the outputs.
+    pub fn of_words(
+        alloc: Global,
+        words: CaptureWords<'_, 'a>,
+    ) -> Result<Replacements<'a>, WordProblem<'a>>
+        ensures inputs { IfOk result (λ given. Some (map row_of given.inputs.items) ≡ spec.rows_of (map (λ word. word.now) words.entry.inputs.now)
+            (map (λ word. word.now) words.entry.no_inputs.now)) }
+        ensures outputs { IfOk result (λ given. Some (map row_of given.outputs.items) ≡ spec.rows_of (map (λ word. word.now) words.entry.outputs.now)
+            (map (λ word. word.now) words.entry.no_outputs.now)) }
+    {
+        Ok(Replacements {
+            inputs: captures_of(alloc, Direction::In, words.inputs, words.no_inputs)?,
+            outputs: captures_of(alloc, Direction::Out, words.outputs, words.no_outputs)?,
+        })
+    }
+
+    /// The captures of a pipeline with one port: what these two words name.
+    ///
+    /// # Errors
+    ///
+    /// `AllocError` if there is no memory for them.
+    pub fn of_one(
+        alloc: Global,
+        input: &'a str,
+        output: &'a str,
+    ) -> Result<Replacements<'a>, AllocError>
+        ensures inputs { IfOk result (λ given. map row_of given.inputs.items ≡ spec.only input.now ∷ []) }
+        ensures outputs { IfOk result (λ given. map row_of given.outputs.items ≡ spec.only output.now ∷ []) }
+    {
+        let mut given = Replacements::none(alloc);
+        given.inputs.push(only(input))?;
+        given.outputs.push(only(output))?;
+        Ok(given)
+    }
+
+    /// The first of these ports that a pipeline with this number of ports does not have.
+    pub fn missing(&self, ports: usize) -> Option<u8>
+        ensures { result ≡ spec.missing ports self.now.inputs.items self.now.outputs.items }
+    {
+        match missing_in(self.inputs.as_slice(), ports) {
+            Some(port) => Some(port),
+            None => missing_in(self.outputs.as_slice(), ports),
+        }
+    }
+
+    /// Whether one of the outputs is standard output.
+    pub fn take_stdout(&self) -> bool
+        ensures { result ≡ list_any (λ one. spec.is_stream one.place) self.now.outputs.items }
+    {
+        self.outputs.iter().any(|one| is_stream(one.place))
+    }
+}
