@@ -45,7 +45,8 @@ enum dpv_answer {
     DPV_BAD_HOP = 26,         /* the hop is above 16777215 */
     DPV_RULES_FULL = 27,      /* the table has as many routes as it was made for */
     DPV_GROUPS_FULL = 28,     /* the route is deeper than 24 bits, and no group is left for it */
-    DPV_NO_RULE = 29          /* the table has no such route */
+    DPV_NO_RULE = 29,         /* the table has no such route */
+    DPV_NO_ROUTE = 30         /* no route of the table is for the address */
 };
 
 #define DPV_MAX_FRAME 262144u                           /* bytes of a frame */
@@ -103,12 +104,17 @@ struct dpv_ring_stats {
     uint64_t waiting;
 };
 
-/* A route of a table; addresses are numbers, as 0x0a010203 for 10.1.2.3. */
+/* A route of a table. */
 struct dpv_route {
-    uint32_t ip;   /* bits below the depth are ignored */
-    uint32_t hop;  /* a deletion ignores it */
-    uint8_t table;
-    uint8_t depth;
+    uint32_t table; /* its number, from 0 */
+    uint32_t ip;    /* the address as a number, 0x0a010203 for 10.1.2.3; its bits below the depth are ignored */
+    uint32_t depth; /* how many of the first bits count, 1 to 32 */
+    uint32_t hop;   /* up to 16777215; a deletion ignores it */
+};
+
+/* The hop of an address. */
+struct dpv_hop {
+    uint32_t hop; /* that of the deepest route */
 };
 
 /* The counts of a closed engine. */
@@ -136,10 +142,13 @@ uint32_t dpv_batch_size(dpv_t *engine, struct dpv_batch_size *size);
 uint32_t dpv_port(dpv_t *engine, uint32_t port, struct dpv_port_stats *stats);
 uint32_t dpv_pool(dpv_t *engine, uint32_t pool, struct dpv_pool_stats *stats);
 uint32_t dpv_ring(dpv_t *engine, uint32_t ring, struct dpv_ring_stats *stats);
-/* Change a route of a table, between two passes: the next pass has the change. `route` is only read. DPV_OK, DPV_NOT_OPEN, DPV_CLOSED, DPV_NO_TABLE,
-   DPV_BAD_DEPTH; of an addition DPV_BAD_HOP, DPV_RULES_FULL, DPV_GROUPS_FULL; of a deletion DPV_NO_RULE. */
-uint32_t dpv_add_route(dpv_t *engine, struct dpv_route *route);
-uint32_t dpv_delete_route(dpv_t *engine, struct dpv_route *route);
+/* Add or delete a route of a table, between two passes: the next pass has the change, and nothing else changes. An addition replaces the hop
+   where the table has a route of this address and depth. `route` is only read, and no memory is taken. DPV_OK, DPV_NOT_OPEN, DPV_CLOSED,
+   DPV_NO_TABLE, DPV_BAD_DEPTH; of an addition DPV_BAD_HOP, DPV_RULES_FULL, DPV_GROUPS_FULL; of a deletion DPV_NO_RULE. */
+uint32_t dpv_route_add(dpv_t *engine, struct dpv_route *route);
+uint32_t dpv_route_delete(dpv_t *engine, struct dpv_route *route);
+/* Gets the hop that a program's `lookup` would find now. DPV_OK, DPV_NOT_OPEN, DPV_CLOSED, DPV_NO_TABLE or DPV_NO_ROUTE. */
+uint32_t dpv_route_lookup(dpv_t *engine, uint32_t table, uint32_t ip, struct dpv_hop *hop);
 /* Ends the engine: frees the packets in rings, so each pool has all its buffers, each once, and frees the region's memory. All later calls
    but dpv_why return DPV_CLOSED. DPV_OK, DPV_NOT_OPEN or DPV_CLOSED. */
 uint32_t dpv_close(dpv_t *engine, struct dpv_totals *totals);

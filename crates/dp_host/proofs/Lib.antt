@@ -2,3 +2,4 @@ pub mod Serving
 pub mod Files
 pub mod Reported
 pub mod Reasons
+pub mod Depths

@@ -1,5 +1,5 @@
 -- The counts of ports and pools, as an engine reports them.
-use Rattle.std.proofs.Common.{◌≡◌, ℕ, zero, suc, ◌+◌, ◌≤◌, List, [], ◌∷◌, length, map, take, Option, Some, None, refl, sym, ◌∙◌, ap, subst, arith, zero-add}
+use Rattle.std.proofs.Common.{◌≡◌, ℕ, zero, suc, ◌+◌, ◌≤◌, List, [], ◌∷◌, length, take, Some, refl, sym, ◌∙◌, ap, arith, zero-add}
 use Rattle.std.specs.Prelude.{slice_get}
 use Rattle.std.proofs.lemmas.List.{length-map}
 use Rattle.std.proofs.lemmas.Option.{same_Some}
@@ -11,13 +11,12 @@ use Rattle.dp_engine.specs.declared.report.InputState.TheVariants.{Open}
 use Rattle.dp_engine.specs.declared.report.PoolReport.{PoolReport}
 use Rattle.dp_engine.specs.declared.report.PortReport.{PortReport}
 use Rattle.dp_engine.specs.declared.report.Report.{Report}
-use Rattle.dp_engine.specs.declared.report.Tallies.{Tallies}
 use Rattle.dp_engine.specs.Engines.{EngineState}
 use Rattle.dp_engine.specs.Laws.{get_map}
 use Rattle.dp_engine.specs.Reports.{IsReport, port_report, pool_reports}
 use Rattle.dp_host.specs.declared.numbers.PoolStats.{PoolStats}
 use Rattle.dp_host.specs.declared.numbers.PortStats.{PortStats}
-use Rattle.dp_host.specs.Hosts.{IsPortStats, NoPort, IsPoolStats, NoPool, stats_of}
+use Rattle.dp_host.specs.Hosts.{IsPortStats, NoPort, IsPoolStats, NoPool}
 
 abbrev pub port_stats_of : PortReport → PortStats
 port_stats_of r = record { received = r.received; no_buffer = r.nobuf; oversize = r.oversize; sent = r.sent }

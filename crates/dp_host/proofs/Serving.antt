@@ -1,7 +1,8 @@
 -- What an engine has served is a use of its pipeline, event by event, and the promise holds of such uses.
-use Rattle.std.proofs.Common.{◌≡◌, ℕ, zero, suc, ◌+◌, ◌≤◌, Bool, List, [], ◌∷◌, ◌++◌, length, map, replicate, None, refl, sym, ◌∙◌, ap, subst, arith}
-use Rattle.std.specs.Prelude.{true}
-use Rattle.std.proofs.lemmas.List.{append-nil, length-map}
+use Rattle.std.proofs.Common.{◌≡◌, ℕ, zero, suc, ◌+◌, ◌≤◌, List, [], ◌∷◌, ◌++◌, length, map, replicate, None, refl, sym, ◌∙◌, ap, subst, arith}
+use Rattle.std.proofs.Common.{append_assoc}
+use Rattle.std.specs.Prelude.{true, reverse}
+use Rattle.std.proofs.lemmas.List.{append-nil, length-map, reverse-append, reverse-reverse}
 use Rattle.dp_lpm.specs.Routes.{RouteTable}
 use Rattle.dp_model.specs.declared.env.PoolSpec.{PoolSpec}
 use Rattle.dp_model.specs.Buffers.{Number, Buffers}
@@ -9,11 +10,12 @@ use Rattle.dp_model.specs.Environments.{fault_of, count_at}
 use Rattle.dp_model.specs.Machine.{Setting, World, live}
 use Rattle.dp_model.specs.Meaning.{TablesFit}
 use Rattle.dp_model.specs.Packets.{Packet, available, is_free, packet_bytes}
-use Rattle.dp_model.specs.Runs.{Nodes, Run, Outcome, Observed, between, drained, joined, records_at, with_empty_outboxes, with_empty_rings}
+use Rattle.dp_model.specs.CopyMachine.{Captures}
+use Rattle.dp_model.specs.Runs.{Nodes, Arrival, Run, Observed, between, drained, joined, records_at, with_empty_outboxes, with_empty_rings}
 use Rattle.dp_model.specs.Runs.{Turn as IsTurn}
-use Rattle.dp_model.specs.Safety.{IsPipeline}
+use Rattle.dp_model.specs.Safety.{IsPipeline, KeepsRunsSafe}
 use Rattle.dp_model.specs.Starts.{IsStart}
-use Rattle.dp_model.specs.Uses.{Stretch, Uses, AllFit, KeepsUsesSafe, with_tables}
+use Rattle.dp_model.specs.Uses.{Stretch, Uses, AllFit, KeepsUsesSafe, joined_stretch, with_tables}
 use Rattle.dp_model.specs.Laws.Limits.{numbers_known, numbers_pass}
 use Rattle.dp_model.specs.Laws.Runs.{safe_never_stuck}
 use Rattle.dp_copies.specs.CopiedUses.{Shown}
@@ -31,8 +33,8 @@ use Rattle.dp_engine.specs.Steps.{routes_of}
 use Rattle.dp_pipe.specs.Pipelines.{Plan, IsPlan}
 use Rattle.dp_pipe.specs.Running.{IsFirst, setting_in, programs_in}
 use Rattle.dp_pipe.specs.Laws.{are_nodes, all_checked}
-use Rattle.dp_host.specs.Calls.{Call, Change, Event, Passed, Changed, Changes, HasServedCalls, Promised, arrival_of, frames_by_port, sent_in, stretch_of}
-use Rattle.dp_host.specs.Calls.{stretches_of, tables_after, timed}
+use Rattle.dp_host.specs.Calls.{Call, Change, Event, Passed, Changed, Changes, HasServedCalls, AreOneRun, Promised, arrival_of, frames_by_port, sent_in}
+use Rattle.dp_host.specs.Calls.{shown_by, stretch_of, stretches_of, tables_after, timed}
 
 -- ---- what is sent
 
@@ -193,6 +195,81 @@ pub record AreLaws : Type 0 where
       → live (between (with_empty_rings w')) ≡ []
   pub free : (pools : List PoolSpec) (w : World) (pool : ℕ) (b : Number) → live (between w) ≡ [] →
       (is_free (live (between w)) b ≡ true) × (available pools (live (between w)) pool ≡ count_at pools pool)
+  pub join : (c : Setting) (nodes : Nodes) (later : List (Stretch ℕ)) (b a : Stretch ℕ) (earlier : List (Stretch ℕ)) (w w' : World) → TablesFit c
+      → IsPipeline c nodes → AllFit c (later ++ (b ∷ a ∷ earlier)) → IsStart c.env w → b.tables ≡ a.tables
+      → Uses c nodes (later ++ (b ∷ a ∷ earlier)) w w' → Uses c nodes (later ++ (joined_stretch a b ∷ earlier)) w w'
+  pub one : (c : Setting) (nodes : Nodes) (s : Stretch ℕ) (w w' : World) → s.tables ≡ c.tables → Uses c nodes (s ∷ []) w w'
+      → Run c nodes s.arrivals w s.shown w'
+  pub safe_run : (c : Setting) (nodes : Nodes) (arrivals : List (Arrival ℕ)) (w : World) → TablesFit c → IsPipeline c nodes → IsStart c.env w
+      → KeepsRunsSafe c nodes arrivals w
+  pub copied_run : (c : Setting) (nodes : Nodes) (arrivals : List (Arrival ℕ)) (w w' : World) (shown : Observed ℕ) → fault_of c.env ≡ None
+      → IsStart c.env w → Run c nodes arrivals w shown w' → Captures c.env c.tables nodes arrivals shown.answers shown.captures w'.cuts
+
+-- ---- passes without a change between them
+
+same_tables : (first : List RouteTable) (calls : List Call) → tables_after first (map (λ c. Passed c) calls) ≡ first
+same_tables first [] = refl
+same_tables first (c ∷ calls) = same_tables first calls
+
+stretches_are : (first : List RouteTable) (calls : List Call) → stretches_of first (map (λ c. Passed c) calls) ≡ map (stretch_of first) calls
+stretches_are first [] = refl
+stretches_are first (c ∷ calls) =
+    ap (λ (ts : List RouteTable). stretch_of ts c ∷ stretches_of first (map (λ c. Passed c) calls)) (same_tables first calls)
+    ∙ ap (λ (l : List (Stretch ℕ)). stretch_of first c ∷ l) (stretches_are first calls)
+
+all_fit_in : (s : Setting) (first : List RouteTable) (calls : List Call) → TablesFit (with_tables (routes_of first) s)
+    → AllFit s (map (stretch_of first) calls)
+all_fit_in s first [] fit = tt
+all_fit_in s first (c ∷ calls) fit = (fit, all_fit_in s first calls fit)
+
+-- calls in order, after others of which the latest is first
+abbrev onto : List Call → List Call → List Call
+onto [] later = later
+onto (c ∷ earlier) later = onto earlier (c ∷ later)
+
+onto_is : (earlier later : List Call) → onto earlier later ≡ reverse earlier ++ later
+onto_is [] later = refl
+onto_is (c ∷ earlier) later =
+    onto_is earlier (c ∷ later)
+    ∙ sym (ap (λ (l : List Call). l ++ later) (reverse-append (c ∷ []) earlier) ∙ append_assoc (reverse earlier) (c ∷ []) later)
+
+all_onto : (calls : List Call) → onto (reverse calls) [] ≡ calls
+all_onto calls = onto_is (reverse calls) [] ∙ append-nil (reverse (reverse calls)) ∙ reverse-reverse calls
+
+-- calls as one stretch
+abbrev grouped : Plan → List Call → Stretch ℕ
+grouped p calls = record { tables = routes_of p.tables; arrivals = map arrival_of calls; shown = shown_by (length p.env.ports) calls }
+
+-- passes are joined with those after them, from the latest on
+all_joined : (p : Plan) → IsPlan p → AreLaws → (earlier later : List Call) (w w' : World) → IsStart p.env w
+    → Uses (setting_in p []) (programs_in p) (grouped p later ∷ map (stretch_of p.tables) earlier) w w'
+    → Uses (setting_in p []) (programs_in p) (grouped p (onto earlier later) ∷ []) w w'
+all_joined p plan laws [] later w w' start uses = uses
+all_joined p plan laws (c ∷ earlier) later w w' start uses =
+    let s = setting_in p [] in
+    let scheme = ready p plan in
+    let fit : TablesFit s = scheme.tables_fit in
+    let others = map (stretch_of p.tables) earlier in
+    let fits = all_fit_in s p.tables earlier fit in
+    all_joined p plan laws earlier (c ∷ later) w w' start
+    (laws.join s (programs_in p) [] (grouped p later) (stretch_of p.tables c) others w w' fit scheme.pipeline (fit, (fit, fits)) start refl uses)
+
+are_one_run : (p : Plan) → IsPlan p → AreLaws → (calls : List Call) (w w' : World) → IsStart p.env w
+    → Uses (setting_in p []) (programs_in p) (stretches_of p.tables (map (λ c. Passed c) (reverse calls))) w w' → AreOneRun p calls w w'
+are_one_run p plan laws calls w w' start uses =
+    let s = setting_in p [] in
+    let nodes = programs_in p in
+    let scheme = ready p plan in
+    let listed = subst (λ (l : List (Stretch ℕ)). Uses s nodes l w w') (stretches_are p.tables (reverse calls)) uses in
+    let joined_all = all_joined p plan laws (reverse calls) [] w w' start (w', listed, (refl, refl)) in
+    let whole = subst (λ (l : List Call). Uses s nodes (grouped p l ∷ []) w w') (all_onto calls) joined_all in
+    let run = laws.one s nodes (grouped p calls) w w' refl whole in
+    let safe = laws.safe_run s nodes (map arrival_of calls) w scheme.tables_fit scheme.pipeline start in
+    record {
+      run = run;
+      never_stuck = λ b of. safe_never_stuck s b (safe.runs b of);
+      copies = laws.copied_run s nodes (map arrival_of calls) w w' (shown_by (length p.env.ports) calls) plan.limits start run;
+    }
 
 pub promised : (p : Plan) (events : List Event) (e : EngineState) → AreLaws → HasServedCalls p events e → Promised p events e
 promised p events e laws was =
@@ -210,6 +287,9 @@ promised p events e laws was =
       uses = was.uses;
       never_stuck = λ b of. safe_never_stuck (with_tables of.stretch.tables s) b (safe.runs b of);
       copies = laws.copies s (programs_in p) stretches first e.world was.plan.limits start was.uses;
+      one_run = λ calls are.
+          are_one_run p was.plan laws calls first e.world start
+          (subst (λ (l : List Event). Uses s (programs_in p) (stretches_of p.tables l) first e.world) are was.uses);
       free = λ b. (laws.free p.env.pools (with_empty_rings e.world) 0 b none).0;
       whole = λ pool. (laws.free p.env.pools (with_empty_rings e.world) pool (record { pool = 0; index = 0 }) none).1;
     }

@@ -1,5 +1,5 @@
 -- The calls of a C caller, and the promise that they are a use of the pipeline.
-use Rattle.std.specs.Prelude.{◌≡◌, ℕ, ◌+◌, Bool, true, List, [], ◌∷◌, ◌++◌, map}
+use Rattle.std.specs.Prelude.{◌≡◌, ℕ, ◌+◌, Bool, true, List, [], ◌∷◌, ◌++◌, length, map, replicate, reverse}
 use Rattle.dp_lpm.specs.Changes.{AddsRoute, DeletesRoute}
 use Rattle.dp_lpm.specs.Routes.{RouteTable}
 use Rattle.dp_model.specs.Buffers.{Number}
@@ -7,10 +7,11 @@ use Rattle.dp_model.specs.Environments.{count_at}
 use Rattle.dp_model.specs.Machine.{World, live}
 use Rattle.dp_model.specs.Meaning.{TablesFit}
 use Rattle.dp_model.specs.Packets.{available, is_free}
-use Rattle.dp_model.specs.Runs.{Arrival, Outcome, NeverStuck, between, drained, with_empty_rings}
-use Rattle.dp_model.specs.Safety.{Beginning}
+use Rattle.dp_model.specs.CopyMachine.{Captures}
+use Rattle.dp_model.specs.Runs.{Arrival, Observed, Outcome, Run, NeverStuck, between, drained, with_empty_rings}
+use Rattle.dp_model.specs.Safety.{Beginning, IsOfRun}
 use Rattle.dp_model.specs.Starts.{IsStart}
-use Rattle.dp_model.specs.Uses.{Stretch, Uses, AllFit, IsOfUse, with_tables}
+use Rattle.dp_model.specs.Uses.{Stretch, Uses, AllFit, IsOfUse, shown_then, with_tables}
 use Rattle.dp_copies.specs.CopiedUses.{Shown}
 use Rattle.dp_engine.specs.Batches.{Frame}
 use Rattle.dp_engine.specs.Engines.{EngineState}
@@ -81,13 +82,13 @@ passes_in [] = 0
 passes_in (Passed c ∷ events) = passes_in events + 1
 passes_in (Changed change tables ∷ events) = passes_in events
 
+-- what a pass shows
+abbrev pub shown_of : Call → Observed ℕ
+shown_of c = record { answers = c.answers; outcomes = c.outcome ∷ []; captures = timed c }
+
 -- a pass is a stretch of one record, with the routes of its moment
 abbrev pub stretch_of : List RouteTable → Call → Stretch ℕ
-stretch_of tables c = record {
-  tables = routes_of tables;
-  arrivals = arrival_of c ∷ [];
-  shown = record { answers = c.answers; outcomes = c.outcome ∷ []; captures = timed c };
-}
+stretch_of tables c = record { tables = routes_of tables; arrivals = arrival_of c ∷ []; shown = shown_of c }
 
 abbrev pub stretches_of : List RouteTable → List Event → List (Stretch ℕ)
 stretches_of first [] = []
@@ -113,10 +114,24 @@ pub record HasServedCalls (p : Plan) (events : List Event) (engine : EngineState
 
 -- ---- the promise about all calls
 
+-- what passes show together, the first of them first
+abbrev pub shown_by : ℕ → List Call → Observed ℕ
+shown_by ports [] = record { answers = []; outcomes = []; captures = replicate ports [] }
+shown_by ports (c ∷ calls) = shown_then (shown_of c) (shown_by ports calls)
+
+-- All passes, in order, were one run of the buffer machine, which sent for each port what they handed out. No node run in it was stuck, and the machine
+-- in which each packet has its own bytes sends the same.
+pub record AreOneRun (p : Plan) (calls : List Call) (first last : World) : Type 0 where
+  pub run : Run (setting_in p []) (programs_in p) (map arrival_of calls) first (shown_by (length p.env.ports) calls) last
+  pub never_stuck : (b : Beginning) → IsOfRun (setting_in p []) (programs_in p) (map arrival_of calls) first b →
+      NeverStuck (setting_in p []) b.program b.packet b.number b.world
+  pub copies : Captures p.env (routes_of p.tables) (programs_in p) (map arrival_of calls) (shown_by (length p.env.ports) calls).answers
+      (shown_by (length p.env.ports) calls).captures last.cuts
+
 -- All calls on an engine, from its opening to its end, were a use of the buffer machine on the frames that were handed in, in order, each with the
 -- routes of its moment, which sent for each port what the calls handed out; and each change changed one route, and nothing else. No node run in it was
--- stuck. The machine in which each packet has its own bytes sends the same, with the same routes, given the same outcomes of allocation calls. And at
--- the end, when what waits in rings is freed, every buffer is free, so each pool has all its buffers.
+-- stuck. The machine in which each packet has its own bytes sends the same, with the same routes, given the same outcomes of allocation calls. If no
+-- route changed, all passes were one run. And at the end, when what waits in rings is freed, every buffer is free, so each pool has all its buffers.
 pub record Promised (p : Plan) (events : List Event) (engine : EngineState) : Type 0 where
   pub first : World
   pub start : IsStart p.env first
@@ -125,5 +140,7 @@ pub record Promised (p : Plan) (events : List Event) (engine : EngineState) : Ty
   pub never_stuck : (b : Beginning) (of : IsOfUse (setting_in p []) (programs_in p) (stretches_of p.tables events) first b) →
       NeverStuck (with_tables of.stretch.tables (setting_in p [])) b.program b.packet b.number b.world
   pub copies : Shown p.env (programs_in p) (stretches_of p.tables events) engine.world.cuts
+  -- where no route changed
+  pub one_run : (calls : List Call) → events ≡ map (λ c. Passed c) (reverse calls) → AreOneRun p calls first engine.world
   pub free : (b : Number) → is_free (live (between (with_empty_rings engine.world))) b ≡ true
   pub whole : (pool : ℕ) → available p.env.pools (live (between (with_empty_rings engine.world))) pool ≡ count_at p.env.pools pool

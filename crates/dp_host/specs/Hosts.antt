@@ -4,9 +4,11 @@ use Rattle.dp_pcap.specs.declared.format.TheConstants.{MAX_RECORD}
 use Rattle.dp_lpm.specs.declared.error.LpmError.{LpmError}
 use Rattle.dp_lpm.specs.declared.error.LpmError.TheVariants as lpm
 use Rattle.dp_lpm.specs.Changes.{HasTable}
+use Rattle.dp_lpm.specs.Faults.{add_fault, delete_fault}
 use Rattle.dp_lpm.specs.Routes.{RouteTable}
 use Rattle.dp_model.specs.declared.env.PoolSpec.{PoolSpec}
 use Rattle.dp_model.specs.Packets.{available}
+use Rattle.dp_model.specs.Prefixes.{hop_for}
 use Rattle.dp_model.specs.Machine.{live}
 use Rattle.dp_model.specs.Runs.{between}
 use Rattle.dp_engine.specs.declared.batch.BatchSize.{BatchSize}
@@ -21,7 +23,6 @@ use Rattle.dp_engine.specs.Outcomes.{outcome_of}
 use Rattle.dp_engine.specs.Rerouting.{with_tables}
 use Rattle.dp_engine.specs.Shapes.{AreWaiting}
 use Rattle.dp_pipe.specs.declared.error.PipeError.{PipeError}
-use Rattle.dp_pipe.specs.declared.forwarding.RunCause.{RunCause}
 use Rattle.dp_pipe.specs.declared.forwarding.RunCause.TheVariants as run_cause
 use Rattle.dp_pipe.specs.declared.nodes.How.TheVariants.{Given}
 use Rattle.dp_pipe.specs.declared.listed.NamedBytes.{NamedBytes}
@@ -38,11 +39,13 @@ use Rattle.dp_host.specs.declared.numbers.Room.{Room}
 use Rattle.dp_host.specs.declared.numbers.PortStats.{PortStats}
 use Rattle.dp_host.specs.declared.numbers.PoolStats.{PoolStats}
 use Rattle.dp_host.specs.declared.numbers.RingStats.{RingStats}
+use Rattle.dp_host.specs.declared.numbers.Route.{Route}
+use Rattle.dp_host.specs.declared.numbers.Hop.{Hop}
 use Rattle.dp_host.specs.declared.numbers.Totals.{Totals}
 use Rattle.dp_host.specs.declared.packed.Unread.TheVariants as unread
 use Rattle.dp_host.specs.declared.refusal.Refusal.{Refusal}
 use Rattle.dp_host.specs.declared.refusal.Refusal.TheVariants as refusal
-use Rattle.dp_host.specs.Calls.{Call, Change, Event, Passed, Changed, Changes, HasServedCalls, Promised, frames_by_port}
+use Rattle.dp_host.specs.Calls.{Change, Added, Deleted, Event, Passed, Changed, Changes, HasServedCalls, Promised, frames_by_port}
 use Rattle.dp_host.specs.Packing.{ArePacked, NotPacked}
 
 -- ---- the numbers of answers
@@ -62,6 +65,7 @@ refusal_number refusal.BadHop = 26
 refusal_number refusal.RulesFull = 27
 refusal_number refusal.GroupsFull = 28
 refusal_number refusal.NoRule = 29
+refusal_number refusal.NoRoute = 30
 
 abbrev pub outcome_number : Outcome → ℕ
 outcome_number Got = 0
@@ -213,6 +217,29 @@ ChangeAnswers change fault table (Some engine) missing (Some engine') n =
 ChangeAnswers change fault table None missing None n = n ≡ refusal_number missing
 ChangeAnswers change fault table None missing (Some engine') n = ⊥
 ChangeAnswers change fault table (Some engine) missing None n = ⊥
+
+-- what an addition of this route returns
+abbrev pub AddAnswers : Route → Option EngineState → Refusal → Option EngineState → ℕ → Type 0
+AddAnswers r = ChangeAnswers (Added r.table r.ip r.depth r.hop) (λ t. add_fault t r.ip r.depth r.hop) r.table
+
+-- what a deletion of the route of this prefix and depth returns
+abbrev pub DeleteAnswers : Route → Option EngineState → Refusal → Option EngineState → ℕ → Type 0
+DeleteAnswers r = ChangeAnswers (Deleted r.table r.ip r.depth) (λ t. delete_fault t r.ip r.depth) r.table
+
+-- ---- look-ups
+
+-- why tables have no hop for an address: there is no such table, or it has no route for the address
+abbrev pub RefusesLookup : ℕ → ℕ → List RouteTable → Refusal → Type 0
+RefusesLookup table ip tables refusal.NoTable = length tables ≤ table
+RefusesLookup table ip tables refusal.NoRoute = HasTable table tables (λ t. hop_for t.routes ip ≡ None)
+RefusesLookup table ip tables other = ⊥
+
+-- what a look-up returns: 0, and the hop that a program would find now; or why there is none, and then nothing changes
+abbrev pub LookupAnswers : ℕ → ℕ → Option EngineState → Refusal → Hop → Hop → ℕ → Type 0
+LookupAnswers table ip (Some e) missing old new n =
+    ((n ≡ 0) × HasTable table e.tables (λ t. hop_for t.routes ip ≡ Some new.hop))
+    ⊎ ((why : Refusal) × (n ≡ refusal_number why) × RefusesLookup table ip e.tables why × (new ≡ old))
+LookupAnswers table ip None missing old new n = (n ≡ refusal_number missing) × (new ≡ old)
 
 -- ---- numbers
 

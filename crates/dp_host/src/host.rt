@@ -3,19 +3,20 @@
 ghost use Rattle.std.specs.Prelude.{◌≡◌, ◌≤◌, [], ◌++◌, drop, length, IfErr, IfOk};
 ghost use Rattle.dp_pipe.specs.Pipelines.{IsPlan};
 ghost use Rattle.dp_pipe.specs.Running.{IsUnopened};
-ghost use Rattle.dp_lpm.specs.Faults.{add_fault, delete_fault};
-ghost use Rattle.dp_host.specs.Calls.{Added, Deleted, HasServedCalls};
-ghost use Rattle.dp_host.specs.Hosts.{ChangeAnswers, SetsOrRefuses, CloseAnswers, IsOpenErrorFor, IsOpenedFor, IsPoolStats, IsPortStats, IsReasonFor, IsReasonIn};
-ghost use Rattle.dp_host.specs.Hosts.{IsRingStats, IsRoom, Opens, PassAnswers};
+ghost use Rattle.dp_host.specs.Calls.{HasServedCalls};
+ghost use Rattle.dp_host.specs.Hosts.{AddAnswers, DeleteAnswers, LookupAnswers, SetsOrRefuses, CloseAnswers, IsOpenErrorFor, IsOpenedFor, IsPoolStats};
+ghost use Rattle.dp_host.specs.Hosts.{IsPortStats, IsReasonFor, IsReasonIn, IsRingStats, IsRoom, Opens, PassAnswers};
 ghost use Rattle.dp_host.specs.Hosts.{NoPool, NoPort, NoRing, outcome_number, padded, reason_with};
 
-use crate::numbers::{MAX_REASON, PoolStats, PortStats, Reason, RingStats, Room, Route, Totals};
+use crate::numbers::{
+    Hop, MAX_REASON, PoolStats, PortStats, Reason, RingStats, Room, Route, Totals,
+};
 use crate::packed::{Unread, files_in};
 use crate::refusal::Refusal;
 use crate::running::Running;
-use dp_copies::uses_are_copied;
+use dp_copies::{clones_are_copies, uses_are_copied};
 use dp_engine::{Outcome, Pass, SentRecord};
-use dp_model::{uses_keep_safe, whole_runs_end_with_whole_pools};
+use dp_model::{runs_keep_safe, uses_join, uses_keep_safe, whole_runs_end_with_whole_pools};
 use dp_pipe::{How, Listed, PipeError, Pipeline, RunCause, engine_of, load};
 use std::alloc::Global;
 
@@ -37,14 +38,19 @@ pub enum OpenError {
     Open(RunCause),
 }
 
-// The numbers of ports and rings of a pipeline.
-fn counts_of(pipeline: &Pipeline) -> (u32, u32)
+// The numbers of ports, rings and tables of a pipeline.
+fn counts_of(pipeline: &Pipeline) -> (u32, u32, u8)
     ensures ports { (result.0 ≡ length pipeline.now.env.ports) × (result.0 ≤ 8) }
     ensures rings { (result.1 ≡ length pipeline.now.env.rings) × (result.1 ≤ 8) }
+    ensures tables { result.2 ≡ length pipeline.now.tables }
     ensures plan { IsPlan pipeline.now }
 {
     let env = pipeline.env();
-    (env.ports().len() as u32, env.rings().len() as u32)
+    (
+        env.ports().len() as u32,
+        env.rings().len() as u32,
+        env.tables(),
+    )
 }
 
 // Opens the engine of a pipeline.
@@ -52,9 +58,9 @@ fn running_of(alloc: Global, pipeline: Pipeline) -> Result<Running, RunCause>
     ensures ok { IfOk result (HasServedCalls pipeline []) }
     ensures err { IfErr result (IsUnopened pipeline) }
 {
-    let (ports, rings) = counts_of(&pipeline);
+    let (ports, rings, tables) = counts_of(&pipeline);
     match engine_of(alloc, pipeline, Vec::new(alloc)) {
-        Ok(engine) => Ok(Running::of(engine, ports, rings)),
+        Ok(engine) => Ok(Running::of(engine, ports, rings, tables)),
         Err(cause) => Err(cause),
     }
 }
@@ -212,33 +218,45 @@ pub(crate) fn passed(
 
 /// Adds a route to a table; returns 0 or the number of a refusal.
 pub(crate) fn route_added(host: &mut Host, route: &mut Route) -> u32
-    ensures { (ChangeAnswers (Added route.old.table route.old.ip route.old.depth route.old.hop) (λ t. add_fault t route.old.ip route.old.depth route.old.hop) route.old.table
-        host.old.running host.old.missing host.new.running result)
+    ensures { AddAnswers route.old host.old.running host.old.missing host.new.running result
         × (host.new.missing ≡ host.old.missing) × (host.new.reason ≡ host.old.reason) × (route.new ≡ route.old) }
 {
-    let missing = host.missing;
-    match &mut host.running {
-        Some(running) => match running.add_route(route.table, route.ip, route.depth, route.hop) {
-            Ok(()) => 0,
-            Err(why) => why.number(),
-        },
-        None => missing.number(),
+    let Some(running) = &mut host.running else {
+        return host.missing.number();
+    };
+    match running.add_route(route.table, route.ip, route.depth, route.hop) {
+        Ok(()) => 0,
+        Err(why) => why.number(),
     }
 }
 
 /// Deletes a route of a table; returns 0 or the number of a refusal.
 pub(crate) fn route_deleted(host: &mut Host, route: &mut Route) -> u32
-    ensures { (ChangeAnswers (Deleted route.old.table route.old.ip route.old.depth) (λ t. delete_fault t route.old.ip route.old.depth) route.old.table
-        host.old.running host.old.missing host.new.running result)
+    ensures { DeleteAnswers route.old host.old.running host.old.missing host.new.running result
         × (host.new.missing ≡ host.old.missing) × (host.new.reason ≡ host.old.reason) × (route.new ≡ route.old) }
 {
-    let missing = host.missing;
-    match &mut host.running {
-        Some(running) => match running.delete_route(route.table, route.ip, route.depth) {
-            Ok(()) => 0,
-            Err(why) => why.number(),
-        },
-        None => missing.number(),
+    let Some(running) = &mut host.running else {
+        return host.missing.number();
+    };
+    match running.delete_route(route.table, route.ip, route.depth) {
+        Ok(()) => 0,
+        Err(why) => why.number(),
+    }
+}
+
+/// Sets `hop` to that of a table for an address; returns 0 or the number of a refusal.
+pub(crate) fn route_found(host: &mut Host, table: u32, ip: u32, hop: &mut Hop) -> u32
+    ensures { (host.new ≡ host.old) × LookupAnswers table ip host.old.running host.old.missing hop.old hop.new result }
+{
+    let Some(running) = &host.running else {
+        return host.missing.number();
+    };
+    match running.route(table, ip) {
+        Ok(found) => {
+            hop.hop = found;
+            0
+        }
+        Err(why) => why.number(),
     }
 }
 
@@ -331,9 +349,12 @@ pub(crate) fn closed(host: &mut Host, totals: &mut Totals) -> u32
     ensures { CloseAnswers host.old.running host.old.missing host.new.running host.new.missing totals.old totals.new result
         × (host.new.reason ≡ host.old.reason) }
 {
-    // The laws of uses.
+    // The laws of uses, and of uses without a change.
     uses_keep_safe::<u64>();
     uses_are_copied::<u64>();
+    uses_join::<u64>();
+    runs_keep_safe::<u64>();
+    clones_are_copies::<u64>();
     whole_runs_end_with_whole_pools::<u64>();
     let Some(running) = host.running.take() else {
         return host.missing.number();

@@ -5,7 +5,8 @@
 //! call keeps a pointer to them.
 //!
 //! What to call: `dpv_begin`, once; `dpv_why`, which has the reason if there is no engine; `dpv_pass_into` for each frame, with a batch of the
-//! size that `dpv_batch_size` returns; `dpv_port`, `dpv_pool` and `dpv_ring` for counts; `dpv_close` at the end. The six inline functions of
+//! size that `dpv_batch_size` returns; `dpv_route_add`, `dpv_route_delete` and `dpv_route_lookup` for routes, between two passes; `dpv_port`,
+//! `dpv_pool` and `dpv_ring` for counts; `dpv_close` at the end. The six inline functions of
 //! `include/dpv.h` are C, and not in this crate.
 //!
 //! What not to do: the memory may not move or be freed between `dpv_begin` and `dpv_close`, two calls may not run at once, and a call must
@@ -26,12 +27,11 @@ ghost use Rattle.std.specs.Ptr.{lies_at, room_at};
 ghost use types.Logic.{sem};
 ghost use Rattle.dp_host.specs.contracts.host.Host.{the_row};
 ghost use Rattle.dp_host.specs.declared.refusal.Refusal.TheVariants as refusal;
-ghost use Rattle.dp_lpm.specs.Faults.{add_fault, delete_fault};
-ghost use Rattle.dp_host.specs.Calls.{Added, Deleted};
-ghost use Rattle.dp_host.specs.Hosts.{ChangeAnswers, SetsOrRefuses, CloseAnswers, IsPoolStats, IsPortStats, IsRingStats, IsRoom, NoPool, NoPort, NoRing, Opens, PassAnswers};
+ghost use Rattle.dp_host.specs.Hosts.{AddAnswers, DeleteAnswers, LookupAnswers, SetsOrRefuses, CloseAnswers, IsPoolStats, IsPortStats, IsRingStats};
+ghost use Rattle.dp_host.specs.Hosts.{IsRoom, NoPool, NoPort, NoRing, Opens, PassAnswers};
 
 use crate::host::Host;
-use crate::numbers::{PoolStats, PortStats, Reason, RingStats, Room, Route, Totals};
+use crate::numbers::{Hop, PoolStats, PortStats, Reason, RingStats, Room, Route, Totals};
 use dp_engine::SentRecord;
 use std::alloc::Global;
 
@@ -138,11 +138,10 @@ pub unsafe extern "C" fn dpv_ring(at: *mut u8, which: u32, out: &mut RingStats) 
 
 /// Adds a route to a table, or replaces the hop of its route of this prefix and depth. Returns 0, or the number of a refusal.
 #[unsafe(no_mangle)]
-pub unsafe extern "C" fn dpv_add_route(at: *mut u8, route: &mut Route) -> u32
+pub unsafe extern "C" fn dpv_route_add(at: *mut u8, route: &mut Route) -> u32
     ghost h: { Host }
     requires* { sem 𝓛 (lies_at the_row full_share at h) }
-    ensures* { ∃ₛ (λ (h' : Host). sem 𝓛 (lies_at the_row full_share at h') ∗ ⌜ ChangeAnswers (Added route.old.table route.old.ip route.old.depth route.old.hop)
-        (λ t. add_fault t route.old.ip route.old.depth route.old.hop) route.old.table h.running h.missing h'.running result
+    ensures* { ∃ₛ (λ (h' : Host). sem 𝓛 (lies_at the_row full_share at h') ∗ ⌜ AddAnswers route.old h.running h.missing h'.running result
         × (h'.missing ≡ h.missing) × (h'.reason ≡ h.reason) × (route.new ≡ route.old) ⌝) }
 {
     host::route_added(&mut *(at as *mut Host), route)
@@ -150,14 +149,24 @@ pub unsafe extern "C" fn dpv_add_route(at: *mut u8, route: &mut Route) -> u32
 
 /// Deletes a route of a table. Returns 0, or the number of a refusal.
 #[unsafe(no_mangle)]
-pub unsafe extern "C" fn dpv_delete_route(at: *mut u8, route: &mut Route) -> u32
+pub unsafe extern "C" fn dpv_route_delete(at: *mut u8, route: &mut Route) -> u32
     ghost h: { Host }
     requires* { sem 𝓛 (lies_at the_row full_share at h) }
-    ensures* { ∃ₛ (λ (h' : Host). sem 𝓛 (lies_at the_row full_share at h') ∗ ⌜ ChangeAnswers (Deleted route.old.table route.old.ip route.old.depth)
-        (λ t. delete_fault t route.old.ip route.old.depth) route.old.table h.running h.missing h'.running result
+    ensures* { ∃ₛ (λ (h' : Host). sem 𝓛 (lies_at the_row full_share at h') ∗ ⌜ DeleteAnswers route.old h.running h.missing h'.running result
         × (h'.missing ≡ h.missing) × (h'.reason ≡ h.reason) × (route.new ≡ route.old) ⌝) }
 {
     host::route_deleted(&mut *(at as *mut Host), route)
+}
+
+/// Sets `out` to the hop of a table for an address: that which a program would find now. Returns 0, or the number of a refusal.
+#[unsafe(no_mangle)]
+pub unsafe extern "C" fn dpv_route_lookup(at: *mut u8, table: u32, ip: u32, out: &mut Hop) -> u32
+    ghost h: { Host }
+    requires* { sem 𝓛 (lies_at the_row full_share at h) }
+    ensures* { ∃ₛ (λ (h' : Host). sem 𝓛 (lies_at the_row full_share at h') ∗ ⌜ (h' ≡ h)
+        × LookupAnswers table ip h.running h.missing out.old out.new result ⌝) }
+{
+    host::route_found(&mut *(at as *mut Host), table, ip, out)
 }
 
 /// Ends the engine: frees every buffer and the region. Returns 0, or the number of a refusal.

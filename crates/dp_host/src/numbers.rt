@@ -75,12 +75,20 @@ pub struct Totals {
 #[repr(C)]
 #[derive(Clone, Copy, Drop)]
 pub struct Route {
+    /// The number of the table.
+    pub table: u32,
     /// The address; its bits below the depth are ignored.
     pub ip: u32,
-    /// The hop, which a deletion ignores.
+    /// How many of the first bits count, 1 to 32.
+    pub depth: u32,
+    /// The hop, up to 16,777,215; a deletion ignores it.
     pub hop: u32,
-    /// The number of the table.
-    pub table: u8,
-    /// The depth.
-    pub depth: u8,
+}
+
+/// The hop of an address.
+#[repr(C)]
+#[derive(Clone, Copy, Drop)]
+pub struct Hop {
+    /// That of the deepest route.
+    pub hop: u32,
 }

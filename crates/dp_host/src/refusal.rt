@@ -25,12 +25,14 @@ pub enum Refusal {
     BadDepth,
     /// The hop is above 16,777,215.
     BadHop,
-    /// The table has as many rules as it was made for.
+    /// The table has as many routes as it was made for.
     RulesFull,
-    /// The rule is deeper than 24 bits, and no group is left for it.
+    /// The route is deeper than 24 bits, and no group is left for it.
     GroupsFull,
-    /// There is no such rule.
+    /// The table has no such route.
     NoRule,
+    /// No route of the table is for the address.
+    NoRoute,
 }
 
 impl Refusal {
@@ -56,6 +58,7 @@ impl Refusal {
             Refusal::RulesFull => 27,
             Refusal::GroupsFull => 28,
             Refusal::NoRule => 29,
+            Refusal::NoRoute => 30,
         }
     }
 }

@@ -1,8 +1,9 @@
 //! An open engine, with a test for each condition of its calls.
 
-ghost use Rattle.std.specs.Prelude.{◌≡◌, ◌+◌, ◌<◌, ◌≤◌, length, None, IfOk, IfErr, IfSome, IfNone, OnOk, ℕ, List, Option};
+ghost use Rattle.std.specs.Prelude.{◌≡◌, ◌+◌, ◌<◌, ◌≤◌, length, Some, None, IfOk, IfErr, IfSome, IfNone, OnOk, ℕ, List, Option};
+ghost use Rattle.dp_model.specs.Prefixes.{hop_for};
 ghost use Rattle.dp_lpm.specs.declared.error.LpmError.{LpmError};
-ghost use Rattle.dp_lpm.specs.Changes.{AddsRoute, DeletesRoute};
+ghost use Rattle.dp_lpm.specs.Changes.{AddsRoute, DeletesRoute, HasTable};
 ghost use Rattle.dp_lpm.specs.Faults.{add_fault, delete_fault};
 ghost use Rattle.dp_lpm.specs.Routes.{RouteTable};
 ghost use Rattle.dp_model.specs.Meaning.{TablesFit};
@@ -11,7 +12,7 @@ ghost use Rattle.dp_engine.specs.Batches.{KeepsRest, Passes, max_batch};
 ghost use Rattle.dp_engine.specs.Engines.{flushed};
 ghost use Rattle.dp_engine.specs.Reports.{IsReport, IsWhole};
 ghost use Rattle.dp_engine.specs.Shapes.{AreWaiting};
-ghost use Rattle.dp_host.specs.Hosts.{RefusesPass, RefusesChange};
+ghost use Rattle.dp_host.specs.Hosts.{RefusesPass, RefusesChange, RefusesLookup};
 
 use crate::refusal::Refusal;
 use dp_engine::{BatchSize, Engine, Pass, Report, RouteFault, SentRecord};
@@ -22,11 +23,15 @@ use std::marker::Model;
 /// The maximum number of turns of an engine: 2^40.
 pub const MAX_ENGINE_TURNS: u64 = 1_099_511_627_776;
 
-/// An engine, its numbers of ports and rings, and the size that a batch needs.
+/// The depth of the deepest route, in bits of the address.
+pub const MAX_DEPTH: u32 = 32;
+
+/// An engine, its numbers of ports, rings and tables, and the size that a batch needs.
 pub struct Running {
     engine: Engine,
     ports: u32,
     rings: u32,
+    tables: u8,
     room: BatchSize,
 }
 
@@ -41,6 +46,7 @@ impl Model for Running {
 
     ghost invariant = { λ r. (r.ports ≡ length r.engine.setting.env.ports) × (r.ports ≤ 8)
         × (r.rings ≡ length r.engine.setting.env.rings) × (r.rings ≤ 8)
+        × (r.tables ≡ length r.engine.tables)
         × (r.room ≡ max_batch r.engine.setting.env) };
 }
 
@@ -60,12 +66,13 @@ fn refusal_of(fault: RouteFault) -> Refusal
 }
 
 impl Running {
-    /// Wraps an engine with this many ports and rings.
-    pub fn of(engine: Engine, ports: u32, rings: u32) -> Running
+    /// Wraps an engine with this many ports, rings and tables.
+    pub fn of(engine: Engine, ports: u32, rings: u32, tables: u8) -> Running
         requires ports { ports ≡ length engine.setting.env.ports }
         requires few_ports { ports ≤ 8 }
         requires rings { rings ≡ length engine.setting.env.rings }
         requires few_rings { rings ≤ 8 }
+        requires tables { tables ≡ length engine.tables }
         ensures { result ≡ engine }
     {
         let room = engine.batch_size();
@@ -73,6 +80,7 @@ impl Running {
             engine,
             ports,
             rings,
+            tables,
             room,
         }
     }
@@ -114,28 +122,54 @@ impl Running {
     }
 
     /// Adds a route to a table, or returns why it is refused.
-    pub fn add_route(&mut self, table: u8, ip: u32, depth: u8, hop: u32) -> Result<(), Refusal>
-        ensures rest { self.new ≡ with_tables self.new.tables self.old }
-        ensures fits { TablesFit self.new.setting }
+    pub fn add_route(&mut self, table: u32, ip: u32, depth: u32, hop: u32) -> Result<(), Refusal>
+        ensures rest { OnOk result (self.new ≡ with_tables self.new.tables self.old) }
+        ensures fits { OnOk result (TablesFit self.new.setting) }
         ensures ok { OnOk result (AddsRoute table ip depth hop self.old.tables self.new.tables) }
         ensures err { IfErr result (λ why. RefusesChange (λ t. add_fault t ip depth hop) table self.old.tables why × (self.new ≡ self.old)) }
     {
-        match self.engine.add_route(table, ip, depth, hop) {
+        if table >= u32::from(self.tables) {
+            return Err(Refusal::NoTable);
+        }
+        if depth > MAX_DEPTH {
+            return Err(Refusal::BadDepth);
+        }
+        match self.engine.add_route(table as u8, ip, depth as u8, hop) {
             Ok(()) => Ok(()),
             Err(fault) => Err(refusal_of(fault)),
         }
     }
 
     /// Deletes a route of a table, or returns why it is refused.
-    pub fn delete_route(&mut self, table: u8, ip: u32, depth: u8) -> Result<(), Refusal>
-        ensures rest { self.new ≡ with_tables self.new.tables self.old }
-        ensures fits { TablesFit self.new.setting }
+    pub fn delete_route(&mut self, table: u32, ip: u32, depth: u32) -> Result<(), Refusal>
+        ensures rest { OnOk result (self.new ≡ with_tables self.new.tables self.old) }
+        ensures fits { OnOk result (TablesFit self.new.setting) }
         ensures ok { OnOk result (DeletesRoute table ip depth self.old.tables self.new.tables) }
         ensures err { IfErr result (λ why. RefusesChange (λ t. delete_fault t ip depth) table self.old.tables why × (self.new ≡ self.old)) }
     {
-        match self.engine.delete_route(table, ip, depth) {
+        if table >= u32::from(self.tables) {
+            return Err(Refusal::NoTable);
+        }
+        if depth > MAX_DEPTH {
+            return Err(Refusal::BadDepth);
+        }
+        match self.engine.delete_route(table as u8, ip, depth as u8) {
             Ok(()) => Ok(()),
             Err(fault) => Err(refusal_of(fault)),
+        }
+    }
+
+    /// The hop of a table for an address, or why there is none.
+    pub fn route(&self, table: u32, ip: u32) -> Result<u32, Refusal>
+        ensures ok { IfOk result (λ hop. HasTable table self.now.tables (λ t. hop_for t.routes ip ≡ Some hop)) }
+        ensures err { IfErr result (λ why. RefusesLookup table ip self.now.tables why) }
+    {
+        if table >= u32::from(self.tables) {
+            return Err(Refusal::NoTable);
+        }
+        match self.engine.route(table as u8, ip) {
+            Some(hop) => Ok(hop),
+            None => Err(Refusal::NoRoute),
         }
     }
 
@@ -173,6 +207,7 @@ impl Running {
             engine,
             ports: _,
             rings: _,
+            tables: _,
             room: _,
         } = self;
         let (report, region) = engine.finish();

@@ -20,6 +20,10 @@ returns c =
       copies = c.uses_are_copied.ensures;
       nothing = c.uses_keep_safe.ensures.nothing;
       free = c.whole_runs_end_with_whole_pools.ensures.free;
+      join = c.uses_join.ensures.stretches;
+      one = c.uses_join.ensures.one;
+      safe_run = c.runs_keep_safe.ensures;
+      copied_run = c.clones_are_copies.ensures;
     } in
     let whole : PoolSpec → PoolReport = λ p. record { free = p.count; count = p.count } in
     let total : IsTotal e t = record {

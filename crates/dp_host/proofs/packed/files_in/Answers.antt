@@ -1,5 +1,4 @@
 use Rattle.std.proofs.Common.{◌≡◌, [], ◌∷◌, ◌++◌, length, sym, ap, subst, arith, length-append}
-use Rattle.dp_pipe.specs.declared.listed.NamedBytes.{NamedBytes}
 use Rattle.dp_host.specs.Packing.{AreFiles, ArePacked, NotPacked}
 use Rattle.dp_host.specs.declared.packed.Unread.TheVariants.{Form}
 use Rattle.dp_host.proofs.Files.{AreNamed, Taken, named_more, taken_more, all_packed, pushed, left_first, left_more, none_left, too_many, ok_then, err_then}

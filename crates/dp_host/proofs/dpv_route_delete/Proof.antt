@@ -1,8 +1,6 @@
 -- The engine's value is lent for the call, and so is the struct.
 use Rattle.std.proofs.Common.{◌≡◌, ℕ, List, [], ◌∷◌, refl, w32, MutBor}
-use Rattle.dp_lpm.specs.Faults.{add_fault}
-use Rattle.dp_host.specs.Calls.{Added}
-use Rattle.dp_host.specs.Hosts.{ChangeAnswers}
+use Rattle.dp_host.specs.Hosts.{DeleteAnswers}
 use Rattle.std.proofs.raw_atomic.Walks.{proved}
 use base.Fraction.{full_share}
 use base.Logic.{sep, emp, ex, ex_i, id⊢}
@@ -34,11 +32,11 @@ use denote.Triple.Clauses.{lasts}
 use denote.Triple.Spec.{triple_of}
 use denote.Triple.Table.{framed}
 use denote.Triple.Walked.{Stays, walk_of, stay_dropped, Goes-dropped, stay_ref, Goes-ref, ends_at}
-use Rattle.dp_host.specs.contracts.dpv_add_route as f
-use Rattle.dp_host.proofs.dpv_add_route.Statement.{statement}
-use Rattle.dp_host.proofs.dpv_add_route.Code as code
-use Rattle.dp_host.specs.contracts.host.route_added as g
-use Rattle.dp_host.proofs.host.route_added.Met.{met}
+use Rattle.dp_host.specs.contracts.dpv_route_delete as f
+use Rattle.dp_host.proofs.dpv_route_delete.Statement.{statement}
+use Rattle.dp_host.proofs.dpv_route_delete.Code as code
+use Rattle.dp_host.specs.contracts.host.route_deleted as g
+use Rattle.dp_host.proofs.host.route_deleted.Met.{met}
 use Rattle.dp_host.specs.contracts.host.Host.{the_row as R}
 use Rattle.dp_host.specs.contracts.numbers.Route.{the_row as F}
 
@@ -46,11 +44,10 @@ abbrev stayed : Stays f.ended.signature.params f.ended.kept
 stayed = (stay_dropped _ yes, (stay_ref (0 ∷ []) tt (plain (λ _. F)), tt))
 
 abbrev Says : R.Denot → ℕ → F.Denot → R.Denot → F.Denot → Type 0
-Says h n old h' x = ChangeAnswers (Added old.table old.ip old.depth old.hop) (λ t. add_fault t old.ip old.depth old.hop) old.table h.running h.missing
-    h'.running n × (h'.missing ≡ h.missing) × (h'.reason ≡ h.reason) × (x ≡ old)
+Says h n old h' x = DeleteAnswers old h.running h.missing h'.running n × (h'.missing ≡ h.missing) × (h'.reason ≡ h.reason) × (x ≡ old)
 
-pub dpv_add_route_spec : {M : Type 1} → statement M
-dpv_add_route_spec 𝓤 𝓛 𝓜 𝓡 wired =
+pub dpv_route_delete_spec : {M : Type 1} → statement M
+dpv_route_delete_spec 𝓤 𝓛 𝓜 𝓡 wired =
     let c = f.clauses 𝓛 𝓜.mem 𝓡.returns in let W = walk_of 𝓛 f.ended stayed c in let 𝓣 = tables 𝓤 𝓛.H 𝓜 𝓡 𝓡.env in
     proved 𝓛 f.ended stayed c 𝓜 𝓡
     (Goes-dropped 𝓛 1 (plain (λ _. RawPtr)) yes (λ κs x w. refl), (Goes-ref 𝓛 1 0 tt (plain (λ _. F)), tt))
@@ -89,7 +86,7 @@ dpv_add_route_spec 𝓤 𝓛 𝓜 𝓡 wired =
     -- [the arguments; what the frame's holder keeps; the lender's part; the token of β; that of α]
     nothing ! $ move ! (4 ∷ 0 ∷ []) $ join ! $ move ! (4 ∷ 0 ∷ []) $ join ! $ join ! $
     nothing ! $ move ! (1 ∷ 0 ∷ []) $ use2 𝓛 (raw (G.pre z)) (id⊢ 𝓤 _) $
-    calls_at ! (framed 𝓤 𝓛.H 𝓜 (tables 𝓤 𝓛.H 𝓜 𝓡 𝓡.env)) G (met 𝓤 𝓛 𝓜 𝓡 (code.calls-dp_host::host::route_added 𝓡.env wired)) z
+    calls_at ! (framed 𝓤 𝓛.H 𝓜 (tables 𝓤 𝓛.H 𝓜 𝓡 𝓡.env)) G (met 𝓤 𝓛 𝓜 𝓡 (code.calls-dp_host::host::route_deleted 𝓡.env wired)) z
     (and_then ! (get ! refl) (and_then ! (get ! refl) (no_more !))) (λ v.
     use1 𝓛 (later (some (λ (n : ℕ). ((‵ (flft (α ∷ []) full_share) ⊛ (‵ (flft (β ∷ []) full_share) ⊛ ‵ ftrue)) ⊛ ‵ (u32.own_val n (v ∷ []))) ⊛
     some (λ (ws : R.Denot × (F.Denot × Unit {0})). ‵ (lasts g.ended z.0.0 z.0.3 ws) ⊛ raw (fact 𝓤 (let (h', (out, _)) = ws in Says h n r.now h' out))))))
