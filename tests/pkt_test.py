@@ -546,6 +546,105 @@ send port"""
                 self.assertIsNone(refused(source))
 
 
+class Names(unittest.TestCase):
+    """Sets, statements with a name, files that are included, names of numbers, counters, and further headers before a known one."""
+
+    def test_sets(self) -> None:
+        source = "set IN = {10.0.0.0/8, 192.168.0.0/16}\nset ALL = {IN, 172.16.0.1..172.16.0.9}\nset WEB = {80, 443}\n"
+        frames = [tcp(2, port, dst=it) for port in (22, 80) for it in ("10.1.1.1", "192.168.3.4", "172.16.0.5", "172.16.0.10")]
+        self.assertEqual(sent(source + "need ipv4.dst in IN and tcp.dport in WEB\nsend port", *frames)[0], frames[4:6])
+        self.assertEqual(sent(source + "need ipv4.dst in ALL and not tcp.dport in {WEB, 5}\nsend port", *frames)[0], frames[:3])
+        self.assertEqual(count(source + "need ipv4.dst in IN send port"), count("need ipv4.dst in {10.0.0.0/8, 192.168.0.0/16} send port"))
+
+    def test_defs(self) -> None:
+        frame = udp(5, 53)
+        source = "def out(a) { mend ipv4.src = a }\ndef less(n) { let x = n + 1 if ipv4.ttl < x { drop } ipv4.ttl -= n }\nlet x = 3\n"
+        self.assertEqual(sent(source + "out(198.51.100.1)\nsend port", frame)[0], [udp(5, 53, src="198.51.100.1")])
+        self.assertEqual(sent(source + "less(x) less(2)\nif x == 3 { send port }", frame)[0], [frame[:22] + bytes([59]) + frame[23:]])
+        self.assertEqual(sent("def reply(p) { send p else drop }\nports 3\nreply(ipv4.ttl & 1)\n", frame)[0], [frame])
+        self.assertEqual(count("def f(a) { mend ipv4.src = a }\nf(5)\nsend port"), count("mend ipv4.src = 5\nsend port"))
+
+    def test_names(self) -> None:
+        source = "table ROUTES = 0\npool CLONES = 1\nport UP = 2\nring SLOW = 0\nports 3\n"
+        frame = udp(5, 53, dst="10.1.1.1")
+        self.assertEqual(sent(source + "clone c from CLONES\nsend c to UP\nlet hop = lookup ROUTES ipv4.dst\nsend hop", frame), [[], [frame], [frame]])
+        self.assertIn("enq p0,0", compile_text(source + "if port == UP { drop }\nqueue SLOW"))
+        # These words are names elsewhere.
+        self.assertEqual(sent("let count = 1\nlet set = 2\nlet table = count + set\ncount += 1\nif table == 3 and count == 2 { send port }", frame)[0], [frame])
+
+    def test_further_headers_before(self) -> None:
+        source = """header pppoe { vt:8 code:8 session:16 length:16 proto:16 } after eth if eth.type == 0x8864
+extend ipv4 after pppoe if pppoe.proto == 0x21
+"""
+        inner, less = (ipv4(1, bytes(8), ttl=it) for it in (64, 63))
+        frame = eth(bytes.fromhex("1100000100320021") + inner, 0x8864)
+        rule = "if ipv4 { mend ipv4.ttl -= 1 }\nsend port"
+        self.assertEqual(sent(source + "if pppoe { }\n" + rule, frame, eth(inner))[0], [frame[:22] + less, eth(less)])
+        self.assertEqual(sent(source + rule, frame, eth(inner))[0], [frame, eth(less)])
+        self.assertEqual(sent(source + "need pppoe/ipv4\npop pppoe\neth.type = 0x0800\nsend port", frame)[0], [eth(inner)])
+
+    def test_counters(self) -> None:
+        source = "if udp.dport == 53 { count dns } else if udp { count other }\nif udp.sport == 5 { count dns drop }\nsend port"
+        text = compile_text(source)
+        program = programs.assemble(text.encode())
+        world = World(ENV, [program, FREES, FREES, FREES], frozenset())
+        frames = [udp(5, 53), udp(6, 53), udp(5, 54), udp(6, 7), udp(8, 9), tcp(2, 53)]
+        run(world, [Input([(0, 0, frame) for frame in frames], "whole"), Input([], "whole"), Input([], "whole")])
+        notes = [it.split("# ")[1] for it in text.splitlines()[1:] if not it.endswith(":")]
+        counts = {name: sum(ran for note, (ran, _, _) in zip(notes, world.tally[0]) if note.startswith(f"count {name}: ")) for name in ("dns", "other")}
+        self.assertEqual(counts, {"dns": 4, "other": 3})
+        # A length that a later statement needs is not tested before a counter.
+        self.assertRegex(compile_text("need length > 20\ncount here\nneed length > 40\nsend port"), r"iflen p0,21[^\n]*\n *add r0,0[^\n]*\n *iflen p0,41")
+
+    def test_files_that_are_included(self) -> None:
+        with tempfile.TemporaryDirectory() as name:
+            folder = pathlib.Path(name)
+            (folder / "sub").mkdir()
+            (folder / "net.pkt").write_text('include "sub/more.pkt"\ninclude "net.pkt"\ndef out(a) {\n    mend ipv4.src = a\n}\n')
+            (folder / "sub/more.pkt").write_text('set IN = {10.0.0.0/8}\ninclude "../net.pkt"\n')
+            text = compile_text('include "net.pkt"\nif ipv4.src in IN { out(1.2.3.4) }\nsend port', "x.pkt", folder)
+            plain = compile_text("if ipv4.src in 10.0.0.0/8 { mend ipv4.src = 1.2.3.4 }\nsend port")
+            self.assertEqual([it.split("#")[0] for it in text.splitlines()], [it.split("#")[0] for it in plain.splitlines()])
+            self.assertIn("# net.pkt:4: mend ipv4.src = a", text)
+            self.assertIn("# 2: if ipv4.src in IN", text)
+            for file, source, wanted in (
+                ("drop", 'include "a.pkt"', "a.pkt:1:1: an included file has only declarations"),
+                ("\nconst A = B", 'include "a.pkt"', "a.pkt:2:11: a constant is wanted here"),
+                ("", 'include "b.pkt"', "x.pkt:1:9: " + str(folder / "b.pkt") + " cannot be read: No such file or directory"),
+                ("def f() {\n  mend eth.src = 5\n}", 'include "a.pkt"\nf()', "a.pkt:2:3: no checksum covers eth.src\n      mend eth.src = 5"),
+            ):
+                (folder / "a.pkt").write_text(file)
+                with self.assertRaises(SourceError) as caught:
+                    compile_text(source, "x.pkt", folder)
+                self.assertIn(wanted, error_text(caught.exception, "x.pkt", source))
+
+    def test_errors(self) -> None:
+        wanted = {
+            "set A = 5": "1:9: '{' is wanted here",
+            "set A = {eth.type}": "1:10: a constant is wanted here",
+            "set A = {5}\nlet x = A": "2:9: A is a set, and no number",
+            "set A = {10.0.0.0/8}\nneed ipv4.ttl in A": "the address has 32 bits, and the field before `in` 8",
+            "table A = 4": "1:11: the table is from 0 to 3, and this is 4",
+            "table A = 0\nclone c from A": "2:14: A is a table, and a pool is wanted here",
+            "table A = 0\nlet x = A": "2:9: A is a table, and no number",
+            "def f(a) { f(a) }\nf(1)": "1:12: f is used in itself",
+            "def f(a) { drop }\nf(1, 2)": "2:1: f(a) has 1 numbers, and here are 2",
+            "def f() { drop": "the block of f has no end",
+            "def f() { send x }\nlet x = 1\nf()": "1:16: x is no variable here",
+            "def f(a) { clone c from 0 ipv4.id = a }\nf(1)": "c (line 1) shares them",
+            "extend ipv4 after udp if udp.dport == 5": "1:19: ipv4 cannot follow udp, which it comes before",
+            "extend eth after vlan if vlan.vid == 5": "1:18: eth cannot follow vlan",
+            "extend ipv4 after eth if eth.type == 5": "ipv4 follows eth already",
+            'include "x.pkt"': "1:9: a text that is no file includes none",
+            "truncate ipv4.len + 14": "1:10: `truncate` keeps a constant number of bytes",
+        }
+        for source, text in wanted.items():
+            with self.subTest(source):
+                with self.assertRaises(SourceError) as caught:
+                    compile_text(source)
+                self.assertIn(text, error_text(caught.exception, "x.pkt", source))
+
+
 class Page(unittest.TestCase):
     """What docs/users/pkt.md says of headers and of its first program."""
 

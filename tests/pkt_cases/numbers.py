@@ -48,6 +48,8 @@ class Numbers:
         self.variables: list[str] = []
         self.constants: dict[str, int] = {}
         self.likely: list[str] = []
+        # The sets by the bits of their numbers.
+        self.sets: dict[int, list[str]] = {}
 
     def chance(self, part: float) -> bool:
         """Whether something that happens so often happens now."""
@@ -167,6 +169,8 @@ class Numbers:
         wide = [f"{name}.{it}" for name, header in self.headers.items() for it in header.wide if name in self.likely or self.chance(0.1)]
         if wide and self.chance(0.4):
             return self.of_wide(rng.choice(wide))
+        if (named := self.sets.get(self.width(field))) and self.chance(0.7):
+            return rng.choice((f"{field} in {named[0]}", f"{field} in {{{named[-1]}, {self.value_for(field)}}}"))
         if self.width(field) == 32 and self.chance(0.6):
             return f"{field} in {rng.choice(NETS)}"
         if self.chance(0.15):

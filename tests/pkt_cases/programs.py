@@ -7,7 +7,7 @@ from random import Random
 from pkt_model.reader import read
 from pkt_model.syntax import Bits, Header
 
-from .numbers import SIXES, Numbers
+from .numbers import NETS, SIXES, Numbers
 
 INDENT = "    "
 MAX_SEGMENTS = 64
@@ -68,6 +68,7 @@ class Writer:
         # Where a packet is quoted, checksums lie within what others cover.
         self.numbers.likely += ["icmp", "quoted", "inner"] if "quoted" in headers else []
         self.names = 0
+        self.functions: list[str] = []
         self.left = rng.choice((2, 3, 3, 4, 4, 5, 6, 8, 12))
         self.whiles = rng.choice((0, 0, 1, 1, 2))
 
@@ -452,6 +453,7 @@ class Writer:
             lines.append(f"ports {self.setting.ports}")
         if self.setting.segments != 1:
             lines.append(f"segments {self.setting.segments}")
+        lines += self.named()
         for _ in range(self.rng.choice((0, 0, 0, 1, 2))):
             name = self.name("K")
             self.numbers.constants[name] = self.rng.getrandbits(16)
@@ -461,6 +463,35 @@ class Writer:
         state = State(segments=self.setting.segments)
         made, _ = self.block(state, DEPTH)
         return "\n".join([*lines, *made]) + "\n"
+
+    def named(self) -> Lines:
+        """Sets, and `def` with statements that write no packet."""
+        lines = []
+        for _ in range(self.rng.choice((0, 0, 0, 1, 2))):
+            name, field = self.name("S"), self.numbers.field()
+            if self.numbers.width(field) == 32:
+                items = [self.rng.choice((*NETS, "192.0.2.7", "10.0.0.0..10.255.255.255")) for _ in range(self.rng.choice((1, 2, 3)))]
+            else:
+                items = [self.numbers.item(field) for _ in range(self.rng.choice((1, 2, 3)))]
+            lines.append(f"set {name} = {{{', '.join(items)}}}")
+            self.numbers.sets.setdefault(self.numbers.width(field), []).append(name)
+        if self.chance(0.15):
+            name, field = self.name("f"), self.numbers.field()
+            self.numbers.variables += ["a", "b"]
+            body = [f"let c = {self.number()}", f"if a {self.numbers.comparison()} {self.number(1)} {{ count low{name} c ^= b }}"]
+            body += [f"if {field.split('.')[0]} {{ {field} += c }}"] if self.may_write(State()) else []
+            del self.numbers.variables[-2:]
+            lines.append(f"def {name}(a, b) {{ {' '.join(body)} }}")
+            self.functions.append(name)
+        return lines
+
+    def call(self, state: State, _deep: int) -> tuple[Lines, bool] | None:
+        """The statements of a `def`, or a counter."""
+        if self.chance(0.2):
+            return [f"count {self.name('n')}"], False
+        if not self.functions or not state.may_write():
+            return None
+        return [f"{self.rng.choice(self.functions)}({self.numbers.simple()}, {self.number(1)})"], False
 
     def otherwise(self) -> str:
         """What `otherwise` does."""
@@ -496,6 +527,7 @@ MAKERS: list[tuple[Callable[[Writer, State, int], tuple[Lines, bool] | None], fl
     (Writer.release_held, 0.5),
     (Writer.cut_named, 0.4),
     (Writer.push, 0.8),
+    (Writer.call, 0.5),
     (Writer.push_own, 1.0),
     (Writer.push_own, 1.0),
     (Writer.pop, 0.8),

@@ -52,10 +52,14 @@ def asked_of(header: Header, before: str) -> dict[str, int]:
 def followers(headers: dict[str, Header]) -> dict[str, frozenset[str]]:
     """For each header, all headers that follow it, directly or not."""
     found: dict[str, frozenset[str]] = {}
-    for name in reversed(headers):
-        direct = [header.name for header in headers.values() if name in header.after]
-        found[name] = frozenset(direct).union(*(found[follower] for follower in direct))
-    return found
+
+    def of(name: str) -> frozenset[str]:
+        if name not in found:
+            direct = [header.name for header in headers.values() if name in header.after]
+            found[name] = frozenset(direct).union(*(of(follower) for follower in direct))
+        return found[name]
+
+    return {name: of(name) for name in headers}
 
 
 def written(header: Header, values: dict[str, int | None], asked: dict[str, int]) -> bytes:

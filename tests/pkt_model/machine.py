@@ -10,7 +10,7 @@ from model.machine import BACKWARD, HEADROOM, Buffer, Env, Packet, Segment, Worl
 from .arithmetic import BINARY, COMPARE, MASK, folded, words
 from .fields import asked_of, bits_at, fields_in, followers, put_bits, words_of, written
 from .syntax import (
-    Arrival, Assign, AssignWide, Binary, Block, Both, Chain, Clone, Complement, Condition, Constant, Cut, Drop, Either, Field, Free, Header, If,
+    Arrival, Assign, AssignWide, Binary, Block, Both, Chain, Clone, Complement, Condition, Constant, Count, Cut, Drop, Either, Field, Free, Header, If, Inline,
     Length, Let, Lookup, Need, Negated, New, Number, Pop, Present, Program, Push, Queue, Send, Sum, Truncate, Truth, Variable, While,
 )
 
@@ -328,6 +328,12 @@ class SourceRun:
         else:
             self.block(it.otherwise or [])
 
+    def do_inline(self, it: Inline) -> None:
+        self.block(it.body)
+
+    def do_count(self, _it: Count) -> None:
+        """Changes nothing."""
+
     def do_while(self, it: While) -> None:
         self.headers.forget()
         while self.holds(it.condition):
@@ -495,6 +501,8 @@ DO: dict[type, Callable[[SourceRun, object], None]] = {
     Pop: SourceRun.do_pop,
     Cut: SourceRun.do_cut,
     Truncate: SourceRun.do_truncate,
+    Count: SourceRun.do_count,
+    Inline: SourceRun.do_inline,
 }  # type: ignore[dict-item]
 
 

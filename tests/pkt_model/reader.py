@@ -1,13 +1,14 @@
 """Reads a text of the language pkt by the grammar of docs/users/pkt.md. It checks the grammar alone: names and types are the compiler's part."""
 import re
 from collections.abc import Callable
+from dataclasses import replace
 from functools import lru_cache
 from typing import NamedTuple, TypeVar
 
 from .arithmetic import BINARY, MASK
 from .syntax import (
-    Arrival, Assign, AssignWide, Binary, Bits, Block, Both, Chain, Clone, Compare, Complement, Condition, Constant, Cut, Drop, Either, Extent, Field, Free,
-    Header, If, Length, Let, Lookup, Need, Negated, New, Number, Pop, Present, Program, Push, Pushed, Queue, Send, Statement, Sum, Truncate, Truth,
+    Arrival, Assign, AssignWide, Binary, Bits, Block, Both, Chain, Clone, Compare, Complement, Condition, Constant, Count, Cut, Drop, Either, Extent, Field, Free,
+    Header, If, Inline, Length, Let, Lookup, Need, Negated, New, Number, Pop, Present, Program, Push, Pushed, Queue, Send, Statement, Sum, Truncate, Truth,
     Variable, While, Wide,
 )
 
@@ -88,6 +89,10 @@ class Reader:
     def __init__(self, text: str, headers: dict[str, Header]) -> None:
         self.tokens, self.at = tokens(text), 0
         self.constants: dict[str, Constant | Wide] = {}
+        # Where the items of each set begin; the parameters of each `def`, and where its block begins; what its names end with where it is used.
+        self.sets: dict[str, int] = {}
+        self.functions: dict[str, tuple[list[str], int]] = {}
+        self.suffix, self.inlined = "", 0
         self.program = Program(dict(headers), [])
 
     @property
@@ -191,7 +196,7 @@ class Reader:
             return Present(self.path(name))
         if name in self.constants:
             return self.constants[name]
-        return Variable(name)
+        return Variable(name + self.suffix)
 
     def field_of(self, header: str) -> Field | Wide:
         """A field of a header; one of 128 bits is two."""
@@ -244,10 +249,21 @@ class Reader:
 
     def membership(self, left: Number) -> Condition:
         """The items after `in`: one comparison for each."""
-        items = self.each("}", lambda: self.item(left)) if self.takes("{") else [self.item(left)]
+        lists = self.each("}", lambda: self.items(left)) if self.takes("{") else [self.items(left)]
+        items = [item for listed in lists for item in listed]
         found = items[0]
         for item in items[1:]:
             found = Either(found, item)
+        return found
+
+    def items(self, left: Number) -> list[Condition]:
+        """An item, or those of a set, which are read once more."""
+        if self.token.kind != "name" or self.token.text not in self.sets:
+            return [self.item(left)]
+        begin = self.sets[self.take().text]
+        end, self.at = self.at, begin
+        found = [item for listed in self.each("}", lambda: self.items(left)) for item in listed]
+        self.at = end
         return found
 
     def item(self, left: Number) -> Condition:
@@ -304,8 +320,44 @@ class Reader:
             header = self.header()
             self.program.headers[header.name] = header
         else:
-            return False
+            return self.naming()
         return True
+
+    def naming(self) -> bool:
+        """Reads the declaration of a set, a `def`, a name of a number or a further header before one, if one is next, and says whether."""
+        kind, (word, after) = self.token.text, self.tokens[self.at + 1 : self.at + 3] if self.at + 2 < len(self.tokens) else [self.token] * 2
+        if word.kind != "name" or kind not in ("set", "def", "table", "pool", "ring", "port", "extend") or kind == "port" and after.text != "=":
+            return False
+        self.take()
+        name = self.name()
+        if kind == "set":
+            self.want("=")
+            self.want("{")
+            self.sets[name] = self.at
+            self.skip()
+        elif kind == "def":
+            self.want("(")
+            self.functions[name] = self.each(")", self.name), self.at
+            self.want("{")
+            self.skip()
+        elif kind == "extend":
+            self.want("after")
+            other = self.name()
+            self.want("if")
+            header = self.program.headers[name]
+            self.program.headers[name] = replace(header, after={**header.after, other: self.condition()})
+        else:
+            self.want("=")
+            self.constants[name] = Constant(self.constant())
+        return True
+
+    def skip(self) -> None:
+        """Reads to the closing brace."""
+        deep = 1
+        while deep:
+            deep += (self.token.text == "{") - (self.token.text == "}")
+            if self.take().kind == "end":
+                raise self.fault("'}' is wanted")
 
     def given(self) -> None:
         """What a ring declares; only the path says what the program does."""
@@ -402,9 +454,14 @@ class Reader:
 
     def statement(self) -> Statement:
         """A statement."""
-        line = self.token.line
+        line, following = self.token.line, self.tokens[min(self.at + 1, len(self.tokens) - 1)]
         read = STATEMENTS.get(self.token.text) if self.token.kind == "name" else None
-        if read is None:
+        if read is None and self.token.text == "count" and following.kind == "name":
+            self.take()
+            statement: Statement = Count(self.name())
+        elif read is None and self.token.text in self.functions and following.text == "(":
+            statement = self.call()
+        elif read is None:
             statement = self.assignment(False)
         else:
             self.take()
@@ -412,9 +469,29 @@ class Reader:
         self.program.lines[id(statement)] = line
         return statement
 
+    def call(self) -> Statement:
+        """The statements of a `def`, whose names are its own."""
+        parameters, begin = self.functions[self.take().text]
+        self.want("(")
+        values = self.each(")", self.number)
+        if len(values) != len(parameters):
+            raise self.fault(f"{len(parameters)} numbers are wanted before this")
+        end, constants, suffix = self.at, self.constants, self.suffix
+        self.inlined += 1
+        self.at, self.constants, self.suffix = begin, dict(constants), f"'{self.inlined}"
+        lets: Block = []
+        for name, value in zip(parameters, values):
+            if isinstance(value, Constant | Wide):
+                self.constants[name] = value
+            else:
+                lets.append(Let(name + self.suffix, value))
+        body = self.block()
+        self.at, self.constants, self.suffix = end, constants, suffix
+        return Inline([*lets, *body])
+
     def let(self) -> Statement:
         """A new variable."""
-        name = self.name()
+        name = self.name() + self.suffix
         self.want("=")
         if not self.takes("lookup"):
             return Let(name, self.number())
@@ -424,7 +501,7 @@ class Reader:
     def assignment(self, mends: bool) -> Statement:
         """Another value for a variable or a field."""
         name = self.name()
-        target = self.field_of(name) if self.takes(".") else Variable(name)
+        target = self.field_of(name) if self.takes(".") else Variable(name + self.suffix)
         if isinstance(target, Wide):
             self.want("=")
             value = self.number()
@@ -459,7 +536,7 @@ class Reader:
         if self.takes("this", "to"):
             return None
         if self.token.kind == "name" and self.tokens[self.at + 1].text == "to":
-            name = self.name()
+            name = self.name() + self.suffix
             self.want("to")
             return name
         return None
@@ -476,13 +553,13 @@ class Reader:
 
     def from_pool(self) -> tuple[str, int, Block | None]:
         """A name, the pool, and the `else` part."""
-        name = self.name()
+        name = self.name() + self.suffix
         self.want("from")
         return name, self.constant(), self.otherwise()
 
     def chain(self) -> Statement:
         """A named packet before the packet."""
-        name = self.name()
+        name = self.name() + self.suffix
         self.want("before")
         self.want("this")
         return Chain(name)
@@ -505,14 +582,14 @@ class Reader:
         headers = [self.pushed()]
         while self.token.kind == "name" and self.tokens[self.at + 1].text == "{":
             headers.append(self.pushed())
-        return Push(headers, self.name() if self.takes("on") else None)
+        return Push(headers, self.name() + self.suffix if self.takes("on") else None)
 
     def packet_and_count(self) -> tuple[str | None, int]:
         """A packet, if one is named, and a number of bytes."""
         name = self.token.text
         if self.takes("this") or self.token.kind != "name" or name in self.constants:
             return None, self.constant()
-        return self.name(), self.constant()
+        return self.name() + self.suffix, self.constant()
 
 
 STATEMENTS: dict[str, Callable[[Reader], Statement]] = {
@@ -526,7 +603,7 @@ STATEMENTS: dict[str, Callable[[Reader], Statement]] = {
     "queue": Reader.queue,
     "clone": lambda reader: Clone(*reader.from_pool()),
     "new": lambda reader: New(*reader.from_pool()),
-    "free": lambda reader: Free(reader.name()),
+    "free": lambda reader: Free(reader.name() + reader.suffix),
     "chain": Reader.chain,
     "push": Reader.push,
     "pop": lambda reader: Pop(reader.path()),

@@ -35,7 +35,7 @@ class Either(Part): left: Condition; right: Condition
 class Negated(Part): inner: Condition
 Condition = Truth | Compare | Present | Both | Either | Negated  # noqa: E305
 
-# Statements. `otherwise` is the `else` part. The packet itself has no name, and is None; a field that is None is `auto`.
+# Statements. `Inline` are those of a `def`. `otherwise` is the `else` part. The packet itself has no name, and is None; a field that is None is `auto`.
 class Let(Part): name: str; number: Number  # noqa: E302
 class Lookup(Part): name: str; table: int; number: Number; otherwise: Block | None
 class Assign(Part): target: Variable | Field; number: Number; mends: bool = False
@@ -55,7 +55,9 @@ class Push(Part): headers: list[Pushed]; on: str | None
 class Pop(Part): path: tuple[str, ...]
 class Cut(Part): packet: str | None; count: int
 class Truncate(Part): packet: str | None; count: int
-Statement = Let | Lookup | Assign | AssignWide | If | While | Need | Drop | Send | Queue | Clone | New | Free | Chain | Push | Pop | Cut | Truncate  # noqa: E305
+class Count(Part): name: str
+class Inline(Part): body: Block
+Statement = Let | Lookup | Assign | AssignWide | If | While | Need | Drop | Send | Queue | Clone | New | Free | Chain | Push | Pop | Cut | Truncate | Count | Inline  # noqa: E305
 Block = list[Statement]
 # fmt: on
 

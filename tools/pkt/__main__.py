@@ -21,7 +21,7 @@ def main() -> int:
     path = pathlib.Path(sys.argv[1])
     try:
         source = path.read_text(encoding="utf-8")
-        text = compile_text(source, path.name)
+        text = compile_text(source, path.name, path.parent)
     except (OSError, UnicodeDecodeError) as error:
         print(f"{path}: {error.strerror if isinstance(error, OSError) else 'it is no UTF-8 text'}", file=sys.stderr)
     except SourceError as error:

@@ -5,7 +5,7 @@ from functools import lru_cache
 from .headers import Headers
 from .parser import Parser, Program
 from .statements import compile_program
-from .syntax import SourceError
+from .syntax import Row, SourceError
 from .writer import printable, write
 
 PRELUDE = pathlib.Path(__file__).resolve().parent / "prelude.pkt"
@@ -19,23 +19,39 @@ def known_headers() -> Headers:
     return Parser(PRELUDE.read_text(encoding="utf-8"), Headers()).program().headers
 
 
-def parse(source: str) -> Program:
-    """Parses a text."""
-    return Parser(source, Headers(known_headers())).program()
+def parse(source: str, folder: pathlib.Path | None = None) -> Program:
+    """Parses a text, which may include files of a folder."""
+    parser = Parser(source, Headers(known_headers()), folder)
+    try:
+        return parser.program()
+    except SourceError as error:
+        raise placed(error, parser.rows) from None
 
 
-def compile_text(source: str, name: str = "a text") -> str:
-    """The node program of a text; raises SourceError."""
-    graph = compile_program(parse(source))
-    graph.shorten(MAX_INSTRUCTIONS)
-    return f"# Built from {printable(name)} by `dpv build`; docs/users/pkt.md has its language.\n" + write(graph, source)
+def placed(error: SourceError, rows: list[Row]) -> SourceError:
+    """An error with its place in the file where it is."""
+    row = rows[error.at.line] if 0 < error.at.line < len(rows) else None
+    if row is not None and row.path is not None:
+        error.at, error.row = error.at._replace(line=row.number), row
+    return error
+
+
+def compile_text(source: str, name: str = "a text", folder: pathlib.Path | None = None) -> str:
+    """The node program of a text, which may include files of a folder; raises SourceError."""
+    program = parse(source, folder)
+    try:
+        graph = compile_program(program)
+        graph.shorten(MAX_INSTRUCTIONS)
+        return f"# Built from {printable(name)} by `dpv build`; docs/users/pkt.md has its language.\n" + write(graph, program.rows)
+    except SourceError as error:
+        raise placed(error, program.rows) from None
 
 
 def error_text(error: SourceError, name: str, source: str) -> str:
     """The message of an error: its place, its line, and a cure."""
     at, rows = error.at, source.split("\n")
-    lines = [f"{name}:{at.line}:{at.column}: {error.message}"]
-    if 0 < at.line <= len(rows):
-        row = rows[at.line - 1].replace("\t", " ")
+    lines = [f"{error.row.path if error.row else name}:{at.line}:{at.column}: {error.message}"]
+    if error.row or 0 < at.line <= len(rows):
+        row = (error.row.text if error.row else rows[at.line - 1]).replace("\t", " ")
         lines += [f"    {row}", "    " + " " * (at.column - 1) + "^" * max(1, min(len(at.word), len(row) - at.column + 1))]
     return "\n".join([*lines, *([f"  help: {error.cure}"] if error.cure else [])])

@@ -2,7 +2,7 @@
 from __future__ import annotations
 
 from collections.abc import Iterable
-from dataclasses import dataclass, field
+from dataclasses import dataclass, field, replace
 from typing import NamedTuple
 
 from .syntax import And, Compare, Field, Name, Node, Number, Place, parts, require
@@ -66,6 +66,15 @@ class Header:
 
 class Headers(dict[str, Header]):
     """All headers of a text by name, in order of declaration."""
+
+    def extend(self, name: str, other: str, condition: Node) -> None:
+        """Lets a header follow another one too."""
+        self[name] = replace(self[name], follows={**self[name].follows, other: condition})
+        before: dict[str, frozenset[str]] = {}
+        while before != {it: header.before for it, header in self.items()}:
+            before = {it: header.before for it, header in self.items()}
+            for it, header in self.items():
+                self[it] = replace(header, before=frozenset({it}).union(*(self[follows].before for follows in header.follows)))
 
     def in_order(self, names: Iterable[str]) -> list[str]:
         """Names in order of declaration, each once."""

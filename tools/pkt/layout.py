@@ -16,13 +16,15 @@ HARMLESS = {*WRITES, *TESTS}
 @dataclass(eq=False)
 class Instruction:
     """An instruction and its line of the source, 0 for none; the instruction after it, and the target of its jump. One without a word means
-    the instruction after it. `shares` is the sharing that it relies on, `left` the line of a jump after it. A `jmp` starts a round of a loop."""
+    the instruction after it. `shares` is the sharing that it relies on, `left` the line of a jump after it, `counter` the name by which its runs
+    are counted. A `jmp` starts a round of a loop."""
 
     word: str = ""
     operands: tuple[str, ...] = ()
     line: int = 0
     shares: object = ()
     left: int = 0
+    counter: str = ""
     next: Instruction | None = None
     target: Instruction | None = None
 
@@ -78,7 +80,7 @@ class Graph:
         for it in reversed(self.order()):
             it.next, it.target = instead.get(it.next, it.next), instead.get(it.target, it.target)
             is_idle = it.next and (not it.word or it.word in TESTS and it.next is it.target)
-            instead[it] = it.next if is_idle else same.setdefault((it.word, it.operands, it.shares, it.next, it.target), it)
+            instead[it] = it.next if is_idle else same.setdefault((it.word, it.operands, it.shares, it.counter, it.next, it.target), it)
         for it in instead:
             if it:
                 it.target = instead.get(it.target, it.target)
@@ -139,7 +141,7 @@ def sure_to_come(order: list[Instruction], packet: int, end: Instruction, read: 
     shorter = {end: ENDLESS}
     for it in order:
         there, after = shorter.get(it.target, 0) if it.target else ENDLESS, shorter.get(it.next, 0)
-        if it.word not in HARMLESS or it.word in WRITES and it.operands[0] in read:
+        if it.counter or it.word not in HARMLESS or it.word in WRITES and it.operands[0] in read:
             found = 0
         elif it.word == "iflen" and it.packet == packet:
             found = max(it.count, after) if there >= it.count else there

@@ -1,8 +1,9 @@
 """The lexer: the words of a text, and reading them one after another."""
 import re
+from pathlib import Path as File
 
 from .headers import Headers
-from .syntax import Path, Place, require
+from .syntax import Path, Place, Row, require
 
 WORD = re.compile(
     r"(?P<blank>[ \t\r]+|\#[^\n]*)|(?P<line>\n)"
@@ -24,9 +25,9 @@ CURES = {
 }  # fmt: skip
 
 
-def words_of(text: str) -> list[tuple[str, Place]]:
-    """The words of a text, each with its kind, and one for its end."""
-    found, line, begin = [], 1, 0
+def words_of(text: str, line: int = 1) -> list[tuple[str, Place]]:
+    """The words of a text that begins in this line, each with its kind, and one for its end."""
+    found, begin = [], 0
     for match in WORD.finditer(text):
         kind, at = str(match.lastgroup), Place(line, match.start() - begin + 1, match.group())
         require_word(kind != "wrong", at, f"no word begins with {at.word!r}")
@@ -43,10 +44,21 @@ def require_word(holds: object, at: Place, message: str) -> None:
 
 
 class Lexer:
-    """Reads the words of one text; headers may be declared already."""
+    """Reads the words of one text; headers may be declared already. `rows` has its lines, from 1 on, and then those of the files it includes."""
 
     def __init__(self, text: str, headers: Headers) -> None:
         self.words, self.next, self.headers = words_of(text), 0, headers
+        self.rows = [Row(None, number, row) for number, row in enumerate(["", *text.split("\n")])]
+
+    def insert(self, path: File, text: str) -> None:
+        """Puts the words of a file before the next word."""
+        first = len(self.rows)
+        self.rows += [Row(path, number, row) for number, row in enumerate(text.split("\n"), 1)]
+        self.words[self.next : self.next] = words_of(text, first)[:-1]
+
+    def starts(self, *words: str) -> bool:
+        """Whether the next word is one of these, and a name or a text is after it."""
+        return self.sees(*words) and self.words[min(self.next + 1, len(self.words) - 1)][0] in ("name", "string")
 
     def place(self, further: int = 0) -> Place:
         """The next word, or one further on."""

@@ -3,13 +3,15 @@ import ipaddress
 import operator
 from collections.abc import Iterator
 from contextlib import contextmanager
-from dataclasses import dataclass, replace
+from dataclasses import dataclass, field, replace
+from pathlib import Path as File
+from typing import NamedTuple
 
 from .headers import Header, Headers, Span, check
 from .lexer import RESERVED, Lexer, require_word
 from .syntax import (
-    BIGGEST, PORT, THIS, And, Assign, Binary, Block, Chain, Clone, Compare, Cut, Drop, Field, Found, Free, If, Length, Let, Lookup, Mend, Name, Need,
-    New, Node, Not, Number, Numeric, Or, Path, Place, Pop, Push, Pushed, Send, SourceError, Truncate, While, Wide, goes_on, parts, require,
+    BIGGEST, PORT, PRIME, THIS, And, Assign, Binary, Block, Chain, Clone, Compare, Count, Cut, Drop, Field, Found, Free, If, Inline, Length, Let, Lookup, Mend, Name, Need,
+    New, Node, Not, Number, Numeric, Or, Path, Place, Pop, Push, Pushed, Row, Send, SourceError, Truncate, While, Wide, goes_on, parts, require,
 )
 
 OPERATORS = {
@@ -24,20 +26,40 @@ NOT, NUMBERS = 2, 3
 # How many digits a number has, how many parentheses or braces lie in one another, how many operators follow one another, how many items a
 # list has, how many statements a text, and how many headers follow one another.
 MAX_DIGITS, MAX_NESTING, MAX_OPERATORS, MAX_ITEMS, MAX_STATEMENTS, MAX_HEADERS = 20, 40, 200, 1_024, 4_096, 32
-LIMITS = {"table": 3, "ring": 7, "pool": 7, "count": 65_535, "length": 4_096, "number of ports": 8, "number of segments": 64, "headroom": 65_535}
+LIMITS = {"port": 7, "table": 3, "ring": 7, "pool": 7, "count": 65_535, "length": 4_096, "number of ports": 8, "number of segments": 64, "headroom": 65_535}
 # The syntax after the first word of a statement: methods of the parser, words, and constants within limits.
 STATEMENTS: dict[str, tuple[type[Node], str]] = {
     "let": (Let, ""), "if": (If, "condition block other_block"), "while": (While, "condition block"), "need": (Need, "condition fallback"),
     "drop": (Drop, ""), "send": (Send, "packet_to number fallback"), "queue": (Send, "packet_to ring fallback"),
     "clone": (Clone, "packet 'from pool fallback"), "new": (New, "packet 'from pool fallback"), "free": (Free, "packet_held"),
     "chain": (Chain, "packet_held 'before 'this"), "push": (Push, "pushed packet_on"), "pop": (Pop, "path"),
-    "cut": (Cut, "packet_first count"), "truncate": (Truncate, "packet_first length"),
+    "cut": (Cut, "packet_first count"), "truncate": (Truncate, "packet_first kept"),
 }  # fmt: skip
+
+
+# The words that begin a declaration where a name or a text is after them; elsewhere they are names.
+WORDS = ("set", "def", "include", "table", "pool", "ring", "extend")
+
+
+class Item(NamedTuple):
+    """An item after `in`: a number, the first and the last number of a range, or a constant and how many of its bits are a prefix."""
+
+    at: Place
+    number: Node
+    last: Number | None = None
+    depth: int | None = None
+
+
+class Function(NamedTuple):
+    """A `def`: its parameters, and where its block begins."""
+
+    parameters: tuple[str, ...]
+    begin: int
 
 
 @dataclass
 class Program:
-    """A text: its declarations and its statements. `headroom`, `length`, `given` and `is_shared` are what the ring of a program declares."""
+    """A text: its declarations, its statements and its lines. `headroom`, `length`, `given` and `is_shared` are what the ring of a program declares."""
 
     headers: Headers
     ports: int = 1
@@ -49,6 +71,7 @@ class Program:
     length: int = 0
     given: Path = ()
     statements: Block = ()
+    rows: list[Row] = field(default_factory=list)
 
 
 def as_side(node: Node) -> Node:
@@ -136,10 +159,16 @@ def constant_of(node: Node) -> int:
 
 
 class Parser(Lexer):
-    """Reads a text. `names` has the meaning of each name, `unknown` the names that are not numbers."""
+    """Reads a text. `names` has the meaning of each name, `unknown` the names that are not numbers. The names of a `def` have a `suffix` where it
+    is used, `active` are those that are being used."""
 
-    def __init__(self, text: str, headers: Headers) -> None:
+    def __init__(self, text: str, headers: Headers, folder: File | None = None) -> None:
         super().__init__(text, headers)
+        self.folder, self.included = folder, set[File]()
+        self.sets: dict[str, list[Item]] = {}
+        self.numbered: dict[str, tuple[str, int]] = {}
+        self.functions: dict[str, Function] = {}
+        self.suffix, self.inlined, self.active = "", 0, list[str]()
         self.names: dict[str, str] = {**dict.fromkeys(headers, "a header"), PORT: "a variable"}
         self.constants: dict[str, Number | Wide] = {}
         self.unknown: list[Place] = []
@@ -159,7 +188,12 @@ class Parser(Lexer):
         return constant_of(self.number())
 
     def limited(self, what: str, least: int = 0, limit: int = 0) -> int:
-        """A constant within limits."""
+        """A constant within limits, or the name of what it numbers."""
+        if self.kind == "name" and self.place().word in self.numbered:
+            kind, number = self.numbered[self.place().word]
+            require(kind == what, self.place(), f"{self.place().word} is a {kind}, and a {what} is wanted here")
+            self.take()
+            return number
         at, value, limit = self.place(), self.constant(), limit or LIMITS[what]
         require(least <= value <= limit, at, f"the {what} is from {least} to {limit:,}, and this is {value:,}")
         return value
@@ -202,28 +236,47 @@ class Parser(Lexer):
 
     def items(self, left: Node) -> Node:
         """The items after `in`: a comparison for each."""
-        is_list, count = self.may("{"), 1
-        node = self.item(left)
-        while is_list and self.may(","):
-            count += 1
-            require(count <= MAX_ITEMS, self.place(), f"a list has at most {MAX_ITEMS:,} items: each takes an instruction", "a prefix, or `lookup` in a table")
-            node = Or(left.at, node, self.item(left))
-        if is_list:
-            self.take("}")
+        node: Node | None = None
+        for item in self.listed():
+            test = self.is_item(left, item)
+            node = Or(left.at, node, test) if node else test
+        assert node is not None
         return node
 
-    def item(self, left: Node) -> Node:
-        """One item: a number, a range, or a prefix."""
+    def listed(self) -> list[Item]:
+        """The items of a list, of a set, or one item."""
+        if not self.may("{"):
+            return self.item()
+        found = self.item()
+        while self.may(","):
+            found += self.item()
+            require(len(found) <= MAX_ITEMS, self.place(), f"a list has at most {MAX_ITEMS:,} items: each takes an instruction", "a prefix, or `lookup` in a table")
+        self.take("}")
+        return found
+
+    def item(self) -> list[Item]:
+        """One item: a number, a range, or a prefix; or all items of a set."""
+        if self.kind == "name" and self.place().word in self.sets:
+            return list(self.sets[self.take().word])
         right = as_side(self.operation(NUMBERS))
         if self.may(".."):
             low, high = Number(right.at, constant_of(right)), Number(right.at, self.constant())
             require(low.value <= high.value, low.at, f"no number is from {low.value:,} to {high.value:,}", "the smaller one comes first")
-            return And(left.at, self.compared(">=", left, low), self.compared("<=", left, high))
+            return [Item(right.at, low, last=high)]
         if self.may("/"):
-            at, depth, bits = self.place(), self.constant(), self.prefix_bits(left, right)
-            require(depth <= bits, at, f"the prefix has at most {bits} bits, and this is {depth}")
-            return in_prefix(left, right, depth, bits)
-        return self.compared("==", left, right)
+            at, depth = self.place(), self.constant()
+            return [Item(at, right, depth=depth)]
+        return [Item(right.at, right)]
+
+    def is_item(self, left: Node, item: Item) -> Node:
+        """Whether a number is an item."""
+        if item.last is not None:
+            return And(left.at, self.compared(">=", left, item.number), self.compared("<=", left, item.last))
+        if item.depth is not None:
+            bits = self.prefix_bits(left, item.number)
+            require(item.depth <= bits, item.at, f"the prefix has at most {bits} bits, and this is {item.depth}")
+            return in_prefix(left, item.number, item.depth, bits)
+        return self.compared("==", left, item.number)
 
     def prefix_bits(self, left: Node, right: Node) -> int:
         """How many bits the numbers have whose first ones are a prefix: those of the field, or of the address."""
@@ -282,10 +335,12 @@ class Parser(Lexer):
         if at.word in self.constants:
             return replace(self.constants[at.word], at=self.take())
         require(self.place(1).word != ".", at, f"there is no header {at.word}", self.known_headers())
+        is_number = at.word not in self.sets and at.word not in self.numbered and at.word not in self.functions
+        require(is_number, at, f"{at.word} is {self.names.get(at.word)}, and no number", f"x in {at.word}" if at.word in self.sets else "")
         require_word(at.word not in RESERVED - {PORT}, at, f"a number or a condition is wanted here, and this is {at.word!r}")
         if self.names.get(at.word) != "a variable":
             self.unknown.append(at)
-        return Name(self.take(), at.word)
+        return Name(self.take(), at.word if at.word == PORT else at.word + self.suffix)
 
     def ipv6(self) -> Wide:
         """An IPv6 address."""
@@ -332,14 +387,14 @@ class Parser(Lexer):
 
     def packet(self) -> str:
         """The name of a new packet."""
-        return self.name("a packet").word
+        return self.name("a packet").word + self.suffix
 
     def packet_held(self) -> str:
         """A packet that exists."""
         at = self.name("a packet")
         cure = f"`clone {at.word} from 0` or `new {at.word} from 0` makes one, to the end of its block"
         require(self.names.get(at.word) == "a packet", at, f"there is no packet {at.word} here", cure)
-        return at.word
+        return at.word + self.suffix
 
     def packet_to(self) -> str:
         """The packet named before `to`, or the packet of the program."""
@@ -351,7 +406,9 @@ class Parser(Lexer):
 
     def packet_first(self) -> str:
         """A packet named before a count, or the packet of the program."""
-        return self.packet_held() if not self.may(THIS) and self.kind == "name" and self.place().word not in self.constants else THIS
+        word = self.place().word
+        is_number = word in self.constants or word in self.headers or self.names.get(word) == "a variable"
+        return self.packet_held() if not self.may(THIS) and self.kind == "name" and not is_number else THIS
 
     def packet_on(self) -> str:
         """The packet named after `on`, or the packet of the program."""
@@ -393,7 +450,12 @@ class Parser(Lexer):
         at = self.place()
         self.statements += 1
         require(self.statements <= MAX_STATEMENTS, at, f"more than {MAX_STATEMENTS:,} statements", "a program has at most 1,024 instructions")
-        if self.kind == "name" and self.sees(*STATEMENTS):
+        if self.starts("count"):
+            self.take()
+            all_of: Block = (Count(at, self.name("a counter").word),)
+        elif self.kind == "name" and at.word in self.functions and self.place(1).word == "(":
+            all_of = (self.call(at),)
+        elif self.kind == "name" and self.sees(*STATEMENTS):
             kind, slots = STATEMENTS[self.take().word]
             all_of = (self.let(at) if kind is Let else kind(at, *self.slots(slots)),)
         else:
@@ -406,8 +468,53 @@ class Parser(Lexer):
         if isinstance(it, (Lookup, Need, Clone, New)) and it.fallback is not None:
             require(not goes_on(it.fallback), at, "what is after this `else` has to end the program", "end it with drop or send")
         if isinstance(it, (Let, Lookup, Clone, New)):
-            self.declare(at, it.name, "a variable" if isinstance(it, (Let, Lookup)) else "a packet")
+            self.declare(at, it.name.split(PRIME)[0], "a variable" if isinstance(it, (Let, Lookup)) else "a packet")
         return all_of
+
+    def call(self, at: Place) -> Inline:
+        """The statements of a `def`, with numbers for its parameters: constants, and variables of their own for all others."""
+        name, values = self.take().word, list[Node]()
+        function = self.functions[name]
+        self.take("(")
+        while not self.may(")"):
+            values.append(self.operation(NUMBERS))
+            self.may(",")
+        self.refuse_unknown()
+        wanted = ", ".join(function.parameters)
+        require(len(values) == len(function.parameters), at, f"{name}({wanted}) has {len(function.parameters)} numbers, and here are {len(values)}")
+        require(name not in self.active, at, f"{name} is used in itself", "`while` repeats statements")
+        outside = self.next, self.names, self.constants, self.suffix
+        self.inlined += 1
+        self.names = {word: what for word, what in self.names.items() if what not in ("a variable", "a packet") or word == PORT}
+        self.constants, self.suffix, lets = dict(self.constants), f"{PRIME}{self.inlined}", list[Node]()
+        for word, value in zip(function.parameters, values):
+            is_constant = isinstance(value, Number) or isinstance(value, Wide) and isinstance(value.high, Number)
+            self.names[word] = "a constant" if is_constant else "a variable"
+            if is_constant:
+                self.constants[word] = value  # type: ignore[assignment]
+            else:
+                lets.append(Let(value.at, word + self.suffix, as_number(value)))
+        self.active.append(name)
+        self.next = function.begin
+        body = self.block()
+        self.active.pop()
+        self.next, self.names, self.constants, self.suffix = outside
+        return Inline(at, (*lets, *body))
+
+    def kept(self) -> int:
+        """How many bytes `truncate` keeps."""
+        at = self.place()
+        if not isinstance(self.number_ahead(), Number):
+            cure = "if ipv4.len <= 100 { truncate 114 } else .. for the lengths that matter"
+            raise SourceError(at, "`truncate` keeps a constant number of bytes: no instruction has a length in a register", cure)
+        return self.limited("length")
+
+    def number_ahead(self) -> Node:
+        """The number that is next, which is not taken."""
+        begin = self.next
+        number = self.number()
+        self.next, self.unknown = begin, []
+        return number
 
     def slots(self, slots: str) -> list[object]:
         """The parts after the first word of a statement; a word in quotes has no value."""
@@ -422,7 +529,7 @@ class Parser(Lexer):
 
     def let(self, at: Place) -> Node:
         """A variable, for a number or what a table has."""
-        name = self.name("a variable").word
+        name = self.name("a variable").word + self.suffix
         self.take("=")
         if self.may("lookup"):
             return Lookup(at, name, *self.slots("table number fallback"))
@@ -491,7 +598,9 @@ class Parser(Lexer):
         program, said = Program(self.headers), set[str]()
         while self.kind != "end":
             at = self.place()
-            if not self.sees("const", "ports", "segments", "otherwise", "given", "header"):
+            if not self.declares():
+                path = self.rows[at.line].path
+                require(path is None, at, "an included file has only declarations", "def f() { .. } has statements, and f() uses them")
                 program.statements += self.statement(program.statements[-1:])
                 continue
             require(at.word not in said & {"ports", "segments", "otherwise"}, at, f"{at.word} is declared twice")
@@ -500,7 +609,92 @@ class Parser(Lexer):
                 setattr(program, at.word, self.limited(f"number of {at.word}", 1))
             else:
                 getattr(self, f"declare_{at.word}")(program)
+        program.rows = self.rows
         return program
+
+    def declares(self) -> bool:
+        """Whether a declaration is next."""
+        is_port = self.sees("port") and self.words[min(self.next + 1, len(self.words) - 1)][0] == "name" and self.place(2).word == "="
+        return self.sees("const", "ports", "segments", "otherwise", "given", "header") or self.starts(*WORDS) or is_port
+
+    def declare_number(self, what: str) -> None:
+        """A name for a number of a table, a pool or a ring."""
+        at = self.name(f"a {what}")
+        self.declare(at, at.word, f"a {what}")
+        self.take("=")
+        self.numbered[at.word] = what, self.limited(what)
+
+    def declare_table(self, _: Program) -> None:
+        self.declare_number("table")
+
+    def declare_pool(self, _: Program) -> None:
+        self.declare_number("pool")
+
+    def declare_ring(self, _: Program) -> None:
+        self.declare_number("ring")
+
+    def declare_port(self, _: Program) -> None:
+        at = self.name("a port")
+        self.declare(at, at.word, "a port")
+        self.take("=")
+        self.constants[at.word] = Number(at, self.limited("port"))
+
+    def declare_set(self, _: Program) -> None:
+        at = self.name("a set")
+        self.declare(at, at.word, "a set")
+        self.take("=")
+        require(self.sees("{"), self.place(), f"'{{' is wanted here, and this is {self.place().word!r}", "set WEB = {80, 443}")
+        self.sets[at.word] = self.listed()
+        for item in self.sets[at.word]:
+            number = item.number.high if isinstance(item.number, Wide) else item.number
+            constant_of(number)
+
+    def declare_def(self, _: Program) -> None:
+        at, parameters = self.name("a def"), list[str]()
+        self.declare(at, at.word, "a def")
+        self.take("(")
+        while not self.may(")"):
+            name = self.name("a parameter")
+            require(name.word not in self.names and name.word not in parameters, name, f"{name.word} is {self.names.get(name.word, 'a parameter')} already")
+            parameters.append(name.word)
+            self.may(",")
+        self.functions[at.word] = Function(tuple(parameters), self.next)
+        self.take("{")
+        depth = 1
+        while depth:
+            require(self.kind != "end", self.place(), f"the block of {at.word} has no end", "a block ends with }")
+            depth += self.sees("{") - self.sees("}")
+            self.take()
+
+    def declare_include(self, _: Program) -> None:
+        at = self.place()
+        require(self.kind == "string", at, f"a file in quotes is wanted here, and this is {at.word!r}", 'include "net.pkt"')
+        self.take()
+        folder = self.rows[at.line].path.parent if self.rows[at.line].path else self.folder  # type: ignore[union-attr]
+        if folder is None:
+            raise SourceError(at, "a text that is no file includes none")
+        path = folder / at.word.strip('"')
+        if path.resolve() in self.included:
+            return
+        self.included.add(path.resolve())
+        try:
+            self.insert(path, path.read_text(encoding="utf-8"))
+        except (OSError, UnicodeDecodeError, ValueError) as error:
+            why = error.strerror if isinstance(error, OSError) else "it is no UTF-8 text"
+            raise SourceError(at, f"{path} cannot be read: {why}", "the file is looked for beside the one that names it") from None
+
+    def declare_extend(self, _: Program) -> None:
+        at = self.header_name()
+        self.take("after")
+        other = self.header_name()
+        is_free = at.word not in self.headers[other.word].before and self.headers[at.word].follows
+        require(is_free, other, f"{at.word} cannot follow {other.word}, which it comes before", "declare a header with another name for the inner one")
+        require(other.word not in self.headers[at.word].follows, other, f"{at.word} follows {other.word} already")
+        self.take("if")
+        condition = self.condition()
+        self.unknown = []
+        self.headers.extend(at.word, other.word, condition)
+        check(self.headers[at.word], self.headers)
 
     def declare_const(self, _: Program) -> None:
         at = self.name("a constant")

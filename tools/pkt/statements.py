@@ -10,7 +10,7 @@ from .parser import Program
 from .registers import Value
 from .state import FAR, NEAR, NOTHING, SOMEBODY, Far, Needs, Packet
 from .syntax import (
-    BIGGEST, PORT, THIS, Assign, Block, Chain, Clone, Cut, Drop, Field, Found, If, Length, Let, Lookup, Mend, Name, Need, New, Node, Number, Pop, Push,
+    BIGGEST, PORT, THIS, Assign, Block, Chain, Clone, Count, Cut, Drop, Field, Found, If, Inline, Length, Let, Lookup, Mend, Name, Need, New, Node, Number, Pop, Push,
     Send, Truncate, While, has, parts, require,
 )
 from .ways import Join, Unit, paths
@@ -95,7 +95,7 @@ class Statements(Packets):
         """One statement: the headers that it needs are found, or `otherwise` runs."""
         self.unit.reached.add(id(it))
         self.at, do, missing = it.at, f"do_{type(it).__name__.lower()}", Join[Self]()
-        if isinstance(it, (If, While, Need)):
+        if isinstance(it, (If, While, Need, Inline)):
             return getattr(self, do)(it, after)
         for s in paths(lambda found: self.touch_needed(it, found, missing)):
             s.unit.needs, failed = after.needs, Join[Self]()
@@ -183,6 +183,14 @@ class Statements(Packets):
         for part in parts(it.body):
             if isinstance(part, Assign) and isinstance(part.target, Name) and part.target.name in self.variables:
                 self.bounds[self.variables[part.target.name]] = BIGGEST
+
+    def do_inline(self, it: Inline, after: Join[Self]) -> None:
+        block([self], it.body, after)
+
+    def do_count(self, it: Count, _: Join[Self]) -> None:
+        """An instruction that changes nothing, whose runs are counted."""
+        self.emit("add", "r0", 0)
+        self.last.counter = it.name
 
     def do_let(self, it: Let, _: Join[Self]) -> None:
         self.variables[it.name] = self.own(self.evaluate(it.value)).r

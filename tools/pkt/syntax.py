@@ -1,11 +1,16 @@
 """The parts of a text. Each knows its place in the text, which is ignored when two parts are compared."""
+import re
 from collections.abc import Iterator
 from dataclasses import dataclass, field, fields
 from functools import cache
+from pathlib import Path as File
 from typing import Any, NamedTuple, dataclass_transform
 
 BIGGEST = (1 << 64) - 1
 THIS, PORT = "this", "port"
+# What the names in a `def` end with, each time that it is used: a sign that no text has, and a number.
+PRIME = "\u2032"
+OWN = re.compile(PRIME + "[0-9]+")
 
 
 class Place(NamedTuple):
@@ -16,12 +21,20 @@ class Place(NamedTuple):
     word: str
 
 
-class SourceError(Exception):
-    """An error of the source: its place, the fault, and a cure."""
+class Row(NamedTuple):
+    """A line of a text: the file that it is in, none for the program itself, its number there, from 1, and its text."""
 
-    def __init__(self, at: Place, message: str, cure: str = "") -> None:
+    path: File | None
+    number: int
+    text: str
+
+
+class SourceError(Exception):
+    """An error of the source: its place, the fault, and a cure. `row` is its line where that is in another file."""
+
+    def __init__(self, at: Place, message: str, cure: str = "", row: Row | None = None) -> None:
         super().__init__(message)
-        self.at, self.message, self.cure = at, message, cure
+        self.at, self.message, self.cure, self.row = at, OWN.sub("", message), cure, row
 
 
 def require(holds: object, at: Place, message: str, cure: str = "") -> None:
@@ -63,7 +76,7 @@ class Not(Node): condition: Node
 class And(Node): left: Node; right: Node
 class Or(Node): left: Node; right: Node
 
-# Statements. `fallback` is the `else` part; a port that is an int is a ring; a pushed value that is None is `auto`.
+# Statements. `Inline` are those of a `def`, where it is used. `fallback` is the `else` part; a port that is an int is a ring; a pushed value that is None is `auto`.
 class Let(Node): name: str; value: Node
 class Lookup(Node): name: str; table: int; key: Node; fallback: Block | None
 class Assign(Node): target: Name | Field; value: Node
@@ -82,6 +95,8 @@ class Push(Node): headers: tuple[Pushed, ...]; packet: str
 class Pop(Node): path: Path
 class Cut(Node): packet: str; count: int
 class Truncate(Node): packet: str; count: int
+class Count(Node): name: str
+class Inline(Node): body: Block
 # fmt: on
 
 
@@ -118,6 +133,8 @@ def goes_on(it: Node | Block) -> bool:
     while it:
         if isinstance(it, tuple):
             it = it[-1]
+        elif isinstance(it, Inline):
+            it = it.body
         elif isinstance(it, If):
             if goes_on(it.body):
                 return True

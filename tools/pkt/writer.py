@@ -2,14 +2,14 @@
 from collections.abc import Iterator
 
 from .layout import Graph
-from .syntax import Place, require
+from .syntax import Place, Row, require
 
 MAX_INSTRUCTIONS, WIDTH = 1_024, 96
 ENDS = {"exit", "jmp"}
 
 
-def lines(graph: Graph) -> Iterator[tuple[str, int | None]]:
-    """The instructions, each with its line, and labels. An instruction is followed by its successor, a jump to it, or a copy of it."""
+def lines(graph: Graph) -> Iterator[tuple[str, int | None, str]]:
+    """The instructions, each with its line and what it counts, and labels. An instruction is followed by its successor, a jump to it, or a copy of it."""
     order = graph.order()
     targets = {it.target for it in order}
     order = [it for it in order if it.word not in ENDS or it in targets]
@@ -18,20 +18,25 @@ def lines(graph: Graph) -> Iterator[tuple[str, int | None]]:
     names = {it: f"L{number}" for number, it in enumerate((it for it in order if it in targets), 1)}
     for it in order:
         if it in names:
-            yield f"{names[it]}:", None
-        yield it.text(names), it.line
+            yield f"{names[it]}:", None, ""
+        yield it.text(names), it.line, it.counter
         if to := jumps.get(it):
-            yield to.text(names) if to.word in ENDS else f"jmp {names[to]}", to.line if to.word == "jmp" else it.left or it.line
+            yield to.text(names) if to.word in ENDS else f"jmp {names[to]}", to.line if to.word == "jmp" else it.left or it.line, ""
 
 
-def write(graph: Graph, source: str) -> str:
+def note_of(row: Row, counter: str) -> str:
+    """The comment of an instruction: what it counts, and its line."""
+    return f"{f'count {counter}: ' if counter else ''}{f'{row.path.name}:' if row.path else ''}{row.number}: {' '.join(row.text.split())[:WIDTH]}"
+
+
+def write(graph: Graph, rows: list[Row]) -> str:
     """The text of a program."""
-    rows, shown, used = ["what is held is dropped", *source.split("\n")], list[str](), list[int]()
-    for text, line in lines(graph):
+    shown, used = list[str](), list[int]()
+    for text, line, counter in lines(graph):
         if line is None:
             shown.append(text)
             continue
-        note = f"{line}: {' '.join(rows[line].split())[:WIDTH]}" if line else rows[0]
+        note = note_of(rows[line], counter) if line else "what is held is dropped"
         shown.append(f"        {text:<32}# {printable(note)}")
         used.append(line)
     line = max(sorted({*used} - {0}), key=used.count, default=0)
