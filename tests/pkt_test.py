@@ -327,6 +327,21 @@ class Layout(unittest.TestCase):
     def test_what_changes_nothing_takes_no_instruction(self) -> None:
         self.assertEqual(count("new h from 0\ncut h 0\ncut 0\ntruncate h 4096\nsend port"), count("new h from 0\nsend port"))
 
+    def test_the_order_of_tests_does_not_matter(self) -> None:
+        for number, most in ((24, 245), (100, 855)):
+            rules = [(f"ipv4.dst == 10.0.0.{k}", f"tcp.dport == {1000 + k}") for k in range(number)]
+            sizes = [count("".join(f"if {' and '.join(rule[::order])} {{ drop }}\n" for rule in rules) + "send port") for order in (1, -1)]
+            self.assertLess(max(sizes), most)
+            self.assertLess(max(sizes) - min(sizes), 5)
+
+    def test_a_header_is_not_looked_for_early_where_that_matters(self) -> None:
+        rules = "if ipv4.dst == 1.2.3.4 and udp.dport == 53 { drop }\n"
+        frame = udp(5, 53, dst="192.0.2.7")
+        no_udp = frame[:23] + b"\5" + frame[24:]
+        source = f"{rules}if ipv4.ttl == 64 {{ ipv4.proto = 17 }}\n{rules}if udp.dport == 53 {{ drop }}\nsend port"
+        self.assertEqual(sent(source, no_udp, frame, tcp(2, 53))[0], [])
+        self.assertEqual(sent(source.replace("ipv4.proto = 17", "ipv4.tos = 17"), no_udp)[0], [no_udp[:15] + b"\x11" + no_udp[16:]])
+
     def test_neighbouring_constants_are_written_together(self) -> None:
         text = compile_text("eth.dst = 1\neth.src = 2\nsend port")
         self.assertIn("set r1,0x10000 ", text)

@@ -286,6 +286,20 @@ class Writer:
             state.is_lost, state.is_chained = state.is_lost or other.is_lost, state.is_chained or other.is_chained
             state.pushed, state.segments = max(state.pushed, other.pushed), max(state.segments, other.segments)
 
+    def rules(self, state: State, _deep: int) -> tuple[Lines, bool] | None:
+        """Some rules in a row about the same headers; between them now and then an assignment that changes what is found."""
+        rng, headers = self.rng, [self.numbers.header() for _ in range(2)]
+        lines: Lines = []
+        for _ in range(rng.choice((2, 3, 4))):
+            fields = [f"{name}.{rng.choice(list(self.headers[name].fields))}" for name in rng.sample(headers, 2)]
+            tests = [f"{field} {self.numbers.comparison()} {self.numbers.value_for(field)}" for field in fields]
+            body = rng.choice((self.end(state)[0], "let w = 1", f"count {self.name('n')}"))
+            if self.may_write(state) and self.chance(0.3):
+                target = rng.choice(("ipv4.proto", "ipv4.frag", "ipv4.ttl", "eth.type", fields[0]))
+                body = f"{target} = {self.numbers.value_for(target)}"
+            lines += [f"if {rng.choice((' and ', ' or ')).join(tests)} {{", INDENT + body, "}"]
+        return lines, False
+
     def while_(self, state: State, deep: int) -> tuple[Lines, bool] | None:
         """A loop: over tags, with a counter, or any other."""
         if deep == 0 or self.whiles == 0 or state.loops:
@@ -520,6 +534,7 @@ MAKERS: list[tuple[Callable[[Writer, State, int], tuple[Lines, bool] | None], fl
     (Writer.to_ipv4_ring, 0.5),
     (Writer.if_, 1.0),
     (Writer.if_, 1.0),
+    (Writer.rules, 0.5),
     (Writer.while_, 0.6),
     (Writer.need, 0.4),
     (Writer.clone, 0.5),

@@ -15,7 +15,7 @@ from .syntax import (
 )
 
 
-# A packet with IPv4 options and less tailroom than this may be dropped where a header after them is looked for.
+# A packet with IPv4 options and less tailroom than this may be dropped once that header was found.
 OPTIONS_ROOM = 36
 
 
@@ -78,6 +78,8 @@ class Headers:
             return False
         self.found[name] = place
         self.absent -= self.source.followers[name]
+        if self.end_of(name) not in (None, place + self.known[name].size) and self.packet[-1].tail < OPTIONS_ROOM:
+            raise Open
         return True
 
     def ask_anew(self) -> None:
@@ -99,10 +101,7 @@ class Headers:
         if before is None or not self.holds(self.known[name].after[before]):
             return None
         self.before[name] = before
-        end = self.end_of(before)
-        if end not in (None, self.found[before] + self.known[before].size) and self.packet[-1].tail < OPTIONS_ROOM:
-            raise Open
-        return end
+        return self.end_of(before)
 
     def preceding(self, name: str) -> str | None:
         """The header that another follows: the one that is found and begins last, or the first that its clauses name and that is present."""

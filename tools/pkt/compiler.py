@@ -16,7 +16,10 @@ MAX_INSTRUCTIONS = 12_000
 @lru_cache
 def known_headers() -> Headers:
     """The predeclared headers."""
-    return Parser(PRELUDE.read_text(encoding="utf-8"), Headers()).program().headers
+    headers = Parser(PRELUDE.read_text(encoding="utf-8"), Headers()).program().headers
+    for header in headers.values():
+        header.is_known = True
+    return headers
 
 
 def parse(source: str, folder: pathlib.Path | None = None) -> Program:

@@ -154,6 +154,30 @@ class Conditions(Registers):
             s.found[name] = ABSENT
             s.jump(no)
 
+    def find_early(self, condition: Node, names: list[str]) -> list[Self]:
+        """Looks for headers that later conditions use, once the first header of this condition was found. Ends this path."""
+        while isinstance(condition, (And, Or, Not)):
+            condition = condition.condition if isinstance(condition, Not) else condition.left
+        first = list(condition.path) if isinstance(condition, Found) else self.headers_of(condition)
+        names = [name for name in names if name not in self.found and name not in first and self.may_be_early(name, first)]
+        if not names:
+            return [self]
+        absent = Join[Self]()
+        ways = list(paths(lambda found: self.touch(first, found, absent)))
+        for name in names:
+            done = Join[Self]()
+            for way in ways:
+                way.look_for(name, done, done)
+            ways = list(done.begin())
+        return ways + list(absent.begin())
+
+    def may_be_early(self, name: str, first: list[str]) -> bool:
+        """Whether no statement can tell that a header was looked for here: all that it may follow are known, or looked for with it."""
+        header, search = self.headers[name], self.headers.looked_for(name)
+        is_settled = all(other in self.found for other in header.before - search if other in self.unit.used_headers)
+        is_long = any(self.headers[other].bits and other not in first and other not in self.found for other in search - {name})
+        return is_settled and not is_long and self.unit.is_early(name)
+
     def search(self, header: Header, found: Join[Self], missing: Join[Self]) -> None:
         """Looks for a header after the one that it follows."""
         if not header.follows:

@@ -42,7 +42,7 @@ class Span(NamedTuple):
 class Header:
     """A header. `wide` has the halves of fields of 128 bits, `needed` the fields that each `push` names. `follows` has the condition for each header that it may follow; `before` has it and
     all that may come before it. The value of its first `bits` gives its length, in `sizes` and by a formula. Its checksum `sum` may cover what
-    follows it, `over` fields of others, and be 0."""
+    follows it, `over` fields of others, and be 0. Of the known ones no two that follow the same header can both be present."""
 
     name: str
     at: Place
@@ -53,6 +53,7 @@ class Header:
     needed: tuple[str, ...] = ()
     follows: dict[str, Node] = field(default_factory=dict)
     depth: int = 0
+    is_known: bool = False
     size: int = 0
     bits: int = 0
     sizes: dict[int, int] = field(default_factory=dict)
@@ -69,12 +70,13 @@ class Headers(dict[str, Header]):
 
     def extend(self, name: str, other: str, condition: Node) -> None:
         """Lets a header follow another one too."""
-        self[name] = replace(self[name], follows={**self[name].follows, other: condition})
+        self[name] = replace(self[name], follows={**self[name].follows, other: condition}, is_known=False)
         before: dict[str, frozenset[str]] = {}
         while before != {it: header.before for it, header in self.items()}:
             before = {it: header.before for it, header in self.items()}
             for it, header in self.items():
-                self[it] = replace(header, before=frozenset({it}).union(*(self[follows].before for follows in header.follows)))
+                all_before = frozenset({it}).union(*(self[follows].before for follows in header.follows))
+                self[it] = replace(header, before=all_before, is_known=header.is_known and all_before == header.before)
 
     def in_order(self, names: Iterable[str]) -> list[str]:
         """Names in order of declaration, each once."""

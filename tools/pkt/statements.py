@@ -1,6 +1,7 @@
 """Lowering of statements: assignments, branches, loops, and packets that are made or sent."""
 from __future__ import annotations
 
+from collections import Counter
 from dataclasses import replace
 from typing import Self
 
@@ -44,7 +45,13 @@ def block(ways: list[Statements], statements: Block, after: Join[Statements]) ->
     if not ways:
         return
     variables, packets, end = set(ways[0].variables), set(ways[0].held), Join[Statements](after.needs)
+    early = Counter[str]()
     for number, it in enumerate(statements):
+        # Headers that the conditions of at least two statements in a row use are looked for before the first.
+        if isinstance(it, (If, Need)) and not early:
+            early = ways[0].unit.used_in_row(statements, number)
+        ways = [s for way in ways for s in way.with_early(it, early)]
+        early = early - ways[0].unit.used_in(it) if isinstance(it, (If, Need)) else Counter()
         ready = Join[Statements](end.needs | ways[0].unit.needs_of(statements, number + 1))
         for way in ways:
             for s in paths(lambda done: way.statement(it, done), ready.needs):
@@ -128,6 +135,12 @@ class Statements(Packets):
             self.do_send(it, end, end)
         else:
             self.drop()
+
+    def with_early(self, it: Node, early: Counter[str]) -> list[Self]:
+        """The paths on which the headers that are often used later were looked for."""
+        names = self.headers.in_order(name for name, count in early.items() if count > 1)
+        self.at = it.at
+        return self.find_early(it.condition, names) if names and isinstance(it, (If, Need)) else [self]
 
     def do_if(self, it: If | Need, after: Join[Self]) -> None:
         """Its blocks; the `if` after an `else` is part of it."""

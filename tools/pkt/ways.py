@@ -1,16 +1,17 @@
 """Paths through the program: each appends instructions at its end, and paths join."""
 from __future__ import annotations
 
-from collections import defaultdict
+from collections import Counter, defaultdict
 from collections.abc import Callable, Iterable, Iterator, Set
 from dataclasses import dataclass, field
+from functools import cache, cached_property
 from typing import Any, Generic, Self, TypeVar
 
 from .layout import Instruction
-from .headers import Headers
+from .headers import Headers, Span
 from .parser import Program
 from .state import EVERYTHING, NOTHING, Needs, State
-from .syntax import THIS, Field, Found, Mend, Name, Node, Place, Pop, Push, children, parts, require
+from .syntax import THIS, Assign, Field, Found, If, Mend, Name, Need, Node, Place, Pop, Push, children, parts, require
 
 # Limits of a program before it is shortened: far beyond any that fits afterwards.
 MAX_BLOCKS, MAX_APPENDED = 20_000, 40_000
@@ -61,6 +62,50 @@ class Unit:
         found = {(other, True) for name in names for other in self.headers[name].before}
         absent = {(other, False) for name in names for other in self.headers.looked_for(name)}
         return Needs({*([it.name] if isinstance(it, Name) else [it] if isinstance(it, Field) else []), *found, *absent})
+
+    def used_in(self, it: Node) -> Counter[str]:
+        """The headers that the conditions of an `if` or a `need` use, each as often as there are conditions that do."""
+        found, rest = Counter[str](), (it,)
+        while len(rest) == 1 and isinstance(rest[0], (If, Need)):
+            found.update({name for part in parts(rest[0].condition) for name in self.headers_of(part)})
+            rest = rest[0].fallback if isinstance(rest[0], If) else ()
+        return found
+
+    def used_in_row(self, block: tuple[Node, ...], first: int) -> Counter[str]:
+        """The headers that the conditions of statements in a row use."""
+        found = Counter[str]()
+        for it in block[first:]:
+            if not isinstance(it, (If, Need)):
+                break
+            found += self.used_in(it)
+        return found
+
+    @cached_property
+    def written(self) -> set[Field]:
+        """The fields that the program assigns to, and the checksums that it updates."""
+        found = set[Field]()
+        for it in parts(self.program.statements):
+            if isinstance(it, Assign) and isinstance(it.target, Field):
+                found.add(it.target)
+            if isinstance(it, Mend):
+                names = {it.target.header, *self.headers.covering(it.target)}
+                names |= {name for other in names for name in self.headers[other].before}
+                found |= {it.target, *(Field(it.at, name, self.headers[name].sum) for name in names if self.headers[name].sum)}
+        return found
+
+    @cache
+    def is_early(self, name: str) -> bool:
+        """Whether a header may be looked for earlier than where it is used: no assignment of the program can change what the search finds."""
+        before = self.headers[name].before
+        asked = {part for other in before for part in parts(tuple(self.headers[other].follows.values())) if isinstance(part, Field)}
+        spans = {(it.header, self.headers[it.header].fields[it.name]) for it in asked} | {(it, Span(0, self.headers[it].bits)) for it in before}
+        all_known = all(self.headers[other].is_known for other in before)
+        for it in self.written:
+            other = self.headers[it.header]
+            is_behind = it.header not in before and all_known and other.is_known and not other.before.isdisjoint(self.headers[name].follows)
+            if not is_behind and (it.header not in before or any(it.header == header and other.fields[it.name].meets(span) for header, span in spans)):
+                return False
+        return True
 
     def headers_of(self, it: Node) -> Iterable[str]:
         """The headers that a node itself uses."""
