@@ -1,2 +1,3 @@
 -- The lemmas of layers_tests.
 pub mod Copying
+pub mod RowLemmas

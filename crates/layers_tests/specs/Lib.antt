@@ -1,2 +1,3 @@
 -- The definitions that contracts of layers_tests name.
 pub mod Copied
+pub mod Rows

@@ -2,8 +2,12 @@
 
 mod captures;
 mod causes;
+mod environments;
 mod heaps;
+mod mbufs;
+mod models;
 mod pools;
 mod regions;
 mod rings;
+mod routes;
 mod zones;

@@ -49,20 +49,18 @@ const ROOM: usize = 262_144;
 /// Room for a record.
 type Buffer = [u8; ROOM];
 
-// Puts bytes into a room, with other values at some offsets; returns them.
-fn edited<'a>(room: &'a mut [u8; 146], bytes: &[u8], edits: &[(usize, u8)]) -> &'a [u8] {
-    for (place, byte) in room.iter_mut().zip(bytes) {
-        *place = *byte;
+// The bytes, with other values at some offsets. There are at most 146; zeros follow.
+fn edited(bytes: &[u8], edits: &[(usize, u8)]) -> [u8; 146] {
+    let mut all = [0; 146];
+    if let Some(front) = all.get_mut(..bytes.len()) {
+        front.copy_from_slice(bytes);
     }
     for (at, byte) in edits {
-        if let Some(place) = room.get_mut(*at) {
+        if let Some(place) = all.get_mut(*at) {
             *place = *byte;
         }
     }
-    match room.get(..bytes.len()) {
-        Some(front) => front,
-        None => &[],
-    }
+    all
 }
 
 // Reads the next record.

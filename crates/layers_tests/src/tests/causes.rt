@@ -1,6 +1,8 @@
 //! The numbers and the words of all errors.
 
 use dp_heap::HeapError;
+use dp_lpm::LpmError;
+use dp_model::EnvError;
 use dp_pcap::{Failed, PcapError};
 use dp_pool::PoolError;
 use dp_region::Memory;
@@ -16,12 +18,17 @@ enum Cause {
     OfPool(PoolError),
     OfDevice,
     OfCapture(PcapError),
+    OfEnvironment(EnvError),
+    OfRoutes(LpmError),
+    OfTable,
 }
 
-use Cause::{OfCapture, OfDevice, OfHeap, OfPool, OfRegion, OfZone};
+use Cause::{
+    OfCapture, OfDevice, OfEnvironment, OfHeap, OfPool, OfRegion, OfRoutes, OfTable, OfZone,
+};
 
-/// The causes, with their numbers and their words. Those of regions and of devices have no number.
-static CAUSES: [(Cause, u8, &str); 24] = [
+/// The causes, with their numbers and their words. Those of regions, of devices and of tables have no number.
+static CAUSES: [(Cause, u8, &str); 35] = [
     (OfRegion, 0, "out of memory"),
     (OfHeap(HeapError::ZeroSize), 1, "the size is 0"),
     (
@@ -82,15 +89,48 @@ static CAUSES: [(Cause, u8, &str); 24] = [
     ),
     (OfCapture(PcapError::Read), 8, "the reader failed"),
     (OfCapture(PcapError::Write), 9, "the writer failed"),
+    (
+        OfEnvironment(EnvError::BadNumber),
+        1,
+        "there are too few or too many pools, tables, rings or ports",
+    ),
+    (
+        OfEnvironment(EnvError::BadPool(3)),
+        2,
+        "pool 3 is not within the limits",
+    ),
+    (
+        OfEnvironment(EnvError::BadRing(7)),
+        3,
+        "ring 7 is not within the limits",
+    ),
+    (
+        OfEnvironment(EnvError::BadPort(1)),
+        4,
+        "port 1 is not within the limits",
+    ),
+    (
+        OfEnvironment(EnvError::TooMany),
+        5,
+        "the pools have too many buffers in all",
+    ),
+    (OfRoutes(LpmError::BadDepth), 1, "the depth is not 1 to 32"),
+    (OfRoutes(LpmError::BadHop), 2, "the hop is above 16777215"),
+    (OfRoutes(LpmError::RulesFull), 3, "no room for another rule"),
+    (OfRoutes(LpmError::GroupsFull), 4, "no group left"),
+    (OfRoutes(LpmError::NoRule), 5, "no such rule"),
+    (OfTable, 0, "not enough memory"),
 ];
 
 fn number(cause: &Cause) -> u8 {
     match cause {
-        OfRegion | OfDevice => 0,
+        OfRegion | OfDevice | OfTable => 0,
         OfHeap(error) => error.number(),
         OfZone(error) => error.number(),
         OfPool(error) => error.number(),
         OfCapture(error) => error.number(),
+        OfEnvironment(error) => error.number(),
+        OfRoutes(error) => error.number(),
     }
 }
 
@@ -102,6 +142,9 @@ fn shows(alloc: Global, cause: &Cause, words: &str) -> Result<bool, Fail> {
         OfPool(error) => format!(in alloc; "{error}")?,
         OfDevice => format!(in alloc; "{Failed}")?,
         OfCapture(error) => format!(in alloc; "{error}")?,
+        OfEnvironment(error) => format!(in alloc; "{error}")?,
+        OfRoutes(error) => format!(in alloc; "{error}")?,
+        OfTable => format!(in alloc; "{}", dp_lpm::Memory)?,
     };
     Ok(shown.as_str() == words)
 }

@@ -137,9 +137,8 @@ fn left_where_it_fails(alloc: Global, after: usize) -> Option<usize> {
 #[test]
 fn nothing_else_is_at_hand(rt: HostRuntime) {
     for (at, byte) in [(31usize, 255u8), (35, 1), (32, 255)] {
-        let mut room = [0; 146];
-        let wrong = edited(&mut room, &THREE_RECORDS, &[(at, byte)]);
-        assert_eq!(rt; left_in(rt.alloc(), wrong), Some(122), "{at}");
+        let wrong = edited(&THREE_RECORDS, &[(at, byte)]);
+        assert_eq!(rt; left_in(rt.alloc(), &wrong), Some(122), "{at}");
     }
 }
 
@@ -229,14 +228,12 @@ fn are_counted(alloc: Global, bytes: &[u8], records: usize, truncated: u64) -> b
 #[test]
 fn truncated_records_are_counted(rt: HostRuntime) {
     for (k, (edits, len, records, truncated)) in TRUNCATED.iter().enumerate() {
-        let mut room = [0; 146];
-        let bytes = edited(&mut room, &THREE_RECORDS, edits);
-        assert!(&rt; *len <= bytes.len(), "row {k}");
-        let front = &bytes[..*len];
-        assert!(&rt;
-            are_counted(rt.alloc(), front, *records, *truncated),
-            "row {k}"
-        );
+        let bytes = edited(&THREE_RECORDS, edits);
+        let counted = match bytes.get(..*len) {
+            Some(front) => are_counted(rt.alloc(), front, *records, *truncated),
+            None => false,
+        };
+        assert!(&rt; counted, "row {k}");
     }
 }
 

@@ -156,10 +156,12 @@ fn differs_in(
     header: Result<Unit, PcapError>,
     answers: &[Answer],
 ) -> Option<usize> {
-    let mut room = [0; 146];
+    let all = edited(bytes, edits);
+    let Some(front) = all.get(..bytes.len()) else {
+        return Some(0);
+    };
     let mut buf = [0u8; ROOM];
-    let mut r = OfRead::new(edited(&mut room, bytes, edits));
-    differs(&mut r, header, answers, &mut buf)
+    differs(&mut OfRead::new(front), header, answers, &mut buf)
 }
 
 #[test]
@@ -316,18 +318,14 @@ static LINK_TYPES: [(&[u8], &[(usize, u8)], usize, Option<u32>); 5] = [
     ),
 ];
 
-fn link_in(bytes: &[u8], len: usize) -> Option<u32> {
-    link_type(bytes.get(..len)?)
+fn link_in(bytes: &[u8], edits: &[(usize, u8)], len: usize) -> Option<u32> {
+    link_type(edited(bytes, edits).get(..len)?)
 }
 
 // The whole field, in the order of the capture; none without a magic number, or before the header's end.
 #[test]
 fn link_types(rt: HostRuntime) {
     for (k, (bytes, edits, len, link)) in LINK_TYPES.iter().enumerate() {
-        let mut room = [0; 146];
-        assert!(rt;
-            link_in(edited(&mut room, bytes, edits), *len) == *link,
-            "header {k}"
-        );
+        assert_eq!(rt; link_in(bytes, edits, *len), *link, "header {k}");
     }
 }

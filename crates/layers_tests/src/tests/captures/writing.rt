@@ -251,19 +251,26 @@ fn copies_files(rt: HostRuntime) -> Result<(), Fail> {
     Ok(())
 }
 
-// Whether a record of 76 bytes fits into a buffer of this room with room left, and the buffer holds `held` bytes afterwards.
+// Whether a record of 76 bytes fits into the buffer of a writer with room left, and the buffer holds `held` bytes afterwards.
+fn fits_as(w: &mut OfBufWriter<Vec<u8>>, fits: bool, held: usize) -> bool {
+    let fitted = w.has_room(16, 60);
+    let written = write_part(w, Unit::Micro, &Record(1, 2000, &BODY));
+    fitted == fits && written == Ok(()) && w.get_ref().buffer().len() == held && !w.has_room(16, 60)
+}
+
+// Whether the record is written out, and there is room for another if there was for it.
+fn empties(w: &mut OfBufWriter<Vec<u8>>, fits: bool) -> bool {
+    w.flush().is_ok()
+        && HUNDRED.get(24..) == Some(w.get_ref().get_ref().as_slice())
+        && w.has_room(16, 60) == fits
+}
+
 fn goes_into(alloc: Global, room: usize, fits: bool, held: usize) -> bool {
     let Ok(inner) = BufWriter::with_capacity(alloc, room, Vec::new(alloc)) else {
         return false;
     };
     let mut w = OfBufWriter::new(inner);
-    w.has_room(16, 60) == fits
-        && write_part(&mut w, Unit::Micro, &Record(1, 2000, &BODY)) == Ok(())
-        && w.get_ref().buffer().len() == held
-        && !w.has_room(16, 60)
-        && w.flush().is_ok()
-        && HUNDRED.get(24..) == Some(w.get_ref().get_ref().as_slice())
-        && w.has_room(16, 60) == fits
+    fits_as(&mut w, fits, held) && empties(&mut w, fits)
 }
 
 // A buffer that has room left after the record, one that it fills, and one that is a byte too short. A writer without a buffer has no room.
@@ -417,15 +424,26 @@ fn a_failed_writer_is_left_alone(rt: HostRuntime) {
     }
 }
 
-// Whether these are the lengths of what a writer that takes `most` bytes a call is offered of some pieces.
-fn are_offers(offered: &[usize], most: usize, pieces: &[usize]) -> bool {
+// What is left of these lengths after those that a writer that takes `most` bytes a call is offered of one piece; none if they differ.
+fn after_piece(offered: &[usize], most: usize, piece: usize) -> Option<&[usize]> {
     let mut rest = offered;
-    for piece in pieces {
-        for taken in (0..*piece).step_by(most.max(1)) {
-            match rest.split_first() {
-                Some((first, others)) if *first == piece.saturating_sub(taken) => rest = others,
-                _ => return false,
-            }
+    for taken in (0..piece).step_by(most.max(1)) {
+        let (first, others) = rest.split_first()?;
+        if *first != piece.saturating_sub(taken) {
+            return None;
+        }
+        rest = others;
+    }
+    Some(rest)
+}
+
+// Whether these are the lengths for a header, and a record's head and bytes.
+fn are_offers(offered: &[usize], most: usize) -> bool {
+    let mut rest = offered;
+    for piece in [24usize, 16, 60] {
+        match after_piece(rest, most, piece) {
+            Some(others) => rest = others,
+            None => return false,
         }
     }
     rest.is_empty()
@@ -448,7 +466,7 @@ fn a_writer_is_offered_a_piece_and_then_its_rest(rt: HostRuntime) {
         let taker = taken(Taker::new(rt.alloc(), &[], most)).expect(&rt, "all is written");
         assert!(&rt;
             taker.held.as_slice() == HUNDRED.as_slice()
-                && are_offers(taker.offered.as_slice(), most, &[24, 16, 60]),
+                && are_offers(taker.offered.as_slice(), most),
             "{most}"
         );
     }

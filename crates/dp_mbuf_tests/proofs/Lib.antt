@@ -1,2 +1,0 @@
--- Lists the lemma files.
-mod RowLemmas

@@ -1,9 +1,0 @@
-use Rattle.std.proofs.Common.{◌≡◌}
-use Rattle.dp_mbuf_tests.specs.Rows.{IsOver}
-use Rattle.dp_mbuf_tests.proofs.tests.walk.a_random_walk_ends_with_whole_pools.Given as goal
-
-abbrev pub invariant-loop : goal.invariant-loop
-invariant-loop g l = record { over : IsOver l.m.store; zones : l.m.zones ≡ l.initial.m.zones }
-
-abbrev pub invariant-loop-2 : goal.invariant-loop-2
-invariant-loop-2 g l = record { over : IsOver l.m.store; zones : l.m.zones ≡ l.initial.m.zones }

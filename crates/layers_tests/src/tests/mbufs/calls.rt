@@ -1,0 +1,190 @@
+//! The calls on packets. Each asserts what the call requires, so that tests read as the examples that they are.
+
+ghost use Rattle.std.specs.Prelude.{◌≡◌, ◌+◌, ◌*◌, ◌<◌, ◌≤◌, length, slice_get};
+ghost use Rattle.dp_model.specs.Packets.{Segment, refs};
+ghost use Rattle.dp_model.specs.Stores.{IsLive, Of, segments_of};
+ghost use Rattle.layers_tests.specs.Rows.{IsOver, StaysOver};
+
+use dp_mbuf::Mbufs;
+use dp_model::{Packet, Width};
+use std::process::Abort;
+
+/// Asserts that the packet is live.
+pub(crate) fn alive(rt: &impl Abort, m: &Mbufs, p: &Packet)
+    ensures { IsLive m.now.store p.now }
+{
+    let live = m.is_live(p);
+    assert!(rt; live, "the packet is not live");
+}
+
+pub(crate) fn receive(rt: &impl Abort, m: &mut Mbufs, pool: u32, bytes: &[u8]) -> Option<Packet>
+    requires over { IsOver m.old.store }
+    requires pool { pool < 2 }
+    ensures { StaysOver m.old m.new }
+{
+    assert!(rt; bytes.len() < 262_145);
+    let need = m.needed(pool, bytes.len());
+    assert!(rt; need <= 64);
+    m.receive(pool, bytes)
+}
+
+pub(crate) fn alloc(m: &mut Mbufs, pool: u32) -> Option<Packet>
+    requires over { IsOver m.old.store }
+    requires pool { pool < 3 }
+    ensures { StaysOver m.old m.new }
+{
+    m.alloc(pool)
+}
+
+pub(crate) fn copy(rt: &impl Abort, m: &mut Mbufs, p: &Packet, pool: u32) -> Option<Packet>
+    requires over { IsOver m.old.store }
+    requires pool { pool < 3 }
+    ensures { StaysOver m.old m.new }
+{
+    alive(rt, m, p);
+    m.clone_of(p, pool)
+}
+
+pub(crate) fn free(rt: &impl Abort, m: &mut Mbufs, p: Packet)
+    requires { IsOver m.old.store }
+    ensures { StaysOver m.old m.new }
+{
+    alive(rt, m, &p);
+    m.free(p);
+}
+
+pub(crate) fn free_count(m: &Mbufs, pool: u32) -> u32
+    requires over { IsOver m.now.store }
+    requires pool { pool < 3 }
+{
+    m.available(pool)
+}
+
+pub(crate) fn prepend(rt: &impl Abort, m: &mut Mbufs, p: &Packet, n: u16)
+    requires { IsOver m.old.store }
+    ensures { StaysOver m.old m.new }
+{
+    let sharers = refs(rt, m, p, 0);
+    assert!(rt; sharers == 1);
+    let room = m.headroom(p);
+    assert!(rt; n <= room);
+    m.prepend(p, n);
+}
+
+pub(crate) fn append(rt: &impl Abort, m: &mut Mbufs, p: &Packet, n: u16)
+    requires { IsOver m.old.store }
+    ensures { StaysOver m.old m.new }
+{
+    let count = segments(rt, m, p);
+    assert!(rt; 1 <= count);
+    let sharers = refs(rt, m, p, count - 1);
+    assert!(rt; sharers == 1);
+    let room = m.tailroom(p);
+    assert!(rt; n <= room);
+    m.append(p, n);
+}
+
+pub(crate) fn adj(rt: &impl Abort, m: &mut Mbufs, p: &Packet, n: u16)
+    requires { IsOver m.old.store }
+    ensures { StaysOver m.old m.new }
+{
+    alive(rt, m, p);
+    let len = m.first_len(p);
+    assert!(rt; n <= len);
+    m.adj(p, n);
+}
+
+pub(crate) fn trim(rt: &impl Abort, m: &mut Mbufs, p: &Packet, n: u16)
+    requires { IsOver m.old.store }
+    ensures { StaysOver m.old m.new }
+{
+    alive(rt, m, p);
+    let len = m.last_len(p);
+    assert!(rt; n <= len);
+    m.trim(p, n);
+}
+
+/// Writes one byte of the first segment.
+pub(crate) fn store(rt: &impl Abort, m: &mut Mbufs, p: &Packet, offset: u64, byte: u8)
+    requires { IsOver m.old.store }
+    ensures { StaysOver m.old m.new }
+{
+    let sharers = refs(rt, m, p, 0);
+    assert!(rt; sharers == 1);
+    let len = m.first_len(p);
+    assert!(rt; offset < u64::from(len));
+    m.store(p, offset, Width::One, u64::from(byte));
+}
+
+pub(crate) fn load_one(rt: &impl Abort, m: &Mbufs, p: &Packet, offset: u64) -> u64 {
+    alive(rt, m, p);
+    let len = m.first_len(p);
+    assert!(rt; offset < u64::from(len));
+    m.load(p, offset, Width::One)
+}
+
+pub(crate) fn load_four(rt: &impl Abort, m: &Mbufs, p: &Packet) -> u64 {
+    alive(rt, m, p);
+    let len = m.first_len(p);
+    assert!(rt; 4 <= len);
+    m.load(p, 0, Width::Four)
+}
+
+pub(crate) fn refs(rt: &impl Abort, m: &Mbufs, p: &Packet, k: u32) -> u32
+    ensures live { IsLive m.now.store p.now }
+    ensures refs { Of m.now.store p.now (λ packet. (s : Segment) → slice_get packet k ≡ Some s → result ≡ refs (segments_of m.now.store) s.buffer) }
+{
+    alive(rt, m, p);
+    let segments = m.segments(p);
+    assert!(rt; k < segments);
+    m.refs(p, k)
+}
+
+pub(crate) fn chain(rt: &impl Abort, m: &mut Mbufs, head: &Packet, tail: Packet)
+    requires { IsOver m.old.store }
+    ensures { StaysOver m.old m.new }
+{
+    alive(rt, m, head);
+    alive(rt, m, &tail);
+    let same = head.number() == tail.number();
+    assert!(rt; !same);
+    let front = m.segments(head);
+    let beyond = m.segments(&tail);
+    assert!(rt; front <= 64);
+    assert!(rt; beyond <= 64 - front);
+    m.chain(head, tail);
+}
+
+pub(crate) fn segments(rt: &impl Abort, m: &Mbufs, p: &Packet) -> u32
+    ensures { Of m.now.store p.now (λ packet. result ≡ length packet) }
+{
+    alive(rt, m, p);
+    m.segments(p)
+}
+
+pub(crate) fn is_sole(rt: &impl Abort, m: &Mbufs, p: &Packet) -> bool {
+    alive(rt, m, p);
+    m.is_sole(p)
+}
+
+/// Headroom, tailroom, and the lengths of the first and of the last segment.
+pub(crate) fn rooms(rt: &impl Abort, m: &Mbufs, p: &Packet) -> (u16, u16, u16, u16) {
+    alive(rt, m, p);
+    (m.headroom(p), m.tailroom(p), m.first_len(p), m.last_len(p))
+}
+
+/// Whether the packet has these bytes.
+pub(crate) fn spells(rt: &impl Abort, m: &Mbufs, p: &Packet, want: &[u8]) -> bool {
+    let mut rest = want;
+    for k in 0..segments(rt, m, p) {
+        alive(rt, m, p);
+        let count = m.segments(p);
+        assert!(rt; k < count);
+        let part = m.segment_bytes(p, k);
+        if part.len() > rest.len() || part != &rest[..part.len()] {
+            return false;
+        }
+        rest = &rest[part.len()..];
+    }
+    rest.is_empty()
+}

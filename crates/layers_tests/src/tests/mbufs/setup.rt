@@ -1,0 +1,127 @@
+//! Makes mbufs over three pools, and takes them apart.
+
+ghost use Rattle.std.specs.Prelude.{◌≡◌, ◌+◌, ◌*◌, ◌<◌, ◌≤◌, length};
+ghost use Rattle.layers_tests.specs.Rows.{IsOver, AreIn, SlotIn, IsReadyPool};
+
+use dp_heap::Heap;
+use dp_mbuf::{HEADER_SIZE, HEADROOM, MAX_MBUFS, MAX_ROOM, Mbufs};
+use dp_pool::Pool;
+use dp_region::Region;
+use dp_zone::Zones;
+use std::alloc::Global;
+use std::process::Abort;
+
+/// Mbufs over three pools, with the heap and the table of zones under them.
+pub(crate) struct Setup {
+    pub heap: Heap,
+    pub zones: Zones,
+    pub mbufs: Mbufs,
+}
+
+/// The number of a pool's objects, the size of their data rooms, and that of the cache.
+#[derive(Clone, Copy)]
+pub(crate) struct Sizes {
+    pub count: u32,
+    pub room: u32,
+    pub cache: u32,
+}
+
+// Makes a pool of mbufs.
+fn make(rt: &impl Abort, heap: &mut Heap, zones: &mut Zones, name: &str, sizes: Sizes) -> Pool
+    requires { sizes.room ≤ MAX_ROOM }
+    ensures pool { IsReadyPool sizes.count sizes.room heap.old.home result }
+    ensures home { heap.new.home ≡ heap.old.home }
+{
+    let made = Pool::make(
+        heap,
+        zones,
+        name,
+        sizes.count,
+        sizes.room + HEADER_SIZE,
+        sizes.cache,
+    );
+    made.expect(rt, "a pool")
+}
+
+/// Mbufs over two pools of these sizes, and a third with one buffer without room.
+pub(crate) fn open(rt: &impl Abort, alloc: Global, first: Sizes, second: Sizes) -> Setup
+    requires first { (1 ≤ first.count) × (HEADROOM < first.room) × (first.room ≤ MAX_ROOM) }
+    requires second { (HEADROOM < second.room) × (second.room ≤ MAX_ROOM) }
+    requires few { first.count + second.count < MAX_MBUFS }
+    ensures over { IsOver result.mbufs.store }
+    ensures home { AreIn result.heap.home result.mbufs.zones }
+{
+    let third = Sizes {
+        count: 1,
+        room: 0,
+        cache: 0,
+    };
+    open_beside(rt, alloc, first, second, third)
+}
+
+/// Mbufs over three pools of these sizes. The third may have any room.
+pub(crate) fn open_beside(
+    rt: &impl Abort,
+    alloc: Global,
+    first: Sizes,
+    second: Sizes,
+    third: Sizes,
+) -> Setup
+    requires first { (1 ≤ first.count) × (HEADROOM < first.room) × (first.room ≤ MAX_ROOM) }
+    requires second { (HEADROOM < second.room) × (second.room ≤ MAX_ROOM) }
+    requires third { third.room ≤ MAX_ROOM }
+    requires few { first.count + second.count + third.count ≤ MAX_MBUFS }
+    ensures over { IsOver result.mbufs.store }
+    ensures home { AreIn result.heap.home result.mbufs.zones }
+{
+    let region = Region::new(alloc, 1_048_576).expect(rt, "memory");
+    let mut heap = Heap::new(region);
+    let mut zones = Zones::new();
+    let one = make(rt, &mut heap, &mut zones, "first", first);
+    let two = make(rt, &mut heap, &mut zones, "second", second);
+    let three = make(rt, &mut heap, &mut zones, "third", third);
+    let pools = [
+        Some(one),
+        Some(two),
+        Some(three),
+        None,
+        None,
+        None,
+        None,
+        None,
+    ];
+    let mbufs = Mbufs::over(pools);
+    Setup { heap, zones, mbufs }
+}
+
+// Gives the zones of a slot's pool back.
+fn unmake(slot: Option<Pool>, heap: &mut Heap, zones: &mut Zones)
+    requires { SlotIn heap.old.home slot }
+    ensures { heap.new.home ≡ heap.old.home }
+{
+    if let Some(pool) = slot {
+        pool.unmake(heap, zones);
+    }
+}
+
+/// Takes everything apart. There is no packet left, each pool is whole, and nothing of the heap is out.
+pub(crate) fn close(rt: &impl Abort, setup: Setup)
+    requires { AreIn setup.heap.home setup.mbufs.zones }
+{
+    let Setup { heap, zones, mbufs } = setup;
+    let (mut heap, mut zones) = (heap, zones);
+    let empty = mbufs.is_empty();
+    assert!(rt; empty, "a packet is left");
+    let [a, b, c, d, e, f, g, h] = mbufs.into_pools();
+    unmake(a, &mut heap, &mut zones);
+    unmake(b, &mut heap, &mut zones);
+    unmake(c, &mut heap, &mut zones);
+    unmake(d, &mut heap, &mut zones);
+    unmake(e, &mut heap, &mut zones);
+    unmake(f, &mut heap, &mut zones);
+    unmake(g, &mut heap, &mut zones);
+    unmake(h, &mut heap, &mut zones);
+    let stats = heap.stats();
+    assert!(rt; stats.busy_count == 0, "a zone is left");
+    heap.close().close();
+}

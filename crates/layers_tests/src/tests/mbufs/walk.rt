@@ -1,0 +1,321 @@
+//! A long random walk over two pools, beside a list of packets and their bytes.
+
+ghost use Rattle.std.specs.Prelude.{◌≡◌, ◌<◌, ◌≤◌, length};
+ghost use Rattle.layers_tests.specs.Rows.{IsOver, StaysOver};
+
+use super::calls::{
+    adj, alloc, append, chain, copy, free, free_count, load_one, prepend, receive, refs, rooms,
+    segments, spells, store, trim,
+};
+use super::setup::{Sizes, close, open};
+use dp_mbuf::{Mbufs, POOL_HANDLES};
+use dp_model::Packet;
+use std::alloc::{AllocError, Global};
+use std::process::Abort;
+
+// A packet, and the bytes that it should have.
+#[derive(Drop)]
+struct Shadow {
+    packet: Packet,
+    bytes: Vec<u8>,
+}
+
+// The packets, the random numbers, and how often a clone went to the other pool and a chain joined packets of both.
+#[derive(Drop)]
+struct Walk {
+    shadows: Vec<Shadow>,
+    seed: u64,
+    clones: u32,
+    chains: u32,
+}
+
+// The result of a step: an error if a list of the test could not grow.
+type Grown = Result<(), AllocError>;
+
+// The pool of a packet's first mbuf.
+fn pool_of(packet: &Packet) -> u32 {
+    packet.number() / POOL_HANDLES
+}
+
+fn next(seed: &mut u64) -> u64 {
+    *seed = seed
+        .wrapping_mul(6364136223846793005)
+        .wrapping_add(1442695040888963407);
+    *seed >> 33
+}
+
+fn pick(seed: &mut u64, count: usize) -> usize
+    requires { 0 < count }
+    ensures { result < count }
+{
+    (next(seed) % count as u64) as usize
+}
+
+fn pick_pool(seed: &mut u64) -> u32
+    ensures { result < 2 }
+{
+    (next(seed) % 2) as u32
+}
+
+// A random number from 0 to `most`, if that is small.
+fn pick_up_to(seed: &mut u64, most: u16) -> u16
+    ensures { result ≤ most }
+{
+    (next(seed) % (most.min(9) as u64 + 1)) as u16
+}
+
+fn walk_receive(rt: &impl Abort, alloc: Global, m: &mut Mbufs, walk: &mut Walk) -> Grown
+    requires { IsOver m.old.store }
+    ensures { StaysOver m.old m.new }
+{
+    let mut bytes = Vec::new(alloc);
+    for _ in 0..next(&mut walk.seed) % 150 {
+        bytes.push((next(&mut walk.seed) % 256) as u8)?;
+    }
+    let pool = pick_pool(&mut walk.seed);
+    if let Some(packet) = receive(rt, m, pool, &bytes) {
+        walk.shadows.push(Shadow { packet, bytes })?;
+    }
+    Ok(())
+}
+
+fn walk_alloc(alloc_in: Global, m: &mut Mbufs, walk: &mut Walk) -> Grown
+    requires { IsOver m.old.store }
+    ensures { StaysOver m.old m.new }
+{
+    let pool = pick_pool(&mut walk.seed);
+    if let Some(packet) = alloc(m, pool) {
+        let bytes = Vec::new(alloc_in);
+        walk.shadows.push(Shadow { packet, bytes })?;
+    }
+    Ok(())
+}
+
+fn walk_copy(rt: &impl Abort, m: &mut Mbufs, walk: &mut Walk) -> Grown
+    requires { IsOver m.old.store }
+    ensures { StaysOver m.old m.new }
+{
+    if walk.shadows.is_empty() {
+        return Ok(());
+    }
+    let i = pick(&mut walk.seed, walk.shadows.len());
+    let bytes = walk.shadows[i].bytes.clone()?;
+    let source = walk.shadows[i].packet;
+    let pool = pick_pool(&mut walk.seed);
+    if let Some(packet) = copy(rt, m, &source, pool) {
+        if pool_of(&source) != pool {
+            walk.clones = walk.clones.saturating_add(1);
+        }
+        walk.shadows.push(Shadow { packet, bytes })?;
+    }
+    Ok(())
+}
+
+fn walk_free(rt: &impl Abort, m: &mut Mbufs, walk: &mut Walk)
+    requires { IsOver m.old.store }
+    ensures { StaysOver m.old m.new }
+{
+    if !walk.shadows.is_empty() {
+        let i = pick(&mut walk.seed, walk.shadows.len());
+        let shadow = walk.shadows.swap_remove(i);
+        let same = spells(rt, m, &shadow.packet, &shadow.bytes);
+        assert!(rt; same, "the bytes of a freed packet");
+        free(rt, m, shadow.packet);
+    }
+}
+
+// Appends zeros, if the last buffer has one reference.
+fn walk_append(rt: &impl Abort, m: &mut Mbufs, shadow: &mut Shadow, seed: &mut u64) -> Grown
+    requires { IsOver m.old.store }
+    ensures { StaysOver m.old m.new }
+{
+    let packet = shadow.packet;
+    let count = segments(rt, m, &packet);
+    if count > 0 && refs(rt, m, &packet, count - 1) == 1 {
+        let n = pick_up_to(seed, rooms(rt, m, &packet).1);
+        append(rt, m, &packet, n);
+        for _ in 0..n {
+            shadow.bytes.push(0)?;
+        }
+    }
+    Ok(())
+}
+
+// Prepends zeros, if the first buffer has one reference.
+fn walk_prepend(rt: &impl Abort, m: &mut Mbufs, shadow: &mut Shadow, seed: &mut u64) -> Grown
+    requires { IsOver m.old.store }
+    ensures { StaysOver m.old m.new }
+{
+    let packet = shadow.packet;
+    if refs(rt, m, &packet, 0) == 1 {
+        let n = pick_up_to(seed, rooms(rt, m, &packet).0);
+        prepend(rt, m, &packet, n);
+        for _ in 0..n {
+            shadow.bytes.insert(0, 0)?;
+        }
+    }
+    Ok(())
+}
+
+fn walk_adj(rt: &impl Abort, m: &mut Mbufs, shadow: &mut Shadow, seed: &mut u64)
+    requires { IsOver m.old.store }
+    ensures { StaysOver m.old m.new }
+{
+    let packet = shadow.packet;
+    let n = pick_up_to(seed, rooms(rt, m, &packet).2);
+    adj(rt, m, &packet, n);
+    for _ in 0..n {
+        assert!(rt; !shadow.bytes.is_empty());
+        shadow.bytes.remove(0);
+    }
+}
+
+fn walk_trim(rt: &impl Abort, m: &mut Mbufs, shadow: &mut Shadow, seed: &mut u64)
+    requires { IsOver m.old.store }
+    ensures { StaysOver m.old m.new }
+{
+    let packet = shadow.packet;
+    let n = pick_up_to(seed, rooms(rt, m, &packet).3);
+    trim(rt, m, &packet, n);
+    for _ in 0..n {
+        assert!(rt; shadow.bytes.pop().is_some());
+    }
+}
+
+// Reads a byte of the first segment, and writes another if its buffer has one reference.
+fn walk_store(rt: &impl Abort, m: &mut Mbufs, shadow: &mut Shadow, seed: &mut u64)
+    requires { IsOver m.old.store }
+    ensures { StaysOver m.old m.new }
+{
+    let packet = shadow.packet;
+    let len = rooms(rt, m, &packet).2;
+    if len == 0 {
+        return;
+    }
+    let offset = pick(seed, usize::from(len));
+    assert!(rt; offset < shadow.bytes.len());
+    let byte = load_one(rt, m, &packet, offset as u64);
+    assert_eq!(rt; byte, u64::from(shadow.bytes[offset]));
+    if refs(rt, m, &packet, 0) == 1 {
+        let byte = (next(seed) % 256) as u8;
+        store(rt, m, &packet, offset as u64, byte);
+        shadow.bytes[offset] = byte;
+    }
+}
+
+fn walk_chain(rt: &impl Abort, m: &mut Mbufs, walk: &mut Walk) -> Grown
+    requires { IsOver m.old.store }
+    ensures { StaysOver m.old m.new }
+{
+    if walk.shadows.len() < 2 {
+        return Ok(());
+    }
+    let i = pick(&mut walk.seed, walk.shadows.len());
+    let tail = walk.shadows.swap_remove(i);
+    let j = pick(&mut walk.seed, walk.shadows.len());
+    let head = walk.shadows[j].packet;
+    if segments(rt, m, &head) > 30 || segments(rt, m, &tail.packet) > 30 {
+        walk.shadows.push(tail)?;
+        return Ok(());
+    }
+    if pool_of(&head) != pool_of(&tail.packet) {
+        walk.chains = walk.chains.saturating_add(1);
+    }
+    chain(rt, m, &head, tail.packet);
+    let shadow = &mut walk.shadows[j];
+    for byte in &tail.bytes {
+        shadow.bytes.push(*byte)?;
+    }
+    Ok(())
+}
+
+// Changes one packet.
+fn walk_change(rt: &impl Abort, m: &mut Mbufs, shadow: &mut Shadow, seed: &mut u64) -> Grown
+    requires { IsOver m.old.store }
+    ensures { StaysOver m.old m.new }
+{
+    match next(seed) % 5 {
+        0 => walk_append(rt, m, shadow, seed),
+        1 => walk_prepend(rt, m, shadow, seed),
+        2 => {
+            walk_adj(rt, m, shadow, seed);
+            Ok(())
+        }
+        3 => {
+            walk_trim(rt, m, shadow, seed);
+            Ok(())
+        }
+        _ => {
+            walk_store(rt, m, shadow, seed);
+            Ok(())
+        }
+    }
+}
+
+fn walk_one(rt: &impl Abort, m: &mut Mbufs, walk: &mut Walk) -> Grown
+    requires { IsOver m.old.store }
+    ensures { StaysOver m.old m.new }
+{
+    if walk.shadows.is_empty() {
+        return Ok(());
+    }
+    let i = pick(&mut walk.seed, walk.shadows.len());
+    walk_change(rt, m, &mut walk.shadows[i], &mut walk.seed)
+}
+
+fn step(rt: &impl Abort, alloc: Global, m: &mut Mbufs, walk: &mut Walk) -> Grown
+    requires { IsOver m.old.store }
+    ensures { StaysOver m.old m.new }
+{
+    match next(&mut walk.seed) % 12 {
+        0 | 1 => walk_receive(rt, alloc, m, walk),
+        2 => walk_alloc(alloc, m, walk),
+        3 | 4 => walk_copy(rt, m, walk),
+        5 => walk_chain(rt, m, walk),
+        6 | 7 => {
+            walk_free(rt, m, walk);
+            Ok(())
+        }
+        _ => walk_one(rt, m, walk),
+    }
+}
+
+// Asserts that all packets have the bytes that they should have.
+fn compare(rt: &impl Abort, m: &Mbufs, shadows: &[Shadow]) {
+    for shadow in shadows {
+        let same = spells(rt, m, &shadow.packet, &shadow.bytes);
+        assert!(rt; same, "the bytes of a packet");
+    }
+}
+
+#[test]
+fn a_random_walk_ends_with_whole_pools(rt: HostRuntime) {
+    let first = Sizes {
+        count: 40,
+        room: 168,
+        cache: 8,
+    };
+    let second = Sizes {
+        count: 23,
+        room: 300,
+        cache: 0,
+    };
+    let mut s = open(&rt, rt.alloc(), first, second);
+    let m = &mut s.mbufs;
+    let mut walk = Walk {
+        shadows: Vec::new(rt.alloc()),
+        seed: 20261122,
+        clones: 0,
+        chains: 0,
+    };
+    for _ in 0..10000 {
+        step(&rt, rt.alloc(), m, &mut walk).expect(&rt, "memory");
+        compare(&rt, m, &walk.shadows);
+    }
+    assert!(rt; walk.clones > 100 && walk.chains > 100);
+    for _ in 0..walk.shadows.len() {
+        walk_free(&rt, m, &mut walk);
+    }
+    assert_eq!(rt; (free_count(m, 0), free_count(m, 1)), (40, 23));
+    close(&rt, s);
+}
