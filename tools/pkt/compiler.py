@@ -10,7 +10,7 @@ from .writer import printable, write
 
 PRELUDE = pathlib.Path(__file__).resolve().parent / "prelude.pkt"
 # More instructions than a program can have after it was shortened.
-MAX_INSTRUCTIONS = 12_000
+MAX_INSTRUCTIONS = 6_000
 
 
 @lru_cache

@@ -14,7 +14,7 @@ from .state import EVERYTHING, NOTHING, Needs, State
 from .syntax import THIS, Assign, Field, Found, If, Mend, Name, Need, Node, Place, Pop, Push, children, parts, require
 
 # Limits of a program before it is shortened: far beyond any that fits afterwards.
-MAX_BLOCKS, MAX_APPENDED = 20_000, 40_000
+MAX_BLOCKS, MAX_APPENDED = 6_000, 16_000
 TOO_MUCH = "`need` what most packets have, or find it out once for all; a prefix or a table in place of a list of addresses"
 
 
