@@ -22,9 +22,10 @@ from model import programs, rules  # noqa: E402
 from model.machine import Env, Input, Pool, Port, Ring, World, run  # noqa: E402
 from pkt.compiler import compile_text, error_text, parse  # noqa: E402
 from pkt.headers import Headers, Span  # noqa: E402
-from pkt.layout import Graph, Instruction  # noqa: E402
+from pkt.graph import Graph, Instruction  # noqa: E402
 from pkt.lexer import words_of  # noqa: E402
 from pkt.parser import Parser  # noqa: E402
+from pkt.peephole import shorten  # noqa: E402
 from pkt.state import SOMEBODY, SOMEBODY_THE_REST, Packet, State  # noqa: E402
 from pkt.syntax import Compare, Field, Number, SourceError  # noqa: E402
 
@@ -305,7 +306,7 @@ class Layout(unittest.TestCase):
         ends = [Instruction("set", ("r1", "5"), 1, next=Instruction("free", ("p0",), 1, next=Instruction("exit"))) for _ in range(2)]
         second = Instruction("jeq", ("r0", "2"), 1, target=ends[0], next=ends[1])
         graph = Graph(Instruction(next=Instruction("jeq", ("r0", "1"), 1, target=ends[0], next=second)))
-        graph.shorten()
+        shorten(graph)
         self.assertEqual([it.word for it in graph.order()], ["set", "free", "exit"])
 
     def test_equal_ends_are_one_where_packets_share_bytes(self) -> None:

@@ -186,7 +186,8 @@ class Numbers:
         sixes = [rng.choice(SIXES) for _ in range(2)]
         items = ", ".join(f"{six}/{rng.choice((0, 10, 32, 64, 65, 128))}" if self.chance(0.6) else six for six in sixes)
         other = field.replace("src", "dst") if "src" in field else sixes[0]
-        return rng.choice((f"{field} in {{{items}}}", f"{field} in {items.split(',')[0]}", f"{field} {rng.choice(('==', '!='))} {rng.choice((sixes[1], other))}"))
+        compared = f"{field} {rng.choice(('==', '!='))} {rng.choice((sixes[1], other))}"
+        return rng.choice((f"{field} in {{{items}}}", f"{field} in {items.split(',')[0]}", compared))
 
     def item(self, field: str) -> str:
         """A value or a range."""

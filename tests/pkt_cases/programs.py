@@ -564,7 +564,8 @@ def own_header(rng: Random, name: str, before: str) -> str:
     for number in range(rng.choice((2, 2, 3) if is_narrow else (1, 2, 3, 4))):
         count = rng.choice((1, 3, 4, 5, 12, 20) if is_narrow else (8, 8, 16, 16, 32, 48, 64, 4, 3, 13, 20, 24, 40))
         count = min(count, 64 - at % 8)
-        default = rng.choice(("", *([f"={rng.getrandbits(count)}"] * 2 if is_narrow else ("", "")), f"={rng.getrandbits(count)}", "=auto" if count == 16 and at % 16 == 0 else ""))
+        constant = f"={rng.getrandbits(count)}"
+        default = rng.choice(("", *([constant] * 2 if is_narrow else ("", "")), constant, "=auto" if count == 16 and at % 16 == 0 else ""))
         default = "" if default == "=auto" and "=auto" in " ".join(fields) else default
         fields.append(f"f{number}:{count}{default}")
         at += count

@@ -4,6 +4,7 @@ from functools import lru_cache
 
 from .headers import Headers
 from .parser import Parser, Program
+from .peephole import shorten
 from .statements import compile_program
 from .syntax import Row, SourceError
 from .writer import printable, write
@@ -44,7 +45,7 @@ def compile_text(source: str, name: str = "a text", folder: pathlib.Path | None 
     program = parse(source, folder)
     try:
         graph = compile_program(program)
-        graph.shorten(MAX_INSTRUCTIONS)
+        shorten(graph, MAX_INSTRUCTIONS)
         return f"# Built from {printable(name)} by `dpv build`; docs/users/pkt.md has its language.\n" + write(graph, program.rows)
     except SourceError as error:
         raise placed(error, program.rows) from None

@@ -40,9 +40,10 @@ class Span(NamedTuple):
 
 @dataclass
 class Header:
-    """A header. `wide` has the halves of fields of 128 bits, `needed` the fields that each `push` names. `follows` has the condition for each header that it may follow; `before` has it and
-    all that may come before it. The value of its first `bits` gives its length, in `sizes` and by a formula. Its checksum `sum` may cover what
-    follows it, `over` fields of others, and be 0. Of the known ones no two that follow the same header can both be present."""
+    """A header. `wide` has the halves of fields of 128 bits, `needed` the fields that each `push` names. `follows` has the condition for each
+    header that it may follow; `before` has it and all that may come before it. The value of its first `bits` gives its length, in `sizes` and
+    by a formula. Its checksum `sum` may cover what follows it, `over` fields of others, and be 0. Of the known headers no two that follow the
+    same one can both be present."""
 
     name: str
     at: Place

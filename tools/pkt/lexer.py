@@ -7,7 +7,8 @@ from .syntax import Path, Place, Row, require
 
 WORD = re.compile(
     r"(?P<blank>[ \t\r]+|\#[^\n]*)|(?P<line>\n)"
-    r"|(?P<ip6>(?:[0-9a-fA-F]{1,4}:){7}[0-9a-fA-F]{1,4}(?![\w:])|[0-9a-fA-F:]*::[0-9a-fA-F:]*)|(?P<ethernet>[0-9a-fA-F]{2}(?::[0-9a-fA-F]{2}){5}(?![0-9a-fA-F:]))"
+    r"|(?P<ip6>(?:[0-9a-fA-F]{1,4}:){7}[0-9a-fA-F]{1,4}(?![\w:])|[0-9a-fA-F:]*::[0-9a-fA-F:]*)"
+    r"|(?P<ethernet>[0-9a-fA-F]{2}(?::[0-9a-fA-F]{2}){5}(?![0-9a-fA-F:]))"
     r"|(?P<ip>\d+\.\d+\.\d+\.\d+(?!\d|\.\d))|(?P<number>0x[0-9a-fA-F]+|\d+)|(?P<name>[A-Za-z_]\w*)|(?P<string>\"[^\"\n]*\")"
     r"|(?P<sign>\.\.|<<=|>>=|<<|>>|==|!=|<=|>=|[-+*&|^]=|[-+*&|^~<>=(){}.,:/@])|(?P<wrong>.)",
     re.ASCII,

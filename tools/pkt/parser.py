@@ -1,7 +1,7 @@
 """The parser: reads a text by the grammar of docs/users/pkt.md, and resolves each name."""
 import ipaddress
 import operator
-from collections.abc import Iterator
+from collections.abc import Callable, Iterator
 from contextlib import contextmanager
 from dataclasses import dataclass, field, replace
 from pathlib import Path as File
@@ -10,8 +10,8 @@ from typing import NamedTuple
 from .headers import Header, Headers, Span, check
 from .lexer import RESERVED, Lexer, require_word
 from .syntax import (
-    BIGGEST, PORT, PRIME, THIS, And, Assign, Binary, Block, Chain, Clone, Compare, Count, Cut, Drop, Field, Found, Free, If, Inline, Length, Let, Lookup, Mend, Name, Need,
-    New, Node, Not, Number, Numeric, Or, Path, Place, Pop, Push, Pushed, Row, Send, SourceError, Truncate, While, Wide, goes_on, parts, require,
+    BIGGEST, PORT, PRIME, THIS, And, Assign, Binary, Block, Chain, Clone, Compare, Count, Cut, Drop, Field, Found, Free, If, Inline, Length, Let, Lookup, Mend,
+    Name, Need,    New, Node, Not, Number, Numeric, Or, Path, Place, Pop, Push, Pushed, Row, Send, SourceError, Truncate, While, Wide, goes_on, parts, require,
 )
 
 OPERATORS = {
@@ -209,7 +209,8 @@ class Parser(Lexer):
         while self.sees(*LEVELS[level]):
             count += 1
             limit = MAX_OPERATORS if level >= NUMBERS else MAX_ITEMS
-            require(count <= limit, self.place(), f"more than {limit:,} operators in a row", "let x = .. has a part of it; a prefix or a table has many addresses")
+            cure = "let x = .. has a part of it; a prefix or a table has many addresses"
+            require(count <= limit, self.place(), f"more than {limit:,} operators in a row", cure)
             sign = self.take().word
             if sign == "in":
                 node = self.items(as_side(node))
@@ -221,7 +222,8 @@ class Parser(Lexer):
     def nested(self, what: str) -> Iterator[None]:
         """What lies within parentheses or braces; refuses too many of them in one another."""
         self.depth += 1
-        require(self.depth <= MAX_NESTING, self.place(), f"more than {MAX_NESTING} {what} in one another", "let x = .. has a part of it, or `else if` the next case")
+        cure = "let x = .. has a part of it, or `else if` the next case"
+        require(self.depth <= MAX_NESTING, self.place(), f"more than {MAX_NESTING} {what} in one another", cure)
         yield
         self.depth -= 1
 
@@ -250,7 +252,8 @@ class Parser(Lexer):
         found = self.item()
         while self.may(","):
             found += self.item()
-            require(len(found) <= MAX_ITEMS, self.place(), f"a list has at most {MAX_ITEMS:,} items: each takes an instruction", "a prefix, or `lookup` in a table")
+            fault = f"a list has at most {MAX_ITEMS:,} items: each takes an instruction"
+            require(len(found) <= MAX_ITEMS, self.place(), fault, "a prefix, or `lookup` in a table")
         self.take("}")
         return found
 
@@ -523,7 +526,7 @@ class Parser(Lexer):
             if slot[0] == "'":
                 self.take(slot[1:])
             else:
-                found.append(getattr(self, slot)() if hasattr(self, slot) else self.limited(slot))
+                found.append(SLOTS[slot](self) if slot in SLOTS else self.limited(slot))
                 self.refuse_unknown()
         return found
 
@@ -605,10 +608,7 @@ class Parser(Lexer):
                 continue
             require(at.word not in said & {"ports", "segments", "otherwise"}, at, f"{at.word} is declared twice")
             said.add(self.take().word)
-            if at.word in ("ports", "segments"):
-                setattr(program, at.word, self.limited(f"number of {at.word}", 1))
-            else:
-                getattr(self, f"declare_{at.word}")(program)
+            DECLARATIONS[at.word](self, program)
         program.rows = self.rows
         return program
 
@@ -616,6 +616,12 @@ class Parser(Lexer):
         """Whether a declaration is next."""
         is_port = self.sees("port") and self.words[min(self.next + 1, len(self.words) - 1)][0] == "name" and self.place(2).word == "="
         return self.sees("const", "ports", "segments", "otherwise", "given", "header") or self.starts(*WORDS) or is_port
+
+    def declare_ports(self, program: Program) -> None:
+        program.ports = self.limited("number of ports", 1)
+
+    def declare_segments(self, program: Program) -> None:
+        program.segments = self.limited("number of segments", 1)
 
     def declare_number(self, what: str) -> None:
         """A name for a number of a table, a pool or a ring."""
@@ -736,7 +742,7 @@ class Parser(Lexer):
         self.fields(header)
         self.headers[at.word] = header
         while self.sees("after", "length", "next", "sum"):
-            getattr(self, f"clause_{self.take().word}")(header)
+            CLAUSES[self.take().word](self, header)
         header.depth = 1 + max((self.headers[other].depth for other in header.follows), default=0)
         require(header.depth <= MAX_HEADERS, at, f"more than {MAX_HEADERS} headers follow one another", "declare several of them as one header")
         check(header, self.headers)
@@ -808,3 +814,20 @@ class Parser(Lexer):
             it = self.field()
             header.over += (it.high, it.low) if isinstance(it, Wide) else (it,)  # type: ignore[assignment]
         header.optional = self.may("optional")
+
+
+# What reads the parts of a statement (those that are missing are constants within limits), declarations, and the clauses of a header.
+SLOTS: dict[str, Callable[[Parser], object]] = {
+    "condition": Parser.condition, "block": Parser.block, "other_block": Parser.other_block, "fallback": Parser.fallback, "number": Parser.number,
+    "packet": Parser.packet, "packet_to": Parser.packet_to, "packet_held": Parser.packet_held, "packet_on": Parser.packet_on,
+    "packet_first": Parser.packet_first, "pushed": Parser.pushed, "path": Parser.path, "kept": Parser.kept,
+}  # fmt: skip
+DECLARATIONS: dict[str, Callable[[Parser, Program], None]] = {
+    "const": Parser.declare_const, "ports": Parser.declare_ports, "segments": Parser.declare_segments, "otherwise": Parser.declare_otherwise,
+    "given": Parser.declare_given, "header": Parser.declare_header, "set": Parser.declare_set, "def": Parser.declare_def,
+    "include": Parser.declare_include, "extend": Parser.declare_extend, "table": Parser.declare_table, "pool": Parser.declare_pool,
+    "ring": Parser.declare_ring, "port": Parser.declare_port,
+}  # fmt: skip
+CLAUSES: dict[str, Callable[[Parser, Header], None]] = {
+    "after": Parser.clause_after, "length": Parser.clause_length, "next": Parser.clause_next, "sum": Parser.clause_sum,
+}  # fmt: skip

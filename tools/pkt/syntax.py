@@ -1,8 +1,7 @@
 """The parts of a text. Each knows its place in the text, which is ignored when two parts are compared."""
 import re
 from collections.abc import Iterator
-from dataclasses import dataclass, field, fields
-from functools import cache
+from dataclasses import dataclass, field
 from pathlib import Path as File
 from typing import Any, NamedTuple, dataclass_transform
 
@@ -58,8 +57,8 @@ Block = tuple[Node, ...]
 Path = tuple[str, ...]
 
 # fmt: off
-# Numbers. `width` has the bits of an address, and else 0; one that `wraps` was cut to 64 bits. `Bits` are bits of the packet that the compiler reads for its own use, `Wide` is an
-# IPv6 address in two halves, which the parser takes apart.
+# Numbers. `width` has the bits of an address, and else 0; one that `wraps` was cut to 64 bits. `Bits` are bits of
+# the packet that the compiler reads for its own use, `Wide` is an IPv6 address in two halves, which the parser takes apart.
 class Numeric(Node): pass  # noqa: E302, E701
 class Number(Numeric): value: int; width: int = field(default=0, compare=False); wraps: bool = field(default=False, compare=False)  # noqa: E702
 class Wide(Numeric): high: Node; low: Node
@@ -76,7 +75,8 @@ class Not(Node): condition: Node
 class And(Node): left: Node; right: Node
 class Or(Node): left: Node; right: Node
 
-# Statements. `Inline` are those of a `def`, where it is used. `fallback` is the `else` part; a port that is an int is a ring; a pushed value that is None is `auto`.
+# Statements. `Inline` are those of a `def`, where it is used. `fallback` is the `else` part; a port that is an int is a ring;
+# a pushed value that is None is `auto`.
 class Let(Node): name: str; value: Node
 class Lookup(Node): name: str; table: int; key: Node; fallback: Block | None
 class Assign(Node): target: Name | Field; value: Node
@@ -100,16 +100,10 @@ class Inline(Node): body: Block
 # fmt: on
 
 
-@cache
-def members(kind: type[Node]) -> tuple[str, ...]:
-    """The names of what a node consists of."""
-    return tuple(member.name for member in fields(kind) if member.name != "at")
-
-
 def children(it: Any) -> tuple[Any, ...]:
     """What a node or a tuple consists of."""
     if isinstance(it, Node):
-        return tuple(getattr(it, name) for name in members(type(it)))
+        return tuple(value for value in vars(it).values() if not isinstance(value, Place))
     return it if isinstance(it, tuple) else ()
 
 

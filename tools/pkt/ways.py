@@ -7,7 +7,7 @@ from dataclasses import dataclass, field
 from functools import cache, cached_property
 from typing import Any, Generic, Self, TypeVar
 
-from .layout import Instruction
+from .graph import Instruction
 from .headers import Headers, Span
 from .parser import Program
 from .state import EVERYTHING, NOTHING, Needs, State

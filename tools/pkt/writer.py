@@ -1,7 +1,7 @@
 """Writes the instructions of a program, each with its source line as a comment."""
 from collections.abc import Iterator
 
-from .layout import Graph
+from .graph import Graph
 from .syntax import Place, Row, require
 
 MAX_INSTRUCTIONS, WIDTH = 1_024, 96
