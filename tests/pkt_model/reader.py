@@ -8,7 +8,7 @@ from typing import NamedTuple, TypeVar
 from .arithmetic import BINARY, MASK
 from .syntax import (
     Arrival, Assign, AssignWide, Binary, Bits, Block, Both, Chain, Clone, Compare, Complement, Condition, Constant, Count, Cut, Drop, Either, Extent, Field,
-    Free,    Header, If, Inline, Length, Let, Lookup, Need, Negated, New, Number, Pop, Present, Program, Push, Pushed, Queue, Send, Statement, Sum, Truncate, Truth,
+    Free, Header, If, Inline, Length, Let, Lookup, Need, Negated, New, Number, Pop, Present, Program, Push, Pushed, Queue, Send, Statement, Sum, Truncate, Truth,
     Variable, While, Wide,
 )
 

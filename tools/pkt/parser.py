@@ -11,7 +11,7 @@ from .headers import Header, Headers, Span, check
 from .lexer import RESERVED, Lexer, require_word
 from .syntax import (
     BIGGEST, PORT, PRIME, THIS, And, Assign, Binary, Block, Chain, Clone, Compare, Count, Cut, Drop, Field, Found, Free, If, Inline, Length, Let, Lookup, Mend,
-    Name, Need,    New, Node, Not, Number, Numeric, Or, Path, Place, Pop, Push, Pushed, Row, Send, SourceError, Truncate, While, Wide, goes_on, parts, require,
+    Name, Need, New, Node, Not, Number, Numeric, Or, Path, Place, Pop, Push, Pushed, Row, Send, SourceError, Truncate, While, Wide, goes_on, parts, require,
 )
 
 OPERATORS = {

@@ -12,7 +12,7 @@ from .registers import Value
 from .state import FAR, NEAR, NOTHING, SOMEBODY, Far, Needs, Packet
 from .syntax import (
     BIGGEST, PORT, THIS, Assign, Block, Chain, Clone, Count, Cut, Drop, Field, Found, Free, If, Inline, Length, Let, Lookup, Mend, Name,
-    Need, New, Node, Number, Pop, Push,
+    Name, Need, New, Node, Number, Pop, Push,
     Send, Truncate, While, has, parts, require,
 )
 from .ways import Join, Unit, Way, paths
