@@ -1,9 +1,11 @@
 #!/usr/bin/env python3
 """Measures the hosts of examples/live: the engine alone, over DPDK's devices, and over Linux packet sockets, each beside no engine.
 
-Usage: bench/live.py [--library FOLDER] [--seconds N] [alone] [dpdk] [sockets]   (all three, with windows of 2 seconds)
+Usage: bench/live.py [--library FOLDER] [--seconds N] [alone] [threads] [dpdk] [sockets]   (all four, with windows of 2 seconds)
 FOLDER has libdpv.a and dpv.h, as `./dpv library FOLDER` puts them there; by default that is done first.
   alone    dpv_pass with no device: nanoseconds of processor time and, by perf or valgrind, machine instructions for a frame
+  threads  engines side by side, one for each of 1, 2 and 4 threads, with no device: nanoseconds of processor time for a frame, and frames a
+           second by the clock in all
   dpdk     examples/live/dpdk.c over net_null (frames of zeros, nothing is written) and net_pcap (one capture over and over, what is sent is
            dropped), beside the same host with no engine, and beside a loop as that of DPDK's l2fwd (bench/live/l2fwd.c)
   sockets  examples/live/af_packet.c between two network namespaces with a sender, beside the same host with no engine
@@ -76,6 +78,17 @@ def alone(library: pathlib.Path, folder: pathlib.Path) -> None:
             counts = [instructions([*words, str(rounds)], str(home)) for rounds in (1_000, 11_000)]
             each = "-" if None in counts else f"{(counts[1] - counts[0]) / 10_000:.0f}"
             print(f"{title:<24} {size:>6} {nanos:>8.1f} {each:>13} {1e9 / nanos:>16,.0f}", flush=True)
+
+
+def threads(library: pathlib.Path, folder: pathlib.Path) -> None:
+    """The table of engines side by side."""
+    program = str(compiled(HERE / "threads.c", folder / "threads", ["-pthread", *over(library)]))
+    print(f"\n{'engines side by side':<24} {'threads':>7} {'ns':>8} {'frames a second in all':>23}   ({os.cpu_count()} processors)")
+    for title, (home, name) in PIPELINES.items():
+        for count in (1, 2, 4):
+            words = [program, name, str(count), "1000000"]
+            runs = [subprocess.run(words, cwd=home, check=True, capture_output=True, text=True).stdout.split() for _ in range(ROUNDS)]
+            print(f"{title:<24} {count:>7} {min(float(run[0]) for run in runs):>8.1f} {1e9 / min(float(run[1]) for run in runs):>23,.0f}", flush=True)
 
 
 # ---- hosts that run
@@ -250,7 +263,7 @@ def main() -> None:
     parser.add_argument("--seconds", type=float, default=2)
     parser.add_argument("parts", nargs="*", metavar="PART")
     asked = parser.parse_args()
-    parts = asked.parts or ["alone", "dpdk", "sockets"]
+    parts = asked.parts or ["alone", "threads", "dpdk", "sockets"]
     with tempfile.TemporaryDirectory() as name:
         folder = pathlib.Path(name)
         library = asked.library
@@ -260,6 +273,8 @@ def main() -> None:
         library = library.resolve()
         if "alone" in parts:
             alone(library, folder)
+        if "threads" in parts:
+            threads(library, folder)
         if "dpdk" in parts:
             over_dpdk(library, folder, asked.seconds)
         if "sockets" in parts:

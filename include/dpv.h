@@ -76,6 +76,16 @@ struct dpv_batch {
     struct dpv_batch_size filled;
 };
 
+/* A frame of a burst. The caller sets the first three; a burst sets the others. */
+struct dpv_frame {
+    const uint8_t *bytes;
+    size_t length;
+    uint64_t time;    /* when it was received, in the caller's unit */
+    uint64_t first;   /* where its records begin in the batch */
+    uint64_t records; /* how many they are */
+    uint32_t answer;  /* as that of dpv_pass */
+};
+
 /* Why a pipeline was not loaded. cause is 0 (it was loaded), 1 (memory was refused), 2 (the packed files), 3 (the region is too small), or
    10 plus the cause that `dpv check` names, 11 to 19. From 11 to 17 the text is what `dpv check` prints after `fault: pipeline`; with 18 and
    19 it is the line that `dpv check` prints of the node. Zeros follow it, at least one. */
@@ -198,15 +208,18 @@ static inline void dpv_free(dpv_t *engine)
     free(engine);
 }
 
-/* Makes a batch that is large enough for an engine. DPV_OK; or DPV_NOT_OPEN, DPV_CLOSED, or 1 (here not DPV_NO_BUFFER) if there is no memory,
-   and then the batch has no arrays. */
-static inline uint32_t dpv_batch_open(dpv_t *engine, struct dpv_batch *batch)
+/* Makes a batch that is large enough for bursts of this many frames of an engine, at least 1. It is filled from the front, so memory that no
+   burst fills is never touched. DPV_OK; or DPV_NOT_OPEN, DPV_CLOSED, or 1 (here not DPV_NO_BUFFER) if there is no memory, and then the batch
+   has no arrays. */
+static inline uint32_t dpv_burst_open(dpv_t *engine, struct dpv_batch *batch, uint32_t frames)
 {
     uint32_t answer;
     memset(batch, 0, sizeof *batch);
     answer = dpv_batch_size(engine, &batch->room);
     if (answer != DPV_OK)
         return answer;
+    batch->room.records *= frames;
+    batch->room.bytes *= frames;
     batch->records = (struct dpv_record *)malloc((size_t)batch->room.records * sizeof *batch->records);
     batch->bytes = (uint8_t *)malloc((size_t)batch->room.bytes + 1);
     if (batch->records != NULL && batch->bytes != NULL)
@@ -215,6 +228,12 @@ static inline uint32_t dpv_batch_open(dpv_t *engine, struct dpv_batch *batch)
     free(batch->bytes);
     memset(batch, 0, sizeof *batch);
     return 1;
+}
+
+/* Makes a batch that is large enough for each pass of an engine, as a burst of one frame. */
+static inline uint32_t dpv_batch_open(dpv_t *engine, struct dpv_batch *batch)
+{
+    return dpv_burst_open(engine, batch, 1);
 }
 
 /* Frees the memory of a batch. */
@@ -231,6 +250,30 @@ static inline uint32_t dpv_pass(dpv_t *engine, uint32_t port, const uint8_t *fra
 {
     return dpv_pass_into(engine, port, time, frame, length, batch->records, (size_t)batch->room.records, batch->bytes,
                          (size_t)batch->room.bytes, &batch->filled);
+}
+
+/* Passes in the frames of one port, in order: for each what dpv_pass does, with its time, into what those before it left of the batch. Each
+   frame gets its answer, and says where its records are; batch->filled is that of all of them, and each offset is one in batch->bytes. A
+   frame for which less room is left than dpv_batch_size says is refused as DPV_BATCH_TOO_SMALL, and can be passed in again. */
+static inline void dpv_pass_burst(dpv_t *engine, uint32_t port, struct dpv_frame *frames, size_t count, struct dpv_batch *batch)
+{
+    struct dpv_batch_size used = {0, 0};
+    size_t k;
+    for (k = 0; k < count; k++) {
+        struct dpv_record *records = batch->records + used.records;
+        struct dpv_batch_size part;
+        uint64_t j;
+        frames[k].first = used.records;
+        frames[k].answer = dpv_pass_into(engine, port, frames[k].time, frames[k].bytes, frames[k].length, records,
+                                         (size_t)(batch->room.records - used.records), batch->bytes + used.bytes,
+                                         (size_t)(batch->room.bytes - used.bytes), &part);
+        frames[k].records = part.records;
+        for (j = 0; j < part.records; j++)
+            records[j].offset += used.bytes;
+        used.records += part.records;
+        used.bytes += part.bytes;
+    }
+    batch->filled = used;
 }
 
 #ifdef __cplusplus

@@ -5,9 +5,10 @@ Usage: tests/host.py [--seed N] [--cases N | --seconds N] [--library FOLDER | --
 FOLDER has libdpv.a and dpv.h, as `./dpv library FOLDER` installs them; by default they are built into a new folder. With --gate the library
 is built over the crates as `rt ci` left them, which proves its own crate once more. tests/wrong_callers.c runs under the C compiler's
 sanitizers, and under valgrind if installed: each call returns what dpv.h says and changes nothing, packed files that are cut at each byte
-open no engine, and all memory is freed. The hosts have to compile without a warning, and if DPDK is installed, dpdk.c over its net_pcap has
-to send for each example the records expected of `dpv run`. Then, for random pipelines and frames, in any order of ports, all that the
-library returns and all its counts are compared with tests/model. Prints a line for each finding, and a count; exits with 1 if there is a
+open no engine, and all memory is freed. bench/live/threads.c runs four engines on four threads, with ThreadSanitizer and under valgrind's
+helgrind: they share nothing, and do the same. The hosts have to compile without a warning, and if DPDK is installed, dpdk.c over its net_pcap has
+to send for each example the records expected of `dpv run`. Then, for random pipelines, frames in any order of ports, bursts, changes of routes
+and look-ups, all that the library returns and all its counts are compared with tests/model. Prints a line for each finding, and a count; exits with 1 if there is a
 finding.
 """
 import argparse
@@ -81,6 +82,22 @@ def wrong_callers(library: pathlib.Path, folder: pathlib.Path) -> int:
     return bad
 
 
+def threads(library: pathlib.Path, folder: pathlib.Path) -> int:
+    """How many runs of four engines on four threads failed."""
+    ways, bad = [("ThreadSanitizer", ["-fsanitize=thread"], [], "router/router.toml", "20000")], 0
+    if shutil.which("valgrind"):
+        ways.append(("helgrind", [], ["valgrind", "-q", "--tool=helgrind", "--error-exitcode=9"], "live/cross.toml", "500"))
+    for name, flags, prefix, pipeline, rounds in ways:
+        program, home = folder / f"threads_{name}", TOP / "examples" / pipeline
+        compile_one("../bench/live/threads.c", library, program, "-pthread", *flags)
+        run = subprocess.run([*prefix, str(program), home.name, "4", rounds], cwd=home.parent, capture_output=True, text=True, timeout=600)
+        if run.returncode != 0:
+            bad += 1
+            print(f"host: four threads, {name}: status {run.returncode}\n{run.stdout[-2000:]}{run.stderr[-4000:]}")
+    print(f"host: four engines on four threads, {' and '.join(way[0] for way in ways)}, {bad} findings")
+    return bad
+
+
 def compile_host(name: str, library: pathlib.Path, folder: pathlib.Path, words: list[str]) -> pathlib.Path:
     """Builds a host of examples/live, with no warning."""
     over = [*words, f"-I{library}", f"-L{library}", "-ldpv"]
@@ -127,28 +144,88 @@ def hosts(library: pathlib.Path, folder: pathlib.Path) -> int:
     return findings
 
 
+class Frame(NamedTuple):
+    """A frame that a port receives."""
+
+    port: int
+    data: bytes
+
+    def spelled(self) -> bytes:
+        """The frame as the driver reads it."""
+        return struct.pack("<III", 0, self.port, len(self.data)) + self.data
+
+
+class Change(NamedTuple):
+    """A route that is added (1), deleted (2) or looked up (3)."""
+
+    kind: int
+    table: int
+    address: int
+    depth: int
+    hop: int
+
+    def spelled(self) -> bytes:
+        """The change as the driver reads it."""
+        return struct.pack("<IIIII", *self)
+
+
+class Burst(NamedTuple):
+    """Frames that a port receives, passed in together."""
+
+    port: int
+    frames: list[bytes]
+
+    def spelled(self) -> bytes:
+        """The burst as the driver reads it."""
+        return struct.pack("<III", 4, self.port, len(self.frames)) + b"".join(struct.pack("<I", len(data)) + data for data in self.frames)
+
+
+Step = Frame | Change | Burst
+# How many passes the driver's batch has room for.
+ROOM = 4
+
+
 class Case:
-    """A pipeline, its files, and frames with their ports."""
+    """A pipeline, its files, and what is done with its engine: frames at ports, bursts of them, changes of routes, and look-ups."""
 
     def __init__(self, rng: Random) -> None:
-        self.files = pipeline_files(rng, rng.random() < 0.85).files
+        has_tables = rng.random() < 0.05
+        self.files = pipeline_files(rng, rng.random() < 0.85, has_tables).files
         self.text = self.files["it.toml"]
         names = [name for name in sorted(self.files) if name != "it.toml"]
         self.packed = b"".join(
             struct.pack("<II", len(name.encode()), len(self.files[name])) + name.encode() + self.files[name] for name in names
         )
-        self.frames = [self.frame(rng) for _ in range(rng.choice((0, 1, 5, 20, 60)))]
+        share, number = 0.5 if has_tables else 0.02, rng.choice((0, 1, 5, 20, 60))
+        self.steps = [self.step(rng, share) for _ in range(number)]
+
+    def step(self, rng: Random, share: float) -> Step:
+        """A change or a look-up of a route, a burst, or a frame."""
+        if rng.random() < share:
+            return self.change(rng)
+        frame = self.frame(rng)
+        if rng.random() < 0.9:
+            return frame
+        return Burst(frame.port, [frame.data, *(self.frame(rng).data for _ in range(rng.choice((0, 1, 2, 3, 3, 20, 63))))])
 
     @staticmethod
-    def frame(rng: Random) -> tuple[int, bytes]:
+    def change(rng: Random) -> Change:
+        """A change or a look-up of a route, in a table that may not be there."""
+        address = int.from_bytes(bytes(rng.choice((0, 0, 0, 1, 10, 128, 255)) for _ in range(4)), "big")
+        depth = rng.choice((1, 8, 16, 24, 24, 25, 31, 32, rng.randrange(1, 33), rng.choice((0, 33, 255, 256, 264, 2**32 - 1))))
+        hop = rng.choice((0, 1, 2, 255, rng.choice((2**24 - 1, 2**24, 2**32 - 1))))
+        return Change(rng.choice((1, 1, 1, 2, 3)), rng.choice((0,) * 12 + (1, 1, 2, 3, 4, 255, 256, 2**32 - 1)), address, depth, hop)
+
+    @staticmethod
+    def frame(rng: Random) -> Frame:
         """A frame at a port, which may not be there."""
         size = rng.choice((0, 1, 13, 14, 33, 34, 54, 60, 60, 100, rng.randrange(300), rng.randrange(3000), rng.choice((9000, 40_000))))
-        return rng.choice((0, 0, 0, 1, 1, 2, 3, 7, 8, 300)), rng.randbytes(size) if rng.random() < 0.5 else bytes(size)
+        return Frame(rng.choice((0, 0, 0, 1, 1, 2, 3, 7, 8, 300)), rng.randbytes(size) if rng.random() < 0.5 else bytes(size))
 
     def spelled(self) -> bytes:
         """The case as the driver reads it."""
-        frames = b"".join(struct.pack("<II", port, len(data)) + data for port, data in self.frames)
-        return struct.pack("<I", len(self.text)) + self.text + struct.pack("<I", len(self.packed)) + self.packed + struct.pack("<I", len(self.frames)) + frames
+        files = struct.pack("<I", len(self.text)) + self.text + struct.pack("<I", len(self.packed)) + self.packed
+        return files + struct.pack("<I", len(self.steps)) + b"".join(step.spelled() for step in self.steps)
 
 
 def number(stream: BinaryIO, size: int) -> int:
@@ -181,12 +258,56 @@ def differs(case: Case, stream: BinaryIO) -> str | None:
         return f"opened with cause {cause} and {reason!r}, and not {wanted} and {words!r}"
     if pipeline is None:
         return None
-    world = machine.World(pipeline.env, pipeline.programs)
-    for k, (port, data) in enumerate(case.frames):
-        came = number(stream, 4), [(number(stream, 4), stream.read(number(stream, 4))) for _ in range(number(stream, 8))]
-        if came != frame_in(world, port, data):
-            return f"frame {k} at port {port}: {str(came)[:300]} and not as the model has it"
+    env = pipeline.env._replace(tables=[dict(known) for known in pipeline.env.tables])
+    world = machine.World(env, pipeline.programs)
+    for k, step in enumerate(case.steps):
+        came: Any
+        if isinstance(step, Change):
+            came, wanted_now = (number(stream, 4), number(stream, 4)), change_in(world, pipelines.limits(case.text), step)
+        elif isinstance(step, Burst):
+            came, wanted_now = [passed(stream) for _ in step.frames], burst_in(world, step)
+        else:
+            came, wanted_now = passed(stream), frame_in(world, step.port, step.data)
+        if came != wanted_now:
+            return f"step {k}, {str(step)[:100]}: {str(came)[:300]} and not {str(wanted_now)[:300]}"
     return numbers_differ(world, stream, pipeline)
+
+
+# What the library answers for a cause of a table, and the hop that the driver has before a look-up.
+ROUTE_ANSWERS = {0: 0, 1: 25, 2: 26, 3: 27, 4: 28, 5: 29}
+BATCH_TOO_SMALL, NO_TABLE, NO_ROUTE, UNTOUCHED = 23, 24, 30, 77
+
+
+def change_in(world: machine.World, limits: list[dict[str, Any]], step: Change) -> tuple[int, int]:
+    """The answer to a change, and the hop of a look-up."""
+    if step.table >= len(world.env.tables):
+        return NO_TABLE, UNTOUCHED
+    known = world.env.tables[step.table]
+    if step.kind == 3:
+        hop = machine.hop_for(known, step.address)
+        return (NO_ROUTE, UNTOUCHED) if hop is None else (0, hop)
+    if step.kind == 1:
+        cause = pipelines.add_route(known, limits[step.table], step.address, step.depth, step.hop)
+    else:
+        cause = pipelines.delete_route(known, step.address, step.depth)
+    return ROUTE_ANSWERS[cause], UNTOUCHED
+
+
+def passed(stream: BinaryIO) -> tuple[int, list[tuple[int, bytes]]]:
+    """The answer and the records of a frame, as the driver wrote them."""
+    return number(stream, 4), [(number(stream, 4), stream.read(number(stream, 4))) for _ in range(number(stream, 8))]
+
+
+def burst_in(world: machine.World, step: Burst) -> list[tuple[int, list[tuple[int, bytes]]]]:
+    """The answers and the records of a burst: those of its frames in turn, as long as the batch has room for a pass."""
+    count = sum(pool.count for pool in world.env.pools)
+    size, records, filled = count * max(pool.room for pool in world.env.pools), 0, 0
+    came = []
+    for data in step.frames:
+        has_room = records + count <= ROOM * count and filled + size <= ROOM * size
+        came.append(frame_in(world, step.port, data) if has_room or step.port >= len(world.env.ports) else (BATCH_TOO_SMALL, []))
+        records, filled = records + len(came[-1][1]), filled + sum(len(record) for _, record in came[-1][1])
+    return came
 
 
 def frame_in(world: machine.World, port: int, data: bytes) -> tuple[int, list[tuple[int, bytes]]]:
@@ -221,10 +342,10 @@ def hand_in(stream: BinaryIO, data: bytes) -> None:
 
 
 class Played(NamedTuple):
-    """How many cases and frames a driver played, and the finding that ended it."""
+    """How many cases and steps a driver played, and the finding that ended it."""
 
     cases: int
-    frames: int
+    steps: int
     finding: str | None
 
 
@@ -246,7 +367,7 @@ def played_through(drive: "subprocess.Popen[bytes]", case: Case) -> str | None:
 
 def play(program: pathlib.Path, seed: str, numbers: range, until: float) -> Played:
     """Plays these cases through a driver, until the first finding or this time."""
-    done, frames = 0, 0
+    done, steps = 0, 0
     with subprocess.Popen([str(program)], stdin=subprocess.PIPE, stdout=subprocess.PIPE) as drive:
         assert drive.stdin
         for number in numbers:
@@ -254,13 +375,15 @@ def play(program: pathlib.Path, seed: str, numbers: range, until: float) -> Play
                 break
             case = Case(Random(f"{seed} {number}"))
             wrong = played_through(drive, case)
-            done, frames = done + 1, frames + len(case.frames)
+            done, steps = done + 1, steps + len(case.steps)
             if wrong:
                 drive.kill()
-                return Played(done, frames, f"case {number} of seed {seed}: {wrong}")
+                with contextlib.suppress(BrokenPipeError):
+                    drive.stdin.close()
+                return Played(done, steps, f"case {number} of seed {seed}: {wrong}")
         drive.stdin.close()
         ended = drive.wait()
-    return Played(done, frames, f"the driver ended with {ended}" if ended else None)
+    return Played(done, steps, f"the driver ended with {ended}" if ended else None)
 
 
 def at_random(asked: Any, library: pathlib.Path, folder: pathlib.Path) -> int:
@@ -274,8 +397,8 @@ def at_random(asked: Any, library: pathlib.Path, folder: pathlib.Path) -> int:
     findings = [it.finding for it in all_played if it.finding]
     for finding in findings:
         print(f"host: {finding}")
-    cases, frames = sum(it.cases for it in all_played), sum(it.frames for it in all_played)
-    print(f"host: seed {asked.seed}, {cases} pipelines, {frames} frames, {len(findings)} findings")
+    cases, steps = sum(it.cases for it in all_played), sum(it.steps for it in all_played)
+    print(f"host: seed {asked.seed}, {cases} pipelines, {steps} frames, bursts and changes, {len(findings)} findings")
     return len(findings)
 
 
@@ -299,7 +422,7 @@ def main() -> int:
             library = folder / "library"
             put_library(library, asked.gate)
         library = library.resolve()
-        findings = wrong_callers(library, folder) + hosts(library, folder) + at_random(asked, library, folder)
+        findings = wrong_callers(library, folder) + threads(library, folder) + hosts(library, folder) + at_random(asked, library, folder)
     return 1 if findings else 0
 
 

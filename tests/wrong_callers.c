@@ -1,5 +1,5 @@
 /* wrong_callers PIPELINE NODE..: makes calls that nobody should make, and compares what each answers; for tests/host.py.
-   PIPELINE has one pool, two ports and no ring, and each of NODE is a file that it names. */
+   PIPELINE has one pool, two ports, no ring and no table, and each of NODE is a file that it names. */
 #include "dpv.h"
 #include <stdio.h>
 
@@ -33,11 +33,18 @@ static void call_wrongly(dpv_t *engine, struct dpv_batch *batch)
     struct dpv_ring_stats ring;
     struct dpv_pool_stats pool;
     struct dpv_reason reason;
+    struct dpv_route route = {0, 0x0a000000, 8, 1};
+    struct dpv_hop hop = {77};
     expect(dpv_port(engine, 0, &before), DPV_OK, "port 0");
     expect(dpv_port(engine, 2, &port), DPV_NO_PORT, "port 2");
     expect(dpv_port(engine, UINT32_MAX, &port), DPV_NO_PORT, "port 2^32 - 1");
     expect(dpv_pool(engine, 1, &pool), DPV_NO_POOL, "pool 1");
     expect(dpv_ring(engine, 0, &ring), DPV_NO_RING, "ring 0");
+    expect(dpv_route_add(engine, &route), DPV_NO_TABLE, "a route for table 0");
+    expect(dpv_route_delete(engine, &route), DPV_NO_TABLE, "a route of table 0");
+    expect(dpv_route_lookup(engine, 0, 0x0a000001, &hop), DPV_NO_TABLE, "a look-up in table 0");
+    expect(dpv_route_lookup(engine, UINT32_MAX, 0x0a000001, &hop), DPV_NO_TABLE, "a look-up in table 2^32 - 1");
+    expect(hop.hop, 77, "the hop of a look-up that was refused");
     expect(dpv_pass(engine, 2, frame, 60, 0, batch), DPV_NO_PORT, "a frame at port 2");
     expect(dpv_pass(engine, 256, frame, 60, 0, batch), DPV_NO_PORT, "a frame at port 256");
     expect(dpv_pass(engine, 0, frame, DPV_MAX_FRAME + 1, 0, batch), DPV_TOO_LONG, "a frame that is too long");
@@ -62,6 +69,11 @@ static void call_late(dpv_t *engine, struct dpv_batch *batch)
     struct dpv_ring_stats ring;
     struct dpv_totals totals;
     struct dpv_batch_size size;
+    struct dpv_route route = {0, 0x0a000000, 8, 1};
+    struct dpv_hop hop = {77};
+    expect(dpv_route_add(engine, &route), DPV_CLOSED, "a route after close");
+    expect(dpv_route_delete(engine, &route), DPV_CLOSED, "a deletion after close");
+    expect(dpv_route_lookup(engine, 0, 0x0a000001, &hop), DPV_CLOSED, "a look-up after close");
     expect(dpv_pass(engine, 0, frame, sizeof frame, 0, batch), DPV_CLOSED, "a frame after close");
     expect((uint32_t)batch->filled.records, 0, "records after close");
     expect(dpv_port(engine, 0, &port), DPV_CLOSED, "a port after close");

@@ -1,11 +1,13 @@
-/* af_packet PIPELINE 0=INTERFACE 1=INTERFACE ..: forwards live frames by the node programs of a pipeline, over Linux packet sockets.
+/* af_packet PIPELINE [--control FIFO] 0=INTERFACE 1=INTERFACE ..: forwards live frames by the node programs of a pipeline, over Linux packet
+   sockets.
 
    Each PORT=INTERFACE connects a port of the pipeline to a network interface. Frames sent by a port without an interface are counted
-   and dropped. SIGUSR1 prints the counts; SIGINT and SIGTERM print them and end the host. It needs CAP_NET_RAW.
+   and dropped. SIGUSR1 prints the counts; SIGINT and SIGTERM print them and end the host. With --control it takes the commands of control.h
+   from a FIFO, between two bursts. It needs CAP_NET_RAW.
 
    cc -O2 af_packet.c $(pkg-config --cflags --libs dpv) -o af_packet */
 #define _GNU_SOURCE
-#include "load.h"
+#include "control.h"
 #include "signals.h"
 #include <arpa/inet.h>
 #include <errno.h>
@@ -22,6 +24,7 @@
 #define MAX_FRAME 65536
 
 static int sockets[MAX_PORTS];
+static struct control control = {.fd = -1};
 static uint64_t unsent[MAX_PORTS], truncated;
 static uint8_t frames[BURST][MAX_FRAME];
 
@@ -100,12 +103,24 @@ static int forward_burst(dpv_t *engine, uint32_t port, struct mmsghdr *messages,
     return 1;
 }
 
+/* Does what the commands say that have come. */
+static void run_commands(dpv_t *engine)
+{
+    struct command command;
+    while (next_command(&control, &command)) {
+        if (command.kind == PRINT_STATS)
+            print_numbers(engine, unsent);
+        else
+            change_route(engine, &command);
+    }
+}
+
 /* Forwards until a signal ends it, or the engine has taken all its turns. */
 static void forward(dpv_t *engine, uint32_t ports, struct dpv_batch *batch)
 {
     struct mmsghdr messages[BURST];
     struct iovec rooms[BURST];
-    struct pollfd waits[MAX_PORTS];
+    struct pollfd waits[MAX_PORTS + 1];
     memset(messages, 0, sizeof messages);
     for (int k = 0; k < BURST; k++) {
         rooms[k].iov_base = frames[k];
@@ -116,13 +131,16 @@ static void forward(dpv_t *engine, uint32_t ports, struct dpv_batch *batch)
     while (!is_stopped) {
         for (uint32_t port = 0; port < ports; port++)
             waits[port] = (struct pollfd){.fd = sockets[port], .events = POLLIN};
-        if (poll(waits, ports, -1) < 0 && errno != EINTR)
+        waits[ports] = (struct pollfd){.fd = control.fd, .events = POLLIN};
+        if (poll(waits, ports + 1, -1) < 0 && errno != EINTR)
             die("poll");
         if (is_asked) {
             is_asked = 0;
             print_numbers(engine, unsent);
             continue;
         }
+        if (waits[ports].revents & POLLIN)
+            run_commands(engine);
         for (uint32_t port = 0; port < ports && !is_stopped; port++)
             if ((waits[port].revents & POLLIN) && !forward_burst(engine, port, messages, batch))
                 return;
@@ -133,15 +151,18 @@ int main(int argc, char **argv)
 {
     struct sigaction stops = {0}, asks = {0};
     struct dpv_batch batch;
+    const char *name = take_control_name(&argc, argv);
     dpv_t *engine;
     uint32_t ports;
     if (argc < 3) {
-        fprintf(stderr, "usage: af_packet PIPELINE 0=INTERFACE 1=INTERFACE ..\n");
+        fprintf(stderr, "usage: af_packet PIPELINE [--control FIFO] 0=INTERFACE 1=INTERFACE ..\n");
         return 2;
     }
     engine = open_pipeline(argv[1]);
     ports = count_ports(engine);
     open_interfaces(argc - 2, argv + 2, ports);
+    if (name != NULL)
+        open_control(&control, name);
     if (dpv_batch_open(engine, &batch) != DPV_OK)
         die("memory");
     stops.sa_handler = on_stop;

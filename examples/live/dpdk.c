@@ -1,29 +1,51 @@
-/* dpdk EAL-OPTIONS -- PIPELINE [BURST [IDLE]]: forwards frames by the node programs of a pipeline, over DPDK's ethernet devices.
+/* dpdk EAL-OPTIONS -- PIPELINE [--control FIFO] [BURST [IDLE]]: forwards frames by the node programs of a pipeline, over DPDK's ethernet devices.
 
-   Port k of the pipeline is device k of DPDK. BURST is how many frames are taken from a device at once (32); with IDLE it ends after
-   that many rounds without a frame. SIGUSR1 prints the counts; SIGINT and SIGTERM print them and end it. Without huge pages or a card:
+   Port k of the pipeline is device k of DPDK. Each lcore (-l 0-3) has an engine of its own, and of each device a receive queue and a transmit
+   queue, up to as many lcores as each device has queues; a device with several queues hands each flow to one of them (RSS). BURST is how many frames are taken from a queue at once (32); with
+   IDLE an lcore ends after that many rounds without a frame. With --control a thread takes the commands of control.h from a FIFO, and hands
+   each to every engine over a ring of its own, which is emptied between two bursts. SIGUSR1 prints the counts; SIGINT and SIGTERM print them
+   and end the host. Without huge pages or a card:
 
    dpdk --no-huge --no-pci -m 256 --vdev net_pcap0,rx_pcap=in.pcap,tx_pcap=out.pcap -- pipeline.toml 1 1000
    cc -O2 dpdk.c $(pkg-config --cflags --libs libdpdk dpv) -o dpdk */
-#include "load.h"
+#include "control.h"
 #include "signals.h"
+#include <pthread.h>
 #include <rte_cycles.h>
 #include <rte_eal.h>
 #include <rte_ethdev.h>
+#include <rte_launch.h>
+#include <rte_lcore.h>
 #include <rte_mbuf.h>
+#include <rte_ring.h>
 
 #define MAX_PORTS 8
 #define MAX_BURST 64
 #define QUEUE_SLOTS 512
-#define POOL_MBUFS 8191
+#define LCORE_MBUFS 8191
 #define POOL_CACHE 256
 #define MAX_FRAME 65536
+#define COMMANDS 256
+#define FLOWS (RTE_ETH_RSS_IP | RTE_ETH_RSS_TCP | RTE_ETH_RSS_UDP)
 
-static uint64_t unsent[MAX_PORTS];
-static struct rte_mbuf *waiting[MAX_PORTS][MAX_BURST];
-static uint16_t waits[MAX_PORTS];
-static uint8_t flat[MAX_FRAME];
+/* What an lcore has for itself. */
+struct worker {
+    dpv_t *engine;
+    struct dpv_batch batch;
+    struct rte_ring *commands;
+    uint16_t queue;
+    uint16_t waits[MAX_PORTS];
+    struct rte_mbuf *waiting[MAX_PORTS][MAX_BURST];
+    uint64_t unsent[MAX_PORTS];
+    uint8_t flat[MAX_FRAME];
+} __rte_cache_aligned;
+
+static struct worker workers[RTE_MAX_LCORE];
+static uint16_t lcores, devices, burst = 32;
+static long idle;
 static struct rte_mempool *pool;
+static struct control control = {.fd = -1};
+static pthread_mutex_t printing = PTHREAD_MUTEX_INITIALIZER;
 
 /* Ends the host if a call of DPDK failed. */
 static void check(int answer, const char *what)
@@ -34,14 +56,37 @@ static void check(int answer, const char *what)
     exit(3);
 }
 
-/* Opens a device with one queue each way. */
+/* How many lcores can have queues of their own at all devices. */
+static uint16_t count_lcores(void)
+{
+    uint16_t count = (uint16_t)rte_lcore_count();
+    for (uint16_t port = 0; port < devices; port++) {
+        struct rte_eth_dev_info info;
+        check(rte_eth_dev_info_get(port, &info), "information");
+        if (count > info.max_rx_queues)
+            count = info.max_rx_queues;
+        if (count > info.max_tx_queues)
+            count = info.max_tx_queues;
+    }
+    return count;
+}
+
+/* Opens a device with a queue each way for each lcore. */
 static void open_device(uint16_t port)
 {
     struct rte_eth_conf conf;
+    struct rte_eth_dev_info info;
     memset(&conf, 0, sizeof conf);
-    check(rte_eth_dev_configure(port, 1, 1, &conf), "configure");
-    check(rte_eth_rx_queue_setup(port, 0, QUEUE_SLOTS, rte_socket_id(), NULL, pool), "receive queue");
-    check(rte_eth_tx_queue_setup(port, 0, QUEUE_SLOTS, rte_socket_id(), NULL), "transmit queue");
+    check(rte_eth_dev_info_get(port, &info), "information");
+    if (lcores > 1 && (info.flow_type_rss_offloads & FLOWS) != 0) {
+        conf.rxmode.mq_mode = RTE_ETH_MQ_RX_RSS;
+        conf.rx_adv_conf.rss_conf.rss_hf = info.flow_type_rss_offloads & FLOWS;
+    }
+    check(rte_eth_dev_configure(port, lcores, lcores, &conf), "configure");
+    for (uint16_t queue = 0; queue < lcores; queue++) {
+        check(rte_eth_rx_queue_setup(port, queue, QUEUE_SLOTS, rte_socket_id(), NULL, pool), "receive queue");
+        check(rte_eth_tx_queue_setup(port, queue, QUEUE_SLOTS, rte_socket_id(), NULL), "transmit queue");
+    }
     check(rte_eth_dev_start(port), "start");
     (void)rte_eth_promiscuous_enable(port);
 }
@@ -68,116 +113,219 @@ static struct rte_mbuf *mbuf_of(const uint8_t *bytes, uint32_t length)
 }
 
 /* Sends the frames that wait at a port; those that its device does not take are counted. */
-static void send_waiting(uint16_t port)
+static void send_waiting(struct worker *worker, uint16_t port)
 {
-    uint16_t sent = waits[port] == 0 ? 0 : rte_eth_tx_burst(port, 0, waiting[port], waits[port]);
-    unsent[port] += waits[port] - sent;
-    while (sent < waits[port])
-        rte_pktmbuf_free(waiting[port][sent++]);
-    waits[port] = 0;
+    uint16_t waits = worker->waits[port];
+    uint16_t sent = waits == 0 ? 0 : rte_eth_tx_burst(port, worker->queue, worker->waiting[port], waits);
+    worker->unsent[port] += waits - sent;
+    while (sent < waits)
+        rte_pktmbuf_free(worker->waiting[port][sent++]);
+    worker->waits[port] = 0;
 }
 
 /* Queues all records of a batch, each at its port. */
-static void keep_batch(const struct dpv_batch *batch, uint16_t devices)
+static void keep_batch(struct worker *worker)
 {
+    const struct dpv_batch *batch = &worker->batch;
     for (uint64_t k = 0; k < batch->filled.records; k++) {
         const struct dpv_record *record = &batch->records[k];
         uint16_t port = (uint16_t)record->port;
         struct rte_mbuf *mbuf = port < devices ? mbuf_of(batch->bytes + record->offset, record->length) : NULL;
         if (mbuf == NULL) {
-            unsent[port]++;
+            worker->unsent[port]++;
             continue;
         }
-        waiting[port][waits[port]++] = mbuf;
-        if (waits[port] == MAX_BURST)
-            send_waiting(port);
+        worker->waiting[port][worker->waits[port]++] = mbuf;
+        if (worker->waits[port] == MAX_BURST)
+            send_waiting(worker, port);
     }
 }
 
 /* Passes in a frame, and queues the frames that are sent for it. Returns whether the engine takes more. */
-static int forward_frame(dpv_t *engine, uint16_t port, struct rte_mbuf *mbuf, uint16_t devices, struct dpv_batch *batch)
+static int forward_frame(struct worker *worker, uint16_t port, struct rte_mbuf *mbuf)
 {
     uint32_t length = rte_pktmbuf_pkt_len(mbuf);
-    const uint8_t *bytes = length > MAX_FRAME ? NULL : (const uint8_t *)rte_pktmbuf_read(mbuf, 0, length, flat);
-    uint32_t answer = bytes == NULL ? DPV_TOO_LONG : dpv_pass(engine, port, bytes, length, rte_rdtsc(), batch);
+    const uint8_t *bytes = length > MAX_FRAME ? NULL : (const uint8_t *)rte_pktmbuf_read(mbuf, 0, length, worker->flat);
+    uint32_t answer = bytes == NULL ? DPV_TOO_LONG : dpv_pass(worker->engine, port, bytes, length, rte_rdtsc(), &worker->batch);
     rte_pktmbuf_free(mbuf);
     if (bytes != NULL)
-        keep_batch(batch, devices);
+        keep_batch(worker);
     return answer != DPV_NO_TURNS;
 }
 
 /* Takes frames from each device in turn, and sends the results after each. Returns how many frames came, or -1 if the engine takes no more. */
-static long forward_round(dpv_t *engine, uint16_t devices, uint16_t burst, struct dpv_batch *batch)
+static long forward_round(struct worker *worker)
 {
     long came = 0;
     for (uint16_t port = 0; port < devices; port++) {
         struct rte_mbuf *mbufs[MAX_BURST];
-        uint16_t count = rte_eth_rx_burst(port, 0, mbufs, burst);
+        uint16_t count = rte_eth_rx_burst(port, worker->queue, mbufs, burst);
         for (uint16_t k = 0; k < count; k++)
-            if (!forward_frame(engine, port, mbufs[k], devices, batch))
+            if (!forward_frame(worker, port, mbufs[k]))
                 return -1;
         for (uint16_t to = 0; to < devices; to++)
-            send_waiting(to);
+            send_waiting(worker, to);
         came += count;
     }
     return came;
 }
 
-/* Forwards until a signal ends it, no frame comes for `idle` rounds, or the engine has used all its turns. */
-static void forward(dpv_t *engine, uint16_t devices, uint16_t burst, long idle, struct dpv_batch *batch)
+/* Prints the counts of a worker's engine, and which engine it is where there are several. */
+static void print_worker(const struct worker *worker)
 {
-    long quiet = 0;
-    while (!is_stopped && (idle == 0 || quiet < idle)) {
-        long came = forward_round(engine, devices, burst, batch);
-        if (came < 0)
-            return;
-        quiet = came == 0 ? quiet + 1 : 0;
+    pthread_mutex_lock(&printing);
+    if (lcores > 1)
+        printf("engine %u\n", worker->queue);
+    print_numbers(worker->engine, worker->unsent);
+    pthread_mutex_unlock(&printing);
+}
+
+/* Does what the commands say that were handed to a worker. */
+static void run_commands(struct worker *worker)
+{
+    void *handed;
+    while (rte_ring_dequeue(worker->commands, &handed) == 0) {
+        struct command *command = (struct command *)handed;
+        if (command->kind == PRINT_STATS) {
+            print_worker(worker);
+        } else {
+            pthread_mutex_lock(&printing);
+            change_route(worker->engine, command);
+            pthread_mutex_unlock(&printing);
+        }
+        free(command);
+    }
+}
+
+/* Hands a command to every engine. */
+static void hand_to_all(const struct command *command)
+{
+    for (uint16_t k = 0; k < lcores; k++) {
+        struct command *copy = (struct command *)malloc(sizeof *copy);
+        if (copy == NULL)
+            die("memory");
+        *copy = *command;
+        while (rte_ring_enqueue(workers[k].commands, copy) != 0 && !is_stopped)
+            usleep(1000);
+    }
+}
+
+/* The control thread: takes commands from the FIFO and from SIGUSR1. */
+static void *read_commands(void *none)
+{
+    while (!is_stopped) {
+        struct command command;
+        while (control.fd >= 0 && next_command(&control, &command))
+            hand_to_all(&command);
         if (is_asked) {
             is_asked = 0;
-            print_numbers(engine, unsent);
+            command.kind = PRINT_STATS;
+            hand_to_all(&command);
         }
+        usleep(1000);
     }
+    return none;
+}
+
+/* Forwards on an lcore until a signal ends it, no frame comes for `idle` rounds, or the engine has used all its turns. */
+static int forward(void *argument)
+{
+    struct worker *worker = (struct worker *)argument;
+    long quiet = 0;
+    while (!is_stopped && (idle == 0 || quiet < idle)) {
+        long came = forward_round(worker);
+        if (came < 0)
+            return 0;
+        quiet = came == 0 ? quiet + 1 : 0;
+        if (!rte_ring_empty(worker->commands))
+            run_commands(worker);
+    }
+    return 0;
+}
+
+/* Opens the engine of a worker, and what else it needs. */
+static void open_worker(uint16_t queue, const char *pipeline)
+{
+    struct worker *worker = &workers[queue];
+    char name[32];
+    snprintf(name, sizeof name, "commands%u", queue);
+    worker->queue = queue;
+    worker->engine = open_pipeline(pipeline);
+    worker->commands = rte_ring_create(name, COMMANDS, SOCKET_ID_ANY, RING_F_SP_ENQ | RING_F_SC_DEQ);
+    if (worker->commands == NULL)
+        check(-rte_errno, "ring");
+    if (dpv_batch_open(worker->engine, &worker->batch) != DPV_OK)
+        die("memory");
+}
+
+/* Opens all workers and devices. */
+static void open_all(const char *pipeline)
+{
+    devices = rte_eth_dev_count_avail();
+    lcores = count_lcores();
+    for (uint16_t queue = 0; queue < lcores; queue++)
+        open_worker(queue, pipeline);
+    if (devices > count_ports(workers[0].engine)) {
+        fprintf(stderr, "there are %u devices, and the pipeline has fewer ports\n", devices);
+        exit(2);
+    }
+    pool = rte_pktmbuf_pool_create("frames", LCORE_MBUFS * lcores, POOL_CACHE, 0, RTE_MBUF_DEFAULT_BUF_SIZE, SOCKET_ID_ANY);
+    if (pool == NULL)
+        check(-rte_errno, "mempool");
+    for (uint16_t port = 0; port < devices; port++)
+        open_device(port);
+}
+
+/* Forwards on all lcores, until all of them have ended. */
+static void forward_on_all(void)
+{
+    unsigned lcore;
+    uint16_t next = 1;
+    pthread_t reader;
+    if (rte_ctrl_thread_create(&reader, "control", NULL, read_commands, NULL) != 0)
+        die("thread");
+    RTE_LCORE_FOREACH_WORKER(lcore)
+        if (next < lcores)
+            check(rte_eal_remote_launch(forward, &workers[next++], lcore), "lcore");
+    (void)forward(&workers[0]);
+    rte_eal_mp_wait_lcore();
+    is_stopped = 1;
+    pthread_join(reader, NULL);
 }
 
 int main(int argc, char **argv)
 {
     int used = rte_eal_init(argc, argv), words = argc - used;
-    struct dpv_batch batch;
-    uint16_t devices, burst = 32;
-    dpv_t *engine;
+    const char *name;
     check(used, "EAL");
+    argv += used;
+    name = take_control_name(&words, argv);
     if (words < 2 || words > 4) {
-        fprintf(stderr, "usage: dpdk EAL-OPTIONS -- PIPELINE [BURST [IDLE]]\n");
+        fprintf(stderr, "usage: dpdk EAL-OPTIONS -- PIPELINE [--control FIFO] [BURST [IDLE]]\n");
         return 2;
     }
-    engine = open_pipeline(argv[used + 1]);
     if (words > 2)
-        burst = (uint16_t)atoi(argv[used + 2]);
+        burst = (uint16_t)atoi(argv[2]);
     if (burst < 1 || burst > MAX_BURST)
         burst = 32;
-    pool = rte_pktmbuf_pool_create("frames", POOL_MBUFS, POOL_CACHE, 0, RTE_MBUF_DEFAULT_BUF_SIZE, SOCKET_ID_ANY);
-    if (pool == NULL)
-        check(-rte_errno, "mempool");
-    devices = rte_eth_dev_count_avail();
-    if (devices > count_ports(engine)) {
-        fprintf(stderr, "there are %u devices, and the pipeline has fewer ports\n", devices);
-        return 2;
-    }
-    for (uint16_t port = 0; port < devices; port++)
-        open_device(port);
-    if (dpv_batch_open(engine, &batch) != DPV_OK)
-        die("memory");
+    idle = words > 3 ? atol(argv[3]) : 0;
+    open_all(argv[1]);
+    if (name != NULL)
+        open_control(&control, name);
     signal(SIGINT, on_stop);
     signal(SIGTERM, on_stop);
     signal(SIGUSR1, on_ask);
-    forward(engine, devices, burst, words > 3 ? atol(argv[used + 3]) : 0, &batch);
+    forward_on_all();
     for (uint16_t port = 0; port < devices; port++) {
         rte_eth_dev_stop(port);
         rte_eth_dev_close(port);
     }
-    print_numbers(engine, unsent);
-    dpv_batch_close(&batch);
-    close_engine(engine);
+    for (uint16_t queue = 0; queue < lcores; queue++) {
+        run_commands(&workers[queue]);
+        print_worker(&workers[queue]);
+        dpv_batch_close(&workers[queue].batch);
+        close_engine(workers[queue].engine);
+    }
     rte_eal_cleanup();
     return 0;
 }

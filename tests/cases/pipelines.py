@@ -30,9 +30,9 @@ def routes_of(rng: Random, number: int) -> list[str]:
     return [f"{address()}/{rng.choice(depths)} {rng.choice((0, 1, 2, 255, rules.HIGHEST_HOP))}" for _ in range(number)]
 
 
-def tables_of(rng: Random) -> list[dict[str, Any]]:
-    """The tables of a pipeline. Each takes 64 MiB, so most have none."""
-    number = rng.choice((0,) * 96 + (1, 1, 2))
+def tables_of(rng: Random, has_more: bool) -> list[dict[str, Any]]:
+    """The tables of a pipeline. Each takes 64 MiB, so most have none, unless it has more of them."""
+    number = rng.choice((1, 1, 2) if has_more else (0,) * 96 + (1, 1, 2))
     limits = [(rng.choice((4, 16, 16)), rng.choice((0, 4, 8))) for _ in range(number)]
     return [{"rules": rules, "groups": groups, "routes": routes_of(rng, rng.randrange(6))} for rules, groups in limits]
 
@@ -80,9 +80,9 @@ def node_files(rng: Random, parts: Parts, place: int, sound: bool) -> dict[str, 
     return names
 
 
-def parts_of(rng: Random, sound: bool) -> Parts:
+def parts_of(rng: Random, sound: bool, has_tables: bool) -> Parts:
     """A pipeline and its programs."""
-    tables = tables_of(rng)
+    tables = tables_of(rng, has_tables)
     env = env_of(rng, tables)
     region = max(4096, env.need()) + rng.choice((0, 0, 64, 4096, -64 if rng.random() < 0.3 else 0))
     parts = Parts({"region": max(region, 4096)}, env, {})
@@ -119,9 +119,9 @@ def changed_top(rng: Random, top: dict[str, Any]) -> None:
         part[key] = rng.choice(EDGES)
 
 
-def pipeline_files(rng: Random, sound: bool) -> Parts:
-    """A pipeline with its files, at fault somewhere unless it is sound."""
-    parts = parts_of(rng, sound)
+def pipeline_files(rng: Random, sound: bool, has_tables: bool = False) -> Parts:
+    """A pipeline with its files, at fault somewhere unless it is sound. Few have tables, unless they all should."""
+    parts = parts_of(rng, sound, has_tables)
     if not sound and rng.random() < 0.4:
         for _ in range(rng.choice((1, 1, 2))):
             changed_top(rng, parts.top)

@@ -103,23 +103,52 @@ def bad_env(top: dict[str, Any]) -> str | None:
     return "5 0" if sum(pool["count"] for pool in pools) > 65_535 else None
 
 
-def routes(table: dict[str, Any]) -> dict[tuple[int, int], int] | str:
+Routes = dict[tuple[int, int], int]
+
+
+def prefix_of(address: int, depth: int) -> int:
+    """The address without its bits below the depth."""
+    return address >> (32 - depth) << (32 - depth)
+
+
+def add_route(known: Routes, table: dict[str, Any], address: int, depth: int, hop: int) -> int:
+    """Adds a route to those of a table; or returns the cause of its refusal, from 1."""
+    if not 1 <= depth <= 32 or hop > rules.HIGHEST_HOP:
+        return 1 if not 1 <= depth <= 32 else 2
+    key = prefix_of(address, depth), depth
+    if key not in known:
+        groups = {place >> 8 for place, deep in [*known, key] if deep > 24}
+        if len(known) >= table["rules"] or depth > 24 and len(groups) > table["groups"]:
+            return 3 if len(known) >= table["rules"] else 4
+    known[key] = hop
+    return 0
+
+
+def delete_route(known: Routes, address: int, depth: int) -> int:
+    """Deletes a route of a table; or returns the cause of its refusal."""
+    if not 1 <= depth <= 32:
+        return 1
+    return 0 if known.pop((prefix_of(address, depth), depth), None) is not None else 5
+
+
+def routes(table: dict[str, Any]) -> Routes | str:
     """The routes of a table; or the place and cause of the first that is refused."""
-    known: dict[tuple[int, int], int] = {}
+    known: Routes = {}
     for k, text in enumerate(table["routes"]):
         parts = ROUTE.fullmatch(text)
         if not parts or any(int(part) > 255 for part in parts.groups()[:4]):
             return f"{k} 6"
         *address, depth, hop = map(int, parts.groups())
-        if not 1 <= depth <= 32 or hop > rules.HIGHEST_HOP:
-            return f"{k} {1 if not 1 <= depth <= 32 else 2}"
-        prefix = int.from_bytes(bytes(address), "big") >> (32 - depth) << (32 - depth)
-        if (prefix, depth) not in known:
-            groups = {place >> 8 for place, deep in [*known, (prefix, depth)] if deep > 24}
-            if len(known) >= table["rules"] or depth > 24 and len(groups) > table["groups"]:
-                return f"{k} {3 if len(known) >= table['rules'] else 4}"
-        known[prefix, depth] = hop
+        cause = add_route(known, table, int.from_bytes(bytes(address), "big"), depth, hop)
+        if cause:
+            return f"{k} {cause}"
     return known
+
+
+def limits(text: bytes) -> list[dict[str, Any]]:
+    """The tables of a pipeline file that is loaded, with their limits."""
+    tables: list[dict[str, Any]] = toml.read(text.decode()).get("table", [])
+    return tables
 
 
 def environment(top: dict[str, Any]) -> Env | Fault:

@@ -10,7 +10,10 @@
 
 #define PORTS 2
 
-enum { DPV_OK, DPV_RECEIVED = 0, DPV_NO_PORT = 18, DPV_TOO_LONG = 21, DPV_NO_TURNS = 22 };
+enum {
+    DPV_OK, DPV_RECEIVED = 0, DPV_NO_PORT = 18, DPV_TOO_LONG = 21, DPV_NO_TURNS, DPV_NO_TABLE = 24, DPV_BAD_DEPTH, DPV_BAD_HOP, DPV_RULES_FULL,
+    DPV_GROUPS_FULL, DPV_NO_RULE
+};
 
 typedef struct { uint64_t received[PORTS]; } dpv_t;
 struct dpv_record { uint64_t time, offset; uint32_t port, length; };
@@ -21,6 +24,7 @@ struct dpv_port_stats { uint64_t received, no_buffer, oversize, sent; };
 struct dpv_pool_stats { uint64_t free, count; };
 struct dpv_ring_stats { uint64_t waiting; };
 struct dpv_totals { uint64_t turns, calls, cut, pools; };
+struct dpv_route { uint32_t table, ip, depth, hop; };
 
 static inline size_t dpv_pack(uint8_t *to, const char *name, const uint8_t *bytes, size_t length)
 {
@@ -59,6 +63,18 @@ static inline uint32_t dpv_pool(dpv_t *engine, uint32_t pool, struct dpv_pool_st
 {
     (void)engine, (void)pool, (void)stats;
     return DPV_NO_PORT;
+}
+
+static inline uint32_t dpv_route_add(dpv_t *engine, struct dpv_route *route)
+{
+    (void)engine, (void)route;
+    return DPV_NO_TABLE;
+}
+
+static inline uint32_t dpv_route_delete(dpv_t *engine, struct dpv_route *route)
+{
+    (void)engine, (void)route;
+    return DPV_NO_TABLE;
 }
 
 static inline uint32_t dpv_close(dpv_t *engine, struct dpv_totals *totals)

@@ -6,7 +6,7 @@
 //!
 //! What to call: `dpv_begin`, once; `dpv_why`, which has the reason if there is no engine; `dpv_pass_into` for each frame, with a batch of the
 //! size that `dpv_batch_size` returns; `dpv_route_add`, `dpv_route_delete` and `dpv_route_lookup` for routes, between two passes; `dpv_port`,
-//! `dpv_pool` and `dpv_ring` for counts; `dpv_close` at the end. The six inline functions of
+//! `dpv_pool` and `dpv_ring` for counts; `dpv_close` at the end. The inline functions of
 //! `include/dpv.h` are C, and not in this crate.
 //!
 //! What not to do: the memory may not move or be freed between `dpv_begin` and `dpv_close`, two calls may not run at once, and a call must
