@@ -1,5 +1,5 @@
 -- Captures that words give, one after the other.
-use Rattle.std.proofs.Common.{ℕ, Bool, true, false, List, [], ◌∷◌, map, Option, Some, None, ◌≡◌, refl, sym}
+use Rattle.std.proofs.Common.{ℕ, Bool, true, false, List, [], ◌∷◌, map, Option, Some, ◌≡◌, refl, sym}
 use Rattle.std.specs.Prelude.{find, option_map, if◌then◌else◌}
 use Rattle.dp_captures.specs.declared.words.WordForm.{WordForm}
 use Rattle.dp_captures.specs.declared.words.Replaced.{Replaced}

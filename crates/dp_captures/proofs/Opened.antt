@@ -1,5 +1,6 @@
 -- One capture more that is open.
-use Rattle.std.proofs.Common.{◌≡◌, ℕ, zero, suc, Ok, Err, Result, Option, ◌+◌, ◌<◌, ◌≤◌, List, [], ◌∷◌, ◌++◌, Some, length, map, take, refl, ap, sym, ◌∙◌, subst, inl, inr, add-one, append_assoc, arith}
+use Rattle.std.proofs.Common.{◌≡◌, ℕ, zero, suc, Ok, Err, Result, ◌+◌, ◌<◌, ◌≤◌, List, [], ◌∷◌, ◌++◌, Some}
+use Rattle.std.proofs.Common.{length, map, take, refl, ap, sym, ◌∙◌, subst, inl, inr, add-one, append_assoc, arith}
 use Rattle.std.proofs.Math.Seq.{take-length}
 use Rattle.std.specs.Prelude.{IfErr, OnOk, option_map, slice_get, slice_index_or}
 use Rattle.dp_captures.specs.declared.faults.CaptureFault.{CaptureFault}

@@ -1,7 +1,6 @@
 -- The count of the records that a file took whole, as it takes more bytes.
 use Rattle.std.proofs.Common.{◌≡◌, ℕ, zero, suc, ◌+◌, ◌≤◌, ◌<◌, ◌^◌, List, [], ◌∷◌, ◌++◌, length, length-append, Some, subst, sym, ap, arith, ◌∙◌}
 use Rattle.std.proofs.Math.Logic.{∥∥₁_map}
-use Rattle.std.specs.List.{flat_map}
 use Rattle.std.proofs.lemmas.List.{flat_map_more}
 use Rattle.dp_pcap.specs.declared.byte_order.Order.{Order}
 use Rattle.dp_pcap.specs.Counting.{Counted, ArePieces, IsAfter, records_in}

@@ -1,5 +1,6 @@
 -- Files of a run that none of its outputs is.
-use Rattle.std.specs.Prelude.{◌≡◌, ℕ, ◌<◌, List, ◌++◌, ◌⊎◌, Option, None, Some, Bool, false, ◌==◌, ◌&&◌, find, map, option_map, position, slice_get, string_bytes, take}
+use Rattle.std.specs.Prelude.{◌≡◌, ℕ, ◌<◌, List, ◌++◌, ◌⊎◌, Option, None, Some, Bool, false, ◌==◌}
+use Rattle.std.specs.Prelude.{◌&&◌, find, map, option_map, position, slice_get, string_bytes, take}
 use Rattle.std.specs.Str.{bytes_eq}
 use Rattle.dp_pcap.specs.declared.of_buf_reader.OfBufReader.{OfBufReader}
 use Rattle.dp_pcap.specs.declared.of_buf_writer.OfBufWriter.{OfBufWriter}

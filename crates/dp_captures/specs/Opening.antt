@@ -1,5 +1,5 @@
 -- Which fault of the captures of a run is reported.
-use Rattle.std.specs.Prelude.{◌≡◌, ℕ, ◌⊎◌, List, [], Option, Some, length, map, option_map, slice_get, take, ⊤}
+use Rattle.std.specs.Prelude.{◌≡◌, ℕ, ◌⊎◌, List, [], Some, length, option_map, slice_get, take, ⊤}
 use Rattle.dp_pcap.specs.declared.of_buf_reader.OfBufReader.{OfBufReader}
 use Rattle.dp_pcap.specs.declared.of_buf_writer.OfBufWriter.{OfBufWriter}
 use Rattle.dp_captures.specs.declared.faults.CaptureFault.{CaptureFault}

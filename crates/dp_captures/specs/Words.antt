@@ -1,8 +1,8 @@
 -- Captures that words give ports in place of those that a pipeline names.
-use Rattle.std.specs.Prelude.{ℕ, ◌-◌, List, [], ◌∷◌, ◌++◌, Bool, true, false, ◌==◌, ◌&&◌, ◌||◌, Option, Some, None, codes, find, length, map}
+use Rattle.std.specs.Prelude.{ℕ, ◌-◌, List, [], ◌∷◌, ◌++◌, Bool, true, false, ◌==◌, ◌&&◌, ◌||◌, Option, Some, None, codes, find, length}
 use Rattle.std.specs.Prelude.{nat_le, nat_lt, option_map, option_and_then, if◌then◌else◌}
 use Rattle.std.specs.List.{after_first, before_first, position_or_len}
-use Rattle.std.specs.Option.{option_map_or, unwrap_or}
+use Rattle.std.specs.Option.{option_map_or}
 use Rattle.std.specs.Str.{bytes_eq}
 use Rattle.dp_captures.specs.declared.words.WordForm.{WordForm}
 use Rattle.dp_captures.specs.declared.words.WordForm.TheVariants.{Named, Bare}

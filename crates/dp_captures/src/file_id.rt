@@ -40,7 +40,7 @@ fn plain(metadata: &Metadata) -> Option<FileId> {
 /// # Errors
 ///
 /// Those of the system.
-pub(crate) fn open_file<F: OpenFile>(file: &F) -> Result<Option<FileId>> {
+pub fn id_of_open<F: OpenFile>(file: &F) -> Result<Option<FileId>> {
     Ok(plain(&file.metadata()?))
 }
 

@@ -3,7 +3,7 @@
 ghost use Rattle.std.specs.Prelude.{◌≡◌, IfOk};
 ghost use Rattle.dp_captures.specs.Files.{IsUnread, empty_capture, source_place};
 
-use crate::file_id::{FileId, open_file, plain_file};
+use crate::file_id::{FileId, id_of_open, plain_file};
 use crate::words::Place;
 use dp_pcap::GhostCount;
 use std::alloc::AllocError;
@@ -56,7 +56,7 @@ fn unread<F>(source: Source<F>, id: Option<FileId>) -> InputFile<F>
 fn of_file<F: fs::OpenFile + Drop>(file: F) -> Result<InputFile<F>>
     ensures { IfOk result (λ input. (input.source ≡ Source.File file) × (input.reads.count ≡ 0)) }
 {
-    let id = open_file(&file)?;
+    let id = id_of_open(&file)?;
     Ok(unread(Source::File(file), id))
 }
 

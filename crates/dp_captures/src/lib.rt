@@ -27,7 +27,7 @@ mod words;
 
 pub use closing::{Flushed, flush_outputs};
 pub use faults::{CaptureFault, Finding, Reason, finding_of};
-pub use file_id::{FileId, ReadFile, add_read, note_read, plain_file};
+pub use file_id::{FileId, ReadFile, add_read, id_of_open, note_read, plain_file};
 pub use guarded::Guarded;
 pub use inlet::Inlet;
 pub use input_file::InputFile;

@@ -29,7 +29,8 @@ pub trait Outlet: Sink {
         ensures all { OnOk result (Keeps (Self.contents self.old) (taken self.new)) }
         ensures front { IfErr result (λ _. TookFront (Self.contents self.old) (taken self.new)) }
         ensures whole { IfErr result (λ incomplete. HasWhole incomplete.whole (taken self.new)) }
-        ensures health { (Self.is_broken self.new ≡ Self.is_broken self.old) × (Self.failures self.new ≡ Self.failures self.old) × (Self.calls self.new ≡ Self.calls self.old) };
+        ensures health { (Self.is_broken self.new ≡ Self.is_broken self.old) × (Self.failures self.new ≡ Self.failures self.old)
+            × (Self.calls self.new ≡ Self.calls self.old) };
 }
 
 impl<W: Write + Drop> Outlet for OfBufWriter<Guarded<W>> {

@@ -3,7 +3,7 @@
 ghost use Rattle.std.specs.Prelude.{◌≡◌, IfOk, IsOk, OnOk, false, true};
 ghost use Rattle.dp_captures.specs.Files.{IsUnwritten, destination_place};
 
-use crate::file_id::{FileId, open_file};
+use crate::file_id::{FileId, id_of_open};
 use crate::input_file::stream_id;
 use crate::words::Place;
 use dp_pcap::GhostCount;
@@ -55,7 +55,7 @@ fn of_file<F: OpenFile + Drop>(file: F) -> Result<OutputFile<F>>
     ensures file { IfOk result (λ output. output.destination ≡ Destination.File file) }
     ensures unwritten { IfOk result IsUnwritten }
 {
-    let id = open_file(&file)?;
+    let id = id_of_open(&file)?;
     Ok(unwritten(Destination::File(file), id))
 }
 

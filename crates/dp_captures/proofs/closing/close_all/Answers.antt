@@ -1,7 +1,5 @@
 -- One more output is written out.
-use Rattle.std.proofs.Common.{◌≡◌, ◌<◌, ◌+◌, suc, length, take, drop, map, subst, sym, ap, ◌∙◌, add-one, arith}
-use Rattle.std.specs.Prelude.{slice_index_or, slice_set}
-use Rattle.dp_captures.specs.Closing.{AreClosed}
+use Rattle.std.proofs.Common.{◌≡◌, ◌<◌, length, ◌∙◌, add-one, arith}
 use Rattle.dp_captures.proofs.Closed.{closed_more, map_set_same, rest_stays}
 use Rattle.dp_captures.proofs.closing.close_all.Goals as goal
 

@@ -1,7 +1,5 @@
 -- The counts of one more port.
-use Rattle.std.proofs.Common.{◌≡◌, ◌+◌, ◌<◌, ◌∷◌, ◌++◌, [], length, ap, sym, ◌∙◌, add-one, arith}
-use Rattle.dp_engine.specs.declared.report.PortReport.{PortReport}
-use Rattle.dp_captures.specs.Closing.{lowered_from}
+use Rattle.std.proofs.Common.{◌<◌, length, sym, ◌∙◌, add-one, arith}
 use Rattle.dp_captures.proofs.Closed.{lowered_more}
 use Rattle.dp_captures.proofs.closing.lowered_ports.Goals as goal
 

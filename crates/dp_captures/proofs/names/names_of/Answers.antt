@@ -1,5 +1,5 @@
 -- The captures of one more port.
-use Rattle.std.proofs.Common.{◌≡◌, ◌∙◌, ℕ, List, length, length-append, map, ap, arith}
+use Rattle.std.proofs.Common.{◌∙◌, List, length, length-append, map, ap, arith}
 use Rattle.dp_captures.specs.declared.names.CaptureNames.{CaptureNames}
 use Rattle.dp_captures.specs.declared.words.Replaced.{Replaced}
 use Rattle.dp_captures.specs.Names.{input_capture, output_capture}

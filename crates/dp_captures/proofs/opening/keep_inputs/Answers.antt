@@ -1,5 +1,5 @@
 -- One input more.
-use Rattle.std.proofs.Common.{◌≡◌, ◌∙◌, ◌<◌, ◌++◌, length, map, ap, arith}
+use Rattle.std.proofs.Common.{◌∙◌, ◌<◌, ◌++◌, length, map, ap, arith}
 use Rattle.dp_captures.specs.Files.{input_file}
 use Rattle.dp_captures.proofs.Opened.{one_more, take_past}
 use Rattle.dp_captures.proofs.opening.keep_inputs.Goals as goal

@@ -1,6 +1,6 @@
 -- The captures are open and apart; or the fault is the first.
-use Rattle.std.proofs.Common.{inr, length}
-use Rattle.dp_captures.specs.Files.{AreInputs, IsOpenedInput, IsOpenedOutput}
+use Rattle.std.proofs.Common.{inr}
+use Rattle.dp_captures.specs.Files.{IsOpenedInput, IsOpenedOutput}
 use Rattle.dp_captures.specs.Names.{input_capture, output_capture}
 use Rattle.dp_captures.proofs.Opened.{all_opened, clash_named, guarded, if_err, none_opened, on_ok}
 use Rattle.dp_captures.proofs.opening.open_captures.Goals as goal
