@@ -284,7 +284,8 @@ const FRONTS: &[(&[u8], bool, Option<LinkType>)] = &[
 fn a_capture_is_known_by_its_first_bytes(rt: HostRuntime) {
     for (front, is_pcapng, link) in FRONTS.iter() {
         let seen = seen_of(*front, Progress::new(rt.stderr(), 0, false));
-        assert_eq!(&rt; (seen.is_pcapng, seen.link), (*is_pcapng, *link));
+        assert!(&rt; seen.is_pcapng == *is_pcapng);
+        assert!(&rt; seen.link == *link);
         assert!(&rt; seen.failure.is_none());
     }
     let seen = seen_of(Short { left: 3 }, Progress::new(rt.stderr(), 0, false));
