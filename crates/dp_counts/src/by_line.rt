@@ -11,9 +11,9 @@ use std::alloc::{AllocError, Global};
 
 /// The program of a node: its source, and its instructions.
 #[derive(Clone, Copy)]
-pub struct NodeProgram<'a> {
-    pub source: &'a NodeSource<'a>,
-    pub instrs: &'a [Instr],
+pub struct NodeProgram<'p, 'a> {
+    pub source: &'p NodeSource<'a>,
+    pub instrs: &'p [Instr],
 }
 
 /// Why packets ended without being sent.
@@ -139,7 +139,7 @@ fn push_place<'a>(
 /// Adds the places of a program.
 fn push_places<'a>(
     counts: &Counts,
-    program: NodeProgram<'a>,
+    program: NodeProgram<'_, 'a>,
     places: &mut Vec<DropPlace<'a>>,
 ) -> Result<(), AllocError> {
     let NodeProgram { source, instrs } = program;
@@ -183,7 +183,7 @@ fn push_reported(report: &Report, places: &mut Vec<DropPlace<'_>>) -> Result<(),
 pub fn drop_places<'a>(
     alloc: Global,
     counts: &Counts,
-    programs: &[NodeProgram<'a>],
+    programs: &[NodeProgram<'_, 'a>],
     report: &Report,
 ) -> Result<Vec<DropPlace<'a>>, AllocError> {
     let mut places = Vec::new(alloc);
@@ -261,7 +261,7 @@ fn add_counts<'a>(lines: &mut Vec<LineCounts<'a>>, more: LineCounts<'a>) -> Resu
 pub fn lines_counted<'a>(
     alloc: Global,
     counts: &Counts,
-    program: NodeProgram<'a>,
+    program: NodeProgram<'_, 'a>,
 ) -> Result<Vec<LineCounts<'a>>, AllocError> {
     let NodeProgram { source, instrs } = program;
     let is_built = is_built(source);

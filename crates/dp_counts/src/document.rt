@@ -26,10 +26,10 @@ impl fmt::Display for Named {
 
 /// The counts of a run: its programs, in UTF-8, with their counts, the sums for each table and each ring, and the least free buffers of each pool.
 #[derive(Clone, Copy)]
-pub struct CountsDocument<'a> {
-    pub counts: &'a Counts,
-    pub env: &'a Env,
-    pub sources: &'a [NodeSource<'a>],
+pub struct CountsDocument<'p, 'a> {
+    pub counts: &'p Counts,
+    pub env: &'p Env,
+    pub sources: &'p [NodeSource<'a>],
 }
 
 /// A text, or `null`.
@@ -99,7 +99,7 @@ fn write_lines<S: Serializer>(
 }
 
 /// Writes the programs with their counts.
-fn write_nodes<S: Serializer>(all: CountsDocument<'_>, out: &mut S) -> Result<(), S::Error> {
+fn write_nodes<S: Serializer>(all: CountsDocument<'_, '_>, out: &mut S) -> Result<(), S::Error> {
     for source in all.sources {
         out.begin_map(None)?;
         out.key("file")?;
@@ -117,7 +117,7 @@ fn write_nodes<S: Serializer>(all: CountsDocument<'_>, out: &mut S) -> Result<()
 }
 
 /// The members of a pool.
-fn write_pools<S: Serializer>(all: CountsDocument<'_>, out: &mut S) -> Result<(), S::Error> {
+fn write_pools<S: Serializer>(all: CountsDocument<'_, '_>, out: &mut S) -> Result<(), S::Error> {
     let levels = all.counts.levels();
     for (k, (pool, free)) in all.env.pools().iter().zip(levels.free).enumerate() {
         let members = [
@@ -131,7 +131,7 @@ fn write_pools<S: Serializer>(all: CountsDocument<'_>, out: &mut S) -> Result<()
 }
 
 /// The members of a ring.
-fn write_rings<S: Serializer>(all: CountsDocument<'_>, out: &mut S) -> Result<(), S::Error> {
+fn write_rings<S: Serializer>(all: CountsDocument<'_, '_>, out: &mut S) -> Result<(), S::Error> {
     let levels = all.counts.levels();
     for (k, (ring, waited)) in (0..8u8).zip(all.env.rings().iter().zip(levels.waited)) {
         let full = total_of(all.counts, Total::Full(k), all.sources);
@@ -150,7 +150,7 @@ fn write_rings<S: Serializer>(all: CountsDocument<'_>, out: &mut S) -> Result<()
 }
 
 /// The members of a table.
-fn write_tables<S: Serializer>(all: CountsDocument<'_>, out: &mut S) -> Result<(), S::Error> {
+fn write_tables<S: Serializer>(all: CountsDocument<'_, '_>, out: &mut S) -> Result<(), S::Error> {
     for table in 0..all.env.tables() {
         let hits = total_of(all.counts, Total::Hits(table), all.sources);
         let misses = total_of(all.counts, Total::Misses(table), all.sources);
@@ -164,9 +164,9 @@ fn write_tables<S: Serializer>(all: CountsDocument<'_>, out: &mut S) -> Result<(
     Ok(())
 }
 
-impl Described for CountsDocument<'_> {}
+impl Described for CountsDocument<'_, '_> {}
 
-impl Serialize for CountsDocument<'_> {
+impl Serialize for CountsDocument<'_, '_> {
     fn serialize<S: Serializer>(&self, out: &mut S) -> Result<(), S::Error> {
         let all = *self;
         out.begin_map(None)?;

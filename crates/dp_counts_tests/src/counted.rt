@@ -206,9 +206,9 @@ fn a_run_is_counted(rt: HostRuntime) -> Result<(), Fail> {
 
 /// Whether a text is these lines without their newlines.
 fn is_joined(text: &str, lines: &str) -> bool {
-    let mut rest = text;
+    let mut rest = text.as_bytes();
     for line in lines.lines() {
-        match rest.strip_prefix(line) {
+        match rest.strip_prefix(line.as_bytes()) {
             Some(after) => rest = after,
             None => return false,
         }
