@@ -12,7 +12,6 @@ mod fault;
 mod host;
 mod keys;
 mod nearest;
-mod one;
 mod pipeline_help;
 mod program_help;
 mod remedy;
@@ -21,8 +20,7 @@ mod subject;
 
 pub use fault::{Because, Fault, Reason, fault_of};
 pub use host::{MAX_NODES, entry_at, read, read_sources};
-pub use one::{OneFiles, load_one};
 pub use pipeline_help::say_pipeline_help;
 pub use remedy::{program_of, say_remedy};
 pub use source::{Lent, ReadError, Source, Sources, Unread};
-pub use subject::{Asked, Subject, one_env};
+pub use subject::{Asked, ONE_REGION, Subject, load_one, one_env};

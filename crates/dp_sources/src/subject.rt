@@ -1,10 +1,18 @@
 //! What a command is about: the nodes of a pipeline, or one program.
 
-ghost use Rattle.std.specs.Prelude.{◌≡◌, option_map};
+ghost use Rattle.std.specs.Prelude.{◌≡◌, IfErr, IfOk, Some, option_map};
+ghost use Rattle.dp_pipe.specs.Nodes.{Fails};
+ghost use Rattle.dp_pipe.specs.Singles.{IsSinglePlan, single_node};
+ghost use Rattle.dp_sources.specs.Sources.{files_of};
 ghost use Rattle.dp_sources.specs.Subjects.{asked_node, env_of, node_in, node_of, one_port};
 
+use crate::source::{Lent, Sources};
 use dp_model::{Entry, Env, PoolSpec, PortSpec};
-use dp_pipe::Survey;
+use dp_pipe::{PipeError, Pipeline, SingleFiles, Survey, load_single};
+use std::alloc::Global;
+
+/// The number of bytes of the region of `dpv one`.
+pub const ONE_REGION: u32 = 262_144;
 
 /// The environment of `dpv one`: a pool of 64 buffers with room for 2,176 bytes and no cache, and a port that takes packets of one segment.
 pub fn one_env() -> Env
@@ -24,6 +32,22 @@ pub fn one_env() -> Env
         Ok(env) => env,
         Err(_) => unreachable!(),
     }
+}
+
+/// Loads the pipeline of `dpv one` from the files that were read.
+///
+/// # Errors
+///
+/// Those of the node's program and certificate.
+pub fn load_one(
+    alloc: Global,
+    names: SingleFiles<'_>,
+    sources: &Sources,
+) -> Result<Pipeline, PipeError>
+    ensures loaded { IfOk result (IsSinglePlan (Some (files_of sources.now)) one_port 262144 names.entry) }
+    ensures fails { IfErr result (Fails (Some (files_of sources.now)) one_port (single_node names.entry)) }
+{
+    load_single(alloc, one_env(), ONE_REGION, names, &mut Lent(sources))
 }
 
 /// A node with the names of its files.
