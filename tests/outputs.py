@@ -4,10 +4,9 @@
 Usage: tests/outputs.py [PROGRAM]   (the built program; by default the one that ./dpv builds and runs)
 First, outputs that are another file of the run, by the same name, another path, a link or a hard link: the pipeline file, a program, a
 certificate, an input, another port's output, also one that does not exist yet. Each has to be refused with both names, and no file may
-change. Then outputs to which standard output or standard error goes, and two outputs that are one new file by a link. Then each cause for
-which a run ends before its first header is written, with old outputs, which must not change. Then runs that do write: an old output has only
-the new capture, devices and pipes may be written by several ports. Prints a line for each case that failed, and a count; exits with 1 if a
-case failed.
+change. Then each cause for which a run ends before its first header is written, with old outputs, which must not change. Then runs that do
+write: an old output has only the new capture, devices and pipes may be written by several ports. Prints a line for each case that failed,
+and a count; exits with 1 if a case failed.
 """
 import os
 import pathlib
@@ -23,8 +22,6 @@ FORWARD = "tx p0,r0,drop\nexit\ndrop: free p0\nexit\n"
 OLD = b"something that the user still needs\n" * 100
 READ = "the run reads this file, so it is not overwritten"
 WRITTEN = "another port writes this file, too"
-PRINTED = "standard output goes to this file, too"
-REPORTED = "standard error goes to this file, too"
 
 
 def capture(*records: bytes) -> bytes:
@@ -145,65 +142,6 @@ def is_kept(program: str, case: Case, folder: pathlib.Path, must_be_alone: bool)
     return passed
 
 
-class Shared(NamedTuple):
-    """Words of a run over old.pcap, what the shell does with the standard streams, and what is then in old.pcap and on standard error."""
-
-    words: list[str]
-    streams: str
-    old: bytes
-    said: str
-
-
-def shared() -> list[Shared]:
-    """Outputs to which a standard stream goes, too."""
-    run, one = ["run", "case.toml"], ["one", "forward.dpv", "forward.cert", "in.pcap"]
-    printed, reported = (f"fault: file {{}}\n  because: {why}\n" for why in (PRINTED, REPORTED))
-    read = f"fault: file in.pcap\n  file: in.pcap\n  because: {READ}\n"
-    return [
-        Shared(run, ">> old.pcap", OLD, printed.format("old.pcap")),
-        Shared(run, "> old.pcap", b"", printed.format("old.pcap")),
-        Shared(run, "2>> old.pcap", OLD + reported.format("old.pcap").encode(), ""),
-        Shared(run, ">> old.pcap 2>> old.pcap", OLD + reported.format("old.pcap").encode(), ""),
-        Shared([*one, "old.pcap"], ">> old.pcap", OLD, printed.format("old.pcap")),
-        Shared([*one, "./folder/../old.pcap"], "> old.pcap", b"", printed.format("./folder/../old.pcap")),
-        Shared([*one, "-"], ">> old.pcap 2>> old.pcap", OLD + reported.format("-").encode(), ""),
-        Shared([*run, "--out", "0=-"], "2>> old.pcap >> old.pcap", OLD + reported.format("-").encode(), ""),
-        Shared([*one, "in.pcap"], ">> old.pcap", OLD, read),
-    ]
-
-
-def is_unshared(program: str, case: Shared, folder: pathlib.Path) -> bool:
-    """Whether a run is refused since a standard stream goes to its output, which then has nothing but what the shell and the report put there."""
-    (folder / "case.toml").write_text(pipeline([("in.pcap", "old.pcap")]))
-    (folder / "old.pcap").write_bytes(OLD)
-    command = ["sh", "-c", f'"$@" {case.streams}', "sh", program, *case.words]
-    run = subprocess.run(command, cwd=folder, stdin=subprocess.DEVNULL, capture_output=True, text=True, timeout=60)
-    now = (folder / "old.pcap").read_bytes()
-    passed = (run.returncode, run.stdout, run.stderr, now) == (3, "", case.said, case.old)
-    if not passed:
-        print(f"outputs: {case.words} {case.streams}: status {run.returncode}, {run.stderr!r}, {len(now)} bytes: {now[len(OLD):][:200]!r}")
-    (folder / "old.pcap").write_bytes(OLD)
-    return passed
-
-
-def linked(program: str, folder: pathlib.Path) -> list[bool]:
-    """Two outputs that are one new file: its name, and a link to it. Nothing is written there."""
-    answers = []
-    for first, second in (("new.pcap", "link.pcap"), ("link.pcap", "new.pcap"), ("link.pcap", "folder/link.pcap")):
-        for link, name in {"link.pcap": "new.pcap", "folder/link.pcap": "../new.pcap"}.items():
-            (folder / link).symlink_to(name)
-        (folder / "case.toml").write_text(pipeline([("in.pcap", first), ("in.pcap", second)]))
-        run = subprocess.run([program, "run", "case.toml"], cwd=folder, capture_output=True, text=True, timeout=60)
-        said = f"fault: file {second}\n  file: {first}\n  because: {WRITTEN}\n"
-        held = (folder / "new.pcap").read_bytes() if (folder / "new.pcap").exists() else b""
-        answers.append((run.returncode, run.stderr, held) == (3, said, b""))
-        if not answers[-1]:
-            print(f"outputs: {first}, {second}: status {run.returncode}, {run.stderr!r}, {len(held)} bytes")
-        for name in ("link.pcap", "folder/link.pcap", "new.pcap"):
-            (folder / name).unlink(missing_ok=True)
-    return answers
-
-
 def writes(program: str, folder: pathlib.Path) -> list[bool]:
     """Runs that write: an old output then has only the new capture; several ports write devices and pipes."""
     answers = []
@@ -223,8 +161,6 @@ def main() -> int:
     with nested_folder() as folder:
         make_files(folder, program)
         passed = [is_kept(program, case, folder, True) for case in clashes()]
-        passed += [is_unshared(program, case, folder) for case in shared()]
-        passed += linked(program, folder)
         passed += [is_kept(program, case, folder, False) for case in early_ends()]
         passed += writes(program, folder)
     return report_cases("outputs", passed)
