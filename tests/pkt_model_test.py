@@ -131,6 +131,12 @@ class Numbers(unittest.TestCase):
         frame = data_of(PLAIN.replace("020000000a0a", "0200000000f4").replace("0073 0000", "0073 00f3"))
         self.assertEqual(sent(text, PLAIN)[0], [frame.hex()])
 
+    def test_sets_and_defs(self) -> None:
+        text = "set IN = {192.168.0.0/16, 10.0.0.1} set T = {IN, 8.8.8.8} table R = 0 def f(a, b) { let x = a + b count c ipv4.id = x } "
+        self.assertEqual(len(sent(text + "need ipv4.src in IN and not ipv4.src in {8.8.8.8} and ipv4.dst in T send 0", PLAIN)[0]), 1)
+        frame = data_of(PLAIN.replace("0073 0000", "0073 0005"))
+        self.assertEqual(sent(text + "let x = 2 f(x, 3) need x == 2 send 0", PLAIN)[0], [frame.hex()])
+
     def test_lookup(self) -> None:
         self.assertEqual([len(it) for it in sent("ports 3 let hop = lookup 0 ipv4.dst else drop send hop", PLAIN)], [0, 0, 1])
         self.assertEqual([len(it) for it in sent("let hop = lookup 0 8.8.8.8 else send 0 drop", PLAIN)], [1, 0, 0])

@@ -673,6 +673,10 @@ class Page(unittest.TestCase):
         texts = dict(re.findall(r"(?m)^header (\w+) +\{([^}]*)\}", (TOP / "tools/pkt/prelude.pkt").read_text()))
         self.assertEqual({name: field.findall(text) for name, text in rows.items()}, {name: field.findall(text) for name, text in texts.items()})
 
+    def test_the_examples_of_statements(self) -> None:
+        text = self.page[self.page.index("## Examples of statements") :]
+        self.assertLess(count(text.split("```")[1]), 400)
+
     def test_the_first_program(self) -> None:
         program = (TOP / "examples/nat/nat.pkt").read_text()
         self.assertIn(f"```\n{program}```\n", self.page)
