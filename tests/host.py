@@ -44,7 +44,8 @@ def put_library(folder: pathlib.Path, over_gate: bool) -> None:
     words = [str(TOP / "tools/library"), str(folder)]
     folder.mkdir()
     if over_gate:
-        made = folder / "libdp_host.a"
+        made = CRATES["dp_host"].folder / "out/gate/libdp_host.a"
+        made.parent.mkdir(parents=True, exist_ok=True)
         build(CRATES["dp_host"], made)
         words.append(str(made))
     subprocess.run(words, check=True)

@@ -355,7 +355,7 @@ pub fn command<'a>(alloc: Global) -> Result<Command<'a>, AllocError>
     ensures { IfOk result (IsProgram usage.dpv) }
 {
     let dpv = Command::new(alloc, "dpv")
-        .version("0.1.0")
+        .version("0.2.0")
         .about("A packet forwarder whose programs are checked before they may touch a buffer")
         .subcommand_required(true)
         .arg_required_else_help(true);
