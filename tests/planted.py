@@ -59,7 +59,11 @@ SHARING = (32, 4, 1)
 # A check's memory, in bytes.
 ROOM = 3 << 30
 FUNCTION = re.compile(r'( *)(?:pub(?:\([^)]*\))? )?(?:const )?(?:unsafe )?(?:extern "C" )?fn (\w+)')
-IMPL = re.compile(r"(?:unsafe )?impl\b(?:<.*?>)? *(?:([\w:]+)(?:<.*>)? for )?&?(?:'\w+ )?(?:mut )?(\w+)")
+IMPL = re.compile(r"(?:unsafe )?impl\b(?:<(?:[^<>]|<[^<>]*>)*>)? *(?:([\w:]+)(?:<.*>)? for )?&?(?:'\w+ )?(?:mut )?(\w+)")
+# A type over another one, as `OfBufWriter<Guarded<W>>`, of which a check prints both.
+OVER = re.compile(r".* for &?(?:'\w+ )?(?:mut )?\w+<(\w+)<")
+# A conversion, whose source a check prints after the trait.
+CONVERSION = re.compile(r"impl\b(?:<(?:[^<>]|<[^<>]*>)*>)? *From<&?(?:'\w+ )?(?:\w+::)*(\w+)[^ ]* for (?:\w+::)*(\w+)")
 # An impl of a type at other types, which a check prints behind a plus.
 IMPL_AT = re.compile(r"(?:unsafe )?impl (\w+)<(\w+)>(?! for)")
 TRAIT = re.compile(r"(?:pub )?(?:unsafe )?trait (\w+)")
@@ -142,10 +146,14 @@ def function_at(text: str, at: int) -> tuple[str, ...] | None:
                 return (name,)
         if name and row and not row[0].isspace():
             impl, impl_at, trait = IMPL.match(row), IMPL_AT.match(row), TRAIT.match(row)
+            conversion = CONVERSION.match(row)
+            if conversion:
+                return f"{conversion[2]}From{conversion[1]}", name
             if impl_at:
                 return f"{impl_at[1]}+{impl_at[2]}", name
             if impl:
-                return impl[2] + (impl[1] or "").rpartition("::")[2], name
+                over = OVER.match(row)
+                return impl[2] + (over[1] if over else "") + (impl[1] or "").rpartition("::")[2], name
             if trait:
                 return trait[1], name
     return None
