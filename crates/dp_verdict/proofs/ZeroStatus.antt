@@ -1,0 +1,48 @@
+-- A check ends with status 0 only if the pipeline was loaded.
+use Rattle.std.proofs.Common.{◌≡◌, ℕ, List, [], ◌∷◌, Option, Some, None, Result, Ok, Err, true, false, refl, subst, inl, inr, arith}
+use Rattle.std.specs.Prelude.{IfErr, MatchOption}
+use Rattle.dp_pipe.specs.declared.error.PipeError.{PipeError}
+use Rattle.dp_pipe.specs.Pipelines.{Plan}
+use Rattle.dp_model.specs.declared.env.Entry.{Entry}
+use Rattle.dp_sources.specs.declared.fault.Fault.{Fault}
+use Rattle.dp_sources.specs.declared.fault.Fault.TheVariants as fault
+use Rattle.dp_verdict.specs.declared.finding.RefusedAt.{RefusedAt}
+use Rattle.dp_verdict.specs.declared.finding.Finding.{Finding}
+use Rattle.dp_verdict.specs.declared.report.Report.{Report}
+use Rattle.dp_verdict.specs.Checks.{HasOnly, IsChecked, refusal_of, refused_at}
+use Rattle.dp_sources.specs.Faults as faults
+use Rattle.dp_sources.specs.Faults.{IsFaultOf}
+use Rattle.dp_verdict.specs.Reports.{findings_of, status_of, status_with}
+
+fault_not_zero : (f : Fault) → faults.status_of f ≡ 0 → ⊥
+fault_not_zero fault.Memory zero = absurd (omega (arith, zero))
+fault_not_zero (fault.File name because) zero = absurd (omega (arith, zero))
+fault_not_zero fault.Region zero = absurd (omega (arith, zero))
+fault_not_zero (fault.Pipeline error file) zero = absurd (omega (arith, zero))
+fault_not_zero (fault.Input port cause because) zero = absurd (omega (arith, zero))
+fault_not_zero (fault.Output port because) zero = absurd (omega (arith, zero))
+fault_not_zero (fault.Line line) zero = absurd (omega (arith, zero))
+
+faulted : (f : Option Fault) (fs : List Finding) (it : Fault) → f ≡ Some it → status_with f fs ≡ 0 → ⊥
+faulted f fs it is zero = fault_not_zero it (subst (λ (o : Option Fault). status_with o fs ≡ 0) is zero)
+
+one : (n : ℕ) → n ≡ 1 → n ≡ 0 → ⊥
+one n is zero = absurd (omega (arith, is, zero))
+
+alone_not_zero : (f : Option Fault) (fs : List Finding) (node : Entry) (at : RefusedAt) → fs ≡ refused_at node at ∷ [] → f ≡ None → status_with f fs ≡ 0 → ⊥
+alone_not_zero f fs node at only none zero =
+    one 1 refl (subst (λ (l : List Finding). status_with None l ≡ 0) only (subst (λ (o : Option Fault). status_with o fs ≡ 0) none zero))
+
+only_refused : (report : Report) (node : Entry) (at : RefusedAt) → HasOnly (refused_at node at ∷ []) report → status_of report ≡ 0 → ⊥
+only_refused report node at (inl has) zero = alone_not_zero report.fault (findings_of report) node at has.0 has.1 zero
+only_refused report node at (inr memory) zero = faulted report.fault (findings_of report) fault.Memory memory zero
+
+not_loaded : (e : PipeError) (o : Option (Entry × RefusedAt)) (report : Report)
+    → MatchOption o ((f : Fault) × IsFaultOf e f × (report.fault ≡ Some f)) (λ refusal. HasOnly (refused_at refusal.0 refusal.1 ∷ []) report)
+    → status_of report ≡ 0 → ⊥
+not_loaded e None report (f, of, is) zero = faulted report.fault (findings_of report) f is zero
+not_loaded e (Some refusal) report is zero = only_refused report refusal.0 refusal.1 is zero
+
+pub zero_is_loaded : (loaded : Result Plan PipeError) (report : Report) → IsChecked loaded report → status_of report ≡ 0 → IfErr loaded (λ e. ⊥)
+zero_is_loaded (Ok p) report is zero = tt
+zero_is_loaded (Err e) report is zero = not_loaded e (refusal_of e) report is zero
