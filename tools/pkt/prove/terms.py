@@ -574,7 +574,8 @@ class Known:
         v = whole(a) if a.kind in ("byte", "num") else self.rebuilt(a)
         mask, value = self.bits.get(a, (0, 0))
         if mask:
-            v = concat(*(const(value >> p[0] & 1, 1) if mask >> p[0] & 1 else part(v, p[0], 1) for p in ((k,) for k in range(a.width))), part(v, a.width, 64 - a.width))
+            bits = (const(value >> k & 1, 1) if mask >> k & 1 else part(v, k, 1) for k in range(a.width))
+            v = concat(*bits, part(v, a.width, 64 - a.width))
         self.memo[a] = v
         return v
 
@@ -798,7 +799,7 @@ def zwide(t, bits=64):
 
 
 def zlinear(d, c, bits=64):
-    """A linear form in so many bits: negative terms as inverted parts, for fewer carries."""
+    """A linear form with this number of bits: negative terms as inverted parts, for fewer carries."""
     terms = []
     for (a, x, w), coef in d:
         if coef < 0:
