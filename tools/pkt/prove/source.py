@@ -109,6 +109,7 @@ class SourceRun:
             self.found[name] = place
             if k:
                 self.before[name] = self.program.given[k - 1]
+            self.leaves_open(name)
             place = self.end_of(name)
 
     def finds(self, name):
