@@ -160,7 +160,9 @@ class SourceRun:
             return None
         self.before[name] = before
         end = self.end_of(before)
-        self.after_options |= end not in (None, self.found[before] + self.program.headers[before].size)
+        if end not in (None, self.found[before] + self.program.headers[before].size):
+            self.after_options = True
+            self.leaves_open(before)
         return end
 
     def preceding(self, name):
