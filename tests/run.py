@@ -73,6 +73,9 @@ STEPS = (
     Step("random", "tests/fuzz_pkt.py", "random programs of the language are compiled, inferred, checked and run, and what they send is compared with the interpreter", ON_PROGRAM, share=0.25),
 )
 
+# Where Debian's packages put modules, if another Python runs this.
+DEBIAN_PYTHON = pathlib.Path("/usr/lib/python3/dist-packages")
+
 # What is skipped for want of a tool: how the tool is found, the Debian package that has it, and what is skipped.
 TOOLS = (
     ("tcpdump", "tcpdump", "live pipes from tcpdump"),
@@ -90,7 +93,7 @@ def is_found(tool: str) -> bool:
     """Whether a tool is installed."""
     kind, _, name = tool.rpartition(":")
     if kind == "python":
-        return importlib.util.find_spec(name) is not None
+        return importlib.util.find_spec(name) is not None or (DEBIAN_PYTHON / name).exists()
     if kind == "pkg-config":
         return shutil.which(kind) is not None and subprocess.run([kind, "--exists", name]).returncode == 0
     return shutil.which(name) is not None
