@@ -63,7 +63,7 @@ def has_pages(prefix: pathlib.Path) -> list[bool]:
         says("completion", run(["bash", "-c", words], prefix), "check"),
         page.startswith(".TH DPV") and f"dpv {VERSION}" in page.splitlines()[0],
         (prefix / "share/zsh/site-functions/_dpv").is_file(),
-        (prefix / "share/doc/dpv/users/tour.md").is_file(),
+        (prefix / "share/doc/dpv/docs/users/tour.md").is_file(),
     ]
 
 

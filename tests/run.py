@@ -66,6 +66,7 @@ STEPS = (
     Step("tools", "tests/pkt_test.py", "the parts of `tools/pkt`, which compiles the language, and what compiled programs send"),
     Step("tools", "tests/pkt_model_test.py", "`tests/pkt_model`, an interpreter of the language written from docs/users/pkt.md alone, on runs worked out by hand, on all examples and tasks"),
     Step("tools", "tests/pkt_mutate.py", "2,000 damaged texts of the language: each ends within 10 s in a program that assembles or in an error with its place"),
+    Step("tools", "tests/pkt_prove.py", "that `dpv build --prove` proves the examples and tasks, with a limit of time for each, and finds no difference; skipped without z3"),
     Step("tools", "tests/pkt_tasks.py", "25 programs of real tasks: what they send, by `tests/model`, is what scapy says; skipped without scapy"),
     Step("library", "tests/host.py", "random cases through the C library, frames, bursts and changes of routes, beside `tests/model`; four engines on four threads, under ThreadSanitizer and helgrind; calls that nobody should make, under the C compiler's sanitizers; the hosts of examples/live, and `dpdk.c` with all examples where DPDK is installed", ("--gate",), share=0.15, runs_alone=True),
     Step("library", "tests/install.py", "that what `dpv install` puts into an empty folder works without the toolchain, there and where it is moved to: the program, `dpv build`, the manual page, completions, a C program by pkg-config, and the Debian package", ON_PROGRAM, runs_alone=True),

@@ -1,6 +1,8 @@
 """Usage: dpv build FILE.pkt > FILE.dpv
+       dpv build --prove [--rounds N] [--seconds N] FILE.pkt
 
-Compiles a program of docs/users/pkt.md to a node program. An error is printed to standard error with its line, and gives status 1."""
+Compiles a program of docs/users/pkt.md to a node program. An error is printed to standard error with its line, and gives status 1.
+With --prove it says whether the program does what its source says, for all packets: proved, different (status 1) or open (status 3)."""
 import os
 import pathlib
 import sys
@@ -8,6 +10,7 @@ import sys
 sys.path.insert(0, str(pathlib.Path(__file__).resolve().parent.parent))
 
 from pkt.compiler import compile_text, error_text  # noqa: E402
+from pkt.prove.command import prove_file  # noqa: E402
 from pkt.syntax import SourceError  # noqa: E402
 
 
@@ -15,6 +18,8 @@ def main() -> int:
     if sys.argv[1:] in (["-h"], ["--help"]):
         print(__doc__)
         return 0
+    if sys.argv[1:2] == ["--prove"]:
+        return prove_file(sys.argv[2:])
     if len(sys.argv) != 2:
         print(__doc__.splitlines()[0], file=sys.stderr)
         return 2

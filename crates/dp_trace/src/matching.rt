@@ -35,8 +35,8 @@ fn bytes_in(text: &str) -> Option<([u8; MAX_PATTERN], usize)> {
         match high {
             None => high = Some(digit),
             Some(first) => {
-                *bytes.get_mut(count)? = first * 16 + digit;
-                count += 1;
+                *bytes.get_mut(count)? = first.wrapping_mul(16).wrapping_add(digit);
+                count = count.saturating_add(1);
                 high = None;
             }
         }
@@ -49,16 +49,16 @@ fn bytes_in(text: &str) -> Option<([u8; MAX_PATTERN], usize)> {
 
 /// Parses an address A.B.C.D.
 fn address_in(text: &str) -> Option<[u8; MAX_PATTERN]> {
+    let mut parts = text.split('.');
     let mut bytes = [0; MAX_PATTERN];
-    let mut count = 0usize;
-    for part in text.split('.') {
-        if count == 4 {
-            return None;
-        }
-        bytes[count] = part.parse().ok()?;
-        count += 1;
+    bytes[0] = parts.next()?.parse().ok()?;
+    bytes[1] = parts.next()?.parse().ok()?;
+    bytes[2] = parts.next()?.parse().ok()?;
+    bytes[3] = parts.next()?.parse().ok()?;
+    match parts.next() {
+        None => Some(bytes),
+        Some(_) => None,
     }
-    if count == 4 { Some(bytes) } else { None }
 }
 
 /// Parses the argument of `--match`: an IPv4 address A.B.C.D, or `BYTES@OFFSET` with up to 16 bytes in hexadecimal digits and a decimal offset.

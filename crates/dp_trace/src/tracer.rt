@@ -123,11 +123,7 @@ impl<'a, W: Write + Drop> Printing<'a, W> {
         say_call(&mut self.text, &self.before, now, false);
         self.text.say(format_args!("turn {outcome} runs {runs}"));
         self.text.say(format_args!(" cuts {cuts} steps {steps}\n"));
-        for (k, queued) in now.lists.iter().enumerate() {
-            if *queued > 0 {
-                self.text.say(format_args!("port {k} sends {queued}\n"));
-            }
-        }
+        say_sent(&mut self.text, &now.lists);
         self.text.say(format_args!("record {number}: "));
     }
 
@@ -151,6 +147,15 @@ impl<'a, W: Write + Drop> Printing<'a, W> {
             if self.out.write_all(self.text.bytes.as_slice()).is_err() {
                 self.printed = Printed::Failed;
             }
+        }
+    }
+}
+
+/// Adds how many packets each port sends.
+fn say_sent(out: &mut Text, lists: &[u32; 8]) {
+    for (k, queued) in lists.iter().enumerate() {
+        if *queued > 0 {
+            out.say(format_args!("port {k} sends {queued}\n"));
         }
     }
 }

@@ -1,0 +1,15 @@
+-- `run_line`: the run is that of `run_captures`, what is said of it that of `reply_of`, and `print_reply` ends with it.
+use Rattle.dp_runs.proofs.run.run_line.Goals as goal
+
+pub returns : goal.returns
+returns g c = record {
+  flushed = c.run_captures-flushed.result;
+  before = _;
+  after = _;
+  run = c.run_captures-flushed.ensures;
+  reply = c.reply_of-reply.result;
+  said = rw (c.report_alone.ensures.text, c.report_alone.ensures.streams) at c.reply_of-reply.ensures.parts;
+  status_is = c.reply_of-reply.ensures.status;
+  failed = c.print_reply.ensures.0;
+  ended = c.print_reply.ensures.1;
+}

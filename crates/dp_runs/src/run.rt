@@ -1,0 +1,211 @@
+//! Runs a pipeline from captures to captures.
+
+ghost use Rattle.std.specs.Prelude.{◌≡◌, Bool, false, length};
+ghost use Rattle.dp_captures.specs.Runs.{feed, sink};
+ghost use Rattle.dp_console.specs.Replies.{EndsWith};
+ghost use Rattle.dp_engine.specs.Engines.{IsAscending};
+ghost use Rattle.dp_runs.specs.Lines.{IsRunLine};
+ghost use Rattle.dp_runs.specs.Watching.{IsRunUnder};
+
+use crate::counting::{Counting, Wanted};
+use crate::reply::{Printing, reply_of};
+use dp_captures::{CaptureNames, Finding, Flushed, Inlet, Outlet, finding_of, run_captures};
+use dp_console::{FAULT, MEMORY, Reply};
+use dp_counts::{Counts, Losses, Refusals};
+use dp_engine::{Known, Nothing, Silent};
+use dp_model::Env;
+use dp_pipe::Pipeline;
+use std::alloc::{AllocError, Global};
+use std::io::Write;
+
+/// What watches a run.
+#[derive(Drop)]
+pub enum Watcher<'a> {
+    /// Nothing.
+    Silent(Silent),
+    /// What counts refusals.
+    Losses(Losses),
+    /// What counts instructions, and refusals.
+    Counting(Counting<'a>),
+}
+
+impl<'a> Watcher<'a> {
+    /// A watcher that counts what a run of a pipeline is refused.
+    ///
+    /// # Errors
+    ///
+    /// `AllocError` if memory is refused.
+    pub fn of_losses(alloc: Global, pipeline: &Pipeline) -> Result<Watcher<'a>, AllocError> {
+        let mut losses = Losses::new(alloc)?;
+        for k in 0..pipeline.nodes() {
+            let node = pipeline.node(k);
+            losses.add(node.entry(), node.program());
+        }
+        Ok(Watcher::Losses(losses))
+    }
+
+    /// How often each was refused.
+    fn refusals(&self) -> Refusals {
+        match self {
+            Watcher::Silent(_) => Refusals::NONE,
+            Watcher::Losses(losses) => losses.refusals(),
+            Watcher::Counting(counting) => counting.counts.refusals(),
+        }
+    }
+
+    /// The counts, if instructions were counted.
+    pub fn counting(&self) -> Option<&Counting<'a>> {
+        match self {
+            Watcher::Counting(counting) => Some(counting),
+            Watcher::Silent(_) | Watcher::Losses(_) => None,
+        }
+    }
+}
+
+/// A run that has ended.
+#[derive(Drop)]
+pub struct Ran {
+    /// Its result after its captures were written out.
+    pub flushed: Flushed,
+    /// What was refused, if that was counted.
+    pub refusals: Refusals,
+}
+
+/// Runs a pipeline under a watcher.
+fn run_watching<K: Known, I: Inlet, O: Outlet>(
+    alloc: Global,
+    pipeline: Pipeline,
+    ins: &mut [I],
+    outs: &mut [O],
+    pattern: Vec<u64>,
+    watcher: &mut Watcher<'_>,
+) -> Flushed
+    requires readers { length ins.old ≡ length pipeline.env.ports }
+    requires writers { length outs.old ≡ length pipeline.env.ports }
+    requires pattern { IsAscending 0 pattern.items }
+    ensures { IsRunUnder watcher.old watcher.new pipeline pattern.items (feed I.remaining I.calls I.is_broken I.failures) ins.old ins.new
+        (sink O.contents O.calls O.is_broken O.failures) O.taken outs.old outs.new result }
+{
+    match watcher {
+        Watcher::Silent(silent) => {
+            run_captures::<K, Silent, I, O>(alloc, pipeline, ins, outs, pattern, silent)
+        }
+        Watcher::Losses(losses) => {
+            run_captures::<K, Losses, I, O>(alloc, pipeline, ins, outs, pattern, losses)
+        }
+        Watcher::Counting(counting) => {
+            let counts = &mut counting.counts;
+            run_captures::<K, Counts, I, O>(alloc, pipeline, ins, outs, pattern, counts)
+        }
+    }
+}
+
+/// Runs a pipeline from captures to captures, one input and one output for each port, with these allocation calls refused, under a watcher, and writes
+/// out what the outputs hold back. Programs that are among `K` run as machine code; nothing else depends on `K`.
+pub fn run_over<K: Known, I: Inlet, O: Outlet>(
+    alloc: Global,
+    pipeline: Pipeline,
+    ins: &mut [I],
+    outs: &mut [O],
+    pattern: Vec<u64>,
+    watcher: &mut Watcher<'_>,
+) -> Ran
+    requires readers { length ins.old ≡ length pipeline.env.ports }
+    requires writers { length outs.old ≡ length pipeline.env.ports }
+    requires pattern { IsAscending 0 pattern.items }
+    ensures { IsRunUnder watcher.old watcher.new pipeline pattern.items (feed I.remaining I.calls I.is_broken I.failures) ins.old ins.new
+        (sink O.contents O.calls O.is_broken O.failures) O.taken outs.old outs.new result.flushed }
+{
+    let flushed = run_watching::<K, I, O>(alloc, pipeline, ins, outs, pattern, watcher);
+    Ran {
+        flushed,
+        refusals: watcher.refusals(),
+    }
+}
+
+/// The finding for the capture at which a run stopped, if it stopped at one.
+pub fn found_of<'a, I: Inlet>(
+    names: &'a [CaptureNames],
+    ins: &[I],
+    ran: &Ran,
+) -> Option<Finding<'a>> {
+    match &ran.flushed.answer {
+        Ok(_) => None,
+        Err(fault) => finding_of(names, ins, fault.cause, ran.flushed.failure),
+    }
+}
+
+/// What is printed of a run: its report, and why it stopped.
+fn report_alone<'p>(env: &'p Env, found: Option<Finding<'p>>) -> Printing<'p, 'static>
+    ensures text { result.is_json ≡ false }
+    ensures streams { result.is_stdout_taken ≡ false }
+{
+    Printing {
+        env,
+        counting: None,
+        wanted: Wanted::NONE,
+        totals: false,
+        is_json: false,
+        is_stdout_taken: false,
+        found,
+        notes: None,
+    }
+}
+
+/// Prints a reply on two writers, as a console does, and returns the exit status: the reply's; 4 if memory was refused for it, which is reported; or 3
+/// if a text could not be written.
+fn print_reply<P: Write, E: Write>(reply: &Reply, out: &mut P, err: &mut E) -> u8
+    ensures { (failed : Bool) × EndsWith reply.now false failed (P.contents out.old) (P.contents out.new) (E.contents err.old) (E.contents err.new)
+        result }
+{
+    if !reply.is_whole() {
+        return match err.write_all(b"fault: memory\n") {
+            Ok(()) => MEMORY,
+            Err(_) => FAULT,
+        };
+    }
+    let printed = out.write_all(reply.out.bytes.as_slice()).is_ok();
+    let reported = err.write_all(reply.err.bytes.as_slice()).is_ok();
+    if printed && reported {
+        reply.status
+    } else {
+        FAULT
+    }
+}
+
+/// Runs a pipeline from captures to captures, one input and one output for each port, with these allocation calls refused. Prints its report, even of a
+/// run that stopped, and why it stopped, if it did. Returns the exit status: 0 if all was forwarded and written out, 4 for lack of memory, and else 3.
+pub fn run_line<I: Inlet, O: Outlet, P: Write, E: Write>(
+    alloc: Global,
+    pipeline: Pipeline,
+    ins: &mut [I],
+    outs: &mut [O],
+    pattern: Vec<u64>,
+    out: &mut P,
+    err: &mut E,
+) -> u8
+    requires readers { length ins.old ≡ length pipeline.env.ports }
+    requires writers { length outs.old ≡ length pipeline.env.ports }
+    requires pattern { IsAscending 0 pattern.items }
+    ensures { IsRunLine pipeline pattern.items (feed I.remaining I.calls I.is_broken I.failures) ins.old ins.new
+        (sink O.contents O.calls O.is_broken O.failures) O.taken outs.old outs.new (P.contents out.old) (P.contents out.new) (E.contents err.old)
+        (E.contents err.new) result }
+{
+    let env = pipeline.env().copy();
+    let mut nobody = Silent;
+    let flushed = run_captures::<Nothing, Silent, I, O>(
+        alloc,
+        pipeline,
+        ins,
+        outs,
+        pattern,
+        &mut nobody,
+    );
+    let ran = Ran {
+        flushed,
+        refusals: Refusals::NONE,
+    };
+    let found = found_of(&[], ins, &ran);
+    let reply = reply_of(alloc, &ran, &report_alone(&env, found));
+    print_reply(&reply, out, err)
+}
