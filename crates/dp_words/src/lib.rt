@@ -23,4 +23,5 @@ pub use graphs::{Drawing, graph};
 pub use listings::{Heading, instructions, listing};
 pub use pipelines::{NodeDrawing, node_graph, pipeline_graph};
 pub use refusal_text::{HintText, KnownText, RuleText, WantedText};
+pub use rows::{FactText, Part, parts_of};
 pub use source::{Written, written_in};

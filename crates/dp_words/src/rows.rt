@@ -57,7 +57,7 @@ impl fmt::Display for FactText {
 
 /// A part of what is known of a packet.
 #[derive(Clone, Copy, Debug, PartialEq, Eq)]
-enum Part {
+pub enum Part {
     Share(u8),
     Bytes(Measure, u16),
     Segments(u8),
@@ -74,7 +74,7 @@ impl fmt::Display for Part {
 }
 
 /// The parts of a fact, if the register holds a packet.
-fn parts_of(fact: Fact) -> Option<[Part; 6]> {
+pub fn parts_of(fact: Fact) -> Option<[Part; 6]> {
     let held = fact.holding()?;
     Some([
         Part::Share(held.share),
