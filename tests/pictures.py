@@ -3,8 +3,9 @@
 
 Usage: tests/pictures.py [PROGRAM]   (the built program; by default the one that ./dpv builds and runs)
 For each pipeline of examples: the picture of the pipeline has an arrow for each ring, pool and table that a program names, and for each `tx`
-one to a port at least; the picture of each program has each instruction once, in the words of its source, and an arrow for each jump, with
-the numbers of a document of counts; both are accepted by `dot -Tsvg`, if graphviz is installed. And the table of `dpv check FILE --sizes`
+one to a port at least; the picture of each program has each instruction once, in the words of its source, and an arrow from each box to each
+box to which it jumps, with the numbers of a document of counts, both joined and, with `--calls`, by basic blocks; all are accepted by
+`dot -Tsvg`, if graphviz is installed. And the table of `dpv check FILE --sizes`
 has the bytes that are computed here from the pipeline file. Programs of examples/refused are red where they are refused. Words and documents
 that cannot be drawn are reported as faults. Prints a line for each that failed, and a count; exits with 1 if one failed.
 """
@@ -101,36 +102,45 @@ def document_of(pipeline: dict, folder: pathlib.Path) -> dict:
     return {"counts": {"nodes": nodes}}
 
 
-def arrows_of(steps: list[dict], source: str) -> set[tuple[str, str, str, str]]:
-    """The arrows between the blocks of a program: from, to, the style and the count."""
+def heads_of(words: list[tuple[str, list[str]]], to: list[int | None], text: str, calls: bool) -> list[int]:
+    """The instructions with which the boxes of a program begin; in a joined picture also those where a box that is never reached begins or ends."""
+    ends = [word == "exit" or (target is not None if calls else word == "jmp") for (word, _), target in zip(words, to)]
+    drawn = [int(head) for head in re.findall(r"^  L(\d+) \[label", text, re.M)]
+    grey = {int(head) for head in re.findall(r"^  L(\d+) \[label(?:(?!^  L).)*?color=grey", text, re.M | re.S)}
+    turns = {head for before, head in zip(drawn, drawn[1:]) if not calls and (before in grey) != (head in grey)}
+    return [k for k in range(len(words)) if k == 0 or ends[k - 1] or k in to or k in turns]
+
+
+def arrows_of(steps: list[dict], source: str, text: str, calls: bool) -> set[tuple[str, str, str, str]]:
+    """The arrows between the boxes of a program: from, to, the style and the count."""
     listed = instructions_in(source)
     places = {label: number for number, (labels, _, _) in enumerate(listed) for label in labels}
     words = [operands(text) for _, text, _ in listed]
     to = [places[parts[-1]] if word in JUMPS else None for word, parts in words]
-    ends = [to[k] is not None or words[k][0] == "exit" for k in range(len(words))]
-    heads = [k for k in range(len(words)) if k == 0 or ends[k - 1] or k in to]
-    found = set()
+    jumped = [int(step["ran"] if step["taken"] is None else step["taken"]) for step in steps]
+    heads, found = heads_of(words, to, text, calls), set()
     for first, end in zip(heads, [*heads[1:], len(words)]):
-        last, ran, taken = end - 1, int(steps[end - 1]["ran"]), steps[end - 1]["taken"]
-        if words[last][0] not in ("jmp", "exit"):
-            found.add((str(first), str(end), "solid", str(ran - (taken or 0))))
-        if to[last] is not None:
-            found.add((str(first), str(to[last]), "dashed", str(ran if taken is None else taken)))
+        if words[end - 1][0] not in ("jmp", "exit"):
+            found.add((str(first), str(end), "solid", str(int(steps[end - 1]["ran"]) - (steps[end - 1]["taken"] or 0))))
+        for target in {to[k] for k in range(first, end)} - {None}:
+            found.add((str(first), str(target), "dashed", str(sum(jumped[k] for k in range(first, end) if to[k] == target))))
     return found
 
 
-def is_program(program: str, file: pathlib.Path, node: tuple[str, int, str], steps: list[dict], counts: pathlib.Path) -> bool:
+def is_program(program: str, file: pathlib.Path, node: tuple[str, int, str], steps: list[dict], counts: pathlib.Path, calls: bool) -> bool:
     """Whether the picture of a node's program has its instructions and arrows."""
     source = (file.parent / node[2]).read_text()
-    which = f"{node[0]}{node[1]}"
-    status, text, reported = run(program, ["show", file.name, which, "--dot"], file.parent)
+    show = ["show", file.name, f"{node[0]}{node[1]}", "--dot", *(["--calls"] if calls else [])]
+    status, text, reported = run(program, show, file.parent)
     rows = re.findall(r'<TR><TD ALIGN="LEFT">(?:&#160;)*(\d+)&#160; (.*?)</TD><TD ALIGN="LEFT">(?:<FONT COLOR="#607080"># (.*?)</FONT>)?</TD></TR>', text)
     wanted = [(str(k), one, comment) for k, (_, one, comment) in enumerate(instructions_in(source))]
     passed = (status, reported) == (0, "") and is_drawn(text) and [tuple(map(html.unescape, row)) for row in rows] == wanted
     labels = [label for labels, _, _ in instructions_in(source) for label in labels]
-    status, text, reported = run(program, ["show", file.name, which, "--dot", "--counts", str(counts)], file.parent)
-    arrows = set(re.findall(r'^  L(\d+) -> L(\d+) \[style=(\w+), label=" (\d+)", penwidth=[1-8]\.\d\];$', text, re.M))
-    passed &= (status, reported) == (0, "") and is_drawn(text) and arrows == arrows_of(steps, source)
+    status, text, reported = run(program, [*show, "--counts", str(counts)], file.parent)
+    arrows = re.findall(r'^  L(\d+) -> L(\d+) \[style=(\w+), label=" (\d+)", penwidth=[1-8]\.\d\];$', text, re.M)
+    wanted_arrows = arrows_of(steps, source, text, calls)
+    passed &= (status, reported) == (0, "") and is_drawn(text) and set(arrows) == wanted_arrows and len(arrows) == len(wanted_arrows)
+    passed &= ('\n  size="7.5,10.9";\n' in text) != calls
     return passed and all(f"<B>{label}:</B>" in text for label in labels if label in {operands(t)[1][-1] for _, t, _ in instructions_in(source)})
 
 
@@ -168,7 +178,8 @@ def is_example(program: str, file: pathlib.Path, folder: pathlib.Path) -> bool:
     counts.write_text(json.dumps(document))
     parts = {"pipeline": is_pipeline(program, file, pipeline), "sizes": are_sizes(program, file, pipeline)}
     for node, known in zip(nodes_of(pipeline), document["counts"]["nodes"]):
-        parts[f"{node[0]}{node[1]}"] = is_program(program, file, node, known["instructions"], counts)
+        for calls in (False, True):
+            parts[f"{node[0]}{node[1]}{' --calls' * calls}"] = is_program(program, file, node, known["instructions"], counts, calls)
     for name in (name for name, passed in parts.items() if not passed):
         print(f"{file.relative_to(TOP)}: {name} is not as it should be")
     return all(parts.values())
