@@ -43,7 +43,7 @@ pub record IsRun {V I O : Type 0} (sees : V → Event → V → Type 0) (v v' : 
       (devices sinks held)) f.cause f.report)
   pub no_room : answer_of answer ≡ Err NoRoom ↔ p.region < bytes_needed p.env
   pub untouched : IfErr answer (λ (f : RunFault). (f.cause ≡ Memory) ⊎ (f.cause ≡ NoRoom) → (ins' ≡ ins) × (held ≡ outs) × (v' ≡ v))
-  pub shown : (answer_of answer ≡ Err Memory) ⊎ (answer_of answer ≡ Err NoRoom) ⊎ WatchesRun sees v v' p pattern answer
+  pub shown : (answer_of answer ≡ Err Memory) ⊎ (answer_of answer ≡ Err NoRoom) ⊎ WatchesRun sees v v' p pattern (devices feeds ins) (devices feeds ins') answer
   -- where all went well no device is broken; else the one that the result names failed in one call, the last of it, and no other did
   pub sound : IsOk answer → AllSound feeds.is_broken ins' × AllSound sinks.is_broken outs'
   pub readers : AllFared feeds.is_broken feeds.failures (failed_reader (answer_of answer)) ins ins'

@@ -36,14 +36,12 @@ impl LinkType {
         match self.number() {
             1 =>
                 "remove the checksums at the ends of the frames: editcap -F pcap -T ether -L -C -4 IN OUT",
-            101 =>
-                "capture on an Ethernet interface, or add Ethernet headers: tcprewrite --dlt=enet --enet-smac=MAC --enet-dmac=MAC -i IN -o OUT",
             113 =>
-                "capture on one Ethernet interface in place of any, or replace the headers: tcprewrite --dlt=enet --enet-smac=MAC --enet-dmac=MAC -i IN -o OUT",
+                "capture on one Ethernet interface in place of any, or make Ethernet headers of these: editcap -F pcap -T ether -L -C 2 IN OUT",
             276 => "capture on one Ethernet interface in place of any",
             105 | 127 =>
                 "capture on an Ethernet interface, or on a wireless one that is not in monitor mode",
-            0 | 9 | 108 | 228 | 229 =>
+            0 | 9 | 101 | 108 | 228 | 229 =>
                 "capture on an Ethernet interface: these records have no Ethernet headers",
             _ =>
                 "if each record really is an Ethernet frame: editcap -F pcap -T ether IN OUT; else capture on an Ethernet interface",

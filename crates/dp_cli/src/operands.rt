@@ -7,10 +7,7 @@ ghost use Rattle.dp_engine.specs.Engines.{IsAscending};
 ghost use Rattle.dp_model.specs.declared.env.Entry.{Entry};
 ghost use Rattle.dp_cli.specs.Operands as spec;
 ghost use Rattle.dp_cli.specs.Operands.{number_of, word_of};
-ghost use Rattle.dp_cli.specs.Replacing as replacing;
-ghost use Rattle.dp_cli.specs.Replacing.{row_of};
 
-use crate::run::replaced::{Place, Replaced};
 use dp_model::Entry;
 use dp_pipe::MAX_RUN_TURNS;
 use std::alloc::{AllocError, Global};
@@ -56,6 +53,16 @@ pub fn records_in(word: &str) -> Option<u32>
     }
 }
 
+/// Parses a word as a number in a range.
+pub fn number_within(word: &str, least: u32, most: u32) -> Option<u32> {
+    match number_in(word) {
+        Some(number) if number >= u64::from(least) && number <= u64::from(most) => {
+            Some(number as u32)
+        }
+        _ => None,
+    }
+}
+
 /// Parses a word as a port: a number from 0 to 7.
 pub fn port_in(word: &str) -> Option<u8>
     ensures { result ≡ spec.port_in word.now }
@@ -91,63 +98,4 @@ pub fn numbers_in(alloc: Global, list: &str) -> Result<Option<Vec<u64>>, AllocEr
         }
     }
     Ok(Some(numbers))
-}
-
-/// Parses a word as the port of a replaced capture: one digit from 0 to 7.
-fn port_digit(word: &str) -> Option<u8>
-    ensures { result ≡ replacing.port_digit word.now }
-{
-    match word.as_bytes() {
-        [digit @ b'0'..=b'7'] => Some(digit - b'0'),
-        _ => None,
-    }
-}
-
-/// Where the capture of this name is: `-` names a standard stream, anything else a file.
-pub fn place_named(name: &str) -> Place
-    ensures { result ≡ replacing.place_named name.now }
-{
-    if name == "-" {
-        Place::Stream
-    } else {
-        Place::File
-    }
-}
-
-/// The parts of a word before and after its first `=`.
-fn parts_in(word: &str) -> Option<(&str, &str)>
-    ensures { option_map (λ parts. (parts.0.now, parts.1.now)) result ≡ replacing.parts_in word.now }
-{
-    word.split_once('=')
-}
-
-/// Parses a word PORT=NAME: the capture that it gives a port.
-pub fn replaced_in(word: &str) -> Option<Replaced<'_>>
-    ensures { option_map row_of result ≡ replacing.replaced_in word.now }
-{
-    let (port, name) = parts_in(word)?;
-    let port = port_digit(port)?;
-    if name.is_empty() {
-        return None;
-    }
-    let place = place_named(name);
-    Some(Replaced {
-        word,
-        port,
-        place,
-        name,
-    })
-}
-
-/// Parses a word PORT: the port that it gives no capture.
-pub fn nowhere_in(word: &str) -> Option<Replaced<'_>>
-    ensures { option_map row_of result ≡ replacing.nowhere_in word.now }
-{
-    let port = port_digit(word)?;
-    Some(Replaced {
-        word,
-        port,
-        place: Place::Nowhere,
-        name: "",
-    })
 }

@@ -1,155 +1,116 @@
 //! The program `dpv`: finds the command, runs it, and returns the exit status.
 
-ghost use Rattle.std.specs.Prelude.{◌≡◌, ◌≢◌, ◌⊎◌, IfErr, IfOk, OnErr, map, string_bytes};
-ghost use Rattle.std.specs.declared.io.ErrorKind.TheVariants.{OutOfMemory};
-ghost use Rattle.clap.specs.Words.{found_of, kind_of, subcommand_rows_of};
-ghost use Rattle.dp_cli.specs.Printing.{EndsWithUsage, IsFaultEnded, paper};
-ghost use Rattle.dp_cli.specs.Refusals.{EndsAtWords, EndsRefused};
-ghost use Rattle.dp_cli.specs.Program.{EndsGiven, EndsHelped, EndsMatches, EndsProgram, EndsWords, JudgesCommand, RunsCommand};
-ghost use Rattle.dp_cli.specs.Statuses.{unread_words};
+ghost use Rattle.std.specs.Prelude.{◌≡◌, ◌⊎◌};
+ghost use Rattle.clap.specs.Words.{kind_of};
+ghost use Rattle.dp_console.specs.Replies.{EndsWith};
+ghost use Rattle.dp_cli.specs.Program.{EndsHelped};
 
-use crate::call::{Call, HostOutput, Streams, TextOutput};
-use crate::check::files::check_file;
-use crate::compile::files::compile_file;
-use crate::error::{DONE, FAULT, Fault, Status, USAGE, report_fault, report_usage};
-use crate::explain::files::{explain_file, explain_one, show_file, show_one};
-use crate::files::fill_streams;
-use crate::infer::files::{infer_file, infer_program};
-use crate::mem::files::run_script;
-use crate::printer::Printer;
-use crate::run::files::{run_file, run_one_port};
-use crate::run::progress::ToStderr;
-use crate::single_port::ONE_PORT;
-use crate::trace::files::trace_file;
+use crate::call::{Call, wrong};
+use crate::command_line::command;
+use crate::host::fill_streams;
+use crate::judging::answer;
+use crate::reading::{UNWRITTEN, without_memory};
+use crate::running::{run_file, run_filter, run_one};
+use crate::tracing::trace_file;
 use clap::ArgMatches;
 use clap::error::ErrorKind;
+use dp_captures::Streams;
+use dp_console::{Console, DONE, FAULT, Reply, USAGE};
 use dp_engine::{Known, Nothing};
-use dp_usage::command;
 use std::alloc::{AllocError, Global};
 use std::io::{self, Write};
 use std::rt::{Env, Files};
 
+/// Prints a reply, and returns the exit status, as [`Console::end`] does. If standard output cannot be written, standard error says so.
+#[tactic(auto, using(crate::proofs::Endings::still))]
+fn end<O: Write, E: Write>(console: &mut Console<O, E>, reply: &Reply) -> u8
+    ensures { EndsWith reply.now console.old.has_failed console.new.has_failed (O.contents console.old.out) (O.contents console.new.out)
+        (E.contents console.old.err) (E.contents console.new.err) result }
+{
+    let status = console.end(reply);
+    if console.has_failed {
+        let _reported = console.report_line(UNWRITTEN);
+    }
+    status
+}
+
 /// The status for an error of the command line, which may be a request for help.
 fn status_for(error: &clap::Error) -> u8
-    ensures { (result ≡ DONE) ⊎ (result ≡ USAGE) }
+    ensures { EndsHelped (kind_of error.now) result }
 {
     if error.exit_code() == 0 { DONE } else { USAGE }
 }
 
 /// Reports an error of the command line, or prints the requested help, and returns the status.
+#[tactic(auto, using(crate::proofs::Endings::without_memory))]
 fn wrong_words<R: Print + Eprint, O: Write, E: Write>(
     rt: &R,
+    alloc: Global,
     error: &clap::Error,
-    out: &mut Printer<O>,
-    err: &mut Printer<E>,
+    console: &mut Console<O, E>,
 ) -> u8
-    ensures ended { EndsHelped (paper O.contents out.old) (paper O.contents out.new) (paper E.contents err.old) (paper E.contents err.new) result }
-    ensures memory { kind_of error.now ≡ ErrorKind.OutOfMemory → IsFaultEnded Fault.Memory (paper O.contents out.old) (paper O.contents out.new)
-        (paper E.contents err.old) (paper E.contents err.new) result }
+    ensures { EndsHelped (kind_of error.now) result ⊎ (result ≡ FAULT) ⊎ (result ≡ 4) }
 {
     if error.kind() == ErrorKind::OutOfMemory {
-        return report_fault(Fault::Memory, out, err);
+        return end(console, &without_memory(alloc, false));
     }
     match error.print(rt) {
         Ok(()) => status_for(error),
         Err(_) => {
-            err.fail();
+            let _reported = console.report_line(UNWRITTEN);
             FAULT
         }
     }
 }
 
-/// Runs the command of this name among those that explain or show programs.
-fn judge_programs<R: Files, O: Write, E: Write>(
-    call: &Call<'_, '_, R>,
-    name: &str,
-    out: &mut Printer<O>,
-    err: &mut Printer<E>,
-) -> Status
-    ensures judges { IfOk result (JudgesCommand name.now (found_of call.now.words.now) (paper O.contents out.old) (paper O.contents out.new)
-        (paper E.contents err.old) (paper E.contents err.new)) }
-    ensures fails { IfErr result (EndsRefused (found_of call.now.words.now) (paper O.contents out.old) (paper O.contents out.new) (paper E.contents err.old)
-        (paper E.contents err.new)) }
-{
-    match name {
-        "check" => check_file(call, out, err),
-        "compile" => compile_file(call, out, err),
-        "infer" => infer_file(call, out, err),
-        "infer-one" => Ok(infer_program(call, out, err)),
-        "explain" => explain_file(call, out, err),
-        "explain-one" => Ok(explain_one(call, out, err)),
-        "show" => show_file(call, out, err),
-        "show-one" => Ok(show_one(call, out, err)),
-        _ => Err(report_usage("error: there is no such command", out, err)),
-    }
-}
-
-/// Runs the command of this name.
-fn run_command<K: Known, R: Files, O: TextOutput, E: Write>(
+/// The reply to a command that runs a pipeline, or to one that judges programs.
+fn reply_to<K: Known, R: Files>(
     call: &Call<'_, '_, R>,
     name: &str,
     reports_interpreted: bool,
-    out: &mut Printer<O>,
-    err: &mut Printer<E>,
-) -> Status
-    ensures runs { IfOk result (RunsCommand R.File.remaining ONE_PORT.now name.now (found_of call.now.words.now) (paper O.contents out.old)
-        (paper O.contents out.new) (paper E.contents err.old) (paper E.contents err.new)) }
-    ensures fails { IfErr result (EndsRefused (found_of call.now.words.now) (paper O.contents out.old) (paper O.contents out.new) (paper E.contents err.old)
-        (paper E.contents err.new)) }
-{
+) -> Reply {
     match name {
-        "one" => run_one_port(call, out, err),
-        "run" => run_file::<K, R, O, E>(call, reports_interpreted, out, err),
-        "trace" => trace_file(call, out, err),
-        "mem" => run_script(call, out, err),
-        _ => judge_programs(call, name, out, err),
+        "run" => run_file::<K, R>(call, reports_interpreted),
+        "one" => run_one(call),
+        "filter" => run_filter(call),
+        _ => answer(call, name),
     }
 }
 
+/// Runs the command of this name, prints its reply, and returns the status.
+fn run_command<K: Known, R: Files, O: Write, E: Write>(
+    call: &Call<'_, '_, R>,
+    name: &str,
+    reports_interpreted: bool,
+    console: &mut Console<O, E>,
+) -> u8 {
+    let reply = if name == "trace" {
+        trace_file(call, &mut console.out)
+    } else {
+        reply_to::<K, R>(call, name, reports_interpreted)
+    };
+    end(console, &reply)
+}
+
 /// Runs the command of the command line, and returns the status.
-fn run_matches<'a, K: Known, R: Files, O: TextOutput, E: Write>(
+fn run_matches<'a, K: Known, R: Files, O: Write, E: Write>(
     rt: &'a R,
     alloc: Global,
     matches: &'a ArgMatches<'_>,
     streams: Streams,
     reports_interpreted: bool,
-    out: &mut Printer<O>,
-    err: &mut Printer<E>,
-) -> u8
-    ensures { EndsMatches R.File.remaining ONE_PORT.now (subcommand_rows_of matches.now) (paper O.contents out.old) (paper O.contents out.new)
-        (paper E.contents err.old) (paper E.contents err.new) result }
-{
+    console: &mut Console<O, E>,
+) -> u8 {
     let Some((name, words)) = matches.subcommand() else {
-        return report_usage("error: there is no command", out, err);
+        return end(console, &wrong(alloc, "error: there is no command"));
     };
     let call = Call {
         rt,
         alloc,
         words,
-        to: ToStderr(streams.error),
         streams,
     };
-    match run_command::<K, R, O, E>(&call, name, reports_interpreted, out, err) {
-        Ok(status) | Err(status) => status,
-    }
-}
-
-/// Reports why the words of the command line cannot be read, such as one that is not UTF-8, and returns the status.
-fn unread_words<O: Write, E: Write>(
-    kind: io::ErrorKind,
-    out: &mut Printer<O>,
-    err: &mut Printer<E>,
-) -> u8
-    ensures memory { kind ≡ OutOfMemory → IsFaultEnded Fault.Memory (paper O.contents out.old) (paper O.contents out.new) (paper E.contents err.old)
-        (paper E.contents err.new) result }
-    ensures ended { EndsAtWords (paper O.contents out.old) (paper O.contents out.new) (paper E.contents err.old) (paper E.contents err.new) result }
-    ensures unread { kind ≢ OutOfMemory → EndsWithUsage unread_words (paper O.contents out.old) (paper O.contents out.new) (paper E.contents err.old)
-        (paper E.contents err.new) result }
-{
-    if kind == io::ErrorKind::OutOfMemory {
-        return report_fault(Fault::Memory, out, err);
-    }
-    report_usage("error: an argument is not UTF-8", out, err)
+    run_command::<K, R, O, E>(&call, name, reports_interpreted, console)
 }
 
 /// Runs the command that these words name, of which the first is the name of the program, and returns the status.
@@ -157,18 +118,13 @@ fn unread_words<O: Write, E: Write>(
 /// # Errors
 ///
 /// `AllocError` if there is no memory for the commands that the words are compared with.
-fn run_given<'a, K: Known, R: AllocGlobal + Files + Print + Eprint, O: TextOutput, E: Write>(
+fn run_given<'a, K: Known, R: AllocGlobal + Files + Print + Eprint, O: Write, E: Write>(
     rt: &'a R,
     words: &'a [String],
     streams: Streams,
     reports_interpreted: bool,
-    out: &mut Printer<O>,
-    err: &mut Printer<E>,
-) -> Result<u8, AllocError>
-    ensures ends { IfOk result (EndsGiven R.File.remaining ONE_PORT.now (map string_bytes words.now) (paper O.contents out.old) (paper O.contents out.new)
-        (paper E.contents err.old) (paper E.contents err.new)) }
-    ensures silent { OnErr result ((out.new ≡ out.old) × (err.new ≡ err.old)) }
-{
+    console: &mut Console<O, E>,
+) -> Result<u8, AllocError> {
     let alloc = rt.alloc();
     let command = command(alloc)?;
     match command.try_get_matches_from(words) {
@@ -178,10 +134,9 @@ fn run_given<'a, K: Known, R: AllocGlobal + Files + Print + Eprint, O: TextOutpu
             &matches,
             streams,
             reports_interpreted,
-            out,
-            err,
+            console,
         )),
-        Err(error) => Ok(wrong_words(rt, &error, out, err)),
+        Err(error) => Ok(wrong_words(rt, alloc, &error, console)),
     }
 }
 
@@ -190,48 +145,23 @@ fn run_given<'a, K: Known, R: AllocGlobal + Files + Print + Eprint, O: TextOutpu
 /// # Errors
 ///
 /// `AllocError` if there is no memory for the words or for the commands that they are compared with.
-fn run_words<K: Known, R: Env + AllocGlobal + Files + Print + Eprint, O: TextOutput, E: Write>(
+fn run_words<K: Known, R: Env + AllocGlobal + Files + Print + Eprint, O: Write, E: Write>(
     rt: &R,
     streams: Streams,
     reports_interpreted: bool,
-    out: &mut Printer<O>,
-    err: &mut Printer<E>,
-) -> Result<u8, AllocError>
-    ensures ends { IfOk result (EndsWords R.File.remaining ONE_PORT.now (paper O.contents out.old) (paper O.contents out.new) (paper E.contents err.old)
-        (paper E.contents err.new)) }
-    ensures silent { OnErr result ((out.new ≡ out.old) × (err.new ≡ err.old)) }
-{
+    console: &mut Console<O, E>,
+) -> Result<u8, AllocError> {
     let alloc = rt.alloc();
     let given = match std::env::args(rt) {
         Ok(given) => given,
-        Err(error) => return Ok(unread_words(error.kind(), out, err)),
+        Err(error) if error.kind() == io::ErrorKind::OutOfMemory => return Err(AllocError),
+        Err(_) => return Ok(end(console, &wrong(alloc, "error: an argument is not UTF-8"))),
     };
     // Usage texts use this name, whatever the program's file is called.
     let mut words = Vec::new(alloc);
     words.push(String::from_str(alloc, "dpv")?)?;
     words.extend(given.skip(1))?;
-    let words = words.as_slice();
-    run_given::<K, R, O, E>(rt, words, streams, reports_interpreted, out, err)
-}
-
-/// Runs the command of the host's command line with these printers, and returns the status.
-fn run_printing<K: Known, R: Env + AllocGlobal + Files + Print + Eprint, O: TextOutput, E: Write>(
-    rt: &R,
-    streams: Streams,
-    reports_interpreted: bool,
-    out: &mut Printer<O>,
-    err: &mut Printer<E>,
-) -> u8
-    ensures { EndsWords R.File.remaining ONE_PORT.now (paper O.contents out.old) (paper O.contents out.new) (paper E.contents err.old)
-        (paper E.contents err.new) result }
-{
-    let Ok(_streams) = fill_streams(rt) else {
-        return report_fault(Fault::Memory, out, err);
-    };
-    match run_words::<K, R, O, E>(rt, streams, reports_interpreted, out, err) {
-        Ok(status) => status,
-        Err(AllocError) => report_fault(Fault::Memory, out, err),
-    }
+    run_given::<K, R, O, E>(rt, words.as_slice(), streams, reports_interpreted, console)
 }
 
 /// Runs the command of the host's command line over the host's files, with these programs compiled, and returns the status.
@@ -239,21 +169,22 @@ fn run_with<K: Known, R: Env + AllocGlobal + Files + Print + Eprint>(
     rt: &R,
     streams: Streams,
     reports_interpreted: bool,
-) -> u8
-    ensures { EndsProgram R.File.remaining ONE_PORT.now result }
-{
-    let mut out = Printer::new(HostOutput::Output(io::writer(rt)));
-    let mut err = Printer::new(io::writer(&streams.error));
-    run_printing::<K, R, _, _>(rt, streams, reports_interpreted, &mut out, &mut err)
+) -> u8 {
+    let mut console = Console::new(io::writer(rt), io::writer(&streams.error));
+    let Ok(_streams) = fill_streams(rt) else {
+        return end(&mut console, &without_memory(rt.alloc(), false));
+    };
+    match run_words::<K, R, _, _>(rt, streams, reports_interpreted, &mut console) {
+        Ok(status) => status,
+        Err(AllocError) => end(&mut console, &without_memory(rt.alloc(), false)),
+    }
 }
 
 /// Runs the command of the host's command line over the host's files, and returns the status.
 pub fn run_command_line<R: Env + AllocGlobal + Files + Print + Eprint>(
     rt: &R,
     streams: Streams,
-) -> u8
-    ensures { EndsProgram R.File.remaining ONE_PORT.now result }
-{
+) -> u8 {
     run_with::<Nothing, R>(rt, streams, false)
 }
 
@@ -262,8 +193,6 @@ pub fn run_command_line<R: Env + AllocGlobal + Files + Print + Eprint>(
 pub fn run_compiled<K: Known, R: Env + AllocGlobal + Files + Print + Eprint>(
     rt: &R,
     streams: Streams,
-) -> u8
-    ensures { EndsProgram R.File.remaining ONE_PORT.now result }
-{
+) -> u8 {
     run_with::<K, R>(rt, streams, true)
 }

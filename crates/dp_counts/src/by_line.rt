@@ -2,10 +2,9 @@
 
 use crate::counts::{Counts, StepCounts};
 use crate::node_counts::NodeCounts;
-use crate::source::NodeSource;
-use crate::words::{code_of, comment_of, trim};
+use crate::source::{NodeSource, words_of};
 use dp_engine::Report;
-use dp_lang::arguments_of;
+use dp_lang::{SourceLine, arguments_of};
 use dp_model::{Entry, Instr};
 use std::alloc::{AllocError, Global};
 
@@ -82,19 +81,10 @@ fn jumps_to(counts: &mut NodeCounts<'_>, instrs: &[Instr], to: usize) -> u64 {
     jumps
 }
 
-/// How often control came to a label other than by a jump: from the instruction before it, or at the beginning of a node run.
+/// How often control came to a label other than by a jump.
 fn came_on(counts: &mut NodeCounts<'_>, instrs: &[Instr], label: usize) -> u64 {
-    let Some(before) = label.checked_sub(1) else {
-        let jumps = jumps_to(counts, instrs, 0);
-        return counts.step(0).ran.wrapping_sub(jumps);
-    };
-    match instrs.get(before) {
-        Some(Instr::Exit) | None => 0,
-        Some(_) => {
-            let StepCounts { ran, taken, cut } = counts.step(before);
-            ran.wrapping_sub(taken).wrapping_sub(cut)
-        }
-    }
+    let jumps = jumps_to(counts, instrs, label);
+    counts.step(label).ran.wrapping_sub(jumps)
 }
 
 /// How many packets were freed since control went on from the instruction at a label to a `free`: by its jump, or, at the first of several `free`s,
@@ -196,17 +186,20 @@ pub fn drop_places<'a>(
 }
 
 /// The number and the text of the line in which a comment of `dpv build` has what an instruction was built from, as `4: send port`.
-fn built_from(comment: &[u8]) -> Option<(usize, &[u8])> {
-    let colon = comment.iter().position(|b| *b == b':')?;
-    let digits = std::str::from_utf8(comment.get(..colon)?).ok()?;
-    let number = digits.parse::<usize>().ok()?;
-    Some((number, comment.get(colon..)?.strip_prefix(b": ")?))
+fn built_from(comment: &str) -> Option<(usize, &str)> {
+    let (digits, text) = comment.split_once(": ")?;
+    Some((digits.parse::<usize>().ok()?, text))
 }
 
 /// Whether `dpv build` wrote a program.
 fn is_built(source: &NodeSource<'_>) -> bool {
     for line in source.lines.as_slice() {
-        if line.step.is_some() && comment_of(line.text).and_then(built_from).is_some() {
+        if line.step.is_some()
+            && words_of(line.text, 0)
+                .comment()
+                .and_then(built_from)
+                .is_some()
+        {
             return true;
         }
     }
@@ -214,12 +207,10 @@ fn is_built(source: &NodeSource<'_>) -> bool {
 }
 
 /// The number and the text of the line that an instruction is counted for.
-fn line_of(text: &[u8], number: usize, is_built: bool) -> (Option<usize>, &[u8]) {
-    if !is_built {
-        return (Some(number), trim(text));
-    }
-    match comment_of(text) {
-        None => (None, code_of(text)),
+fn line_of<'a>(words: SourceLine<'a>, is_built: bool) -> (Option<usize>, &'a str) {
+    match words.comment() {
+        _ if !is_built => (Some(words.number), words.text),
+        None => (None, words.code()),
         Some(comment) => match built_from(comment) {
             Some((number, text)) => (Some(number), text),
             None => (None, comment),
@@ -267,7 +258,7 @@ pub fn lines_counted<'a>(
     let is_built = is_built(source);
     let mut reader = counts.node(source.node);
     let mut lines = Vec::new(alloc);
-    let mut before = (None, b"".as_slice());
+    let mut before = (None, "");
     for (k, line) in source.lines.as_slice().iter().enumerate() {
         let Some(step) = line.step else {
             continue;
@@ -275,14 +266,14 @@ pub fn lines_counted<'a>(
         let Some(instr) = instrs.get(step.label) else {
             continue;
         };
-        let own = line_of(line.text, k.saturating_add(1), is_built);
+        let own = line_of(words_of(line.text, k.saturating_add(1)), is_built);
         let dropped = dropped_at(&mut reader, instrs, step.label, instr);
         let counts = reader.step(step.label);
         add_counts(
             &mut lines,
             LineCounts {
                 line: own.0,
-                text: own.1,
+                text: own.1.as_bytes(),
                 came: if own == before { 0 } else { counts.ran },
                 sent: sent_at(counts, instr),
                 dropped,

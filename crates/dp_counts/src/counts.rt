@@ -165,34 +165,6 @@ impl Counts {
         self.gauge.levels()
     }
 
-    /// How often the instruction at a label of a node ran.
-    pub fn ran(&self, node: Entry, label: u16) -> u64
-        requires node { IsOneOfEight node }
-        requires label { label < MAX_INSTRS }
-        ensures { result ≡ ran_at self.now (place_of node) label }
-    {
-        let place = place_of(node);
-        self.ran_from(place, 0, usize::from(label), self.came(place))
-    }
-
-    /// How often the jump of the instruction at a label of a node was taken.
-    pub fn taken(&self, node: Entry, label: u16) -> u64
-        requires node { IsOneOfEight node }
-        requires label { label < MAX_INSTRS }
-        ensures { result ≡ slice_index self.now.taken (place_of node + label) }
-    {
-        self.taken[place_of(node) + usize::from(label)]
-    }
-
-    /// How often a node run of a node was cut at a label.
-    pub fn cut(&self, node: Entry, label: u16) -> u64
-        requires node { IsOneOfEight node }
-        requires label { label < MAX_INSTRS }
-        ensures { result ≡ slice_index self.now.cut (place_of node + label) }
-    {
-        self.cut[place_of(node) + usize::from(label)]
-    }
-
     // How often control came to the label with this index.
     pub(crate) fn came(&self, k: usize) -> u64
         requires { k < 16 * MAX_INSTRS }

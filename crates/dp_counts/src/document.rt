@@ -3,25 +3,29 @@
 use crate::by_line::{DropCause, DropPlace, LineCounts};
 use crate::counts::{Counts, StepCounts};
 use crate::node_counts::NodeCounts;
-use crate::source::{NodeSource, Role, SourceLine, Step};
+use crate::source::{NodeSource, Role, SourceLine, Step, words_of};
 use crate::sums::{Total, total_of};
-use crate::words::{code_of, comment_of, text_of};
 use dp_console::{Item, Members};
 use dp_model::{Entry, Env};
 use serde::{Described, Serialize, Serializer};
-use std::fmt;
 
-/// The name of a node: `port 0` or `ring 3`.
-#[derive(Clone, Copy)]
-pub struct Named(pub Entry);
+/// The names of ports.
+const PORTS: [&str; 8] = [
+    "port 0", "port 1", "port 2", "port 3", "port 4", "port 5", "port 6", "port 7",
+];
 
-impl fmt::Display for Named {
-    fn fmt<W: fmt::Write>(&self, f: &mut fmt::Formatter<W>) -> fmt::Result {
-        match self.0 {
-            Entry::Port(index) => write!(f, "port {index}"),
-            Entry::Ring(index) => write!(f, "ring {index}"),
-        }
-    }
+/// The names of rings.
+const RINGS: [&str; 8] = [
+    "ring 0", "ring 1", "ring 2", "ring 3", "ring 4", "ring 5", "ring 6", "ring 7",
+];
+
+/// The name of a node.
+fn name_of(node: Entry) -> Item<'static> {
+    let name = match node {
+        Entry::Port(index) => PORTS.get(usize::from(index)),
+        Entry::Ring(index) => RINGS.get(usize::from(index)),
+    };
+    Item::Text(name.copied().unwrap_or(""))
 }
 
 /// The counts of a run: its programs, in UTF-8, with their counts, the sums for each table and each ring, and the least free buffers of each pool.
@@ -32,11 +36,15 @@ pub struct CountsDocument<'p, 'a> {
     pub sources: &'p [NodeSource<'a>],
 }
 
-/// A text, or `null`.
-fn text_item(bytes: Option<&[u8]>) -> Item<'_> {
-    match bytes {
-        Some(bytes) => Item::Text(text_of(bytes)),
-        None => Item::Null,
+/// The comment and the code of a line of a program, each `null` if there is none.
+fn parts_of(line: Option<&[u8]>) -> (Item<'_>, Item<'_>) {
+    let Some(line) = line else {
+        return (Item::Null, Item::Null);
+    };
+    let words = words_of(line, 0);
+    match words.comment() {
+        Some(comment) => (Item::Text(comment), Item::Text(words.code())),
+        None => (Item::Null, Item::Text(words.code())),
     }
 }
 
@@ -52,18 +60,6 @@ fn items_of(role: Role, counts: StepCounts) -> (Item<'static>, Item<'static>) {
     }
 }
 
-/// Writes members of an object.
-fn write_members<S: Serializer>(
-    members: &[(&'static str, Item<'_>)],
-    out: &mut S,
-) -> Result<(), S::Error> {
-    for (name, item) in members {
-        out.key(name)?;
-        item.serialize(out)?;
-    }
-    Ok(())
-}
-
 /// Writes an instruction in its line, with its counts.
 fn write_step<S: Serializer>(
     step: Step,
@@ -71,15 +67,15 @@ fn write_step<S: Serializer>(
     line: &[u8],
     out: &mut S,
 ) -> Result<(), S::Error> {
-    let (taken, ends) = items_of(step.role, counts);
+    let ((taken, ends), (comment, text)) = (items_of(step.role, counts), parts_of(Some(line)));
     let members = [
-        ("comment", text_item(comment_of(line))),
+        ("comment", comment),
         ("cut", Item::Number(counts.cut)),
         ("ends", ends),
         ("label", Item::Number(step.label as u64)),
         ("ran", Item::Number(counts.ran)),
         ("taken", taken),
-        ("text", text_item(Some(code_of(line)))),
+        ("text", text),
     ];
     Members(&members).serialize(out)
 }
@@ -110,7 +106,7 @@ fn write_nodes<S: Serializer>(all: CountsDocument<'_, '_>, out: &mut S) -> Resul
         write_lines(&mut reader, source.lines.as_slice(), out)?;
         out.end_seq()?;
         out.key("node")?;
-        out.collect_str(&Named(source.node))?;
+        name_of(source.node).serialize(out)?;
         out.end_map()?;
     }
     Ok(())
@@ -135,11 +131,9 @@ fn write_rings<S: Serializer>(all: CountsDocument<'_, '_>, out: &mut S) -> Resul
     let levels = all.counts.levels();
     for (k, (ring, waited)) in (0..8u8).zip(all.env.rings().iter().zip(levels.waited)) {
         let full = total_of(all.counts, Total::Full(k), all.sources);
+        let capacity = u64::from(ring.count.saturating_sub(1));
         let members = [
-            (
-                "capacity",
-                Item::Number(u64::from(ring.count.saturating_sub(1))),
-            ),
+            ("capacity", Item::Number(capacity)),
             ("full", Item::Number(full)),
             ("most", Item::Number(u64::from(waited))),
             ("ring", Item::Number(u64::from(k))),
@@ -210,22 +204,17 @@ impl Serialize for DropPlace<'_> {
             }
             _ => (Item::Null, Item::Null, None),
         };
-        out.begin_map(None)?;
+        let (comment, text) = parts_of(text);
         let members = [
-            ("comment", text_item(text.and_then(comment_of))),
+            ("comment", comment),
             ("file", file),
             ("line", line),
-        ];
-        write_members(&members, out)?;
-        out.key("node")?;
-        out.collect_str(&Named(self.node))?;
-        let members = [
+            ("node", name_of(self.node)),
             ("packets", Item::Number(self.packets)),
-            ("text", text_item(text.map(code_of))),
+            ("text", text),
             ("why", Item::Text(cause_word(self.cause))),
         ];
-        write_members(&members, out)?;
-        out.end_map()
+        Members(&members).serialize(out)
     }
 }
 
@@ -242,7 +231,10 @@ impl Serialize for LineCounts<'_> {
             ("dropped", Item::Number(self.dropped)),
             ("line", line),
             ("sent", Item::Number(self.sent)),
-            ("text", text_item(Some(self.text))),
+            (
+                "text",
+                Item::Text(std::str::from_utf8(self.text).unwrap_or("")),
+            ),
         ];
         Members(&members).serialize(out)
     }

@@ -4,12 +4,12 @@ ghost use Rattle.std.specs.List.{slice_split};
 ghost use Rattle.dp_counts.specs.Sources.{role_of, body_of, view_line, lines_of, step_of, step_at, each_from};
 ghost use Rattle.dp_counts.specs.Sources as spec;
 
-use dp_lang::Program;
+use dp_lang::{Program, SourceLine as Words};
 use dp_model::{Entry, Instr};
 use std::alloc::{AllocError, Global};
 
 /// The kinds of instructions that are counted differently.
-#[derive(Clone, Copy, Debug, PartialEq, Eq)]
+#[derive(Clone, Copy)]
 pub enum Role {
     /// It neither jumps on a condition nor ends anything.
     Plain,
@@ -50,7 +50,7 @@ impl Role {
 }
 
 /// An instruction in a line.
-#[derive(Clone, Copy, Debug, PartialEq, Eq)]
+#[derive(Clone, Copy)]
 pub struct Step {
     /// Its label.
     pub label: usize,
@@ -59,7 +59,7 @@ pub struct Step {
 }
 
 /// A line of a program's source.
-#[derive(Clone, Copy, Debug)]
+#[derive(Clone, Copy)]
 pub struct SourceLine<'a> {
     /// The line, without its newline.
     pub text: &'a [u8],
@@ -68,7 +68,7 @@ pub struct SourceLine<'a> {
 }
 
 /// A node of a pipeline with the source of its program.
-#[derive(Debug, Drop)]
+#[derive(Drop)]
 pub struct NodeSource<'a> {
     /// The node.
     pub node: Entry,
@@ -76,6 +76,12 @@ pub struct NodeSource<'a> {
     pub name: &'a str,
     /// The lines of the file.
     pub lines: Vec<SourceLine<'a>>,
+}
+
+/// The words of a line with this number: its code and its comment.
+pub(crate) fn words_of(line: &[u8], number: usize) -> Words<'_> {
+    let text = std::str::from_utf8(line).unwrap_or("").trim();
+    Words { number, text }
 }
 
 // The text without a newline at its end.

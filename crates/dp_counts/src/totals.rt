@@ -61,12 +61,12 @@ fn print_ring<O: Write>(
     writeln!(out, "ring {ring} waited {waited} of {most} full {full}")
 }
 
-// The rings that a pipeline can have: the first eight.
-fn first_eight(rings: &[RingSpec]) -> &[RingSpec]
-    ensures same { result.now ≡ take 8 rings.now }
+// The rings or pools that a pipeline can have: the first eight.
+fn first_eight<T>(parts: &[T]) -> &[T]
+    ensures same { result.now ≡ take 8 parts.now }
     ensures few { length result.now ≤ 8 }
 {
-    if rings.len() > 8 { &rings[..8] } else { rings }
+    if parts.len() > 8 { &parts[..8] } else { parts }
 }
 
 // Prints the lines of at most eight rings.
@@ -103,14 +103,6 @@ pub fn print_rings<O: Write>(
     print_few_rings(counts, levels, first_eight(rings), sources, out)
 }
 
-// The pools that a pipeline can have: the first eight.
-fn first_pools(pools: &[PoolSpec]) -> &[PoolSpec]
-    ensures same { result.now ≡ take 8 pools.now }
-    ensures few { length result.now ≤ 8 }
-{
-    if pools.len() > 8 { &pools[..8] } else { pools }
-}
-
 // Prints the least number of free buffers of a pool, and how many it has.
 fn print_pool<O: Write>(pool: usize, free: u32, count: u32, out: &mut O) -> io::Result<()>
     ensures { OnOk result (Appends (O.contents out.old) (O.contents out.new) (spec.pool_line pool free count)) }
@@ -138,5 +130,5 @@ fn print_few_pools<O: Write>(levels: &Levels, pools: &[PoolSpec], out: &mut O) -
 pub fn print_pools<O: Write>(levels: &Levels, pools: &[PoolSpec], out: &mut O) -> io::Result<()>
     ensures { OnOk result (Appends (O.contents out.old) (O.contents out.new) (spec.pool_lines levels.now (take 8 pools.now))) }
 {
-    print_few_pools(levels, first_pools(pools), out)
+    print_few_pools(levels, first_eight(pools), out)
 }

@@ -1,5 +1,6 @@
 -- The effects and the results of the calls of a C host.
-use Rattle.std.specs.Prelude.{◌≡◌, ℕ, ◌+◌, ◌-◌, ◌<◌, ◌≤◌, ◌⊎◌, min, Bool, List, [], ◌∷◌, ◌++◌, length, take, replicate, Option, Some, None, slice_get, codes}
+use Rattle.std.specs.Prelude.{◌≡◌, ℕ, ◌+◌, ◌-◌, ◌<◌, ◌≤◌, ◌⊎◌, ◌||◌, nat_le, nat_lt, if◌then◌else◌, min, Bool, List, [], ◌∷◌, ◌++◌, length, take}
+use Rattle.std.specs.Prelude.{replicate, Option, Some, None, slice_get, codes}
 use Rattle.dp_pcap.specs.declared.format.TheConstants.{MAX_RECORD}
 use Rattle.dp_lpm.specs.declared.error.LpmError.{LpmError}
 use Rattle.dp_lpm.specs.declared.error.LpmError.TheVariants as lpm
@@ -121,9 +122,12 @@ not_packed = reason_with 2 (codes "the files are not packed as they should be")
 abbrev pub too_small : Reason
 too_small = reason_with 3 (codes "the region is too small")
 
--- the reason for a pipeline that is not loaded; without memory for its text, or if that was the cause, memory
+-- the reason for a pipeline that is not loaded: memory, if that was the cause; else the cause with its text, which is `memory` if there was none for it
 abbrev pub IsReasonIn : PipeError → Reason → Type 0
-IsReasonIn error r = (r ≡ no_memory) ⊎ (0 < number_of error) × (r ≡ reason_with (10 + number_of error) (text_of error))
+IsReasonIn error r =
+    ((number_of error ≡ 0) × (r ≡ no_memory))
+    ⊎ ((0 < number_of error)
+    × ((r ≡ reason_with (10 + number_of error) (text_of error)) ⊎ (r ≡ reason_with (10 + number_of error) (codes "memory"))))
 
 -- the reason for an error
 abbrev pub IsReasonFor : OpenError → Reason → Type 0
@@ -140,14 +144,14 @@ Opens text packed None missing reason = (missing ≡ refusal.NotOpen) × ((error
 
 -- ---- a pass
 
--- why an engine refuses a pass with this many bytes, into a batch with room for this many records and bytes
-abbrev pub RefusesPass : EngineState → ℕ → ℕ → ℕ → ℕ → Refusal → Type 0
-RefusesPass e port size records bytes refusal.NoPort = length e.setting.env.ports ≤ port
-RefusesPass e port size records bytes refusal.TooLong = MAX_RECORD < size
-RefusesPass e port size records bytes refusal.NoTurns = max_turns ≤ e.turns
-RefusesPass e port size records bytes refusal.BatchTooSmall =
-    (records < (max_batch e.setting.env).records) ⊎ (bytes < (max_batch e.setting.env).bytes)
-RefusesPass e port size records bytes other = ⊥
+-- why an engine refuses a pass with this many bytes, into a batch with room for this many records and bytes, in order of the tests
+abbrev pub pass_fault : EngineState → ℕ → ℕ → ℕ → ℕ → Option Refusal
+pass_fault e port size records bytes =
+    if nat_le (length e.setting.env.ports) port then Some refusal.NoPort
+    else if nat_lt MAX_RECORD size then Some refusal.TooLong
+    else if nat_le max_turns e.turns then Some refusal.NoTurns
+    else if nat_lt records (max_batch e.setting.env).records || nat_lt bytes (max_batch e.setting.env).bytes then Some refusal.BatchTooSmall
+    else None
 
 abbrev pub batch_size_of : Room → BatchSize
 batch_size_of filled = record { records = filled.records; bytes = filled.bytes }
@@ -163,6 +167,7 @@ pub record Arrays : Type 0 where
 -- A pass of an engine that returned a number below 16, the outcome of its turn. The batch has what was sent, port by port, and nothing else of its
 -- arrays changes. Whatever calls the engine had served before, it has now served this one too.
 pub record PassTaken (old new : EngineState) (port time : ℕ) (frame : List ℕ) (had has : Arrays) (filled : Room) (n : ℕ) : Type 0 where
+  pub taken : pass_fault old port (length frame) (length had.records) (length had.bytes) ≡ None
   pub turn : Turn
   pub number : n ≡ outcome_number turn.outcome
   pub passes : Passes old new port frame turn time has.records has.bytes (batch_size_of filled)
@@ -184,8 +189,8 @@ pub record PassTaken (old new : EngineState) (port time : ℕ) (frame : List ℕ
 abbrev pub PassAnswers : Option EngineState → Refusal → Option EngineState → ℕ → ℕ → List ℕ → Arrays → Arrays → Room → ℕ → Type 0
 PassAnswers (Some engine) missing (Some engine') port time frame old new filled n =
     PassTaken engine engine' port time frame old new filled n
-    ⊎ ((why : Refusal) × (n ≡ refusal_number why) × RefusesPass engine port (length frame) (length old.records) (length old.bytes) why × (engine' ≡ engine)
-    × (new ≡ old) × (filled ≡ empty_room))
+    ⊎ ((why : Refusal) × (n ≡ refusal_number why) × (pass_fault engine port (length frame) (length old.records) (length old.bytes) ≡ Some why)
+    × (engine' ≡ engine) × (new ≡ old) × (filled ≡ empty_room))
 PassAnswers None missing None port time frame old new filled n = (n ≡ refusal_number missing) × (new ≡ old) × (filled ≡ empty_room)
 PassAnswers None missing (Some engine') port time frame old new filled n = ⊥
 PassAnswers (Some engine) missing None port time frame old new filled n = ⊥

@@ -124,9 +124,10 @@ fn reason_in(alloc: Global, error: PipeError) -> Reason
     if number == 0 {
         return reason_of(1, b"memory");
     }
+    let cause = 10 + u32::from(number);
     match format!(in alloc; "{error}") {
-        Ok(text) => reason_of(10 + u32::from(number), text.as_bytes()),
-        Err(_) => reason_of(1, b"memory"),
+        Ok(text) => reason_of(cause, text.as_bytes()),
+        Err(_) => reason_of(cause, b"memory"),
     }
 }
 

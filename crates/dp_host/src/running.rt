@@ -12,7 +12,7 @@ ghost use Rattle.dp_engine.specs.Batches.{KeepsRest, Passes, max_batch};
 ghost use Rattle.dp_engine.specs.Engines.{flushed};
 ghost use Rattle.dp_engine.specs.Reports.{IsReport, IsWhole};
 ghost use Rattle.dp_engine.specs.Shapes.{AreWaiting};
-ghost use Rattle.dp_host.specs.Hosts.{RefusesPass, RefusesChange, RefusesLookup};
+ghost use Rattle.dp_host.specs.Hosts.{pass_fault, RefusesChange, RefusesLookup};
 
 use crate::refusal::Refusal;
 use dp_engine::{BatchSize, Engine, Pass, Report, RouteFault, SentRecord};
@@ -104,7 +104,8 @@ impl Running {
         ensures ok { IfOk result (λ p. Passes self.old self.new port frame.now p.turn time records.new bytes.new p.sent) }
         ensures rest { IfOk result (λ p. KeepsRest p.sent records.old records.new bytes.old bytes.new) }
         ensures err { IfErr result (λ why. (self.new ≡ self.old) × (records.new ≡ records.old) × (bytes.new ≡ bytes.old)
-            × RefusesPass self.old port (length frame.now) (length records.old) (length bytes.old) why) }
+            × (pass_fault self.old port (length frame.now) (length records.old) (length bytes.old) ≡ Some why)) }
+        ensures taken { OnOk result (pass_fault self.old port (length frame.now) (length records.old) (length bytes.old) ≡ None) }
     {
         if port >= self.ports {
             return Err(Refusal::NoPort);

@@ -32,7 +32,7 @@ pub(crate) fn read_lines<'a>(
     Ok(source)
 }
 
-/// Reads a text as a program, or returns the line and the cause of its first fault. docs/reference/language.md describes the text.
+/// Reads a text as a program, or returns the line and the cause of its first fault. docs/users/nodes.md describes the text.
 ///
 /// # Errors
 ///

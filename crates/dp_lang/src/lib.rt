@@ -1,5 +1,5 @@
 //! The language of node programs: its instructions as a table of forms with operands, `assemble` from text to `Program`, and `print` back.
-//! docs/reference/language.md of the repository describes the text.
+//! docs/users/nodes.md of the repository describes the text.
 //!
 //! Who owns what: a `Program` owns its instructions, and nothing of the text. Only `assemble` makes one, so every program has 1 to 1,024 instructions
 //! with operands in their ranges and labels that exist. `into_instrs` takes the list out.

@@ -7,7 +7,7 @@ use Rattle.dp_lpm.specs.declared.table.Table.{Table}
 use Rattle.dp_lpm.specs.Cells.{at, entry_in, group_in}
 use Rattle.dp_lpm.specs.Tables.{IsTable, first_at, group_at, entry_for, Closed}
 use Rattle.dp_lpm.proofs.Overwriting.{at-set_same, at-set_other}
-use Rattle.dp_lpm.proofs.Entries.{entry_grouped, entry_plain, entry_same, remade}
+use Rattle.dp_lpm.proofs.Entries.{entry_grouped, entry_plain, entry_same, SameRoom, remade}
 use Rattle.dp_lpm.proofs.Groups.{index_set_other}
 
 -- no group past the end of a list
@@ -20,13 +20,13 @@ group_there (x ∷ cells) (suc i) g named = let there = group_there cells i g na
 pub closed_last : (old new : Table) (first g : ℕ) (cell : Cell) → IsTable old → group_at old first ≡ Some g → slice_index old.counts.items g ≡ 1 →
     ((j : ℕ) → j < 256 → at old.cells.items (g * 256 + j) ≡ at old.cells.items (g * 256)) → entry_in cell ≡ at old.cells.items (g * 256) →
     new.first.items ≡ slice_set old.first.items first cell → new.cells.items ≡ old.cells.items → new.counts.items ≡ slice_set old.counts.items g 0 →
-    Closed first old new
-closed_last old new first g cell table named one even is firsts cells counts = record {
+    SameRoom old new → Closed first old new
+closed_last old new first g cell table named one even is firsts cells counts room = record {
   table = remade old new table (rw (firsts, length-set)) (ap length cells) (rw (counts, length-set)) (λ i h now. let before = was i h now in (
     before,
     rw (counts, index_set_other old.counts.items g h 0 (λ e. not_first i h now (table.apart i first g (rw (← e) before) named))) (table.used i h before),
   ))
-      (rw cells table.leaves);
+      (rw cells table.leaves) room;
   same = λ ip. ⊎_elim (here ip) (λ (e : ip / 256 ≢ first). entry_same old new ip (elsewhere (ip / 256) e) (λ h _. rw cells)) (cases_eq (ip / 256) first);
   group = g;
   before = named;

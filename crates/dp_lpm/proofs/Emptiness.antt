@@ -1,5 +1,6 @@
 -- A table whose entries are all empty.
-use Rattle.std.proofs.Common.{◌≡◌, ℕ, zero, suc, ◌*◌, ◌/◌, ◌≤◌, length, replicate, None, refl, arith}
+use Rattle.std.proofs.Common.{◌≡◌, ℕ, zero, suc, ◌*◌, ◌/◌, ◌≤◌, length, replicate, None, refl, sym, ◌∙◌, arith}
+use Rattle.std.specs.Prelude.{vec_capacity}
 use Rattle.std.proofs.lemmas.List.{length-replicate}
 use Rattle.dp_lpm.specs.declared.cell.Cell.{Cell}
 use Rattle.dp_lpm.specs.declared.cell.TableEntry.TheVariants.{Empty}
@@ -15,8 +16,9 @@ at-replicate (suc n) zero c is = is
 at-replicate (suc n) (suc k) c is = at-replicate n k c is
 
 pub emptied : (t : Table) (groups : ℕ) (c : Cell) → groups ≤ 256 → entry_in c ≡ Empty → t.first.items ≡ replicate 16777216 c →
-    t.cells.items ≡ replicate (256 * groups) c → t.counts.items ≡ replicate groups 0 → IsEmptyTable groups t
-emptied t groups c few is firsts cells counts = record {
+    t.cells.items ≡ replicate (256 * groups) c → t.counts.items ≡ replicate groups 0 → vec_capacity t.first ≡ 16777216 →
+    vec_capacity t.cells ≡ 256 * groups → vec_capacity t.counts ≡ groups → IsEmptyTable groups t
+emptied t groups c few is firsts cells counts first_room cells_room counts_room = record {
   table = record {
     first = rw firsts (length-replicate 16777216 c);
     cells = rw (cells, len, length-replicate) (omega arith);
@@ -25,6 +27,7 @@ emptied t groups c few is firsts cells counts = record {
     used = λ i g named. let none = plain i in cc;
     apart = λ i j g named other. let none = plain i in cc;
     leaves = λ k. rw (cells, at-replicate (256 * groups) k c is);
+    room = (first_room ∙ sym (rw firsts (length-replicate 16777216 c)), cells_room ∙ sym (rw cells (length-replicate (256 * groups) c)), counts_room ∙ sym len);
   };
   same = λ ip. rw (entry_plain t ip (plain (ip / 256))) (empty (ip / 256));
   plain = plain;

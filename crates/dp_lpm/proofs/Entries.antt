@@ -1,13 +1,13 @@
 -- The entries for addresses, through the groups of their first bits.
 use Rattle.std.proofs.Common.{◌≡◌, ℕ, ◌+◌, ◌*◌, ◌/◌, ◌%◌, ◌<◌, ◌≤◌, zero, suc, List, [], ◌∷◌, length, Option, Some, None, refl, sym, ◌∙◌}
 use Rattle.std.proofs.Common.{arith}
-use Rattle.std.specs.Prelude.{slice_index, slice_index_or}
+use Rattle.std.specs.Prelude.{slice_index, slice_index_or, vec_capacity}
 use Rattle.dp_lpm.specs.declared.cell.Cell.{Cell}
 use Rattle.dp_lpm.specs.declared.cell.TableEntry.{TableEntry}
 use Rattle.dp_lpm.specs.declared.cell.TableEntry.TheVariants.{Empty, Hop, Group}
 use Rattle.dp_lpm.specs.declared.table.Table.{Table}
 use Rattle.dp_lpm.specs.Cells.{at, entry_in, group_in, overwritten}
-use Rattle.dp_lpm.specs.Tables.{IsTable, first_at, group_at, entry_for}
+use Rattle.dp_lpm.specs.Tables.{IsTable, IsWhole, first_at, group_at, entry_for}
 
 pub entry_grouped : (t : Table) (ip g : ℕ) → group_at t (ip / 256) ≡ Some g → entry_for t ip ≡ at t.cells.items (g * 256 + ip % 256)
 entry_grouped t ip g named = rw named
@@ -66,12 +66,25 @@ pub plain_by : (t : Table) (i : ℕ) (c : Cell) → i < length t.first.items →
     group_at t i ≡ None
 plain_by t i c there is other = rw (entry_at t.first.items i c there is) (unnamed_group (entry_in c) other)
 
+-- as much memory as before
+abbrev pub SameRoom : Table → Table → Type 0
+SameRoom old new =
+    (vec_capacity new.first ≡ vec_capacity old.first) × (vec_capacity new.cells ≡ vec_capacity old.cells) × (vec_capacity new.counts ≡ vec_capacity old.counts)
+
+pub still_whole : (old new : Table) → IsTable old → length new.first.items ≡ length old.first.items → length new.cells.items ≡ length old.cells.items →
+    length new.counts.items ≡ length old.counts.items → SameRoom old new → IsWhole new
+still_whole old new table firsts cells counts (first_room, cells_room, counts_room) = (
+  rw (first_room, firsts) table.room.0,
+  rw (cells_room, cells) table.room.1,
+  rw (counts_room, counts) table.room.2,
+)
+
 -- a table without new groups: those that first bits still have are as before, and have rules
 pub remade : (old new : Table) → IsTable old → length new.first.items ≡ length old.first.items → length new.cells.items ≡ length old.cells.items →
     length new.counts.items ≡ length old.counts.items →
     ((i g : ℕ) → group_at new i ≡ Some g → (group_at old i ≡ Some g) × (1 ≤ slice_index new.counts.items g)) →
-    ((k : ℕ) → group_in (at new.cells.items k) ≡ None) → IsTable new
-remade old new table firsts cells counts groups leaves = record {
+    ((k : ℕ) → group_in (at new.cells.items k) ≡ None) → SameRoom old new → IsTable new
+remade old new table firsts cells counts groups leaves room = record {
   first = firsts ∙ table.first;
   cells = rw (cells, counts) table.cells;
   few = rw counts table.few;
@@ -79,4 +92,5 @@ remade old new table firsts cells counts groups leaves = record {
   used = λ i g is. (groups i g is).1;
   apart = λ i j g one other. table.apart i j g (groups i g one).0 (groups j g other).0;
   leaves = leaves;
+  room = still_whole old new table firsts cells counts room;
 }

@@ -4,7 +4,7 @@ use Rattle.std.specs.Prelude.{slice_index, slice_set}
 use Rattle.std.proofs.lemmas.List.{get_or-set_same, get_or-set_other}
 use Rattle.dp_lpm.specs.declared.table.Table.{Table}
 use Rattle.dp_lpm.specs.Tables.{IsTable, group_at, entry_for, Opened, Closed}
-use Rattle.dp_lpm.proofs.Entries.{remade}
+use Rattle.dp_lpm.proofs.Entries.{SameRoom, remade}
 
 pub index_set_same : (xs : List ℕ) (k n : ℕ) → k < length xs → slice_index (slice_set xs k n) k ≡ n
 index_set_same xs k n there = get_or-set_same xs k n 0 there
@@ -17,12 +17,12 @@ some_set xs k i n there some before = grind (arith, index_set_same xs k n, index
 
 -- counts change only, and those of named groups stay at least 1
 counted : (old new : Table) (g n : ℕ) → IsTable old → new.first.items ≡ old.first.items → new.cells.items ≡ old.cells.items →
-    new.counts.items ≡ slice_set old.counts.items g n → 1 ≤ n → IsTable new
-counted old new g n table firsts cells counts some =
+    new.counts.items ≡ slice_set old.counts.items g n → 1 ≤ n → SameRoom old new → IsTable new
+counted old new g n table firsts cells counts some room =
     remade old new table (ap length firsts) (ap length cells) (rw (counts, length-set))
     (λ i h is. let was : group_at old i ≡ Some h = rw (← firsts) is in
     (was, rw counts (some_set old.counts.items g h n (table.named i h was) some (table.used i h was))))
-    (rw cells table.leaves)
+    (rw cells table.leaves) room
 
 -- entries of tables with the same cells
 same_entries : (old new : Table) → new.first.items ≡ old.first.items → new.cells.items ≡ old.cells.items → (ip : ℕ) → entry_for new ip ≡ entry_for old ip
@@ -30,9 +30,10 @@ same_entries old new firsts cells ip = rw (firsts, cells)
 
 -- one rule more in an existing group
 pub opened_more : (old new : Table) (first g n : ℕ) → IsTable old → group_at old first ≡ Some g → new.first.items ≡ old.first.items →
-    new.cells.items ≡ old.cells.items → slice_index old.counts.items g ≡ n → new.counts.items ≡ slice_set old.counts.items g (n + 1) → Opened first old new
-opened_more old new first g n table named firsts cells was counts = record {
-  table = counted old new g (n + 1) table firsts cells counts (omega arith);
+    new.cells.items ≡ old.cells.items → slice_index old.counts.items g ≡ n → new.counts.items ≡ slice_set old.counts.items g (n + 1) → SameRoom old new →
+    Opened first old new
+opened_more old new first g n table named firsts cells was counts room = record {
+  table = counted old new g (n + 1) table firsts cells counts (omega arith) room;
   same = same_entries old new firsts cells;
   group = g;
   before = inl named;
@@ -44,9 +45,9 @@ opened_more old new first g n table named firsts cells was counts = record {
 -- one rule fewer in a group that keeps some
 pub closed_more : (old new : Table) (first g n : ℕ) → IsTable old → group_at old first ≡ Some g → new.first.items ≡ old.first.items →
     new.cells.items ≡ old.cells.items → slice_index old.counts.items g ≡ n → 1 < n → new.counts.items ≡ slice_set old.counts.items g (n - 1) →
-    Closed first old new
-closed_more old new first g n table named firsts cells was some counts = record {
-  table = counted old new g (n - 1) table firsts cells counts (omega arith);
+    SameRoom old new → Closed first old new
+closed_more old new first g n table named firsts cells was some counts room = record {
+  table = counted old new g (n - 1) table firsts cells counts (omega arith) room;
   same = same_entries old new firsts cells;
   group = g;
   before = named;

@@ -1,6 +1,6 @@
 -- Adding a rule: in place of another, or as a new one.
 use Rattle.std.proofs.Common.{◌≡◌, ◌≢◌, ℕ, ◌+◌, ◌-◌, ◌<◌, ◌≤◌, ◌⊎◌, false, ◌&&◌, List, [], ◌∷◌, ◌++◌, length, take, drop, Some, None}
-use Rattle.std.proofs.Common.{ap, arith, inl, inr, length-set}
+use Rattle.std.proofs.Common.{◌∙◌, ap, arith, inl, inr, length-set}
 use Rattle.std.specs.Prelude.{nat_lt, vec_capacity}
 use Rattle.std.proofs.lemmas.Bool.{lt-ltb, le-ltb, lt-leb}
 use Rattle.std.proofs.lemmas.List.{length-map}
@@ -55,7 +55,7 @@ put_count rules index i r missing =
 module _ (old new : RuledTable) (index : ℕ) (r : Rule) (kept : IsKept old) (is : IsRoute (route_of r))
     (missing : IsMissing old.rules.items r.depth r.prefix index)
     (few : length old.rules.items < old.max_rules) (rules : new.rules.items ≡ take index old.rules.items ++ r ∷ drop index old.rules.items)
-    (room : vec_capacity old.rules ≤ vec_capacity new.rules) (max : new.max_rules ≡ old.max_rules) (makes : Makes r old.table new.table) where
+    (room : vec_capacity new.rules ≡ vec_capacity old.rules) (max : new.max_rules ≡ old.max_rules) (makes : Makes r old.table new.table) where
   absent : route_at (routes_in old) r.prefix r.depth ≡ None
   absent = missing_at old.rules.items r.depth r.prefix index missing
 
@@ -109,7 +109,7 @@ module _ (old new : RuledTable) (index : ℕ) (r : Rule) (kept : IsKept old) (is
               (all_put (λ q. IsRoute (route_of q)) old.rules.items index r (all_rules IsRoute old.rules.items kept.rules.each) is);
           few = rw length_put (omega arith);
           most = kept.rules.most;
-          room = omega (arith, kept.rules.room);
+          room = room ∙ kept.rules.room;
         });
         table = table makes;
         answers = λ ip. rw (same makes ip) (kept.answers ip);

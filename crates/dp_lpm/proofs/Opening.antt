@@ -11,7 +11,7 @@ use Rattle.dp_lpm.specs.declared.table.Table.{Table}
 use Rattle.dp_lpm.specs.Cells.{at, entry_in}
 use Rattle.dp_lpm.specs.Tables.{IsTable, first_at, group_at, entry_for, Opened}
 use Rattle.dp_lpm.proofs.Overwriting.{ChangedUpTo, still_leaves, at-set_same, at-set_other}
-use Rattle.dp_lpm.proofs.Entries.{entry_grouped, entry_plain, entry_same}
+use Rattle.dp_lpm.proofs.Entries.{entry_grouped, entry_plain, entry_same, SameRoom, still_whole}
 use Rattle.dp_lpm.proofs.Groups.{index_set_same, index_set_other}
 
 pub free_index : (xs : List ℕ) (k : ℕ) → position (λ n. n == 0) xs ≡ Some k → (k < length xs) × (slice_index xs k ≡ 0)
@@ -21,7 +21,7 @@ module _ (old new : Table) (first g : ℕ) (cell : Cell) (table : IsTable old) (
     (free : g < length old.counts.items) (zero_there : slice_index old.counts.items g ≡ 0) (is : entry_in cell ≡ Group g)
     (firsts : new.first.items ≡ slice_set old.first.items first cell) (lengths : length new.cells.items ≡ length old.cells.items)
     (so : ChangedUpTo (g * 256) (g * 256 + 256) (λ _. first_at old first) old.cells.items new.cells.items)
-    (counts : new.counts.items ≡ slice_set old.counts.items g 1) where
+    (counts : new.counts.items ≡ slice_set old.counts.items g 1) (room : SameRoom old new) where
   len : length new.counts.items ≡ length old.counts.items
   len = rw (counts, length-set)
 
@@ -64,6 +64,7 @@ module _ (old new : Table) (first g : ℕ) (cell : Cell) (table : IsTable old) (
           (λ (apart, was). ⊎_elim (λ (_, mine). absurd (apart mine)) (λ (_, then). table.apart i j h was then) (either j h other))
           (either i h one);
       leaves = still_leaves (g * 256) (g * 256 + 256) (λ _. first_at old first) old.cells.items new.cells.items so (λ e _. none) table.leaves;
+      room = still_whole old new table (rw (firsts, length-set)) lengths len room;
     };
     same = λ ip. ⊎_elim (here ip) (λ (e : ip / 256 ≢ first). entry_same old new ip (elsewhere (ip / 256) e)
         (λ h named. apart h (ip % 256) (not_mine (ip / 256) h named) (omega arith))) (cases_eq (ip / 256) first);

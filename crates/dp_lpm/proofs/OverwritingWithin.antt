@@ -6,7 +6,7 @@ use Rattle.dp_lpm.specs.declared.table.Table.{Table}
 use Rattle.dp_lpm.specs.Cells.{at, group_in, overwritten}
 use Rattle.dp_lpm.specs.Tables.{IsTable, group_at, Overwritten}
 use Rattle.dp_lpm.proofs.Overwriting.{ChangedUpTo, still_leaves, still_groups}
-use Rattle.dp_lpm.proofs.Entries.{entry_grouped, entry_plain, entry_same, overwritten_leaf, remade}
+use Rattle.dp_lpm.proofs.Entries.{entry_grouped, entry_plain, entry_same, overwritten_leaf, SameRoom, remade}
 
 sides : (h g low count j : ℕ) → j < 256 → low + count ≤ 256 → (h ≡ g → (j < low) ⊎ (low + count ≤ j)) →
     (h * 256 + j < g * 256 + low) ⊎ (g * 256 + low + count ≤ h * 256 + j)
@@ -15,13 +15,13 @@ sides h g low count j lt fits outside = grind arith
 -- the prefix has a group: entries of it are overwritten
 pub overwritten_group : (old new : Table) (first low count depth g : ℕ) (to : TableEntry) → IsTable old → low + count ≤ 256 → group_in to ≡ None →
     group_at old first ≡ Some g → new.first.items ≡ old.first.items → new.counts.items ≡ old.counts.items → length new.cells.items ≡ length old.cells.items →
-    ChangedUpTo (g * 256 + low) (g * 256 + low + count) (overwritten depth to) old.cells.items new.cells.items →
+    ChangedUpTo (g * 256 + low) (g * 256 + low + count) (overwritten depth to) old.cells.items new.cells.items → SameRoom old new →
     Overwritten (first * 256 + low) count depth to old new
-overwritten_group old new first low count depth g to table fits leaf named firsts counts lengths so = record {
+overwritten_group old new first low count depth g to table fits leaf named firsts counts lengths so room = record {
   table = remade old new table (ap length firsts) lengths (ap length counts)
       (λ i h is. let was : group_at old i ≡ Some h = rw (← firsts) is in (was, rw counts (table.used i h was)))
       (still_leaves (g * 256 + low) (g * 256 + low + count) (overwritten depth to) old.cells.items new.cells.items so
-      (λ e none. overwritten_leaf depth to e leaf none) table.leaves);
+      (λ e none. overwritten_leaf depth to e leaf none) table.leaves) room;
   inside = λ ip le lt.
       let here : ip / 256 ≡ first = omega arith in
       let grouped : group_at old (ip / 256) ≡ Some g = rw here named in
@@ -41,10 +41,10 @@ overwritten_group old new first low count depth g to table fits leaf named first
 -- the prefix has no group: its one entry is overwritten
 pub overwritten_plain : (old new : Table) (first depth : ℕ) (to : TableEntry) → IsTable old → depth ≤ 32 → group_in to ≡ None → group_at old first ≡ None →
     new.cells.items ≡ old.cells.items → new.counts.items ≡ old.counts.items → length new.first.items ≡ length old.first.items →
-    ChangedUpTo first (first + 1) (overwritten depth to) old.first.items new.first.items → Overwritten (first * 256) 256 depth to old new
-overwritten_plain old new first depth to table small leaf none cells counts lengths so = record {
+    ChangedUpTo first (first + 1) (overwritten depth to) old.first.items new.first.items → SameRoom old new → Overwritten (first * 256) 256 depth to old new
+overwritten_plain old new first depth to table small leaf none cells counts lengths so room = record {
   table = remade old new table lengths (ap length cells) (ap length counts)
-      (λ i h is. let was : group_at old i ≡ Some h = rw (← groups i) is in (was, rw counts (table.used i h was))) (rw cells table.leaves);
+      (λ i h is. let was : group_at old i ≡ Some h = rw (← groups i) is in (was, rw counts (table.used i h was))) (rw cells table.leaves) room;
   inside = λ ip le lt.
       let here : ip / 256 ≡ first = omega arith in
       let plain : group_at old (ip / 256) ≡ None = rw here none in

@@ -21,7 +21,7 @@ used_none zero = refl
 used_none (suc n) = omega (arith, used_none n)
 
 pub begun : (s : RuledTable) (groups : ℕ) → IsEmptyTable groups s.table → s.rules.items ≡ [] → s.max_rules ≤ 65536 →
-    s.max_rules ≤ vec_capacity s.rules → IsKept s
+    vec_capacity s.rules ≡ s.max_rules → IsKept s
 begun s groups empty none most room = record {
   rules = simp none (record { order = tt; each = tt; few = omega arith; most = most; room = room });
   table = empty.table;

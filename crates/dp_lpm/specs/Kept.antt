@@ -35,13 +35,13 @@ routes_in s = routes_of s.rules.items
 abbrev pub shown : RuledTable → RouteTable
 shown s = record { routes = routes_in s; max_rules = s.max_rules; groups = length s.table.counts.items }
 
--- rules in order, each with a route of a table, and room for all
+-- rules in order, each with a route of a table, and room for as many as the table may have, and no more
 pub record HasRules (rules : List Rule) (max_rules capacity : ℕ) : Type 0 where
   pub order : IsOrdered rules
   pub each : AllByRecursion IsRoute (routes_of rules)
   pub few : length rules ≤ max_rules
   pub most : max_rules ≤ MAX_RULES
-  pub room : max_rules ≤ capacity
+  pub room : capacity ≡ max_rules
 
 -- first bits have a group exactly if a deep route begins with them
 pub record Grouped (t : Table) (counted : List Route) : Type 0 where

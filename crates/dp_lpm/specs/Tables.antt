@@ -21,6 +21,11 @@ abbrev pub entry_for : Table → ℕ → TableEntry
 entry_for t ip =
     option_map_or (λ g. at t.cells.items (g * GROUP_ENTRIES + ip % GROUP_ENTRIES)) (group_at t (ip / GROUP_ENTRIES)) (first_at t (ip / GROUP_ENTRIES))
 
+-- the lists hold what they took memory for, and have no room for more
+abbrev pub IsWhole : Table → Type 0
+IsWhole t =
+    (vec_capacity t.first ≡ length t.first.items) × (vec_capacity t.cells ≡ length t.cells.items) × (vec_capacity t.counts ≡ length t.counts.items)
+
 -- each named group belongs to one prefix of 24 bits, has rules, and has 256 entries, none of which is a group
 pub record IsTable (t : Table) : Type 0 where
   pub first : length t.first.items ≡ FIRST_ENTRIES
@@ -30,6 +35,7 @@ pub record IsTable (t : Table) : Type 0 where
   pub used : (i g : ℕ) → group_at t i ≡ Some g → 1 ≤ slice_index t.counts.items g
   pub apart : (i j g : ℕ) → group_at t i ≡ Some g → group_at t j ≡ Some g → i ≡ j
   pub leaves : (k : ℕ) → group_in (at t.cells.items k) ≡ None
+  pub room : IsWhole t
 
 -- a slot without a table: no entries, and no memory
 abbrev pub IsNoTable : Table → Type 0

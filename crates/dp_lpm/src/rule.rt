@@ -89,9 +89,9 @@ pub fn insert(rules: &mut Vec<Rule>, index: usize, rule: Rule)
     requires index { index ≤ length rules.old.items }
     requires room { length rules.old.items < vec_capacity rules.old }
     ensures items { rules.new.items ≡ take index rules.old.items ++ rule ∷ drop index rules.old.items }
-    ensures capacity { vec_capacity rules.old ≤ vec_capacity rules.new }
+    ensures capacity { vec_capacity rules.new ≡ vec_capacity rules.old }
 {
-    let _ = rules.push(rule);
+    rules.push_reserved(rule);
     put_first(&mut rules[index..], rule);
 }
 

@@ -1,6 +1,6 @@
 //! The entries for all addresses: one for each value of the first 24 bits, and groups of 256 where one is not enough.
 
-ghost use Rattle.std.specs.Prelude.{◌≡◌, ℕ, ◌+◌, ◌*◌, ◌/◌, ◌==◌, ◌<◌, ◌≤◌, length, slice_index, position, IfOk, MatchBool};
+ghost use Rattle.std.specs.Prelude.{◌≡◌, ℕ, ◌+◌, ◌*◌, ◌/◌, ◌==◌, ◌<◌, ◌≤◌, length, replicate, vec_capacity, slice_index, position, IfOk, MatchBool};
 ghost use Rattle.dp_lpm.specs.Cells.{entry_in, group_in};
 
 use crate::cell::{Cell, TableEntry, fill, overwrite_shallower};
@@ -41,19 +41,10 @@ impl Table {
         ensures { IfOk result (λ t. IsEmptyTable groups t) }
     {
         let empty = Cell::of(TableEntry::Empty);
-        let Ok(first) = Vec::from_elem(alloc, empty, FIRST_ENTRIES) else {
-            return Err(Memory);
-        };
-        let Ok(cells) = Vec::from_elem(alloc, empty, GROUP_ENTRIES * groups as usize) else {
-            return Err(Memory);
-        };
-        let Ok(counts) = Vec::from_elem(alloc, 0u32, groups as usize) else {
-            return Err(Memory);
-        };
         Ok(Table {
-            first,
-            cells,
-            counts,
+            first: filled(alloc, empty, FIRST_ENTRIES)?,
+            cells: filled(alloc, empty, GROUP_ENTRIES * groups as usize)?,
+            counts: filled(alloc, 0, groups as usize)?,
         })
     }
 
@@ -151,6 +142,20 @@ impl Table {
             }
         }
     }
+}
+
+/// A list of `count` equal elements, with no room for more.
+fn filled<T: Copy>(alloc: Global, element: T, count: usize) -> Result<Vec<T>, Memory>
+    ensures items { IfOk result (λ v. v.items ≡ replicate count element) }
+    ensures room { IfOk result (λ v. vec_capacity v ≡ count) }
+{
+    let Ok(mut list) = Vec::with_capacity(alloc, count) else {
+        return Err(Memory);
+    };
+    for _ in 0..count {
+        list.push_reserved(element);
+    }
+    Ok(list)
 }
 
 /// The first free group.

@@ -1,8 +1,8 @@
 -- Reading and writing bytes of a live packet.
-use Rattle.std.proofs.Common.{◌≡◌, ℕ, ◌+◌, ◌-◌, ◌≤◌, List, [], ◌∷◌, ◌++◌, length, take, drop, Some, None, refl, ap, arith, get_or}
+use Rattle.std.proofs.Common.{◌≡◌, ℕ, ◌+◌, ◌-◌, ◌≤◌, List, [], ◌∷◌, ◌++◌, length, take, drop, Some, None, refl, sym, ap, ◌∙◌, arith, get_or}
 use Rattle.std.proofs.Common.{set}
 use Rattle.std.specs.Prelude.{slice_set, slice_range, replicate}
-use Rattle.std.proofs.lemmas.List.{length-drop, take_all}
+use Rattle.std.proofs.lemmas.List.{length-drop, take_all, take-take, drop-drop, drop-take}
 use Rattle.dp_model.specs.Arithmetic.{big_endian, spelled}
 use Rattle.dp_model.specs.Environments.{room_at}
 use Rattle.dp_model.specs.Buffers.{IsNumber, bytes_of}
@@ -27,6 +27,14 @@ pub rest_take : (xs : List ℕ) (p w : ℕ) → take w (take (length xs - p) (dr
 rest_take xs p w =
     let e : w ≡ p + w - p = omega arith in
     rw (take_all (length xs - p) (drop p xs) (omega (arith, length-drop p xs))) (rw (← e))
+
+-- a slice of a slice
+slice_in : (xs : List ℕ) (o l p w : ℕ) → p + w ≤ l → slice_range (slice_range xs o (o + l)) p (p + w) ≡ slice_range xs (o + p) (o + p + w)
+slice_in xs o l p w fits =
+    let all : o + l - o ≡ p + (l - p) = omega (arith, fits) in
+    let few : p + w - p ≡ w = omega arith in
+    let same : o + p + w - (o + p) ≡ w = omega arith in
+    rw (all, few, same, drop-take p (l - p) (drop o xs), drop-drop p o xs) (take-take w (l - p) (drop (o + p) xs) (omega (arith, fits)))
 
 module _ (ps : List PoolView) (v : Store) (h : ℕ) (e : shown ps ≡ v) (sound : Sound ps) where
   -- ---- the part of a buffer that the first header has
@@ -80,6 +88,13 @@ module _ (ps : List PoolView) (v : Store) (h : ℕ) (e : shown ps ≡ v) (sound 
     where
       by : FirstPart x k → spelled (slice_range bytes mbuf (mbuf + w)) ≡ loaded mbuf w k v.buffers
       by f = rw (eb, f.buffer, f.offset, f.len, f.is, ← e) refl
+
+  -- the same, from the data room
+  pub read_is : (x : Header) (at offset w : ℕ) (room : List ℕ) → x ≡ header_at ps (numbered h) → room ≡ bytes_of (buffers_of ps) x.buffer
+      → at ≡ x.offset + offset → offset + w ≤ x.len → Of v h (λ k. spelled (slice_range room at (at + w)) ≡ loaded offset w k v.buffers)
+  read_is x at offset w room ex er ea fits k has =
+      ap spelled (ap (λ n. slice_range room n (n + w)) ea ∙ sym (slice_in room x.offset x.len offset w fits))
+      ∙ loaded_is x offset w (slice_range room x.offset (x.offset + x.len)) ex (ap (λ r. slice_range r x.offset (x.offset + x.len)) er) k has
 
   pub stored_done : (ps' : List PoolView) (x : Header) (mbuf w n at : ℕ) (bytes : List ℕ) → x ≡ header_at ps (numbered h) → IsLive v h →
       at ≡ x.offset + mbuf → bytes ≡ big_endian w n → RoomWritten ps x.buffer at bytes ps' → Sound ps' × Becomes v (shown ps') h (λ k. k) (stored mbuf w n)

@@ -26,3 +26,4 @@ pub mod SettingFirst
 pub mod Both
 pub mod Ending
 pub mod Parting
+pub mod Alone

@@ -4,3 +4,4 @@ pub mod Limits
 pub mod Objects
 pub mod Mbufs
 pub mod Steps
+pub mod Alone

@@ -33,15 +33,16 @@
 //! when no live segment has it as its mbuf or its buffer, so B keeps 0:5 and 0:9 after A is freed.
 //!
 //! What to call: `alloc` or `receive` makes a packet, `clone_of` a clone, `prepend`, `adj`, `append`, `trim` and `chain` change one, `load` and
-//! `store` read and write its first segment, `free` ends it. `park` and `unpark` convert a handle to a `u32` and back, and change nothing;
+//! `store` read and write its first segment, `free` ends it. `sole_bytes` gives the bytes of a packet that is one object, and `free_sole` ends
+//! such a packet without a test. `park` and `unpark` convert a handle to a `u32` and back, and change nothing;
 //! the engine uses `Packet::number` and `Packet::of`.
 //!
 //! What not to do: no call tests what its contract requires. `store` and `prepend` require a sole first segment, `append` a sole last one;
 //! the program checker makes sure of that, so the calls need no branch. An `Mbufs` cannot be dropped: free every packet, then call
 //! `into_pools`. It takes some 25 kB, since the pools hold their caches in place; do not move it on a hot path.
 //!
-//! `alloc`, `adj`, `trim`, `prepend`, `append`, `load`, `store`, `is_live`, `headroom`, `tailroom`, `first_len`, `last_len`, `segments` and
-//! `chain` take constant time. `free`, `clone_of`, `receive`, `is_sole` and `length` take one step for each segment.
+//! `alloc`, `adj`, `trim`, `prepend`, `append`, `load`, `store`, `is_live`, `headroom`, `tailroom`, `first_len`, `last_len`, `segments`,
+//! `sole_bytes`, `free_sole` and `chain` take constant time. `free`, `clone_of`, `receive`, `is_sole` and `length` take one step for each segment.
 #![tactic(auto)]
 
 mod big_endian;

@@ -1,7 +1,7 @@
 //! The calls on packets: make, change, clone and free them.
 
 ghost use Rattle.std.specs.Prelude.{◌≡◌, ◌≢◌, ℕ, ◌+◌, ◌*◌, ◌<◌, ◌≤◌, [], None, length, drop, slice_get, slice_range, IsTrue, ◌↔◌, IfSome, IfNone};
-ghost use Rattle.std.specs.Prelude.{List, Some, true, max, ◌-◌, ◌/◌};
+ghost use Rattle.std.specs.Prelude.{List, Some, true, false, max, ◌-◌, ◌/◌};
 ghost use Rattle.std.specs.Prelude.{◌^◌};
 ghost use Rattle.dp_model.specs.Packets.{Segment, needed, refs, IsSole, segment_bytes, packet_bytes, headroom, tailroom, first_len, last_len, at_front};
 ghost use Rattle.dp_model.specs.Packets.{at_end, more_before, less_before, more_after, less_after, zeroed_before, zeroed_after, available, loaded, stored};
@@ -14,6 +14,7 @@ ghost use Rattle.dp_model.specs.Stores.{IsWellFormedStore, Store};
 ghost use Rattle.dp_mbuf.specs.Objects.{header_at, specs_of, buffers_of, zones_of, HasObject};
 ghost use Rattle.dp_mbuf.specs.Mbufs.{numbered, handle, AreReady, IsNew, HasNone, AreBack, Linked, HasWalk, mbufs_in_all};
 ghost use Rattle.dp_mbuf.specs.Mbufs.{Freeing, Sound, shown};
+ghost use Rattle.dp_mbuf.specs.Alone.{IsAlone};
 
 use crate::big_endian::read_number;
 use crate::header::{Header, MbufNumber};
@@ -124,7 +125,8 @@ fn release_all(objects: &mut Objects, first: MbufNumber, count: u16)
 // Whether a header shows a packet of one segment, whose mbuf `n` is its own buffer and has no other reference.
 #[inline(always)]
 fn is_alone(header: Header, n: MbufNumber) -> bool
-    ensures { result ≡ true → (header.segs ≡ 1) × (header.refs ≡ 1) × (same_number header.buffer n ≡ true) }
+    ensures alone { result ≡ true → (header.segs ≡ 1) × (header.refs ≡ 1) × (same_number header.buffer n ≡ true) }
+    ensures other { result ≡ false → (header.segs ≡ 1) × (header.refs ≡ 1) × (same_number header.buffer n ≡ true) → ⊥ }
 {
     header.refs == 1 && header.segs == 1 && header.buffer.is(n)
 }
@@ -299,6 +301,35 @@ impl Mbufs {
         }
     }
 
+    /// The bytes of a packet of one segment that lies in the buffer of its own mbuf and is its only reference: the usual packet, which `free_sole`
+    /// ends. `None` exactly for any other.
+    #[inline(always)]
+    pub fn sole_bytes(&self, packet: &Packet) -> Option<&[u8]>
+        requires { IsLive self.now.store packet.now }
+        ensures some { IfSome result (λ bytes. Of self.now.store packet.now (λ k. IsAlone self.now.store k
+            × (bytes.now ≡ packet_bytes self.now.store.buffers k))) }
+        ensures none { IfNone result (Of self.now.store packet.now (λ k. IsAlone self.now.store k → ⊥)) }
+        ensures bound { IfSome result (λ bytes. length bytes.now ≤ MAX_ROOM) }
+    {
+        let first = first_number(packet);
+        if is_alone(self.objects.header(first), first) {
+            let segment = self.objects.header(first);
+            Some(bytes_in_segment(&self.objects, segment))
+        } else {
+            None
+        }
+    }
+
+    /// Frees a packet that `sole_bytes` finds: its object returns to its pool.
+    #[inline(always)]
+    pub fn free_sole(&mut self, packet: Packet)
+        requires { HasSome self.old.store packet (IsAlone self.old.store) }
+        ensures packets { self.new.store ≡ with_slot packet None self.old.store }
+        ensures zones { self.new.zones ≡ self.old.zones }
+    {
+        self.objects.end(first_number(&packet));
+    }
+
     /// The number of free buffers of a pool.
     #[inline(always)]
     pub fn available(&self, pool: u32) -> u32
@@ -349,8 +380,9 @@ impl Mbufs {
         ensures { Of self.now.store packet.now (λ k. result ≡ loaded offset (bytes_in width) k self.now.store.buffers) }
     {
         let head = first_header(&self.objects, packet);
-        let bytes = bytes_in_segment(&self.objects, head);
-        read_number(&bytes[offset as usize..], width)
+        let at = usize::from(head.offset) + offset as usize;
+        let room = self.objects.bytes(head.buffer);
+        read_number(&room[at..], width)
     }
 
     /// Writes the low `width` bytes of `n` at `offset` of the first segment, big-endian. They must lie in it, and its buffer must have one reference.

@@ -10,16 +10,27 @@ use Rattle.dp_pcap.specs.SourceState.{SourceState}
 use Rattle.dp_pcap.specs.declared.format.TheConstants.{MAX_RECORD}
 use Rattle.dp_pcap.specs.Source.{WhereKnown, Continues, IsHeld, IsInRange, body_in}
 use Rattle.dp_engine.specs.Engines.{EngineState}
-use Rattle.dp_pipe.specs.Forwarding.{HasTurn, ReadsTurn}
+use Rattle.dp_engine.specs.Watching.{Event}
+use Rattle.dp_pipe.specs.Forwarding.{HasTurn}
+use Rattle.dp_pipe.specs.Tracing.{TracesRead}
+use Rattle.dp_pipe.specs.Watched.{unnoted, ShowsNext}
+
+-- the turn of a record with these bytes was shown
+abbrev pub TracesAt : {V : Type 0} → (V → Event → V → Type 0) → V → V → ℕ → Time → EngineState → EngineState → List ℕ → Type 0
+TracesAt sees v v' port time e e' bytes = (r : TracesRead sees unnoted v v' port time e e') × (r.bytes ≡ bytes)
 
 -- from what the reader has buffered
-pub lent : (port : ℕ) (e e' : EngineState) (s s' : SourceState) (a b : Option (List ℕ)) (held bytes : List ℕ) (time : Time) (len : ℕ) → IsHeld s held time len
+pub lent : {V : Type 0} (sees : V → Event → V → Type 0) (v v' : V) (port : ℕ) (e e' : EngineState) (s s' : SourceState)
+    (a b : Option (List ℕ)) (held bytes : List ℕ) (time : Time) (len : ℕ) → IsHeld s held time len
     → WhereKnown a b (λ left rest. Continues s s' left rest (body_in held len) (Ok (Record time len))) → bytes ≡ body_in held len →
-    HasTurn port e e' bytes → ReadsTurn port e e' s s' a b (Ok (Record time len))
-lent port e e' s s' a b held bytes time len is more those took =
+    HasTurn port e e' bytes → TracesAt sees v v' port time e e' bytes → ShowsNext sees v v' port e e' s s' a b (Ok (Record time len))
+lent sees v v' port e e' s s' a b held bytes time len is more those took shown =
     let long : length (body_in held len) ≡ len = length-take-le len (drop 16 held) (omega (arith, is.whole, length-drop 16 held)) in
     let same : take len (body_in held len) ≡ body_in held len = take_all len (body_in held len) (omega (arith, long)) in
-    (body_in held len, more, (omega (arith, long), subst (HasTurn port e e') (those ∙ sym same) took))
+    let (turn, bytes_are) = subst (TracesAt sees v v' port time e e') (those ∙ sym same) shown in (
+      (body_in held len, more, (omega (arith, long), subst (HasTurn port e e') (those ∙ sym same) took)),
+      (omega (arith, long), turn, bytes_are),
+    )
 
 -- a record that was read has room in any buffer for the largest one
 pub has_room : (s : SourceState) (answer : Result Next PcapError) (time : Time) (len room : ℕ) → answer ≡ Ok (Record time len) → IsInRange s answer
@@ -28,14 +39,17 @@ has_room s answer time len room is within large =
     let (nano, short, few) = subst (IsInRange s) is within in omega (arith, short, large)
 
 -- from the buffer into which it was read
-pub copied : {port : ℕ} {e e' : EngineState} (s : SourceState) {s1 s' : SourceState} (a : Option (List ℕ)) {b1 b : Option (List ℕ)} {buf1 buf bytes : List ℕ}
+pub copied : {V : Type 0} {sees : V → Event → V → Type 0} {v v' : V} {port : ℕ} {e e' : EngineState} (s : SourceState)
+    {s1 s' : SourceState} (a : Option (List ℕ)) {b1 b : Option (List ℕ)} {buf1 buf bytes : List ℕ}
     {x : Time × ℕ × Bool} {time : Time} {len : ℕ} {answer : Result Next PcapError} → answer ≡ Ok (Record time len) → s' ≡ s1 → b ≡ b1 → buf ≡ buf1
     → x ≡ (time, len, false) → WhereKnown a b1 (λ left rest. Continues s s1 left rest buf1 answer) → len ≤ length buf1 → bytes ≡ take x.1 buf
-    → HasTurn port e e' bytes
-    → ReadsTurn port e e' s s' a b (Ok (Record x.0 x.1))
-copied {port = port} {e = e} {e' = e'} s a {buf1 = buf1} {buf = buf} {bytes = bytes} {len = len} is p q r t more fits those took =
+    → HasTurn port e e' bytes → TracesAt sees v v' port time e e' bytes
+    → ShowsNext sees v v' port e e' s s' a b (Ok (Record x.0 x.1))
+copied {sees = sees} {v = v} {v' = v'} {port = port} {e = e} {e' = e'} s a {buf1 = buf1} {buf = buf} {bytes = bytes} {time = time} {len = len} is p q r t
+    more fits those took shown =
     let used : bytes ≡ take len buf1 = those ∙ ap (λ (y : Time × ℕ × Bool). take y.1 buf) t ∙ ap (take len) r in
-    rw (p, q, t) (buf1, rw is at more, (fits, subst (HasTurn port e e') used took))
+    let (turn, bytes_are) = subst (TracesAt sees v v' port time e e') used shown in
+    rw (p, q, t) ((buf1, rw is at more, (fits, subst (HasTurn port e e') used took)), (fits, turn, bytes_are))
 
 -- what was found is what is used
 pub found : {s s' : SourceState} {held held' : List ℕ} {x : Time × ℕ × Bool} {time : Time} {len : ℕ} → s' ≡ s → held' ≡ held → x ≡ (time, len, true) →
@@ -43,10 +57,11 @@ pub found : {s s' : SourceState} {held held' : List ℕ} {x : Time × ℕ × Boo
 found a b c is = rw (a, b, c) is
 
 -- the source and the reader are still where the record was found
-pub read_from : (port : ℕ) (e e' : EngineState) {s0 s : SourceState} (s' : SourceState) {a0 a : Option (List ℕ)} (b : Option (List ℕ))
+pub read_from : {V : Type 0} (sees : V → Event → V → Type 0) (v v' : V) (port : ℕ) (e e' : EngineState) {s0 s : SourceState}
+    (s' : SourceState) {a0 a : Option (List ℕ)} (b : Option (List ℕ))
     (answer : Result Next PcapError) → s ≡ s0 → a ≡ a0 →
-    ReadsTurn port e e' s s' a b answer → ReadsTurn port e e' s0 s' a0 b answer
-read_from port e e' s' b answer p q reads = rw (← p, ← q) reads
+    ShowsNext sees v v' port e e' s s' a b answer → ShowsNext sees v v' port e e' s0 s' a0 b answer
+read_from sees v v' port e e' s' b answer p q reads = rw (← p, ← q) reads
 
 -- a record is buffered or was copied
 pub not_both : (b : Bool) → b ≡ false → b ≡ true → ⊥

@@ -20,7 +20,7 @@ use Rattle.dp_pipe.proofs.GoingOn.{goes_on, many_least}
 use Rattle.dp_pipe.proofs.Stopping.{stops_at, states_same, are_read}
 
 -- open or ended
-decide : (state : InputState) → (state ≡ Open) ⊎ (state ≡ Open → ⊥)
+pub decide : (state : InputState) → (state ≡ Open) ⊎ (state ≡ Open → ⊥)
 decide Open = inl refl
 decide Whole = inr (λ e. cc)
 decide (Cut byte) = inr (λ e. cc)

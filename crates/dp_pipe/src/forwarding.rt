@@ -5,7 +5,7 @@ ghost use Rattle.dp_pcap.specs.Source.{body_in, IsInRange, Moves, max_pulls, fai
 ghost use Rattle.dp_pipe.specs.Devices.{Device, seen, transfer, AllSound, AllFared, FaredAlone, failed_reader, failed_writer, failed_drain};
 ghost use Rattle.dp_pipe.specs.Forwarding.{Input, ReadsTurn, DrainedAll, DrainsStopped, DrainedFirst, Advances, RunUntil, IsUnderway, IsRound, AreRounds};
 ghost use Rattle.dp_pipe.specs.Forwarding.{NoneIsOpen, SomeIsOpen};
-ghost use Rattle.dp_pipe.specs.Watched.{ShowsNext, ShowsTurns};
+ghost use Rattle.dp_pipe.specs.Watched.{ShowsNext, ShowsInput, ShowsUntil, ShowsRound, ShowsTurns};
 ghost use Rattle.dp_engine.specs.Engines.{EngineState};
 ghost use Rattle.dp_pcap.specs.declared.format.TheConstants.{NANOS_A_SECOND};
 ghost use Rattle.dp_pcap.specs.declared.time.Time.{Time as InSeconds};
@@ -74,14 +74,13 @@ fn next_turn<K: Known, R: Feed, V: Watch>(
     // Eight inputs with at most that many records make no more turns than an engine takes.
     requires limit { engine.old.turns + MAX_RECORDS ≤ MAX_RUN_TURNS + source.old.given }
     requires open { source.old.is_open ≡ true }
-    ensures turn { ReadsTurn port engine.old engine.new source.old source.new (R.remaining r.old) (R.remaining r.new) result }
+    ensures turn { ShowsNext V.sees watch.old watch.new port engine.old engine.new source.old source.new (R.remaining r.old) (R.remaining r.new) result }
     ensures in_range { IsInRange source.old result }
     ensures source { Moves source.old source.new result }
     ensures failed { IsErrOf result PcapError.Read ↔ IsTrue (R.is_broken r.new) }
     ensures stays { IsTrue (R.is_broken r.old) → IsTrue (R.is_broken r.new) }
     ensures counted { R.calls r.new ≤ R.calls r.old + max_pulls result }
     ensures failures { R.failures r.new ≡ R.failures r.old + failed_pulls result }
-    ensures shown { ShowsNext V.sees watch.old watch.new port engine.old engine.new result }
 {
     let (time, len, is_held) = match record_at_hand(r, source) {
         Some((time, len)) => (time, len, true),
@@ -98,6 +97,7 @@ fn next_turn<K: Known, R: Feed, V: Watch>(
 }
 
 // Drains the transmit lists of all ports, in port order, with one time. Returns the port whose writer failed, if one did.
+#[inline(always)]
 fn drain_all<K: Known, W: Sink>(
     engine: &mut Engine<K>,
     time: Time,
@@ -151,17 +151,16 @@ fn ask<K: Known, R: Feed, W: Sink, V: Watch>(
     requires buf { MAX_RECORD ≤ length buf.old }
     requires open { input.old.state ≡ InputState.Open → input.old.source.is_open ≡ true }
     requires limit { input.old.state ≡ InputState.Open → engine.old.turns + MAX_RECORDS ≤ MAX_RUN_TURNS + input.old.source.given }
-    ensures step { input.old.state ≡ InputState.Open → Advances port unit engine.old engine.new input.old input.new
+    ensures step { input.old.state ≡ InputState.Open → ShowsInput V.sees watch.old watch.new port unit engine.old engine.new input.old input.new
         (seen R.remaining R.calls r.old) (seen R.remaining R.calls r.new)
         (map (seen W.contents W.calls) outs.old) (map (seen W.contents W.calls) outs.new) result }
     ensures over { (input.old.state ≡ InputState.Open → ⊥) → (result ≡ Ok tt) × (engine.new ≡ engine.old) × (input.new ≡ input.old) × (r.new ≡ r.old)
-        × (outs.new ≡ outs.old) }
+        × (outs.new ≡ outs.old) × (watch.new ≡ watch.old) }
     ensures many { length outs.new ≡ length outs.old }
     ensures buf { length buf.new ≡ length buf.old }
     ensures reader { input.old.state ≡ InputState.Open → IsTrue (R.is_broken r.new) → result ≡ Err (RunCause.In port PcapError.Read) }
     ensures fared_reader { FaredAlone R.is_broken R.failures (failed_reader result) port r.old r.new }
     ensures fared_writers { AllSound W.is_broken outs.old → AllFared W.is_broken W.failures (failed_writer result) outs.old outs.new }
-    ensures shown { ShowsTurns V.sees watch.old watch.new engine.old engine.new result }
 {
     if !is_open(input) {
         return Ok(());
@@ -208,7 +207,9 @@ fn round<K: Known, R: Feed, W: Sink, V: Watch>(
         × (length buf.new ≡ length buf.old) }
     ensures fared_readers { AllFared R.is_broken R.failures (failed_reader result) ins.old ins.new }
     ensures fared_writers { AllSound W.is_broken outs.old → AllFared W.is_broken W.failures (failed_writer result) outs.old outs.new }
-    ensures shown { ShowsTurns V.sees watch.old watch.new engine.old engine.new result }
+    ensures shown { (v0 : V) (e0 : EngineState) (had : List Device) (k : ℕ) →
+        ShowsUntil V.sees v0 watch.old e0 engine.old had (map (seen R.remaining R.calls) ins.old) inputs.old k 0
+        → ShowsRound V.sees v0 watch.new e0 engine.new had (map (seen R.remaining R.calls) ins.new) inputs.new k result }
 {
     for port in 0..inputs.len() as u8 {
         let k = port as usize;
@@ -263,7 +264,9 @@ pub(crate) fn rounds<K: Known, R: Feed, W: Sink, V: Watch>(
     ensures many { length inputs.new ≡ length inputs.old }
     ensures fared_readers { AllFared R.is_broken R.failures (failed_reader result) ins.old ins.new }
     ensures fared_writers { AllSound W.is_broken outs.old → AllFared W.is_broken W.failures (failed_writer result) outs.old outs.new }
-    ensures shown { ShowsTurns V.sees watch.old watch.new engine.old engine.new result }
+    ensures shown { (v0 : V) (e0 : EngineState) (had : List Device) →
+        ShowsUntil V.sees v0 watch.old e0 engine.old had (map (seen R.remaining R.calls) ins.old) inputs.old 0 0
+        → ShowsTurns V.sees v0 watch.new e0 engine.new had (map (seen R.remaining R.calls) ins.new) result }
 {
     for k in 0..ROUNDS {
         if !is_any_open(inputs) {

@@ -10,7 +10,7 @@ use crate::nodes::{How, load_nodes};
 use crate::pipeline::Pipeline;
 use std::alloc::Global;
 
-/// Loads the pipeline of a text, with the programs that it names. docs/reference/formats.md describes the text.
+/// Loads the pipeline of a text, with the programs that it names. docs/reference/pipelines.md describes the text.
 ///
 /// # Errors
 ///

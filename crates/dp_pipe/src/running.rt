@@ -153,7 +153,8 @@ fn forward<K: Known, R: Feed, W: Sink, V: Watch>(
     ensures sound { IsOk result → AllSound R.is_broken ins.new × AllSound W.is_broken outs.new }
     ensures fared_readers { AllFared R.is_broken R.failures (failed_reader result) ins.old ins.new }
     ensures fared_writers { AllFared W.is_broken W.failures (failed_writer result) outs.old outs.new }
-    ensures shown { ShowsTurns V.sees watch.old watch.new engine.old engine.new result }
+    ensures shown { ShowsTurns V.sees watch.old watch.new engine.old engine.new (map (seen R.remaining R.calls) ins.old)
+        (map (seen R.remaining R.calls) ins.new) result }
 {
     read_headers(ins, inputs)?;
     let unit = unit_for(inputs.as_slice());
@@ -205,7 +206,8 @@ fn run_through<K: Known, R: Feed, W: Sink, V: Watch>(
         (transfer (map (seen R.remaining R.calls) ins.old) (map (seen R.remaining R.calls) ins.new)
         (map (seen W.contents W.calls) outs.old) (map (seen W.contents W.calls) outs.new)) inputs.new.items (spec.answer_of result)
         × spec.IsReportOf last inputs.new.items (spec.report_of result) }
-    ensures shown { (last : EngineState) × ShowsTurns V.sees watch.old watch.new engine last (spec.answer_of result)
+    ensures shown { (last : EngineState) × ShowsTurns V.sees watch.old watch.new engine last (map (seen R.remaining R.calls) ins.old)
+        (map (seen R.remaining R.calls) ins.new) (spec.answer_of result)
         × spec.IsReportOf last inputs.new.items (spec.report_of result) }
     ensures free { spec.AllFree engine.setting.env result }
     ensures sound { IsOk result → AllSound R.is_broken ins.new × AllSound W.is_broken outs.new }
@@ -299,7 +301,8 @@ fn answer<K: Known, R: Feed, W: Sink, V: Watch>(
     ensures fared_readers { AllFared R.is_broken R.failures (failed_reader (spec.answer_of result)) ins.old ins.new }
     ensures fared_writers { AllFared W.is_broken W.failures (failed_writer (spec.answer_of result)) outs.old outs.new }
     ensures shown { (spec.answer_of result ≡ Err RunCause.Memory) ⊎ (spec.answer_of result ≡ Err RunCause.NoRoom)
-        ⊎ WatchesRun V.sees watch.old watch.new pipeline pattern.items result }
+        ⊎ WatchesRun V.sees watch.old watch.new pipeline pattern.items (map (seen R.remaining R.calls) ins.old)
+        (map (seen R.remaining R.calls) ins.new) result }
     ensures plan { IsPlan pipeline }
 {
     let idle = idle_report(pipeline.env());
@@ -360,7 +363,8 @@ pub fn run_watched<K: Known, R: Feed, W: Sink, V: Watch>(
     ensures fared_writers { AllFared W.is_broken W.failures (failed_writer (spec.answer_of result)) outs.old outs.new }
     // The watcher is shown the turns of that run, and nothing else.
     ensures shown { (spec.answer_of result ≡ Err RunCause.Memory) ⊎ (spec.answer_of result ≡ Err RunCause.NoRoom)
-        ⊎ WatchesRun V.sees watch.old watch.new pipeline pattern.items result }
+        ⊎ WatchesRun V.sees watch.old watch.new pipeline pattern.items (map (seen R.remaining R.calls) ins.old)
+        (map (seen R.remaining R.calls) ins.new) result }
 {
     // The laws of such runs.
     runs_keep_safe::<Time>();

@@ -53,35 +53,26 @@ fn say_missing(err: &mut Text, file: &str, node: Entry, error: CountsError) {
     }
 }
 
-/// The reply that there are no counts, which is the report.
-fn refused(alloc: Global, err: Text) -> Reply {
-    Reply {
-        status: FAULT,
-        out: Text::new(alloc),
-        err,
-        is_json: false,
-    }
-}
-
 /// The counts of a node in a file.
 ///
 /// # Errors
 ///
 /// The reply if there are none: why not, and what helps.
 pub fn counts_in(alloc: Global, source: &Source, node: Entry) -> Result<Vec<ReadCount>, Reply> {
-    let mut err = Text::new(alloc);
+    let mut reply = Reply::new(alloc);
+    reply.status = FAULT;
     if let Some(file) = source.unread() {
-        Fault::of_unread(file).say(&mut err);
-        return Err(refused(alloc, err));
+        Fault::of_unread(file).say(&mut reply.err);
+        return Err(reply);
     }
     let mut name = Text::new(alloc);
     name.say(NodeName(node));
-    err.has_failed = name.has_failed;
+    reply.err.has_failed = name.has_failed;
     match counts_of(alloc, source.bytes.as_slice(), words_of(&name)) {
         Ok(steps) => Ok(steps),
         Err(error) => {
-            say_missing(&mut err, source.name.as_str(), node, error);
-            Err(refused(alloc, err))
+            say_missing(&mut reply.err, source.name.as_str(), node, error);
+            Err(reply)
         }
     }
 }

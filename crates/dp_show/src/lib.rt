@@ -1,22 +1,24 @@
 //! Shows programs and pipelines: a listing with what is known before each instruction, and pictures for `dot`.
 //!
 //! [`show`] takes what was read, judges the programs that are asked for, and returns a [`dp_console::Reply`]. [`counts_in`] reads the counts for a
-//! picture. No contract has the wording of a text: the tests compare them.
+//! picture. No contract has the wording of a text: the tests compare them. [`sizes_of`] returns how many bytes of a region each pool, ring and port
+//! takes; its contract says that they add up to what `need` of dp_engine returns. Tables and programs lie outside the region and are not counted.
 #![tactic(auto)]
 
 mod boxes;
 mod compile;
 mod counted;
-mod judging;
 mod listing;
 mod pipeline;
 mod program;
 mod rows;
 mod showing;
+mod size_table;
 mod sizes;
 mod texts;
 
 pub use compile::compile_reply;
 pub use counted::{Counted, counts_in};
 pub use showing::{Form, show};
-pub use sizes::say_sizes;
+pub use size_table::say_sizes;
+pub use sizes::{PoolSize, Sizes, sizes_of};

@@ -1,10 +1,10 @@
 //! Lists a program: each instruction, and what is known before it.
 
-use crate::judging::Judged;
 use crate::rows::say_row_after;
-use crate::texts::{Repeated, digits};
+use crate::texts::{Repeated, digits, is_refused_in};
 use dp_console::Text;
-use dp_words::Written;
+use dp_lang::Listed;
+use dp_verdict::Judged;
 use std::alloc::Global;
 
 /// The widths of a listing's columns: numbers, labels and instructions.
@@ -25,7 +25,7 @@ fn labels_width(labels: &[&str]) -> usize {
 }
 
 /// The widths of the columns for these instructions.
-fn widths_of(source: &[Written<'_>]) -> Widths {
+fn widths_of(source: &[Listed<'_>]) -> Widths {
     let mut widths = Widths {
         number: digits(source.len().saturating_sub(1)),
         labels: 0,
@@ -59,7 +59,7 @@ fn say_labels(out: &mut Text, labels: &[&str], width: usize) {
 }
 
 /// Says the number, the labels and the text of an instruction, each in its column.
-fn say_instruction(out: &mut Text, widths: Widths, number: usize, written: &Written<'_>) {
+fn say_instruction(out: &mut Text, widths: Widths, number: usize, written: &Listed<'_>) {
     let before = blanks(widths.number, digits(number));
     out.say(format_args!("{before}{number}  "));
     say_labels(out, written.labels.as_slice(), widths.labels);
@@ -69,12 +69,12 @@ fn say_instruction(out: &mut Text, widths: Widths, number: usize, written: &Writ
 
 /// Says the verdict on a program and a line for each instruction: its number, its labels and its text as the source has them, and what is known
 /// before it. The line of a refused one begins with `>`.
-pub fn say_listing(alloc: Global, out: &mut Text, judged: &Judged<'_>, source: &[Written<'_>]) {
+pub fn say_listing(alloc: Global, out: &mut Text, judged: &Judged<'_>, source: &[Listed<'_>]) {
     let (verdict, widths) = (judged.verdict, widths_of(source));
     out.say(format_args!("{verdict}\n"));
     let mut before = None;
     for (number, (written, row)) in source.iter().zip(judged.cert.rows()).enumerate() {
-        let is_refused = verdict.is_refused_in(number, number.saturating_add(1));
+        let is_refused = is_refused_in(verdict, number, number.saturating_add(1));
         out.say(if is_refused { "> " } else { "  " });
         say_instruction(out, widths, number, written);
         say_row_after(alloc, out, row, before);

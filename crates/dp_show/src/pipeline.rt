@@ -1,10 +1,10 @@
 //! Draws a pipeline for `dot`: its ports, programs, rings, tables and pools, and where packets go from each.
 
-use crate::judging::Judged;
 use crate::program::attributes;
 use crate::texts::Escaped;
 use dp_console::Text;
 use dp_model::{Entry, Env, Instr, Row};
+use dp_verdict::Judged;
 use std::fmt;
 
 /// What a program uses: the transmit list of a port, a ring, a pool or a table.
@@ -76,13 +76,13 @@ impl fmt::Display for ProgramName {
 
 /// Says the box of a node's program, and the arrow to it from its port or ring.
 fn say_program(out: &mut Text, node: &Judged<'_>) {
-    let (name, file) = (ProgramName(node.asked.node), Escaped(node.asked.program));
+    let (name, file) = (ProgramName(node.verdict.node), Escaped(node.file));
     let (verdict, count) = (node.verdict, node.program.instrs().len());
     let mark = attributes(true, verdict.refused.is_some());
     let ending = if count == 1 { "" } else { "s" };
     out.say(format_args!("  {name} [style=rounded, label=<<B>{file}</B><BR/>"));
     out.say(format_args!("{verdict}<BR/>{count} instruction{ending}>{mark}];\n"));
-    match node.asked.node {
+    match node.verdict.node {
         Entry::Port(port) => out.say(format_args!("  in{port} -> {name};\n")),
         Entry::Ring(ring) => out.say(format_args!("  ring{ring} -> {name};\n")),
     }
@@ -91,7 +91,7 @@ fn say_program(out: &mut Text, node: &Judged<'_>) {
 /// Says the arrows from a node's program to each port whose list it can put a packet into and to each ring, and dotted ones to the pools from which it
 /// takes buffers and the tables that it looks addresses up in.
 fn say_uses(out: &mut Text, env: &Env, node: &Judged<'_>) {
-    let name = ProgramName(node.asked.node);
+    let name = ProgramName(node.verdict.node);
     for number in 0..8u8 {
         for (place, word, style) in PLACES {
             if usize::from(number) < count_of(env, place) && is_used(node, place, number) {

@@ -3,11 +3,11 @@
 ghost use Rattle.std.specs.Prelude.{◌≤◌};
 
 use crate::boxes::Boxed;
-use crate::judging::Verdict;
 use crate::rows::row_text;
-use crate::texts::{Escaped, Repeated, digits, words_of};
+use crate::texts::{Escaped, Repeated, digits, is_refused_in, words_of};
 use dp_console::Text;
-use dp_words::Written;
+use dp_lang::Listed;
+use dp_verdict::Verdict;
 use std::alloc::Global;
 use std::fmt;
 
@@ -20,7 +20,7 @@ const ATTRIBUTES: &str = "  labelloc=t;\n  fontname=monospace;\n  \
 pub struct Drawing<'a, 't> {
     pub verdict: Verdict,
     /// The words of its source.
-    pub source: &'a [Written<'t>],
+    pub source: &'a [Listed<'t>],
     pub boxed: Boxed<'a>,
 }
 
@@ -36,7 +36,7 @@ pub fn attributes(is_live: bool, is_refused: bool) -> &'static str {
 }
 
 /// Says the labels of an instruction, each with a colon.
-fn say_labels(out: &mut Text, written: &Written<'_>) {
+fn say_labels(out: &mut Text, written: &Listed<'_>) {
     for label in written.labels.as_slice() {
         let label = Escaped(label);
         out.say(format_args!("<TR><TD COLSPAN=\"2\" ALIGN=\"LEFT\"><B>{label}:</B></TD></TR>\n"));
@@ -76,10 +76,7 @@ fn say_step(out: &mut Text, drawing: Drawing<'_, '_>, number: usize) {
         Some(written) => (Escaped(written.text), Comment(written.comment)),
         None => (Escaped(""), Comment("")),
     };
-    let is_refused = drawing
-        .verdict
-        .is_refused_in(number, number.saturating_add(1));
-    let color = if is_refused {
+    let color = if is_refused_in(drawing.verdict, number, number.saturating_add(1)) {
         " BGCOLOR=\"#ff9c9c\""
     } else {
         ""
@@ -105,7 +102,7 @@ fn say_box(alloc: Global, out: &mut Text, drawing: Drawing<'_, '_>, first: usize
     for number in first..end {
         say_step(out, drawing, number);
     }
-    let is_refused = drawing.verdict.is_refused_in(first, end);
+    let is_refused = is_refused_in(drawing.verdict, first, end);
     let mark = attributes(drawing.boxed.is_live(first), is_refused);
     out.say(format_args!("</TABLE>>{mark}];\n"));
 }

@@ -2,17 +2,17 @@
 
 use crate::boxes::Boxed;
 use crate::counted::{Counted, say_misfit};
-use crate::judging::{Judged, judge, judge_all};
 use crate::listing::say_listing;
 use crate::pipeline::say_pipeline;
 use crate::program::{Drawing, say_picture};
-use dp_console::{DONE, FAULT, REFUSED, Reply, Text, USAGE};
+use dp_console::{FAULT, REFUSED, Reply};
 use dp_counts::ReadCount;
+use dp_lang::listing_of;
 use dp_model::Entry;
-use dp_pipe::{NodeName, PipeError};
-use dp_sources::{Asked, Sources, Subject, fault_of, say_remedy};
-use dp_words::written_in;
-use std::alloc::Global;
+use dp_pipe::PipeError;
+use dp_sources::{Asked, MAX_NODES, Sources, Subject, entry_at};
+use dp_verdict::{Judged, judge, no_node, unloaded};
+use std::alloc::{AllocError, Global};
 
 /// How a program is shown.
 #[derive(Clone, Copy)]
@@ -26,25 +26,25 @@ pub enum Form<'a> {
     },
 }
 
-/// Says the picture of a program, and returns the status; 3 if its counts are of a program with another number of instructions, which is reported.
+/// Says the picture of a program. The status is 3 if its counts are of a program with another number of instructions, which is reported.
 fn say_boxes(
     alloc: Global,
     judged: &Judged<'_>,
     all: bool,
     counts: Option<Counted<'_>>,
-    out: &mut Text,
-    err: &mut Text,
-) -> Result<u8, PipeError> {
+    reply: &mut Reply,
+) -> Result<(), AllocError> {
     let instrs = judged.program.instrs();
     let steps: &[ReadCount] = match counts {
         Some(counted) if counted.steps.len() != instrs.len() => {
-            say_misfit(err, counted, judged.asked.node, instrs.len());
-            return Ok(FAULT);
+            say_misfit(&mut reply.err, counted, judged.verdict.node, instrs.len());
+            reply.status = FAULT;
+            return Ok(());
         }
         Some(counted) => counted.steps,
         None => &[],
     };
-    let source = written_in(alloc, judged.text)?;
+    let source = listing_of(alloc, judged.text)?;
     let drawing = Drawing {
         verdict: judged.verdict,
         source: source.as_slice(),
@@ -55,46 +55,55 @@ fn say_boxes(
             all,
         },
     };
-    say_picture(alloc, out, drawing);
-    Ok(judged.verdict.status())
+    say_picture(alloc, &mut reply.out, drawing);
+    Ok(())
 }
 
-/// Says the program of a node in this form, and returns the status.
+/// Sets the status if a program is refused.
+fn set_status(judged: &Judged<'_>, reply: &mut Reply) {
+    if judged.verdict.refused.is_some() {
+        reply.status = REFUSED;
+    }
+}
+
+/// Says the program of a node in this form.
 fn say_node(
     alloc: Global,
     subject: Subject<'_>,
     sources: &Sources,
     asked: Asked<'_>,
     form: Form<'_>,
-    out: &mut Text,
-    err: &mut Text,
-) -> Result<u8, PipeError> {
+    reply: &mut Reply,
+) -> Result<(), PipeError> {
     let judged = judge(alloc, sources, subject.env(), asked)?;
+    set_status(&judged, reply);
     match form {
-        Form::Picture { all, counts } => say_boxes(alloc, &judged, all, counts, out, err),
+        Form::Picture { all, counts } => say_boxes(alloc, &judged, all, counts, reply)?,
         Form::Listing => {
-            let source = written_in(alloc, judged.text)?;
-            say_listing(alloc, out, &judged, source.as_slice());
-            Ok(judged.verdict.status())
+            let source = listing_of(alloc, judged.text)?;
+            say_listing(alloc, &mut reply.out, &judged, source.as_slice());
         }
     }
+    Ok(())
 }
 
-/// Says the picture of the whole pipeline, and returns the status: 1 if a program is refused.
+/// Says the picture of the whole pipeline.
 fn say_all(
     alloc: Global,
     subject: Subject<'_>,
     sources: &Sources,
-    out: &mut Text,
-) -> Result<u8, PipeError> {
-    let nodes = judge_all(alloc, subject, sources)?;
-    say_pipeline(out, subject.env(), nodes.as_slice());
-    for node in nodes.as_slice() {
-        if node.verdict.refused.is_some() {
-            return Ok(REFUSED);
+    reply: &mut Reply,
+) -> Result<(), PipeError> {
+    let mut nodes = Vec::new(alloc);
+    for index in 0..MAX_NODES {
+        if let Some(asked) = subject.node(entry_at(index)) {
+            let judged = judge(alloc, sources, subject.env(), asked)?;
+            set_status(&judged, reply);
+            nodes.push(judged)?;
         }
     }
-    Ok(DONE)
+    say_pipeline(&mut reply.out, subject.env(), nodes.as_slice());
+    Ok(())
 }
 
 /// Shows the program of a node in this form; without a node, the picture of the pipeline. The status is 0; 1 if a program is refused; 2 if there
@@ -106,31 +115,16 @@ pub fn show(
     which: Option<Entry>,
     form: Form<'_>,
 ) -> Reply {
-    let (mut out, mut err) = (Text::new(alloc), Text::new(alloc));
+    let mut reply = Reply::new(alloc);
     let shown = match which {
-        None => say_all(alloc, subject, sources, &mut out),
+        None => say_all(alloc, subject, sources, &mut reply),
         Some(node) => match subject.node(node) {
-            Some(asked) => say_node(alloc, subject, sources, asked, form, &mut out, &mut err),
-            None => {
-                let name = NodeName(node);
-                err.say(format_args!("error: the pipeline has no {name}\n"));
-                Ok(USAGE)
-            }
+            Some(asked) => say_node(alloc, subject, sources, asked, form, &mut reply),
+            None => return no_node(alloc, node),
         },
     };
-    let status = match shown {
-        Ok(status) => status,
-        Err(error) => {
-            let fault = fault_of(error, subject, sources);
-            fault.say(&mut err);
-            say_remedy(alloc, subject, sources, error, &mut err);
-            fault.status()
-        }
-    };
-    Reply {
-        status,
-        out,
-        err,
-        is_json: false,
+    match shown {
+        Ok(()) => reply,
+        Err(error) => unloaded(alloc, error, subject, sources, false),
     }
 }

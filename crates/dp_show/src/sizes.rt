@@ -1,71 +1,134 @@
-//! The table of what takes the bytes of a region.
+//! The bytes of each zone that an engine takes.
 
-use crate::texts::words_of;
-use dp_console::Text;
-use dp_engine::need;
-use dp_model::Env;
-use dp_sizes::sizes_of;
-use std::alloc::Global;
-use std::fmt::Display;
+ghost use Rattle.std.specs.Prelude.{◌≡◌, ◌+◌, ◌^◌, ◌≤◌, true, length, map};
+ghost use Rattle.std.specs.List.{AllByRecursion};
+ghost use Rattle.dp_model.specs.Limits.{max_buffers, max_room, max_ring};
+ghost use Rattle.dp_model.specs.Environments.{pool_fits};
+ghost use Rattle.dp_ring.specs.Rings.{IsCount};
+ghost use Rattle.dp_engine.specs.Needs.{power_above, zone_bytes, objects_len, queue_len, ring_bytes, ring_counts, list_counts, bytes_needed};
+ghost use Rattle.dp_show.specs.Sizes as spec;
 
-/// Says a line: the pool, ring or port, what it has, and the bytes of that.
-fn say_part<T: Display + Drop>(
-    alloc: Global,
-    out: &mut Text,
-    kind: &str,
-    number: usize,
-    has: T,
-    bytes: u64,
-) {
-    let mut part = Text::new(alloc);
-    part.say(has);
-    out.has_failed |= part.has_failed;
-    let words = words_of(&part);
-    out.say(format_args!("{kind} {number}  {words:<34}{bytes:>12}\n"));
+use arrayvec::ArrayVec;
+use dp_heap::HEADER_LEN;
+use dp_mbuf::HEADER_SIZE;
+use dp_model::{Env, PoolSpec, PortSpec, RingSpec};
+use dp_region::CACHE_LINE;
+
+/// The bytes that a pool takes: those of the zone of its buffers, and those of the zone of its queue.
+#[derive(Clone, Copy, Debug, Default, PartialEq, Eq)]
+pub struct PoolSize {
+    pub buffers: u64,
+    pub queue: u64,
 }
 
-/// Says a line of a sum.
-fn say_sum(out: &mut Text, name: &str, bytes: u64) {
-    out.say(format_args!("{name:<42}{bytes:>12}\n"));
+/// The bytes that each pool, each ring and each port's transmit list takes, with the headers of their zones.
+#[derive(Drop)]
+pub struct Sizes {
+    pub pools: ArrayVec<PoolSize, 8>,
+    pub rings: ArrayVec<u64, 8>,
+    pub lists: ArrayVec<u64, 8>,
 }
 
-/// Says the lines of the pools, the rings and the ports.
-fn say_parts(alloc: Global, out: &mut Text, env: &Env) {
-    let sizes = sizes_of(env);
-    for (k, (pool, size)) in env.pools().iter().zip(sizes.pools.as_slice()).enumerate() {
-        let (count, room) = (pool.count, pool.room);
-        let buffers = format_args!("{count} buffers with room {room}");
-        say_part(alloc, out, "pool", k, buffers, size.buffers);
-        say_part(
-            alloc,
-            out,
-            "pool",
-            k,
-            "the queue of free buffers",
-            size.queue,
-        );
-    }
-    for (k, (ring, bytes)) in env.rings().iter().zip(sizes.rings.as_slice()).enumerate() {
-        let count = ring.count;
-        say_part(alloc, out, "ring", k, format_args!("{count} slots"), *bytes);
-    }
-    for (k, (port, bytes)) in env.ports().iter().zip(sizes.lists.as_slice()).enumerate() {
-        let count = port.queue;
-        let slots = format_args!("transmit list of {count} slots");
-        say_part(alloc, out, "port", k, slots, *bytes);
+/// The bytes that a zone of this length takes.
+fn zone_bytes(len: u64) -> u64
+    requires { len ≤ 2 ^ 40 }
+    ensures { result ≡ zone_bytes len }
+{
+    u64::from(HEADER_LEN) + len.next_multiple_of(u64::from(CACHE_LINE))
+}
+
+/// The smallest power of two above `count`.
+#[tactic(auto, using(dp_engine::proofs::Powers::power_is))]
+fn power_above(count: u32) -> u64
+    requires { count ≤ max_buffers }
+    ensures value { result ≡ power_above count }
+    ensures bound { result ≤ 131072 }
+{
+    (u64::from(count) + 1).next_power_of_two()
+}
+
+/// The length of the zone of a pool's buffers.
+fn objects_len(pool: PoolSpec) -> u64
+    requires { (pool.count ≤ max_buffers) × (pool.room ≤ max_room) }
+    ensures value { result ≡ objects_len pool }
+    ensures bound { result ≤ 277000000 }
+{
+    let size = (pool.room + HEADER_SIZE).next_multiple_of(CACHE_LINE);
+    u64::from(pool.count) * u64::from(size)
+}
+
+/// The bytes that a pool takes.
+fn pool_size(pool: PoolSpec) -> PoolSize
+    requires { (pool.count ≤ max_buffers) × (pool.room ≤ max_room) }
+    ensures { result ≡ spec.pool_size pool }
+{
+    PoolSize {
+        buffers: zone_bytes(objects_len(pool)),
+        queue: zone_bytes(4 * power_above(pool.count)),
     }
 }
 
-/// Says a table with a line for each zone that the engine of an environment takes, the sum of these lines, the size of the region and what is left
-/// of it, or missing, all in bytes.
-pub fn say_sizes(alloc: Global, env: &Env, region: u32, out: &mut Text) {
-    let (needed, region) = (need(env), u64::from(region));
-    say_parts(alloc, out, env);
-    say_sum(out, "sum", needed);
-    say_sum(out, "region", region);
-    if needed <= region {
-        say_sum(out, "left", region - needed);
-    } else {
-        say_sum(out, "missing", needed - region);
+/// The bytes that a ring with this number of slots takes.
+fn ring_size(count: u32) -> u64
+    ensures { result ≡ ring_bytes count }
+{
+    zone_bytes(4 * u64::from(count))
+}
+
+/// The bytes that pools take.
+fn pool_sizes(pools: &[PoolSpec]) -> ArrayVec<PoolSize, 8>
+    requires few { length pools.now ≤ 8 }
+    requires fit { AllByRecursion (λ s. pool_fits s ≡ true) pools.now }
+    ensures { result.items ≡ map spec.pool_size pools.now }
+{
+    let mut sizes = ArrayVec::new();
+    for pool in pools.iter() {
+        sizes.push(pool_size(*pool));
     }
+    sizes
+}
+
+/// The bytes that rings take.
+fn ring_sizes(rings: &[RingSpec]) -> ArrayVec<u64, 8>
+    requires few { length rings.now ≤ 8 }
+    ensures { result.items ≡ map (λ r. ring_bytes r.count) rings.now }
+{
+    let mut sizes = ArrayVec::new();
+    for ring in rings.iter() {
+        sizes.push(ring_size(ring.count));
+    }
+    sizes
+}
+
+/// The bytes that the transmit lists of ports take.
+fn list_sizes(ports: &[PortSpec]) -> ArrayVec<u64, 8>
+    requires few { length ports.now ≤ 8 }
+    ensures { result.items ≡ map (λ p. ring_bytes p.queue) ports.now }
+{
+    let mut sizes = ArrayVec::new();
+    for port in ports.iter() {
+        sizes.push(ring_size(port.queue));
+    }
+    sizes
+}
+
+/// The bytes that each pool, ring and port of an environment takes.
+#[tactic(auto, using(dp_engine::specs::Laws::known))]
+fn each_of(env: &Env) -> Sizes
+    ensures { spec.AreSizes env.now result }
+{
+    Sizes {
+        pools: pool_sizes(env.pools()),
+        rings: ring_sizes(env.rings()),
+        lists: list_sizes(env.ports()),
+    }
+}
+
+/// The bytes that each pool, ring and port of an environment takes. Together they are what `need` of dp_engine returns.
+#[tactic(auto, using(crate::proofs::Sums::sizes_add_up))]
+pub fn sizes_of(env: &Env) -> Sizes
+    ensures each { spec.AreSizes env.now result }
+    ensures sum { spec.sum_of result ≡ bytes_needed env.now }
+{
+    each_of(env)
 }

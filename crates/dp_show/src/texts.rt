@@ -1,6 +1,7 @@
 //! Pieces of texts.
 
 use dp_console::Text;
+use dp_verdict::Verdict;
 use std::fmt;
 
 /// A text, as far as it has grown.
@@ -11,6 +12,14 @@ pub fn words_of(text: &Text) -> &str {
 /// Whether a text has no words yet.
 pub fn is_empty(text: &Text) -> bool {
     text.bytes.is_empty()
+}
+
+/// Whether a program is refused at one of these labels.
+pub fn is_refused_in(verdict: Verdict, first: usize, end: usize) -> bool {
+    match verdict.refused {
+        Some(at) => first <= usize::from(at.label) && usize::from(at.label) < end,
+        None => false,
+    }
 }
 
 /// The text of a character inside an HTML-like label: a newline ends a line, with what is before it to the left.

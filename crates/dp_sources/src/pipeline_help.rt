@@ -218,8 +218,11 @@ fn line_of_offset(text: &str, offset: usize) -> Option<SourceLine<'_>> {
 }
 
 /// Says which line of a pipeline file is at fault, and what helps, for a text that was refused with this error. Says nothing if the error is not in the
-/// text alone, or memory runs out.
+/// text alone, or memory ran out.
 pub fn say_pipeline_help(alloc: Global, file: &str, text: &[u8], error: PipeError, err: &mut Text) {
+    if let PipeError::Memory = error {
+        return;
+    }
     let Ok(text) = std::str::from_utf8(text) else {
         return say_place(err, file, None, "a pipeline file is UTF-8");
     };

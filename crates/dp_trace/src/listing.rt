@@ -3,7 +3,6 @@
 use dp_lang::print;
 use dp_model::{Entry, Instr};
 use dp_pipe::Pipeline;
-use dp_words::instructions;
 use std::alloc::{AllocError, Global};
 
 /// A label of a program's source, and the number of the instruction after it.
@@ -33,6 +32,14 @@ impl NodeTexts<'_> {
         }
         None
     }
+}
+
+/// Splits a program's printed text into its instructions, without the lines of labels.
+fn instructions(alloc: Global, printed: &str) -> Result<Vec<&str>, AllocError> {
+    printed
+        .lines()
+        .filter(|line| !line.ends_with(':'))
+        .collect(alloc)
 }
 
 /// The instructions of a node's program.

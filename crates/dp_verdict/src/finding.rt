@@ -20,6 +20,8 @@ pub struct Why<'a> {
     /// All instructions of the text.
     pub listing: Vec<Listed<'a>>,
     pub reason: Reason,
+    /// Whether the certificate was inferred.
+    pub inferred: bool,
 }
 
 /// Where a program is refused, and by which rule.
@@ -71,12 +73,10 @@ impl fmt::Display for Verdict {
     }
 }
 
-/// A part of a finding that is displayed.
+/// A line of an explanation.
 #[derive(Clone, Copy)]
 enum Part {
-    Heading,
-    Node,
-    Rule,
+    Verdict(Verdict),
     Place,
     States,
     Known,
@@ -84,67 +84,58 @@ enum Part {
     Help,
 }
 
-/// A part of a finding, after these words.
+/// A line of an explanation, after these words.
 #[derive(Clone, Copy)]
 struct Piece<'a> {
-    finding: &'a Finding<'a>,
+    why: &'a Why<'a>,
     begins: &'static str,
     part: Part,
 }
 
-/// Whether the program was judged by an inferred certificate.
-fn is_inferred(verdict: Verdict) -> bool {
-    match verdict.refused {
-        Some(RefusedAt { given, .. }) => !given,
-        None => false,
-    }
-}
-
-/// Writes a part of why a program is refused.
-fn write_why<W: fmt::Write>(
-    f: &mut fmt::Formatter<W>,
-    part: Part,
-    why: &Why<'_>,
-    inferred: bool,
-) -> fmt::Result {
-    let (reason, source) = (why.reason, why.listing.as_slice());
-    match part {
-        Part::States => write!(f, "{}", RuleText(reason.rule())),
-        Part::Known => write!(f, "{}", KnownText(reason)),
-        Part::Wanted => write!(f, "{}", WantedText { reason, source }),
-        Part::Help => write!(f, "{}", HintText { reason, inferred }),
-        _ => {
-            let SourceLine { number, text } = why.line;
-            let file = why.file;
-            write!(f, "{file}:{number}: {text}")
-        }
-    }
-}
-
 impl fmt::Display for Piece<'_> {
     fn fmt<W: fmt::Write>(&self, f: &mut fmt::Formatter<W>) -> fmt::Result {
-        let verdict = self.finding.verdict;
-        let begins = self.begins;
+        let (begins, why) = (self.begins, self.why);
+        let (reason, source, inferred) = (why.reason, why.listing.as_slice(), why.inferred);
         write!(f, "{begins}")?;
-        match (self.part, verdict.refused, &self.finding.why) {
-            (Part::Heading, _, _) => write!(f, "{verdict}"),
-            (Part::Node, _, _) => write!(f, "{}", NodeName(verdict.node)),
-            (Part::Rule, Some(refused), _) => write!(f, "J{}", refused.rule),
-            (part, _, Some(why)) => write_why(f, part, why, is_inferred(verdict)),
-            _ => Ok(()),
+        match self.part {
+            Part::Verdict(verdict) => write!(f, "{verdict}"),
+            Part::Place => write!(f, "{}:{}: {}", why.file, why.line.number, why.line.text),
+            Part::States => write!(f, "{}", RuleText(reason.rule())),
+            Part::Known => write!(f, "{}", KnownText(reason)),
+            Part::Wanted => write!(f, "{}", WantedText { reason, source }),
+            Part::Help => write!(f, "{}", HintText { reason, inferred }),
         }
     }
 }
 
 /// The lines of an explanation: what each begins with, and its part.
-const LINES: [(&str, Part); 6] = [
-    ("", Part::Heading),
-    ("", Part::Place),
-    ("  ", Part::States),
-    ("  known:  ", Part::Known),
-    ("  wanted: ", Part::Wanted),
-    ("  help:   ", Part::Help),
-];
+fn lines_of(verdict: Verdict) -> [(&'static str, Part); 6] {
+    [
+        ("", Part::Verdict(verdict)),
+        ("", Part::Place),
+        ("  ", Part::States),
+        ("  known:  ", Part::Known),
+        ("  wanted: ", Part::Wanted),
+        ("  help:   ", Part::Help),
+    ]
+}
+
+/// Writes an explanation.
+fn write_lines<W: fmt::Write>(
+    f: &mut fmt::Formatter<W>,
+    verdict: Verdict,
+    why: &Why<'_>,
+) -> fmt::Result {
+    for (begins, part) in lines_of(verdict) {
+        let piece = Piece {
+            why: &*why,
+            begins,
+            part,
+        };
+        write!(f, "{piece}\n")?;
+    }
+    Ok(())
+}
 
 /// The line with the verdict, or the lines of an explanation.
 impl fmt::Display for Finding<'_> {
@@ -153,15 +144,11 @@ impl fmt::Display for Finding<'_> {
     ghost output = { λ finding. finding_text finding };
 
     fn fmt<W: fmt::Write>(&self, f: &mut fmt::Formatter<W>) -> fmt::Result {
-        if self.why.is_none() {
-            let verdict = self.verdict;
-            return write!(f, "{verdict}\n");
+        let verdict = self.verdict;
+        match &self.why {
+            None => write!(f, "{verdict}\n"),
+            Some(why) => write_lines(f, verdict, why),
         }
-        for (begins, part) in &LINES {
-            let piece = (&*self).piece(*begins, *part);
-            write!(f, "{piece}\n")?;
-        }
-        Ok(())
     }
 }
 
@@ -169,22 +156,31 @@ impl fmt::Display for Finding<'_> {
 #[derive(Clone, Copy)]
 enum Value<'a> {
     Plain(Item<'a>),
-    Shown(Piece<'a>),
+    Node(Entry),
+    Rule(u8),
+    /// A line of an explanation without the words before it.
+    Line(&'a Why<'a>, Part),
     /// The lines of an explanation.
-    Lines(&'a Finding<'a>),
+    Lines(&'a Why<'a>, Verdict),
 }
 
 impl Described for Value<'_> {}
 
 impl Serialize for Value<'_> {
     fn serialize<S: Serializer>(&self, out: &mut S) -> Result<(), S::Error> {
-        match self {
+        match *self {
             Value::Plain(item) => item.serialize(out),
-            Value::Shown(piece) => out.collect_str(piece),
-            Value::Lines(finding) => {
+            Value::Node(node) => out.collect_str(&NodeName(node)),
+            Value::Rule(rule) => out.collect_str(&format_args!("J{rule}")),
+            Value::Line(why, part) => out.collect_str(&Piece {
+                why,
+                begins: "",
+                part,
+            }),
+            Value::Lines(why, verdict) => {
                 out.begin_seq(None)?;
-                for (begins, part) in &LINES {
-                    out.collect_str(&(&**finding).piece(*begins, *part))?;
+                for (begins, part) in lines_of(verdict) {
+                    out.collect_str(&Piece { why, begins, part })?;
                 }
                 out.end_seq()
             }
@@ -193,21 +189,8 @@ impl Serialize for Value<'_> {
 }
 
 /// The members of the document of a node, sorted.
-const MEMBERS: [&str; 13] = [
-    "comment",
-    "file",
-    "help",
-    "instruction",
-    "known",
-    "label",
-    "line",
-    "node",
-    "reason",
-    "rule",
-    "states",
-    "verdict",
-    "wanted",
-];
+const MEMBERS: &str =
+    "comment file help instruction known label line node reason rule states verdict wanted";
 
 impl<'a> Finding<'a> {
     /// A verdict alone.
@@ -217,52 +200,42 @@ impl<'a> Finding<'a> {
         Finding { verdict, why: None }
     }
 
-    /// A part, after these words.
-    fn piece(&'a self, begins: &'static str, part: Part) -> Piece<'a> {
-        Piece {
-            finding: self,
-            begins,
-            part,
-        }
-    }
-
-    /// The value of a member about a refusal.
-    fn value_of_why(&'a self, why: &'a Why<'a>, name: &str) -> Option<Value<'a>> {
-        let item = match name {
-            "comment" => match why.line.comment() {
-                Some(comment) => Item::Text(comment),
-                None => Item::Null,
-            },
-            "file" => Item::Text(why.file),
-            "instruction" => Item::Text(why.line.code()),
-            "line" => Item::Number(why.line.number as u64),
-            "reason" => return Some(Value::Lines(self)),
-            _ => {
-                let part = match name {
-                    "help" => Part::Help,
-                    "known" => Part::Known,
-                    "states" => Part::States,
-                    _ => Part::Wanted,
-                };
-                return Some(Value::Shown(self.piece("", part)));
-            }
-        };
-        Some(Value::Plain(item))
-    }
-
     /// The value of a member, if this finding has it.
     fn value(&'a self, name: &str) -> Option<Value<'a>> {
-        match (name, self.verdict.refused) {
-            ("node", _) => Some(Value::Shown(self.piece("", Part::Node))),
+        let verdict = self.verdict;
+        match (name, verdict.refused) {
+            ("node", _) => Some(Value::Node(verdict.node)),
             ("verdict", None) => Some(Value::Plain(Item::Text("accepted"))),
             ("verdict", Some(at)) => Some(Value::Plain(Item::Text(verdict_word(at.given)))),
             ("label", Some(at)) => Some(Value::Plain(Item::Number(u64::from(at.label)))),
-            ("rule", Some(_)) => Some(Value::Shown(self.piece("", Part::Rule))),
+            ("rule", Some(at)) => Some(Value::Rule(at.rule)),
             _ => match &self.why {
-                Some(why) => self.value_of_why(why, name),
+                Some(why) => why.value(verdict, name),
                 None => None,
             },
         }
+    }
+}
+
+impl<'a> Why<'a> {
+    /// The value of a member about a refusal.
+    fn value(&'a self, verdict: Verdict, name: &str) -> Option<Value<'a>> {
+        let item = match name {
+            "comment" => match self.line.comment() {
+                Some(comment) => Item::Text(comment),
+                None => Item::Null,
+            },
+            "file" => Item::Text(self.file),
+            "instruction" => Item::Text(self.line.code()),
+            "line" => Item::Number(self.line.number as u64),
+            "reason" => return Some(Value::Lines(self, verdict)),
+            "help" => return Some(Value::Line(self, Part::Help)),
+            "known" => return Some(Value::Line(self, Part::Known)),
+            "states" => return Some(Value::Line(self, Part::States)),
+            "wanted" => return Some(Value::Line(self, Part::Wanted)),
+            _ => return None,
+        };
+        Some(Value::Plain(item))
     }
 }
 
@@ -271,7 +244,7 @@ impl Described for Finding<'_> {}
 impl Serialize for Finding<'_> {
     fn serialize<S: Serializer>(&self, out: &mut S) -> Result<(), S::Error> {
         out.begin_map(None)?;
-        for name in &MEMBERS {
+        for name in MEMBERS.split(' ') {
             if let Some(value) = (&*self).value(name) {
                 out.key(name)?;
                 value.serialize(out)?;

@@ -1,16 +1,16 @@
 //! The verdict on each node by itself, with the reason if its program is refused.
 
-ghost use Rattle.std.specs.Prelude.{◌≡◌, ◌⊎◌, [], IfErr, IfOk, None, Some};
+ghost use Rattle.std.specs.Prelude.{◌≡◌, ◌⊎◌, [], IfErr, IfOk, None, Some, option_map};
 ghost use Rattle.dp_sources.specs.Sources.{files_of};
 ghost use Rattle.dp_sources.specs.Subjects.{asked_node};
-ghost use Rattle.dp_verdict.specs.Judging.{AreFound, Explains, HasNoRows, IsCertFor, IsFinding, IsJudged, IsNext, IsUnjudged, SaysExplained, SaysFound};
+ghost use Rattle.dp_verdict.specs.Judging.{AreFound, Explains, HasNoRows, IsCertFor, IsFinding, IsNext, IsUnjudged, SaysExplained, SaysFound, refused_for};
 ghost use Rattle.dp_verdict.specs.Reports.{findings_of};
 
 use crate::checks::no_node;
 use crate::finding::{Finding, RefusedAt, Verdict, Why};
 use crate::report::{Report, reply_of};
 use dp_cert::Cert;
-use dp_check::{Diagnosis, diagnose};
+use dp_check::{Diagnosis, Reason, diagnose};
 use dp_console::Reply;
 use dp_infer::attempt;
 use dp_lang::{Program, SourceLine, listing_of};
@@ -45,46 +45,92 @@ fn cert_for(
     }
 }
 
-/// Why a node's program is refused; nothing if it is accepted.
+/// A node's program, judged.
+#[derive(Drop)]
+pub struct Judged<'a> {
+    /// The name of the program's file.
+    pub file: &'a str,
+    /// The program's text.
+    pub text: &'a [u8],
+    pub program: Program,
+    /// The given certificate; or the one with which inference ends, whether the program is accepted with it or not.
+    pub cert: Cert,
+    pub verdict: Verdict,
+    /// Why it is refused, if it is.
+    pub reason: Option<Reason>,
+}
+
+/// Where and why a program is refused, if it is.
+fn refused_for(
+    asked: Asked<'_>,
+    diagnosis: Option<Diagnosis>,
+) -> (Option<RefusedAt>, Option<Reason>)
+    ensures { result.0 ≡ option_map (refused_for (asked_node asked.entry).cert) diagnosis }
+{
+    match diagnosis {
+        Some(Diagnosis { label, reason }) => {
+            let at = RefusedAt {
+                given: asked.cert.is_some(),
+                label,
+                rule: reason.rule().number(),
+            };
+            (Some(at), Some(reason))
+        }
+        None => (None, None),
+    }
+}
+
+/// Judges a node's program.
 ///
 /// # Errors
 ///
 /// `File`, `Asm` or `BadCert` if there is no program or certificate to judge, and `Memory`.
-pub fn judge(
+pub fn judge<'a>(
     alloc: Global,
-    sources: &Sources,
+    sources: &'a Sources,
     env: &Env,
-    asked: Asked<'_>,
-) -> Result<Option<Diagnosis>, PipeError>
-    ensures judged { IfOk result (IsJudged (Some (files_of sources.now)) env.now (asked_node asked.entry)) }
+    asked: Asked<'a>,
+) -> Result<Judged<'a>, PipeError>
+    ensures judged { IfOk result (λ judged. IsFinding (Some (files_of sources.now)) env.now (asked_node asked.entry) judged.verdict) }
     ensures fails { IfErr result (IsUnjudged (Some (files_of sources.now)) (asked_node asked.entry)) }
 {
     let program = program_of(alloc, sources, asked)?;
     let cert = cert_for(alloc, sources, env, asked, &program)?;
-    Ok(diagnose(&program, &cert, env, asked.node))
+    let diagnosis = diagnose(&program, &cert, env, asked.node);
+    let (refused, reason) = refused_for(asked, diagnosis);
+    Ok(Judged {
+        file: asked.program,
+        text: sources.get(asked.program).unwrap_or(&[]),
+        program,
+        cert,
+        verdict: Verdict {
+            node: asked.node,
+            refused,
+        },
+        reason,
+    })
 }
 
-/// What a program is refused for, with the line of its text.
-fn why_of<'a>(
-    alloc: Global,
-    file: &'a str,
-    text: &'a [u8],
-    diagnosis: Diagnosis,
-) -> Result<Why<'a>, AllocError> {
-    let listing = listing_of(alloc, text)?;
-    let line = match listing.get(usize::from(diagnosis.label)) {
+/// What a program is refused for, with the line of its text; nothing if it is accepted.
+fn why_of<'a>(alloc: Global, judged: &Judged<'a>) -> Result<Option<Why<'a>>, AllocError> {
+    let (Some(at), Some(reason)) = (judged.verdict.refused, judged.reason) else {
+        return Ok(None);
+    };
+    let listing = listing_of(alloc, judged.text)?;
+    let line = match listing.get(usize::from(at.label)) {
         Some(listed) => listed.line,
         None => SourceLine {
             number: 0,
             text: "",
         },
     };
-    Ok(Why {
-        file,
+    Ok(Some(Why {
+        file: judged.file,
         line,
         listing,
-        reason: diagnosis.reason,
-    })
+        reason,
+        inferred: !at.given,
+    }))
 }
 
 /// The verdict on a node.
@@ -97,29 +143,12 @@ fn finding_of<'a>(
     ensures judged { IfOk result (λ finding. IsFinding (Some (files_of sources.now)) env.now (asked_node asked.entry) finding.verdict) }
     ensures fails { IfErr result (IsUnjudged (Some (files_of sources.now)) (asked_node asked.entry)) }
 {
-    let node = asked.node;
-    match judge(alloc, sources, env, asked)? {
-        None => Ok(Finding::plain(Verdict {
-            node,
-            refused: None,
-        })),
-        Some(diagnosis) => {
-            let text = sources.get(asked.program).unwrap_or(&[]);
-            let why = why_of(alloc, asked.program, text, diagnosis)?;
-            let refused = RefusedAt {
-                given: asked.cert.is_some(),
-                label: diagnosis.label,
-                rule: diagnosis.reason.rule().number(),
-            };
-            Ok(Finding {
-                verdict: Verdict {
-                    node,
-                    refused: Some(refused),
-                },
-                why: Some(why),
-            })
-        }
-    }
+    let judged = judge(alloc, sources, env, asked)?;
+    let why = why_of(alloc, &judged)?;
+    Ok(Finding {
+        verdict: judged.verdict,
+        why,
+    })
 }
 
 /// Adds the verdict on the node with this entry, if there is one.
@@ -215,22 +244,6 @@ fn said_findings(
     reply
 }
 
-/// The verdict on one node, if it is there.
-fn explain_node(
-    alloc: Global,
-    subject: Subject<'_>,
-    sources: &Sources,
-    node: Entry,
-    is_json: bool,
-) -> Reply
-    ensures { SaysExplained (Some (files_of sources.now)) subject.entry (Some node) result }
-{
-    match subject.node(node) {
-        Some(_) => said_findings(alloc, subject, sources, Some(node), is_json),
-        None => no_node(alloc, node),
-    }
-}
-
 /// `dpv explain` and `dpv explain-one`: the verdicts on all nodes, or on one of them, with the reason for each that is refused. The status is 1 if one
 /// is refused, and 2 if there is no such node.
 pub fn explain(
@@ -243,7 +256,7 @@ pub fn explain(
     ensures { SaysExplained (Some (files_of sources.now)) subject.entry which result }
 {
     match which {
-        Some(node) => explain_node(alloc, subject, sources, node, is_json),
-        None => said_findings(alloc, subject, sources, None, is_json),
+        Some(node) if subject.node(node).is_none() => no_node(alloc, node),
+        _ => said_findings(alloc, subject, sources, which, is_json),
     }
 }

@@ -1,8 +1,8 @@
 //! The verdicts on the nodes of a pipeline, or on one program: accepted, refused with the reason, or without a certificate.
 //!
-//! [`check_text`] loads a pipeline, and [`explain`] judges each node by itself. Both give a [`Report`]: a [`Finding`] for each node, and the fault that
-//! ended the command, if one did. [`reply_of`] says it as text or as a JSON document. [`infer`] and [`infer_one`] give the certificate of a program.
-//! Nothing here reads a file or prints: all texts are [`Sources`](dp_sources::Sources), and a reply is printed by its caller.
+//! [`check_text`] loads a pipeline, and [`explain`] judges each node by itself ([`judge`]). Both give a [`Report`]: a [`Finding`] for each node, and
+//! the fault that ended the command, if one did. [`reply_of`] says it as text or as a JSON document. [`infer`] and [`infer_one`] give the certificate
+//! of a program. Nothing here reads a file or prints: all texts are [`Sources`](dp_sources::Sources), and a reply is printed by its caller.
 #![tactic(auto)]
 
 mod checks;
@@ -14,5 +14,5 @@ mod report;
 pub use checks::{check, check_text, misread, no_node, unloaded};
 pub use finding::{Finding, RefusedAt, Verdict, Why};
 pub use inferring::{infer, infer_one};
-pub use judging::{explain, judge};
+pub use judging::{Judged, explain, judge};
 pub use report::{Report, failed, reply_of};

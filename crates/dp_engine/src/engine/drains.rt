@@ -17,6 +17,7 @@ use dp_pcap::{Sink, Time, Unit};
 impl<K: Known> Engine<K> {
     /// Writes the packets of a port's transmit list as records of that time, first to last, in the format of classic pcap 2.4, and frees them, even
     /// if the writer fails. Returns how many records were written; an error has how many were written whole before the writer failed.
+    #[inline(always)]
     pub fn drain<W: Sink>(
         &mut self,
         port: u8,

@@ -16,7 +16,7 @@ ghost use Rattle.dp_engine.specs.Drains.{record_of, AtPacket, Written, WrotePart
 use crate::machine::Machine;
 use crate::machine::packets::handle_in;
 use crate::machine::register::{Register, one_packet};
-use crate::put::put_packet;
+use crate::put::put_and_free;
 use dp_model::{Packet as Handle, PacketRegister, Queue};
 use dp_pcap::{PcapError, Sink, Time, Unit};
 
@@ -112,12 +112,7 @@ impl Machine {
             self.new ≡ moved (with_queue (Tx port) packets self.old.state) self.old }
     {
         match self.queues.pop(Queue::Tx(port)) {
-            Some(packet) => {
-                let handle = Handle::of(packet);
-                let outcome = put_packet(&self.mbufs, handle, time, unit, w);
-                self.mbufs.free(handle);
-                outcome
-            }
+            Some(packet) => put_and_free(&mut self.mbufs, Handle::of(packet), time, unit, w),
             None => unreachable!(),
         }
     }
@@ -134,6 +129,7 @@ impl Machine {
 
     // Writes the records of a transmit list, first to last, and frees its packets, also those after a failure. Returns how many were written whole,
     // and whether all were.
+    #[inline(always)]
     pub(crate) fn drain_list<W: Sink>(
         &mut self,
         port: u8,

@@ -18,6 +18,7 @@ returns-in-Ok c =
       subst (λ o. PassAnswers o c.args.host.now.missing (Some e') c.args.port c.args.time c.args.frame.now
           (record { records = c.args.records.now; bytes = c.args.bytes.now }) (record { records = records; bytes = bytes }) c.room_of.result
           c.outcome_number.result) (sym c.in-Some.is) (inl (record {
+            taken = c.in-Ok.ensures.taken;
             turn = turn;
             number = c.outcome_number.ensures;
             passes = subst (Passes e e' c.args.port c.args.frame.now turn c.args.time records bytes) (sym size) p;

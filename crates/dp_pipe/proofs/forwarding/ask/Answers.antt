@@ -1,64 +1,76 @@
 -- `ask`: an input at a record, at its end, or at a fault.
 use Rattle.std.proofs.Common.{ap, refl, ◌∙◌, Ok}
-use Rattle.dp_pipe.specs.declared.forwarding.RunCause.TheVariants.{Out}
 use Rattle.dp_pipe.proofs.Following.{drained_ok, stopped_err}
-use Rattle.dp_pipe.proofs.Watched.{shown_drained, shown_stopped}
 use Rattle.dp_pipe.proofs.forwarding.ask.Goals as goal
 
 pub returns-in-Ok-clause-step : goal.returns-in-Ok-clause-step
-returns-in-Ok-clause-step g c goes = record {
-  next = c.next_turn.result;
-  engine = c.next_turn.new.engine;
-  read = c.next_turn.ensures.turn;
-  pulls = c.next_turn.ensures.counted;
-  in_range = c.next_turn.ensures.in_range;
-  moves = c.next_turn.ensures.source;
-  follows = rw (c.in-Ok-Record.is ∙ ap Ok c.in-Ok-Record.field-0-is)
-      (goes, drained_ok c.drain_all.result _ c.in-Ok.is c.drain_all.ensures.ok);
-}
+returns-in-Ok-clause-step g c goes = (
+  record {
+    next = c.next_turn.result;
+    engine = c.next_turn.new.engine;
+    read = c.next_turn.ensures.turn.0;
+    pulls = c.next_turn.ensures.counted;
+    in_range = c.next_turn.ensures.in_range;
+    moves = c.next_turn.ensures.source;
+    follows = rw (c.in-Ok-Record.is ∙ ap Ok c.in-Ok-Record.field-0-is)
+        (goes, drained_ok c.drain_all.result _ c.in-Ok.is c.drain_all.ensures.ok);
+  },
+  c.next_turn.ensures.turn.1,
+)
 
 pub returns-in-Err-drain_all-clause-step : goal.returns-in-Err-drain_all-clause-step
-returns-in-Err-drain_all-clause-step g c goes = record {
-  next = c.next_turn.result;
-  engine = c.next_turn.new.engine;
-  read = c.next_turn.ensures.turn;
-  pulls = c.next_turn.ensures.counted;
-  in_range = c.next_turn.ensures.in_range;
-  moves = c.next_turn.ensures.source;
-  follows = rw (c.in-Ok-Record.is ∙ ap Ok c.in-Ok-Record.field-0-is)
-      (goes, c.in-Err-drain_all.failed, refl, stopped_err c.drain_all.result _ _ c.in-Err-drain_all.is c.drain_all.ensures.err);
-}
+returns-in-Err-drain_all-clause-step g c goes = (
+  record {
+    next = c.next_turn.result;
+    engine = c.next_turn.new.engine;
+    read = c.next_turn.ensures.turn.0;
+    pulls = c.next_turn.ensures.counted;
+    in_range = c.next_turn.ensures.in_range;
+    moves = c.next_turn.ensures.source;
+    follows = rw (c.in-Ok-Record.is ∙ ap Ok c.in-Ok-Record.field-0-is)
+        (goes, c.in-Err-drain_all.failed, refl, stopped_err c.drain_all.result _ _ c.in-Err-drain_all.is c.drain_all.ensures.err);
+  },
+  c.next_turn.ensures.turn.1,
+)
 
 pub returns-in-Ok-End-clause-step : goal.returns-in-Ok-End-clause-step
-returns-in-Ok-End-clause-step g c goes = record {
-  next = c.next_turn.result;
-  engine = c.next_turn.new.engine;
-  read = c.next_turn.ensures.turn;
-  pulls = c.next_turn.ensures.counted;
-  in_range = c.next_turn.ensures.in_range;
-  moves = c.next_turn.ensures.source;
-  follows = rw (c.in-Ok-End.is ∙ ap Ok c.in-Ok-End.field-0-is) (refl, refl, refl, refl);
-}
+returns-in-Ok-End-clause-step g c goes = (
+  record {
+    next = c.next_turn.result;
+    engine = c.next_turn.new.engine;
+    read = c.next_turn.ensures.turn.0;
+    pulls = c.next_turn.ensures.counted;
+    in_range = c.next_turn.ensures.in_range;
+    moves = c.next_turn.ensures.source;
+    follows = rw (c.in-Ok-End.is ∙ ap Ok c.in-Ok-End.field-0-is) (refl, refl, refl, refl);
+  },
+  c.next_turn.ensures.turn.1,
+)
 
 pub returns-in-Ok-Cut-clause-step : goal.returns-in-Ok-Cut-clause-step
-returns-in-Ok-Cut-clause-step g c goes = record {
-  next = c.next_turn.result;
-  engine = c.next_turn.new.engine;
-  read = c.next_turn.ensures.turn;
-  pulls = c.next_turn.ensures.counted;
-  in_range = c.next_turn.ensures.in_range;
-  moves = c.next_turn.ensures.source;
-  follows = rw (c.in-Ok-Cut.is ∙ ap Ok c.in-Ok-Cut.field-0-is) (refl, refl, refl, refl);
-}
+returns-in-Ok-Cut-clause-step g c goes = (
+  record {
+    next = c.next_turn.result;
+    engine = c.next_turn.new.engine;
+    read = c.next_turn.ensures.turn.0;
+    pulls = c.next_turn.ensures.counted;
+    in_range = c.next_turn.ensures.in_range;
+    moves = c.next_turn.ensures.source;
+    follows = rw (c.in-Ok-Cut.is ∙ ap Ok c.in-Ok-Cut.field-0-is) (refl, refl, refl, refl);
+  },
+  c.next_turn.ensures.turn.1,
+)
 
-pub returns-in-Ok-clause-shown : goal.returns-in-Ok-clause-shown
-returns-in-Ok-clause-shown g c =
-    shown_drained g.V.Watch.sees c.args.watch.now c.next_turn.new.watch c.args.port c.args.unit c.args.engine.now c.next_turn.new.engine
-    c.drain_all.new.engine _ _ c.next_turn.result _ _ (c.in-Ok-Record.is ∙ ap Ok c.in-Ok-Record.field-0-is) c.next_turn.ensures.shown
-    (drained_ok c.drain_all.result _ c.in-Ok.is c.drain_all.ensures.ok)
-
-pub returns-in-Err-drain_all-clause-shown : goal.returns-in-Err-drain_all-clause-shown
-returns-in-Err-drain_all-clause-shown g c =
-    shown_stopped g.V.Watch.sees c.args.watch.now c.next_turn.new.watch c.args.port c.args.unit c.args.engine.now c.next_turn.new.engine
-    c.drain_all.new.engine _ _ c.next_turn.result _ _ c.in-Err-drain_all.failed (Out c.in-Err-drain_all.failed) (c.in-Ok-Record.is
-    ∙ ap Ok c.in-Ok-Record.field-0-is) c.next_turn.ensures.shown (stopped_err c.drain_all.result _ _ c.in-Err-drain_all.is c.drain_all.ensures.err)
+pub returns-in-Err-clause-step : goal.returns-in-Err-clause-step
+returns-in-Err-clause-step g c goes = (
+  record {
+    next = c.next_turn.result;
+    engine = c.next_turn.new.engine;
+    read = c.next_turn.ensures.turn.0;
+    pulls = c.next_turn.ensures.counted;
+    in_range = c.next_turn.ensures.in_range;
+    moves = c.next_turn.ensures.source;
+    follows = rw c.in-Err.is (goes, refl, refl, refl);
+  },
+  c.next_turn.ensures.turn.1,
+)

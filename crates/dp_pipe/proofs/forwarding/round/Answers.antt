@@ -1,6 +1,6 @@
 -- `round`: one more input, and the first at which the run stops. Each call is derived once, at the input that is asked.
 use Rattle.std.proofs.Common.{rules, ◌≡◌, ◌≤◌, ℕ, List, Result, Ok, Err, length, map, sym, ap, ◌∙◌, arith}
-use Rattle.std.specs.Prelude.{slice_index_or, slice_set, ⊤}
+use Rattle.std.specs.Prelude.{Some, slice_get, slice_index_or, slice_set, ⊤}
 use Rattle.std.proofs.lemmas.Option.{slice_get-get_or}
 use Rattle.std.proofs.lemmas.List.{length-set}
 use Rattle.dp_pcap.specs.declared.format.TheConstants.{MAX_RECORD}
@@ -8,8 +8,8 @@ use Rattle.dp_engine.specs.Engines.{EngineState}
 use Rattle.dp_pipe.specs.declared.forwarding.RunCause.{RunCause}
 use Rattle.dp_pipe.specs.Devices.{Device, seen, transfer, AllFared, AllSound, failed_reader, failed_writer}
 use Rattle.dp_pipe.specs.Forwarding.{Input, RunUntil}
-use Rattle.dp_pipe.specs.Watched.{ShowsTurns}
-use Rattle.dp_pipe.proofs.Watched.{shown_on}
+use Rattle.dp_pipe.specs.Watched.{ShowsUntil}
+use Rattle.dp_pipe.proofs.Watched.{shown_on, shown_round, shown_stops}
 use Rattle.dp_pipe.proofs.Faring.{reader_then, writers_then}
 use Rattle.dp_pipe.proofs.Rounding.{Comes, there_now, many_now, counted_now, open_now, limit_now, asked_on, asked_stops, round_over}
 use Rattle.dp_pipe.proofs.forwarding.round.Goals as goal
@@ -62,12 +62,17 @@ writers g c given is =
     writers_then g.W.Sink.is_broken g.W.Sink.failures c.ask.result given c.args.outs.now c.loop-port.outs c.ask.new.outs inv.outs inv.writers
     c.ask.ensures.fared_writers is
 
--- what was shown, by what was answered
-shown : (g : _) (c : After-ask g) (given : Result ⊤ RunCause) → c.ask.result ≡ given
-    → ShowsTurns g.V.Watch.sees c.args.watch.now c.ask.new.watch c.args.engine.now c.ask.new.engine given
-shown g c given is =
-    shown_on g.V.Watch.sees c.args.watch.now c.loop-port.watch c.ask.new.watch c.args.engine.now c.loop-port.engine c.ask.new.engine c.ask.result given is
-    c.loop-port.invariant.shown c.ask.ensures.shown
+-- the input of the port, and its reader
+input_here : (g : _) (c : After-index-ins-k g)
+    → slice_get c.loop-port.inputs c.loop-port.port ≡ Some (slice_index_or c.loop-port.inputs c.loop-port.port c.index-inputs-k.result)
+input_here g c =
+    slice_get-get_or c.loop-port.inputs c.loop-port.port c.index-inputs-k.result (omega (arith, c.loop-port.invariant.inputs, c.loop-port-test.true))
+
+reader_here : (g : _) (c : After-index-ins-k g)
+    → slice_get c.loop-port.ins c.loop-port.port ≡ Some (slice_index_or c.loop-port.ins c.loop-port.port c.index-ins-k.result)
+reader_here g c =
+    slice_get-get_or c.loop-port.ins c.loop-port.port c.index-ins-k.result
+    (omega (arith, c.loop-port.invariant.ins, c.loop-port-test.true, c.requires.inputs, c.requires.ins))
 
 -- the result where the run stops
 gone : (g : _) (c : goal.After-from_residual g) → c.from_residual.result ≡ Err c.in_err-ask.field-0.0
@@ -90,17 +95,22 @@ loop-port-preserved g c =
       outs = c.ask.ensures.many ∙ inv.outs;
       buf = c.ask.ensures.buf ∙ inv.buf;
       goes = λ e0 olds held read k start.
-          asked_on (opened g (goal.at.loop-port-preserved g c).After-index-ins-k e0 olds held read k start) c.ask.ensures.step c.ask.ensures.over
-          c.in_ok-ask.was;
+          asked_on (opened g (goal.at.loop-port-preserved g c).After-index-ins-k e0 olds held read k start) (λ open_p. (c.ask.ensures.step open_p).0)
+          (λ closed. let (ok, e, p, r, outs, v) = c.ask.ensures.over closed in (ok, e, p, r, outs)) c.in_ok-ask.was;
       readers = readers g (goal.at.loop-port-preserved g c).After-ask (Ok tt) c.in_ok-ask.was;
       writers = writers g (goal.at.loop-port-preserved g c).After-ask (Ok tt) c.in_ok-ask.was;
-      shown = shown g (goal.at.loop-port-preserved g c).After-ask (Ok tt) c.in_ok-ask.was;
+      shown = λ v0 e0 olds k until.
+          let here = (goal.at.loop-port-preserved g c).After-index-ins-k in
+          shown_on (seen g.R.Feed.remaining g.R.Feed.calls) c.loop-port.ins c.ask.ensures.step (input_here g here) (reader_here g here)
+          (inv.shown v0 e0 olds k until)
+          (λ closed. let (ok, e, p, r, outs, v) = c.ask.ensures.over closed in (ok, e, p, r, v)) c.in_ok-ask.was;
     }
 
 pub returns-in_err-ask-clause-goes : goal.returns-in_err-ask-clause-goes
 returns-in_err-ask-clause-goes g c e0 olds held read k start =
-    rw (gone g c) (asked_stops (opened g (goal.at.returns-in_err-ask-clause-goes g c).After-index-ins-k e0 olds held read k start) c.ask.ensures.step
-    c.ask.ensures.over _ c.in_err-ask.was)
+    rw (gone g c) (asked_stops (opened g (goal.at.returns-in_err-ask-clause-goes g c).After-index-ins-k e0 olds held read k start)
+    (λ open_p. (c.ask.ensures.step open_p).0) (λ closed. let (ok, e, p, r, outs, v) = c.ask.ensures.over closed in (ok, e, p, r, outs)) _
+    c.in_err-ask.was)
 
 pub returns-in_err-ask-clause-fared_readers : goal.returns-in_err-ask-clause-fared_readers
 returns-in_err-ask-clause-fared_readers g c =
@@ -124,8 +134,11 @@ pub returns-clause-fared_writers : goal.returns-clause-fared_writers
 returns-clause-fared_writers g c = c.loop-port.invariant.writers
 
 pub returns-in_err-ask-clause-shown : goal.returns-in_err-ask-clause-shown
-returns-in_err-ask-clause-shown g c =
-    shown g (goal.at.returns-in_err-ask-clause-shown g c).After-ask c.from_residual.result (c.in_err-ask.was ∙ sym (gone g c))
+returns-in_err-ask-clause-shown g c v0 e0 olds k until =
+    let here = (goal.at.returns-in_err-ask-clause-shown g c).After-index-ins-k in
+    rw (gone g c) (shown_stops (seen g.R.Feed.remaining g.R.Feed.calls) c.loop-port.ins c.ask.ensures.step (input_here g here) (reader_here g here)
+    (c.loop-port.invariant.shown v0 e0 olds k until) (λ closed. (c.ask.ensures.over closed).0) _ c.in_err-ask.was)
 
 pub returns-clause-shown : goal.returns-clause-shown
-returns-clause-shown g c = c.loop-port.invariant.shown
+returns-clause-shown g c v0 e0 olds k until =
+    shown_round (c.loop-port.invariant.shown v0 e0 olds k until) (omega (arith, c.loop-port.invariant.inputs, c.loop-port-test.false))

@@ -3,7 +3,7 @@ use Rattle.std.proofs.Common.{◌≡◌, ℕ, false, List, length, map}
 use Rattle.dp_engine.specs.Engines.{EngineState}
 use Rattle.dp_pipe.specs.Devices.{Device, seen, transfer, AllSound, AllFared}
 use Rattle.dp_pipe.specs.Forwarding.{Input, RunUntil}
-use Rattle.dp_pipe.specs.Watched.{HasShown}
+use Rattle.dp_pipe.specs.Watched.{ShowsUntil}
 use Rattle.dp_pipe.proofs.forwarding.round.Given as goal
 
 abbrev pub invariant-loop-port : goal.invariant-loop-port
@@ -19,5 +19,7 @@ invariant-loop-port g l = record {
       (seen g.W.Sink.contents g.W.Sink.calls) l.outs)) l.inputs now k l.port;
   readers : AllFared g.R.Feed.is_broken g.R.Feed.failures (λ q. false) l.fn.ins l.ins;
   writers : AllSound g.W.Sink.is_broken l.fn.outs → AllFared g.W.Sink.is_broken g.W.Sink.failures (λ q. false) l.fn.outs l.outs;
-  shown : HasShown g.V.Watch.sees l.fn.watch l.watch l.fn.engine l.engine;
+  shown : (v0 : _) (e0 : EngineState) (olds : List Device) (k : ℕ)
+      → ShowsUntil g.V.Watch.sees v0 l.fn.watch e0 l.fn.engine olds (map (seen g.R.Feed.remaining g.R.Feed.calls) l.fn.ins) l.fn.inputs k 0
+      → ShowsUntil g.V.Watch.sees v0 l.watch e0 l.engine olds (map (seen g.R.Feed.remaining g.R.Feed.calls) l.ins) l.inputs k l.port;
 }

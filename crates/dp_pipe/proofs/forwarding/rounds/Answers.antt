@@ -6,8 +6,8 @@ use Rattle.dp_engine.specs.Engines.{EngineState}
 use Rattle.dp_pipe.specs.declared.forwarding.RunCause.{RunCause}
 use Rattle.dp_pipe.specs.Devices.{Device, seen, transfer, AllFared, AllSound, failed_reader, failed_writer}
 use Rattle.dp_pipe.specs.Forwarding.{Input, RunUntil, IsRound}
-use Rattle.dp_pipe.specs.Watched.{ShowsTurns}
-use Rattle.dp_pipe.proofs.Watched.{shown_on}
+use Rattle.dp_pipe.specs.Watched.{ShowsRound, ShowsUntil}
+use Rattle.dp_pipe.proofs.Watched.{shown_all}
 use Rattle.dp_pipe.proofs.Faring.{readers_then, writers_then}
 use Rattle.dp_pipe.proofs.Rounding.{went_all, none_left}
 use Rattle.dp_pipe.proofs.forwarding.rounds.Goals as goal
@@ -49,12 +49,12 @@ writers g c given is =
     writers_then g.W.Sink.is_broken g.W.Sink.failures c.round.result given c.args.outs.now c.loop-k.outs c.round.new.outs inv.outs inv.writers
     c.round.ensures.fared_writers is
 
--- what was shown, by what was answered
-shown : (g : _) (c : After-round g) (given : Result ⊤ RunCause) → c.round.result ≡ given
-    → ShowsTurns g.V.Watch.sees c.args.watch.now c.round.new.watch c.args.engine.now c.round.new.engine given
-shown g c given is =
-    shown_on g.V.Watch.sees c.args.watch.now c.loop-k.watch c.round.new.watch c.args.engine.now c.loop-k.engine c.round.new.engine c.round.result given is
-    c.loop-k.invariant.shown c.round.ensures.shown
+-- the turns of the round that was made
+shown : (g : _) (c : After-round g) (v0 : _) (e0 : EngineState) (olds : List Device)
+    → ShowsUntil g.V.Watch.sees v0 c.args.watch.now e0 c.args.engine.now olds (map (seen g.R.Feed.remaining g.R.Feed.calls) c.args.ins.now)
+    c.args.inputs.now 0 0 → ShowsRound g.V.Watch.sees v0 c.round.new.watch e0 c.round.new.engine olds (map
+    (seen g.R.Feed.remaining g.R.Feed.calls) c.round.new.ins) c.round.new.inputs c.loop-k.k c.round.result
+shown g c v0 e0 olds until = c.round.ensures.shown v0 e0 olds c.loop-k.k (c.loop-k.invariant.shown v0 e0 olds until)
 
 -- the result where the run stops
 gone : (g : _) (c : goal.After-from_residual g) → c.from_residual.result ≡ Err c.in_err-round.field-0.0
@@ -107,7 +107,7 @@ loop-k-preserved g c =
           rw c.in_ok-round.was at (went g (goal.at.loop-k-preserved g c).After-round e0 olds held read start);
       readers = readers g (goal.at.loop-k-preserved g c).After-round (Ok tt) c.in_ok-round.was;
       writers = writers g (goal.at.loop-k-preserved g c).After-round (Ok tt) c.in_ok-round.was;
-      shown = shown g (goal.at.loop-k-preserved g c).After-round (Ok tt) c.in_ok-round.was;
+      shown = λ v0 e0 olds until. rw c.in_ok-round.was at (shown g (goal.at.loop-k-preserved g c).After-round v0 e0 olds until);
     }
 
 pub returns-then-not-is_any_open-clause-goes : goal.returns-then-not-is_any_open-clause-goes
@@ -145,11 +145,15 @@ pub returns-clause-fared_writers : goal.returns-clause-fared_writers
 returns-clause-fared_writers g c = c.loop-k.invariant.writers
 
 pub returns-then-not-is_any_open-clause-shown : goal.returns-then-not-is_any_open-clause-shown
-returns-then-not-is_any_open-clause-shown g c = c.loop-k.invariant.shown
+returns-then-not-is_any_open-clause-shown g c v0 e0 olds until =
+    shown_all (c.loop-k.invariant.shown v0 e0 olds until) (c.if-not-is_any_open.ensures.none refl)
 
 pub returns-in_err-round-clause-shown : goal.returns-in_err-round-clause-shown
-returns-in_err-round-clause-shown g c =
-    shown g (goal.at.returns-in_err-round-clause-shown g c).After-round c.from_residual.result (c.in_err-round.was ∙ sym (gone g c))
+returns-in_err-round-clause-shown g c v0 e0 olds until =
+    rw (gone g c) (rw c.in_err-round.was at (shown g (goal.at.returns-in_err-round-clause-shown g c).After-round v0 e0 olds until))
 
 pub returns-clause-shown : goal.returns-clause-shown
-returns-clause-shown g c = c.loop-k.invariant.shown
+returns-clause-shown g c v0 e0 olds until =
+    let start = c.requires.underway in
+    let (now, along) = c.loop-k.invariant.goes start.before start.had start.held start.inputs start.run in
+    shown_all (c.loop-k.invariant.shown v0 e0 olds until) (none_left along (omega (arith, c.loop-k-test.false)))

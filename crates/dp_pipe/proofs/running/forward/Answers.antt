@@ -6,6 +6,8 @@ use Rattle.dp_pipe.specs.Running.{all_begun}
 use Rattle.dp_pipe.proofs.Stopping.{are_read}
 use Rattle.dp_pipe.proofs.Through.{along_none, back, fail_read, fail_write, stays_rounds}
 use Rattle.dp_pipe.specs.Devices.{seen, transfer, AllFared, failed_reader, failed_writer}
+use Rattle.dp_pipe.specs.Watched.{ShowsUntil}
+use Rattle.dp_pipe.proofs.Watched.{shown_begun, shown_header, shown_unwritten}
 use Rattle.dp_pipe.proofs.Faring.{all_same, all_then, no_writer, no_reader, sound_readers, sound_writers}
 use Rattle.dp_pipe.proofs.running.forward.Goals as goal
 use Rattle.dp_pipe.proofs.running.forward.Goals.{After-from_residual, After-from_residual-in_err-put_headers, In_ok-read_headers}
@@ -178,3 +180,31 @@ returns-clause-fared_writers g c =
     all_then g.W.Sink.is_broken g.W.Sink.failures (failed_writer c.rounds.result) c.args.outs.now c.put_headers.new.outs c.rounds.new.outs
     c.put_headers.ensures.many written
     (c.rounds.ensures.fared_writers (c.put_headers.ensures.sound (rw c.in_ok-put_headers.was refl)))
+
+-- where the run begins, for a watcher
+begins : (g : _) (c : In_ok-read_headers g) → ShowsUntil g.V.Watch.sees c.args.watch.now c.args.watch.now c.args.engine.now c.args.engine.now
+    (map (seen g.R.Feed.remaining g.R.Feed.calls) c.args.ins.now) (map (seen g.R.Feed.remaining g.R.Feed.calls) c.read_headers.new.ins)
+    c.read_headers.new.inputs.items 0 0
+begins g c =
+    shown_begun g.V.Watch.sees c.args.watch.now c.args.engine.now (map (seen g.R.Feed.remaining g.R.Feed.calls) c.args.ins.now)
+    (map (seen g.R.Feed.remaining g.R.Feed.calls) c.read_headers.new.ins) c.read_headers.new.inputs.items
+    (c.in_ok-read_headers.ensures.all ∙ sym (length-map c.args.ins.now (seen g.R.Feed.remaining g.R.Feed.calls))) c.in_ok-read_headers.ensures.ok
+    c.read_headers.ensures.begun
+
+pub returns-in_err-read_headers-clause-shown : goal.returns-in_err-read_headers-clause-shown
+returns-in_err-read_headers-clause-shown g c =
+    let gone = not_read g (goal.at.returns-in_err-read_headers-clause-shown g c).After-from_residual in
+    rw gone (shown_header g.V.Watch.sees c.args.watch.now c.args.engine.now (map (seen g.R.Feed.remaining g.R.Feed.calls) c.args.ins.now)
+    (map (seen g.R.Feed.remaining g.R.Feed.calls) c.read_headers.new.ins) c.in_err-read_headers.field-0.0 c.in_err-read_headers.ensures.err)
+
+pub returns-in_err-put_headers-clause-shown : goal.returns-in_err-put_headers-clause-shown
+returns-in_err-put_headers-clause-shown g c =
+    let gone = not_written g (goal.at.returns-in_err-put_headers-clause-shown g c).After-from_residual-in_err-put_headers in
+    rw gone (shown_unwritten g.V.Watch.sees c.args.watch.now c.args.engine.now _ _ _ _ _ _ c.in_err-put_headers.field-0.0
+    (begins g (goal.at.returns-in_err-put_headers-clause-shown g c).In_ok-read_headers) c.in_err-put_headers.ensures.err)
+
+pub returns-clause-shown : goal.returns-clause-shown
+returns-clause-shown g c =
+    let here : c.as_mut_slice.result.now ≡ c.read_headers.new.inputs.items = search rules in
+    c.rounds.ensures.shown c.args.watch.now c.args.engine.now (map (seen g.R.Feed.remaining g.R.Feed.calls) c.args.ins.now)
+    (rw here (begins g (goal.at.returns-clause-shown g c).In_ok-read_headers))

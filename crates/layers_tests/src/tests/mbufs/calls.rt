@@ -53,6 +53,17 @@ pub(crate) fn free(rt: &impl Abort, m: &mut Mbufs, p: Packet)
     m.free(p);
 }
 
+/// Frees a packet that is one object, and returns whether it had these bytes. `None` for any other packet, which is kept.
+pub(crate) fn free_sole(rt: &impl Abort, m: &mut Mbufs, p: Packet, want: &[u8]) -> Option<bool>
+    requires { IsOver m.old.store }
+    ensures { StaysOver m.old m.new }
+{
+    alive(rt, m, &p);
+    let is_same = m.sole_bytes(&p)? == want;
+    m.free_sole(p);
+    Some(is_same)
+}
+
 pub(crate) fn free_count(m: &Mbufs, pool: u32) -> u32
     requires over { IsOver m.now.store }
     requires pool { pool < 3 }

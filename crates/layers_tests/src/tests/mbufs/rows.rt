@@ -4,13 +4,13 @@ ghost use Rattle.std.specs.Prelude.{◌≡◌, ◌<◌};
 ghost use Rattle.layers_tests.specs.Rows.{IsOver, StaysOver};
 
 use super::calls::{
-    alive, alloc, append, chain, copy, free, free_count, is_sole, load_four, prepend, receive,
-    refs, rooms, segments, spells,
+    alive, alloc, append, chain, copy, free, free_count, free_sole, is_sole, load_four, prepend,
+    receive, refs, rooms, segments, spells,
 };
 use super::setup::{Sizes, close, open_beside};
 use Step::{
-    Alloc, Append, Chain, Copy, Free, FreeCount, IsSole, LoadFour, Park, Prepend, Receive,
-    ReceiveAll, Refs, Rooms, Segments, Spells, SpellsAll,
+    Alloc, Append, Chain, Copy, Free, FreeCount, FreeSole, IsSole, LoadFour, Park, Prepend,
+    Receive, ReceiveAll, Refs, Rooms, Segments, Spells, SpellsAll,
 };
 use dp_mbuf::{MAX_ROOM, Mbufs};
 use dp_model::Packet;
@@ -29,6 +29,8 @@ enum Step {
     /// A clone of a packet is made of mbufs of a pool, or the pool has too few.
     Copy(usize, u32, bool),
     Free(usize),
+    /// The packet is one object with these bytes, and is freed as that; or it is not, and is kept.
+    FreeSole(usize, &'static [u8], bool),
     /// The second packet is appended to the first.
     Chain(usize, usize),
     Append(usize, u16),
@@ -53,7 +55,7 @@ enum Step {
 }
 
 /// The number of buffers of three pools and the bytes of their data rooms, and calls.
-static SCRIPTS: [([(u32, u32); 3], &[Step]); 9] = [
+static SCRIPTS: [([(u32, u32); 3], &[Step]); 10] = [
     // A clone keeps the buffer.
     (
         [(2, 2176), (1, 256), (1, 0)],
@@ -66,6 +68,29 @@ static SCRIPTS: [([(u32, u32); 3], &[Step]); 9] = [
             Alloc(0, false),
             Free(1),
             FreeCount(0, 2),
+        ],
+    ),
+    // A packet is one object while it has one segment, of its own, and no clone.
+    (
+        [(3, 256), (1, 256), (1, 0)],
+        &[
+            Receive(0, &[1, 2, 3]),
+            Copy(0, 0, true),
+            FreeSole(0, &[1, 2, 3], false),
+            FreeSole(1, &[1, 2, 3], false),
+            Free(0),
+            FreeSole(1, &[1, 2, 3], false),
+            Free(1),
+            FreeCount(0, 3),
+            Receive(0, &[4, 5]),
+            Receive(0, &[6]),
+            FreeSole(3, &[6], true),
+            FreeCount(0, 2),
+            Receive(0, &[7, 8]),
+            Chain(2, 4),
+            FreeSole(2, &[4, 5, 7, 8], false),
+            Free(2),
+            FreeCount(0, 3),
         ],
     ),
     // A clone that finds too few mbufs takes none.
@@ -256,6 +281,10 @@ fn changes(rt: &impl Abort, m: &mut Mbufs, packets: &[Packet], step: &Step) -> b
 {
     match step {
         Free(k) => free(rt, m, at(rt, packets, *k)),
+        FreeSole(k, bytes, one) => {
+            let is_same = free_sole(rt, m, at(rt, packets, *k), bytes);
+            return is_same == if *one { Some(true) } else { None };
+        }
         Chain(k, tail) => chain(rt, m, &at(rt, packets, *k), at(rt, packets, *tail)),
         Append(k, n) => append(rt, m, &at(rt, packets, *k), *n),
         Prepend(k, n) => prepend(rt, m, &at(rt, packets, *k), *n),

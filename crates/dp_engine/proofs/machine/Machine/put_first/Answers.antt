@@ -36,18 +36,15 @@ front g c =
     first_in (Tx c.args.port) c.self.inside.queues.rings c.self.inside.queues.outboxes c.in-Some.packet
     (queue_there c.self.inside _ c.self.view_is (Tx c.args.port) c.requires.there) c.in-Some.ensures.first
 
-pub put_packet-outcome-requires-clause-live : goal.put_packet-outcome-requires-clause-live
-put_packet-outcome-requires-clause-live g c =
-    let (k, has) = its_packet g (goal.at.put_packet-outcome-requires-clause-live g c).In-Some in
-    rw (c.of-handle.ensures) (k, has, tt)
-
-pub free-requires : goal.free-requires
-free-requires g c = let (k, has) = its_packet g (goal.at.free-requires g c).In-Some in rw (c.of-handle.ensures) (k, has, tt)
+pub put_and_free-requires-clause-live : goal.put_and_free-requires-clause-live
+put_and_free-requires-clause-live g c =
+    let (k, has) = its_packet g (goal.at.put_and_free-requires-clause-live g c).In-Some in
+    rw (c.of.ensures) (k, has, tt)
 
 pub invariant_of-self : goal.invariant_of-self
 invariant_of-self g c =
     let rest = c.pop.ensures.rest in
-    rw (c.free.ensures.packets, c.of-handle.ensures, rest.rings_have, rest.outboxes_have)
+    rw (c.put_and_free.ensures.freed, c.of.ensures, rest.rings_have, rest.outboxes_have)
     (stand_drops (Tx c.args.port) (parts_of c.self.inside) c.in-Some.packet _ (front g (goal.at.invariant_of-self g c).In-Some) c.self.invariant)
 
 pub unreachable-requires : goal.unreachable-requires
@@ -57,32 +54,32 @@ unreachable-requires g c =
 
 pub returns-clause-ok : goal.returns-clause-ok
 returns-clause-ok g c =
-    on_ok_weaker c.put_packet-outcome.result (λ all packets k box here.
+    on_ok_weaker c.put_and_free.result (λ all packets k box here.
     let has = named g (goal.at.returns-clause-ok g c).In-Some packets k box here in
-    subst (λ b. Appends (g.W.Sink.contents c.args.w.now) (g.W.Sink.contents c.put_packet-outcome.new.w) (record_of c.args.unit c.args.time b k))
+    subst (λ b. Appends (g.W.Sink.contents c.args.w.now) (g.W.Sink.contents c.put_and_free.new.w) (record_of c.args.unit c.args.time b k))
     (ap (λ (m : Core). m.state.world.buffers) c.self.view_is)
-    (all k (ap (slice_get c.self.inside.mbufs.store.slots) c.of-handle.ensures ∙ has)))
-    c.put_packet-outcome.ensures.ok
+    (all k (ap (slice_get c.self.inside.mbufs.store.slots) c.of.ensures ∙ has)))
+    c.put_and_free.ensures.puts.ok
 
 pub returns-clause-err : goal.returns-clause-err
 returns-clause-err g c =
-    on_err_weaker c.put_packet-outcome.result (λ all packets k box here.
+    on_err_weaker c.put_and_free.result (λ all packets k box here.
     let has = named g (goal.at.returns-clause-err g c).In-Some packets k box here in
-    subst (λ b. AppendsPart (g.W.Sink.contents c.args.w.now) (g.W.Sink.contents c.put_packet-outcome.new.w) (record_of c.args.unit c.args.time b k))
+    subst (λ b. AppendsPart (g.W.Sink.contents c.args.w.now) (g.W.Sink.contents c.put_and_free.new.w) (record_of c.args.unit c.args.time b k))
     (ap (λ (m : Core). m.state.world.buffers) c.self.view_is)
-    (all k (ap (slice_get c.self.inside.mbufs.store.slots) c.of-handle.ensures ∙ has)))
-    c.put_packet-outcome.ensures.err
+    (all k (ap (slice_get c.self.inside.mbufs.store.slots) c.of.ensures ∙ has)))
+    c.put_and_free.ensures.puts.err
 
 pub returns-clause-counted : goal.returns-clause-counted
 returns-clause-counted g c packets k box here =
     let has = named g (goal.at.returns-clause-counted g c).In-Some packets k box here in
-    subst (λ b. g.W.Sink.calls c.put_packet-outcome.new.w ≤ g.W.Sink.calls c.args.w.now + length (record_of c.args.unit c.args.time b k))
+    subst (λ b. g.W.Sink.calls c.put_and_free.new.w ≤ g.W.Sink.calls c.args.w.now + length (record_of c.args.unit c.args.time b k))
     (ap (λ (m : Core). m.state.world.buffers) c.self.view_is)
-    (c.put_packet-outcome.ensures.counted k (ap (slice_get c.self.inside.mbufs.store.slots) c.of-handle.ensures ∙ has))
+    (c.put_and_free.ensures.puts.counted k (ap (slice_get c.self.inside.mbufs.store.slots) c.of.ensures ∙ has))
 
 pub returns-clause-rest : goal.returns-clause-rest
 returns-clause-rest g c packets k list =
     let rest = c.pop.ensures.rest in
-    rw (c.free.ensures.packets, c.free.ensures.zones, c.of-handle.ensures, rest.rings_stay, rest.outboxes_stay, rest.rings_have, rest.outboxes_have)
+    rw (c.put_and_free.ensures.freed, c.put_and_free.ensures.zones, c.of.ensures, rest.rings_stay, rest.outboxes_stay, rest.rings_have, rest.outboxes_have)
     (first_drops (Tx c.args.port) (parts_of c.self.inside) _ c.in-Some.packet _ k packets c.self.view_is c.self.invariant
     (front g (goal.at.returns-clause-rest g c).In-Some) list)

@@ -33,7 +33,7 @@ returns-then-index-eq0 c =
     (omega (arith, group_fits old c.args.first g 0 c.requires.table named (omega arith))) c.index-then-index-eq0.ensures in
     closed_last old new c.args.first g c.index-then-index-eq0.result.now c.requires.table named (omega (arith, is, some, none))
     (λ j lt. rw same at (c.requires.can.even (rw same (omega (arith, is, some, none))) j lt))
-    (sym cell) refl refl (ap (slice_set old.counts.items g) none)
+    (sym cell) refl refl (ap (slice_set old.counts.items g) none) (refl, refl, refl)
 
 pub returns-else-index-eq0 : goal.returns-else-index-eq0
 returns-else-index-eq0 c =
@@ -49,3 +49,4 @@ returns-else-index-eq0 c =
     c.index-in-Group.ensures in
     let set = index_set_same old.counts.items g (c.index_mut.result.now - 1) there in
     closed_more old new c.args.first g c.index_mut.result.now c.requires.table named refl refl is (omega (arith, now, set, c.if-index-eq0.false)) refl
+    (refl, refl, refl)

@@ -31,7 +31,7 @@ returns-in-Group c =
     let named = grouped_by old c.args.first g c.index-cell.result.now (omega arith) c.index-cell.ensures (rw c.from.ensures c.in-Group.ensures) in
     let there = c.requires.table.named c.args.first g named in
     opened_more old new c.args.first g c.index_mut.result.now c.requires.table named refl refl
-    (number_at old.counts.items g c.index_mut.result.now there c.index_mut.ensures.value) refl
+    (number_at old.counts.items g c.index_mut.result.now there c.index_mut.ensures.value) refl (refl, refl, refl)
 
 pub returns : goal.returns
 returns c =
@@ -50,4 +50,4 @@ returns c =
     record { inside = c.fill.ensures.inside; below = c.fill.ensures.below; above = c.fill.ensures.above } in
     opened_new old new c.args.first g c.of.result c.requires.table c.requires.there none free.0 free.1 c.of.ensures refl
     (ap length now ∙ (c.fill.ensures.len ∙ ap length c.deref_mut.ensures.value))
-    (rw now (rw (c.deref_mut.ensures.value, ← first) at so)) refl
+    (rw now (rw (c.deref_mut.ensures.value, ← first) at so)) refl (refl, refl, refl)

@@ -22,7 +22,7 @@ returns-in-Group c =
     overwritten_group old new c.args.first c.args.low c.args.count c.args.depth g (entry_in c.args.to) c.requires.table c.requires.order
     c.requires.to
     (named_group _ g (rw c.from.ensures is)) refl refl (ap length now ∙ (c.overwrite_shallower.ensures.len ∙ ap length c.deref_mut.ensures.value))
-    (rw now (rw c.deref_mut.ensures.value at so))
+    (rw now (rw c.deref_mut.ensures.value at so)) (refl, refl, refl)
 
 pub returns-in_default : goal.returns-in_default
 returns-in_default c =
@@ -43,4 +43,4 @@ returns-in_default c =
     overwritten_whole old new c.args.first c.args.low c.args.count c.args.depth (entry_in c.args.to) (c.requires.whole none)
     (overwritten_plain old new c.args.first c.args.depth (entry_in c.args.to) c.requires.table c.requires.depth c.requires.to none refl refl (ap length now
     ∙ (c.overwrite_shallower-in_default.ensures.len ∙ ap length c.deref_mut-in_default.ensures.value))
-    (rw now (rw c.deref_mut-in_default.ensures.value at so)))
+    (rw now (rw c.deref_mut-in_default.ensures.value at so)) (refl, refl, refl))

@@ -1,9 +1,0 @@
--- The captures so far, and those of the words that are left, are those of all words.
-use Rattle.std.proofs.Common.{◌≡◌, drop, map}
-use Rattle.dp_cli.specs.Replacing.{row_of, rows_from}
-use Rattle.dp_cli.proofs.run.replaced.add_words.Given as goal
-
-abbrev pub invariant-loop-word : goal.invariant-loop-word
-invariant-loop-word l =
-    rows_from l.form (map row_of l.given.items) (map (λ word. word.now) (drop l.word-index l.words)) ≡ rows_from l.form (map row_of l.initial.given.items)
-    (map (λ word. word.now) l.words)

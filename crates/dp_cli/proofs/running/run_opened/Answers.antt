@@ -1,0 +1,12 @@
+-- `run_opened`: the run is that of `run_over`, and what is said of it that of `said_of`.
+use Rattle.dp_cli.proofs.running.run_opened.Goals as goal
+
+pub returns : goal.returns
+returns g c = record {
+  before = _;
+  after = _;
+  flushed = c.run_over-ran.result.flushed;
+  run = c.run_over-ran.ensures;
+  said = c.said_of.ensures.said;
+  status_is = c.said_of.ensures.status;
+}

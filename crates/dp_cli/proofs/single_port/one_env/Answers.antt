@@ -1,7 +1,0 @@
--- The numbers of the one port are within the limits.
-use Rattle.std.proofs.lemmas.Option.{none-some}
-use Rattle.dp_cli.proofs.single_port.one_env.Goals as goal
-
-pub unreachable-requires : goal.unreachable-requires
-unfolding lib.Count.ones
-unreachable-requires c = none-some c.in-Err.field-0 c.in-Err.ensures.err

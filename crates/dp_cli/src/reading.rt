@@ -1,0 +1,139 @@
+//! The files that a command reads before it decides.
+
+ghost use Rattle.std.specs.Prelude.{◌≡◌};
+
+use crate::call::{Call, wrong};
+use crate::operands::node_named;
+use dp_console::{FAULT, MEMORY, Reply};
+use dp_model::Entry;
+use dp_pipe::{How, Survey, survey_of};
+use dp_sources::{Fault, Source, Sources, Subject, read, read_sources};
+use dp_verdict::{failed, misread};
+use std::alloc::Global;
+use std::rt::Files;
+
+/// A pipeline file that was read, and what it names.
+#[derive(Drop)]
+pub struct Given {
+    pub source: Source,
+    pub survey: Survey,
+}
+
+impl Given {
+    /// The text of the file.
+    pub fn text(&self) -> &[u8] {
+        self.source.bytes.as_slice()
+    }
+
+    /// The pipeline as the subject of a command.
+    pub fn subject(&self) -> Subject<'_> {
+        Subject::Pipeline {
+            file: self.source.name.as_str(),
+            text: self.source.bytes.as_slice(),
+            survey: &self.survey,
+        }
+    }
+}
+
+/// The reply if memory is refused.
+pub fn without_memory(alloc: Global, is_json: bool) -> Reply
+    ensures { result.status ≡ MEMORY }
+{
+    failed(alloc, Fault::Memory, is_json)
+}
+
+/// What is reported if standard output cannot be written.
+pub const UNWRITTEN: &str = "fault: standard output cannot be written";
+
+/// The reply if a text that streams could not be written.
+pub fn unwritten(alloc: Global) -> Reply
+    ensures { result.status ≡ FAULT }
+{
+    let mut reply = Reply::new(alloc);
+    reply.status = FAULT;
+    reply.err.say(format_args!("{UNWRITTEN}\n"));
+    reply
+}
+
+/// Reads a file.
+///
+/// # Errors
+///
+/// The reply if it is not read.
+pub fn read_file<R: Files>(
+    call: &Call<'_, '_, R>,
+    name: &str,
+    is_json: bool,
+) -> Result<Source, Reply> {
+    let Ok(source) = read(call.rt, call.alloc, name) else {
+        return Err(without_memory(call.alloc, is_json));
+    };
+    match source.unread() {
+        Some(unread) => Err(failed(call.alloc, Fault::of_unread(unread), is_json)),
+        None => Ok(source),
+    }
+}
+
+/// Reads the pipeline file of a command.
+///
+/// # Errors
+///
+/// The reply if it is not read, or is not a pipeline file.
+pub fn read_pipeline<R: Files>(call: &Call<'_, '_, R>, is_json: bool) -> Result<Given, Reply> {
+    let source = read_file(call, call.word("FILE"), is_json)?;
+    match survey_of(call.alloc, source.bytes.as_slice()) {
+        Ok(survey) => Ok(Given { source, survey }),
+        Err(error) => {
+            let (name, text) = (source.name.as_str(), source.bytes.as_slice());
+            Err(misread(call.alloc, name, text, error, is_json))
+        }
+    }
+}
+
+/// Reads the programs and certificates of a command's nodes, or of one.
+///
+/// # Errors
+///
+/// The reply if memory is refused.
+pub fn read_nodes<R: Files>(
+    call: &Call<'_, '_, R>,
+    subject: Subject<'_>,
+    which: Option<Entry>,
+    how: How,
+    is_json: bool,
+) -> Result<Sources, Reply> {
+    match read_sources(call.rt, call.alloc, subject, which, how) {
+        Ok(sources) => Ok(sources),
+        Err(_) => Err(without_memory(call.alloc, is_json)),
+    }
+}
+
+/// The node that WHICH names.
+///
+/// # Errors
+///
+/// The reply if the word names no node.
+pub fn node_in(alloc: Global, word: &str) -> Result<Entry, Reply> {
+    match node_named(word) {
+        Some(node) => Ok(node),
+        None => Err(wrong(
+            alloc,
+            format_args!("error: '{word}' names no node: port or ring, and one digit"),
+        )),
+    }
+}
+
+/// The node that WHICH names, if it is given.
+///
+/// # Errors
+///
+/// The reply if the word names no node.
+pub fn which_in<R>(call: &Call<'_, '_, R>) -> Result<Option<Entry>, Reply> {
+    match call.value("WHICH") {
+        Some(word) => match node_in(call.alloc, word) {
+            Ok(node) => Ok(Some(node)),
+            Err(reply) => Err(reply),
+        },
+        None => Ok(None),
+    }
+}

@@ -1,0 +1,611 @@
+//! `dpv run`, `dpv one` and `dpv filter` over the host's files.
+
+ghost use Rattle.std.specs.Prelude.{◌≡◌, ◌⊎◌, IfErr, IfOk, IfSome, None, Some, codes, length, map};
+ghost use Rattle.clap.specs.Matches.{found_of};
+ghost use Rattle.dp_engine.specs.Engines.{IsAscending};
+ghost use Rattle.dp_cli.specs.Given.{AreGiven, IsWrong, RunsFile, calls_in, words_of as given_words};
+ghost use Rattle.dp_cli.specs.Operands.{IsFlag};
+ghost use Rattle.dp_cli.specs.Runs.{NeverRuns, RunsOver, SaysRun, status_unopened, takes_stream};
+ghost use Rattle.dp_pipe.specs.Running.{answer_of};
+ghost use Rattle.dp_pipe.specs.Singles.{HasOnePort};
+ghost use Rattle.dp_region.specs.Region.{IsRegionSize};
+ghost use Rattle.dp_runs.specs.Replies.{IsReplied, status_of};
+ghost use Rattle.dp_sources.specs.Faults as faults;
+
+use crate::call::{Call, wrong};
+use crate::operands::{number_within, numbers_in};
+use crate::reading::{read_nodes, read_pipeline, without_memory};
+use clap::ArgMatches;
+use dp_captures::{
+    BUFFER, CaptureFault, CaptureNames, CaptureWords, Finding, InputOf, OutputOf, ReadFile,
+    Reason as CaptureReason, Replacements, UNBUFFERED, WordProblem, names_of, note_read,
+    open_captures,
+};
+use dp_console::{Reply, Text};
+use dp_engine::{Known, Nothing, need};
+use dp_model::{Entry, Env, MAX_ROOM, MAX_SEGMENTS, MIN_PORT_ROOM, PoolSpec, PortSpec};
+use dp_pipe::{How, NodeName, Pipeline, SingleFiles, load, load_single};
+use dp_region::{CACHE_LINE, MAX_REGION, MIN_REGION};
+use dp_runs::{
+    Counting, Notes, Printing, ProgramText, Ran, Wanted, Watcher, found_of, reply_of, run_over,
+};
+use dp_sources::{Because, Fault, Lent, ONE_REGION, ReadError, Reason, Sources, Subject, one_env};
+use dp_verdict::{failed, no_node, unloaded};
+use std::alloc::{AllocError, Global};
+use std::rt::Files;
+
+/// Reads which allocation calls the command line refuses.
+///
+/// # Errors
+///
+/// The reply to a word that is no list.
+pub fn refused_in<R>(call: &Call<'_, '_, R>) -> Result<Vec<u64>, Reply>
+    ensures calls { IfOk result (λ pattern. Some pattern.items ≡ calls_in (found_of call.now.words.now)) }
+    ensures ascending { IfOk result (λ pattern. IsAscending 0 pattern.items) }
+    ensures wrong { IfErr result (λ reply. ((reply.status ≡ 2) × (calls_in (found_of call.now.words.now) ≡ None)) ⊎ (reply.status ≡ 4)) }
+{
+    let Some(list) = call.value("refuse") else {
+        return Ok(Vec::new(call.alloc));
+    };
+    match numbers_in(call.alloc, list) {
+        Ok(Some(pattern)) => Ok(pattern),
+        Ok(None) => Err(wrong(
+            call.alloc,
+            format_args!(
+                "error: '{list}' is not a list: numbers from 1 on, each above the one before it, joined by commas"
+            ),
+        )),
+        Err(_) => Err(without_memory(call.alloc, call.flag("json"))),
+    }
+}
+
+/// The words of an option that may be given several times.
+fn words_of<'w>(
+    alloc: Global,
+    words: &ArgMatches<'w>,
+    name: &str,
+) -> Result<Vec<&'w str>, AllocError>
+    ensures { IfOk result (λ all. map (λ word. word.now) all.items ≡ given_words (found_of words.now) name.now) }
+{
+    match words.get_strs(name) {
+        Some(given) => {
+            let all = Vec::from_slice(alloc, given)?;
+            Ok(all)
+        }
+        None => Ok(Vec::new(alloc)),
+    }
+}
+
+/// The words that give captures.
+#[derive(Drop)]
+struct CaptureLists<'w> {
+    inputs: Vec<&'w str>,
+    no_inputs: Vec<&'w str>,
+    outputs: Vec<&'w str>,
+    no_outputs: Vec<&'w str>,
+}
+
+/// The words that give captures.
+fn capture_lists<'w>(alloc: Global, words: &ArgMatches<'w>) -> Result<CaptureLists<'w>, AllocError>
+    ensures inputs { IfOk result (λ lists. map (λ word. word.now) lists.inputs.items ≡ given_words (found_of words.now) (codes "in")) }
+    ensures no_inputs { IfOk result (λ lists. map (λ word. word.now) lists.no_inputs.items ≡ given_words (found_of words.now) (codes "no-in")) }
+    ensures outputs { IfOk result (λ lists. map (λ word. word.now) lists.outputs.items ≡ given_words (found_of words.now) (codes "out")) }
+    ensures no_outputs { IfOk result (λ lists. map (λ word. word.now) lists.no_outputs.items ≡ given_words (found_of words.now) (codes "no-out")) }
+{
+    Ok(CaptureLists {
+        inputs: words_of(alloc, words, "in")?,
+        no_inputs: words_of(alloc, words, "no-in")?,
+        outputs: words_of(alloc, words, "out")?,
+        no_outputs: words_of(alloc, words, "no-out")?,
+    })
+}
+
+/// The captures that the words give.
+///
+/// # Errors
+///
+/// The reply to words that give none, or that clash.
+fn captures_in<'w, R>(call: &Call<'_, 'w, R>) -> Result<Replacements<'w>, Reply>
+    ensures given { IfOk result (λ given. AreGiven (found_of call.now.words.now) given.inputs.items given.outputs.items) }
+    ensures wrong { IfErr result IsWrong }
+{
+    let Ok(lists) = capture_lists(call.alloc, call.words) else {
+        return Err(without_memory(call.alloc, call.flag("json")));
+    };
+    let words = CaptureWords {
+        inputs: lists.inputs.as_slice(),
+        no_inputs: lists.no_inputs.as_slice(),
+        outputs: lists.outputs.as_slice(),
+        no_outputs: lists.no_outputs.as_slice(),
+    };
+    match Replacements::of_words(call.alloc, words) {
+        Ok(given) => Ok(given),
+        Err(WordProblem::Memory) => Err(without_memory(call.alloc, call.flag("json"))),
+        Err(problem) => Err(wrong(call.alloc, problem)),
+    }
+}
+
+/// The fault of a capture with this name. The words are those of its reason.
+fn fault_of<'a>(name: &'a str, finding: Finding<'a>, words: &'a str) -> Fault<'a>
+    ensures { faults.status_of result ≡ 3 }
+{
+    let reason = match finding.reason {
+        CaptureReason::System(error) => Reason::Read(ReadError::System(error)),
+        _ => Reason::Words(words),
+    };
+    Fault::File(
+        name,
+        Because {
+            file: finding.file,
+            reason,
+            help: finding.reason.cure(),
+        },
+    )
+}
+
+/// The reply to captures that are not opened.
+pub fn unopened(alloc: Global, fault: CaptureFault<'_>, is_json: bool) -> Reply
+    ensures { result.status ≡ status_unopened fault.entry }
+{
+    let CaptureFault::File { name, finding } = fault else {
+        return without_memory(alloc, is_json);
+    };
+    let mut text = Text::new(alloc);
+    text.say(finding.reason);
+    let words = str::from_utf8(text.bytes.as_slice()).unwrap_or("");
+    failed(alloc, fault_of(name, finding, words), is_json)
+}
+
+/// The texts of the programs of a pipeline, in the order of its nodes.
+fn programs_of<'a>(
+    alloc: Global,
+    pipeline: &Pipeline,
+    subject: Subject<'a>,
+    sources: &'a Sources,
+) -> Result<Vec<ProgramText<'a>>, AllocError> {
+    let mut programs = Vec::new(alloc);
+    for k in 0..pipeline.nodes() {
+        let node = pipeline.node(k).entry();
+        let name = match subject.node(node) {
+            Some(asked) => asked.program,
+            None => "",
+        };
+        let text = sources.get(name).unwrap_or(&[]);
+        programs.push(ProgramText { node, name, text })?;
+    }
+    Ok(programs)
+}
+
+/// The files that a run reads besides its captures: those of the programs, and its own.
+fn reads_of<R: Files>(
+    call: &Call<'_, '_, R>,
+    sources: &Sources,
+    file: Option<&str>,
+) -> Result<Vec<ReadFile>, AllocError> {
+    let mut reads = Vec::new(call.alloc);
+    for source in &sources.files {
+        note_read(call.rt, call.alloc, &mut reads, source.name.as_str())?;
+    }
+    if let Some(file) = file {
+        note_read(call.rt, call.alloc, &mut reads, file)?;
+    }
+    Ok(reads)
+}
+
+/// Which counts the words ask for.
+fn wanted_in<R>(call: &Call<'_, '_, R>) -> Wanted {
+    let (counts, lines) = (call.flag("counts"), call.flag("source"));
+    Wanted {
+        counts: counts && !lines,
+        lines,
+        drops: call.flag("drops"),
+    }
+}
+
+/// What watches a run: its counts if they are asked for, and else what is refused.
+fn watcher_of<'a>(
+    alloc: Global,
+    pipeline: &Pipeline,
+    programs: &[ProgramText<'a>],
+    wanted: Wanted,
+) -> Result<Watcher<'a>, AllocError> {
+    if wanted.counts || wanted.lines || wanted.drops {
+        Ok(Watcher::Counting(Counting::of(alloc, pipeline, programs)?))
+    } else {
+        Watcher::of_losses(alloc, pipeline)
+    }
+}
+
+/// How many records of each input were cut by its snap length.
+fn truncated_in<F: std::io::Read + Drop>(inputs: &[InputOf<F>]) -> [u64; 8] {
+    let mut truncated = [0; 8];
+    for (number, input) in truncated.iter_mut().zip(inputs) {
+        *number = input.truncated();
+    }
+    truncated
+}
+
+/// What the words ask for of a run.
+#[derive(Clone, Copy)]
+struct Options {
+    is_json: bool,
+    is_progress: bool,
+    is_unbuffered: bool,
+    /// Whether the pipeline has a port alone, and no file.
+    is_single: bool,
+    /// Whether a capture goes to standard output.
+    is_stdout_taken: bool,
+    wanted: Wanted,
+}
+
+/// What the words ask for of a run with these captures.
+fn options_in<R>(call: &Call<'_, '_, R>, given: &Replacements<'_>, is_single: bool) -> Options
+    ensures json { IsFlag (found_of call.now.words.now) (codes "json") result.is_json }
+    ensures taken { result.is_stdout_taken ≡ takes_stream given.now.outputs.items }
+{
+    Options {
+        is_json: call.flag("json"),
+        is_progress: call.flag("progress"),
+        is_unbuffered: call.flag("unbuffered"),
+        is_single,
+        is_stdout_taken: given.take_stdout(),
+        wanted: wanted_in(call),
+    }
+}
+
+/// What is said of a run with these options.
+fn said_of<'p, 'a>(
+    alloc: Global,
+    env: &'p Env,
+    ran: &Ran,
+    counting: Option<&'p Counting<'a>>,
+    found: Option<Finding<'p>>,
+    notes: Notes,
+    options: Options,
+) -> Reply
+    ensures status { result.status ≡ status_of (answer_of ran.now.flushed.answer) }
+    ensures said { IsReplied options.is_json options.is_stdout_taken ran.now.flushed.answer result }
+{
+    let printing = Printing {
+        env,
+        counting,
+        wanted: options.wanted,
+        totals: options.is_progress,
+        is_json: options.is_json,
+        is_stdout_taken: options.is_stdout_taken,
+        found,
+        notes: Some(notes),
+    };
+    reply_of(alloc, ran, &printing)
+}
+
+/// Runs a pipeline over its open captures, and says what it did.
+fn run_opened<K: Known, R: Files>(
+    alloc: Global,
+    pipeline: Pipeline,
+    names: &[CaptureNames],
+    inputs: &mut [InputOf<R::File>],
+    outputs: &mut [OutputOf<R::File>],
+    pattern: Vec<u64>,
+    watcher: &mut Watcher<'_>,
+    options: Options,
+) -> Reply
+    requires inputs { length inputs.old ≡ length pipeline.env.ports }
+    requires outputs { length outputs.old ≡ length pipeline.env.ports }
+    requires pattern { IsAscending 0 pattern.items }
+    ensures { SaysRun R.File.remaining pipeline pattern.items options.is_json options.is_stdout_taken inputs.old inputs.new outputs.old outputs.new result }
+{
+    let env = pipeline.env().copy();
+    let (region, needed) = (u64::from(pipeline.region()), need(&env));
+    let ran = run_over::<K, _, _>(alloc, pipeline, inputs, outputs, pattern, watcher);
+    let notes = Notes {
+        region,
+        needed,
+        truncated: truncated_in(inputs),
+        is_single: options.is_single,
+    };
+    let found = found_of(names, inputs, &ran);
+    said_of(alloc, &env, &ran, watcher.counting(), found, notes, options)
+}
+
+/// A pipeline that is loaded, and the files that were read for it.
+#[derive(Drop)]
+struct Ready<'a> {
+    pipeline: Pipeline,
+    programs: Vec<ProgramText<'a>>,
+    reads: Vec<ReadFile>,
+}
+
+/// Opens the captures of a pipeline, and runs it over them.
+///
+/// # Errors
+///
+/// The reply if memory is refused, or a capture is not opened.
+fn run_ready<K: Known, R: Files>(
+    call: &Call<'_, '_, R>,
+    ready: Ready<'_>,
+    given: &Replacements<'_>,
+    pattern: Vec<u64>,
+    options: Options,
+) -> Result<Reply, Reply>
+    requires pattern { IsAscending 0 pattern.items }
+    requires taken { options.is_stdout_taken ≡ takes_stream given.now.outputs.items }
+    ensures runs { IfOk result (RunsOver R.File.remaining ready.entry.pipeline pattern.items given.now.inputs.items given.now.outputs.items options.is_json
+        ready.entry.reads.items) }
+    ensures never { IfErr result (NeverRuns R.File.remaining ready.entry.pipeline given.now.inputs.items given.now.outputs.items) }
+{
+    let (alloc, is_json) = (call.alloc, options.is_json);
+    let Ready {
+        pipeline,
+        programs,
+        reads,
+    } = ready;
+    let Ok(names) = names_of(alloc, &pipeline, given) else {
+        return Err(without_memory(alloc, is_json));
+    };
+    let Ok(mut watcher) = watcher_of(alloc, &pipeline, programs.as_slice(), options.wanted) else {
+        return Err(without_memory(alloc, is_json));
+    };
+    let buffer = if options.is_unbuffered {
+        UNBUFFERED
+    } else {
+        BUFFER
+    };
+    let (mut inputs, mut outputs) = (Vec::new(alloc), Vec::new(alloc));
+    let opened = open_captures(
+        call.rt,
+        alloc,
+        call.streams,
+        reads.as_slice(),
+        names.as_slice(),
+        options.is_progress,
+        buffer,
+        &mut inputs,
+        &mut outputs,
+    );
+    if let Err(fault) = opened {
+        return Err(unopened(alloc, fault, is_json));
+    }
+    Ok(run_opened::<K, R>(
+        alloc,
+        pipeline,
+        names.as_slice(),
+        inputs.as_mut_slice(),
+        outputs.as_mut_slice(),
+        pattern,
+        &mut watcher,
+        options,
+    ))
+}
+
+/// A pipeline with the texts of its programs and the files that were read for it.
+///
+/// # Errors
+///
+/// The reply if memory is refused.
+fn ready_of<'a, R: Files>(
+    call: &Call<'_, '_, R>,
+    pipeline: Pipeline,
+    subject: Subject<'a>,
+    sources: &'a Sources,
+    file: Option<&str>,
+) -> Result<Ready<'a>, Reply>
+    ensures { IfOk result (λ ready. ready.pipeline ≡ pipeline) }
+{
+    let is_json = call.flag("json");
+    let Ok(programs) = programs_of(call.alloc, &pipeline, subject, sources) else {
+        return Err(without_memory(call.alloc, is_json));
+    };
+    let Ok(reads) = reads_of(call, sources, file) else {
+        return Err(without_memory(call.alloc, is_json));
+    };
+    Ok(Ready {
+        pipeline,
+        programs,
+        reads,
+    })
+}
+
+/// Adds a note for each program of a pipeline that is not among `K`, and so is interpreted.
+fn note_interpreted<K: Known>(pipeline: &Pipeline, err: &mut Text) {
+    for k in 0..pipeline.nodes() {
+        let node = pipeline.node(k);
+        if K::number_of(node.program().instrs(), 0).is_none() {
+            let name = NodeName(node.entry());
+            err.say(format_args!("note: {name} is not compiled: its program is interpreted\n"));
+        }
+    }
+}
+
+/// The reply with a text before what it says on standard error.
+fn after(alloc: Global, notes: Text, reply: Reply) -> Reply
+    ensures { (result.status ≡ reply.status) × (result.out ≡ reply.out) }
+{
+    if notes.bytes.is_empty() {
+        return reply;
+    }
+    let Reply {
+        status,
+        out,
+        err: said,
+        is_json,
+    } = reply;
+    let mut err = notes;
+    let _whole = err.add(said.bytes.as_slice());
+    err.has_failed = err.has_failed || said.has_failed;
+    let _alloc = alloc;
+    Reply {
+        status,
+        out,
+        err,
+        is_json,
+    }
+}
+
+/// `dpv run FILE`.
+fn ran<K: Known, R: Files>(
+    call: &Call<'_, '_, R>,
+    reports_interpreted: bool,
+) -> Result<Reply, Reply>
+    ensures { IfOk result (RunsFile R.File.remaining (found_of call.now.words.now)) }
+{
+    let alloc = call.alloc;
+    let pattern = refused_in(call)?;
+    let given = captures_in(call)?;
+    let options = options_in(call, &given, false);
+    let file = read_pipeline(call, options.is_json)?;
+    let subject = file.subject();
+    let sources = read_nodes(call, subject, None, How::Given, options.is_json)?;
+    let pipeline = match load(alloc, file.text(), &mut Lent(&sources), How::Given) {
+        Ok(pipeline) => pipeline,
+        Err(error) => return Err(unloaded(alloc, error, subject, &sources, options.is_json)),
+    };
+    if let Some(port) = given.missing(pipeline.ports()) {
+        return Err(no_node(alloc, Entry::Port(port)));
+    }
+    let mut notes = Text::new(alloc);
+    if reports_interpreted {
+        note_interpreted::<K>(&pipeline, &mut notes);
+    }
+    let name = Some(file.source.name.as_str());
+    let ready = ready_of(call, pipeline, subject, &sources, name)?;
+    match run_ready::<K, R>(call, ready, &given, pattern, options) {
+        Ok(reply) => Ok(after(alloc, notes, reply)),
+        Err(reply) => Err(after(alloc, notes, reply)),
+    }
+}
+
+/// `dpv run FILE`.
+pub fn run_file<K: Known, R: Files>(call: &Call<'_, '_, R>, reports_interpreted: bool) -> Reply {
+    match ran::<K, R>(call, reports_interpreted) {
+        Ok(reply) | Err(reply) => reply,
+    }
+}
+
+/// Runs a program on one port of an environment.
+fn run_single<R: Files>(
+    call: &Call<'_, '_, R>,
+    env: &Env,
+    region: u32,
+    files: SingleFiles<'_>,
+) -> Result<Reply, Reply>
+    requires port { HasOnePort env.now }
+    requires region { IsRegionSize region }
+{
+    let alloc = call.alloc;
+    let Ok(given) = Replacements::of_one(alloc, files.input, files.output) else {
+        return Err(without_memory(alloc, call.flag("json")));
+    };
+    let options = options_in(call, &given, true);
+    let subject = Subject::Single {
+        env,
+        program: files.program,
+        cert: files.cert,
+    };
+    let sources = read_nodes(call, subject, None, How::Given, options.is_json)?;
+    let pipeline = match load_single(alloc, env.copy(), region, files, &mut Lent(&sources)) {
+        Ok(pipeline) => pipeline,
+        Err(error) => return Err(unloaded(alloc, error, subject, &sources, options.is_json)),
+    };
+    let ready = ready_of(call, pipeline, subject, &sources, None)?;
+    let pattern = Vec::new(alloc);
+    run_ready::<Nothing, R>(call, ready, &given, pattern, options)
+}
+
+/// `dpv one NODE CERT IN OUT`.
+pub fn run_one<R: Files>(call: &Call<'_, '_, R>) -> Reply {
+    let files = SingleFiles {
+        program: call.word("NODE"),
+        cert: Some(call.word("CERT")),
+        input: call.word("IN"),
+        output: call.word("OUT"),
+    };
+    let env = one_env();
+    match run_single(call, &env, ONE_REGION, files) {
+        Ok(reply) | Err(reply) => reply,
+    }
+}
+
+/// The number of buffers of the pool of `dpv filter`, and the size of its transmit list: those of `dpv one`.
+const COUNT: u32 = 64;
+
+const QUEUE: u32 = 32;
+
+/// The usual room of a buffer, in bytes.
+const ROOM: u32 = 2_176;
+
+/// The environment of `dpv filter`: that of `dpv one`, with buffers of this room and packets of this many segments.
+fn filter_env(room: u32, segs: u32) -> Option<Env>
+    ensures { IfSome result HasOnePort }
+{
+    let pool = PoolSpec {
+        count: COUNT,
+        cache: 0,
+        room,
+    };
+    let port = PortSpec {
+        pool: 0,
+        segs,
+        queue: QUEUE,
+    };
+    Env::new(&[pool], 0, &[], &[port]).ok()
+}
+
+/// The size of a region that is large enough for an environment, in bytes.
+fn region_for(env: &Env) -> u32
+    ensures { IsRegionSize result }
+{
+    let line = u64::from(CACHE_LINE);
+    let least = u64::from(MIN_REGION) / line;
+    let most = u64::from(MAX_REGION) / line;
+    let lines = need(env).div_ceil(line).clamp(least, most);
+    lines as u32 * CACHE_LINE
+}
+
+/// The number of an option, or its usual one.
+///
+/// # Errors
+///
+/// The reply to a word that is no number in this range.
+fn option_in<R>(
+    call: &Call<'_, '_, R>,
+    name: &str,
+    usual: u32,
+    least: u32,
+    most: u32,
+) -> Result<u32, Reply> {
+    let Some(word) = call.value(name) else {
+        return Ok(usual);
+    };
+    match number_within(word, least, most) {
+        Some(number) => Ok(number),
+        None => Err(wrong(
+            call.alloc,
+            format_args!("error: --{name} '{word}' is not a number from {least} to {most}"),
+        )),
+    }
+}
+
+/// `dpv filter PROGRAM IN OUT`.
+fn filtered<R: Files>(call: &Call<'_, '_, R>) -> Result<Reply, Reply> {
+    let room = option_in(call, "room", ROOM, MIN_PORT_ROOM, MAX_ROOM)?;
+    let segs = option_in(call, "segs", 1, 1, u32::from(MAX_SEGMENTS))?;
+    let Some(env) = filter_env(room, segs) else {
+        return Err(wrong(call.alloc, "error: no pipeline has such --room and --segs"));
+    };
+    let files = SingleFiles {
+        program: call.word("PROGRAM"),
+        cert: None,
+        input: call.word("IN"),
+        output: call.word("OUT"),
+    };
+    let region = region_for(&env);
+    run_single(call, &env, region, files)
+}
+
+/// `dpv filter PROGRAM IN OUT`.
+pub fn run_filter<R: Files>(call: &Call<'_, '_, R>) -> Reply {
+    match filtered(call) {
+        Ok(reply) | Err(reply) => reply,
+    }
+}

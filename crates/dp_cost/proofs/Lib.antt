@@ -1,0 +1,4 @@
+-- Lemmas about ways and costs.
+pub mod Bounds
+pub mod Running
+pub mod Ways

@@ -1,0 +1,2 @@
+-- The definitions that contracts of dp_cost name.
+pub mod Costs

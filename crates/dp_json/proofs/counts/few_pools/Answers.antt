@@ -1,9 +1,0 @@
--- One more pool.
-use Rattle.dp_json.specs.Counts.{pool_at}
-use Rattle.dp_json.specs.Laws.{each_next}
-use Rattle.dp_json.proofs.counts.few_pools.Goals as goal
-
-pub loop-k-preserved : goal.loop-k-preserved
-loop-k-preserved c =
-    each_next (pool_at c.args.levels.now) c.args.pools.now c.loop-k.k _ c.loop-k.values.items
-    c.push.new.self.items _ c.loop-k-test.true c.loop-k.invariant c.in_ok-push.ensures.items c.in_ok-pool.ensures

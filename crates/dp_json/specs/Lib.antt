@@ -1,9 +1,0 @@
-pub mod Counts
-pub mod Documents
-pub mod Instructions
-pub mod Laws
-pub mod Lists
-pub mod Numbers
-pub mod Reports
-pub mod Texts
-pub mod Verdicts

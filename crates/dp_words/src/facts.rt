@@ -1,0 +1,71 @@
+//! Says in words what is known of packets.
+
+use dp_check::Measure;
+use dp_model::Fact;
+use std::fmt;
+
+/// The word for what is measured of a packet.
+pub fn measure_word(part: Measure) -> &'static str {
+    match part {
+        Measure::Headroom => "headroom",
+        Measure::Tailroom => "tailroom",
+        Measure::First => "first",
+        Measure::Last => "last",
+    }
+}
+
+/// A part of what is known of a packet.
+#[derive(Clone, Copy, PartialEq, Eq)]
+pub enum Part {
+    Share(u8),
+    Bytes(Measure, u16),
+    Segments(u8),
+}
+
+impl fmt::Display for Part {
+    fn fmt<W: fmt::Write>(&self, f: &mut fmt::Formatter<W>) -> fmt::Result {
+        match *self {
+            Part::Share(0) => write!(f, "loose"),
+            Part::Share(1) => write!(f, "head sole"),
+            Part::Share(2) => write!(f, "sole"),
+            Part::Share(share) => write!(f, "in group p{}", share.saturating_sub(8)),
+            Part::Bytes(measure, bytes) => write!(f, "{} {bytes}", measure_word(measure)),
+            Part::Segments(1) => write!(f, "at most 1 segment"),
+            Part::Segments(segs) => write!(f, "at most {segs} segments"),
+        }
+    }
+}
+
+/// The parts of a fact, if the register holds a packet.
+pub fn parts_of(fact: Fact) -> Option<[Part; 6]> {
+    let held = fact.holding()?;
+    Some([
+        Part::Share(held.share),
+        Part::Bytes(Measure::Headroom, held.head),
+        Part::Bytes(Measure::Tailroom, held.tail),
+        Part::Bytes(Measure::First, held.first),
+        Part::Bytes(Measure::Last, held.last),
+        Part::Segments(held.segs),
+    ])
+}
+
+/// What is known of a packet register, as `sole, headroom 128, first 14, at most 1 segment`. Rooms and lengths that are not known are left out.
+#[derive(Clone, Copy)]
+pub struct FactText(pub Fact);
+
+impl fmt::Display for FactText {
+    fn fmt<W: fmt::Write>(&self, f: &mut fmt::Formatter<W>) -> fmt::Result {
+        let Some(parts) = parts_of(self.0) else {
+            return write!(f, "empty");
+        };
+        let mut mark = "";
+        for k in 0..6 {
+            let part = parts[k];
+            if !matches!(part, Part::Bytes(_, 0)) {
+                write!(f, "{mark}{part}")?;
+                mark = ", ";
+            }
+        }
+        Ok(())
+    }
+}

@@ -1,0 +1,370 @@
+//! Pipelines that are loaded from files in memory: what they have, or why they are not loaded.
+
+use super::files::{Content, FORWARD, File, STRIP, STRIP_ROWS, sources_of, text_of};
+use super::texts::{EVERY_PART, TWO_PORTS};
+use Answer::{Fails, Has};
+use Check::{Captures, Env, Hop, Node, Parts, Region, Ring, Routes};
+use Content::{Repeated, Rows, Text};
+use dp_model::{Entry, Fact};
+use dp_pipe::{How, PipeError, Pipeline, load};
+use dp_sources::{Lent, Sources};
+use std::alloc::{AllocError, Global};
+
+/// What a pipeline has.
+enum Check {
+    /// The size of its region.
+    Region(u32),
+    /// The numbers of pools, ports and tables of its environment.
+    Env(usize, usize, u8),
+    /// The numbers of its tables, rings, ports and nodes.
+    Parts([usize; 4]),
+    /// The captures of a port.
+    Captures(usize, &'static str, &'static str),
+    /// The hop of a table for an address.
+    Hop(usize, u32, Option<u32>),
+    /// The number of routes of the first table.
+    Routes(usize),
+    /// What the first ring declares.
+    Ring(Fact),
+    /// The number of instructions of a node, and what it is checked for.
+    Node(usize, usize, Entry),
+}
+
+/// What becomes of a pipeline file.
+enum Answer {
+    /// It is loaded, and has this.
+    Has(&'static [Check]),
+    /// It is not.
+    Fails(PipeError),
+}
+
+/// A pipeline file, how its nodes get certificates, and what becomes of it.
+struct Case {
+    text: Content,
+    how: How,
+    answer: Answer,
+}
+
+/// What the files hold that the pipelines name.
+static FILES: &[File] = &[
+    ("multicast.dpv", Text(&[FORWARD])),
+    ("forward.dpv", Text(&[FORWARD])),
+    ("n", Text(&[FORWARD])),
+    ("r", Text(&[FORWARD])),
+    ("strip", Text(&[STRIP])),
+    ("forward", Text(&[FORWARD])),
+    // It keeps its packet, so it is refused.
+    ("lost", Text(&["exit\n"])),
+    ("bad", Text(&["adj p0,65536\n"])),
+    ("strip.cert", Rows(STRIP_ROWS)),
+    // One byte more than a file may have.
+    ("long", Repeated(SIXTEEN, 65_536, "#")),
+    // 1,024 instructions, the greatest number.
+    ("longest", Repeated("add r1,3\n", 1022, "free p0\nexit\n")),
+];
+
+const SIXTEEN: &str = "################";
+
+/// A pipeline of one ring of any packets and one port, up to the names of the ring's files, of the port's, and its end.
+const HEAD: &str = "region = 10368\n[[pool]]\ncount = 4\ncache = 0\nroom = 2176\n\
+    [[ring]]\ncount = 4\nshare = 0\nhead = 0\ntail = 0\nfirst = 0\nlast = 0\nsegs = 64\n";
+
+const MIDDLE: &str = "[[port]]\npool = 0\nsegs = 1\nqueue = 4\n";
+
+const END: &str = "in = \"in\"\nout = \"out\"\n";
+
+const OF_STRIP: &str = "node = \"strip\"\n";
+
+const OF_STRIP_CERT: &str = "node = \"strip\"\ncert = \"strip.cert\"\n";
+
+const OF_STRIP_NOTHING: &str = "node = \"strip\"\ncert = \"nothing\"\n";
+
+const OF_LOST: &str = "node = \"lost\"\n";
+
+/// Eight of these have nearly as many buffers as all pools may have.
+const POOL: &str = "[[pool]]\ncount = 8191\ncache = 512\nroom = 4096\n";
+
+const TABLE: &str = "[[table]]\nrules = 65536\ngroups = 256\nroutes = [\"10.1.2.128/25 7\"]\n";
+
+const RING: &str =
+    "[[ring]]\ncount = 65536\nshare = 0\nhead = 0\ntail = 0\nfirst = 0\nlast = 0\nsegs = 64\nnode = \"longest\"\n";
+
+const PORT: &str =
+    "[[port]]\npool = 7\nsegs = 64\nqueue = 65536\nnode = \"longest\"\nin = \"a\"\nout = \"b\"\n";
+
+/// A pipeline file with the greatest number of each part.
+const LARGEST: &[&str] = &[
+    "region = 1073741824\n",
+    POOL,
+    POOL,
+    POOL,
+    POOL,
+    POOL,
+    POOL,
+    POOL,
+    POOL,
+    TABLE,
+    TABLE,
+    TABLE,
+    TABLE,
+    RING,
+    RING,
+    RING,
+    RING,
+    RING,
+    RING,
+    RING,
+    RING,
+    PORT,
+    PORT,
+    PORT,
+    PORT,
+    PORT,
+    PORT,
+    PORT,
+    PORT,
+];
+
+static CASES: &[Case] = &[
+    Case {
+        text: Text(&[TWO_PORTS]),
+        how: How::Given,
+        answer: Has(&[
+            Region(10_368),
+            Env(2, 2, 0),
+            Parts([0, 0, 2, 2]),
+            Captures(0, "a.pcap", "a.out"),
+            Captures(1, "b.pcap", "b.out"),
+        ]),
+    },
+    Case {
+        text: Text(&[EVERY_PART]),
+        how: How::Inferred,
+        answer: Has(&[
+            Parts([1, 1, 1, 2]),
+            Routes(2),
+            Hop(0, 0x0a01_02c8, Some(2)),
+            Hop(0, 0x0a01_0264, Some(1)),
+            Hop(0, 0x0b00_0001, None),
+            Ring(Fact::Held {
+                share: 1,
+                head: 2,
+                tail: 3,
+                first: 4,
+                last: 5,
+                segs: 6,
+            }),
+        ]),
+    },
+    Case {
+        text: Text(LARGEST),
+        how: How::Given,
+        answer: Has(&[
+            Env(8, 8, 4),
+            Parts([4, 8, 8, 16]),
+            Node(15, 1024, Entry::Ring(7)),
+            Hop(3, 0x0a01_02c8, Some(7)),
+            Hop(3, 0x0a01_0201, None),
+        ]),
+    },
+    // Certificates are given and inferred.
+    Case {
+        text: Text(&[HEAD, "node = \"forward\"\n", MIDDLE, OF_STRIP_CERT, END]),
+        how: How::Given,
+        answer: Has(&[
+            Parts([0, 1, 1, 2]),
+            Node(0, 6, Entry::Port(0)),
+            Node(1, 4, Entry::Ring(0)),
+        ]),
+    },
+    Case {
+        text: Text(&[
+            HEAD,
+            "node = \"forward\"\ncert = \"nothing\"\n",
+            MIDDLE,
+            OF_STRIP_NOTHING,
+            END,
+        ]),
+        how: How::Inferred,
+        answer: Has(&[]),
+    },
+    // The first fault of a node is answered.
+    Case {
+        text: Text(&[
+            HEAD,
+            OF_STRIP,
+            MIDDLE,
+            "node = \"nothing\"\ncert = \"nothing\"\n",
+            END,
+        ]),
+        how: How::Given,
+        answer: Fails(PipeError::File(Entry::Port(0))),
+    },
+    Case {
+        text: Text(&[HEAD, "node = \"long\"\n", MIDDLE, OF_STRIP, END]),
+        how: How::Given,
+        answer: Fails(PipeError::File(Entry::Ring(0))),
+    },
+    Case {
+        text: Text(&[HEAD, OF_STRIP, MIDDLE, OF_STRIP_NOTHING, END]),
+        how: How::Given,
+        answer: Fails(PipeError::File(Entry::Port(0))),
+    },
+    Case {
+        text: Text(&[
+            HEAD,
+            OF_STRIP,
+            MIDDLE,
+            "node = \"bad\"\ncert = \"nothing\"\n",
+            END,
+        ]),
+        how: How::Given,
+        answer: Fails(PipeError::Asm(
+            Entry::Port(0),
+            dp_lang::Fault {
+                line: 1,
+                cause: dp_lang::Cause::BadNumber,
+            },
+        )),
+    },
+    Case {
+        text: Text(&[
+            HEAD,
+            "node = \"strip\"\ncert = \"strip\"\n",
+            MIDDLE,
+            OF_STRIP,
+            END,
+        ]),
+        how: How::Given,
+        answer: Fails(PipeError::BadCert(
+            Entry::Ring(0),
+            dp_cert::Fault {
+                line: 1,
+                cause: dp_cert::Cause::BadHead,
+            },
+        )),
+    },
+    Case {
+        text: Text(&[HEAD, OF_STRIP_CERT, MIDDLE, OF_STRIP, END]),
+        how: How::Given,
+        answer: Fails(PipeError::Refused {
+            node: Entry::Ring(0),
+            label: 0,
+            rule: 2,
+        }),
+    },
+    Case {
+        text: Text(&[HEAD, OF_STRIP, MIDDLE, OF_LOST, END]),
+        how: How::Given,
+        answer: Fails(LOST),
+    },
+    Case {
+        text: Text(&[
+            HEAD,
+            "node = \"nothing\"\n",
+            MIDDLE,
+            "node = \"lost\"\ncert = \"strip.cert\"\n",
+            END,
+        ]),
+        how: How::Inferred,
+        answer: Fails(LOST),
+    },
+];
+
+/// The program of the port keeps its packet.
+const LOST: PipeError = PipeError::NotInferred {
+    node: Entry::Port(0),
+    label: 0,
+    rule: 10,
+};
+
+fn parts(pipeline: &Pipeline) -> [usize; 4] {
+    [
+        pipeline.tables().len(),
+        pipeline.rings(),
+        pipeline.ports(),
+        pipeline.nodes(),
+    ]
+}
+
+fn has_env(pipeline: &Pipeline, pools: usize, ports: usize, tables: u8) -> bool {
+    let env = pipeline.env();
+    env.pools().len() == pools && env.ports().len() == ports && env.tables() == tables
+}
+
+fn has_captures(pipeline: &Pipeline, port: usize, input: &str, output: &str) -> bool {
+    port < pipeline.ports() && pipeline.input(port) == input && pipeline.output(port) == output
+}
+
+fn hop(pipeline: &Pipeline, table: usize, ip: u32) -> Option<u32> {
+    pipeline.tables().get(table)?.lookup(ip)
+}
+
+fn has_routes(pipeline: &Pipeline, count: usize) -> bool {
+    match pipeline.tables().first() {
+        Some(table) => table.len() == count,
+        None => false,
+    }
+}
+
+fn has_node(pipeline: &Pipeline, k: usize, count: usize, entry: Entry) -> bool {
+    if k >= pipeline.nodes() {
+        return false;
+    }
+    let node = pipeline.node(k);
+    node.program().instrs().len() == count && node.entry() == entry
+}
+
+fn has(pipeline: &Pipeline, check: &Check) -> bool {
+    match check {
+        Region(size) => pipeline.region() == *size,
+        Env(pools, ports, tables) => has_env(pipeline, *pools, *ports, *tables),
+        Parts(counts) => parts(pipeline) == *counts,
+        Captures(port, input, output) => has_captures(pipeline, *port, input, output),
+        Hop(table, ip, want) => hop(pipeline, *table, *ip) == *want,
+        Routes(count) => has_routes(pipeline, *count),
+        Ring(fact) => pipeline.env().fact_of_ring(0) == Some(*fact),
+        Node(k, count, entry) => has_node(pipeline, *k, *count, *entry),
+    }
+}
+
+fn has_all(pipeline: &Pipeline, checks: &[Check]) -> bool {
+    checks.iter().all(|check| has(pipeline, check))
+}
+
+// Whether a file became what it should.
+fn is_answer(loaded: Result<Pipeline, PipeError>, answer: &Answer) -> bool {
+    match loaded {
+        Ok(pipeline) => match answer {
+            Has(checks) => has_all(&pipeline, checks),
+            Fails(_) => false,
+        },
+        Err(error) => match answer {
+            Has(_) => false,
+            Fails(want) => error == *want,
+        },
+    }
+}
+
+fn is_answered(alloc: Global, sources: &Sources, case: &Case) -> Result<bool, AllocError> {
+    let text = text_of(alloc, &case.text)?;
+    let loaded = load(alloc, text.as_bytes(), &mut Lent(sources), case.how);
+    Ok(is_answer(loaded, &case.answer))
+}
+
+// The first case, from 0, with another answer.
+fn first_wrong(alloc: Global, sources: &Sources) -> Result<Option<usize>, AllocError> {
+    for (k, case) in CASES.iter().enumerate() {
+        if !is_answered(alloc, sources, case)? {
+            return Ok(Some(k));
+        }
+    }
+    Ok(None)
+}
+
+#[test]
+fn loaded(rt: HostRuntime) -> Result<(), AllocError> {
+    let sources = sources_of(rt.alloc(), FILES)?;
+    assert_eq!(&rt; first_wrong(rt.alloc(), &sources)?, None);
+    Ok(())
+}

@@ -1,0 +1,147 @@
+//! Words of the command line that give ports other captures.
+
+use WordForm::{Bare, Named};
+use dp_captures::{
+    Direction, Place, Replaced, WordForm, WordProblem, captures_of, nowhere_in, replaced_in,
+};
+use std::alloc::{AllocError, Global};
+
+/// Words of both forms, each with the port, the place and the name that it gives, or nothing.
+static WORDS: &[(WordForm, &str, Option<(u8, Place, &str)>)] = &[
+    (Named, "0=in.pcap", Some((0, Place::File, "in.pcap"))),
+    (Named, "7=a=b", Some((7, Place::File, "a=b"))),
+    (Named, "3==", Some((3, Place::File, "="))),
+    (Named, "1=-", Some((1, Place::Stream, "-"))),
+    (Named, "1=--", Some((1, Place::File, "--"))),
+    (Named, "2= -", Some((2, Place::File, " -"))),
+    (Named, "4=/dev/null", Some((4, Place::File, "/dev/null"))),
+    (Named, "5=\u{e9}", Some((5, Place::File, "\u{e9}"))),
+    (Named, "", None),
+    (Named, "0", None),
+    (Named, "=", None),
+    (Named, "0=", None),
+    (Named, "=a", None),
+    (Named, "8=a", None),
+    (Named, "9=a", None),
+    (Named, "00=a", None),
+    (Named, "10=a", None),
+    (Named, "x=a", None),
+    (Named, "-1=a", None),
+    (Named, " 0=a", None),
+    (Named, "0 =a", None),
+    (Named, "/=a", None),
+    (Named, ":=a", None),
+    (Named, "0:a", None),
+    (Named, "\u{660}=a", None),
+    (Bare, "0", Some((0, Place::Nowhere, ""))),
+    (Bare, "3", Some((3, Place::Nowhere, ""))),
+    (Bare, "7", Some((7, Place::Nowhere, ""))),
+    (Bare, "", None),
+    (Bare, "8", None),
+    (Bare, "9", None),
+    (Bare, "00", None),
+    (Bare, "10", None),
+    (Bare, "x", None),
+    (Bare, "0=", None),
+    (Bare, "0=a", None),
+    (Bare, " 0", None),
+    (Bare, "/", None),
+    (Bare, ":", None),
+];
+
+/// Words PORT=NAME, words PORT, and the ports that get an output, or the problem of the first word at fault.
+static GIVEN: &[(&[&str], &[&str], &str)] = &[
+    (&[], &[], ""),
+    (&["1=a", "0=a"], &["7", "2"], "1072"),
+    (&["1=-", "0=/dev/stdin"], &["2", "3"], "1023"),
+    (
+        &["1=a", "0=b", "1=a"],
+        &["x"],
+        "error: '1=a' gives port 1 another output than '1=a': one --out or --no-out for each port",
+    ),
+    (
+        &["0=b", "8=a", "0=c"],
+        &[],
+        "error: '8=a' is not PORT=NAME: PORT a digit from 0 to 7, NAME a capture, or - for the standard stream",
+    ),
+    (
+        &["0=b"],
+        &["1", "0"],
+        "error: '0' gives port 0 another output than '0=b': one --out or --no-out for each port",
+    ),
+    (&[], &["9"], "error: '9' is not a port: a digit from 0 to 7"),
+    (
+        &["3=-", "4=-"],
+        &[],
+        "error: '3=-' and '4=-' both write standard output: one port alone can",
+    ),
+    (
+        &["2=a", "3=-", "2=-"],
+        &[],
+        "error: '2=-' gives port 2 another output than '2=a': one --out or --no-out for each port",
+    ),
+];
+
+fn given_by(form: WordForm, word: &str) -> Option<Replaced<'_>> {
+    match form {
+        Named => replaced_in(word),
+        Bare => nowhere_in(word),
+    }
+}
+
+// Whether a word gives that.
+fn gives(form: WordForm, word: &str, want: Option<(u8, Place, &str)>) -> bool {
+    match given_by(form, word) {
+        Some(one) => one.word == word && Some((one.port, one.place, one.name)) == want,
+        None => want == None,
+    }
+}
+
+// The first word that gives something else, from 0.
+fn first_wrong() -> Option<usize> {
+    for (k, (form, word, want)) in WORDS.iter().enumerate() {
+        if !gives(*form, word, *want) {
+            return Some(k);
+        }
+    }
+    None
+}
+
+// The ports of captures, as digits.
+fn digits(alloc: Global, given: &[Replaced<'_>]) -> Result<String, AllocError> {
+    let mut ports = String::new(alloc);
+    for one in given {
+        ports.push_str(format!(in alloc; "{}", one.port)?.as_str())?;
+    }
+    Ok(ports)
+}
+
+// The ports that get an output, as digits, or the problem of a word.
+fn ports_of(alloc: Global, named: &[&str], bare: &[&str]) -> Result<String, AllocError> {
+    match captures_of(alloc, Direction::Out, named, bare) {
+        Ok(given) => digits(alloc, given.as_slice()),
+        Err(WordProblem::Memory) => Err(AllocError),
+        Err(problem) => format!(in alloc; "{problem}"),
+    }
+}
+
+// The first words, from 0, that give outputs to other ports.
+fn first_given(alloc: Global) -> Result<Option<usize>, AllocError> {
+    for (k, (named, bare, want)) in GIVEN.iter().enumerate() {
+        if ports_of(alloc, named, bare)?.as_str() != *want {
+            return Ok(Some(k));
+        }
+    }
+    Ok(None)
+}
+
+#[test]
+fn words(rt: HostRuntime) {
+    assert_eq!(&rt; first_wrong(), None);
+}
+
+#[test]
+fn given(rt: HostRuntime) -> Result<(), AllocError> {
+    assert_eq!(&rt; first_given(rt.alloc())?, None);
+    Ok(())
+}
