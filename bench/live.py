@@ -191,7 +191,7 @@ def over_dpdk(library: pathlib.Path, folder: pathlib.Path, seconds: float) -> No
     """The table of hosts over DPDK's devices."""
     flags = dpdk()
     if flags is None:
-        print("\nover DPDK: not measured, for want of it")
+        print("\nover DPDK: not measured, since DPDK is not installed")
         return
     ours = compiled(LIVE / "dpdk.c", folder / "dpdk", [*flags, *over(library)])
     bare = compiled(LIVE / "dpdk.c", folder / "dpdk_none", [*flags, f"-I{HERE / 'none'}"])

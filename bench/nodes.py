@@ -22,7 +22,8 @@ from typing import NamedTuple
 from timing import dpdk, instructions
 
 TOP = pathlib.Path(__file__).resolve().parent.parent
-sys.path.insert(0, str(TOP / "tests"))
+sys.path.insert(0, str(TOP / "tests/shared"))
+import paths  # noqa: E402 F401
 import compiled as compiled_nodes  # noqa: E402
 from command import program_of  # noqa: E402
 

@@ -88,7 +88,7 @@ struct dpv_frame {
 
 /* Why a pipeline was not loaded. cause is 0 (it was loaded), 1 (memory was refused), 2 (the packed files), 3 (the region is too small), or
    10 plus the cause that `dpv check` names, 11 to 19. From 11 to 17 the text is what `dpv check` prints after `fault: pipeline`; with 18 and
-   19 it is the line that `dpv check` prints of the node. Zeros follow it, at least one. */
+   19 it is the line that `dpv check` prints of the node; or `memory`, if there was none for the text. Zeros follow it, at least one. */
 struct dpv_reason {
     uint32_t cause;
     uint32_t length;
@@ -159,7 +159,7 @@ uint32_t dpv_route_add(dpv_t *engine, struct dpv_route *route);
 uint32_t dpv_route_delete(dpv_t *engine, struct dpv_route *route);
 /* Gets the hop that a program's `lookup` would find now. DPV_OK, DPV_NOT_OPEN, DPV_CLOSED, DPV_NO_TABLE or DPV_NO_ROUTE. */
 uint32_t dpv_route_lookup(dpv_t *engine, uint32_t table, uint32_t ip, struct dpv_hop *hop);
-/* Ends the engine: frees the packets in rings, so each pool has all its buffers, each once, and frees the region's memory. All later calls
+/* Ends the engine: frees the packets in rings, so every buffer is back in its pool, and frees the region's memory. All later calls
    but dpv_why return DPV_CLOSED. DPV_OK, DPV_NOT_OPEN or DPV_CLOSED. */
 uint32_t dpv_close(dpv_t *engine, struct dpv_totals *totals);
 

@@ -1,5 +1,5 @@
 /* threads PIPELINE THREADS ROUNDS: as many threads, each with an engine of its own, which it opens, hands frames of 60 bytes and changes of routes,
-   and closes; for tests/host.py and bench/live.py. Prints the nanoseconds of a frame: of processor time in the mean of the threads, and by
+   and closes; for tests/library/host.py and bench/live.py. Prints the nanoseconds of a frame: of processor time in the mean of the threads, and by
    the clock from the first pass to the last, over the frames of all threads. Exits with 1 if the engines did not do the same. */
 #define _POSIX_C_SOURCE 200809L
 #include "frame.h"

@@ -1,9 +1,9 @@
 " Syntax of node programs (.dpv).
 if exists("b:current_syntax") | finish | endif
 syn match dpvComment "#.*$"
-syn match dpvLabel "^\s*[A-Za-z_][A-Za-z0-9_]*\s*:"
+syn match dpvLabel "[A-Za-z_][A-Za-z0-9_]*:"
 syn keyword dpvMove set mov load loadx store storex iflen iflast ifhead iftail lookup
-syn keyword dpvMath add sub and or xor shl shr mul div mod
+syn keyword dpvMath add sub and or xor shl shr
 syn keyword dpvJump jmp jeq jlt exit tx enq
 syn keyword dpvPacket alloc clone free prepend adj append trim chain
 syn match dpvRegister "\<[pr][0-7]\>"

@@ -3,14 +3,15 @@
 
 Compiles a program of docs/users/pkt.md to a node program. An error is printed to standard error with its line, and gives status 1.
 With --prove it says whether the program does what its source says, for all packets: proved, different (status 1) or open (status 3)."""
+import argparse
 import os
 import pathlib
 import sys
 
 sys.path.insert(0, str(pathlib.Path(__file__).resolve().parent.parent))
 
-from pkt.compiler import compile_text, error_text  # noqa: E402
-from pkt.prove.command import prove_file  # noqa: E402
+from pkt.compiler import compiled, error_text  # noqa: E402
+from pkt.prove.command import prove_text  # noqa: E402
 from pkt.syntax import SourceError  # noqa: E402
 
 
@@ -18,22 +19,32 @@ def main() -> int:
     if sys.argv[1:] in (["-h"], ["--help"]):
         print(__doc__)
         return 0
-    if sys.argv[1:2] == ["--prove"]:
-        return prove_file(sys.argv[2:])
-    if len(sys.argv) != 2:
+    if sys.argv[1:2] != ["--prove"] and len(sys.argv) != 2:
         print(__doc__.splitlines()[0], file=sys.stderr)
         return 2
-    path = pathlib.Path(sys.argv[1])
+    asked = asked_to_prove(sys.argv[2:]) if sys.argv[1] == "--prove" else None
+    path = pathlib.Path(asked.file if asked else sys.argv[1])
     try:
         source = path.read_text(encoding="utf-8")
-        text = compile_text(source, path.name, path.parent)
+        text, note = compiled(source, path.name, path.parent)
     except (OSError, UnicodeDecodeError) as error:
         print(f"{path}: {error.strerror if isinstance(error, OSError) else 'it is no UTF-8 text'}", file=sys.stderr)
     except SourceError as error:
         print(error_text(error, str(path), source), file=sys.stderr)
     else:
-        return written(text)
+        if note:
+            print(f"{path}: note: {note}", file=sys.stderr)
+        return prove_text(source, text, asked.rounds, asked.seconds) if asked else written(text)
     return 1
+
+
+def asked_to_prove(words: list[str]) -> argparse.Namespace:
+    """The words after --prove."""
+    parser = argparse.ArgumentParser(prog="dpv build --prove", description="Decides for all packets whether the output does what the source says.")
+    parser.add_argument("--rounds", type=int, default=256, help="the rounds of loops that are looked at (256, which are all)")
+    parser.add_argument("--seconds", type=float, default=300, help="the limit of processor time (300)")
+    parser.add_argument("file", help="FILE.pkt")
+    return parser.parse_args(words)
 
 
 def written(text: str) -> int:

@@ -2,7 +2,7 @@
 from . import conditions, registers
 from .headers import Header, Span
 from .registers import Value
-from .state import FAR, Needs
+from .state import EVERYTHING, Needs
 from .syntax import Field, Mend, Pushed, require
 from .ways import Join, Way, paths
 
@@ -57,16 +57,16 @@ def chain(way: Way, name: str | None) -> list[str]:
 
 def places(way: Way, name: str) -> list[int]:
     """The places where a header that was found may be."""
-    if way.found[name] < FAR // 2:
-        return [way.found[name]]
-    before = next(it for it in chain(way, name) if way.found[it] < FAR // 2)
-    return [way.found[before] + way.headers[before].sizes[value] + way.found[name] - FAR for value in way.far.lengths]
+    if not way.is_far(name):
+        return [way.begins(name)]
+    before = next(it for it in chain(way, name) if not way.is_far(it))
+    return [way.begins(before) + way.headers[before].sizes[value] + way.begins(name) for value in way.far.lengths]
 
 
 def require_even(way: Way, outer: str, inner: str) -> None:
     """Refuses a checksum whose words begin at other bytes than those of a header within what it covers."""
-    is_far = way.found[outer] >= FAR // 2
-    distances = [way.found[inner] - way.found[outer]] if is_far else [it - way.found[outer] for it in places(way, inner)]
+    inside = [way.begins(inner)] if way.is_far(outer) else places(way, inner)
+    distances = [it - way.begins(outer) for it in inside]
     is_even = all(it % 2 == 0 for it in distances)
     require(is_even, way.at, f"the words of the checksum of {outer} begin at other bytes", "`mend` needs a header at an even place")
 
@@ -107,9 +107,9 @@ def update_chain(way: Way, names: list[str], twice: str, after: Join[Way]) -> No
 
 def words_of(way: Way, it: Field, span: Span) -> Span:
     """The 16-bit words of its header that a field has bits in."""
-    base = 8 * way.found[it.header]
+    base = 8 * way.begins(it.header)
     first, end = (span.bit - base) // 16 * 16, (span.end - base + 15) // 16 * 16
-    words = Span(base + first, end - first)
+    words = Span(base + first, end - first, span.is_far)
     is_whole = (words.bits == 16 or words == span) and end <= 8 * way.headers[it.header].size
     require(is_whole, way.at, f"{it.header}.{it.name} is neither within one 16-bit word of its header nor made of whole ones", "split it")
     return words
@@ -142,24 +142,36 @@ def assign_field(way: Way, target: Field, value: Value) -> None:
 
 def cover(way: Way, names: list[str], own: str, done: Join[Way]) -> None:
     """Updates the checksum of the first of these headers that is present."""
+    behind = [name for name in names if own in way.headers[name].follows]
+    if conditions.may_share(way, behind, own):
+        absent = Join[Way](EVERYTHING)
+        for s, name in conditions.first_behind(way, behind, own, absent):
+            update_covering(s, name, own, done)
+        for s in absent.begin():
+            cover(s, [name for name in names if name not in behind], own, done)
+        return
     if not names:
         return way.jump(done)
     no = Join[Way](done.needs)
     for s in paths(lambda yes: conditions.look_for(way, names[0], yes, no)):
-        if own not in chain(s, names[0])[1:]:
-            update_sum(s, names[0], done, [DIFFERENCE])
-            continue
-        s = update_inside(s, names[0], own, is_counted=False)
-        s.variables.pop(CHANGES, None)
-        s.jump(done)
+        update_covering(s, names[0], own, done)
     for s in no.begin():
         cover(s, names[1:], own, done)
+
+
+def update_covering(way: Way, name: str, own: str, done: Join[Way]) -> None:
+    """Updates the checksum over a field, and those between it and the field's header."""
+    if own not in chain(way, name)[1:]:
+        return update_sum(way, name, done, [DIFFERENCE])
+    way = update_inside(way, name, own, is_counted=False)
+    way.variables.pop(CHANGES, None)
+    way.jump(done)
 
 
 def update_sum(way: Way, name: str, done: Join[Way], terms: list[str], is_counted: bool = False) -> None:
     """Updates a checksum by differences. One that is counted adds to the variable of changes what changes in a sum of words, plus 0xffff."""
     header, same = way.headers[name], Join[Way](done.needs)
-    span = header.fields[header.sum].moved(way.found[name])
+    span = registers.span_of(way, Field(way.at, name, header.sum))
     if is_counted and CHANGES not in way.variables:
         way.variables[CHANGES] = registers.own(way, Value(0)).r
     total = registers.load(way, span)
@@ -172,11 +184,18 @@ def update_sum(way: Way, name: str, done: Join[Way], terms: list[str], is_counte
         registers.copy_to(way, old, total)
     for term in terms:
         registers.apply(way, total, "+", Value(register=way.variables[term]))
-    complement(way, total, header.optional or is_counted)
-    if header.optional:
-        zero = way.emit("jeq", total, 0, to=Join())
-        zero.emit("set", total, "0xffff")
+    most = sum(way.bounds[way.variables[term]] for term in terms)
+    if header.optional and not is_counted and most <= 0xFFFF:
+        # What was there is not 0, so the sum is below 0x1fffe: its complement is 0 only if it is 0xffff, which is what is written then.
+        zero = way.emit("jeq", total, 0xFFFF, to=Join())
+        complement(way, total, is_exact=False)
         way.unite([zero])
+    else:
+        complement(way, total, header.optional or is_counted)
+        if header.optional:
+            zero = way.emit("jeq", total, 0, to=Join())
+            zero.emit("set", total, "0xffff")
+            way.unite([zero])
     if is_counted:
         for part in (old, total):
             registers.apply(way, Value(register=way.variables[CHANGES]), "+", part)

@@ -1,10 +1,13 @@
 """Compiles a text to a node program."""
 import pathlib
+from collections import Counter
 from functools import lru_cache
+from typing import NamedTuple
 
 from .headers import Headers
 from .parser import Parser, Program
 from .peephole import shorten
+from .reach import lines_unreached
 from .statements import compile_program
 from .syntax import Row, SourceError
 from .writer import printable, write
@@ -40,15 +43,37 @@ def placed(error: SourceError, rows: list[Row]) -> SourceError:
     return error
 
 
+class Compiled(NamedTuple):
+    """A node program, and a note on what no packet reaches, if there is one."""
+
+    text: str
+    note: str
+
+
 def compile_text(source: str, name: str = "a text", folder: pathlib.Path | None = None) -> str:
     """The node program of a text, which may include files of a folder; raises SourceError."""
+    return compiled(source, name, folder, False).text
+
+
+def compiled(source: str, name: str = "a text", folder: pathlib.Path | None = None, has_note: bool = True) -> Compiled:
+    """The node program of a text, and the note if it is wanted; raises SourceError."""
     program = parse(source, folder)
     try:
         graph = compile_program(program)
+        note = note_of(lines_unreached(graph), program.rows) if has_note else ""
         shorten(graph, MAX_INSTRUCTIONS)
-        return f"# Built from {printable(name)} by `dpv build`; docs/users/pkt.md has its language.\n" + write(graph, program.rows)
+        return Compiled(f"# Built from {printable(name)} by `dpv build`; docs/users/pkt.md has its language.\n" + write(graph, program.rows), note)
     except SourceError as error:
         raise placed(error, program.rows) from None
+
+
+def note_of(lines: Counter[int], rows: list[Row]) -> str:
+    """The note on lines that no packet reaches, each with the number of its instructions."""
+    shown = [rows[line] for line in sorted(lines) if line]
+    places = [f"{row.path}:{row.number}" if row.path else f"line {row.number}" for row in shown]
+    count = sum(lines[line] for line in lines if line)
+    said = f"{', '.join(places[:-1])} and {places[-1]}" if len(places) > 1 else "".join(places)
+    return f"no packet reaches {said}: {count} instruction{'s are' if count > 1 else ' is'} left out" if places else ""
 
 
 def error_text(error: SourceError, name: str, source: str) -> str:

@@ -4,16 +4,18 @@ from dataclasses import replace
 from itertools import pairwise
 from typing import cast
 
-from .headers import Header, Span
+from .headers import Header, Span, Start
 from .parser import COMPARISONS, substituted
 from . import registers
 from .registers import Value
-from .state import ABSENT, EVERYTHING, FAR, NEAR, SOMEBODY_THE_REST, Far, Needs
+from .state import EVERYTHING, FAR, NEAR, SOMEBODY_THE_REST, Far, Needs
 from .syntax import THIS, And, Bits, Compare, Field, Found, Length, Node, Not, Number, Or, parts, require
 from .ways import Join, Way, paths
 
 # No packet has more bytes in its first segment, and so many zeros are appended at most where a header is at an offset in a register.
 MAX_BYTES, MAX_PADDING = 65_535, 36
+# The variable with how far a header reaches, in the first bits of the one before it.
+REACH = "$reach"
 CONTRARY = {"!=": "==", ">": "<=", ">=": "<"}
 
 
@@ -142,7 +144,7 @@ def has_bytes(way: Way, count: int, no: Join[Way], packet: str = THIS) -> None:
 
 def touch(way: Way, names: Iterable[str], yes: Join[Way], no: Join[Way]) -> None:
     """Looks for headers one after another, until one is absent."""
-    left = [name for name in names if way.found.get(name, ABSENT) == ABSENT]
+    left = [name for name in names if way.found.get(name) is None]
     if not left:
         return way.jump(yes)
     for s in paths(lambda found: look_for(way, left[0], found, no)):
@@ -152,13 +154,13 @@ def touch(way: Way, names: Iterable[str], yes: Join[Way], no: Join[Way]) -> None
 def look_for(way: Way, name: str, yes: Join[Way], no: Join[Way]) -> None:
     """Looks for one header: a path for each place where it can be."""
     if name in way.found:
-        return way.jump(no if way.found[name] == ABSENT else yes)
+        return way.jump(no if way.found[name] is None else yes)
     missing = Join[Way]()
     for s in paths(lambda found: search(way, way.headers[name], found, missing)):
-        s.found = {it: at for it, at in s.found.items() if at != ABSENT or it not in way.headers.after(name)}
+        s.found = {it: at for it, at in s.found.items() if at is not None or it not in way.headers.after(name)}
         s.jump(yes)
     for s in missing.begin():
-        s.found[name] = ABSENT
+        s.found[name] = None
         s.jump(no)
 
 
@@ -218,8 +220,8 @@ def search_at(way: Way, header: Header, before: str, found: Join[Way], missing: 
 
 def header_before(way: Way, name: str) -> str | None:
     """The header that a header follows: among those that were found, the one that begins last."""
-    last = max(way.headers[name].follows, key=lambda it: way.found.get(it, ABSENT), default="")
-    return last if way.found.get(last, ABSENT) != ABSENT else None
+    found = [it for it in way.headers[name].follows if way.found.get(it) is not None]
+    return max(found, key=lambda it: (way.is_far(it), way.begins(it)), default=None)
 
 
 def at_place(way: Way, header: Header, at: int, found: Join[Way], missing: Join[Way]) -> None:
@@ -227,16 +229,16 @@ def at_place(way: Way, header: Header, at: int, found: Join[Way], missing: Join[
     if at + header.size + way.far.padding > MAX_BYTES:
         return way.jump(missing)
     has_bytes(way, at + header.size, missing)
-    way.found[header.name] = at
+    way.found[header.name] = Start(False, at)
     way.jump(found)
 
 
 def search_behind(way: Way, header: Header, before: Header, found: Join[Way], missing: Join[Way]) -> None:
     """Looks for a header after one that was found and has a variable length."""
-    base = way.found[before.name]
-    if not before.bits:
+    base = way.begins(before.name)
+    if not before.bits and not way.is_far(before.name):
         return at_place(way, header, base + before.size, found, missing)
-    is_one = base < FAR // 2 and (way.far == NEAR or way.far.base == base)
+    is_one = before.bits and not way.is_far(before.name) and (way.far == NEAR or way.far.base == base)
     require(is_one, way.at, f"{header.name} is after two headers whose lengths vary", f"`need` one length of {before.name} before")
     if way.far != NEAR and header.size <= way.far.size and may_be_far(way, header, before):
         way.found[header.name] = FAR
@@ -257,7 +259,7 @@ def sizes_left(way: Way, header: Header) -> dict[int, int]:
 
 def first_bits(way: Way, header: Header) -> Span:
     """The bits that give the length of a header that was found."""
-    return Span(8 * way.found[header.name], header.bits)
+    return Span(8 * way.begins(header.name), header.bits)
 
 
 def each_length(way: Way, header: Header, missing: Join[Way]) -> Iterator[tuple[Way, int]]:
@@ -284,14 +286,14 @@ def if_length(way: Way, span: Span, value: int) -> Way:
 def may_be_far(way: Way, header: Header, before: Header) -> bool:
     """Whether a header may be at an offset in a register: few zeros can be appended, and no header after it is used."""
     this, most = way.packets[way.held[THIS]], max(before.sizes.values())
-    is_short = most - min(before.sizes.values()) <= MAX_PADDING + 4 and way.found[before.name] + most + header.size + MAX_PADDING <= MAX_BYTES
+    is_short = most - min(before.sizes.values()) <= MAX_PADDING + 4 and way.begins(before.name) + most + header.size + MAX_PADDING <= MAX_BYTES
     may_append = is_short and this.sharers <= {SOMEBODY_THE_REST} and this.segments == 1
     return may_append and header.name not in way.unit.near and not way.headers.after(header.name) & way.unit.used_headers
 
 
 def at_register(way: Way, header: Header, before: Header, left: dict[int, int], found: Join[Way], missing: Join[Way]) -> None:
     """Looks for a header at its usual place; for all other lengths of the one before it, tested in order, at an offset in a register."""
-    base, span, ready = way.found[before.name], first_bits(way, before), Join[Way]()
+    base, span, ready = way.begins(before.name), first_bits(way, before), Join[Way]()
     if way.far.lengths:
         left = {value: before.sizes[value] for value in way.far.lengths}
     else:
@@ -314,11 +316,115 @@ def at_register(way: Way, header: Header, before: Header, left: dict[int, int], 
         s.jump(found)
 
 
+def may_share(way: Way, names: list[str], own: str) -> bool:
+    """Whether known headers, of which at most one is present, can be looked for together after one whose length varies."""
+    header = way.headers[own]
+    if len(names) < 2 or not header.bits or way.is_far(own) or way.far != NEAR or len(way.used()) > 4:
+        return False
+    left = sizes_left(way, header)
+    steps = {size - other for other, size in pairwise(left.values())}
+    is_even = len(left) > 2 and max(left) - min(left) == len(left) - 1 and len(steps) == 1 and min(steps) > 0
+    are_new = all(way.headers[name].is_known and name not in way.found for name in names)
+    are_even = are_new and is_even and len({way.headers[name].size % min(steps) for name in names}) == 1
+    return are_even and all(may_be_far(way, way.headers[name], header) for name in names)
+
+
+def first_behind(way: Way, names: list[str], own: str, absent: Join[Way]) -> Iterator[tuple[Way, str]]:
+    """The paths on which one of these headers is present after another whose length varies, with its name. Ends this path. At an offset in a
+    register they share the tests of the length: each as if the header before it were longer by what it is longer than the shortest one."""
+    missing, ways = Join[Way](), [way]
+    for it in common_tests(way, names, own):
+        yes = Join[Way]()
+        for way in ways:
+            decide(way, it, yes, missing)
+        ways = list(yes.begin())
+    for way in ways:
+        yield from first_at(way, names, own, missing, absent)
+    for way in missing.begin():
+        way.found |= dict.fromkeys(names)
+        way.jump(absent)
+
+
+def common_tests(way: Way, names: list[str], own: str) -> list[Node]:
+    """The tests that each of these headers needs."""
+    found = list[list[Node]]()
+    for name in names:
+        tests, it = list[Node](), way.headers[name].follows[own]
+        while isinstance(it, And):
+            tests, it = [it.right, *tests], it.left
+        found.append([it, *tests])
+    return [it for it in found[0] if all(it in tests for tests in found)]
+
+
+def first_at(way: Way, names: list[str], own: str, missing: Join[Way], absent: Join[Way]) -> Iterator[tuple[Way, str]]:
+    """The same, after the tests that all of these headers need."""
+    before, span, ready, inside, impossible = way.headers[own], first_bits(way, way.headers[own]), Join[Way](), Join[Way](), Join[Way]()
+    left, first, shortest = sizes_left(way, before), min(sizes_left(way, before)), min(way.headers[name].size for name in names)
+    step = left[first + 1] - left[first]
+    yield from first_of(if_length(way, span, first), names, absent)
+    del left[first]
+    value = registers.load(way, span)
+    way.emit("jlt", value, first + 1, to=missing)
+    far = way.emit("jlt", value, max(left) + 1, to=Join())
+    way.jump(missing)
+    far.pins.clear()
+    far.variables[REACH] = registers.fresh(far).r
+    registers.copy_to(far, Value(register=far.variables[REACH]), registers.load(far, span))
+    last = max(left)
+    for s, name in each_allowed(far, names, own, missing):
+        more = (s.headers[name].size - shortest) // step
+        registers.apply(s, Value(register=s.variables[REACH]), "+", Value(more))
+        last = max(last, max(left) + more)
+        s.jump(ready)
+    for s in ready.begin():
+        for value in range(first + 1, last + 1):
+            s.emit("iflen", f"p{s.held[THIS]}", s.begins(own) + left[first + 1] + step * (value - first - 1) + shortest, to=missing)
+            if value != last:
+                s.emit("jlt", f"r{s.variables[REACH]}", value + 1, to=inside)
+        s.jump(inside)
+    for s in inside.begin():
+        del s.variables[REACH]
+        s.far = go_far(s, before, left)
+        for t, name in each_allowed(s, names, own):
+            # A longer header is there: this test, which never jumps, says so to the checker.
+            has_bytes(t, t.begins(own) + left[first + 1] + t.headers[name].size, impossible)
+            t.far = replace(t.far, size=t.headers[name].size)
+            t.found |= {**dict.fromkeys(names[: names.index(name)]), name: FAR}
+            yield t, name
+    for s in impossible.ways:
+        s.drop()
+    for s in missing.ways:
+        s.variables.pop(REACH, None)
+
+
+def each_allowed(way: Way, names: list[str], own: str, none: Join[Way] | None = None) -> Iterator[tuple[Way, str]]:
+    """The paths on which a header may allow one of these behind it, with its name. Ends this path. Without a place for none, one is allowed."""
+    ways = [way]
+    for name in names:
+        no = Join[Way]()
+        for way in ways:
+            if none is None and name == names[-1]:
+                yield way, name
+                continue
+            for s in paths(lambda yes: decide(way, way.headers[name].follows[own], yes, no)):
+                yield s, name
+        ways = list(no.begin())
+    for way in ways:
+        assert none is not None
+        way.jump(none)
+
+
 def go_far(way: Way, before: Header, left: dict[int, int]) -> Far:
     """Appends zeros, so that the register's greatest value is within the packet, and computes the register."""
-    p, base, padding = way.held[THIS], way.found[before.name], max(before.sizes.values()) - min(left.values())
+    p, base, padding = way.held[THIS], way.begins(before.name), max(before.sizes.values()) - min(left.values())
     assert before.formula is not None
     way.emit("iftail", f"p{p}", padding, to=Join()).drop()
     way.emit("append", f"p{p}", padding)
     place = registers.own(way, registers.evaluate(way, substituted(before.formula, Bits(way.at, 8 * base, before.bits))))
+    greatest = max(before.sizes.values())
+    if way.bounds[place.r] > greatest:
+        # The checker knows no more than what the formula gives for any number; it learns the rest from a test that always jumps.
+        inside = way.emit("jlt", place, greatest + 1, to=Join())
+        way.drop()
+        way.last, way.bounds[place.r] = inside.last, greatest
     return Far(padding, base, 0, tuple(left), place.r)

@@ -64,3 +64,13 @@ class Graph:
                 order.append(it)
                 pending.pop()
         return order[::-1]
+
+    def kept(self) -> list[tuple[Instruction, dict[str, object]]]:
+        """All instructions as they are now."""
+        return [(it, dict(vars(it))) for it in self.order()]
+
+    def restore(self, kept: list[tuple[Instruction, dict[str, object]]]) -> None:
+        """Makes the instructions what they were."""
+        for it, parts in kept:
+            vars(it).update(parts)
+        self.first = kept[0][0]

@@ -8,11 +8,19 @@ from typing import NamedTuple
 from .syntax import And, Compare, Field, Name, Node, Number, Place, parts, require
 
 
+class Start(NamedTuple):
+    """Where a header begins: so many bytes after the packet's first one, or after the offset in a register."""
+
+    is_far: bool
+    byte: int
+
+
 class Span(NamedTuple):
-    """Bits of a header or of a packet: the first one, and how many."""
+    """Bits of a header or of a packet: the first one, and how many; those of a packet that are far begin after the offset in a register."""
 
     bit: int
     bits: int
+    is_far: bool = False
 
     @property
     def end(self) -> int:
@@ -31,11 +39,15 @@ class Span(NamedTuple):
 
     def moved(self, count: int) -> Span:
         """The same bits, `count` bytes further."""
-        return Span(self.bit + 8 * count, self.bits)
+        return self._replace(bit=self.bit + 8 * count)
+
+    def after(self, start: Start) -> Span:
+        """The same bits of a header that begins there."""
+        return Span(self.bit + 8 * start.byte, self.bits, start.is_far)
 
     def meets(self, other: Span) -> bool:
         """Whether both have a bit."""
-        return self.bit < other.end and other.bit < self.end
+        return self.is_far == other.is_far and self.bit < other.end and other.bit < self.end
 
 
 @dataclass

@@ -4,9 +4,9 @@ from itertools import combinations
 from . import checksums, conditions, registers
 from .checksums import Others
 from .conditions import MAX_BYTES
-from .headers import Span, asked_of
+from .headers import Span, Start, asked_of
 from .registers import Value
-from .state import FAR, NEAR, SOMEBODY, SOMEBODY_THE_REST
+from .state import NEAR, SOMEBODY, SOMEBODY_THE_REST
 from .syntax import THIS, Chain, Cut, Free, Node, Number, Pop, Push, Pushed, Truncate, require
 from .ways import Join, Way, pieces
 
@@ -57,9 +57,9 @@ def come_near(way: Way) -> None:
     if way.far != NEAR:
         way.emit("trim", f"p{way.held[THIS]}", way.far.padding)
         way.far = NEAR
-        way.found = {name: at for name, at in way.found.items() if at < FAR // 2}
-        way.loaded = {it: r for it, r in way.loaded.items() if it.bit < 4 * FAR}
-        way.bits = {bit: it for bit, it in way.bits.items() if bit < 4 * FAR}
+        way.found = {name: at for name, at in way.found.items() if not way.is_far(name)}
+        way.loaded = {it: r for it, r in way.loaded.items() if not it.is_far}
+        way.bits = {(is_far, bit): it for (is_far, bit), it in way.bits.items() if not is_far}
 
 
 def prepend(way: Way, name: str, count: int) -> int:
@@ -82,7 +82,7 @@ def move_bytes(way: Way, count: int, source: int, target: int) -> None:
     for at, width in list(pieces(range(count)))[:: 1 if target < source else -1]:
         value = registers.load(way, Span(8 * (source + at), 8 * width))
         registers.may_write(way, way.held[THIS])
-        registers.access(way, "store", way.held[THIS], target + at, width, value)
+        registers.access(way, "store", way.held[THIS], Start(False, target + at), width, value)
         way.overwrite(Span(8 * (target + at), 8 * width))
         registers.release(way, value)
 
@@ -104,7 +104,7 @@ def do_pop(way: Way, it: Pop, after: Join[Way], missing: Join[Way]) -> None:
     come_near(way)
     last = way.headers[it.path[-1]]
     for s, size in conditions.each_length(way, last, missing):
-        begin, end = s.found[it.path[0]], s.found[last.name] + size
+        begin, end = s.begins(it.path[0]), s.begins(last.name) + size
         count = end - begin
         if end > MAX_BYTES:
             s.jump(missing)
@@ -151,7 +151,7 @@ def push_tag(way: Way, pushed: Pushed, before: str) -> None:
     come_near(way)
     (kind,) = asked_of(tag.follows[before]).values()
     width = tag.fields[tag.next].bits // 8
-    front = way.found[before] + header.size - width
+    front = way.begins(before) + header.size - width
     p = prepend(way, THIS, tag.size)
     move_bytes(way, front, tag.size, 0)
     whole = kind.to_bytes(width, "big") + data[: tag.size - width]

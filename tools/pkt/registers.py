@@ -1,8 +1,8 @@
 """Register allocation, and the lowering of numbers: loads, stores and arithmetic."""
 from dataclasses import dataclass
 
-from .headers import Span
-from .state import ABSENT, ALL, FAR, SOMEBODY_THE_REST
+from .headers import Span, Start
+from .state import ALL, SOMEBODY_THE_REST
 from .syntax import BIGGEST, THIS, Binary, Bits, Field, Name, Node, Number, parts, require
 from .ways import Way, pieces
 
@@ -37,7 +37,7 @@ def fresh(way: Way) -> Value:
     names = ", ".join(sorted(it for it in way.variables if not it.startswith("$")))
     require(free, way.at, f"this needs a ninth number: {names} are held, and what is calculated here",
             "variables end with their block, and port where it is no more used")
-    needed = {span_of(way, it) for it in way.unit.needs if isinstance(it, Field) and way.found.get(it.header, ABSENT) != ABSENT}
+    needed = {span_of(way, it) for it in way.unit.needs if isinstance(it, Field) and way.found.get(it.header) is not None}
     wanted = {r for it, r in way.loaded.items() if it in needed}
     register = min(free, key=lambda r: (r in way.loaded.values()) + (r in wanted))
     unload(way, register)
@@ -90,25 +90,27 @@ def in_register(way: Way, value: Value) -> Value:
 
 def span_of(way: Way, it: Field) -> Span:
     """The place of a field whose header was found."""
-    return way.headers[it.header].fields[it.name].moved(way.found[it.header])
+    start = way.found[it.header]
+    assert start is not None
+    return way.headers[it.header].fields[it.name].after(start)
 
 
 def window_of(way: Way, span: Span, packet: int) -> tuple[int, int, int] | None:
     """The place and the width of a load with the bits, and their distance from its end; none if no load within the packet has them all."""
     low, high = span.bytes.start, span.bytes.stop
-    least, limit = (FAR, FAR + way.far.size) if low >= FAR else (0, way.packets[packet].first)
+    limit = way.far.size if span.is_far else way.packets[packet].first
     for width in (1, 2, 4, 8):
-        start = max(least, high - width) if high - width < low else low
+        start = max(0, high - width) if high - width < low else low
         if high - width <= start <= low and start + width <= limit:
             return start, width, 8 * (start + width) - span.end
     return None
 
 
-def access(way: Way, word: str, packet: int, start: int, width: int, value: Value) -> None:
+def access(way: Way, word: str, packet: int, start: Start, width: int, value: Value) -> None:
     """A load or a store, at a constant offset or at one in a register."""
-    place: list[object] = [f"p{packet}", start, width]
-    if start >= FAR // 2:
-        word, place = word + "x", [f"p{packet}", f"r{way.far.register}", start - FAR + way.far.base, width]
+    place: list[object] = [f"p{packet}", start.byte, width]
+    if start.is_far:
+        word, place = word + "x", [f"p{packet}", f"r{way.far.register}", start.byte + way.far.base, width]
     way.emit(word, *([value, *place] if word.startswith("load") else [*place, value]))
 
 
@@ -124,7 +126,7 @@ def load(way: Way, span: Span, field: Field | None = None, into: int | None = No
         above, shift = 8 * len(span.bytes), -span.end % 8
     else:
         start, width, shift = window
-        access(way, "load", way.held[THIS], start, width, value)
+        access(way, "load", way.held[THIS], Start(span.is_far, start), width, value)
         above = 8 * width
     if shift:
         way.emit("shr", value, shift)
@@ -140,11 +142,11 @@ def load_pieces(way: Way, span: Span, value: Value) -> None:
     """Loads bytes that are three, or five to seven, in pieces that have no other byte."""
     for at, width in pieces(span.bytes):
         if at == span.bytes.start:
-            access(way, "load", way.held[THIS], at, width, value)
+            access(way, "load", way.held[THIS], Start(span.is_far, at), width, value)
             continue
         part = fresh(way)
         way.emit("shl", value, 8 * width)
-        access(way, "load", way.held[THIS], at, width, part)
+        access(way, "load", way.held[THIS], Start(span.is_far, at), width, part)
         way.emit("or", value, part)
         release(way, part)
 
@@ -172,7 +174,7 @@ def store(way: Way, span: Span, value: Value, packet: int | None = None, known: 
     may_write(way, packet)
     if span.bit % 8 or span.bits not in WIDTHS:
         store_bits(way, span, value, packet, known or {})
-    elif value.register is None and span.bit < 4 * FAR:
+    elif value.register is None and not span.is_far:
         scratch = fresh(way)
         way.put(packet, span.bytes.start, (value.constant & span.largest).to_bytes(span.bits // 8, "big"), scratch.r)
         release(way, scratch)
@@ -188,11 +190,11 @@ def store_bytes(way: Way, span: Span, value: Value, packet: int) -> None:
     """Writes whole bytes."""
     value = in_register(way, value)
     width = 4 if span.bits == 48 else span.bits // 8
-    access(way, "store", packet, span.bytes.stop - width, width, value)
+    access(way, "store", packet, Start(span.is_far, span.bytes.stop - width), width, value)
     if span.bits == 48:
         value = own(way, value)
         way.emit("shr", value, 32)
-        access(way, "store", packet, span.bytes.start, 2, value)
+        access(way, "store", packet, Start(span.is_far, span.bytes.start), 2, value)
     release(way, value)
 
 
@@ -208,13 +210,13 @@ def store_bits(way: Way, span: Span, value: Value, packet: int, known: dict[int,
         rest.constant = int.from_bytes(bytes(known[k] for k in window), "big") & others
     else:
         rest = fresh(way)
-        access(way, "load", packet, start, width, rest)
+        access(way, "load", packet, Start(span.is_far, start), width, rest)
         apply(way, rest, "&", Value(others))
     value = shifted(way, value, span, shift)
     if rest.register is None:
         rest, value = own(way, value) if rest.constant else in_register(way, value), rest
     apply(way, rest, "|", value)
-    access(way, "store", packet, start, width, rest)
+    access(way, "store", packet, Start(span.is_far, start), width, rest)
     release(way, rest)
     release(way, value)
 
@@ -228,7 +230,7 @@ def store_pieces(way: Way, span: Span, value: Value, packet: int, known: dict[in
             part = fresh(way)
             copy_to(way, part, value)
             apply(way, part, ">>", Value(span.end - end))
-        piece = Span(first, end - first)
+        piece = Span(first, end - first, span.is_far)
         if piece.bits == 8 * width:
             store_bytes(way, piece, part, packet)
         else:
@@ -274,7 +276,7 @@ def bits_of(way: Way, it: Node) -> Span | None:
         case Field():
             return span_of(way, it)
         case Binary(_, ">>", Field() as field, Number(_, count)) if count < span_of(way, field).bits:
-            return Span(span_of(way, field).bit, span_of(way, field).bits - count)
+            return span_of(way, field)._replace(bits=span_of(way, field).bits - count)
     return None
 
 

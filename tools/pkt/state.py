@@ -6,7 +6,7 @@ from copy import copy
 from dataclasses import dataclass, field, replace
 from typing import Self
 
-from .headers import Span
+from .headers import Span, Start
 from .syntax import PORT, THIS, Field
 
 # The facts that later statements need: variables, fields, and headers with True if found, False if absent. ALL stands for every fact.
@@ -16,8 +16,8 @@ NOTHING, EVERYTHING = Needs(), Needs({ALL})
 
 # Who shares the buffers of a packet: registers of packets, somebody permanently, or somebody those after the first one.
 SOMEBODY, SOMEBODY_THE_REST = -1, -2
-# The place of a header that is absent; places from FAR on mean offsets in a register.
-ABSENT, FAR = -1, 1 << 20
+# Where a header begins that is at the offset in the register.
+FAR = Start(True, 0)
 # The factors by which instructions with a count change the headroom of a packet and the length of its first segment.
 MOVES = {"prepend": (-1, 1), "adj": (1, -1), "append": (0, 1), "trim": (0, -1)}
 
@@ -70,8 +70,8 @@ class State:
 
     held: dict[str, int] = field(default_factory=lambda: {THIS: 0})
     packets: dict[int, Packet] = field(default_factory=lambda: {0: Packet()})
-    found: dict[str, int] = field(default_factory=dict)  # the places of headers that were looked for
-    bits: dict[int, int] = field(default_factory=dict)  # the known bits of the packet
+    found: dict[str, Start | None] = field(default_factory=dict)  # where headers begin that were looked for; none for those that are absent
+    bits: dict[tuple[bool, int], int] = field(default_factory=dict)  # the known bits of the packet, each by whether it is far, and its number
     loaded: dict[Span, int] = field(default_factory=dict)  # the register that has these bits of the packet
     variables: dict[str, int] = field(default_factory=lambda: {PORT: 0})
     bounds: dict[int, int] = field(default_factory=lambda: {0: 0})
@@ -101,7 +101,7 @@ class State:
         """Keeps only the needed facts."""
         self.pins = Counter()
         if ALL not in needs:
-            self.found = {name: at for name, at in self.found.items() if (name, at != ABSENT) in needs}
+            self.found = {name: at for name, at in self.found.items() if (name, at is not None) in needs}
             self.variables = {name: r for name, r in self.variables.items() if name in needs or name.startswith("$")}
 
     def join(self, other: State) -> None:
@@ -114,26 +114,37 @@ class State:
         self.bounds = {r: max(b, other.bounds[r]) for r, b in self.bounds.items() if r in other.bounds}
         self.sharer = self.sharer if self.sharer[0] else other.sharer
 
+    def begins(self, name: str) -> int:
+        """The byte at which a header that was found begins; if it is far, after the offset in the register."""
+        start = self.found[name]
+        assert start is not None
+        return start.byte
+
+    def is_far(self, name: str) -> bool:
+        """Whether a header was found at the offset in the register."""
+        start = self.found.get(name)
+        return start is not None and start.is_far
+
     def known(self, span: Span) -> tuple[int, int]:
         """The known bits, and their values."""
         mask = value = 0
         for bit in range(span.bit, span.end):
-            mask, value = mask << 1 | (bit in self.bits), value << 1 | self.bits.get(bit, 0)
+            mask, value = mask << 1 | ((span.is_far, bit) in self.bits), value << 1 | self.bits.get((span.is_far, bit), 0)
         return mask, value
 
     def learn(self, span: Span, value: int) -> None:
         """Records the value of bits."""
-        self.bits |= {bit: value >> span.end - 1 - bit & 1 for bit in range(span.bit, span.end)}
+        self.bits |= {(span.is_far, bit): value >> span.end - 1 - bit & 1 for bit in range(span.bit, span.end)}
 
     def overwrite(self, span: Span) -> None:
         """Records that bits changed, and forgets the other bits of their bytes."""
         self.loaded = {it: r for it, r in self.loaded.items() if not it.meets(span)}
-        self.bits = {bit: it for bit, it in self.bits.items() if bit // 8 not in span.bytes}
+        self.bits = {(is_far, bit): it for (is_far, bit), it in self.bits.items() if is_far != span.is_far or bit // 8 not in span.bytes}
 
     def move(self, count: int, start: int = 0) -> None:
         """Records that the bytes from start on moved count bytes up, and that those before it changed."""
         self.loaded = {it.moved(count): r for it, r in self.loaded.items() if it.bit >= 8 * start}
-        self.bits = {bit + 8 * count: it for bit, it in self.bits.items() if bit >= 8 * start}
+        self.bits = {(is_far, bit + 8 * count): it for (is_far, bit), it in self.bits.items() if bit >= 8 * start}
 
     def share(self, p: int, q: int) -> None:
         """Records that p is a clone of q."""

@@ -7,9 +7,10 @@ from dataclasses import replace
 
 from . import checksums, conditions, packets, registers
 from .graph import Graph, Instruction
+from .headers import Start
 from .parser import Program
 from .registers import Value
-from .state import FAR, NEAR, NOTHING, SOMEBODY, Far, Needs, Packet
+from .state import NEAR, NOTHING, SOMEBODY, Far, Needs, Packet
 from .syntax import (
     BIGGEST, PORT, THIS, Assign, Block, Chain, Clone, Count, Cut, Drop, Field, Found, Free, If, Inline, Length, Let, Lookup, Mend, Name,
     Name, Need, New, Node, Number, Pop, Push,
@@ -26,7 +27,7 @@ def compile_program(program: Program) -> Graph:
     unit, first = Unit(program), Instruction()
     way, at = Way(unit=unit, last=first), 0
     for name in program.given:
-        way.found[name] = at
+        way.found[name] = Start(False, at)
         at += program.headers[name].size
     sharers = frozenset({SOMEBODY} if program.is_shared else ())
     way.packets[0] = Packet(sharers, program.headroom, max(program.length, at), program.segments)
@@ -57,7 +58,7 @@ def block(ways: list[Way], text: Block, after: Join[Way]) -> None:
         for way in ways:
             for s in paths(lambda done: statement(way, it, done), ready.needs):
                 s.at = it.at
-                if FAR not in s.found.values():
+                if not any(s.is_far(name) for name in s.found):
                     packets.come_near(s)
                 s.jump(ready)
         ways = list(ready.begin())
@@ -284,10 +285,10 @@ def port_of(way: Way, it: Send) -> Value | None:
     return registers.in_register(way, registers.evaluate(way, it.port))
 
 
-def not_sent(way: Way, it: Send, far: Far, found: dict[str, int], after: Join[Way]) -> None:
+def not_sent(way: Way, it: Send, far: Far, found: dict[str, Start | None], after: Join[Way]) -> None:
     """The `else` part, which may use headers at the offset in a register again."""
     wanted = after.needs | way.unit.needs_of(it.fallback)
-    was_far = any(at >= FAR and (name, True) in wanted for name, at in found.items())
+    was_far = any(at is not None and at.is_far and (name, True) in wanted for name, at in found.items())
     if was_far and way.far == NEAR and not way.packets[way.held[THIS]].sharers:
         way.emit("append", f"p{way.held[THIS]}", far.padding)
         way.far, way.found = far, dict(found)

@@ -24,6 +24,11 @@ def lines(graph: Graph) -> Iterator[tuple[str, int | None, str]]:
             yield to.text(names) if to.word in ENDS else f"jmp {names[to]}", to.line if to.word == "jmp" else it.left or it.line, ""
 
 
+def length_of(graph: Graph) -> int:
+    """How many instructions the text of a program has."""
+    return sum(1 for _, line, _ in lines(graph) if line is not None)
+
+
 def note_of(row: Row, counter: str) -> str:
     """The comment of an instruction: what it counts, and its line."""
     return f"{f'count {counter}: ' if counter else ''}{f'{row.path.name}:' if row.path else ''}{row.number}: {' '.join(row.text.split())[:WIDTH]}"

@@ -1,8 +1,9 @@
 """What `dpv build --prove` prints."""
-import argparse
 import importlib.util
 import pathlib
+import re
 import sys
+from collections import Counter
 
 TOP = pathlib.Path(__file__).resolve().parent.parent.parent.parent
 # Where Debian has z3, which another Python than Debian's does not look for.
@@ -22,31 +23,28 @@ def lacks() -> str:
     return "" if importlib.util.find_spec("z3") else "python3-z3"
 
 
-def prove_file(words: list[str]) -> int:
-    """Compiles a program and proves it. Returns the status: 0, 1 for a difference, 3 if it is open, 70 if z3 is missing."""
-    parser = argparse.ArgumentParser(prog="dpv build --prove", description="Decides for all packets whether the output does what the source says.")
-    parser.add_argument("--rounds", type=int, default=256, help="the rounds of loops that are looked at (256, which are all)")
-    parser.add_argument("--seconds", type=float, default=300, help="the time limit (300)")
-    parser.add_argument("file", help="FILE.pkt")
-    asked = parser.parse_args(words)
+def prove_text(source: str, text: str, rounds: int, seconds: float) -> int:
+    """Proves that a node program does what its source says. Returns the status: 0, 1 for a difference, 3 if it is open, 70 if z3 is missing."""
     missing = lacks()
     if missing:
         print(f"dpv build --prove needs {missing}", file=sys.stderr)
         return CANNOT
-    from pkt.compiler import compile_text, error_text
-    from pkt.syntax import SourceError
-
     from .decide import prove
-    path = pathlib.Path(asked.file)
-    try:
-        source = path.read_text(encoding="utf-8")
-        text = compile_text(source, path.name, path.parent)
-    except (OSError, UnicodeDecodeError) as error:
-        print(f"{path}: {error.strerror if isinstance(error, OSError) else 'it is no UTF-8 text'}", file=sys.stderr)
-        return 1
-    except SourceError as error:
-        print(error_text(error, str(path), source), file=sys.stderr)
-        return 1
-    result = prove(source, text, asked.rounds, asked.seconds)
+    result = prove(source, text, rounds, seconds)
     print(result.line())
+    if result.verdict == "proved":
+        print(*unreached(text, result.seen), sep="\n", end="")
     return STATUS[result.verdict]
+
+
+def unreached(text: str, seen: set[int]) -> list[str]:
+    """What is said of instructions that no packet reaches, by their lines of the source; nothing if there are none."""
+    rows = [row for row in text.splitlines() if row.startswith(" ")]
+    places = (re.search(r"# (?:count \w+: )?((?:[^ :]+:)?\d+): ", row) for k, row in enumerate(rows) if k not in seen)
+    lines = Counter(f"line {place[1]}" if place else "the end" for place in places)
+    if not lines:
+        return []
+    total = lines.total()
+    said = ", ".join(f"{line} has {count}" for line, count in lines.most_common(5))
+    return [f"no packet reaches {total} of {len(rows)} instructions: {said}",
+            "  help: what stands before these lines decides what they ask; they may ask less, or a `need` before them may ask it once", ""]

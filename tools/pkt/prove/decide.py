@@ -1,123 +1,80 @@
 """Whether a node program does what its source says, for all packets: both run on a symbolic packet, path by path, and what they do is compared.
 
 A difference counts only if the interpreters of tests/ confirm it on the packet."""
+from __future__ import annotations
+
 import pathlib
-import sys
 import time
 from collections import Counter
+from collections.abc import Iterator
+from copy import copy
 from dataclasses import dataclass, field
+from itertools import zip_longest
+from typing import NamedTuple
 
+from model.machine import Instr
 from model.programs import assemble
-from pkt_model.reader import Fault, Reader, headers_of
+from pkt_model.machine import Open, Source
+from pkt_model.reader import Fault, read
+from pkt_model.syntax import Program
 
+from .known import Model
 from .node import NodeRun
-from .packets import Seg
-from .paths import Bounded, Explorer, Left
-from .replay import checks, shown
-from .source import NotGiven, Open, Source, SourceRun
-from .terms import add, const, eq, leaf, lt, negated
+from .numbers import Unknown
+from .packets import Event, Seg, copied, symbolic
+from .paths import Bounded, Explorer, Left, Path, Undecided
+from .replay import Case, checks, shown
+from .source import NotGiven, SymbolicRun
+from .terms import Cond, Val, add, const, eq, leaf, lt, negated
 
 PRELUDE = pathlib.Path(__file__).resolve().parent.parent / "prelude.pkt"
-# The numbers of a long sum are in one another.
-DEEP = 20_000
 
 
 class Different(Exception):
     """A packet on which the two differ, with the reason."""
 
-    def __init__(self, why, model):
+    def __init__(self, why: str, model: Model) -> None:
         super().__init__(why)
-        self.why, self.model = why, model
+        self.model = model
 
 
 @dataclass
 class Result:
-    """What was found."""
+    """The verdict, `why` and the packet; how many paths there are, are left free by the page or are left out, by reason, what z3 was asked and
+    did not answer, how many runs the interpreters confirmed, the instructions that ran, and the seconds."""
 
     verdict: str = "proved"
-    paths: int = 0
-    left: Counter = field(default_factory=Counter)
-    free: int = 0
-    hard: int = 0
-    asked: int = 0
-    seconds: float = 0
-    replayed: int = 0
-    seen: set = field(default_factory=set)
-    size: int = 0
-    bounded: bool = False
-    difference: str = ""
     why: str = ""
+    difference: str = ""
+    paths: int = 0
+    free: int = 0
+    left: Counter[str] = field(default_factory=Counter)
+    asked: int = 0
+    replayed: int = 0
+    seen: set[int] = field(default_factory=set)
+    seconds: float = 0
 
-    def line(self):
+    def line(self) -> str:
         """What is printed."""
         if self.verdict == "proved":
             return f"proved: {self.paths} paths in {self.seconds:.1f} s"
         return f"{self.verdict}: {self.why}" + (f"\n{self.difference}" if self.difference else "")
 
 
-def arrival(program, given_headroom, given_length, segments):
+def arrival(program: Program, segments: int) -> tuple[list[Seg], Val]:
     """A symbolic packet and the number of its port or ring."""
+    packet = [symbolic(k) for k in range(segments)]
+    packet[0].len, packet[0].room = add(packet[0].len, const(program.length)), const(128)
     if program.is_for_ring:
-        room = add(leaf("num", ("room",), 11), const(given_headroom))
-        number = leaf("num", ("port",), 3)
-    else:
-        room = const(128)
-        number = leaf("num", ("port",), max(3, (program.ports - 1).bit_length()))
-    length = add(leaf("num", ("length",), 12), const(given_length))
-    packet = [Seg([], 0, length, room, leaf("num", ("tail",), 12))]
-    for k in range(1, segments):
-        packet.append(Seg([], k, leaf("num", ("length", k), 12), leaf("num", ("room", k), 12), leaf("num", ("tail", k), 12)))
-    return packet, number
+        packet[0].room = add(leaf("num", ("room",), 11), const(program.headroom))
+    return packet, leaf("num", ("port",), 3 if program.is_for_ring else max(3, (program.ports - 1).bit_length()))
 
 
-class GivenReader(Reader):
-    """A reader that keeps what a ring declares."""
-
-    headroom, length = 128, 0
-
-    def given(self):
-        """The headroom and the length, which the run needs; the rest as usual."""
-        kind, at = self.token.text, self.at
-        if kind in ("headroom", "length"):
-            self.take()
-            setattr(self, kind, self.constant())
-            self.at = at
-        super().given()
-
-    def naming(self):
-        """A declaration; a text that includes others is not known here."""
-        if self.token.text == "include" and self.tokens[min(self.at + 1, len(self.tokens) - 1)].kind == "string":
-            raise Fault("the form include")
-        return super().naming()
-
-
-def items(path, packet, other):
-    """What must be equal of two packets: pairs of numbers, each with the length below which it counts."""
-    a, b = ([it.copy() for it in p] for p in (packet, other))
-    for p in (a, b):
-        for it in p:
-            it.settle(path)
-    a, b = merged(a), merged(b)
-    if len(a) != len(b):
-        return None
-    pairs = []
-    for x, y in zip(a, b):
-        if x.extra or y.extra or None not in (x.origin, y.origin) and x.origin != y.origin:
-            return None
-        n = max(len(x.head), len(y.head))
-        for it in (x, y):
-            it.reach(n if it.origin is not None else len(it.head))
-        pairs.append((x.len, y.len, None))
-        if None not in (x.origin, y.origin) and x.base != y.base:
-            pairs.append((x.len, const(n), "most"))
-        pairs += [(p, q, (k, x.len)) for k, (p, q) in enumerate(zip(x.head, y.head))]
-    return pairs
-
-
-def merged(packet):
+def merged(path: Path, packet: list[Seg]) -> list[Seg]:
     """Segments whose bytes are all known are put before those that follow: only the bytes count."""
-    out = []
-    for it in packet:
+    out: list[Seg] = []
+    for it in copied(packet):
+        it.settle(path)
         if out and out[-1].origin is None:
             last = out.pop()
             it.head, it.len = last.head + it.head, add(it.len, const(len(last.head)))
@@ -125,152 +82,154 @@ def merged(packet):
     return out
 
 
-def disagreements(path, source, node):
-    """Conditions of which one must hold for the two to differ; True if they differ always."""
-    if len(source) != len(node):
-        return True, "one does more"
-    found = []
-    for a, b in zip(source, node):
-        if a[0] != b[0]:
-            return True, f"{a[0]} and {b[0]}"
-        if a[0] == "alloc":
-            if a[1:] != b[1:]:
-                return True, "another pool"
-            continue
-        found += unequal(path, a[1], b[1], None)
-        if a[3] is None:
-            continue
-        pairs = items(path, a[3], b[3])
-        if pairs is None:
-            return True, "lengths differ"
-        for x, y, where in pairs:
-            if where == "most":
-                found.append([lt(y, x)])
-            else:
-                found += unequal(path, x, y, where)
-    return found, "a byte, a length or a port differs"
-
-
-def unequal(path, x, y, where):
-    """The conditions under which two numbers differ, none if they are simply equal."""
-    if x == y:
-        return []
-    x, y = path.known.val(x), path.known.val(y)
-    c = negated(eq(x, y))
-    if c is False or path.decide(c) is False:
-        return []
-    if where is not None:
-        inside = path.decide(lt(const(where[0]), where[1]))
-        if inside is False:
-            return []
-        if inside is None:
-            return [[c, lt(const(where[0]), where[1])]]
-    return [[c]]
-
-
-def compare(path, source, node, result):
-    found, why = disagreements(path, source, node)
-    if found is True:
-        model = next(iter(path.models), None) or path.explorer.query_alone(path.literals, [])
-        if model is None:
+def differences(path: Path, events: list[Event], others: list[Event]) -> Iterator[tuple[str, list[Cond]]]:
+    """Each way in which two runs may differ, with the conditions under which they do."""
+    for a, b in zip_longest(events, others):
+        if a is None or b is None or a.kind != b.kind:
+            yield ("one does more" if a is None or b is None else f"{a.kind} and {b.kind}"), []
             return
-        if model is False:
-            result.hard += 1
+        yield "the port, the ring or the pool differs", [negated(eq(a.to, b.to))]
+        if a.packet is not None and b.packet is not None:
+            yield from differing(path, merged(path, a.packet), merged(path, b.packet))
+
+
+def differing(path: Path, packet: list[Seg], other: list[Seg]) -> Iterator[tuple[str, list[Cond]]]:
+    """Each way in which two packets may differ."""
+    for x, y in zip_longest(packet, other):
+        if x is None or y is None or x.extra or y.extra or None not in (x.origin, y.origin) and x.origin != y.origin:
+            yield "segments differ", []
             return
-        raise Different(why, model)
-    for conditions in found:
+        size = max(len(x.head), len(y.head))
+        for it in (x, y):
+            it.reach(size if it.origin is not None else len(it.head))
+        yield "a length differs", [negated(eq(x.len, y.len))]
+        if None not in (x.origin, y.origin) and x.base != y.base:
+            yield "what follows differs", [lt(const(size), x.len)]
+        yield from (("a byte differs", [negated(eq(a, b)), lt(const(k), x.len)]) for k, (a, b) in enumerate(zip(x.head, y.head)))
+
+
+def compare(path: Path, events: list[Event], others: list[Event]) -> int:
+    """Raises an exception if two runs differ on some packet of a path. Returns how many questions z3 did not answer."""
+    found, unanswered = [], 0
+    for why, conditions in differences(path, events, others):
+        conditions = [path.known.cond(it) for it in conditions]
+        if not any(it is False or path.decide(it) is False for it in conditions):
+            found.append((why, [it for it in conditions if it is not True]))
+    for why, conditions in found:
         for model in path.models:
-            if all(model.holds(c) for c in conditions):
+            if all(map(model.holds, conditions)):
                 raise Different(why, model)
-    for conditions in found:
+    for why, conditions in found:
         for model in path.models[-2:]:
-            near = model.jittered(conditions[0], [*path.literals, *conditions[1:]], 30)
+            near = conditions and model.near(conditions[0], [*path.literals, *conditions[1:]], 30)
             if near:
                 raise Different(why, near)
-    for conditions in found:
-        model = path.explorer.query_alone(path.literals, conditions)
-        if model is False:
-            result.hard += 1
-        elif model is not None:
+    for why, conditions in found:
+        model = path.explorer.query_alone([*path.literals, *conditions])
+        if model:
             model.answers = path.answers()
             raise Different(why, model)
+        unanswered += model is False
+    return unanswered
 
 
-def prove(text, node_text, rounds=256, seconds=300, replays=False):
-    """The verdict on a node program and its source. `rounds` bounds loops; with `replays` the interpreters run a packet of each path too."""
-    begin, deep = time.time(), sys.getrecursionlimit()
-    sys.setrecursionlimit(max(deep, DEEP))
+class Proof(NamedTuple):
+    """A source and its node program, how many rounds of loops are looked at, whether the interpreters run a packet of each path too, and what was
+    found."""
+
+    program: Program
+    source: Source
+    node: list[Instr]
+    rounds: int
+    replays: bool
+    result: Result
+
+
+def prove(text: str, node_text: str, rounds: int = 256, seconds: float = 300, replays: bool = False) -> Result:
+    """The verdict on a node program and its source, in some seconds of processor time. Of packets in several segments, those with one and with two
+    count."""
+    begin, result = time.process_time(), Result()
+    explorer = Explorer(begin + seconds)
     try:
-        proof = Proof(text, node_text, rounds, begin + seconds, replays)
-        proof.decide()
-        result = proof.result
-    except Fault as fault:
-        result = Result("open", why=str(fault))
-    except RecursionError:
-        result = Result("open", why="numbers that are too deep in one another")
-    finally:
-        sys.setrecursionlimit(deep)
-    result.seconds = time.time() - begin
+        program, node = read(text, PRELUDE.read_text(encoding="utf-8")), assemble(node_text.encode())
+        if not isinstance(node, list):
+            raise Fault(f"the program does not assemble: {node}")
+        proof = Proof(program, Source(program), node, rounds, replays, result)
+        for segments in range(1, min(program.segments, 2) + 1):
+            explorer.run(Twins(proof, Path(explorer), segments))
+        if result.left:
+            result.verdict, result.why = "open", ", ".join(why if count == 1 else f"{why} ({count} times)" for why, count in result.left.items())
+    except (Fault, TimeoutError, RecursionError) as fault:
+        kinds = {TimeoutError: "the time is up", RecursionError: "numbers that are too deep in one another"}
+        result.verdict, result.why = "open", kinds.get(type(fault), str(fault))
+    except Different as difference:
+        result.verdict, result.why = "different", str(difference)
+    result.paths, result.asked, result.seconds = explorer.paths, explorer.asked, time.process_time() - begin
     return result
 
 
-class Proof:
-    """A source and its node program."""
+class Twins:
+    """A source and its program on one path: the source runs first, then its program, and then what they did is compared."""
 
-    def __init__(self, text, node_text, rounds, until, replays):
-        reader = GivenReader(text, headers_of(PRELUDE.read_text(encoding="utf-8")))
-        self.program = reader.read()
-        self.headroom, self.length = reader.headroom, reader.length
-        self.source, self.node = Source(self.program), assemble(node_text.encode())
-        if not isinstance(self.node, list):
-            raise Fault(f"the program does not assemble: {self.node}")
-        self.rounds, self.until, self.replays = rounds, until, replays
-        self.result = Result(size=len(self.node))
+    def __init__(self, proof: Proof, path: Path, segments: int) -> None:
+        self.proof, self.path = proof, path
+        packet, number = arrival(proof.program, segments)
+        self.case = Case(proof.program, proof.node, packet, number)
+        self.run = SymbolicRun(path, proof.source, copied(packet), number, proof.rounds)
+        self.other = NodeRun(path, proof.node, copied(packet), number, 16 * proof.rounds, proof.result.seen)
+        self.is_source = True
 
-    def decide(self):
-        """Runs all paths; of packets in several segments, those with one and with two."""
-        result, explorer = self.result, Explorer(self.until)
+    def fork(self) -> Twins:
+        """A copy on a path of its own."""
+        it = copy(self)
+        it.path = self.path.fork()
+        it.run, it.other = (self.run.fork(it.path), self.other) if self.is_source else (self.run, self.other.fork(it.path))
+        return it
+
+    def step(self) -> bool:
+        """One step of the two. Returns whether there are more."""
+        result, Unknown.path = self.proof.result, self.path
         try:
-            for segments in range(1, min(self.program.segments, 2) + 1):
-                explorer.run(lambda path, segments=segments: self.one(path, segments))
-        except Different as difference:
-            result.verdict, result.why = "different", difference.why
-        except TimeoutError:
-            result.verdict, result.why = "open", "the time is up"
-        if result.verdict == "proved" and (result.hard or result.left or result.bounded):
-            causes = [f"bounded: no packet differs within {self.rounds} rounds of loops"] if result.bounded else []
-            causes += [f"{result.hard} questions without an answer"] if result.hard else []
-            causes += [why if count == 1 else f"{why} ({count} times)" for why, count in result.left.items()]
-            result.verdict, result.why = "open", ", ".join(causes)
-        result.paths, result.asked = explorer.paths, explorer.asked
-
-    def one(self, path, segments):
-        """A path: the source first, and then its program."""
-        result, program = self.result, self.program
-        packet, number = arrival(program, self.headroom, self.length, segments)
-        run = SourceRun(path, self.source, [it.copy() for it in packet], number, self.rounds)
-        other = NodeRun(path, self.node, [it.copy() for it in packet], number, 16 * self.rounds if self.rounds < 256 else 256)
-        try:
-            run.give_headers()
-            run.go()
-            other.go()
+            if self.is_source:
+                self.is_source = self.run.step()
+                self.follow()
+                return True
+            if self.other.step():
+                return True
+            self.end()
         except (Open, NotGiven):
             result.free += 1
-            return
         except Bounded:
-            result.bounded = True
-            return
+            result.left[f"bounded: no packet differs within {self.proof.rounds} rounds of loops"] = 1
         except Left as why:
             result.left[str(why)] += 1
-            return
-        finally:
-            result.seen |= other.seen
+        return False
+
+    def follow(self) -> None:
+        """The program keeps pace with the source as far as what is known decides, for all paths that begin later."""
+        self.path.is_known = goes_on = True
         try:
-            compare(path, run.events, other.events, result)
+            while goes_on:
+                ahead = self.other.fork(self.path)
+                goes_on = ahead.step()
+                self.other = ahead if goes_on else self.other
+        except (Undecided, Bounded, Left):
+            pass
+        self.path.is_known, self.other = False, self.other.fork(self.path)
+
+    def end(self) -> None:
+        """Compares what they did."""
+        proof, events, others = self.proof, self.run.world.events, self.other.world.events
+        if len(others) < len(events) and self.run.may_drop(self.path):
+            events = events[: len(others)]
+        try:
+            unanswered = compare(self.path, events, others)
+            if unanswered:
+                proof.result.left["questions without an answer"] += unanswered
         except Different as difference:
-            result.difference = shown(difference, program, self.node, packet, number)
-            if result.difference:
+            proof.result.difference = shown(difference.model, self.case)
+            if proof.result.difference:
                 raise
-            result.left[f"a difference that the interpreters do not confirm: {difference}"] += 1
-        if self.replays:
-            result.replayed += checks(path, run, other, program, self.node, packet, number)
+            proof.result.left[f"a difference that the interpreters do not confirm: {difference}"] += 1
+        if proof.replays:
+            proof.result.replayed += checks(self.path, self.case, self.run.world.events, others)

@@ -1,10 +1,24 @@
-"""Paths: a function is run once for each way through its conditions that some packet takes. Each condition that is open is decided by what
-is known, by packets found before, or by z3; then the run goes on with one answer, and a later run with the other."""
+"""Paths: one for each way through the conditions that some packet takes. Each condition that is open is decided by what is known, by packets
+found before, or by z3. Where both answers are possible, the state before the step is kept, from which the other path begins."""
+from __future__ import annotations
+
 import time
+from collections.abc import Iterable
+from copy import copy
+from functools import cache
+from typing import TYPE_CHECKING, Any, NamedTuple
 
 import z3
 
-from .terms import Known, Model, const, eq, extend, heavy, known, negated, part, range_of, whole, zcond
+from .ask import of_cond
+from .known import Known, Model
+from .terms import Cond, Val, atoms_in, const, eq, extend, fold, known, lin, negated, part, range_of, whole
+
+if TYPE_CHECKING:
+    from .decide import Twins
+
+# For how many seconds one question may be asked, and how many packets are kept for each path.
+QUESTION, PACKETS = 20, 12
 
 
 class Left(Exception):
@@ -15,106 +29,121 @@ class Bounded(Exception):
     """A path that goes on after the rounds of loops that are looked at."""
 
 
-class Node:
-    """A decision: its answer, whether the other one is still to do, and packets for both."""
+class Undecided(Exception):
+    """A condition that what is known does not decide, where only that is asked for."""
 
-    __slots__ = ("choice", "other", "both", "models")
 
-    def __init__(self, choice, both, models):
-        self.choice, self.other, self.both, self.models = choice, both, both, models
+class Decision(NamedTuple):
+    """A decision: its answer, whether the other one is possible too, and packets for each answer."""
+
+    choice: bool
+    both: bool
+    models: dict[bool, list[Model]]
+
+
+@cache
+def is_heavy(c: Cond) -> bool:
+    """Whether a condition is about a folded sum."""
+    return any(a.is_heavy for a in atoms_in(c))
 
 
 class Explorer:
-    """Runs a function on all paths."""
+    """Runs a source and its program on all paths until the processor time is up."""
 
-    def __init__(self, until, timeout=20):
-        self.solver, self.timeout, self.until = z3.Solver(), timeout, until
-        self.stack: list = []
-        self.asked, self.paths = 0, 0
+    def __init__(self, until: float) -> None:
+        self.solver, self.until = z3.Solver(), until
+        self.stack: list[Cond] = []
+        self.asked = self.paths = 0
 
-    def limit(self, solver):
-        """The time for one question: at most some seconds, and not beyond the end."""
-        left = self.until - time.time()
+    def query(self, conditions: list[Cond], more: Iterable[Cond]) -> Model | bool | None:
+        """A packet that meets these conditions, None if there is none, False if z3 does not know. The first ones are kept for the next question."""
+        same = next((k for k, pair in enumerate(zip(self.stack, conditions)) if pair[0] != pair[1]), min(len(self.stack), len(conditions)))
+        self.solver.pop(len(self.stack) - same)
+        for it in conditions[same:]:
+            self.solver.push()
+            self.solver.add(of_cond(it))
+        self.stack = list(conditions)
+        self.solver.push()
+        found = self.answer(self.solver, more)
+        self.solver.pop()
+        return found
+
+    def query_alone(self, conditions: list[Cond]) -> Model | bool | None:
+        """As `query`, by a solver that translates to bits first: better for sums."""
+        return self.answer(z3.Tactic("qfufbv" if "hit" in repr(conditions) else "qfbv").solver(), conditions)
+
+    def answer(self, solver: Any, more: Iterable[Cond]) -> Model | bool | None:
+        """What a solver says, which also has to meet these conditions."""
+        left = self.until - time.process_time()
         if left <= 0:
             raise TimeoutError
-        solver.set("timeout", 1 + int(1000 * min(self.timeout, left)))
-
-    def query(self, literals, more=()):
-        """A model of these conditions, None if there is none, False if z3 does not know."""
-        self.limit(self.solver)
-        same = 0
-        while same < min(len(self.stack), len(literals)) and self.stack[same] == literals[same]:
-            same += 1
-        if len(self.stack) > same:
-            self.solver.pop(len(self.stack) - same)
-            del self.stack[same:]
-        for it in literals[same:]:
-            self.solver.push()
-            self.solver.add(zcond(it))
-            self.stack.append(it)
-        self.solver.push()
-        for it in more:
-            self.solver.add(it if isinstance(it, z3.ExprRef) else zcond(it))
-        found = self.solver.check()
-        model = Model(self.solver.model()) if found == z3.sat else None if found == z3.unsat else False
-        self.solver.pop()
         self.asked += 1
-        return model
-
-    def query_alone(self, literals, more):
-        """As `query`, by a solver that translates to bits first: better for sums."""
-        solver = z3.Tactic("qfufbv" if any("hop" in repr(it) or "hit" in repr(it) for it in [*literals, *more]) else "qfbv").solver()
-        self.limit(solver)
-        solver.add(*(it if isinstance(it, z3.ExprRef) else zcond(it) for it in [*literals, *more]))
+        solver.set("timeout", 1 + int(1000 * min(QUESTION, left)))
+        solver.add(*map(of_cond, more))
         found = solver.check()
-        self.asked += 1
         return Model(solver.model()) if found == z3.sat else None if found == z3.unsat else False
 
-    def run(self, function):
-        """Runs a function once for each path."""
-        log: list = []
-        while True:
-            path = Path(self, log)
+    def run(self, state: Twins) -> None:
+        """Takes a source and its program through their steps, on all paths. The step that decides is made again from the state before it, with the other answer."""
+        pending: list[tuple[Twins, list[Decision]]] = [(state, [])]
+        while pending:
+            state, made = pending.pop()
             self.paths += 1
-            function(path)
-            while log and not log[-1].other:
-                log.pop()
-            if not log:
-                return
-            if time.time() > self.until:
-                raise TimeoutError
-            log[-1].choice, log[-1].other = not log[-1].choice, False
+            goes_on = True
+            while goes_on:
+                if time.process_time() > self.until:
+                    raise TimeoutError
+                before, state = state, state.fork()
+                state.path.made, state.path.at = list(made), 0
+                goes_on = state.step()
+                for k, it in enumerate(state.path.made[len(made):], len(made)):
+                    if it.both:
+                        pending.append((before, [*state.path.made[:k], it._replace(choice=not it.choice)]))
+                made = []
 
 
 class Path:
-    """One path: what is known on it."""
+    """One path: what is known on it, the spans of numbers, the conditions that it took, packets that take it, and the decisions of its present
+    step; none is made while only what `is_known` is asked for."""
 
-    def __init__(self, explorer, log):
-        self.explorer, self.log, self.at = explorer, log, 0
-        self.known, self.spans, self.literals = Known(), {}, []
-        self.models = [Model()]
+    def __init__(self, explorer: Explorer) -> None:
+        self.explorer, self.made, self.at, self.is_known = explorer, list[Decision](), 0, False
+        self.known, self.spans, self.literals, self.models = Known(), dict[Val, tuple[int, int]](), list[Cond](), [Model()]
 
-    def range(self, v):
+    def fork(self) -> Path:
+        """A copy that goes its own way."""
+        it = copy(self)
+        it.known, it.spans, it.literals = self.known.fork(), dict(self.spans), list(self.literals)
+        return it
+
+    def range(self, v: Val) -> tuple[int, int]:
         """The least and the greatest value of a number, as far as it is known simply."""
         v = self.known.val(extend(v))
-        low, high = range_of(v)
-        l, h = self.spans.get(v, (low, high))
-        low, high = max(low, l), min(high, h)
+        bounds = [range_of(v), self.spans.get(v, range_of(v))]
         a = v[0][0]
         if a is not None and a.kind == "sum" and a.args[2] and len(a.args[0]) < 4 and v == whole(a):
-            l = h = a.args[1]
-            for key, coef in a.args[0]:
-                ends = [coef * it for it in self.range(((*key, False),))]
-                l, h = l + min(ends), h + max(ends)
-            low, high = max(low, l), min(high, h)
+            bounds.append(self.range_of_sum(dict(a.args[0]), a.args[1]))
+        return max(low for low, _ in bounds), min(high for _, high in bounds)
+
+    def range_of_sum(self, parts: dict[Any, int], c: int) -> tuple[int, int]:
+        """The range of a linear form over the integers."""
+        low = high = c
+        for w, (l, h) in self.spans.items():
+            d, c = lin(w)
+            if len(d) > 1 and all(parts.get(key) == -coef for key, coef in d.items()):
+                # The complement of a number of several parts, of which more is known than of each part.
+                parts, low, high = {key: coef for key, coef in parts.items() if key not in d}, low + c - h, high + c - l
+        for key, coef in parts.items():
+            ends = [coef * it for it in self.range(((*key, False),))]
+            low, high = low + min(ends), high + max(ends)
         return low, high
 
-    def value(self, v):
+    def value(self, v: Val) -> int | None:
         """The one value of a number, or None."""
         low, high = self.range(v)
         return low if low == high else None
 
-    def decide(self, c):
+    def decide(self, c: Cond) -> bool | None:
         """Whether a condition holds, if that is simply known."""
         c = self.known.cond(c)
         if isinstance(c, bool):
@@ -122,56 +151,68 @@ class Path:
         if c[0] == "not":
             found = self.decide(c[1])
             return None if found is None else not found
-        if c[0] in ("eq", "lt") and known(c[2]) is not None:
+        if c[0] in ("eq", "lt") and (k := known(c[2])) is not None:
             low, high = self.range(c[1])
-            k = known(c[2])
             if c[0] == "lt":
                 return True if high < k else False if low >= k else None
             return False if not low <= k <= high else True if low == high else None
         return None
 
-    def branch(self, c):
-        """Whether a condition holds on this path."""
-        found = self.decide(c)
-        if found is not None:
-            return found
-        if self.at == len(self.log):
-            self.log.append(self.fresh(c))
-        node = self.log[self.at]
-        self.at += 1
-        if node.both:
-            self.literals.append(c if node.choice else negated(c))
-        self.assume(c, node.choice)
-        self.models = node.models[node.choice]
-        return node.choice
+    def about_folded(self, c: Cond) -> Cond:
+        """A condition in its one form: whether a sum with a folded one is 0xffff is whether the sum is 0xffff once folded, below 0x1fffe."""
+        if not isinstance(c, bool) and c[0] == "eq" and known(c[2]) == 0xFFFF:
+            a = c[1][0][0]
+            is_sum = a is not None and a.kind == "sum" and a.args[2] and c[1] == ((a, 0, a.width, False),)
+            if is_sum and any(key[0].kind == "fold" for key, _ in a.args[0]) and self.range(c[1])[1] < 0x1FFFE:
+                return self.known.cond(eq(fold(whole(a)), const(0xFFFF)))
+        return c
 
-    def fresh(self, c):
+    def branch(self, c: Cond) -> bool:
+        """Whether a condition holds on this path."""
+        plain = self.known.cond(c)
+        in_one_form = self.about_folded(plain)
+        found = self.decide(in_one_form)
+        if found is None:
+            found = self.answer(in_one_form)
+        if found and in_one_form != plain:
+            self.known.learn_eq(plain[1], 0xFFFF)
+        return found
+
+    def answer(self, c: Cond) -> bool:
+        """Decides a condition that is open."""
+        if self.is_known:
+            raise Undecided
+        if self.at == len(self.made):
+            self.made.append(self.fresh(c))
+        choice, both, models = self.made[self.at]
+        self.at += 1
+        if both:
+            self.literals.append(c if choice else negated(c))
+        self.assume(c, choice)
+        self.models = models[choice]
+        return choice
+
+    def fresh(self, c: Cond) -> Decision:
         """Which answers some packet of this path gives."""
         if c[0] == "is":
-            return Node(False, True, {side: [it.answered(c, side) for it in self.models] for side in (True, False)})
-        models = {True: [], False: []}
+            return Decision(False, True, {side: [it.answered(c, side) for it in self.models] for side in (True, False)})
+        models: dict[bool, list[Model]] = {True: [], False: []}
         for it in self.models:
             models[it.holds(c)].append(it)
-        can = {}
-        for side in (True, False):
-            can[side] = bool(models[side])
-            if not models[side]:
-                can[side], models[side] = self.search(c if side else negated(c))
-            models[side] = models[side][-12:]
-        if not can[True] and not can[False]:
+        can = {side: bool(found) for side, found in models.items()}
+        for side in (it for it in models if not can[it]):
+            can[side], models[side] = self.search(c if side else negated(c))
+        if not any(can.values()):
             raise Left("z3 finds no packet")
-        return Node(can[True], can[True] and can[False], models)
+        return Decision(can[True], all(can.values()), {side: found[-PACKETS:] for side, found in models.items()})
 
-    def search(self, c):
+    def search(self, c: Cond) -> tuple[bool, list[Model]]:
         """Whether some packet of this path may meet a condition, and such packets. Conditions on folded sums are only tried: a path that no
         packet takes costs time alone."""
-        if heavy(c):
-            for it in self.models:
-                found = it.patched(c, self.literals) or it.jittered(c, self.literals)
-                if found:
-                    return True, [found]
-            return True, []
-        found = self.explorer.query([it for it in self.literals if it[0] != "is" and not heavy(it)], [c])
+        if is_heavy(c):
+            near = next(filter(None, (it.near(c, self.literals, 60) for it in self.models)), None)
+            return True, [near] if near else []
+        found = self.explorer.query([it for it in self.literals if it[0] != "is" and not is_heavy(it)], [c])
         if found is None:
             return False, []
         if not found:
@@ -179,60 +220,55 @@ class Path:
         found.answers = self.answers()
         for it in self.literals:
             if not found.holds(it):
-                found = found.patched(it, [*self.literals, c])
-                return True, [found] if found else []
+                near = found.near(it, [*self.literals, c], 0)
+                return True, [near] if near else []
         return True, [found]
 
-    def answers(self):
+    def answers(self) -> dict[Cond, bool]:
         """The answers to what is free."""
-        return {c: it[0] != "not" for it in self.literals for c in [it[1] if it[0] == "not" else it] if c[0] == "is"}
+        return {c: it is c for it in self.literals for c in [it[1] if it[0] == "not" else it] if c[0] == "is"}
 
-    def assume(self, c, holds):
+    def assume(self, c: Cond, holds: bool) -> None:
         """Takes the answer of a condition as known."""
         for it in (c, self.known.cond(c)):
-            yes = holds
+            is_yes = holds
             if isinstance(it, bool):
                 continue
             if it[0] == "not":
-                it, yes = it[1], not yes
-            self.known.facts[it] = yes
+                it, is_yes = it[1], not is_yes
+            self.known.facts[it] = is_yes
             self.known.memo = {}
-        if it[0] not in ("eq", "lt") or known(it[2]) is None:
-            return
-        v, k = it[1], known(it[2])
-        if it[0] == "eq" and yes:
+        if it[0] in ("eq", "lt") and (k := known(it[2])) is not None:
+            self.learn(it[0], it[1], k, is_yes)
+
+    def learn(self, kind: str, v: Val, k: int, is_yes: bool) -> None:
+        """Notes the range of a number that is compared with a constant, and bits that this decides."""
+        if kind == "eq" and is_yes:
             self.known.learn_eq(v, k)
             return
         v = extend(v)
         low, high = self.spans.get(v, range_of(v))
-        if it[0] == "lt":
-            low, high = (low, min(high, k - 1)) if yes else (max(low, k), high)
-        elif k == low:
-            low += 1
-        elif k == high:
-            high -= 1
+        if kind == "lt":
+            low, high = (low, min(high, k - 1)) if is_yes else (max(low, k), high)
+        else:
+            low, high = low + (k == low), high - (k == high)
         self.spans[v] = low, high
         same = (low ^ high).bit_length()
         if same < 64:
             self.known.learn_eq(part(v, same, 64 - same), low >> same)
 
-    def concrete(self, v, most=64):
+    def concrete(self, v: Val, most: int = 64) -> int:
         """The value of a number; one path for each."""
         v = self.known.val(extend(v))
-        if known(v) is not None:
-            return known(v)
+        if (value := known(v)) is not None:
+            return value
         low, high = self.range(v)
         bits = [k for k in range(64) if known(part(v, k, 1)) is None]
         if high - low >= most and len(bits) > 6:
             raise Left("an offset with too many values")
-        options = range(low, high + 1) if high - low < most else sorted(spread(v, bits))
-        for k in options:
+        base = sum((known(part(v, k, 1)) or 0) << k for k in range(64))
+        spread = (base + sum((n >> j & 1) << k for j, k in enumerate(bits)) for n in range(1 << len(bits)))
+        for k in range(low, high + 1) if high - low < most else sorted(spread):
             if low <= k <= high and self.branch(eq(v, const(k))):
                 return k
         raise Left("no value")
-
-
-def spread(v, bits):
-    """All values of a number of which these bits are open."""
-    base = sum(known(part(v, k, 1)) << k for k in range(64) if k not in bits)
-    return [base + sum((n >> j & 1) << k for j, k in enumerate(bits)) for n in range(1 << len(bits))]
