@@ -19,7 +19,7 @@ Where nothing says which, all are tried.
   --gate       what the gate tries at this commit, at most 70: all of planted/always; then edits that are new since the commit 8
                changes back, then those of functions whose text has changed since, then part N of 24, where N is the number of
                changes so far by 24, or the day where there is no such history
-  --count      tries none: writes how many each crate has into the table of docs/notes/wrong_bodies.md
+  --count      tries none: writes how many each crate has into the table of docs/developing/notes/wrong_bodies.md
   --alone      each in a check of its own
   --jobs N     N checks side by side (by default as many as there are processors and memory)
 
@@ -519,12 +519,12 @@ def lanes(jobs: int) -> int:
 
 
 def main() -> int:
-    by, page = asked(), TOP / "docs/notes/wrong_bodies.md"
+    by, page = asked(), TOP / "docs/developing/notes/wrong_bodies.md"
     if by.count:
         page.write_text(counted(page.read_text()))
         return 0
     if by.gate and page.read_text() != counted(page.read_text()):
-        sys.exit("planted: docs/notes/wrong_bodies.md counts what was there before: run tests/planted.py --count")
+        sys.exit("planted: docs/developing/notes/wrong_bodies.md counts what was there before: run tests/planted.py --count")
     edits, left = chosen(by)
     groups: dict[Crate, list[Edit]] = collections.defaultdict(list)
     for it in edits:

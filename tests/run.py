@@ -1,14 +1,16 @@
 #!/usr/bin/env python3
-"""Runs the gate's tests, or some groups of them, and stops at the first failure.
+"""Runs the gate's tests, or some groups of them: texts, then proofs, then all others side by side. It starts nothing more once one failed.
 
 Usage: tests/run.py [--minutes N] [GROUP ..]
        tests/run.py --list
 
-GROUP is one of texts, proofs, bodies, program, tools, library and random; by default all of them, in this order. Groups from `program` on need the
-program that `rt ci` builds. The random cases take N minutes of processor time (8), with a seed from the commit; a failure names the
-command that repeats it. At the end each tool is named for want of which something was skipped. --list prints the table of docs/reference/testing.md.
+GROUP is one of texts, proofs, bodies, program, tools, library and random; by default all of them. Groups from `bodies` on use what `rt ci`
+builds. Scripts run side by side, one for each processor and those that take longest first; what one prints stands together, at its end. The
+random cases take N minutes of processor time (8), with a seed from the commit; a failure names the command that repeats it. At the end each
+missing tool is named with what was skipped, and what all took. --list prints the table of docs/developing/testing.md.
 """
 import argparse
+import concurrent.futures
 import dataclasses
 import importlib.util
 import os
@@ -22,61 +24,76 @@ import time
 
 TOP = pathlib.Path(__file__).resolve().parent.parent
 PROGRAM = "crates/dpv/out/dpv"
-PAGE = TOP / "docs/reference/testing.md"
+PAGE = TOP / "docs/developing/testing.md"
 GROUPS = ("texts", "proofs", "bodies", "program", "tools", "library", "random")
+PROCESSORS = len(os.sched_getaffinity(0))
 
 
 @dataclasses.dataclass(frozen=True)
 class Step:
-    """A script of the gate. `share` is its part of the time for random cases."""
+    """A script of the gate. `share` is its part of the time for random cases, and `seconds` is about how long it takes beside those: of the
+    scripts that run side by side, the longest begin. `after` is a script that it waits for, since that one builds what it uses."""
 
     group: str
     script: str
     checks: str
     words: tuple[str, ...] = ()
     share: float = 0.0
+    seconds: int = 5
+    after: str = ""
+
+
+@dataclasses.dataclass(frozen=True)
+class Ended:
+    """How a step ended: its status, and what it took, in seconds by the clock and of processor time."""
+
+    status: int
+    clock: float
+    used: float
 
 
 ON_PROGRAM = (PROGRAM,)
 STEPS = (
-    Step("texts", "tests/texts.py", "in some 12 seconds, what needs no proof: the layout of code, definitions and proofs, and that each wrong body can be made"),
+    Step("texts", "tests/texts.py", "in some 12 seconds, what needs no proof: the layout of code, definitions and proofs, that each wrong body can be made, and that each link of a page leads somewhere"),
+    Step("texts", "tests/proofs/believed.py", "that docs/proofs/definitions.md has the right count of definitions for each promise"),
     Step("proofs", "rt ci", "every proof (a crate that passed on this machine, with the same dependencies, is not proved again), that the prover refuses the wrong bodies under `crates/*/must-fail`, every test, and the program as two compilers build it"),
-    Step("bodies", "tests/planted.py", "that the prover refuses wrong bodies (edits that make a function wrong; see below) under `crates/*/planted`: all of `planted/always`, and of the others those of changed functions and those whose turn it is, at most 70", ("--gate",)),
-    Step("program", "tests/believed.py", "that docs/proofs/definitions.md has the right count of definitions for each promise"),
-    Step("program", "tests/examples.py", "that each example writes the expected captures, to the byte, with its node programs and with those that `dpv build` makes from its .pkt files", ON_PROGRAM),
-    Step("program", "tests/refusals.py", "that each program of examples/refused is explained as in docs/users/refusals.md, and its cure accepted", ON_PROGRAM),
-    Step("program", "tests/tour.py", "that the commands of docs/users/tour.md print what it shows", ON_PROGRAM),
-    Step("program", "tests/json_output.py", "that the documents of `--json` have the numbers of the text report and of the text counts, and that their sums agree; refusals and faults as documents", ON_PROGRAM),
-    Step("program", "tests/pictures.py", "the pictures of all examples and their programs, with counts, beside the sources; that graphviz draws them, where it is installed; and the sizes of all examples beside a formula", ON_PROGRAM),
-    Step("program", "tests/compiled.py", "that `dpv compile` prints the modules that the script writes, to the byte", ON_PROGRAM),
-    Step("program", "tests/faults.py", "faults of the command line, files, pipelines and captures, each together with every fault that is tested later", ON_PROGRAM),
-    Step("program", "tests/outputs.py", "that no run overwrites a file it should not: outputs that are another file of the run, and each cause for which a run ends before its first header", ON_PROGRAM),
-    Step("program", "tests/pipes.py", "live runs in pipes, a record at a time; `-` for standard input and output, which keep what they had; captures that the command line gives, beside edited pipeline files; each wrong word, and which fault is first", ON_PROGRAM),
-    Step("program", "tests/mistakes.py", "60 one-letter mistakes in the examples: each message names the file and the line, and 50 of them the word", ON_PROGRAM),
-    Step("program", "tests/messages.py", "the lines after a fault or a refused certificate, and those of `--progress`", ON_PROGRAM),
-    Step("program", "tests/scripts.py", "heap scripts: what they print, and each kind of line that is no command", ON_PROGRAM),
-    Step("program", "tests/causes.py", "each cause for which a pipeline is refused, at each place, with each of its numbers", ON_PROGRAM),
-    Step("program", "tests/program.py", "runs with each allocation refused in turn, a full disk, and a large region, which must be returned", ON_PROGRAM),
-    Step("program", "tests/growths.py", "each command with each of its allocations refused in turn", ON_PROGRAM),
-    Step("program", "tests/each_byte.py", "a capture cut at each byte, and a certificate with each byte changed", ON_PROGRAM),
-    Step("program", "tests/outside.py", "runs while streams are closed, files are removed and signals arrive", ON_PROGRAM),
-    Step("tools", "tests/model_test.py", "`tests/model` itself, on runs that were worked out by hand"),
-    Step("tools", "tests/pkt_test.py", "the parts of `tools/pkt`, which compiles the language, and what compiled programs send"),
-    Step("tools", "tests/pkt_model_test.py", "`tests/pkt_model`, an interpreter of the language written from docs/users/pkt.md alone, on runs worked out by hand, on all examples and tasks"),
-    Step("tools", "tests/pkt_mutate.py", "2,000 damaged texts of the language: each ends within 10 s in a program that assembles or in an error with its place"),
-    Step("tools", "tests/pkt_prove.py", "that `dpv build --prove` proves the examples and tasks, with a limit of time for each, and finds no difference; skipped without z3"),
-    Step("tools", "tests/pkt_tasks.py", "25 programs of real tasks: what they send, by `tests/model`, is what scapy says; skipped without scapy"),
-    Step("library", "tests/host.py", "random cases through the C library, frames, bursts and changes of routes, beside `tests/model`; four engines on four threads, under ThreadSanitizer and helgrind; calls that nobody should make, under the C compiler's sanitizers; the hosts of examples/live, and `dpdk.c` with all examples where DPDK is installed", ("--gate",), share=0.15),
-    Step("library", "tests/install.py", "that what `dpv install` puts into an empty folder works without the toolchain, there and where it is moved to: the program, `dpv build`, the manual page, completions, a C program by pkg-config, and the Debian package", ON_PROGRAM),
-    Step("random", "tests/fuzz_compiled.py", "builds a program that has some node programs as machine code, over the crates as `rt ci` left them. With the node program of examples/ttl it writes the expected capture, in at least 150 machine instructions a record fewer, if `perf` or `valgrind` is installed; with the others it passes random cases of `tests/fuzz.py`", ("--gate", "--families", "4", PROGRAM), share=0.1),
-    Step("random", "tests/fuzz.py", "random programs, certificates, pipelines, captures and heap scripts, valid and invalid. Everything that the program prints and writes is compared with what `tests/model` computes from the files, also with reads and writes of one byte each, and with allocations refused", ON_PROGRAM, share=0.5),
-    Step("random", "tests/fuzz_pkt.py", "random programs of the language are compiled, inferred, checked and run, and what they send is compared with the interpreter", ON_PROGRAM, share=0.25),
+    Step("bodies", "tests/planted.py", "that the prover refuses wrong bodies (edits that make a function wrong; see below) under `crates/*/planted`: all of `planted/always`, and of the others those of changed functions and those whose turn it is, at most 70", ("--gate", "--jobs", "2"), seconds=300),
+    Step("program", "tests/program/examples.py", "that each example writes the expected captures, to the byte, with its node programs and with those that `dpv build` makes from its .pkt files", ON_PROGRAM),
+    Step("program", "tests/program/refusals.py", "that each program of examples/refused is explained as in docs/users/refusals.md, and its cure accepted", ON_PROGRAM),
+    Step("program", "tests/program/judged.py", "what `explain`, `show`, `infer-one` and `one` say of programs that are accepted, refused or faulty, with texts that were worked out by hand", ON_PROGRAM),
+    Step("program", "tests/program/tour.py", "that the commands of docs/users/tour.md print what it shows", ON_PROGRAM),
+    Step("program", "tests/program/json_output.py", "that the documents of `--json` have the numbers of the text report and of the text counts, and that their sums agree; refusals and faults as documents", ON_PROGRAM),
+    Step("program", "tests/program/pictures.py", "the pictures of all examples and their programs, with counts, beside the sources; that graphviz draws them, where it is installed; and the sizes of all examples beside a formula", ON_PROGRAM),
+    Step("program", "tests/program/compiled.py", "that `dpv compile` prints the modules that the script writes, to the byte", ON_PROGRAM),
+    Step("program", "tests/program/faults.py", "faults of the command line, files, pipelines and captures, each together with every fault that is tested later", ON_PROGRAM),
+    Step("program", "tests/program/outputs.py", "that no run overwrites a file it should not: outputs that are another file of the run, and each cause for which a run ends before its first header", ON_PROGRAM),
+    Step("program", "tests/program/pipes.py", "live runs in pipes, a record at a time; `-` for standard input and output, which keep what they had; captures that the command line gives, beside edited pipeline files; each wrong word, and which fault is first", ON_PROGRAM),
+    Step("program", "tests/program/mistakes.py", "60 one-letter mistakes in the examples: each message names the file and the line, and 50 of them the word", ON_PROGRAM),
+    Step("program", "tests/program/messages.py", "the lines after a fault or a refused certificate, and those of `--progress`", ON_PROGRAM),
+    Step("program", "tests/program/cures.py", "that each command of editcap that a message names makes a capture of Ethernet frames with the same packets; skipped without editcap", ON_PROGRAM),
+    Step("program", "tests/program/scripts.py", "heap scripts: what they print, and each kind of line that is no command", ON_PROGRAM),
+    Step("program", "tests/program/causes.py", "each cause for which a pipeline is refused, at each place, with each of its numbers", ON_PROGRAM, seconds=27),
+    Step("program", "tests/program/allocations.py", "runs with each allocation refused in turn, a full disk, and a large region, which must be returned", ON_PROGRAM),
+    Step("program", "tests/program/growths.py", "each command with each of its allocations refused in turn", ON_PROGRAM, seconds=75),
+    Step("program", "tests/program/each_byte.py", "a capture cut at each byte, and a certificate with each byte changed", ON_PROGRAM, seconds=15),
+    Step("program", "tests/program/outside.py", "runs while streams are closed, files are removed and signals arrive", ON_PROGRAM),
+    Step("tools", "tests/tools/model_test.py", "`tests/model` itself, on runs that were worked out by hand"),
+    Step("tools", "tests/tools/pkt_test.py", "the parts of `tools/pkt`, which compiles the language, and what compiled programs send"),
+    Step("tools", "tests/tools/pkt_model_test.py", "`tests/pkt_model`, an interpreter of the language written from docs/users/pkt.md alone, on runs worked out by hand, on all examples and tasks"),
+    Step("tools", "tests/tools/pkt_mutate.py", "2,000 damaged texts of the language: each ends within 10 s in a program that assembles or in an error with its place"),
+    Step("tools", "tests/tools/pkt_prove.py", "that `dpv build --prove` proves the examples and tasks, with a limit of time for each, and finds no difference; skipped without z3", ("--seconds", "240", "--each", "60"), seconds=60),
+    Step("tools", "tests/tools/pkt_tasks.py", "43 programs of real tasks: what they send, by `tests/model`, is what scapy says; skipped without scapy"),
+    Step("library", "tests/library/host.py", "random cases through the C library, frames, bursts and changes of routes, beside `tests/model`; four engines on four threads, under ThreadSanitizer and helgrind; calls that nobody should make, under the C compiler's sanitizers; the hosts of examples/live, and `dpdk.c` with all examples where DPDK is installed", ("--gate",), share=0.15, seconds=130),
+    Step("library", "tests/library/install.py", "that what `dpv install` puts into an empty folder works without the toolchain, there and where it is moved to: the program, `dpv build`, the manual page, completions, a C program by pkg-config, and the Debian package", ON_PROGRAM, seconds=20, after="tests/library/host.py"),
+    Step("random", "tests/random/fuzz_compiled.py", "builds a program that has some node programs as machine code, over the crates as `rt ci` left them. With the node program of examples/ttl it writes the expected capture, in at least 150 machine instructions a record fewer, if `perf` or `valgrind` is installed; with the others it passes random cases of `tests/random/fuzz.py`", ("--gate", "--families", "4", PROGRAM), share=0.1, seconds=180),
+    Step("random", "tests/random/fuzz.py", "random programs, certificates, pipelines, captures and heap scripts, valid and invalid. Everything that the program prints and writes is compared with what `tests/model` computes from the files, also with reads and writes of one byte each, and with allocations refused", ON_PROGRAM, share=0.5),
+    Step("random", "tests/random/fuzz_pkt.py", "random programs of the language are compiled, inferred, checked and run, and what they send is compared with the interpreter", ON_PROGRAM, share=0.25),
 )
 
 # Where Debian's packages put modules, if another Python runs this.
 DEBIAN_PYTHON = pathlib.Path("/usr/lib/python3/dist-packages")
 
-# What is skipped for want of a tool: how the tool is found, the Debian package that has it, and what is skipped.
+# What is skipped where a tool is not installed: how the tool is found, the Debian package that has it, and what is skipped.
 TOOLS = (
     ("tcpdump", "tcpdump", "live pipes from tcpdump"),
     ("tshark", "tshark", "live pipes into tshark, and captures read by it"),
@@ -110,34 +127,58 @@ def words_of(step: Step, minutes: float) -> list[str]:
     if step.script == "rt ci":
         return ["rt", "ci"]
     words = [sys.executable, step.script, *step.words]
-    if step.share:
-        seconds = 60 * minutes * step.share / len(os.sched_getaffinity(0))
-        words += ["--seed", seed(), "--seconds", f"{seconds:.0f}"]
-    return words
+    return words + (["--seed", seed(), "--jobs", "1", "--seconds", f"{60 * minutes * step.share:.0f}"] if step.share else [])
 
 
-def run(step: Step, minutes: float) -> tuple[int, str]:
-    """Runs a step: its status, and how long it took. Its output is printed as it comes."""
-    begun, words = time.monotonic(), words_of(step, minutes)
+def run(step: Step, minutes: float, is_alone: bool) -> Ended:
+    """Runs a step. What it prints is printed as it comes, or together at the end where others run beside it."""
+    begun, words, rows = time.monotonic(), words_of(step, minutes), []
     # (one crate for each processor: the estimate of memory of `rt ci` is twice what the largest takes, and would leave processors idle)
-    around = os.environ | ({"RT_JOBS": str(len(os.sched_getaffinity(0)))} if step.script == "rt ci" else {})
+    around = os.environ | ({"RT_JOBS": str(PROCESSORS)} if step.script == "rt ci" else {})
     with subprocess.Popen(words, cwd=TOP, env=around, stdout=subprocess.PIPE, stderr=subprocess.STDOUT, text=True, errors="replace") as started:
         for row in started.stdout:
-            print(row, end="", flush=True)
-    said = f"{step.script}: {time.monotonic() - begun:.0f} s by the clock\n"
-    if started.returncode != 0:
-        said += f"{step.script} FAILED; this repeats it: {shlex.join(words)}\n"
-    return started.returncode, said
+            if is_alone:
+                print(row, end="", flush=True)
+            else:
+                rows.append(row)
+        _, status, usage = os.wait4(started.pid, 0)
+        started.returncode = os.waitstatus_to_exitcode(status)
+    ended = Ended(started.returncode, time.monotonic() - begun, usage.ru_utime + usage.ru_stime)
+    rows.append(f"{step.script}: {ended.clock:.0f} s by the clock, {ended.used:.0f} s of processor time\n")
+    if ended.status != 0:
+        rows.append(f"{step.script} FAILED; this repeats it: {shlex.join(words)}\n")
+    print("".join(rows), end="", flush=True)
+    return ended
 
 
-def passes(steps: list[Step], minutes: float) -> bool:
-    """Runs the steps of a group, one after another up to the first that fails. Returns whether all passed."""
+def in_turn(steps: list[Step], minutes: float) -> list[Ended]:
+    """Runs steps one after another, up to the first that fails."""
+    ended: list[Ended] = []
     for step in steps:
-        status, said = run(step, minutes)
-        print(said, end="", flush=True)
-        if status != 0:
-            return False
-    return True
+        if not any(it.status for it in ended):
+            ended.append(run(step, minutes, True))
+    return ended
+
+
+def side_by_side(steps: list[Step], minutes: float) -> list[Ended]:
+    """Runs steps side by side, the longest first. Once one failed no other begins."""
+    ended, named = [], {it.script for it in steps}
+    longest = sorted((it for it in steps if it.after not in named), key=lambda it: it.seconds + 60 * minutes * it.share, reverse=True)
+    with concurrent.futures.ThreadPoolExecutor(PROCESSORS) as pool:
+        running = {pool.submit(run, it, minutes, len(steps) == 1): it for it in longest}
+        while running:
+            for done in concurrent.futures.wait(running, return_when=concurrent.futures.FIRST_COMPLETED).done:
+                step = running.pop(done)
+                ended.append(done.result())
+                if ended[-1].status != 0:
+                    pool.shutdown(cancel_futures=True)
+                    return ended
+                running |= {pool.submit(run, it, minutes, False): it for it in steps if it.after == step.script}
+    return ended
+
+
+# The groups, in the order in which they run, and how.
+PHASES = ((in_turn, ("texts", "proofs")), (side_by_side, ("bodies", "program", "tools", "library", "random")))
 
 
 def table() -> str:
@@ -159,15 +200,18 @@ def main() -> int:
     if unknown:
         parser.error(f"there is no group {unknown[0]}")
     if table() not in PAGE.read_text():
-        print("run: docs/reference/testing.md has another table than tests/run.py --list")
+        print("run: docs/developing/testing.md has another table than tests/run.py --list")
         return 1
-    groups = asked.groups or GROUPS
-    for group in (it for it in GROUPS if it in groups):
-        if not passes([it for it in STEPS if it.group == group], asked.minutes):
+    groups, begun, used = asked.groups or GROUPS, time.monotonic(), 0.0
+    for runs, named in PHASES:
+        ended = runs([it for it in STEPS if it.group in groups and it.group in named], asked.minutes)
+        used += sum(it.used for it in ended)
+        if any(it.status for it in ended):
             return 1
+    print(f"run: {(time.monotonic() - begun) / 60:.1f} minutes by the clock, {used / 60:.1f} of processor time, on {PROCESSORS} processors")
     for tool, package, what in TOOLS:
         if not is_found(tool):
-            print(f"skipped for want of {tool.rpartition(':')[2]} (Debian: {package}): {what}")
+            print(f"skipped, since {tool.rpartition(':')[2]} is not installed (Debian: {package}): {what}")
     return 0
 
 

@@ -1,4 +1,4 @@
-"""Makes the cases of tests/fuzz.py. Everything comes from a random generator, so the same seed makes the same case.
+"""Makes the cases of tests/random/fuzz.py. Everything comes from a random generator, so the same seed makes the same case.
 
 writer.py    programs that are accepted, and the rows that they are accepted with
 programs.py  programs by the grammar alone, changes to programs, and texts of them

@@ -1,4 +1,4 @@
-"""The output of `--counts` after a report, as docs/reference/formats.md defines it."""
+"""The output of `--counts` after a report, as docs/reference/reports.md defines it."""
 from . import programs
 from .machine import Instr, World
 from .pipelines import Node
@@ -40,7 +40,7 @@ def total(world: World, word: str, number: int | None = None) -> tuple[int, int]
 
 
 def agree(world: World) -> None:
-    """Tests that the sums agree with the report, as docs/reference/formats.md says."""
+    """Tests that the sums agree with the report, as docs/reference/reports.md says."""
     ports, received = len(world.env.ports), [it.received for it in world.counts]
     for node, (program, tally) in enumerate(zip(world.programs, world.tally)):
         queued = received[node] if node < ports else total(world, "enq", node - ports)[0] - world.left[node - ports]
@@ -60,7 +60,7 @@ def is_looped(program: list[Instr]) -> bool:
 
 
 def text(world: World, nodes: list[Node], texts: list[bytes]) -> str:
-    """The programs with their counts, the sums for tables and rings, and the least free buffers of pools."""
+    """The programs with their counts, the sums for tables and rings, the least free buffers of pools, and what was refused."""
     agree(world)
     shown = []
     for node, program, source, tally in zip(nodes, world.programs, texts, world.tally):
@@ -72,4 +72,6 @@ def text(world: World, nodes: list[Node], texts: list[bytes]) -> str:
         shown.append(f"ring {number} waited {world.waited[number]} of {ring.count - 1} full {total(world, 'enq', number)[1]}")
     for number, pool in enumerate(world.env.pools):
         shown.append(f"pool {number} least {world.least[number]} of {pool.count}")
+    shown += [f"port {number} full {full}" for number, full in enumerate(world.full) if full]
+    shown += [f"pool {number} refused {refused}" for number, refused in enumerate(world.short) if refused]
     return "".join(line + "\n" for line in shown)

@@ -1,4 +1,4 @@
-"""Heap scripts: what each command has to print (docs/reference/formats.md)."""
+"""Heap scripts: what each command has to print (docs/reference/pipelines.md)."""
 import re
 from dataclasses import dataclass, field
 

@@ -1,4 +1,4 @@
-"""Pipeline files, as docs/reference/formats.md defines them."""
+"""Pipeline files, as docs/reference/pipelines.md defines them."""
 import re
 from collections.abc import Callable
 from functools import lru_cache

@@ -1,4 +1,4 @@
-"""Program texts, as docs/reference/language.md defines them."""
+"""Program texts, as docs/users/nodes.md defines them."""
 import re
 from typing import NamedTuple
 

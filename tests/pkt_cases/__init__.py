@@ -1,4 +1,4 @@
-"""Makes what tests/fuzz_pkt.py compiles and runs: programs of the language pkt (docs/users/pkt.md), pipelines of them, and captures.
+"""Makes what tests/random/fuzz_pkt.py compiles and runs: programs of the language pkt (docs/users/pkt.md), pipelines of them, and captures.
 
 numbers.py    numbers and conditions
 programs.py   statements, headers of the program's own, and whole programs

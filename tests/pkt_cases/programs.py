@@ -577,14 +577,15 @@ def own_header(rng: Random, name: str, before: str) -> str:
         begin = rng.randrange(at)
         texts.append(f"second@{begin}:{min(rng.choice((1, 4, 8, 11)), at - begin)}")
     asks = {
-        "eth": "eth.type == 0x88b5", "vlan": "vlan.type == 0x88b5", "ipv4": "ipv4.proto == 50", "udp": "udp.dport == 53", "gre": "gre.type == 0x0800"
+        "eth": "eth.type == 0x88b5", "vlan": "vlan.type == 0x88b5", "ipv4": "ipv4.proto == 50", "udp": "udp.dport == 53", "gre": "gre.type == 0x0800",
+        "mine0": "mine0.f0 != 1",
     }
     text = f"header {name} {{ {' '.join(texts)} }}" + (f" after {before} if {asks[before]}" if before else "")
     kind, last = rng.random(), fields[-1].split(":")[0]
     if kind < 0.25 and before in ("eth", "vlan") and ":16" in fields[-1]:
         return f"{text} next {last}"
     if kind < 0.4:
-        return f"{text} length {at // 8} + (v & 3) * {rng.choice((1, 2, 4, 4, 100, 30_000))} for v:8 in 0x40..0x43"
+        return f"{text} length {at // 8} + ({rng.choice(('v & 3', 'v & 3', 'v & 63', 'v - 64'))}) * {rng.choice((1, 2, 4, 4, 8, 100, 30_000))} for v:8 in 0x40..0x43"
     return text if kind < 0.8 else text + own_sum(rng, fields)
 
 
@@ -609,6 +610,8 @@ def program(rng: Random, setting: Setting, prelude: str, wild: bool) -> str:
     """A program; a wild one writes what the page does not allow now and then."""
     own = ""
     if rng.random() < 0.25:
-        own = "\n".join(own_header(rng, f"mine{k}", rng.choice(("eth", "eth", "vlan", "ipv4", "udp", "gre", ""))) for k in range(rng.choice((1, 1, 2)))) + "\n"
+        own = own_header(rng, "mine0", rng.choice(("eth", "eth", "vlan", "ipv4", "udp", "gre", ""))) + "\n"
+        if rng.random() < 0.5:
+            own += own_header(rng, "mine1", rng.choice(("eth", "eth", "vlan", "ipv4", "udp", "gre", "", *["mine0"] * 6))) + "\n"
     own += QUOTED if rng.random() < 0.1 else ""
     return own + Writer(rng, setting, read(own, prelude).headers, wild).text()

@@ -1,5 +1,6 @@
 """Bits of headers within bytes, and the headers that parts of a text name."""
 from collections.abc import Iterator
+from functools import reduce
 
 from .arithmetic import checksum
 from .syntax import Binary, Bits, Both, Compare, Complement, Condition, Constant, Either, Field, Header, Negated, Number, Truth
@@ -12,13 +13,18 @@ def bits_at(data: bytes | bytearray, at: int, count: int) -> int:
     return whole >> -end % 8 & (1 << count) - 1
 
 
-def put_bits(data: bytearray, at: int, count: int, value: int) -> None:
-    """Writes the lowest `count` bits of a value at bit `at`."""
+def put_bits(data: bytearray | list[int], at: int, count: int, value: int) -> None:
+    """Writes the lowest `count` bits of a value at bit `at`, into bytes or numbers below 256."""
     first, last = at // 8, -(-(at + count) // 8)
     shift = -(at + count) % 8
     mask = (1 << count) - 1 << shift
-    whole = int.from_bytes(data[first:last], "big") & ~mask | value << shift & mask
-    data[first:last] = whole.to_bytes(last - first, "big")
+    whole = joined(data[first:last]) & ~mask | value << shift & mask
+    data[first:last] = [whole >> 8 * k & 255 for k in reversed(range(last - first))]
+
+
+def joined(data: bytearray | list[int]) -> int:
+    """The number that some bytes spell."""
+    return reduce(lambda number, byte: number << 8 | byte, data)
 
 
 def fields_in(part: Number | Condition) -> Iterator[Field]:
@@ -62,18 +68,18 @@ def followers(headers: dict[str, Header]) -> dict[str, frozenset[str]]:
     return {name: of(name) for name in headers}
 
 
-def written(header: Header, values: dict[str, int | None], asked: dict[str, int]) -> bytes:
+def written(header: Header, values: dict[str, int | None], asked: dict[str, int]) -> list[int]:
     """The bytes of a pushed header: a field without a value is what the next header asks for, or its default."""
-    data, summed = bytearray(header.size), []
+    data, summed = [0] * header.size, []
     given = {name: asked.get(name, bits.default) for name, bits in header.fields.items() if not bits.is_alias or name in asked}
     for name, value in (*[it for it in given.items() if it[0] not in values], *values.items()):
         bits: Bits = header.fields[name]
         if value is None:
             summed.append(bits)
-        put_bits(data, bits.at, bits.count, value or 0)
+        put_bits(data, bits.at, bits.count, 0 if value is None else value)
     for bits in summed:
         put_bits(data, bits.at, bits.count, checksum(data))
-    return bytes(data)
+    return data
 
 
 def words_of(bits: Bits, header: Header) -> range:

@@ -360,10 +360,12 @@ class Reader:
                 raise self.fault("'}' is wanted")
 
     def given(self) -> None:
-        """What a ring declares; only the path says what the program does."""
+        """What a ring declares; of what the program does, only the path says something."""
         self.program.is_for_ring = True
-        if self.takes("headroom") or self.takes("length"):
-            self.constant()
+        if self.takes("headroom"):
+            self.program.headroom = self.constant()
+        elif self.takes("length"):
+            self.program.length = self.constant()
         elif not self.takes("shared"):
             self.program.given = self.path()
 

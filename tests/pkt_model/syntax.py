@@ -118,8 +118,8 @@ class Header:
 
 @dataclass
 class Program:
-    """A text that was read: its headers in order of declaration, its statements, and what else it declares. `lines` has the line of each
-    statement, from 1, by its identity."""
+    """A text that was read: its headers in order of declaration, its statements, and what else it declares: `headroom` and `length` are those
+    that its ring gives at least. `lines` has the line of each statement, from 1, by its identity."""
 
     headers: dict[str, Header]
     block: Block
@@ -129,3 +129,5 @@ class Program:
     otherwise: Block | None = None
     is_for_ring: bool = False
     given: tuple[str, ...] = ()
+    headroom: int = 128
+    length: int = 0

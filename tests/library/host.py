@@ -1,0 +1,435 @@
+#!/usr/bin/env python3
+"""Tests the C library of dpv: wrong calls, random pipelines and frames, and the hosts of examples/live.
+
+Usage: tests/library/host.py [--seed N] [--cases N | --seconds N] [--jobs N] [--library FOLDER | --gate]
+FOLDER has libdpv.a and dpv.h, as `./dpv library FOLDER` installs them; by default they are built into a new folder. With --gate the library
+is built over the crates as `rt ci` left them, which proves its own crate once more. tests/library/wrong_callers.c runs under the C compiler's
+sanitizers, and under valgrind if installed: each call returns what dpv.h says and changes nothing, packed files that are cut at each byte
+open no engine, and all memory is freed. bench/live/threads.c runs four engines on four threads, with ThreadSanitizer and under valgrind's
+helgrind: they share nothing, and do the same. The hosts have to compile without a warning, and if DPDK is installed, dpdk.c over its net_pcap has
+to send for each example the records expected of `dpv run`. Then, for random pipelines, frames in any order of ports, bursts, changes of routes
+and look-ups, all that the library returns and all its counts are compared with tests/model. Prints a line for each finding, and a count; exits with 1 if there is a
+finding.
+"""
+import argparse
+import concurrent.futures
+import contextlib
+import math
+import os
+import pathlib
+import shutil
+import struct
+import subprocess
+import sys
+import tempfile
+import threading
+import time
+import tomllib
+from random import Random
+from typing import Any, BinaryIO, NamedTuple
+
+import paths  # noqa: F401
+
+from cases.pipelines import pipeline_files
+from command import TOP
+from model import captures, machine, pipelines
+from over_gate import build
+from planted import CRATES
+
+HERE = pathlib.Path(__file__).resolve().parent
+CROSS = TOP / "examples/live"
+# The words with which DPDK needs no privileges, no huge pages and no card.
+NO_CARD = ["--no-huge", "--no-pci", "--no-shconf", "--no-telemetry", "-m", "256", "--log-level=1"]
+
+
+def put_library(folder: pathlib.Path, over_gate: bool) -> None:
+    """Puts the library into a folder: as `./dpv library` does, or over the crates as `rt ci` left them."""
+    words = [str(TOP / "tools/library"), str(folder)]
+    folder.mkdir()
+    if over_gate:
+        made = CRATES["dp_host"].folder / "out/gate/libdp_host.a"
+        made.parent.mkdir(parents=True, exist_ok=True)
+        build(CRATES["dp_host"], made)
+        words.append(str(made))
+    subprocess.run(words, check=True)
+
+
+def words_of(package: str) -> list[str] | None:
+    """The words with which a C program is compiled over a package, where it is installed."""
+    if not shutil.which("pkg-config"):
+        return None
+    flags = subprocess.run(["pkg-config", "--cflags", "--libs", package], capture_output=True, text=True)
+    return flags.stdout.split() if flags.returncode == 0 else None
+
+
+def compile_one(source: str, library: pathlib.Path, target: pathlib.Path, *flags: str) -> None:
+    """Builds a program in C over the library."""
+    words = ["cc", "-std=c99", "-O1", "-g", "-Wall", "-Wextra", "-Wno-unused-parameter", *flags, f"-I{library}", str(HERE / source)]
+    subprocess.run([*words, "-o", str(target), f"-L{library}", "-ldpv"], check=True)
+
+
+def wrong_callers(library: pathlib.Path, folder: pathlib.Path) -> int:
+    """How many runs of the wrong callers failed."""
+    words, bad = [str(CROSS / "cross.toml"), "to0.dpv", "to1.dpv"], 0
+    ways = [("sanitizers", ["-fsanitize=address,undefined", "-fno-sanitize-recover=all"], [])]
+    if shutil.which("valgrind"):
+        ways.append(("valgrind", [], ["valgrind", "-q", "--error-exitcode=9", "--leak-check=full"]))
+    for name, flags, prefix in ways:
+        program = folder / f"wrong_{name}"
+        compile_one("wrong_callers.c", library, program, *flags)
+        run = subprocess.run([*prefix, str(program), *words], cwd=CROSS, capture_output=True, text=True, timeout=600)
+        if run.returncode != 0:
+            bad += 1
+            print(f"host: wrong callers, {name}: status {run.returncode}\n{run.stdout[-2000:]}{run.stderr[-2000:]}")
+    program = folder / "as_cpp"
+    subprocess.run(["c++", "-x", "c++", "-Wall", f"-I{library}", "-c", str(HERE / "host_drive.c"), "-o", str(program)], check=True)
+    return bad
+
+
+def threads(library: pathlib.Path, folder: pathlib.Path) -> int:
+    """How many runs of four engines on four threads failed."""
+    ways, bad = [("ThreadSanitizer", ["-fsanitize=thread"], [], "router/router.toml", "20000")], 0
+    if shutil.which("valgrind"):
+        ways.append(("helgrind", [], ["valgrind", "-q", "--tool=helgrind", "--error-exitcode=9"], "live/cross.toml", "500"))
+    for name, flags, prefix, pipeline, rounds in ways:
+        program, home = folder / f"threads_{name}", TOP / "examples" / pipeline
+        compile_one("../../bench/live/threads.c", library, program, "-pthread", *flags)
+        run = subprocess.run([*prefix, str(program), home.name, "4", rounds], cwd=home.parent, capture_output=True, text=True, timeout=600)
+        if run.returncode != 0:
+            bad += 1
+            print(f"host: four threads, {name}: status {run.returncode}\n{run.stdout[-2000:]}{run.stderr[-4000:]}")
+    print(f"host: four engines on four threads, {' and '.join(way[0] for way in ways)}, {bad} findings")
+    return bad
+
+
+def compile_host(name: str, library: pathlib.Path, folder: pathlib.Path, words: list[str]) -> pathlib.Path:
+    """Builds a host of examples/live, with no warning."""
+    over = [*words, f"-I{library}", f"-L{library}", "-ldpv"]
+    flags = ["-O2", "-Wall", "-Wextra", "-Werror", "-Wno-deprecated-declarations"]
+    subprocess.run(["cc", *flags, str(CROSS / f"{name}.c"), "-o", str(folder / name), *over], check=True)
+    return folder / name
+
+
+def records_of(capture: pathlib.Path) -> list[bytes]:
+    """The bytes of the records of a capture."""
+    return [record[2] for record in captures.read(capture.read_bytes()).records]
+
+
+def sends_otherwise(host: pathlib.Path, pipeline: pathlib.Path) -> str | None:
+    """How dpdk.c over net_pcap differs from what is expected of `dpv run` with an example, a frame of each port in turn."""
+    ports, home = tomllib.loads(pipeline.read_text())["port"], pipeline.parent
+    devices = [f"--vdev=net_pcap{k},rx_pcap={home / port['in']},tx_pcap={home / f'over{k}.pcap'}" for k, port in enumerate(ports)]
+    run = subprocess.run([str(host), *NO_CARD, *devices, "--", pipeline.name, "1", "1000"], cwd=home, capture_output=True, text=True, timeout=60)
+    if run.returncode != 0:
+        return f"status {run.returncode}, {run.stderr[-1000:]}"
+    for k in range(len(ports)):
+        expected = home / ("expected.pcap" if len(ports) == 1 else f"expected{k}.pcap")
+        if records_of(home / f"over{k}.pcap") != records_of(expected):
+            return f"other records at port {k}"
+    return None
+
+
+def hosts(library: pathlib.Path, folder: pathlib.Path) -> int:
+    """How many of the hosts, and of the examples over DPDK, failed."""
+    compile_host("af_packet", library, folder, [])
+    words = words_of("libdpdk")
+    if words is None:
+        print("host: dpdk.c NOT TRIED, since DPDK is not installed")
+        return 0
+    host, findings = compile_host("dpdk", library, folder, words), 0
+    shutil.copytree(TOP / "examples", folder / "examples")
+    found = sorted(it for it in (folder / "examples").glob("*/*.toml") if it.parent.name not in ("refused", "live"))
+    for pipeline in found:
+        wrong = sends_otherwise(host, pipeline)
+        if wrong:
+            findings += 1
+            print(f"host: dpdk.c, examples/{pipeline.parent.name}: {wrong}")
+    print(f"host: dpdk.c over net_pcap, {len(found)} examples, {findings} findings")
+    return findings
+
+
+class Frame(NamedTuple):
+    """A frame that a port receives."""
+
+    port: int
+    data: bytes
+
+    def spelled(self) -> bytes:
+        """The frame as the driver reads it."""
+        return struct.pack("<III", 0, self.port, len(self.data)) + self.data
+
+
+class Change(NamedTuple):
+    """A route that is added (1), deleted (2) or looked up (3)."""
+
+    kind: int
+    table: int
+    address: int
+    depth: int
+    hop: int
+
+    def spelled(self) -> bytes:
+        """The change as the driver reads it."""
+        return struct.pack("<IIIII", *self)
+
+
+class Burst(NamedTuple):
+    """Frames that a port receives, passed in together."""
+
+    port: int
+    frames: list[bytes]
+
+    def spelled(self) -> bytes:
+        """The burst as the driver reads it."""
+        return struct.pack("<III", 4, self.port, len(self.frames)) + b"".join(struct.pack("<I", len(data)) + data for data in self.frames)
+
+
+Step = Frame | Change | Burst
+# How many passes the driver's batch has room for.
+ROOM = 4
+
+
+class Case:
+    """A pipeline, its files, and what is done with its engine: frames at ports, bursts of them, changes of routes, and look-ups."""
+
+    def __init__(self, rng: Random) -> None:
+        has_tables = rng.random() < 0.05
+        self.files = pipeline_files(rng, rng.random() < 0.85, has_tables).files
+        self.text = self.files["it.toml"]
+        names = [name for name in sorted(self.files) if name != "it.toml"]
+        self.packed = b"".join(
+            struct.pack("<II", len(name.encode()), len(self.files[name])) + name.encode() + self.files[name] for name in names
+        )
+        share, number = 0.5 if has_tables else 0.02, rng.choice((0, 1, 5, 20, 60))
+        self.steps = [self.step(rng, share) for _ in range(number)]
+
+    def step(self, rng: Random, share: float) -> Step:
+        """A change or a look-up of a route, a burst, or a frame."""
+        if rng.random() < share:
+            return self.change(rng)
+        frame = self.frame(rng)
+        if rng.random() < 0.9:
+            return frame
+        return Burst(frame.port, [frame.data, *(self.frame(rng).data for _ in range(rng.choice((0, 1, 2, 3, 3, 20, 63))))])
+
+    @staticmethod
+    def change(rng: Random) -> Change:
+        """A change or a look-up of a route, in a table that may not be there."""
+        address = int.from_bytes(bytes(rng.choice((0, 0, 0, 1, 10, 128, 255)) for _ in range(4)), "big")
+        depth = rng.choice((1, 8, 16, 24, 24, 25, 31, 32, rng.randrange(1, 33), rng.choice((0, 33, 255, 256, 264, 2**32 - 1))))
+        hop = rng.choice((0, 1, 2, 255, rng.choice((2**24 - 1, 2**24, 2**32 - 1))))
+        return Change(rng.choice((1, 1, 1, 2, 3)), rng.choice((0,) * 12 + (1, 1, 2, 3, 4, 255, 256, 2**32 - 1)), address, depth, hop)
+
+    @staticmethod
+    def frame(rng: Random) -> Frame:
+        """A frame at a port, which may not be there."""
+        size = rng.choice((0, 1, 13, 14, 33, 34, 54, 60, 60, 100, rng.randrange(300), rng.randrange(3000), rng.choice((9000, 40_000))))
+        return Frame(rng.choice((0, 0, 0, 1, 1, 2, 3, 7, 8, 300)), rng.randbytes(size) if rng.random() < 0.5 else bytes(size))
+
+    def spelled(self) -> bytes:
+        """The case as the driver reads it."""
+        files = struct.pack("<I", len(self.text)) + self.text + struct.pack("<I", len(self.packed)) + self.packed
+        return files + struct.pack("<I", len(self.steps)) + b"".join(step.spelled() for step in self.steps)
+
+
+def number(stream: BinaryIO, size: int) -> int:
+    """The number that comes next."""
+    data = stream.read(size)
+    if len(data) < size:
+        raise EOFError
+    return int.from_bytes(data, "little")
+
+
+def expected(case: Case, reason: str) -> tuple[int, str, pipelines.Pipeline | None]:
+    """By which cause a case is not opened and the words of it, or 0 and its pipeline. Of a program with loops any refusal is open."""
+    loaded = pipelines.load(lambda name: case.files.get(name), case.text, False, f"{reason}\n")
+    if isinstance(loaded, pipelines.Fault):
+        text = (loaded[2] or loaded[1]).removesuffix("\n").removeprefix("fault: pipeline ")
+        if "not inferred" in text:
+            return 18, text, None
+        if "refused" in text:
+            return 19, text, None
+        return 10 + int(text.split()[0]), text, None
+    return (3, "the region is too small", None) if loaded.region < loaded.env.need() else (0, "", loaded)
+
+
+def differs(case: Case, stream: BinaryIO) -> str | None:
+    """Where the library differs from the model."""
+    cause = number(stream, 4)
+    reason = stream.read(number(stream, 4)).decode()
+    wanted, words, pipeline = expected(case, reason)
+    if (cause, reason) != (wanted, words):
+        return f"opened with cause {cause} and {reason!r}, and not {wanted} and {words!r}"
+    if pipeline is None:
+        return None
+    env = pipeline.env._replace(tables=[dict(known) for known in pipeline.env.tables])
+    world = machine.World(env, pipeline.programs)
+    for k, step in enumerate(case.steps):
+        came: Any
+        if isinstance(step, Change):
+            came, wanted_now = (number(stream, 4), number(stream, 4)), change_in(world, pipelines.limits(case.text), step)
+        elif isinstance(step, Burst):
+            came, wanted_now = [passed(stream) for _ in step.frames], burst_in(world, step)
+        else:
+            came, wanted_now = passed(stream), frame_in(world, step.port, step.data)
+        if came != wanted_now:
+            return f"step {k}, {str(step)[:100]}: {str(came)[:300]} and not {str(wanted_now)[:300]}"
+    return numbers_differ(world, stream, pipeline)
+
+
+# What the library answers for a cause of a table, and the hop that the driver has before a look-up.
+ROUTE_ANSWERS = {0: 0, 1: 25, 2: 26, 3: 27, 4: 28, 5: 29}
+BATCH_TOO_SMALL, NO_TABLE, NO_ROUTE, UNTOUCHED = 23, 24, 30, 77
+
+
+def change_in(world: machine.World, limits: list[dict[str, Any]], step: Change) -> tuple[int, int]:
+    """The answer to a change, and the hop of a look-up."""
+    if step.table >= len(world.env.tables):
+        return NO_TABLE, UNTOUCHED
+    known = world.env.tables[step.table]
+    if step.kind == 3:
+        hop = machine.hop_for(known, step.address)
+        return (NO_ROUTE, UNTOUCHED) if hop is None else (0, hop)
+    if step.kind == 1:
+        cause = pipelines.add_route(known, limits[step.table], step.address, step.depth, step.hop)
+    else:
+        cause = pipelines.delete_route(known, step.address, step.depth)
+    return ROUTE_ANSWERS[cause], UNTOUCHED
+
+
+def passed(stream: BinaryIO) -> tuple[int, list[tuple[int, bytes]]]:
+    """The answer and the records of a frame, as the driver wrote them."""
+    return number(stream, 4), [(number(stream, 4), stream.read(number(stream, 4))) for _ in range(number(stream, 8))]
+
+
+def burst_in(world: machine.World, step: Burst) -> list[tuple[int, list[tuple[int, bytes]]]]:
+    """The answers and the records of a burst: those of its frames in turn, as long as the batch has room for a pass."""
+    count = sum(pool.count for pool in world.env.pools)
+    size, records, filled = count * max(pool.room for pool in world.env.pools), 0, 0
+    came = []
+    for data in step.frames:
+        has_room = records + count <= ROOM * count and filled + size <= ROOM * size
+        came.append(frame_in(world, step.port, data) if has_room or step.port >= len(world.env.ports) else (BATCH_TOO_SMALL, []))
+        records, filled = records + len(came[-1][1]), filled + sum(len(record) for _, record in came[-1][1])
+    return came
+
+
+def frame_in(world: machine.World, port: int, data: bytes) -> tuple[int, list[tuple[int, bytes]]]:
+    """The answer and the records of a frame."""
+    if port >= len(world.env.ports):
+        return 18, []
+    before = world.counts[port].received, world.counts[port].nobuf
+    world.turn(port, data)
+    answer = 0 if world.counts[port].received > before[0] else 1 if world.counts[port].nobuf > before[1] else 2
+    return answer, [(to, record) for to in range(len(world.env.ports)) for record in world.drain(to)]
+
+
+def numbers_differ(world: machine.World, stream: BinaryIO, pipeline: pipelines.Pipeline) -> str | None:
+    """Which numbers of the library are not those of the model."""
+    wanted: list[int] = []
+    for count in world.counts:
+        wanted += [count.received, count.nobuf, count.oversize, count.sent]
+    wanted += [len(packets) for packets in world.rings]
+    for free, pool in zip(world.free, pipeline.env.pools):
+        wanted += [free, pool.count]
+    turns = sum(count.received + count.nobuf + count.oversize for count in world.counts)
+    wanted += [turns, world.calls, world.cuts, len(pipeline.env.pools)]
+    came = [number(stream, 8) for _ in wanted]
+    return None if came == wanted else f"numbers {came} and not {wanted}"
+
+
+def hand_in(stream: BinaryIO, data: bytes) -> None:
+    """Writes a case, unless the driver has ended."""
+    with contextlib.suppress(BrokenPipeError):
+        stream.write(data)
+        stream.flush()
+
+
+class Played(NamedTuple):
+    """How many cases and steps a driver played, and the finding that ended it."""
+
+    cases: int
+    steps: int
+    finding: str | None
+
+
+def played_through(drive: "subprocess.Popen[bytes]", case: Case) -> str | None:
+    """Where the library differs from the model in a case that is handed to the driver."""
+    assert drive.stdin and drive.stdout
+    # (the driver writes while it still reads)
+    writer = threading.Thread(target=hand_in, args=(drive.stdin, case.spelled()))
+    writer.start()
+    try:
+        wrong = differs(case, drive.stdout)
+    except (EOFError, BrokenPipeError):
+        return "the library ended the program"
+    except machine.Stuck as stuck:
+        wrong = f"an accepted program is stuck: {stuck}"
+    writer.join()
+    return wrong
+
+
+def play(program: pathlib.Path, seed: str, numbers: range, until: float) -> Played:
+    """Plays these cases through a driver, until the first finding or this time."""
+    done, steps = 0, 0
+    with subprocess.Popen([str(program)], stdin=subprocess.PIPE, stdout=subprocess.PIPE) as drive:
+        assert drive.stdin
+        for number in numbers:
+            if time.monotonic() > until:
+                break
+            case = Case(Random(f"{seed} {number}"))
+            wrong = played_through(drive, case)
+            done, steps = done + 1, steps + len(case.steps)
+            if wrong:
+                drive.kill()
+                with contextlib.suppress(BrokenPipeError):
+                    drive.stdin.close()
+                return Played(done, steps, f"case {number} of seed {seed}: {wrong}")
+        drive.stdin.close()
+        ended = drive.wait()
+    return Played(done, steps, f"the driver ended with {ended}" if ended else None)
+
+
+def at_random(asked: Any, library: pathlib.Path, folder: pathlib.Path) -> int:
+    """How many drivers had a finding among cases at random: so many drivers as there are jobs, which play them in turn."""
+    program, jobs = folder / "drive", asked.jobs
+    compile_one("host_drive.c", library, program, "-fsanitize=undefined", "-fno-sanitize-recover=all")
+    until = time.monotonic() + asked.seconds if asked.seconds else math.inf
+    with concurrent.futures.ProcessPoolExecutor(jobs) as pool:
+        waiting = [pool.submit(play, program, asked.seed, range(lane, asked.cases, jobs), until) for lane in range(jobs)]
+        all_played = [it.result() for it in waiting]
+    findings = [it.finding for it in all_played if it.finding]
+    for finding in findings:
+        print(f"host: {finding}")
+    cases, steps = sum(it.cases for it in all_played), sum(it.steps for it in all_played)
+    print(f"host: seed {asked.seed}, {cases} pipelines, {steps} frames, bursts and changes, {len(findings)} findings")
+    return len(findings)
+
+
+def main() -> int:
+    """All of it."""
+    parser = argparse.ArgumentParser(description="Plays the C library of dpv.")
+    parser.add_argument("--seed", default="1")
+    parser.add_argument("--cases", type=int, default=0)
+    parser.add_argument("--seconds", type=float, default=0)
+    parser.add_argument("--jobs", type=int, default=len(os.sched_getaffinity(0)))
+    parser.add_argument("--library", type=pathlib.Path)
+    parser.add_argument("--gate", action="store_true")
+    asked = parser.parse_args()
+    asked.cases = asked.cases or (sys.maxsize if asked.seconds else 1000)
+    if not shutil.which("cc"):
+        print("host: NOT TRIED, since there is no C compiler")
+        return 0
+    with tempfile.TemporaryDirectory() as name:
+        folder = pathlib.Path(name)
+        library = asked.library
+        if library is None:
+            library = folder / "library"
+            put_library(library, asked.gate)
+        library = library.resolve()
+        findings = wrong_callers(library, folder) + threads(library, folder) + hosts(library, folder) + at_random(asked, library, folder)
+    return 1 if findings else 0
+
+
+if __name__ == "__main__":
+    sys.exit(main())

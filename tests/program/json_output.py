@@ -1,0 +1,285 @@
+#!/usr/bin/env python3
+"""Tests the documents that the built program dpv prints with --json.
+
+Usage: tests/program/json_output.py [PROGRAM]   (the built program; by default the one that ./dpv builds and runs)
+Each pipeline of examples/ runs twice, as text and with --json, also with --counts: the status, the captures and standard error must be the
+same, standard output one line of JSON, and the text that this script writes from the document must be the text that dpv prints, to the byte.
+The sums that docs/reference/reports.md names must agree in the document. Then refused programs, explanations and faults. Prints a line for
+each case that failed, and a count; exits with 1 if a case failed.
+"""
+import json
+import pathlib
+import shutil
+import subprocess
+import sys
+from typing import Any, NamedTuple
+
+import paths  # noqa: F401
+
+from command import TOP, asked, new_folder
+
+EXAMPLES = TOP / "examples"
+WORDS = {"freed": "     freed", "ended": "     ended"}
+
+
+class Ran(NamedTuple):
+    """How a command ended."""
+
+    status: int
+    out: bytes
+    err: bytes
+
+
+def run(program: str, folder: pathlib.Path, *words: str) -> Ran:
+    """Runs a command in a folder."""
+    done = subprocess.run([program, *words], cwd=folder, stdin=subprocess.DEVNULL, capture_output=True, timeout=300)
+    return Ran(done.returncode, done.stdout, done.stderr)
+
+
+def document(out: bytes) -> Any:
+    """The only document of an output, which is one line with sorted members and no blank between."""
+    line = out.decode()
+    read = json.loads(line)
+    ours = json.dumps(read, sort_keys=True, separators=(",", ":"), ensure_ascii=False)
+    if line != ours + "\n":
+        raise ValueError(f"not one line of sorted JSON: {line!r}")
+    return read
+
+
+def report_text(doc: dict[str, Any]) -> str:
+    """The report in a document, as dpv prints it."""
+    lines = []
+    for port in doc["ports"]:
+        state = f"cut {port['cut_at']}" if port["input"] == "cut" else port["input"]
+        lines.append(f"port {port['port']} received {port['received']} nobuf {port['nobuf']} oversize {port['oversize']} "
+                     f"sent {port['sent']} input {state}")
+    lines += [f"ring {ring['ring']} left {ring['left']}" for ring in doc["rings"]]
+    lines += [f"pool {pool['pool']} free {pool['free']} of {pool['count']}" for pool in doc["pools"]]
+    lines.append(f"calls {doc['calls']} refused {doc['refused']}")
+    if doc["cut"]:
+        lines.append(f"cut {doc['cut']}")
+    return "".join(line + "\n" for line in lines)
+
+
+def instruction_line(it: dict[str, Any]) -> str:
+    """The columns of an instruction, its text and its comment, with one blank between words."""
+    beside = f"{it['taken']:>10}" if it["taken"] is not None else WORDS[it["ends"]] if it["ends"] and it["ran"] else ""
+    comment = "" if it["comment"] is None else f" # {it['comment']}"
+    return " ".join(f"{it['ran']} {beside} {it['text']}{comment}".split())
+
+
+def counts_lines(doc: dict[str, Any]) -> list[str]:
+    """The counts in a document, line by line, with one blank between words, without the lines that have no instruction."""
+    counts, lines = doc["counts"], []
+    for node in counts["nodes"]:
+        lines += [f"{node['node']} {node['file']}", "ran taken"]
+        for it in node["instructions"]:
+            lines.append(instruction_line(it))
+            lines += [f"{it['cut']} cut"] * (it["cut"] > 0)
+    lines += [f"table {it['table']} hits {it['hits']} misses {it['misses']}" for it in counts["tables"]]
+    lines += [f"ring {it['ring']} waited {it['most']} of {it['capacity']} full {it['full']}" for it in counts["rings"]]
+    lines += [f"pool {it['pool']} least {it['least']} of {it['count']}" for it in counts["pools"]]
+    lines += [f"port {it['port']} full {it['full']}" for it in doc["ports"] if it["full"] > 0]
+    lines += [f"pool {it['pool']} refused {it['refused']}" for it in doc["pools"] if it["refused"] > 0]
+    return lines
+
+
+def printed_lines(text: str) -> list[str]:
+    """The counts that dpv prints, likewise: lines of sources without an instruction begin with blanks."""
+    kept = [line for line in text.splitlines() if line.strip() and not line.startswith(" " * 20)]
+    return [" ".join(line.replace("#", " # ", 1).split()) for line in kept]
+
+
+def sums_agree(doc: dict[str, Any]) -> bool:
+    """Whether the sums that reports.md names agree."""
+    nodes = doc["counts"]["nodes"]
+    all_of = [it for node in nodes for it in node["instructions"]]
+    jumps_back = any(node["instructions"][0]["text"].split(":")[0] in it["text"].split(",") for node in nodes for it in node["instructions"])
+    first = {node["node"]: node["instructions"][0]["ran"] for node in nodes}
+    received = all(first[f"port {port['port']}"] == port["received"] for port in doc["ports"])
+    runs = all(sum(it["ran"] for it in node["instructions"] if it["ends"] == "ended") + sum(it["cut"] for it in node["instructions"])
+               == node["instructions"][0]["ran"] for node in nodes)
+
+    def word(it: dict[str, Any]) -> str:
+        return it["text"].split(":")[-1].split()[0]
+
+    def done(name: str) -> int:
+        return sum(it["ran"] - (it["taken"] or 0) - it["cut"] for it in all_of if word(it) == name)
+
+    sent = done("tx") == sum(port["sent"] for port in doc["ports"])
+    cut = sum(it["cut"] for it in all_of) == doc["cut"]
+    came = sum(port["received"] for port in doc["ports"]) + done("alloc") + done("clone")
+    left = done("tx") + done("free") + done("chain") + sum(ring["left"] for ring in doc["rings"])
+    records = sum(port[it] for port in doc["ports"] for it in ("received", "nobuf"))
+    calls = doc["calls"] == records + sum(it["ran"] for it in all_of if word(it) in ("alloc", "clone"))
+    return (received and runs or jumps_back) and sent and cut and (came == left or doc["cut"] > 0) and calls
+
+
+def written(folder: pathlib.Path) -> dict[str, bytes]:
+    """The contents of all captures of a folder and of those in it."""
+    return {str(it.relative_to(folder)): it.read_bytes() for it in sorted(folder.rglob("*.pcap"))}
+
+
+def is_same_run(program: str, folder: pathlib.Path, words: list[str]) -> bool:
+    """Whether a run as text and one with --json are the same, and the document has what the text has."""
+    text = run(program, folder, *words)
+    captures = written(folder)
+    made = run(program, folder, *words, "--json")
+    doc = document(made.out)
+    counted = "--counts" in words
+    printed = text.out.decode()
+    report = report_text(doc)
+    passed = (made.status, made.err, written(folder)) == (text.status, text.err, captures)
+    passed = passed and printed.startswith(report) and ("counts" in doc) == counted
+    if counted:
+        passed = passed and counts_lines(doc) == printed_lines(printed[len(report):]) and sums_agree(doc)
+    else:
+        passed = passed and printed == report
+    if doc["fault"] is None:
+        return passed and made.status == 0
+    return passed and made.status == doc["fault"]["status"] and made.err.decode().splitlines()[0] == doc["fault"]["text"]
+
+
+def runs(program: str, top: pathlib.Path) -> list[tuple[str, bool]]:
+    """The pipelines and programs of examples/, with and without counts, with calls refused and with captures that are cut."""
+    cases = []
+    for pipeline in sorted(top.glob("*/*.toml")):
+        if pipeline.parent.name in ("refused", "live"):
+            continue
+        for more in ([], ["--counts"], ["--counts", "--refuse", "1,3,4,9"], ["--counts", "--progress"]):
+            words = ["run", pipeline.name, *more]
+            cases.append((f"{pipeline.parent.name}: {words}", is_same_run(program, pipeline.parent, words)))
+    strip = top / "strip"
+    one = ["one", "strip.dpv", "strip.cert"]
+    whole = (strip / "in.pcap").read_bytes()
+    for length in (len(whole), len(whole) - 3, 30, 23, 0):
+        (strip / "case.pcap").write_bytes(whole[:length])
+        for more in ([], ["--counts"]):
+            words = [*one, "case.pcap", "out.pcap", *more]
+            cases.append((f"{length} bytes: {words}", is_same_run(program, strip, words)))
+    return cases
+
+
+def verdict_lines(node: dict[str, Any]) -> str:
+    """The line of a verdict, as dpv prints it."""
+    if node["verdict"] == "accepted":
+        return f"{node['node']} accepted"
+    return f"{node['node']} {node['verdict']} at {node['label']} by {node['rule']}"
+
+
+def explained_lines(node: dict[str, Any], source: str) -> list[str]:
+    """The lines of an explanation, as dpv prints them, from the members of a node."""
+    lines = [verdict_lines(node)]
+    if node["verdict"] == "accepted":
+        return lines
+    comment = source.partition("#")[2]
+    if (node["comment"] or "") != comment.strip() or node["instruction"] != source.partition("#")[0].strip():
+        return []
+    return [*lines, f"{node['file']}:{node['line']}: {source.strip()}", f"  {node['states']}", f"  known:  {node['known']}",
+            f"  wanted: {node['wanted']}", f"  help:   {node['help']}"]
+
+
+def is_explained(program: str, folder: pathlib.Path, words: list[str]) -> bool:
+    """Whether an explanation as text and one with --json are the same."""
+    text = run(program, folder, *words)
+    made = run(program, folder, *words, "--json")
+    doc = document(made.out)
+    if text.status == 3:
+        reported = {"text": made.err.decode().splitlines()[0], "status": 3}
+        return (made.status, made.err, text.out) == (3, text.err, b"") and doc == {"fault": reported, "nodes": []}
+    lines = []
+    for node in doc["nodes"]:
+        refused = node["verdict"] != "accepted"
+        source = (folder / node["file"]).read_text().splitlines()[node["line"] - 1] if refused else ""
+        lines += explained_lines(node, source)
+        if refused and node["reason"] != explained_lines(node, source):
+            return False
+    return (made.status, made.err) == (text.status, text.err) and doc["fault"] is None and lines == text.out.decode().splitlines()
+
+
+def is_checked(program: str, folder: pathlib.Path, words: list[str]) -> bool:
+    """Whether a check, or a run of a program that is refused, has the lines of the text."""
+    text = run(program, folder, *words)
+    made = run(program, folder, *words, "--json")
+    doc = document(made.out)
+    lines = [verdict_lines(node) for node in doc["nodes"]]
+    return (made.status, made.err) == (text.status, text.err) and doc["fault"] is None and lines == text.out.decode().splitlines()
+
+
+def verdicts(program: str, top: pathlib.Path) -> list[tuple[str, bool]]:
+    """Checks and explanations, of programs that are accepted and of those of examples/refused."""
+    cases = []
+    for pipeline in sorted(top.glob("*/*.toml")):
+        if pipeline.parent.name == "live":
+            continue
+        cases.append((f"check {pipeline.name}", is_checked(program, pipeline.parent, ["check", pipeline.name])))
+        cases.append((f"explain {pipeline.name}", is_explained(program, pipeline.parent, ["explain", pipeline.name])))
+        cases.append((f"explain {pipeline.name} port0", is_explained(program, pipeline.parent, ["explain", pipeline.name, "port0"])))
+    refused = top / "refused"
+    for node in sorted(refused.glob("*.dpv")):
+        certificate = node.with_suffix(".cert")
+        words = ["explain-one", node.name, *([certificate.name] if certificate.exists() else [])]
+        cases.append((" ".join(words), is_explained(program, refused, words)))
+        if certificate.exists():
+            words = ["one", node.name, certificate.name, "../strip/in.pcap", "out.pcap"]
+            is_as_text = is_checked if run(program, refused, *words).status == 1 else is_fault
+            cases.append((" ".join(words), is_as_text(program, refused, words)))
+    return cases
+
+
+def is_fault(program: str, folder: pathlib.Path, words: list[str]) -> bool:
+    """Whether a command that ends with a fault prints only that as its document, and is otherwise as without --json."""
+    text = run(program, folder, *words)
+    made = run(program, folder, *words, "--json")
+    reported = made.err.decode().splitlines()[0]
+    same = (made.status, made.err) == (text.status, text.err) and made.status in (3, 4)
+    return same and document(made.out) == {"fault": {"text": reported, "status": made.status}} and not text.out
+
+
+def is_silent(program: str, folder: pathlib.Path, words: list[str]) -> bool:
+    """Whether wrong words print nothing on standard output."""
+    text = run(program, folder, *words)
+    made = run(program, folder, *words, "--json")
+    first = text.err.splitlines()[0]
+    return (made.status, made.err.splitlines()[0], made.out) == (2, first, b"")
+
+
+def faults(program: str, top: pathlib.Path) -> list[tuple[str, bool]]:
+    """Faults of loading and of files, and wrong words."""
+    folder = top / "multicast"
+    (folder / "bad.toml").write_text("region = \n")
+    text = (folder / "multicast.toml").read_text()
+    (folder / "lost.toml").write_text(text.replace("in0.pcap", "none.pcap"))
+    (folder / "clash.toml").write_text(text.replace("port0.pcap", "in0.pcap"))
+    (folder / "node.toml").write_text(text.replace("multicast.dpv", "none.dpv"))
+    cases = [(" ".join(words), is_fault(program, folder, words)) for words in (
+        ["run", "none.toml"], ["run", "bad.toml"], ["run", "lost.toml"], ["run", "clash.toml"], ["run", "node.toml", "--counts"],
+        ["check", "none.toml"], ["check", "bad.toml"], ["check", "node.toml"], ["explain", "none.toml"], ["explain", "bad.toml"],
+        ["one", "none.dpv", "none.cert", "in0.pcap", "out.pcap"])]
+    cases += [(" ".join(words), is_silent(program, folder, words)) for words in (
+        ["run", "multicast.toml", "--refuse", "0"], ["run"], ["explain", "multicast.toml", "port7"], ["explain", "multicast.toml", "nobody"])]
+    made = run(program, folder, "explain", "node.toml", "--json")
+    doc = document(made.out)
+    reported = {"text": made.err.decode().splitlines()[0], "status": made.status}
+    cases.append(("explain node.toml", made.status == 3 and doc == {"fault": reported, "nodes": []}))
+    full = subprocess.run([program, "run", "multicast.toml", "--json"], cwd=folder, stdout=open("/dev/full", "wb"), stderr=subprocess.PIPE, check=False)
+    cases.append(("a full standard output", full.returncode == 3))
+    return cases
+
+
+def main() -> int:
+    """All of it, in a copy of the examples."""
+    program = asked()
+    with new_folder() as outer:
+        top = outer / "examples"
+        shutil.copytree(EXAMPLES, top)
+        cases = runs(program, top) + verdicts(program, top) + faults(program, top)
+    failed = [name for name, passed in cases if not passed]
+    for name in failed:
+        print(f"json_output: {name}: another document")
+    print(f"json_output: {len(cases)} cases, {len(failed)} failed")
+    return 1 if failed else 0
+
+
+if __name__ == "__main__":
+    sys.exit(main())

@@ -1,0 +1,240 @@
+#!/usr/bin/env python3
+"""Compares what the built program dpv says of programs with texts that were worked out by hand: explain, show and infer-one.
+
+Usage: tests/program/judged.py [PROGRAM]   (the built program; by default the one that ./dpv builds and runs)
+Programs that are accepted, that are refused with a certificate or without one, that have code that is never reached, or that are no programs; by
+themselves and as the nodes of a pipeline. Prints a line for each case that failed, and a count; exits with 1 if a case failed.
+"""
+import pathlib
+import subprocess
+import sys
+from typing import NamedTuple
+
+import paths  # noqa: F401
+
+from command import asked, new_folder, report_cases
+
+# A row in which p0 is sole, with a headroom of 128 and one segment, and such rows of a longer and of a shorter packet. Zeros follow.
+SOLE, LONGER, SHORTER = "010102008000000000000001", "01010200800000000e000001", "010102008e00000000000001"
+# A row that knows of one byte, and one without packets.
+ONE_BYTE, NONE = "010102008000000001000001", "01"
+STRIP = "iflen p0,14,short\nadj p0,14\ntx p0,r0,short\nexit\nshort: free p0\nexit\n"
+PASS = "tx p0,r0,d\nexit\nd: free p0\nexit\n"
+# Rows of another program of as many instructions as STRIP has, and a program that loses its packet.
+OTHER, LOST = (SOLE, SOLE, SHORTER, NONE, SOLE, NONE), "exit\n" * 6
+
+
+class Case(NamedTuple):
+    """A command on node.dpv, with node.cert if there are rows: its status, and what it prints and reports."""
+
+    command: str
+    program: str
+    rows: tuple[str, ...]
+    status: int
+    printed: str
+    reported: str = ""
+
+
+def explained(at: str, line: str, rule: str, known: str, wanted: str, cure: str) -> str:
+    """The explanation of a program that is refused."""
+    return f"port 0 {at}\nnode.dpv:{line}\n  {rule}\n  known:  {known}\n  wanted: {wanted}\n  help:   {cure}\n"
+
+
+EXPLAINED = (
+    Case("explain-one", STRIP, (), 0, "port 0 accepted\n"),
+    Case("explain-one", PASS, (ONE_BYTE, NONE, SOLE, NONE), 1, explained(
+        "refused at 0 by J2", "1: tx p0,r0,d", "J2: what is known at the entry is enough for the first row",
+        "p0 sole, headroom 128, at most 1 segment", "p0 sole, headroom 128, first 1, at most 1 segment", "let dpv infer write the certificate")),
+    Case("explain-one", "alloc p1,1,out\nfree p1\nout: free p0\nexit\n", (), 1, explained(
+        "not inferred at 0 by J3", "1: alloc p1,1,out", "J3: the pool, the table, the ring and each label exist",
+        "the number of pools is 1", "a pool with the number 1, from 0", "declare one more in the pipeline, or name another")),
+    Case("explain-one", "tx p0,r0,out\ntx p0,r0,none\nnone: exit\nout: free p0\nexit\n", (), 1, explained(
+        "not inferred at 1 by J4", "2: tx p0,r0,none", "J4: each packet register that is used holds a packet",
+        "p0 empty", "a packet in p0", "put a packet into p0 before it, by alloc or clone")),
+    Case("explain-one", "alloc p0,0,out\nout: free p0\nexit\n", (), 1, explained(
+        "not inferred at 0 by J5", "1: alloc p0,0,out", "J5: the target of alloc and clone is empty, and those of chain differ",
+        "p0 sole, headroom 128, at most 1 segment", "p0 empty", "free p0 before it, or take another register")),
+    Case("explain-one", "# cuts\n\n\tadj p0,14   # a header\ntx p0,r0,d\nexit\nd: free p0\nexit\n", (), 1, explained(
+        "not inferred at 0 by J6", "3: adj p0,14   # a header", "J6: the packet has the bytes or the room that the instruction needs",
+        "p0 first 0", "p0 first 14", "iflen p0,14,L before it")),
+    Case("explain-one", "iflen p0,14,out\nclone p1,p0,0,out\nstore p0,0,8,r0\nfree p1\nout: free p0\nexit\n", (), 1, explained(
+        "not inferred at 2 by J7", "3: store p0,0,8,r0", "J7: what it writes is not shared",
+        "p0 in group p0, headroom 128, first 14, at most 1 segment", "p0 sole or head sole", "free its clones before it, or write before clone")),
+    Case("explain-one", "iflen p0,14,out\nload r1,p0,5,1\ntx p0,r1,out\nexit\nout: free p0\nexit\n", (), 1, explained(
+        "not inferred at 2 by J9", "3: tx p0,r1,out", "J9: the port exists, and the packet satisfies what the ring declares",
+        "r1 <= 255", "r1 below 1, the number of ports", "jlt r1,1,L before it, and at L the tx")),
+    Case("explain-one", "iflen p0,14,short\nadj p0,14\ntx p0,r0,out\nexit\nout: free p0\nexit\nshort:  exit\n", (), 1, explained(
+        "not inferred at 6 by J10", "7: short:  exit", "J10: at exit no register holds a packet",
+        "p0 sole, headroom 128, at most 1 segment", "p0 empty", "free p0 before it")),
+    Case("explain-one", PASS, (SOLE, NONE, ONE_BYTE, NONE), 1, explained(
+        "refused at 0 by J11", "1: tx p0,r0,d", "J11: the facts after the instruction satisfy the row of each successor",
+        "p0 sole, headroom 128, at most 1 segment", "at 2, d: p0 sole, headroom 128, first 1, at most 1 segment",
+        "let dpv infer write the certificate, or test for more before it")),
+)
+ENTRY = "p0 sole, headroom 128, at most 1 segment"
+SHOWN = (
+    Case("show-one", STRIP, (), 0, f"""port 0 accepted
+  0          iflen p0,14,short  {ENTRY}; r0-r7 <= 0
+  1          adj p0,14          + p0 first 14
+  2          tx p0,r0,short     + p0 headroom 142, first 0
+  3          exit               + p0 empty
+  4  short:  free p0            + {ENTRY}
+  5          exit               + p0 empty
+"""),
+    Case("show-one", "clone p1,p0,0,out\nset r1,5\nsub r2,r1\nadd r3,r2\nfree p1\njlt r1,6,out\nout: free p0\nexit\nexit\n", (), 0, f"""port 0 accepted
+  0        clone p1,p0,0,out  {ENTRY}; r0-r7 <= 0
+  1        set r1,5           + p0 in group p0; p1 in group p0, headroom 128, at most 1 segment
+  2        sub r2,r1          + r1 <= 5
+  3        add r3,r2          + r2 any
+  4        free p1            + r3 any
+  5        jlt r1,6,out       + p0 sole; p1 empty
+  6  out:  free p0            as before
+  7        exit               + p0 empty
+  8        exit               never reached
+"""),
+    Case("show-one", "adj p0,14\ntx p0,r0,full\nexit\nfull: free p0\nexit\n", (), 1, f"""port 0 not inferred at 0 by J6
+> 0         adj p0,14      {ENTRY}; r0-r7 <= 0
+  1         tx p0,r0,full  + p0 headroom 142
+  2         exit           + p0 empty
+  3  full:  free p0        + p0 sole, headroom 142, at most 1 segment
+  4         exit           + p0 empty
+"""),
+    Case("show-one", PASS, (SOLE, NONE, ONE_BYTE, NONE), 1, f"""port 0 refused at 0 by J11
+> 0      tx p0,r0,d  {ENTRY}; r0-r7 <= 0
+  1      exit        + p0 empty
+  2  d:  free p0     + p0 sole, headroom 128, first 1, at most 1 segment
+  3      exit        + p0 empty
+"""),
+)
+ASM = """fault: pipeline 6 Asm port 0 line 2 cause 5
+  because: line 2: an operand is not a number, or is out of its range
+"""
+# What each command says of a faulty text.
+FAULTY = tuple(Case(command, "exit\nadj p0,65536\n", (), 3, "", ASM) for command in ("explain-one", "show-one", "infer-one"))
+INFERRED = (
+    Case("infer-one", STRIP, (), 0, "dpv-cert 1\n" + "".join(f"{row:0<306}\n" for row in (SOLE, LONGER, SHORTER, NONE, SOLE, NONE))),
+    Case("infer-one", "exit\n", (), 1, "port 0 not inferred at 0 by J10\n"),
+)
+UNFIT = "  because: the certificate node.cert does not fit the program node.dpv\n"
+RUN = (
+    Case("one", STRIP, OTHER, 1, "port 0 refused at 1 by J6\n",
+         f"{UNFIT}  help: the program itself is accepted with an inferred certificate: dpv infer-one node.dpv > node.cert\n"),
+    Case("one", LOST, OTHER, 1, "port 0 refused at 0 by J10\n", f"{UNFIT}  help: dpv explain-one node.dpv node.cert explains why\n"),
+)
+POOL = "region = 1048576\n[[pool]]\ncount = 64\ncache = 0\nroom = 2176\n"
+PIPELINE = POOL + """[[ring]]
+count = 2
+share = 2
+head = 0
+tail = 0
+first = 20
+last = 0
+segs = 64
+node = "pass.dpv"
+[[port]]
+pool = 0
+segs = 1
+queue = 32
+node = "pass.dpv"
+cert = "pass.cert"
+in = "a"
+out = "b"
+[[port]]
+pool = 0
+segs = 1
+queue = 32
+node = "queue.dpv"
+in = "c"
+out = "d"
+[[port]]
+pool = 0
+segs = 64
+queue = 32
+node = "long.dpv"
+in = "e"
+out = "f"
+"""
+LONG = "alloc p1,0,out\nappend p1,14\nchain p1,p0\ntx p1,r0,full\nexit\nfull: free p1\nexit\nout: free p0\nexit\n"
+NODES = (
+    f"""port 0 refused at 0 by J11
+pass.dpv:1: tx p0,r0,d
+  J11: the facts after the instruction satisfy the row of each successor
+  known:  {ENTRY}
+  wanted: at 2, d: p0 sole, headroom 128, first 1, at most 1 segment
+  help:   let dpv infer write the certificate, or test for more before it
+""",
+    f"""port 1 not inferred at 0 by J9
+queue.dpv:1: enq p0,0,d
+  J9: the port exists, and the packet satisfies what the ring declares
+  known:  {ENTRY}
+  wanted: p0 sole, first 20, at most 64 segments
+  help:   test for what is missing before it, or let the ring declare less
+""",
+    """port 2 not inferred at 2 by J8
+long.dpv:3: chain p1,p0
+  J8: chained packets have at most 64 segments
+  known:  p1 at most 1 segment, p0 at most 64 segments
+  wanted: at most 64 together
+  help:   let the port or ring take packets of fewer segments
+""",
+    "ring 0 accepted\n",
+)
+# The words on this pipeline, the status, what is printed and what is reported.
+OF_PIPELINE = (
+    (["explain", "case.toml"], 1, "".join(NODES), ""),
+    (["explain", "case.toml", "port0"], 1, NODES[0], ""),
+    (["explain", "case.toml", "port1"], 1, NODES[1], ""),
+    (["explain", "case.toml", "ring0"], 0, NODES[3], ""),
+    (["explain", "case.toml", "port3"], 2, "", "error: the pipeline has no port 3\n"),
+    (["show", "case.toml", "ring0"], 0, """ring 0 accepted
+  0      tx p0,r0,d  p0 sole, first 20, at most 64 segments; r0-r7 <= 0
+  1      exit        + p0 empty
+  2  d:  free p0     + p0 sole, first 20, at most 64 segments
+  3      exit        + p0 empty
+""", ""),
+    (["show", "case.toml", "ring1"], 2, "", "error: the pipeline has no ring 1\n"),
+    (["infer", "case.toml", "port4"], 1, "port 1 not inferred at 0 by J9\n", ""),
+)
+
+
+def certificate(rows: tuple[str, ...]) -> str:
+    """The text of a certificate whose rows begin so."""
+    return "dpv-cert 1\n" + "".join(f"{row:0<306}\n" for row in rows)
+
+
+def is_said(program: str, folder: pathlib.Path, words: list[str], status: int, printed: str, reported: str) -> bool:
+    """Whether a command ends so. A report may have more lines than those."""
+    run = subprocess.run([program, *words], cwd=folder, capture_output=True, text=True, timeout=60)
+    passed = (run.returncode, run.stdout) == (status, printed) and run.stderr.startswith(reported) and bool(run.stderr) == bool(reported)
+    if not passed:
+        print(f"judged: {words}: status {run.returncode}, printed\n{run.stdout}reported\n{run.stderr}")
+    return passed
+
+
+def is_judged(program: str, folder: pathlib.Path, case: Case) -> bool:
+    """Whether a command on one program ends as its case says."""
+    (folder / "node.dpv").write_text(case.program)
+    words = [case.command, "node.dpv"]
+    if case.rows:
+        (folder / "node.cert").write_text(certificate(case.rows))
+        words.append("node.cert")
+    if case.command == "one":
+        words += ["in.pcap", "out.pcap"]
+    return is_said(program, folder, words, case.status, case.printed, case.reported)
+
+
+def main() -> int:
+    """All cases."""
+    program = asked()
+    with new_folder() as folder:
+        passed = [is_judged(program, folder, case) for case in (*EXPLAINED, *SHOWN, *FAULTY, *INFERRED, *RUN)]
+        files = {"case.toml": PIPELINE, "pass.dpv": PASS, "queue.dpv": PASS.replace("tx p0,r0", "enq p0,0"), "long.dpv": LONG,
+                 "pass.cert": certificate((SOLE, NONE, ONE_BYTE, NONE))}
+        for name, text in files.items():
+            (folder / name).write_text(text)
+        passed += [is_said(program, folder, *case) for case in OF_PIPELINE]
+    return report_cases("judged", passed)
+
+
+if __name__ == "__main__":
+    sys.exit(main())

@@ -1,0 +1,382 @@
+#!/usr/bin/env python3
+"""Runs the built program dpv on faults, and tests the lines that it prints after the line of the fault.
+
+Usage: tests/program/messages.py [PROGRAM]   (the built program; by default the one that ./dpv builds and runs)
+Files that are missing, folders, too long, not readable or writable; captures with each cause, in another format and with other link types;
+certificates of other programs; pipelines with each cause; full disks; outputs that are inputs by the same name, by another name, by a link
+and from standard input; words of `dpv trace` that name no port. The words are the system's on this host (os.strerror), or are given here.
+Then the lines of `--progress`, for captures of both byte orders and for runs that stop, and that there are none without it; and those on
+records that were dropped or cut. Prints a line for each case that failed, and a count; exits with 1 if a case failed.
+"""
+import errno
+import os
+import pathlib
+import re
+import shutil
+import struct
+import subprocess
+import sys
+from collections.abc import Iterator
+from typing import NamedTuple
+
+import paths  # noqa: F401
+
+from command import asked, nested_folder, report_cases
+from faults import HEADER, ONE, POOL, capture, make_files, pipeline, run_of
+
+PCAPNG = "it is a pcapng file; editcap -F pcap IN OUT converts it to a capture"
+NOBODY = 65_534
+MILLION = 1_000_000
+
+
+class Case(NamedTuple):
+    """The words after `dpv`, the status, the expected standard error, and whether that has the lines `at` and `help`, which are compared only then."""
+
+    words: list[str]
+    status: int
+    reported: str
+    is_whole: bool = False
+
+
+def system(number: int) -> str:
+    """The system's words for an error."""
+    return f"{os.strerror(number)} (os error {number})"
+
+
+def file(name: str, reason: str) -> str:
+    """The lines for a file."""
+    return f"fault: file {name}\n  because: {reason}\n"
+
+
+def clash(output: str, other: str) -> str:
+    """The lines for an output that is a file that the run reads."""
+    return f"fault: file {output}\n  file: {other}\n  because: the run reads this file, so it is not overwritten\n"
+
+
+def node(place: str, name: str, reason: str) -> str:
+    """The lines for a node's file."""
+    return f"fault: pipeline 5 File {place}\n  file: {name}\n  because: {reason}\n"
+
+
+def of_pipeline(cause: str, reason: str) -> str:
+    """The lines for a pipeline."""
+    return f"fault: pipeline {cause}\n  because: {reason}\n"
+
+
+def of_input(port: int, cause: int, name: str, reason: str) -> str:
+    """The lines for an input."""
+    return f"fault: input {port} cause {cause}\n  file: {name}\n  because: {reason}\n"
+
+
+def of_output(port: int, name: str, reason: str) -> str:
+    """The lines for an output."""
+    return f"fault: output {port}\n  file: {name}\n  because: {reason}\n"
+
+
+def strips(source: str, target: str, reported: str) -> Case:
+    """A case of `dpv one`."""
+    return Case(["one", "strip.dpv", "strip.cert", source, target], 3, reported)
+
+
+def files() -> Iterator[Case]:
+    """Files that cannot be opened, made or read."""
+    missing, folder, long = system(errno.ENOENT), system(errno.EISDIR), "it is longer than 1048576 bytes"
+    for words in (["check"], ["run"], ["mem"], ["explain"]):
+        yield Case([*words, "none"], 3, file("none", missing))
+        yield Case([*words, "folder"], 3, file("folder", folder))
+        yield Case([*words, "long.toml"], 3, file("long.toml", long))
+    yield Case(["infer", "none", "port0"], 3, file("none", missing))
+    yield Case(["show", "none", "port0"], 3, file("none", missing))
+    for words in (["infer-one"], ["explain-one"], ["show-one"]):
+        yield Case([*words, "none"], 3, node("port 0", "none", missing))
+        yield Case([*words, "folder"], 3, node("port 0", "folder", folder))
+        yield Case([*words, "long.dpv"], 3, node("port 0", "long.dpv", long))
+    yield Case(["explain-one", "strip.dpv", "none"], 3, node("port 0", "none", missing))
+    yield Case(["show-one", "strip.dpv", "long.cert"], 3, node("port 0", "long.cert", long))
+    yield Case(["one", "none", "none", "none", "none"], 3, node("port 0", "none", missing))
+    yield Case(["one", "strip.dpv", "folder", "none", "none"], 3, node("port 0", "folder", folder))
+    yield Case(["check", "ring_file.toml"], 3, node("ring 0", "long.dpv", long))
+    yield strips("none", "out", file("none", missing))
+    yield strips("in.pcap", "none/none", file("none/none", missing))
+    yield strips("in.pcap", "folder", file("folder", folder))
+    yield Case(["run", "no_other_output.toml"], 3, file("folder", folder))
+
+
+def closed() -> Iterator[Case]:
+    """Files that the user nobody may not read or write, with the program run as nobody."""
+    denied = system(errno.EACCES)
+    yield Case(["check", "closed"], 3, file("closed", denied))
+    yield Case(["infer-one", "closed"], 3, node("port 0", "closed", denied))
+    yield strips("closed", "out", file("closed", denied))
+    yield strips("in.pcap", "closed", file("closed", denied))
+
+
+def captures() -> Iterator[Case]:
+    """Captures with each cause, and in another format."""
+    words = {
+        "magic.pcap": (1, "no magic number of a pcap file"),
+        "new.pcapng": (1, PCAPNG),
+        "version.pcap": (2, "the version is not 2.4"),
+        "link.pcap": (3, "the link type is 101 RAW, and not 1 ETHERNET"),
+        "time.pcap": (4, "the fraction of a record's time is a second or more"),
+        "large.pcap": (5, "a record has more than 262144 bytes"),
+        "short.pcap": (6, "fewer than the 24 bytes of a header"),
+        "folder": (8, system(errno.EISDIR)),
+    }
+    for name, (cause, reason) in words.items():
+        yield strips(name, "out", of_input(0, cause, name, reason))
+    yield Case(["run", "no_header.toml"], 3, of_input(0, 6, "short.pcap", words["short.pcap"][1]))
+    yield Case(["run", "no_other_header.toml"], 3, of_input(1, 3, "link.pcap", words["link.pcap"][1]))
+    yield Case(["run", "no_bytes.toml"], 3, of_input(1, 8, "folder", system(errno.EISDIR)))
+    yield Case(["run", "no_room.toml"], 3, "fault: region\n")
+
+
+# Link types with their names, and what helps; tests/program/cures.py runs the commands.
+HERE, HEADERS = "capture on an Ethernet interface", "make Ethernet headers of these: editcap -F pcap -T ether -L -C 2 IN OUT"
+IN_PLACE_OF_ANY, IS_ETHERNET = "capture on one Ethernet interface in place of any", "if each record really is an Ethernet frame: editcap -F pcap -T ether IN OUT"
+NO_HEADERS, WIRELESS = f"{HERE}: these records have no Ethernet headers", f"{HERE}, or on a wireless one that is not in monitor mode"
+LINKS = {
+    **{int(name.split()[0]): (name, NO_HEADERS) for name in ("0 NULL", "9 PPP", "101 RAW", "108 LOOP", "228 IPV4", "229 IPV6")},
+    **{int(name.split()[0]): (name, WIRELESS) for name in ("105 IEEE802_11", "127 IEEE802_11_RADIOTAP")},
+    **{int(name.split()[0]): (name, f"{IS_ETHERNET}; else {HERE}") for name in ("146", "147 USER", "162 USER")},
+    113: ("113 LINUX_SLL", f"{IN_PLACE_OF_ANY}, or {HEADERS}"),
+    276: ("276 LINUX_SLL2", IN_PLACE_OF_ANY),
+}
+
+
+def links() -> Iterator[Case]:
+    """Captures with other link types, in both byte orders, also of another port and from a pipe; and one that says that frames have checksums."""
+    for link, (name, cure) in LINKS.items():
+        for order in ("little", "big"):
+            file = f"{link}.{order}.pcap"
+            reported = of_input(0, 3, file, f"the link type is {name}, and not 1 ETHERNET") + f"  help: {cure}\n"
+            yield strips(file, "out", reported)._replace(is_whole=True)
+    checksums = "the link type is 1 ETHERNET with 9216 in the upper 16 bits, and not 1 ETHERNET alone"
+    cure = "  help: remove the checksums at the ends of the frames: editcap -F pcap -T ether -L -C -4 IN OUT\n"
+    yield strips("checksums.pcap", "out", of_input(0, 3, "checksums.pcap", checksums) + cure)._replace(is_whole=True)
+    raw = of_input(1, 3, "101.big.pcap", "the link type is 101 RAW, and not 1 ETHERNET") + f"  help: {LINKS[101][1]}\n"
+    yield Case(["run", "two_links.toml"], 3, raw, is_whole=True)
+    yield Case(["trace", "two_links.toml"], 3, raw, is_whole=True)
+
+
+def unfit() -> Iterator[Case]:
+    """Certificates of other programs with as many rows, for programs that are accepted with another one and for one that is not."""
+    begins = "  because: the certificate {} does not fit the program {}\n"
+    inferred = "  help: the program itself is accepted with an inferred certificate: "
+    one = begins.format("bold.cert", "strip.dpv") + f"{inferred}dpv infer-one strip.dpv > bold.cert\n"
+    yield Case(["one", "strip.dpv", "bold.cert", "in.pcap", "out"], 1, one, is_whole=True)
+    lost = begins.format("strip.cert", "lost6.dpv") + "  help: dpv explain-one lost6.dpv strip.cert explains why\n"
+    yield Case(["one", "lost6.dpv", "strip.cert", "in.pcap", "out"], 1, lost, is_whole=True)
+    refused = begins.format("bold.cert", "strip.dpv") + f"{inferred}leave out the key cert, or dpv infer refused.toml port0 > bold.cert\n"
+    second = begins.format("strip.cert", "strip.dpv") + f"{inferred}leave out the key cert, or dpv infer second.toml port1 > strip.cert\n"
+    ring = begins.format("strip.cert", "lost6.dpv") + "  help: dpv explain ring_unfit.toml ring0 explains why\n"
+    for command in ("check", "run", "trace"):
+        yield Case([command, "refused.toml"], 1, refused, is_whole=True)
+        yield Case([command, "second.toml"], 1, second, is_whole=True)
+        yield Case([command, "ring_unfit.toml"], 1, ring, is_whole=True)
+        yield Case([command, "lost.toml"], 1, "", is_whole=True)
+    yield Case(["one", "lost.dpv", "strip.cert", "in.pcap", "out"], 3, of_pipeline("7 BadCert port 0 line 3 cause 4", "line 3: there are too few or too many lines"))
+
+
+def full_disks() -> Iterator[Case]:
+    """Outputs that are full, at once or at the end of the run; of two, the first is reported."""
+    full = system(errno.ENOSPC)
+    yield strips("in.pcap", "/dev/full", of_output(0, "/dev/full", full))
+    yield strips("many.pcap", "/dev/full", of_output(0, "/dev/full", full))
+    yield Case(["run", "full.toml"], 3, of_output(1, "/dev/full", full))
+    yield Case(["run", "both_full.toml"], 3, of_output(0, "/dev/full", full))
+    yield Case(["run", "late_full.toml"], 3, of_output(1, "/dev/full", full))
+
+
+def pipelines() -> Iterator[Case]:
+    """Pipelines with each cause; a program that is refused has no reason on standard error."""
+    key = "a key is missing, unknown, of the wrong type or out of its range"
+    reported = {
+        "text": ("1 NotToml", "the text is not TOML"),
+        "top": ("2 BadKey top 0", key),
+        "port": ("2 BadKey port 0", key),
+        "env": ("3 BadEnv 4 0", "port 0 is not within the limits"),
+        "pools": ("3 BadEnv 1 0", "there are too few or too many pools, tables, rings or ports"),
+        "route": ("4 BadTable 0 1 3", "no room for another rule"),
+        "depth": ("4 BadTable 0 0 1", "the depth is not 1 to 32"),
+        "hop": ("4 BadTable 0 0 2", "the hop is above 16777215"),
+        "unread_route": ("4 BadTable 0 0 6", "the route is not written A.B.C.D/DEPTH HOP"),
+        "asm": ("6 Asm port 0 line 2 cause 5", "line 2: an operand is not a number, or is out of its range"),
+        "cert": ("7 BadCert port 0 line 7 cause 2", "line 7: this is not a line of 306 hexadecimal digits"),
+    }
+    for name, (cause, reason) in reported.items():
+        yield Case(["check", f"{name}.toml"], 3, of_pipeline(cause, reason))
+        yield Case(["run", f"{name}.toml"], 3, of_pipeline(cause, reason))
+    yield Case(["explain", "text.toml"], 3, of_pipeline(*reported["text"]))
+    yield Case(["show", "text.toml", "port0"], 3, of_pipeline(*reported["text"]))
+
+
+def same_files() -> Iterator[Case]:
+    """Outputs that are inputs: by the same name, another name, a link, and the name of another port's input."""
+    yield strips("kept.pcap", "kept.pcap", clash("kept.pcap", "kept.pcap"))
+    yield strips("kept.pcap", "./folder/../kept.pcap", clash("./folder/../kept.pcap", "kept.pcap"))
+    yield strips("kept.pcap", "hard.pcap", clash("hard.pcap", "kept.pcap"))
+    yield strips("soft.pcap", "kept.pcap", clash("kept.pcap", "soft.pcap"))
+    yield strips("/dev/stdin", "kept.pcap", clash("kept.pcap", "/dev/stdin"))
+    yield Case(["run", "crossed.toml"], 3, clash("kept.pcap", "kept.pcap"))
+
+
+def no_text() -> Iterator[Case]:
+    """Words that are not UTF-8, at any place."""
+    for words in (["\udcff"], ["check", "\udcff"], ["run", "both.toml", "--refuse", "\udc80"], ["check", "\udcff", "more"]):
+        yield Case(words, 2, "error: an argument is not UTF-8\n")
+
+
+def traces() -> Iterator[Case]:
+    """Words of `dpv trace` that are not a port or a number of records, or that pick no records, before any file is read; and ports and labels
+    that the pipeline does not have."""
+    for port in ("8", "256", "", "+1", "-1", "port0"):
+        yield Case(["trace", "none", f"--port={port}"], 2, f"error: '{port}' is not a port: a number from 0 to 7\n")
+    for count in ("0", "134217729", "", "+1", "-1", "ten"):
+        yield Case(["trace", "none", f"--records={count}"], 2, f"error: '{count}' is not a number of records: from 1 to 134217728\n")
+    for port in ("2", "7"):
+        yield Case(["trace", "none", "--port", port], 3, file("none", system(errno.ENOENT)))
+        yield Case(["trace", "both.toml", "--port", port], 2, f"error: the pipeline has no port {port}\n")
+    for which in ("late", "0", "", "-1", "134217729"):
+        reported = f"error: '{which}' is none of sent, freed, refused and cut, and no number of a record\n"
+        yield Case(["trace", "none", f"--only={which}"], 2, reported)
+    yield Case(["trace", "both.toml", "--instr", "nowhere"], 2, "error: no program has the label 'nowhere'\n")
+    yield Case(["trace", "both.toml", "--port", "1", "--records", "1", "--only", "sent", "--instr", "0"], 0, "")
+    yield Case(["trace", "both.toml", "--port", "1", "--records", "1"], 0, "")
+
+
+def in_all(*counts: int) -> str:
+    """The last lines of a run with --progress."""
+    return "".join(f"progress: port {port}: {count} records read in all\n" for port, count in enumerate(counts))
+
+
+def progress() -> Iterator[Case]:
+    """Runs with --progress, also ones that stop; if the captures are missing nothing is read."""
+    one, step = ["one", "--progress", "strip.dpv", "strip.cert"], f"progress: port 0: {MILLION} records read\n"
+    yield Case([*one, "many.pcap", "out"], 0, in_all(2000))
+    for name in ("little.pcap", "big.pcap"):
+        yield Case([*one, name, "/dev/null"], 0, step + in_all(MILLION + 1))
+        yield Case(["one", *one[2:], name, "/dev/null"], 0, "")
+    yield Case([*one, "link.pcap", "out"], 3, in_all(0) + of_input(0, 3, "link.pcap", "the link type is 101 RAW, and not 1 ETHERNET"))
+    yield Case([*one, "none", "out"], 3, file("none", system(errno.ENOENT)))
+    yield Case(["run", "--progress", "both.toml"], 0, in_all(1, 2))
+    yield Case(["run", "late_full.toml", "--progress"], 3, in_all(1, 2) + of_output(1, "/dev/full", system(errno.ENOSPC)))
+
+
+def drops() -> Iterator[Case]:
+    """Runs that reach their end and sent fewer packets than came in, each with its cure."""
+    yield Case(["run", "narrow.toml"], 0, "port 0: 1 record is longer than it takes (64 bytes): raise segs or room\n")
+    yield Case(["run", "both.toml", "--refuse", "1"], 0, "port 0: 1 record got no buffers: --refuse refused 1 call\n")
+    left = "a turn runs 32 packets from rings at most; let programs put fewer into rings for each record"
+    yield Case(["run", "looped.toml"], 0, f"ring 0: 1 packet was left at the end: {left}\n")
+    cut = "it took more than 256 backward jumps, and its packets were freed; --counts shows which loop"
+    yield Case(["run", "endless.toml"], 0, f"1 node run was cut: {cut}\n")
+    snap = "port 0: 1 record was cut by the capture's snap length: capture with a larger -s\n"
+    yield Case(["one", "strip.dpv", "strip.cert", "snapped.pcap", "out"], 0, snap)
+
+
+def nothing_reported() -> Iterator[Case]:
+    """Runs without messages; devices are not emptied."""
+    yield Case(["one", "strip.dpv", "strip.cert", "in.pcap", "out"], 0, "")
+    yield Case(["one", "strip.dpv", "strip.cert", "in.pcap", "/dev/null"], 0, "")
+    yield Case(["one", "strip.dpv", "strip.cert", "/dev/null", "/dev/null"], 3, of_input(0, 6, "/dev/null", "fewer than the 24 bytes of a header"))
+    yield Case(["run", "both.toml"], 0, "")
+
+
+def header_of(order: str, link: int) -> bytes:
+    """The header of a capture with this link type."""
+    return struct.pack("<IHHIIII" if order == "little" else ">IHHIIII", 0xA1B2C3D4, 2, 4, 0, 0, 262144, link)
+
+
+def make_more(folder: pathlib.Path) -> None:
+    """The files that the cases name beside those of tests/program/faults.py."""
+    table = '[[table]]\nrules = 1\ngroups = 0\nroutes = ["{}"]\n'
+    texts = {
+        "pools": pipeline(["none"]).replace(POOL, 9 * POOL),
+        "depth": pipeline(["none"], table=table.format("10.0.0.0/33 1")),
+        "hop": pipeline(["none"], table=table.format("10.0.0.0/8 16777216")),
+        "unread_route": pipeline(["none"], table=table.format("10.0.0.0 1")),
+        "late_full": run_of(["one.pcap", "two.pcap"], ["out0", "/dev/full"]),
+        "crossed": run_of(["one.pcap", "kept.pcap"], ["kept.pcap", "out1"]),
+        "two_links": run_of(["one.pcap", "101.big.pcap"], ["out0", "out1"]),
+        "narrow": run_of(["wide.pcap"], ["out0"]).replace("room = 2176", "room = 192"),
+        "looped": pipeline(["loop.dpv"], ["loop.dpv"]).replace('in = "none"', 'in = "one.pcap"').replace('out = "none/none"', 'out = "out0"'),
+        "endless": run_of(["one.pcap"], ["out0"]).replace("forward.dpv", "endless.dpv"),
+        "ring_unfit": pipeline(["strip.dpv strip.cert"], ["lost6.dpv strip.cert"]),
+    }
+    data = {
+        "magic.pcap": b"\0" + ONE[1:],
+        "new.pcapng": struct.pack("<IIIHHqI", 0x0A0D0D0A, 28, 0x1A2B3C4D, 1, 0, -1, 28),
+        "version.pcap": ONE[:6] + b"\5" + ONE[7:],
+        "time.pcap": HEADER + struct.pack("<IIII", 1, 1_000_000, 4, 4) + b"data",
+        "large.pcap": HEADER + struct.pack("<IIII", 1, 2, 262_145, 262_145),
+        "many.pcap": capture(*(2000 * [bytes(60)])),
+        "little.pcap": HEADER + (MILLION + 1) * struct.pack("<IIII", 1, 2, 0, 0),
+        "big.pcap": struct.pack(">IHHIIII", 0xA1B2C3D4, 2, 4, 0, 0, 262144, 1) + (MILLION + 1) * struct.pack(">IIII", 1, 2, 0, 0),
+        "kept.pcap": ONE,
+        "closed": ONE,
+        "lost6.dpv": 6 * b"exit\n",
+        "loop.dpv": b"enq p0,0,d\nexit\nd: free p0\nexit\n",
+        "endless.dpv": b"a: jmp a\n",
+        "wide.pcap": capture(bytes(100)),
+        "snapped.pcap": HEADER + struct.pack("<IIII", 1, 2, 4, 60) + b"data",
+        "checksums.pcap": header_of("little", 0x2400_0001),
+    }
+    data.update((f"{link}.{order}.pcap", header_of(order, link)) for link in LINKS for order in ("little", "big"))
+    for name, text in texts.items():
+        (folder / f"{name}.toml").write_text(text)
+    for name, bytes_of in data.items():
+        (folder / name).write_bytes(bytes_of)
+    (folder / "closed").chmod(0)
+    os.link(folder / "kept.pcap", folder / "hard.pcap")
+    (folder / "soft.pcap").symlink_to("kept.pcap")
+
+
+def ends_so(program: str, case: Case, folder: pathlib.Path, user: int | None = None) -> bool:
+    """Whether the program ends as the case says, and leaves the kept capture unchanged."""
+    with open(folder / "kept.pcap", "rb") as given:
+        run = subprocess.run([program, *case.words], cwd=folder, stdin=given, capture_output=True, text=True, timeout=60, user=user)
+    kept = (folder / "kept.pcap").read_bytes() == ONE
+    # (the line at fault of a text and its cure are tests/program/mistakes.py's)
+    reported = run.stderr if case.is_whole else re.sub(r"(?m)^  (?:at|help): .*\n", "", run.stderr)
+    passed = (run.returncode, reported, kept) == (case.status, case.reported, True)
+    if not passed:
+        print(f"dpv {' '.join(case.words)}: status {run.returncode}, reported {run.stderr!r} and not {case.reported!r}" + ("" if kept else "; the capture is gone"))
+    return passed
+
+
+def as_nobody(program: str, folder: pathlib.Path) -> list[bool]:
+    """Those that need a user who may not read everything."""
+    near = shutil.copy(program, folder / "dpv")
+    for place in (folder, folder.parent):
+        place.chmod(0o755)
+    user = NOBODY if os.geteuid() == 0 else None
+    return [ends_so(near, case, folder, user) for case in closed()]
+
+
+def goes_on(program: str, folder: pathlib.Path) -> bool:
+    """Whether a run that cannot print its progress reaches its end, and ends with status 3, since what it reports is lost."""
+    words = [program, "one", "--progress", "strip.dpv", "strip.cert", "little.pcap", "out"]
+    with open("/dev/full", "wb") as full:
+        run = subprocess.run(words, cwd=folder, stdout=subprocess.PIPE, stderr=full, text=True, timeout=60)
+    passed = run.returncode == 3 and run.stdout.startswith(f"port 0 received {MILLION + 1} ")
+    if not passed:
+        print(f"dpv one --progress to a full disk: status {run.returncode}, printed {run.stdout!r}")
+    return passed
+
+
+def main() -> int:
+    """All of it."""
+    program = asked()
+    with nested_folder() as folder:
+        make_files(folder)
+        make_more(folder)
+        kinds = (files, captures, links, unfit, full_disks, pipelines, same_files, no_text, traces, progress, drops, nothing_reported)
+        passed = [ends_so(program, case, folder) for kind in kinds for case in kind()]
+        passed.append(goes_on(program, folder))
+        passed += as_nobody(program, folder)
+    return report_cases("messages", passed)
+
+
+if __name__ == "__main__":
+    sys.exit(main())

@@ -1,0 +1,118 @@
+#!/usr/bin/env python3
+"""Lets the built program dpv run heap scripts, and compares all that it prints.
+
+Usage: tests/program/scripts.py [PROGRAM]   (the built program; by default the one that ./dpv builds and runs)
+Scripts with the lines that they print; scripts whose command at one line is no command or may not come there, with what the lines before
+it print. Each is run with a newline at its end and without. Prints a line for each that failed, and a count; exits with 1 if one did.
+"""
+import subprocess
+import sys
+
+import paths  # noqa: F401
+
+from command import asked, new_folder, report_cases
+
+# the commands of a script, and the lines that they print
+PRINTED = [
+    ("", ""),
+    ("|", ""),
+    ("region 4096", ""),
+    ("||region 4096|", ""),
+    ("region 4096|malloc 100 0", "1 data 3968 element 3904 + 192"),
+    ("region 04096|malloc 0100 00", "1 data 3968 element 3904 + 192"),
+    (
+        "region 4096|malloc 100 0|malloc 64 1024|list|free 1|free 2|list",
+        "1 data 3968 element 3904 + 192|2 data 3072 element 3008 + 128|FREE 0 + 3008|BUSY 3008 + 128 pad 0|FREE 3136 + 768|"
+        "BUSY 3904 + 192 pad 0|freed 1|freed 2|FREE 0 + 4096",
+    ),
+    (
+        "region 4096|malloc 100 0|malloc 64 1024|free 2|free 1|list",
+        "1 data 3968 element 3904 + 192|2 data 3072 element 3008 + 128|freed 2|freed 1|FREE 0 + 4096",
+    ),
+    ("region 4096|malloc 3840 64|list", "1 data 256 element 192 + 3904|FREE 0 + 192|BUSY 192 + 3904 pad 0"),
+    ("region 4096|malloc 3904 0|list", "1 data 192 element 0 + 4096|BUSY 0 + 4096 pad 128"),
+    ("region 4096|malloc 3904 0|free 1|list", "1 data 192 element 0 + 4096|freed 1|FREE 0 + 4096"),
+    ("region 4096|malloc 192 256", "1 data 3840 element 3776 + 320"),
+    ("region 4096|malloc 128 256", "1 data 3840 element 3776 + 320"),
+    ("region 4096|malloc 64 256|list", "1 data 3840 element 3776 + 128|FREE 0 + 3776|BUSY 3776 + 128 pad 0|FREE 3904 + 192"),
+    (
+        "region 4096|malloc 0 96|malloc 64 96|malloc 4033 0|list|malloc 4032 0",
+        "refused 1 ZeroSize|refused 2 BadAlign|refused 3 NoRoom|FREE 0 + 4096|1 data 64 element 0 + 4096",
+    ),
+    ("region 4096|zmalloc 0 96|zmalloc 64 96|zmalloc 4033 0", "refused 1 ZeroSize|refused 2 BadAlign|refused 3 NoRoom"),
+    ("region 4096|malloc 4294967295 4294967295|malloc 1 2147483648", "refused 2 BadAlign|refused 3 NoRoom"),
+    (
+        "region 4096|malloc 64 0|malloc 64 0|malloc 64 0|free 2|stats|malloc 64 256|malloc 64 0",
+        "1 data 4032 element 3968 + 128|2 data 3904 element 3840 + 128|3 data 3776 element 3712 + 128|freed 2|"
+        "free 2 bytes 3840 busy 2 bytes 256|4 data 3584 element 3520 + 192|5 data 3904 element 3840 + 128",
+    ),
+    ("region 4096|zmalloc 100 0|stats", "1 data 3968 element 3904 + 192|free 1 bytes 3904 busy 1 bytes 192"),
+    ("region 4096|malloc 4032 0|free 1|zmalloc 4032 0|free 2|stats", "1 data 64 element 0 + 4096|freed 1|2 data 64 element 0 + 4096|freed 2|free 1 bytes 4096 busy 0 bytes 0"),
+    (f"region {'0' * 50}4096|malloc {'0' * 50}1 0", "1 data 4032 element 3968 + 128"),
+    ("region 1073741824|list", "FREE 0 + 1073741824"),
+]
+
+# the commands of a script, what is printed before the one that is at fault, and its line
+FAULTY = [
+    ("malloc 1 1", "", 1),
+    ("list|region 4096", "", 1),
+    ("region 4097", "", 1),
+    ("region 4032", "", 1),
+    ("region 1073741888", "", 1),
+    ("region +4096", "", 1),
+    ("region 4096 ", "", 1),
+    (" region 4096", "", 1),
+    ("|region", "", 2),
+    ("region 4096|region 4096", "", 2),
+    ("region 4096||free 1", "", 3),
+    ("region 4096|malloc 1 0|free 1|free 1", "1 data 4032 element 3968 + 128|freed 1", 4),
+    ("region 4096|malloc 1 0|free 0|free 1", "1 data 4032 element 3968 + 128", 3),
+    ("region 4096|malloc  1 0", "", 2),
+    ("region 4096|malloc 1 0 ", "", 2),
+    ("region 4096|malloc 1 0\r", "", 2),
+    ("region 4096|malloc\t1 0", "", 2),
+    ("region 4096|malloc 1", "", 2),
+    ("region 4096|malloc 1 0 0", "", 2),
+    ("region 4096|zmalloc 1 -1", "", 2),
+    ("region 4096|malloc 4294967296 0", "", 2),
+    ("region 4096|malloc 1 +0", "", 2),
+    ("region 4096|malloc 0x1 0", "", 2),
+    ("region 4096|malloc 1 ", "", 2),
+    ("region 4096|free", "", 2),
+    ("region 4096|list 1", "", 2),
+    ("region 4096|stats 1 2", "", 2),
+    ("region 4096|LIST", "", 2),
+    ("region 4096|li\xe9st", "", 2),
+    ("region 4096|stats|\xff", "free 1 bytes 4096 busy 0 bytes 0", 3),
+    ("region 4096|stats|show|list", "free 1 bytes 4096 busy 0 bytes 0", 3),
+]
+
+
+def lines(text: str) -> bytes:
+    """A line for each part of a text."""
+    return b"".join(part.encode("latin-1") + b"\n" for part in text.split("|")) if text else b""
+
+
+def cases() -> list[tuple[bytes, tuple[int, bytes, bytes]]]:
+    """The scripts, and how each ends."""
+    found = [(lines(script), (0, lines(printed), b"")) for script, printed in PRINTED]
+    found += [(lines(script), (3, lines(printed), b"fault: line %d bad command\n" % line)) for script, printed, line in FAULTY]
+    return found + [(script[:-1], ended) for script, ended in found]
+
+
+def main() -> int:
+    """Runs each script."""
+    program, passed = asked(), []
+    with new_folder() as folder:
+        for script, wanted in cases():
+            (folder / "script").write_bytes(script)
+            done = subprocess.run([program, "mem", "script"], cwd=folder, capture_output=True, timeout=60)
+            ended = done.returncode, done.stdout, done.stderr
+            passed.append(ended == wanted)
+            if not passed[-1]:
+                print(f"{script!r} ended with {ended!r}, and not with {wanted!r}")
+    return report_cases("scripts", passed)
+
+
+if __name__ == "__main__":
+    sys.exit(main())

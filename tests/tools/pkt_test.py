@@ -1,0 +1,948 @@
+#!/usr/bin/env python3
+"""Tries the parts of the language's compiler, tools/pkt: words and grammar, headers, errors and their places, registers, layout, and what
+compiled programs send. The checker and the machine are those of tests/model.
+
+Usage: tests/tools/pkt_test.py   (needs no program; some seconds)
+"""
+import functools
+import ipaddress
+import operator
+import pathlib
+import random
+import re
+import struct
+import subprocess
+import sys
+import tempfile
+import time
+import unittest
+
+from paths import TOP
+
+from model import programs, rules
+from model.machine import Env, Input, Pool, Port, Ring, World, run
+from pkt_model.machine import Source, SourceWorld
+from pkt_model.reader import read
+from pkt.compiler import compile_text, compiled, error_text, parse
+from pkt.headers import Headers, Span
+from pkt.graph import Graph, Instruction
+from pkt.lexer import words_of
+from pkt.parser import Parser
+from pkt.peephole import shorten
+from pkt.prove.command import unreached
+from pkt.reach import BIGGEST, Value, leave_out, reached
+from pkt.state import SOMEBODY, SOMEBODY_THE_REST, Packet, State
+from pkt.syntax import Compare, Field, Number, SourceError
+
+PRELUDE = (TOP / "tools/pkt/prelude.pkt").read_text()
+ROUTES = {(0x0A000000, 8): 1, (0xC0000200, 24): 0}
+ENV = Env([Pool(64, 0, 2176), Pool(64, 0, 0)], [ROUTES], [Ring(32, (0, 0, 0, 0, 0, 64))], [Port(0, 1, 32), Port(0, 1, 32), Port(0, 1, 32)])
+FREES = programs.assemble(b"free p0\nexit\n")
+SENDS = programs.assemble(b"tx p0,r0,d\nexit\nd: free p0\nexit\n")
+
+
+def count(source: str) -> int:
+    """How many instructions a program is compiled to."""
+    return len(programs.assemble(compile_text(source).encode()))
+
+
+def refused(source: str) -> tuple[int, int] | None:
+    """The label and the rule at which the checker refuses the compiled program, or nothing."""
+    program = programs.assemble(compile_text(source).encode())
+    assert isinstance(program, list), program
+    entry = rules.entry_row(ENV, 0)
+    rows = rules.infer(ENV, program, entry)
+    return None if rows is not None else (-1, 0)
+
+
+def sent(source: str, *frames: bytes) -> list[list[bytes]]:
+    """What each port sends for frames received at port 0; the checker must accept the program."""
+    assert refused(source) is None, "refused"
+    program = programs.assemble(compile_text(source).encode())
+    world = World(ENV, [program, FREES, FREES, FREES], frozenset())
+    records = [(0, 0, frame) for frame in frames]
+    done = run(world, [Input(records, "whole"), Input([], "whole"), Input([], "whole")])
+    return [[record[2] for record in port] for port in done.sent]
+
+
+def checksum(data: bytes) -> int:
+    """An Internet checksum."""
+    total = sum(int.from_bytes((data + b"\0")[k : k + 2], "big") for k in range(0, len(data), 2))
+    while total >> 16:
+        total = (total & 0xFFFF) + (total >> 16)
+    return total ^ 0xFFFF
+
+
+def ipv4(proto: int, payload: bytes, options: bytes = b"", ttl: int = 64, src: str = "10.0.0.1", dst: str = "192.0.2.7") -> bytes:
+    """An IPv4 packet."""
+    ends = b"".join(bytes(map(int, it.split("."))) for it in (src, dst))
+    head = struct.pack(">BBHHHBBH", 0x45 + len(options) // 4, 0, 20 + len(options) + len(payload), 1, 0, ttl, proto, 0) + ends + options
+    return head[:10] + struct.pack(">H", checksum(head)) + head[12:] + payload
+
+
+def udp(sport: int, dport: int, data: bytes = b"", src: str = "10.0.0.1", dst: str = "192.0.2.7", options: bytes = b"", summed: bool = True) -> bytes:
+    """An Ethernet frame of a UDP datagram."""
+    body = struct.pack(">HHHH", sport, dport, 8 + len(data), 0) + data
+    ends = b"".join(bytes(map(int, it.split("."))) for it in (src, dst))
+    value = checksum(ends + struct.pack(">HH", 17, len(body)) + body) or 0xFFFF
+    body = body[:6] + struct.pack(">H", value if summed else 0) + body[8:]
+    return eth(ipv4(17, body, options, src=src, dst=dst))
+
+
+def tcp(flags: int, dport: int, options: bytes = b"", dst: str = "192.0.2.7") -> bytes:
+    """An Ethernet frame of a TCP segment."""
+    return eth(ipv4(6, struct.pack(">HHIIBBHHH", 4000, dport, 1, 2, 0x50, flags, 9, 0, 0), options, dst=dst))
+
+
+def eth(payload: bytes, kind: int = 0x0800) -> bytes:
+    """An Ethernet frame."""
+    return bytes.fromhex("02000000000b02000000000a") + kind.to_bytes(2, "big") + payload
+
+
+def tagged(frame: bytes, tag: int = 7, kind: int = 0x8100) -> bytes:
+    """A frame with one tag more."""
+    return frame[:12] + struct.pack(">HH", kind, tag) + frame[12:]
+
+
+def six(kind: int, payload: bytes, end: int = 1) -> bytes:
+    """An Ethernet frame with IPv6 from 2001:db8::end to 2001:db8::2."""
+    ends = bytes.fromhex("20010db8") + bytes(11) + bytes([end]) + bytes.fromhex("20010db8") + bytes(11) + b"\2"
+    return eth(struct.pack(">IHBB", 6 << 28, len(payload), kind, 64) + ends + payload, 0x86DD)
+
+
+def segment6(dport: int, end: int = 1) -> bytes:
+    """A TCP segment for such a packet."""
+    data, ends = struct.pack(">HHIIBBHHH", 5, dport, 1, 2, 0x50, 2, 9, 0, 0), six(6, b"", end)[22:54]
+    return data[:16] + struct.pack(">H", checksum(ends + struct.pack(">II", len(data), 6) + data)) + data[18:]
+
+
+class Words(unittest.TestCase):
+    def test_words(self) -> None:
+        found = [(kind, at.word, at.line, at.column) for kind, at in words_of("if x == 0x1f # why\n  1..5 02:00:00:00:00:0a 10.0.0.1/8")]
+        self.assertEqual(found[:3], [("name", "if", 1, 1), ("name", "x", 1, 4), ("sign", "==", 1, 6)])
+        self.assertEqual([it[:2] for it in found[4:]][:3], [("number", "1"), ("sign", ".."), ("number", "5")])
+        self.assertEqual([it[1] for it in found[7:]], ["02:00:00:00:00:0a", "10.0.0.1", "/", "8", "the end of the text"])
+
+    def test_signs_bind_as_the_page_says(self) -> None:
+        parser = Parser("1 | 2 ^ 3 & 4 << 1 + 2 * 3", Headers())
+        self.assertEqual(parser.constant(), 1 | (2 ^ (3 & (4 << (1 + 2 * 3)))))
+
+    def test_constants_wrap_at_64_bits(self) -> None:
+        self.assertEqual(Parser("0 - 1", Headers()).constant(), (1 << 64) - 1)
+        self.assertEqual(Parser("~0 >> 60", Headers()).constant(), 15)
+
+    def test_a_prefix_and_a_range(self) -> None:
+        (need,) = parse("need ipv4.dst in 192.0.2.0/24").statements
+        self.assertIsInstance(need.condition, Compare)
+        self.assertEqual(need.condition.right, Number(need.at, 0xC00002))
+        (need,) = parse("need ipv4.ttl in 2..9").statements
+        self.assertEqual([need.condition.left.sign, need.condition.right.sign], [">=", "<="])
+        self.assertEqual(need.condition.left.left, Field(need.at, "ipv4", "ttl"))
+
+
+class HeaderRules(unittest.TestCase):
+    def setUp(self) -> None:
+        self.headers = parse("drop").headers
+
+    def test_fields(self) -> None:
+        self.assertEqual(self.headers["ipv4"].fields["ttl"], Span(64, 8))
+        self.assertEqual(self.headers["ipv4"].fields["pieces"], Span(50, 14))
+        self.assertEqual({name: it.size for name, it in self.headers.items() if name in ("eth", "arp", "ipv6", "tcp", "vxlan")},
+                         {"eth": 14, "arp": 28, "ipv6": 40, "tcp": 20, "vxlan": 8})
+
+    def test_what_follows(self) -> None:
+        self.assertEqual(self.headers.looked_for("vxlan"), {"vxlan", "udp", "ipv4", "ipv6", "eth"})
+        self.assertEqual([self.headers.tried(name) for name in ("ipv4", "mpls", "tcp")], [["eth"], ["eth"], ["ipv4", "ipv6"]])
+        self.assertIn("vlan", self.headers["tcp"].before)
+        self.assertEqual(self.headers.after("udp"), {"vxlan"})
+        self.assertEqual(self.headers["ipv4"].sizes[0x4F], 60)
+
+    def test_checksums(self) -> None:
+        at = self.headers["ipv4"].at
+        self.assertEqual(self.headers.covering(Field(at, "ipv4", "src")), ["tcp", "udp"])
+        self.assertTrue(self.headers["udp"].optional)
+
+
+class Errors(unittest.TestCase):
+    def said(self, source: str) -> str:
+        with self.assertRaises(SourceError) as caught:
+            compile_text(source)
+        return error_text(caught.exception, "x.pkt", source)
+
+    def test_places_and_cures(self) -> None:
+        wanted = {
+            "let x = 1\nsend y": "x.pkt:2:6: y is no variable here",
+            "ipv4.tll = 5": "x.pkt:1:6: ipv4 has no field tll",
+            "send port send port": "x.pkt:1:11: control never comes here: the statement before it ends the program",
+            "if ipv4 {\n  if arp { drop }\n}\nsend port": "x.pkt:2:12: control never comes here: what was asked before decides it",
+            "need eth/tcp": "x.pkt:1:10: tcp cannot follow eth",
+            "clone c from 1\neth.type = 5\nsend port": "x.pkt:2:1: the bytes of the packet cannot be written here: c (line 1) shares them",
+            "ports 2\nsend 2": "x.pkt:2:6: there is no port 2: the program has 2",
+            "mend eth.src = 5": "x.pkt:1:1: no checksum covers eth.src",
+            "mend eth.dst = 5": "help: assign without `mend`",
+            "mend l4.sport = 5": "help: if tcp { mend tcp.sport = .. } else if udp { mend udp.sport = .. }",
+            "mend ipv4.sum = 5": "x.pkt:1:1: ipv4.sum is the checksum itself",
+            "let x = length": "x.pkt:1:9: the length is only compared with a constant",
+            "send c to 1": "x.pkt:1:6: there is no packet c here",
+            "let c = 1\nclone c from 0": "x.pkt:2:1: c is a variable already",
+            "const eth = 5": "x.pkt:1:7: eth is a header already",
+            "need length + 1 == 5": "x.pkt:1:6: the length is only compared with a constant",
+            "let x = (eth.type == 5) + 1": "x.pkt:1:10: a condition is where a number is wanted",
+            "need eth.type else { let x = 1 }": "x.pkt:1:1: what is after this `else` has to end the program",
+            "while 1 { new h from 0 chain h before this }": "x.pkt:1:1: `chain` cannot be in a loop",
+            "header mine { a:3 } after eth if eth.type == 5": "x.pkt:1:8: the 3 bits of mine do not make whole bytes",
+            "push vlan { type = 5 }": "x.pkt:1:6: vlan.type is what stood in eth",
+            "segments 2\ntruncate 64": "x.pkt:2:1: a packet of several segments cannot be truncated",
+            "let x = 1\nlet x = 2": "x.pkt:2:1: x is a variable already",
+            "ports 2 clone c from 1 if port { free c } send c to 1": "x.pkt:1:43: c may be gone here",
+            "need x ==": "x.pkt:1:10: a number or a condition is wanted here, and this is 'the end of the text'",
+            "x = 1 ?": "x.pkt:1:7: no word begins with '?'",
+            "if tcp.dport = 5 { drop }":
+                "x.pkt:1:14: '{' is wanted here, and this is '='\n    if tcp.dport = 5 { drop }\n                 ^\n  help: compare with ==",
+            "if ipv4.src == 10.0.0.0/8 { drop }": "help: a prefix comes after `in`",
+            "drop;": "help: no sign ends a statement",
+            "if tcp {\n  drop": "x.pkt:2:7: no statement begins with 'the end of the text'",
+            "accept": "help: statements begin with let, if, while",
+            "send (1 == 1) + 1": "x.pkt:1:7: a condition is where a number is wanted",
+            "need tcp.dport == 80 or 443": "x.pkt:1:25: 443 alone is a condition that never changes",
+            "need 80 and tcp": "help: x in {1, 2} compares x with each",
+            "need ipv4.ttl in 9..2": "x.pkt:1:18: no number is from 9 to 2\n",
+            "need ipv4.ttl == 300": "x.pkt:1:18: ipv4.ttl has 8 bits, and is at most 255: this is 300",
+            "ipv4.ttl = 300": "help: 44 are its lowest 8 bits",
+            "need 70000 > udp.sport": "x.pkt:1:6: udp.sport has 16 bits",
+            "push vlan { vid = 4096 }": "x.pkt:1:19: vlan.vid has 12 bits",
+            "header h { a:8 = 256 }": "x.pkt:1:18: a has 8 bits, and 256 needs more",
+            "const A = 1 - 2": "x.pkt:1:11: A is not from 0 to 2^64 - 1, and would be cut to 64 bits",
+            "given headroom 64\ngiven headroom 32": "x.pkt:2:7: `given` has headroom already",
+            "given eth\ngiven eth/ipv4": "x.pkt:2:7: `given` has a path already",
+            "push tcp { sum = auto }": "x.pkt:1:6: tcp.sum covers more than the header, and `auto` is of the header alone",
+            "push udp { len = 8 sum = auto }": "help: sum = 0 where that means that there is none",
+            "header h { a:16 = auto b:16 } sum a payload": "x.pkt:1:8: a covers more than the header, and `auto` is of the header alone",
+            "header h { a:16 = auto b:16 = auto }": "x.pkt:1:8: a and b are both `auto`, and each would count the other",
+            "push ipv4 { len = 20 id = auto }": "x.pkt:1:6: sum and id are both `auto`",
+            "push ipv4 { ttl = 9 }": "x.pkt:1:6: ipv4.len is not named, and would be 0",
+            "need ipv4.src in 10.0.0.0/33": "x.pkt:1:27: the prefix has at most 32 bits, and this is 33",
+            "need ipv4.src in 02:00:00:00:00:00/24": "x.pkt:1:18: the address has 48 bits, and the field before `in` 32",
+            "let x = eth.src >> 8\nneed x in 5/8": "x.pkt:2:11: how many bits has this number?",
+            "need ipv6.src == 1": "x.pkt:1:18: an IPv6 address is wanted here",
+            "need ipv6.src < ::1": "x.pkt:1:6: IPv6 addresses are compared with == and !=",
+            "let x = ipv6.src": "x.pkt:1:9: an IPv6 address is only compared with == and !=",
+            "need ipv6.src == 1::2::3": "x.pkt:1:18: 1::2::3 is no IPv6 address",
+            "header o { k:32 } length v * 4 for v:8 in 1..9\nheader p { x:32 } after o if o.k == 3\nneed tcp.dport == 1 and p.x == 3":
+                "x.pkt:3:1: p is after two headers whose lengths vary",
+        }
+        for source, text in wanted.items():
+            with self.subTest(source):
+                self.assertIn(text, self.said(source))
+        self.assertIn("help: write before `clone`, or free the clone first", self.said("clone c from 1\neth.type = 5"))
+        self.assertIn("\n    send y\n         ^\n", self.said("let x = 1\nsend y"))
+
+    def test_a_ninth_number(self) -> None:
+        names = "abcdefgh"
+        source = "".join(f"let {it} = eth.type + {k}\n" for k, it in enumerate(names)) + "eth.src = " + " + ".join(names) + "\nsend port"
+        self.assertIn("this needs a ninth number: a, b, c, d, e, f, g, port are held", self.said(source))
+
+    def test_too_many_instructions(self) -> None:
+        said = self.said("let x = port\n" + "".join(f"x = (x << 1) ^ eth.type ^ {k}\n" for k in range(400)) + "eth.src = x\nsend port")
+        self.assertRegex(said, r"the program has 1\d\d\d instructions, and 1,024 are possible; this line takes \d")
+
+
+class Limits(unittest.TestCase):
+    """Texts of any size end soon, in a program or in an error with a place, without deep calls."""
+
+    def test_long_and_deep_texts(self) -> None:
+        addresses = [f"10.{k >> 8}.{k & 255}.1" for k in range(20_000)]
+        texts = {
+            "a number has at most 64 bits": f"let x = {'9' * 4400}\nsend x",
+            "a part of an address": f"let x = 1.2.3.{'1' * 4400}\nsend x",
+            "more than 40 parentheses": f"let x = {'(' * 6000}1{')' * 6000}\nsend x",
+            "more than 40 parentheses and `not`": f"need {'not ' * 20_000}eth\nsend port",
+            "more than 40 parentheses and ~": f"let x = {'~' * 20_000}port\nsend x",
+            "more than 1,024 `else if`": "if port == 9 { drop }" + "".join(f" else if eth.type == {k} {{ drop }}" for k in range(20_000)),
+            "more than 40 blocks": "if eth.type == 5 { " * 5000 + "drop" + " }" * 5000,
+            "a list has at most 1,024 items": f"need ipv4.src in {{{', '.join(addresses)}}}\nsend port",
+            "more than 1,024 operators": f"need {' or '.join(f'ipv4.src == {it}' for it in addresses)}\nsend port",
+            "more than 200 operators": f"let x = {' + '.join(['port'] * 20_000)}\nsend x",
+            "more than 4,096 statements": "let x = 1\n" + "x += port\n" * 50_000 + "send x",
+            "more than 32 headers": "header h0 { a:8 } after eth if eth.type == 5\n"
+                                    + "".join(f"header h{k} {{ a:8 }} after h{k - 1} if h{k - 1}.a == 1\n" for k in range(1, 1500)),
+            "these headers have 70,000 bytes": f"push {'eth { } ' * 5000}send port",
+            "the program has": "".join(f"while eth.type == {k} {{ eth.type += 1 }}\n" for k in range(250)) + "send port",
+        }
+        limit = sys.getrecursionlimit()
+        for wanted, text in texts.items():
+            with self.subTest(wanted):
+                begun = time.process_time()
+                with self.assertRaises(SourceError) as caught:
+                    compile_text(text)
+                self.assertIn(wanted, error_text(caught.exception, "x.pkt", text))
+                self.assertGreater(caught.exception.at.line, 0)
+                self.assertLess(time.process_time() - begun, 10)
+        self.assertEqual(sys.getrecursionlimit(), limit)
+
+    def test_what_is_just_possible(self) -> None:
+        deep = "".join(f"if eth.type > {k} {{\n" for k in range(40)) + "drop" + " }" * 40 + "\nsend port"
+        chain = "if port == 7 { drop }" + "".join(f" else if eth.type == {k} {{ drop }}" for k in range(900)) + "\nsend port"
+        listed = f"need ipv4.src in {{{', '.join(f'10.0.{k >> 8}.{k & 255}' for k in range(1000))}}}\nsend port"
+        terms = f"let x = {' + '.join(['port'] * 200)}\nsend x"
+        within = f"let x = {'(' * 40}port{' + 1)' * 40}\nif x == 40 {{ if tcp.dport == 5 {{ drop }} }}\nsend port"
+        for text in (deep, chain, listed, terms, within):
+            self.assertLess(count(text), 1025)
+
+
+class Knowledge(unittest.TestCase):
+    def test_groups_are_those_of_the_checker(self) -> None:
+        state = State()
+        state.share(1, 0)
+        self.assertEqual((state.packets[0].sharers, state.packets[1].sharers), ({1}, {0}))
+        state.share(2, 0)
+        state.leave(1)
+        self.assertEqual(state.packets[0].sharers, {2})
+        state.dissolve(2)
+        self.assertEqual(state.packets[0].sharers, {SOMEBODY})
+        state.share(1, 0)
+        self.assertEqual(state.packets[1].sharers, {SOMEBODY})
+
+    def test_what_is_known_on_both_ways(self) -> None:
+        mine, yours = State(), State()
+        mine.packets[0], yours.packets[0] = Packet(frozenset(), 128, 34), Packet(frozenset({SOMEBODY_THE_REST}), 100, 14, 2)
+        mine.learn(Span(96, 16), 0x0800)
+        mine.join(yours)
+        self.assertEqual((mine.packets[0], mine.bits), (Packet(frozenset({SOMEBODY_THE_REST}), 100, 14, 2), {}))
+        self.assertEqual(Packet(frozenset({1})).joined(Packet()).sharers, {SOMEBODY})
+
+    def test_bits(self) -> None:
+        state = State()
+        state.learn(Span(12, 8), 0xAB)
+        self.assertEqual(state.known(Span(8, 16)), (0x0FF0, 0x0AB0))
+        state.overwrite(Span(8, 4))
+        self.assertEqual(state.known(Span(8, 16)), (0xF0, 0xB0))
+
+
+class Layout(unittest.TestCase):
+    def test_equal_ends_are_one(self) -> None:
+        ends = [Instruction("store", ("p0", "5", "1", "r0"), 1, next=Instruction("free", ("p0",), 1, next=Instruction("exit"))) for _ in range(2)]
+        second = Instruction("jeq", ("r0", "2"), 1, target=ends[0], next=ends[1])
+        graph = Graph(Instruction(next=Instruction("jeq", ("r0", "1"), 1, target=ends[0], next=second)))
+        shorten(graph)
+        self.assertEqual([it.word for it in graph.order()], ["store", "free", "exit"])
+
+    def test_equal_ends_are_one_where_packets_share_bytes(self) -> None:
+        source = "ports 2\nheader label { value:32 }\nnew mark from 0\npush label { value = 7 } on mark\nclone copy from 1\nchain mark before this\n"
+        self.assertEqual(count(source + "send copy to port else drop\nsend 1"), 18)
+
+    def test_a_round_of_a_loop_goes_back_at_once(self) -> None:
+        lines = compile_text("while length < 54 {\n  if ipv4.ttl == 1 { ipv4.tos = 1 } else { ipv4.id = 2 }\n}\nsend port").splitlines()
+        jumps = [it for label, it in zip(lines, lines[1:]) if label.endswith(":") and it.split()[0] == "jmp"]
+        self.assertEqual(jumps, [])
+        self.assertGreater(sum("jmp L1 " in it for it in lines), 1)
+
+    def test_lengths_are_asked_once(self) -> None:
+        text = compile_text("need arp or ipv4\nsend port")
+        self.assertEqual(text.count("iflen"), 2)
+        self.assertEqual(compile_text("need ipv4.ttl > 1\nsend port").count("iflen"), 1)
+        self.assertIn("iflen p0,34", compile_text("need ipv4.ttl > 1\nsend port"))
+
+    def test_cures_for_long_programs_make_them_shorter(self) -> None:
+        for rule in ("if ipv4.src in 10.0.0.0/8 { mend ipv4.src = 198.51.100.1 }", "if tcp.dport == 22 { drop }", "if udp { mend udp.dport = 53 }",
+                     "if tcp { mend tcp.sport = 1 } else if udp { mend udp.sport = 1 }", "if l4.sport == 5 { ipv4.tos = 1 }"):
+            sizes = [count(f"{cure} {rule} send port") for cure in ("", "need ipv4", "need ipv4.ihl == 5", "need ipv4.vhl == 0x45")]
+            self.assertEqual(sizes, sorted(sizes, reverse=True), rule)
+            self.assertLess(sizes[-1], sizes[1], rule)
+
+    def test_what_changes_nothing_takes_no_instruction(self) -> None:
+        self.assertEqual(count("new h from 0\ncut h 0\ncut 0\ntruncate h 4096\nsend port"), count("new h from 0\nsend port"))
+
+    def test_the_order_of_tests_does_not_matter(self) -> None:
+        for number, most in ((24, 245), (100, 855)):
+            rules = [(f"ipv4.dst == 10.0.0.{k}", f"tcp.dport == {1000 + k}") for k in range(number)]
+            sizes = [count("".join(f"if {' and '.join(rule[::order])} {{ drop }}\n" for rule in rules) + "send port") for order in (1, -1)]
+            self.assertLess(max(sizes), most)
+            self.assertLess(max(sizes) - min(sizes), 5)
+
+    def test_a_header_is_not_looked_for_early_where_that_matters(self) -> None:
+        rules = "if ipv4.dst == 1.2.3.4 and udp.dport == 53 { drop }\n"
+        frame = udp(5, 53, dst="192.0.2.7")
+        no_udp = frame[:23] + b"\5" + frame[24:]
+        source = f"{rules}if ipv4.ttl == 64 {{ ipv4.proto = 17 }}\n{rules}if udp.dport == 53 {{ drop }}\nsend port"
+        self.assertEqual(sent(source, no_udp, frame, tcp(2, 53))[0], [])
+        self.assertEqual(sent(source.replace("ipv4.proto = 17", "ipv4.tos = 17"), no_udp)[0], [no_udp[:15] + b"\x11" + no_udp[16:]])
+
+    def test_neighbouring_constants_are_written_together(self) -> None:
+        text = compile_text("eth.dst = 1\neth.src = 2\nsend port")
+        self.assertIn("set r1,0x10000 ", text)
+        self.assertEqual(text.count("store"), 2)
+
+    def test_each_instruction_has_its_line(self) -> None:
+        lines = compile_text("# a comment\nneed ipv4.ttl > 1 # expired\nsend port").splitlines()
+        self.assertTrue(lines[0].startswith("# Built from"))
+        notes = ("# 2: need ipv4.ttl > 1 # expired", "# 3: send port", "# what is held is dropped")
+        self.assertTrue(all(any(note in it for note in notes) for it in lines[1:] if ":" != it[-1]))
+
+
+class Programs(unittest.TestCase):
+    """What compiled programs send, of packets whose outcome is plain."""
+
+    def test_a_header_is_guarded_by_touching_it(self) -> None:
+        frame = udp(5, 53)
+        self.assertEqual(sent("need udp.dport == 53\nsend port", frame, frame[:41], b"\2", eth(b"", 0x0806))[0], [frame])
+        self.assertEqual(sent("if udp.dport != 53 { drop }\nsend port", frame[:41], b"")[0], [frame[:41], b""])
+
+    def test_prefixes_count_from_the_first_bit(self) -> None:
+        def frame(source: str, target: str) -> bytes:
+            ends = b"".join(ipaddress.IPv6Address(it).packed for it in (source, target))
+            return eth(struct.pack(">IHBB", 0x60000000, 0, 59, 64) + ends, 0x86DD)
+
+        here, there, none = frame("2001:db8::7", "::1"), frame("2001:db9::7", "2001:db8::7"), eth(ipv4(1, bytes(8)))
+        for condition, wanted in {
+            "ipv6.src_hi in 0x20010db800000000/32": [here], "ipv6.src in 2001:db8::/32": [here], "ipv6.src in 2001:db8::/31": [here, there],
+            "ipv6.src in 2001:db8:0:0::/127": [], "ipv6.src in 2001:db8::6/127": [here], "ipv6.src in ::/0": [here, there],
+            "ipv6.dst == ::1": [here], "ipv6.dst != ::1": [there], "ipv6.dst in {::2, 2001:db8::/64, fe80::/10}": [there],
+            "eth.src in 02:00:00:00:00:00/24": [here, there, none], "eth.src in 03:00:00:00:00:00/8": [], "ipv4.src in 10.0.0.0/8": [none],
+            "ipv4.src in 0/0": [none], "ipv6.flow in 0xfffff/0": [here, there], "ipv6.src != ipv6.dst and ipv6.dst == ME": [here],
+        }.items():
+            self.assertEqual(sent(f"const ME = ::1\nneed {condition}\nsend port", here, there, none)[0], wanted, condition)
+        self.assertEqual(sent("ipv6.src = ipv6.dst ipv6.dst = 2001:db8:1:2:3:4:5:6\nsend port", here)[0], [frame("::1", "2001:db8:1:2:3:4:5:6")])
+        self.assertEqual(sent("push ipv6 { len = 0 next = 59 hops = 64 src = ::7 dst = ipv6.src }\ncut 40 send port", here)[0], [here])
+        self.assertEqual(sent("push ipv6 { len = 0 next = 59 hops = 64 src = ::7 dst = ipv6.src }\ntruncate 40 send port", here)[0],
+                         [frame("::7", "2001:db8::7")[14:]])
+
+    def test_each_header_that_may_come_before_is_looked_for(self) -> None:
+        far = eth(struct.pack(">IHBB", 0x60000000, 20, 6, 64) + bytes(32) + struct.pack(">HHIIBBHHH", 4000, 22, 1, 2, 0x50, 2, 9, 0, 0), 0x86DD)
+        web, near = far[:56] + b"\0\x50" + far[58:], tcp(2, 22)
+        rule, tags = "if tcp.dport == 22 { drop }\nsend port", "if qinq { }\nif vlan { }\n"
+        self.assertEqual(sent(rule, far, web, near, far[:-1], tagged(far))[0], [web, far[:-1], tagged(far)])
+        self.assertEqual(sent(tags + rule, far, web, *(tagged(it) for it in (far, web, near)), tagged(tagged(near), 9, 0x88A8))[0], [web, tagged(web)])
+        self.assertEqual(sent("need ipv6\n" + rule, far, near, web)[0], [web])
+
+    def test_otherwise(self) -> None:
+        frame = udp(5, 53)
+        self.assertEqual(sent("otherwise send 2\nports 3\nudp.dport = 7\nsend 0", frame[:30])[2], [frame[:30]])
+
+    def test_options(self) -> None:
+        frames = [tcp(2, 22, bytes(4 * k)) for k in range(11)]
+        self.assertEqual(sent("need tcp.dport == 22 and tcp.flags == 2\nsend port", *frames, *[it[:-1] for it in frames])[0], frames)
+        for segments in ("segments 4\n", ""):
+            changed = [it[:-18] + b"\0\x50" + it[-16:] for it in frames]
+            self.assertEqual(sent(segments + "tcp.dport = 80\nsend port", *frames)[0], changed)
+
+    def test_tags(self) -> None:
+        frame = udp(5, 53)
+        self.assertEqual(sent("while vlan { pop vlan }\nsend port", tagged(tagged(frame)))[0], [frame])
+        self.assertEqual(sent("push vlan { vid = 7 }\nsend port", frame, tagged(frame, 9))[0], [tagged(frame), tagged(tagged(frame, 9))])
+        self.assertEqual(sent("if qinq { pop qinq/vlan }\nsend port", tagged(tagged(frame), 9, 0x88A8))[0], [frame])
+        self.assertEqual(sent("need qinq\npush vlan { vid = qinq.vid }\nsend port", tagged(frame, 9, 0x88A8))[0], [tagged(tagged(frame, 9), 9, 0x88A8)])
+        self.assertEqual(sent("if vlan { need ipv4.ttl == 64 vlan.vid += 1 }\nsend port", tagged(frame, 0xEFFF))[0], [tagged(frame, 0xE000)])
+
+    def test_mend(self) -> None:
+        here, there = udp(5, 53, b"abc"), udp(5, 53, b"abc", src="198.51.100.1")
+        source = "mend ipv4.src = 198.51.100.1\nsend port"
+        self.assertEqual(sent(source, here, udp(5, 53, summed=False), udp(5, 53, b"abc", options=bytes(8)))[0],
+                         [there, udp(5, 53, src="198.51.100.1", summed=False), udp(5, 53, b"abc", options=bytes(8), src="198.51.100.1")])
+        less = eth(ipv4(1, bytes(8), ttl=63))
+        self.assertEqual(sent("mend ipv4.ttl -= 1\nsend port", eth(ipv4(1, bytes(8))))[0], [less])
+        no_sum = next(k for k in range(65536) if udp(k, 53)[40:42] == b"\xff\xff")
+        self.assertEqual(sent("mend udp.sport = %d\nsend port" % no_sum, udp(5, 53))[0], [udp(no_sum, 53)])
+
+    def test_mend_of_64_bits(self) -> None:
+        head = struct.pack(">IHBB", 0x60000000, 8, 17, 64)
+        ends = [bytes.fromhex("20010db8000000000000000000000001"), bytes.fromhex("20010db8000000010000000000000002")]
+
+        def frame(src: bytes) -> bytes:
+            body = struct.pack(">HHHH", 1, 2, 8, 0)
+            value = checksum(src + ends[1] + struct.pack(">II", 8, 17) + body)
+            return eth(head + src + ends[1] + body[:6] + struct.pack(">H", value), 0x86DD)
+
+        after = bytes.fromhex("fd00000000000099") + ends[0][8:]
+        self.assertEqual(sent("need ipv6\nmend ipv6.src_hi = 0xfd00000000000099\nsend port", frame(ends[0]))[0], [frame(after)])
+
+    def test_mend_leaves_what_is_after_an_extension_header(self) -> None:
+        def frame(source: int, extension: bytes) -> bytes:
+            body = extension + struct.pack(">HHHH", 1, 2, 8, 0x1234)
+            return eth(struct.pack(">IHBB", 0x60000000, len(body), 0 if extension else 17, 64) + source.to_bytes(16, "big") + bytes(16) + body, 0x86DD)
+
+        for extension, after in ((b"", "1233"), (bytes([17, 0, 1, 4, 0, 0, 0, 0]), "1234")):
+            wanted = frame(8, extension)[:-2] + bytes.fromhex(after)
+            self.assertEqual(sent("mend ipv6.src_lo += 1\nsend port", frame(7, extension))[0], [wanted])
+        self.assertEqual(sent("need ipv6.next in {6, 17, 58}\nmend ipv6.src_lo += 1\nsend port", frame(7, bytes([17, 0, 1, 4, 0, 0, 0, 0])))[0], [])
+
+    def test_mend_of_what_two_checksums_cover(self) -> None:
+        """A checksum that covers another one counts what changes in it: of a quoted packet, and of one in a tunnel."""
+        quoted = """
+header quoted { vhl:8 tos:8 len:16 id:16 pieces:16 ttl:8 proto:8 sum:16 src:32 dst:32 } after icmp if icmp.type == 3
+       length (v & 15) * 4 for v:8 in 0x45..0x4f sum sum
+header inner { sport:16 dport:16 len:16 sum:16 } after quoted if quoted.proto == 17 and quoted.pieces & 0x1fff == 0
+       sum sum payload over quoted.src quoted.dst inner.len optional
+"""
+
+        def error(inner: bytes) -> bytes:
+            message = bytes([3, 1, 0, 0, 0, 0, 0, 0]) + inner[14:]
+            return eth(ipv4(1, message[:2] + struct.pack(">H", checksum(message)) + message[4:]))
+
+        for options in (b"", bytes(8)):
+            for summed in (True, False):
+                here, there, port = (error(udp(it, 53, b"abc", src, options=options, summed=summed))
+                                     for it, src in ((7, "10.0.0.1"), (7, "198.51.100.1"), (9, "10.0.0.1")))
+                self.assertEqual(sent(quoted + "need ipv4.ihl == 5 mend quoted.src = 198.51.100.1\nsend port", here)[0], [there])
+                self.assertEqual(sent(quoted + "need ipv4.ihl == 5 and inner mend inner.sport = 9\nsend port", here)[0], [port])
+        tunnel = """
+header inside { dst:48 src:48 type:16 } after vxlan if vxlan.flags == 8
+header quoted { vhl:8 tos:8 len:16 id:16 pieces:16 ttl:8 proto:8 sum:16 src:32 dst:32 } after inside if inside.type == 0x0800 sum sum
+need ipv4.ihl == 5 mend quoted.ttl -= 1
+send port"""
+        for summed in (True, False):
+            here, there = (udp(1, 4789, bytes([8, 0, 0, 0, 0, 0, 9, 0]) + eth(ipv4(1, bytes(8), ttl=it)), summed=summed) for it in (64, 63))
+            self.assertEqual(sent(tunnel, here)[0], [there])
+
+    def test_pushed_headers(self) -> None:
+        inner = ipv4(1, bytes(8))
+        source = """need ipv4
+let size = ipv4.len
+cut 14
+push eth { dst = 1 src = 2 } ipv4 { len = size + 24 ttl = 9 id = port src = 1.2.3.4 dst = 5.6.7.8 } gre { type = 0x0800 }
+send port"""
+        outer = struct.pack(">BBHHHBBH", 0x45, 0, len(inner) + 24, 0, 0, 9, 47, 0) + bytes([1, 2, 3, 4, 5, 6, 7, 8])
+        outer = outer[:10] + struct.pack(">H", checksum(outer)) + outer[12:]
+        wanted = (1).to_bytes(6, "big") + (2).to_bytes(6, "big") + b"\x08\0" + outer + b"\0\0\x08\0" + inner
+        self.assertEqual(sent(source, eth(inner))[0], [wanted])
+        self.assertEqual(sent("need gre\npop ipv4/gre\nsend port", wanted)[0], [wanted[:14] + inner])
+
+    def test_constants_beside_a_field_that_is_pushed(self) -> None:
+        frame = eth(b"x" * 46)
+        self.assertEqual(sent("header h { a:20 b:4 = 5 }\npush h { a = eth.type }\nsend port", frame)[0], [b"\0\x80\x05" + frame])
+        self.assertEqual(sent("header h { a:4 = 9 b:40 c:4 = 5 }\npush h { b = eth.dst }\nsend port", frame)[0], [bytes.fromhex("9000000000b5") + frame])
+
+    def test_fields_that_no_load_has_alone(self) -> None:
+        frames = [b"\0\0\0\0\0\5", b"\1\2\3\4\5\6", b"\1\2\3\4\5\6\7", b"\1\2\3\4\5\6\7\7\7"]
+        wanted = [it[:5] + bytes([it[5] + 1]) + it[6:] for it in frames]
+        self.assertEqual(sent("header h { a:48 }\nneed h.a in {5, 0x010203040506}\nh.a += 1\nsend port", *frames)[0], wanted)
+        self.assertEqual(sent("header h { a:4 b:40 c:4 }\nh.b = 0x1234567890\nsend port", b"\xf0\0\0\0\0\5")[0], [bytes.fromhex("f12345678905")])
+        self.assertEqual(sent("header h { a:3 b:20 c:1 }\nneed h.b == 0 h.b -= 1\nsend port", b"\xe0\0\1", b"\xe0\1\1")[0], [b"\xff\xff\xff"])
+
+    def test_headers_longer_than_any_packet(self) -> None:
+        source = "header o { k:8 } after eth if eth.type == 5 length v * {} for v:8 in 9..12\nheader p { x:32 } after o if o.k < 20\n"
+        for factor in (1, 400, 6000, 70_000, 1 << 50):
+            frame = eth(b"\x0a" * 14, 5)
+            self.assertEqual(sent(source.replace("{}", str(factor)) + "need not p\nsend port", frame)[0], [frame] * (factor != 1), factor)
+
+    def test_a_length_that_varies_is_popped_whole(self) -> None:
+        frame = eth(ipv4(17, b"payload", bytes(12)))
+        self.assertEqual(sent("pop ipv4\nsend port", frame, frame[:45])[0], [frame[:14] + b"payload"])
+
+    def test_packets(self) -> None:
+        frame = udp(5, 53, bytes(100))
+        self.assertEqual(sent("ports 2\nclone c from 1\ntruncate c 64\nsend c to 1\nsend 0", frame, b"x")[:2], [[frame, b"x"], [frame[:64], b"x"]])
+        self.assertEqual(sent("new h from 0\npush eth { type = 5 } on h\nchain h before this\nsend port", b"abc")[0], [bytes(12) + b"\0\5abc"])
+        self.assertEqual(sent("clone c from 1\nfree c\neth.type = 5\nsend port", eth(b"x"))[0], [eth(b"x", 5)])
+        self.assertEqual(sent("cut 3\nsend port", b"abcd", b"ab")[0], [b"d"])
+
+    def test_lookup(self) -> None:
+        source = "ports 3\nlet hop = lookup 0 ipv4.dst else send 2\nsend hop"
+        frames = [udp(1, 2, dst="10.1.1.1"), udp(1, 2, dst="192.0.2.1"), udp(1, 2, dst="8.8.8.8")]
+        self.assertEqual(sent(source, *frames), [[frames[1]], [frames[0]], [frames[2]]])
+
+    def test_numbers(self) -> None:
+        def value(expression: str) -> int:
+            text = "let a = eth.dst & 0xffff\nlet b = eth.src\nheader wide { value:64 } after eth if eth.type == 0x0800\n"
+            (frame,) = sent(f"{text}wide.value = {expression}\nsend port", eth(bytes(8)))[0]
+            return int.from_bytes(frame[14:22], "big")
+
+        a, b = 0x000B, 0x02000000000A
+        for text, wanted in {
+            "a * 7 + b": a * 7 + b, "a - b": (a - b) % (1 << 64), "~a >> 3": ((1 << 64) - 1 - a) >> 3, "(b ^ a) << 20": (b ^ a) << 20 & (1 << 64) - 1,
+            "a * 0 + 5": 5, "1000 * a": 1000 * a, "b & 0xff00 | a": b & 0xFF00 | a, "10 - a": (10 - a) % (1 << 64),
+        }.items():
+            with self.subTest(text):
+                self.assertEqual(value(text), wanted)
+
+    def test_comparisons_of_64_bits(self) -> None:
+        source = "let a = 0 - eth.dst\nlet b = 0 - eth.src\nif a {sign} b {{ eth.type = 1 }} else {{ eth.type = 0 }}\nsend port"
+        values = [(1, 1), (1, 2), (2, 1), (0, 1), (1, 0), (0, 0)]
+        for sign, holds in {"<": operator.lt, "<=": operator.le, ">": operator.gt, ">=": operator.ge, "!=": operator.ne}.items():
+            frames = [a.to_bytes(6, "big") + b.to_bytes(6, "big") + b"\0\0" for a, b in values]
+            wanted = [int(holds(-a % (1 << 64), -b % (1 << 64))) for a, b in values]
+            self.assertEqual([it[13] for it in sent(source.format(sign=sign), *frames)[0]], wanted, sign)
+
+    def test_loops_end_after_256_rounds(self) -> None:
+        source = "let k = 0\nwhile k < {n} {{ k += 1 }}\nsend port"
+        self.assertEqual(sent(source.format(n=256), b"a")[0], [b"a"])
+        self.assertEqual(sent(source.format(n=257), b"a")[0], [])
+        self.assertEqual(sent("while port == 0 { }\nif eth { send port }\nsend port", b"a")[0], [])
+
+    def test_given(self) -> None:
+        env = ENV._replace(rings=[Ring(32, (2, 128, 0, 34, 0, 1))])
+        program = programs.assemble(compile_text("given eth/ipv4\nneed ipv4.ttl > 1\nmend ipv4.ttl -= 1\nsend 0").encode())
+        self.assertIsNotNone(rules.infer(env, program, rules.entry_row(env, 3)))
+        self.assertIsNone(rules.infer(ENV, program, rules.entry_row(ENV, 3)))
+
+    def test_what_was_refused_once(self) -> None:
+        """Programs that the checker refused, or that sent other bytes, when they were tried at random."""
+        for source in [
+            "need tcp.dport != 443 else { clone c1 from 1 send 0 }\nif qinq/ipv4/tcp { }\nsend port",
+            "push vlan { vid = udp.sum }\nsend port",
+            "push vlan { dei = ipv4.frag & l4.dport }\nsend port",
+            "let h = 0\nif ipv4 { h = ipv4.src  if l4 { h ^= l4.sport } }\nsend port",
+        ]:
+            with self.subTest(source):
+                self.assertIsNone(refused(source))
+
+
+class ByHand(unittest.TestCase):
+    """Whole programs whose output was worked out by hand: both the compiled program and the interpreter of tests/pkt_model send it."""
+
+    def both(self, source: str, frames: list[bytes], *wanted: list[bytes]) -> None:
+        """Tries a program on frames at port 0; what the ports send, the first ones first."""
+        sources = [Source(read(it, PRELUDE)) for it in (source, "drop", "drop", "drop")]
+        done = run(SourceWorld(ENV, sources), [Input([(0, 0, frame) for frame in frames], "whole"), Input([], "whole"), Input([], "whole")])
+        by_model = [[record[2] for record in port] for port in done.sent]
+        everything = [*wanted, *[[]] * (3 - len(wanted))]
+        self.assertEqual((sent(source, *frames), by_model), (everything, everything), source)
+
+    def test_tcp_behind_hop_by_hop_options(self) -> None:
+        begin = """header options6 { next:8 len:8 rest:48 } after ipv6 if ipv6.next == 0 length ((v & 255) + 1) * 8 for v:16 in 0x0600..0x0604
+extend tcp after options6 if options6.next == 6
+if options6 {}
+"""
+        def frame(k: int, dport: int, end: int = 1) -> bytes:
+            return six(6, segment6(dport, end), end) if k < 0 else six(0, bytes([6, k]) + bytes(6 + 8 * k) + segment6(dport, end if k < 5 else 1), end)
+
+        frames = [frame(k, dport) for k in range(-1, 6) for dport in (22, 23)]
+        self.both(begin + "if tcp.dport == 22 { drop }\nsend port", frames, [frame(k, dport) for k in range(-1, 6) for dport in (22, 23) if dport > 22 or k > 4])
+        self.both(begin + "if tcp.dport == 22 { mend tcp.dport = 7 }\nsend port", frames,
+                  [frame(k, 7 if dport == 22 and k < 5 else dport) for k in range(-1, 6) for dport in (22, 23)])
+        self.both(begin + "need ipv6\nmend ipv6.src_lo = 0xff\nsend port", frames, [frame(k, dport, 255) for k in range(-1, 6) for dport in (22, 23)])
+
+    def test_two_tags_and_their_priorities(self) -> None:
+        inner = eth(ipv4(17, bytes(8)))
+        frame = tagged(tagged(inner, 0x501E), 0xA0C8, 0x88A8)
+        self.both("need qinq/vlan\nlet p = qinq.pcp\nqinq.pcp = vlan.pcp\nvlan.pcp = p\nvlan.dei ^= 1\nsend port", [frame],
+                  [tagged(tagged(inner, 0xA01E), 0x40C8, 0x88A8)])
+        self.both("need qinq/vlan\nlet p = qinq.pcp\npop qinq\nvlan.pcp = p\nsend port", [frame], [tagged(inner, 0xB01E)])
+        self.both("push qinq { pcp = 7 vid = 0xabc }\nneed qinq/vlan\nvlan.vid += 4095\nsend port", [tagged(inner, 0x5000)],
+                  [tagged(tagged(inner, 0x5FFF), 0xEABC, 0x88A8)])
+        self.both("need qinq/vlan\npop qinq/vlan\nsend port", [frame], [inner])
+        self.both("if vlan.vid in 0x100/4 { send port }", [tagged(inner, it) for it in (0xFF, 0x100, 0x1FF, 0x200)], [tagged(inner, it) for it in (0x100, 0x1FF)])
+
+    def test_gre_with_keys_and_sums(self) -> None:
+        inner = eth(ipv4(17, bytes(8)))
+        def frame(flags: int, more: str) -> bytes:
+            return eth(ipv4(47, struct.pack(">HH", flags, 0x6558) + bytes.fromhex(more) + inner))
+
+        keys = [frame(0x2000, "00000005"), frame(0x2000, "00000006"), frame(0x2000, "ffffffff"), frame(0xA000, "0001000000000005"), frame(0, "")]
+        source = """header key { value:32 } after gre if gre.flags & 0xb000 == 0x2000
+header both { sum:16 zero:16 value:32 } after gre if gre.flags & 0xb000 == 0xa000
+ports 3
+if key.value == 5 or both.value == 5 { send 1 }
+if key.value >= 0xffffffff { pop eth/ipv4/gre/key send 2 }
+if not key and not both and gre { pop eth/ipv4/gre send 0 }"""
+        self.both(source, keys, [inner], [keys[0], keys[3]], [inner])
+
+    def test_sums_over_odd_lengths(self) -> None:
+        def odd(a: int, c: int) -> bytes:
+            data = bytes([a, 2, 3, c, 0, 0, 5])
+            return eth(data[:4] + struct.pack(">H", checksum(data)) + data[6:], 0x88B5)
+
+        begin = "header odd { a:8 b:16 c:8 sum:16 d:8 } after eth if eth.type == 0x88b5 sum sum\n"
+        push = "push odd { a = 1 b = 0x203 c = 4 sum = auto d = 5 }\npush eth { dst = 02:00:00:00:00:0b src = 02:00:00:00:00:0a type = 0x88b5 }\nsend port"
+        self.both(begin + "cut 14\n" + push, [eth(b"xyz")], [odd(1, 4) + b"xyz"])
+        self.both(begin + "need odd\nmend odd.a = 255\nmend odd.c = 0\nsend port", [odd(1, 4)], [odd(255, 0)])
+        def echo(kind: int, number: int) -> bytes:
+            data = struct.pack(">BBHHH", kind, 0, 0, 7, number) + b"odd"
+            return eth(ipv4(1, data[:2] + struct.pack(">H", checksum(data)) + data[4:]))
+
+        self.both("need icmp\nmend icmp.type = 0\nmend icmp.seq += 1\nsend port", [echo(8, 9)], [echo(0, 10)])
+        for field, at, value in (("flags", 6, 0xA000), ("frag", 6, 0x1ABC), ("ecn", 0, 0x4503), ("dscp", 0, 0x45B8)):
+            head = bytearray(ipv4(17, bytes(8)))
+            head[at : at + 2], head[10:12] = value.to_bytes(2, "big"), bytes(2)
+            head[10:12] = checksum(bytes(head[:20])).to_bytes(2, "big")
+            number = {"flags": 5, "frag": 0x1ABC, "ecn": 3, "dscp": 0x2E}[field]
+            self.both(f"need ipv4.vhl == 0x45\nmend ipv4.{field} = {number}\nsend port", [eth(ipv4(17, bytes(8)))], [eth(bytes(head))])
+
+    def test_nested_conditions_and_sets(self) -> None:
+        source = """set NETS = {10.0.0.0/8, 192.168.1.0..192.168.1.9, 172.16.0.5}
+set DOORS = {1..3, 80}
+if (ipv4.src in NETS and (udp.dport in DOORS or tcp.dport in DOORS) or not ipv4 and not arp) and not (udp.sport == 9 or tcp.sport == 9) { drop }
+send port"""
+        for near, ends in ((True, ("10.9.9.9", "192.168.1.9", "172.16.0.5")), (False, ("192.168.1.10", "172.16.0.4", "11.0.0.0"))):
+            frames = [udp(sport, dport, src=end) for end in ends for dport in (0, 1, 3, 4, 80) for sport in (9, 10)]
+            kept = [it for k, it in enumerate(frames) if not (near and k % 2 and k // 2 % 5 in (1, 2, 4))]
+            self.both(source, frames, kept)
+        self.both(source, [eth(bytes(28), 0x0806), eth(bytes(28), 0x1234)], [eth(bytes(28), 0x0806)])
+
+    def test_a_def_in_a_def_and_numbers(self) -> None:
+        source = """def inc(n) { ipv4.ttl += n }
+def twice(n) { inc(n) let m = n + 1 inc(m) }
+def wrap(x) { let n = x twice(n) inc(x) }
+let n = 100
+need ipv4
+wrap(2)
+ipv4.tos = n
+ipv4.id = ipv4.ttl | 3 ^ ipv4.tos & 12 << 1 + 2 * 2
+ipv4.proto -= 18
+send port"""
+        head = bytearray(ipv4(17, bytes(8)))
+        head[8], head[1], head[9] = 64 + 2 + 3 + 2, 100, 255
+        head[4:6] = ((64 + 7) | (3 ^ (100 & (12 << (1 + 2 * 2))))).to_bytes(2, "big")
+        self.both(source, [eth(ipv4(17, bytes(8)))], [eth(bytes(head))])
+        frame = eth(ipv4(17, bytes(8)))
+        for vid in range(6):
+            frame = tagged(frame, vid)
+        left = tagged(tagged(eth(ipv4(17, bytes(8))), 0), 0x8001)
+        self.both("let n = 0\nneed eth\nwhile vlan and n < 4 { pop vlan n += 1 }\nif vlan { vlan.pcp = n }\nsend port", [frame], [left])
+
+    def test_names_clones_and_chains(self) -> None:
+        frames = [udp(5, 53, dst=it) for it in ("10.0.0.1", "192.0.2.1", "9.9.9.9")]
+        source = """ports 3
+table ROUTES = 0
+pool CLONES = 1
+port UP = 2
+clone copy from CLONES else drop
+truncate copy 20
+send copy to UP
+let hop = lookup ROUTES ipv4.dst else { send UP }
+send hop"""
+        self.both(source, frames, [frames[1]], [frames[0]], [frames[0][:20], frames[1][:20], frames[2][:20], frames[2]])
+        mark = "header mark { id:16 door:16 }\nnew h from 0\npush mark { id = 0xbeef door = port } on h\nchain h before this\nsend port"
+        self.both(mark, [b"abc"], [b"\xbe\xef\0\0abc"])
+
+    def test_a_stack_that_is_pushed(self) -> None:
+        head = struct.pack(">BBHHHBBH", 0x45, 0, 48, 0, 0, 9, 4, 0) + bytes([1, 2, 3, 4, 5, 6, 7, 8])
+        tags = bytes.fromhex("02000000000b 02000000000a 88a8 0009 8100 6008 0800")
+        source = """cut 14
+push eth { dst = 02:00:00:00:00:0b src = 02:00:00:00:00:0a } qinq { vid = 9 } vlan { pcp = 3 vid = 8 }
+     ipv4 { len = 48 ttl = 9 proto = 4 src = 1.2.3.4 dst = 5.6.7.8 }
+send port"""
+        self.both(source, [eth(ipv4(17, bytes(8)))], [tags + head[:10] + struct.pack(">H", checksum(head)) + head[12:] + ipv4(17, bytes(8))])
+
+    def test_all_comparisons_of_64_bits(self) -> None:
+        ends = (0, 1, (1 << 63) - 1, 1 << 63, (1 << 63) + 1, (1 << 64) - 1)
+        pairs = [(a, b) for a in ends for b in ends][:30]
+        frames = [eth(struct.pack(">IHBBQQQQ", 6 << 28, 0, 59, 64, a, 0, b, 0), 0x86DD) for a, b in pairs]
+        signs = {"<": operator.lt, "<=": operator.le, ">": operator.gt, ">=": operator.ge, "==": operator.eq, "!=": operator.ne}
+        for sign, holds in signs.items():
+            self.both(f"if ipv6.src_hi {sign} ipv6.dst_hi {{ send port }}", frames, [it for it, pair in zip(frames, pairs) if holds(*pair)])
+            self.both(f"if ipv6.src_hi {sign} 1 << 63 {{ send port }}", frames, [it for it, pair in zip(frames, pairs) if holds(pair[0], 1 << 63)])
+
+
+class Passed(unittest.TestCase):
+    """Ways past what is decided on them, and what the proof says of instructions that no packet reaches."""
+
+    def test_a_test_that_an_earlier_one_decides_is_passed_by(self) -> None:
+        program = compile_text("if ipv4.ttl < 5 { ipv4.tos = 1 }\nif ipv4.ttl < 3 { ipv4.id = 1 }\nsend port")
+        self.assertEqual(len(re.findall(r"jlt r\d,3,", program)), 1)
+        self.assertIn("jlt r2,5,", program)
+        self.assertLess(program.index("jlt r2,5,"), program.index("store p0,15,1"))
+
+    def test_no_way_leads_past_the_head_of_a_loop(self) -> None:
+        frame = tagged(tagged(eth(ipv4(17, bytes(8)))))
+        source = "ipv4.tos = 0\nsend port"
+        self.assertEqual(sent("if eth.type < 0x8847 {\n  while vlan { pop vlan }\n  " + source + "\n}", frame)[0], [eth(ipv4(17, bytes(8)))])
+
+    def test_a_far_register_is_within_the_lengths(self) -> None:
+        source = "header m { a:8 b:8 } after eth if eth.type == 5 length 2 + (v - 64) * 4 for v:8 in 64..68\nheader n { c:8 } after m if m.b == 1\n"
+        frames = [eth(bytes([64 + k, 1]) + bytes(4 * k) + bytes([9]), 5) for k in range(6)]
+        self.assertEqual(sent(source + "if n.c == 9 { drop }\nsend port", *frames)[0], frames[5:])
+
+    def test_lines_that_no_packet_reaches(self) -> None:
+        text = "# Built\n        set r1,1    # 3: x\nL1:\n        set r1,2    # count a: 4: y\n        exit    # what is held is dropped\n"
+        self.assertEqual(unreached(text, {0, 1, 2}), [])
+        said = unreached(text, {0})
+        self.assertEqual(said[0], "no packet reaches 2 of 3 instructions: line 4 has 1, the end has 1")
+        self.assertIn("help: ", said[1])
+
+
+class Reached(unittest.TestCase):
+    """What no packet reaches, which is left out, and the note on it."""
+
+    def test_what_is_known_of_a_number_holds_after_each_instruction(self) -> None:
+        rng, work = random.Random(5), {"and": operator.and_, "or": operator.or_, "xor": operator.xor, "shr": operator.rshift, "shl": operator.lshift,
+                                       "add": operator.add, "sub": operator.sub}
+        for _ in range(3_000):
+            numbers = [rng.getrandbits(rng.choice((4, 8, 16, 64))) for _ in range(3)]
+            mask = ~functools.reduce(operator.or_, (numbers[0] ^ it for it in numbers)) & rng.getrandbits(64)
+            others = frozenset(it for it in (rng.getrandbits(4), numbers[0] + 1) if it not in numbers)
+            value = Value(min(numbers), max(numbers), mask, numbers[0] & mask, others).tidy()
+            wider = value.join(Value(low=rng.getrandbits(6)).tidy())
+            word, c = rng.choice(list(work)), rng.getrandbits(rng.choice((3, 16)))
+            c = c % 64 if word in ("shl", "shr") else c
+            for it in numbers:
+                self.assertTrue(value.can_be(it) and wider.can_be(it), (value, it))
+                self.assertTrue(value.after(word, c).can_be(work[word](it, c) & BIGGEST), (value, word, c, it))
+
+    def test_what_earlier_tests_decide_is_left_out(self) -> None:
+        begin = "need ipv4\nif ipv4.ttl == 5 { drop }\nif ipv4.src == 10.0.0.1 { drop }\n"
+        for condition in ("ipv4.src == 10.0.0.1", "ipv4.ttl == 5", "ipv4.proto == 6 and ipv4.src == 10.0.0.1"):
+            for more in ("", "ipv4.id = 7\n", "let a = ipv4.dst\nif a == 5 { count five }\n"):
+                self.assertNotIn("store p0,15,1", compile_text(f"{begin}{more}if {condition} {{ ipv4.tos = 1 }}\nsend port"), condition)
+        for change in ("ipv4.ttl -= 1", "push eth { src = 1 dst = 2 type = 0x0800 }\ncut 14\nneed ipv4\nipv4.ttl = ipv4.tos"):
+            self.assertIn("store p0,15,1", compile_text(f"{begin}{change}\nif ipv4.ttl == 5 {{ ipv4.tos = 1 }}\nsend port"), change)
+
+    def test_bounds_that_the_checker_needs_stay(self) -> None:
+        source = (TOP / "tests/pkt_tasks/ext_filter.pkt").read_text()
+        self.assertIsNone(refused(source))
+        self.assertRegex(compile_text(source), r"jlt r\d,33,")
+        self.assertIsNone(refused("ports 2\nlet p = ipv4.tos & 1\nif p < 2 { send p else send 0 }"))
+
+    def test_an_end_that_no_packet_reaches_comes_once(self) -> None:
+        graph = Graph(Instruction("iflen", ("p0", "1"), 1))
+        graph.first.next, graph.first.target = Instruction("iflen", ("p0", "1"), 1), Instruction("exit")
+        graph.first.next.next, graph.first.next.target = Instruction("exit"), Instruction("store", ("p0", "1", "1", "r0"), 1, next=Instruction("exit"))
+        self.assertTrue(leave_out(graph))
+        self.assertFalse(leave_out(graph))
+        self.assertEqual([it.word for it in reached(graph).states], ["iflen", "exit", "iflen", "exit"])
+
+    def test_the_note(self) -> None:
+        source = "if ipv4.ttl < 5 {\n drop\n}\nlet a = ipv4.ttl\nif a < 5 {\n count low\n ipv4.tos = 1\n}\nsend port\n"
+        self.assertEqual(compiled(source).note, "no packet reaches line 6 and line 7: 3 instructions are left out")
+        self.assertEqual(compiled(source.replace("a < 5", "a < 6")).note, "")
+        with tempfile.TemporaryDirectory() as folder:
+            path = pathlib.Path(folder, "x.pkt")
+            path.write_text(source)
+            done = subprocess.run([sys.executable, TOP / "tools/pkt", path], capture_output=True, text=True)
+        self.assertEqual((done.returncode, done.stdout), (0, compile_text(source, "x.pkt")))
+        self.assertEqual(done.stderr, f"{path}: note: no packet reaches line 6 and line 7: 3 instructions are left out\n")
+
+
+class Names(unittest.TestCase):
+    """Sets, statements with a name, files that are included, names of numbers, counters, and further headers before a known one."""
+
+    def test_sets(self) -> None:
+        source = "set IN = {10.0.0.0/8, 192.168.0.0/16}\nset ALL = {IN, 172.16.0.1..172.16.0.9}\nset WEB = {80, 443}\n"
+        frames = [tcp(2, port, dst=it) for port in (22, 80) for it in ("10.1.1.1", "192.168.3.4", "172.16.0.5", "172.16.0.10")]
+        self.assertEqual(sent(source + "need ipv4.dst in IN and tcp.dport in WEB\nsend port", *frames)[0], frames[4:6])
+        self.assertEqual(sent(source + "need ipv4.dst in ALL and not tcp.dport in {WEB, 5}\nsend port", *frames)[0], frames[:3])
+        self.assertEqual(count(source + "need ipv4.dst in IN send port"), count("need ipv4.dst in {10.0.0.0/8, 192.168.0.0/16} send port"))
+
+    def test_defs(self) -> None:
+        frame = udp(5, 53)
+        source = "def out(a) { mend ipv4.src = a }\ndef less(n) { let x = n + 1 if ipv4.ttl < x { drop } ipv4.ttl -= n }\nlet x = 3\n"
+        self.assertEqual(sent(source + "out(198.51.100.1)\nsend port", frame)[0], [udp(5, 53, src="198.51.100.1")])
+        self.assertEqual(sent(source + "less(x) less(2)\nif x == 3 { send port }", frame)[0], [frame[:22] + bytes([59]) + frame[23:]])
+        self.assertEqual(sent("def reply(p) { send p else drop }\nports 3\nreply(ipv4.ttl & 1)\n", frame)[0], [frame])
+        self.assertEqual(count("def f(a) { mend ipv4.src = a }\nf(5)\nsend port"), count("mend ipv4.src = 5\nsend port"))
+
+    def test_names(self) -> None:
+        source = "table ROUTES = 0\npool CLONES = 1\nport UP = 2\nring SLOW = 0\nports 3\n"
+        frame = udp(5, 53, dst="10.1.1.1")
+        self.assertEqual(sent(source + "clone c from CLONES\nsend c to UP\nlet hop = lookup ROUTES ipv4.dst\nsend hop", frame), [[], [frame], [frame]])
+        self.assertIn("enq p0,0", compile_text(source + "if port == UP { drop }\nqueue SLOW"))
+        # These words are names elsewhere.
+        self.assertEqual(sent("let count = 1\nlet set = 2\nlet table = count + set\ncount += 1\nif table == 3 and count == 2 { send port }", frame)[0], [frame])
+
+    def test_further_headers_before(self) -> None:
+        source = """header pppoe { vt:8 code:8 session:16 length:16 proto:16 } after eth if eth.type == 0x8864
+extend ipv4 after pppoe if pppoe.proto == 0x21
+"""
+        inner, less = (ipv4(1, bytes(8), ttl=it) for it in (64, 63))
+        frame = eth(bytes.fromhex("1100000100320021") + inner, 0x8864)
+        rule = "if ipv4 { mend ipv4.ttl -= 1 }\nsend port"
+        self.assertEqual(sent(source + "if pppoe { }\n" + rule, frame, eth(inner))[0], [frame[:22] + less, eth(less)])
+        self.assertEqual(sent(source + rule, frame, eth(inner))[0], [frame, eth(less)])
+        self.assertEqual(sent(source + "need pppoe/ipv4\npop pppoe\neth.type = 0x0800\nsend port", frame)[0], [eth(inner)])
+
+    def test_counters(self) -> None:
+        source = "if udp.dport == 53 { count dns } else if udp { count other }\nif udp.sport == 5 { count dns drop }\nsend port"
+        text = compile_text(source)
+        program = programs.assemble(text.encode())
+        world = World(ENV, [program, FREES, FREES, FREES], frozenset())
+        frames = [udp(5, 53), udp(6, 53), udp(5, 54), udp(6, 7), udp(8, 9), tcp(2, 53)]
+        run(world, [Input([(0, 0, frame) for frame in frames], "whole"), Input([], "whole"), Input([], "whole")])
+        notes = [it.split("# ")[1] for it in text.splitlines()[1:] if not it.endswith(":")]
+        counts = {name: sum(ran for note, (ran, _, _) in zip(notes, world.tally[0]) if note.startswith(f"count {name}: ")) for name in ("dns", "other")}
+        self.assertEqual(counts, {"dns": 4, "other": 3})
+        # A length that a later statement needs is not tested before a counter.
+        self.assertRegex(compile_text("need length > 20\ncount here\nneed length > 40\nsend port"), r"iflen p0,21[^\n]*\n *add r0,0[^\n]*\n *iflen p0,41")
+
+    def test_files_that_are_included(self) -> None:
+        with tempfile.TemporaryDirectory() as name:
+            folder = pathlib.Path(name)
+            (folder / "sub").mkdir()
+            (folder / "net.pkt").write_text('include "sub/more.pkt"\ninclude "net.pkt"\ndef out(a) {\n    mend ipv4.src = a\n}\n')
+            (folder / "sub/more.pkt").write_text('set IN = {10.0.0.0/8}\ninclude "../net.pkt"\n')
+            text = compile_text('include "net.pkt"\nif ipv4.src in IN { out(1.2.3.4) }\nsend port', "x.pkt", folder)
+            plain = compile_text("if ipv4.src in 10.0.0.0/8 { mend ipv4.src = 1.2.3.4 }\nsend port")
+            self.assertEqual([it.split("#")[0] for it in text.splitlines()], [it.split("#")[0] for it in plain.splitlines()])
+            self.assertIn("# net.pkt:4: mend ipv4.src = a", text)
+            self.assertIn("# 2: if ipv4.src in IN", text)
+            for file, source, wanted in (
+                ("drop", 'include "a.pkt"', "a.pkt:1:1: an included file has only declarations"),
+                ("\nconst A = B", 'include "a.pkt"', "a.pkt:2:11: a constant is wanted here"),
+                ("", 'include "b.pkt"', "x.pkt:1:9: " + str(folder / "b.pkt") + " cannot be read: No such file or directory"),
+                ("def f() {\n  mend eth.src = 5\n}", 'include "a.pkt"\nf()', "a.pkt:2:3: no checksum covers eth.src\n      mend eth.src = 5"),
+            ):
+                (folder / "a.pkt").write_text(file)
+                with self.assertRaises(SourceError) as caught:
+                    compile_text(source, "x.pkt", folder)
+                self.assertIn(wanted, error_text(caught.exception, "x.pkt", source))
+
+    def test_errors(self) -> None:
+        wanted = {
+            "set A = 5": "1:9: '{' is wanted here",
+            "set A = {eth.type}": "1:10: a constant is wanted here",
+            "set A = {5}\nlet x = A": "2:9: A is a set, and no number",
+            "set A = {10.0.0.0/8}\nneed ipv4.ttl in A": "the address has 32 bits, and the field before `in` 8",
+            "table A = 4": "1:11: the table is from 0 to 3, and this is 4",
+            "table A = 0\nclone c from A": "2:14: A is a table, and a pool is wanted here",
+            "table A = 0\nlet x = A": "2:9: A is a table, and no number",
+            "def f(a) { f(a) }\nf(1)": "1:12: f is used in itself",
+            "def f(a) { drop }\nf(1, 2)": "2:1: f(a) has 1 numbers, and here are 2",
+            "def f() { drop": "the block of f has no end",
+            "def f() { send x }\nlet x = 1\nf()": "1:16: x is no variable here",
+            "def f(a) { clone c from 0 ipv4.id = a }\nf(1)": "c (line 1) shares them",
+            "extend ipv4 after udp if udp.dport == 5": "1:19: ipv4 cannot follow udp, which it comes before",
+            "extend eth after vlan if vlan.vid == 5": "1:18: eth cannot follow vlan",
+            "extend ipv4 after eth if eth.type == 5": "ipv4 follows eth already",
+            'include "x.pkt"': "1:9: a text that is no file includes none",
+            "truncate ipv4.len + 14": "1:10: `truncate` keeps a constant number of bytes",
+        }
+        for source, text in wanted.items():
+            with self.subTest(source):
+                with self.assertRaises(SourceError) as caught:
+                    compile_text(source)
+                self.assertIn(text, error_text(caught.exception, "x.pkt", source))
+
+
+class Page(unittest.TestCase):
+    """What docs/users/pkt.md says of headers and of its first program."""
+
+    def setUp(self) -> None:
+        self.page = (TOP / "docs/users/pkt.md").read_text()
+
+    def test_the_known_headers(self) -> None:
+        field = re.compile(r"(?<![\w@])(\w+):(\d+(?:=\w+)?)")
+        rows = dict(re.findall(r"(?m)^\| `(\w+)` \| ([^;|]*)", self.page[self.page.index("### The known headers") :]))
+        texts = dict(re.findall(r"(?m)^header (\w+) +\{([^}]*)\}", (TOP / "tools/pkt/prelude.pkt").read_text()))
+        self.assertEqual({name: field.findall(text) for name, text in rows.items()}, {name: field.findall(text) for name, text in texts.items()})
+
+    def test_the_examples_of_statements(self) -> None:
+        text = self.page[self.page.index("## Examples of statements") :]
+        self.assertLess(count(text.split("```")[1]), 400)
+
+    def test_the_first_program(self) -> None:
+        program = (TOP / "examples/nat/nat.pkt").read_text()
+        self.assertIn(f"```\n{program}```\n", self.page)
+        self.assertIn('node = "nat.dpv"\nin = "in.pcap"\nout = "out.pcap"\n', self.page)
+
+
+class Command(unittest.TestCase):
+    def test_build(self) -> None:
+        with tempfile.TemporaryDirectory() as name:
+            path = pathlib.Path(name, "drop.pkt")
+            path.write_text("drop\n")
+            run = subprocess.run([str(TOP / "dpv"), "build", str(path)], capture_output=True, text=True)
+            self.assertEqual((run.returncode, run.stderr), (0, ""))
+            self.assertEqual(run.stdout, compile_text("drop\n", "drop.pkt"))
+            path.write_text("dropp\n")
+            run = subprocess.run([str(TOP / "dpv"), "build", str(path)], capture_output=True, text=True)
+            self.assertEqual((run.returncode, run.stdout), (1, ""))
+            self.assertIn("drop.pkt:1:1: no statement begins with 'dropp'", run.stderr)
+            run = subprocess.run([str(TOP / "dpv"), "build", name + "/none.pkt"], capture_output=True, text=True)
+            self.assertEqual(run.returncode, 1)
+            path.write_text("drop\n")
+            with open("/dev/full", "w", encoding="utf-8") as full:
+                run = subprocess.run([str(TOP / "dpv"), "build", str(path)], stdout=full, stderr=subprocess.PIPE, text=True)
+            self.assertEqual((run.returncode, run.stderr), (1, "the program cannot be written: No space left on device\n"))
+
+
+if __name__ == "__main__":
+    unittest.main()
