@@ -124,17 +124,11 @@ def clash(ports: list[pipelines.Node], reads: list[str], disk: Disk) -> str | No
     return None
 
 
-def made(ports: list[pipelines.Node], reads: list[str], disk: Disk) -> tuple[str | None, dict[str, bytes]]:
-    """The first capture that cannot be opened or made, and those that were made. Inputs are opened in port order, then no output may be
-    a file that the run reads or that another port writes, then outputs are made. An output that was there stays as it was."""
-    written: dict[str, bytes] = {}
+def unopened(ports: list[pipelines.Node], reads: list[str], disk: Disk) -> str | None:
+    """The first capture that cannot be opened or made. Inputs are opened in port order, then no output may be a file that the run reads or that
+    another port writes, then outputs are made."""
     bad = next((node.reads for node in ports if not disk.may_open(node.reads)), None) or clash(ports, reads, disk)
-    for node in ports if bad is None else ():
-        if not disk.may_make(node.writes):
-            return node.writes, written
-        if not os.path.exists(disk.path(node.writes)):
-            written[node.writes] = b""
-    return bad, written
+    return bad or next((node.writes for node in ports if not disk.may_make(node.writes)), None)
 
 
 def forward(pipeline: pipelines.Pipeline, disk: Disk, pattern: frozenset[int], file: str | None, is_counted: bool) -> Answer:
@@ -148,21 +142,22 @@ def forward(pipeline: pipelines.Pipeline, disk: Disk, pattern: frozenset[int], f
 
 
 def forwarded(world: World, pipeline: pipelines.Pipeline, disk: Disk, file: str | None) -> Answer:
-    """The run of a pipeline: once captures are opened and made, the region is taken, and then headers are read."""
+    """The run of a pipeline: once captures are opened and made, the region is taken, and then headers are read. A run that ends before that leaves
+    no new file, and an output that was there as it was."""
     ports = pipeline.nodes[: len(pipeline.env.ports)]
     texts = [name for node in pipeline.nodes for name in (node.node, node.cert) if name is not None]
-    bad, written = made(ports, [*texts, *(node.reads for node in ports), *([] if file is None else [file])], disk)
+    bad = unopened(ports, [*texts, *(node.reads for node in ports), *([] if file is None else [file])], disk)
     if bad is not None:
-        return Answer(3, "", f"fault: file {bad}\n", written)
+        return Answer(3, "", f"fault: file {bad}\n")
     if pipeline.region < pipeline.env.need():
-        return Answer(3, report(world, ["open"] * len(ports)), "fault: region\n", written)
+        return Answer(3, report(world, ["open"] * len(ports)), "fault: region\n")
     sources = []
     for k, node in enumerate(ports):
         data = disk.read(node.reads)
         source = captures.Capture(0, [], "8", False) if data is None else captures.read(data)
         if not source.has_header:
             reported = f"fault: input {k} cause {source.ending}\n"
-            return Answer(3, report(world, ["open"] * len(ports)), reported, written)
+            return Answer(3, report(world, ["open"] * len(ports)), reported)
         sources.append(source)
     nano = any(source.units == 1_000_000_000 for source in sources)
     done = run(world, [Input(source.records, source.ending) for source in sources])

@@ -153,7 +153,7 @@ def sends_what_fits(program: str, folder: pathlib.Path, size: int) -> bool:
     command = [program, "one", str(STRIP / "strip.dpv"), str(STRIP / "strip.cert"), str(capture), str(out)]
     run = subprocess.run(command, capture_output=True, text=True, timeout=60, preexec_fn=lambda: limit_files(size))
     sent = re.search(r" sent (\d+) input ", run.stdout)
-    held, whole = out.stat().st_size, max(size - header, 0) // 62
+    held, whole = out.stat().st_size if out.exists() else 0, max(size - header, 0) // 62
     passed = (run.returncode, fixed(run.stderr), held, sent and int(sent[1])) == (3, "fault: output 0\n", size, whole)
     print(f"dpv one into {size} bytes: status {run.returncode}, reported {run.stderr!r}, sent {sent and sent[1]}" + ("" if passed else f", and not {whole}"))
     return passed

@@ -3,8 +3,8 @@
 
 Usage: tests/program/cures.py [PROGRAM]
 A capture of each kind has an IPv4 and an IPv6 packet. dpv refuses it and names a command of editcap. That command must end with status 0, and what
-it writes must be a capture of Ethernet frames with the same packets and times, which dpv reads. Exits with 1 at a failure; with no editcap
-nothing is tested."""
+it writes must be a capture of Ethernet frames with the same packets and times, which dpv reads. Then compressed captures, each with the
+command that unpacks it. Exits with 1 at a failure; what needs a tool that is missing is not tested."""
 import pathlib
 import re
 import shlex
@@ -87,22 +87,50 @@ def is_cured(program: str, source: pathlib.Path) -> bool:
     )
 
 
+def converted(program: str, folder: pathlib.Path) -> list[bool]:
+    """Captures that editcap converts."""
+    passed = []
+    for number, (name, (link, record)) in enumerate(KINDS.items()):
+        source = folder / f"{number}.pcap"
+        write_capture(source, link, [record(*it) for it in PACKETS])
+        passed.append(is_cured(program, source))
+        if not passed[-1]:
+            print(f"cures: a capture {name}: the cure fails")
+    frames, newer = folder / "frames.pcap", folder / "newer.pcapng"
+    write_capture(frames, ETHERNET, [ethernet(*it) for it in PACKETS])
+    subprocess.run(["editcap", "-F", "pcapng", frames.name, newer.name], cwd=folder, check=True)
+    return [*passed, is_cured(program, newer)]
+
+
+def is_unpacked(program: str, folder: pathlib.Path, tool: str) -> bool:
+    """Whether dpv names a command for a capture that this tool compressed, and that command gives the capture."""
+    whole, packed = folder / "whole.pcap", folder / f"packed.{tool}"
+    write_capture(whole, ETHERNET, [ethernet(*it) for it in PACKETS])
+    with open(packed, "wb") as into:
+        subprocess.run([tool, "-c", whole.name], cwd=folder, stdout=into, stderr=subprocess.DEVNULL, check=True)
+    words = [program, "one", str(command.STRIP / "strip.dpv"), str(command.STRIP / "strip.cert"), packed.name, "refused.pcap"]
+    ran = subprocess.run(words, cwd=folder, capture_output=True, text=True, check=False)
+    named = re.search(rf"it is compressed by {tool}; (\S+ -dc IN > OUT) unpacks it\n", ran.stderr)
+    if ran.returncode != 3 or named is None:
+        return False
+    shell = named[1].replace("IN", packed.name).replace("OUT", "unpacked.pcap")
+    return subprocess.run(shell, shell=True, cwd=folder, check=False).returncode == 0 and (folder / "unpacked.pcap").read_bytes() == whole.read_bytes()
+
+
 def main() -> int:
-    if shutil.which("editcap") is None:
-        print("cures: no editcap, nothing is tested")
-        return 0
-    program, passed = command.asked(), []
+    program, passed = command.asked(), list[bool]()
     with command.new_folder() as folder:
-        for number, (name, (link, record)) in enumerate(KINDS.items()):
-            source = folder / f"{number}.pcap"
-            write_capture(source, link, [record(*it) for it in PACKETS])
-            passed.append(is_cured(program, source))
-            if not passed[-1]:
-                print(f"cures: a capture {name}: the cure fails")
-        frames, newer = folder / "frames.pcap", folder / "newer.pcapng"
-        write_capture(frames, ETHERNET, [ethernet(*it) for it in PACKETS])
-        subprocess.run(["editcap", "-F", "pcapng", frames.name, newer.name], cwd=folder, check=True)
-        passed.append(is_cured(program, newer))
+        if shutil.which("editcap"):
+            passed += converted(program, folder)
+        else:
+            print("cures: no editcap: its commands are NOT TRIED")
+        for tool in ("gzip", "bzip2", "xz", "zstd", "lz4"):
+            if shutil.which(tool):
+                passed.append(is_unpacked(program, folder, tool))
+                if not passed[-1]:
+                    print(f"cures: a capture compressed by {tool}: the cure fails")
+            else:
+                print(f"cures: no {tool}: its command is NOT TRIED")
     return command.report_cases("cures", passed)
 
 

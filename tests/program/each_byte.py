@@ -40,7 +40,7 @@ WHOLE: Ending = (0, report(1, "whole"), "", OUTPUT)
 def ending_of_cut(size: int) -> Ending:
     """How a run ends on the first bytes of the capture."""
     if size < 24:
-        return 3, report(0, "open"), "fault: input 0 cause 6\n", b""
+        return 3, report(0, "open"), "fault: input 0 cause 6\n", None
     if size == len(INPUT):
         return WHOLE
     return 0, report(0, "whole" if size == 24 else "cut 24"), "", OUTPUT[:24]

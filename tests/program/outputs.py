@@ -5,9 +5,9 @@ Usage: tests/program/outputs.py [PROGRAM]   (the built program; by default the o
 First, outputs that are another file of the run, by the same name, another path, a link or a hard link: the pipeline file, a program, a
 certificate, an input, another port's output, also one that does not exist yet. Each has to be refused with both names, and no file may
 change. Then outputs to which standard output or standard error goes, and two outputs that are one new file by a link. Then each cause for
-which a run ends before its first header is written, with old outputs, which must not change. Then runs that do write: an old output has only
-the new capture, devices and pipes may be written by several ports. Prints a line for each case that failed, and a count; exits with 1 if a
-case failed.
+which a run ends before its first header is written, with old outputs, which must not change, and with new ones, which must not be left empty.
+Then runs that do write: an old output has only the new capture, devices and pipes may be written by several ports. Prints a line for each
+case that failed, and a count; exits with 1 if a case failed.
 """
 import os
 import pathlib
@@ -121,7 +121,7 @@ def make_files(folder: pathlib.Path, program: str) -> None:
     certificate = subprocess.run([program, "infer-one", "forward.dpv"], cwd=folder, capture_output=True, check=True)
     (folder / "forward.cert").write_bytes(certificate.stdout)
     os.link(folder / "in.pcap", folder / "hard.pcap")
-    for link, name in {"soft.pcap": "in.pcap", "soft.dpv": "forward.dpv", "soft_old.pcap": "old.pcap"}.items():
+    for link, name in {"soft.pcap": "in.pcap", "soft.dpv": "forward.dpv", "soft_old.pcap": "old.pcap", "dangling.pcap": "folder/made.pcap"}.items():
         (folder / link).symlink_to(name)
 
 
@@ -130,13 +130,26 @@ def held(folder: pathlib.Path) -> dict[str, bytes]:
     return {str(it.relative_to(folder)): it.read_bytes() for it in sorted(folder.rglob("*")) if it.is_file()}
 
 
+def new_ends() -> list[Case]:
+    """The same runs with outputs that do not exist: one that would be made, and one through a link."""
+    names = {"old.pcap": "fresh.pcap", "second.old": "second.fresh"}, {"old.pcap": "dangling.pcap", "second.old": "fresh.pcap"}
+    cases = []
+    for case in early_ends():
+        for name in names:
+            text = case.text
+            for old, new in name.items():
+                text = text.replace(old, new)
+            cases.append(Case(text, case.said))
+    return cases
+
+
 def is_kept(program: str, case: Case, folder: pathlib.Path, must_be_alone: bool) -> bool:
-    """Whether a run is refused as the case says, and each file keeps its contents; no new file has a byte."""
+    """Whether a run is refused as the case says, each file keeps its contents, and no file is new."""
     (folder / "case.toml").write_text(case.text)
     before = held(folder)
     run = subprocess.run([program, "run", "case.toml"], cwd=folder, stdin=subprocess.DEVNULL, capture_output=True, text=True, timeout=60)
     after = held(folder)
-    new = {name for name, data in after.items() if name not in before and (data or must_be_alone)}
+    new = set(after) - set(before)
     lost = [name for name, data in before.items() if after.get(name) != data]
     said = run.stderr == case.said if must_be_alone else run.stderr.startswith(case.said)
     passed = run.returncode == 3 and said and not lost and not new
@@ -189,7 +202,7 @@ def is_unshared(program: str, case: Shared, folder: pathlib.Path) -> bool:
 
 
 def linked(program: str, folder: pathlib.Path) -> list[bool]:
-    """Two outputs that are one new file: its name, and a link to it. Nothing is written there."""
+    """Two outputs that are one new file: its name, and a link to it. It is not left there."""
     answers = []
     for first, second in (("new.pcap", "alias.pcap"), ("alias.pcap", "new.pcap"), ("alias.pcap", "folder/alias.pcap")):
         for link, name in {"alias.pcap": "new.pcap", "folder/alias.pcap": "../new.pcap"}.items():
@@ -197,10 +210,10 @@ def linked(program: str, folder: pathlib.Path) -> list[bool]:
         (folder / "case.toml").write_text(pipeline([("in.pcap", first), ("in.pcap", second)]))
         run = subprocess.run([program, "run", "case.toml"], cwd=folder, capture_output=True, text=True, timeout=60)
         said = f"fault: file {second}\n  file: {first}\n  because: {WRITTEN}\n"
-        held = (folder / "new.pcap").read_bytes() if (folder / "new.pcap").exists() else b""
-        answers.append((run.returncode, run.stderr, held) == (3, said, b""))
+        is_left = (folder / "new.pcap").exists()
+        answers.append((run.returncode, run.stderr, is_left) == (3, said, False))
         if not answers[-1]:
-            print(f"outputs: {first}, {second}: status {run.returncode}, {run.stderr!r}, {len(held)} bytes")
+            print(f"outputs: {first}, {second}: status {run.returncode}, {run.stderr!r}, new.pcap is left: {is_left}")
         for name in ("alias.pcap", "folder/alias.pcap", "new.pcap"):
             (folder / name).unlink(missing_ok=True)
     return answers
@@ -227,7 +240,7 @@ def main() -> int:
         passed = [is_kept(program, case, folder, True) for case in clashes()]
         passed += [is_unshared(program, case, folder) for case in shared()]
         passed += linked(program, folder)
-        passed += [is_kept(program, case, folder, False) for case in early_ends()]
+        passed += [is_kept(program, case, folder, False) for case in (*early_ends(), *new_ends())]
         passed += writes(program, folder)
     return report_cases("outputs", passed)
 

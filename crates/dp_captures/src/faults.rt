@@ -1,5 +1,6 @@
 //! Why a capture is at fault.
 
+use crate::format::Format;
 use crate::inlet::Inlet;
 use crate::link_type::LinkType;
 use crate::names::CaptureNames;
@@ -24,8 +25,8 @@ pub enum Reason {
     IsStderr,
     /// What is wrong with the capture.
     Capture(PcapError),
-    /// The input has another format, which can be converted to a capture.
-    IsPcapng,
+    /// The input has another format, of which a command makes captures.
+    Other(Format),
     /// The link type of the input, which is not read.
     Link(LinkType),
 }
@@ -40,10 +41,7 @@ impl fmt::Display for Reason {
             Reason::IsOutput => write!(f, "another port writes this file, too"),
             Reason::IsStdout => write!(f, "standard output goes to this file, too"),
             Reason::IsStderr => write!(f, "standard error goes to this file, too"),
-            Reason::IsPcapng => write!(
-                f,
-                "it is a pcapng file; editcap -F pcap IN OUT converts it to a capture"
-            ),
+            Reason::Other(format) => write!(f, "{format}"),
         }
     }
 }
@@ -90,10 +88,10 @@ fn reason_of_input(cause: PcapError, seen: Option<Seen>) -> Reason {
     let Some(seen) = seen else {
         return Reason::Capture(cause);
     };
-    match (cause, seen.failure, seen.link) {
-        (PcapError::Read, Some(error), _) => Reason::System(error),
-        (PcapError::BadMagic, _, _) if seen.is_pcapng => Reason::IsPcapng,
-        (PcapError::BadLink, _, Some(link)) => Reason::Link(link),
+    match (cause, seen.failure, seen.link, seen.format) {
+        (PcapError::Read, Some(error), _, _) => Reason::System(error),
+        (PcapError::BadMagic, _, _, Some(format)) => Reason::Other(format),
+        (PcapError::BadLink, _, Some(link), _) => Reason::Link(link),
         _ => Reason::Capture(cause),
     }
 }

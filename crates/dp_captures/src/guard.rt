@@ -40,7 +40,7 @@ pub struct Kept<'a> {
 }
 
 /// Whether two files or folders are the same.
-fn is_same_file(left: FileId, right: FileId) -> bool
+pub(crate) fn is_same_file(left: FileId, right: FileId) -> bool
     ensures { result ≡ spec.is_same_file left right }
 {
     left.device == right.device && left.number == right.number

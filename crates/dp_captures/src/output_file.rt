@@ -7,8 +7,8 @@ use crate::file_id::{FileId, id_of_open};
 use crate::input_file::stream_id;
 use crate::words::Place;
 use dp_pcap::GhostCount;
-use std::fs::{OpenFile, OpenOptions};
-use std::io::{Result, Stdout, Write};
+use std::fs::{self, OpenFile, OpenOptions};
+use std::io::{ErrorKind, Result, Stdout, Write};
 use std::rt::Files;
 
 /// What an output is written to. Standard output is written at its current position: the output comes after what the shell has put there.
@@ -29,6 +29,8 @@ pub struct OutputFile<F> {
     destination: Destination<F>,
     // The plain file that it is, if it is one.
     id: Option<FileId>,
+    // Whether this run made it.
+    is_new: bool,
     // Whether the old content of a plain file is gone.
     is_emptied: bool,
     // How many calls of `write` were made, which only clauses read.
@@ -36,7 +38,7 @@ pub struct OutputFile<F> {
 }
 
 /// An output that was not written yet.
-fn unwritten<F>(destination: Destination<F>, id: Option<FileId>) -> OutputFile<F>
+fn unwritten<F>(destination: Destination<F>, id: Option<FileId>, is_new: bool) -> OutputFile<F>
     ensures destination { result.destination ≡ destination }
     ensures id { result.id ≡ id }
     ensures kept { result.is_emptied ≡ false }
@@ -45,18 +47,42 @@ fn unwritten<F>(destination: Destination<F>, id: Option<FileId>) -> OutputFile<F
     OutputFile {
         destination,
         id,
+        is_new,
         is_emptied: false,
         writes: GhostCount::new(),
     }
 }
 
 /// A file as an output. Its content is kept.
-fn of_file<F: OpenFile + Drop>(file: F) -> Result<OutputFile<F>>
+fn of_file<F: OpenFile + Drop>(file: F, is_new: bool) -> Result<OutputFile<F>>
     ensures file { IfOk result (λ output. output.destination ≡ Destination.File file) }
     ensures unwritten { IfOk result IsUnwritten }
 {
     let id = id_of_open(&file)?;
-    Ok(unwritten(Destination::File(file), id))
+    Ok(unwritten(Destination::File(file), id, is_new))
+}
+
+/// Whether no file has this name.
+fn is_missing<R: Files>(rt: &R, name: &str) -> bool {
+    match fs::metadata(rt, name) {
+        Ok(_) => false,
+        Err(error) => error.kind() == ErrorKind::NotFound,
+    }
+}
+
+/// Opens a file to be written, and makes it if it does not exist. Returns whether it was made.
+fn open_or_make<R: Files>(rt: &R, name: &str) -> Result<(R::File, bool)> {
+    if let Ok(file) = OpenOptions::new()
+        .write(true)
+        .create_new(true)
+        .open(rt, name)
+    {
+        return Ok((file, true));
+    }
+    // The name may be that of a link to a file that does not exist. Opening it makes that file.
+    let is_new = is_missing(rt, name);
+    let file = OpenOptions::new().write(true).create(true).open(rt, name)?;
+    Ok((file, is_new))
 }
 
 /// Opens an output, and creates it if it does not exist.
@@ -74,9 +100,15 @@ pub(crate) fn open_output_file<R: Files>(
     ensures unwritten { IfOk result IsUnwritten }
 {
     match place {
-        Place::File => of_file(OpenOptions::new().write(true).create(true).open(rt, name)?),
-        Place::Stream => Ok(unwritten(Destination::Stream(stdout), stream_id(rt, "/dev/stdout")?)),
-        Place::Nowhere => Ok(unwritten(Destination::Nowhere, None)),
+        Place::File => {
+            let (file, is_new) = open_or_make(rt, name)?;
+            of_file(file, is_new)
+        }
+        Place::Stream => {
+            let id = stream_id(rt, "/dev/stdout")?;
+            Ok(unwritten(Destination::Stream(stdout), id, false))
+        }
+        Place::Nowhere => Ok(unwritten(Destination::Nowhere, None, false)),
     }
 }
 
@@ -86,6 +118,16 @@ impl<F> OutputFile<F> {
         ensures { result ≡ self.now.id }
     {
         self.id
+    }
+
+    /// The plain file that it is, if this run made it.
+    pub(crate) fn made(&self) -> Option<FileId> {
+        if self.is_new { self.id } else { None }
+    }
+
+    /// Whether no byte was given to it.
+    pub(crate) fn is_unwritten(&self) -> bool {
+        !self.is_emptied
     }
 }
 

@@ -2,21 +2,19 @@
 
 ghost use Rattle.std.specs.Prelude.{◌≡◌, ◌∷◌, []};
 
+use crate::format::Format;
 use crate::link_type::LinkType;
 use crate::progress::Progress;
 use dp_pcap::{Offers, link_type};
 use std::io::{Error, ErrorKind, Read, Result};
-
-/// How a pcapng file begins.
-const PCAPNG: [u8; 4] = [0x0a, 0x0d, 0x0d, 0x0a];
 
 /// What was seen of a file that is read as a capture, besides its bytes.
 #[derive(Clone, Copy)]
 pub struct Seen {
     /// The error with which its last read failed.
     pub failure: Option<Error>,
-    /// Whether it begins as a pcapng file does.
-    pub is_pcapng: bool,
+    /// The format as which it begins, if a command makes captures of that.
+    pub format: Option<Format>,
     /// The link type in its header, if the first read has the whole header of a capture.
     pub link: Option<LinkType>,
 }
@@ -43,7 +41,7 @@ impl<R: Read> Watched<R> {
             is_begun: false,
             seen: Seen {
                 failure: None,
-                is_pcapng: false,
+                format: None,
                 link: None,
             },
             progress,
@@ -70,7 +68,7 @@ impl<R: Read> Watched<R> {
     {
         if !self.is_begun {
             self.is_begun = true;
-            self.seen.is_pcapng = bytes.starts_with(&PCAPNG);
+            self.seen.format = Format::of(bytes);
             self.seen.link = match link_type(bytes) {
                 Some(field) => Some(LinkType(field)),
                 None => None,

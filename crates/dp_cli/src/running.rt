@@ -19,7 +19,7 @@ use clap::ArgMatches;
 use dp_captures::{
     BUFFER, CaptureFault, CaptureNames, CaptureWords, Finding, InputOf, OutputOf, ReadFile,
     Reason as CaptureReason, Replacements, UNBUFFERED, WordProblem, names_of, note_read,
-    open_captures,
+    open_captures, remove_empty_outputs,
 };
 use dp_console::{Reply, Text};
 use dp_engine::{Known, Nothing, need};
@@ -29,9 +29,12 @@ use dp_region::{CACHE_LINE, MAX_REGION, MIN_REGION};
 use dp_runs::{
     Counting, Notes, Printing, ProgramText, Ran, Wanted, Watcher, found_of, reply_of, run_over,
 };
-use dp_sources::{Because, Fault, Lent, ONE_REGION, ReadError, Reason, Sources, Subject, one_env};
+use dp_sources::{
+    Because, Fault, Lent, ONE_REGION, ReadError, Reason, Sources, Subject, folder_with, one_env,
+};
 use dp_verdict::{failed, no_node, unloaded};
 use std::alloc::{AllocError, Global};
+use std::io::ErrorKind;
 use std::rt::Files;
 
 /// Reads which allocation calls the command line refuses.
@@ -125,8 +128,13 @@ fn captures_in<'w, R>(call: &Call<'_, 'w, R>) -> Result<Replacements<'w>, Reply>
     }
 }
 
-/// The fault of a capture with this name. The words are those of its reason.
-fn fault_of<'a>(name: &'a str, finding: Finding<'a>, words: &'a str) -> Fault<'a>
+/// The fault of a capture with this name, with the words of its reason and what helps.
+fn fault_of<'a>(
+    name: &'a str,
+    finding: Finding<'a>,
+    words: &'a str,
+    help: Option<&'a str>,
+) -> Fault<'a>
     ensures { faults.status_of result ≡ 3 }
 {
     let reason = match finding.reason {
@@ -138,22 +146,45 @@ fn fault_of<'a>(name: &'a str, finding: Finding<'a>, words: &'a str) -> Fault<'a
         Because {
             file: finding.file,
             reason,
-            help: finding.reason.cure(),
+            help,
         },
     )
 }
 
+/// Says where a capture is that was not found, if it is in the folder of the pipeline file.
+fn say_folder<R: Files>(
+    call: &Call<'_, '_, R>,
+    name: &str,
+    reason: CaptureReason,
+    help: &mut Text,
+) {
+    if let CaptureReason::System(error) = reason
+        && error.kind() == ErrorKind::NotFound
+        && let Some(file) = call.value("FILE")
+        && let Some(folder) = folder_with(call.rt, call.alloc, file, name)
+    {
+        help.say(format_args!("run dpv in {folder}"));
+    }
+}
+
 /// The reply to captures that are not opened.
-pub fn unopened(alloc: Global, fault: CaptureFault<'_>, is_json: bool) -> Reply
+pub fn unopened<R: Files>(call: &Call<'_, '_, R>, fault: CaptureFault<'_>, is_json: bool) -> Reply
     ensures { result.status ≡ status_unopened fault.entry }
 {
+    let alloc = call.alloc;
     let CaptureFault::File { name, finding } = fault else {
         return without_memory(alloc, is_json);
     };
     let mut text = Text::new(alloc);
     text.say(finding.reason);
     let words = str::from_utf8(text.bytes.as_slice()).unwrap_or("");
-    failed(alloc, fault_of(name, finding, words), is_json)
+    let mut folder = Text::new(alloc);
+    say_folder(call, name, finding.reason, &mut folder);
+    let help = match str::from_utf8(folder.bytes.as_slice()) {
+        Ok(help) if !help.is_empty() && !folder.has_failed => Some(help),
+        _ => finding.reason.cure(),
+    };
+    failed(alloc, fault_of(name, finding, words, help), is_json)
 }
 
 /// The texts of the programs of a pipeline, in the order of its nodes.
@@ -281,6 +312,7 @@ fn said_of<'p, 'a>(
 
 /// Runs a pipeline over its open captures, and says what it did.
 fn run_opened<K: Known, R: Files>(
+    rt: &R,
     alloc: Global,
     pipeline: Pipeline,
     names: &[CaptureNames],
@@ -305,6 +337,7 @@ fn run_opened<K: Known, R: Files>(
         is_single: options.is_single,
     };
     let found = found_of(names, inputs, &ran);
+    remove_empty_outputs(rt, alloc, names, outputs);
     said_of(alloc, &env, &ran, watcher.counting(), found, notes, options)
 }
 
@@ -364,9 +397,11 @@ fn run_ready<K: Known, R: Files>(
         &mut outputs,
     );
     if let Err(fault) = opened {
-        return Err(unopened(alloc, fault, is_json));
+        remove_empty_outputs(call.rt, alloc, names.as_slice(), outputs.as_slice());
+        return Err(unopened(call, fault, is_json));
     }
     Ok(run_opened::<K, R>(
+        call.rt,
         alloc,
         pipeline,
         names.as_slice(),

@@ -260,7 +260,7 @@ fn trace_pipeline<R: Files, O: Write>(
         false,
         &mut inputs,
     ) {
-        return unopened(alloc, fault, false);
+        return unopened(call, fault, false);
     }
     let ins = inputs.as_mut_slice();
     let run = trace_records::<Nothing, _, _>(alloc, pipeline, ins, pattern, which, shown, out);

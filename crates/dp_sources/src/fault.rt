@@ -161,7 +161,11 @@ impl<'a> Fault<'a> {
 }
 
 /// The file of a node that was not read, if one was not.
-fn unread_of<'a>(node: Entry, subject: Subject<'a>, sources: &'a Sources) -> Option<Unread<'a>> {
+pub(crate) fn unread_of<'a>(
+    node: Entry,
+    subject: Subject<'a>,
+    sources: &'a Sources,
+) -> Option<Unread<'a>> {
     let asked = subject.node(node)?;
     match sources.find(asked.program)?.unread() {
         Some(file) => Some(file),

@@ -5,6 +5,7 @@ ghost use Rattle.dp_sources.specs.Subjects.{entry_at};
 
 use crate::source::{ReadError, Source, Sources};
 use crate::subject::Subject;
+use dp_console::Text;
 use dp_model::Entry;
 use dp_pipe::{How, MAX_FILE};
 use std::alloc::{AllocError, Global};
@@ -23,6 +24,51 @@ pub fn entry_at(index: u8) -> Entry
         Entry::Port(index)
     } else {
         Entry::Ring(index - 8)
+    }
+}
+
+/// The folder of a file, as its name has it.
+pub fn folder_of(file: &str) -> Option<&str> {
+    match file.rsplit_once('/') {
+        Some(("", _)) => Some("/"),
+        Some((folder, _)) => Some(folder),
+        None => None,
+    }
+}
+
+/// The folder of a pipeline file, if that has a file of this name.
+pub fn folder_with<'a, R: Files>(
+    rt: &R,
+    alloc: Global,
+    file: &'a str,
+    name: &str,
+) -> Option<&'a str> {
+    let folder = folder_of(file)?;
+    if name.starts_with('/') {
+        return None;
+    }
+    let mut path_text = Text::new(alloc);
+    path_text.say(format_args!("{folder}/{name}"));
+    let path = str::from_utf8(path_text.bytes.as_slice()).unwrap_or("");
+    match fs::metadata(rt, path) {
+        Ok(metadata) if !metadata.is_dir() && !path_text.has_failed => Some(folder),
+        _ => None,
+    }
+}
+
+/// The error of a file of a subject, which may be in the folder of the pipeline file.
+fn error_in<R: Files>(
+    rt: &R,
+    alloc: Global,
+    subject: Subject<'_>,
+    name: &str,
+    error: ReadError,
+) -> ReadError {
+    match (subject, error) {
+        (Subject::Pipeline { file, .. }, ReadError::System(error))
+            if error.kind() == ErrorKind::NotFound
+                && folder_with(rt, alloc, file, name).is_some() => ReadError::IsBeside(error),
+        _ => error,
     }
 }
 
@@ -58,12 +104,16 @@ pub fn read<R: Files>(rt: &R, alloc: Global, name: &str) -> Result<Source, Alloc
 fn add_file<R: Files>(
     rt: &R,
     alloc: Global,
+    subject: Subject<'_>,
     name: Option<&str>,
     sources: &mut Sources,
 ) -> Result<(), AllocError> {
     match name {
         Some(name) if sources.find(name).is_none() => {
-            let source = read(rt, alloc, name)?;
+            let mut source = read(rt, alloc, name)?;
+            if let Some(error) = source.error {
+                source.error = Some(error_in(rt, alloc, subject, name, error));
+            }
             sources.files.push(source)?;
             Ok(())
         }
@@ -88,9 +138,9 @@ pub fn read_sources<R: Files>(
         let node = entry_at(index);
         if which.is_none() || which == Some(node) {
             if let Some(asked) = subject.node(node) {
-                add_file(rt, alloc, Some(asked.program), &mut sources)?;
+                add_file(rt, alloc, subject, Some(asked.program), &mut sources)?;
                 if how == How::Given {
-                    add_file(rt, alloc, asked.cert, &mut sources)?;
+                    add_file(rt, alloc, subject, asked.cert, &mut sources)?;
                 }
             }
         }

@@ -160,11 +160,11 @@ impl fmt::Display for KeyFault<'_> {
 /// The fault of a key that no part of this kind has, if it is one.
 fn unknown_fault<'a>(part: Part, table: &Table, key: &'a str) -> Option<KeyFault<'a>> {
     let mut nearest = Nearest::to(key);
-    for (of, name, _, _) in &KEYS {
+    for (of, name, wanted, _) in &KEYS {
         if *of == part && *name == key {
             return None;
         }
-        if *of == part && table.get(*name).is_none() {
+        if *of == part && (table.get(*name).is_none() || matches!(wanted, Wanted::Tables)) {
             nearest.offer(name);
         }
     }

@@ -15,11 +15,12 @@ mod nearest;
 mod pipeline_help;
 mod program_help;
 mod remedy;
+mod routes;
 mod source;
 mod subject;
 
 pub use fault::{Because, Fault, Reason, fault_of};
-pub use host::{MAX_NODES, entry_at, read, read_sources};
+pub use host::{MAX_NODES, entry_at, folder_with, read, read_sources};
 pub use pipeline_help::say_pipeline_help;
 pub use remedy::{program_of, say_remedy};
 pub use source::{Lent, ReadError, Source, Sources, Unread};

@@ -1,10 +1,11 @@
 //! Says which line of a pipeline file is at fault, and what helps.
 
 use crate::keys::key_fault;
+use crate::routes::RouteHelp;
 use dp_console::Text;
 use dp_lang::{SourceLine, source_line};
 use dp_model::EnvError;
-use dp_pipe::{Part, PipeError};
+use dp_pipe::{Part, PipeError, RouteError};
 use std::alloc::Global;
 use std::fmt::Display;
 use toml::{Table, Value};
@@ -187,27 +188,108 @@ impl<'a> PipelineFile<'a> {
         }
     }
 
-    /// The route of a table with this index, and none if it is no text.
-    fn route(self, index: usize, route: usize) -> Option<&'a str> {
-        let routes = self.table(Part::Table, index)?.get("routes")?.as_array()?;
-        routes.get(route)?.as_str()
+    /// The line of a route of a table, or else that of all its routes.
+    fn line_of_route(self, table: &Table, index: usize, route: usize) -> Option<SourceLine<'a>> {
+        let first = line_of_key(self.text, Part::Table, index, "routes")?;
+        match line_of_text(self.text, first.number, routes_of(table), route) {
+            Some(line) => Some(line),
+            None => Some(first),
+        }
     }
 
     /// Says which route of a table is refused.
-    fn say_route(self, err: &mut Text, index: usize, route: usize) {
-        let help =
-            "a route is A.B.C.D/DEPTH HOP, as 10.1.0.0/16 3: DEPTH 1 to 32, HOP at most 16777215";
-        match self.route(index, route) {
-            Some(words) => self.say_at(
-                err,
-                Part::Table,
-                index,
-                "routes",
-                format_args!("route {route} is '{words}'; {help}"),
-            ),
-            None => self.say_at(err, Part::Table, index, "routes", help),
+    fn say_route(self, err: &mut Text, index: usize, route: usize, error: RouteError) {
+        let Some(table) = self.table(Part::Table, index) else {
+            return;
+        };
+        let help = RouteHelp {
+            table,
+            route,
+            words: text_at(routes_of(table), route),
+            error,
+        };
+        say_place(
+            err,
+            self.name,
+            self.line_of_route(table, index, route),
+            help,
+        );
+    }
+}
+
+/// The routes of a table.
+fn routes_of(table: &Table) -> &[Value] {
+    match table.get("routes") {
+        Some(Value::Array(routes)) => routes.as_slice(),
+        _ => &[],
+    }
+}
+
+/// A text of an array, and nothing for another value.
+fn text_at(values: &[Value], index: usize) -> &str {
+    match values.get(index) {
+        Some(Value::String(text)) => text.as_str(),
+        _ => "",
+    }
+}
+
+/// How often a line has a text in quotes.
+fn count_quoted(line: &str, text: &str) -> usize {
+    let double = line.split('"').filter(|piece| *piece == text).count();
+    let single = line.split('\'').filter(|piece| *piece == text).count();
+    double.saturating_add(single)
+}
+
+/// How many texts of an array before this one equal it.
+fn count_before(values: &[Value], index: usize) -> usize {
+    let mut count = 0usize;
+    for k in 0..index {
+        if text_at(values, k) == text_at(values, index) {
+            count = count.saturating_add(1);
         }
     }
+    count
+}
+
+/// The line on which a text of an array stands in quotes, if the array begins on this line.
+fn line_of_text<'a>(
+    text: &'a str,
+    first: usize,
+    values: &[Value],
+    index: usize,
+) -> Option<SourceLine<'a>> {
+    let mut before = count_before(values, index);
+    for (k, line) in text.lines().enumerate() {
+        let number = k.saturating_add(1);
+        let count = if number < first {
+            0
+        } else {
+            count_quoted(line, text_at(values, index))
+        };
+        if before < count {
+            let text = line.trim();
+            return Some(SourceLine { number, text });
+        }
+        before = before.saturating_sub(count);
+    }
+    None
+}
+
+/// Says what helps if a program is given in place of a pipeline file. Returns whether it is one, by its name.
+fn say_program(err: &mut Text, file: &str) -> bool {
+    if let Some(name) = file.strip_suffix(".pkt") {
+        let help = format_args!(
+            "it is a program of the language pkt: dpv filter {file} IN OUT runs it, and dpv build {file} > {name}.dpv compiles it for a pipeline"
+        );
+        say_place(err, file, None, help);
+        return true;
+    }
+    if file.ends_with(".dpv") {
+        let help = format_args!("it is a program: dpv filter {file} IN OUT runs it");
+        say_place(err, file, None, help);
+        return true;
+    }
+    false
 }
 
 /// The line with the byte at this offset.
@@ -221,6 +303,9 @@ fn line_of_offset(text: &str, offset: usize) -> Option<SourceLine<'_>> {
 /// text alone, or memory ran out.
 pub fn say_pipeline_help(alloc: Global, file: &str, text: &[u8], error: PipeError, err: &mut Text) {
     if let PipeError::Memory = error {
+        return;
+    }
+    if say_program(err, file) {
         return;
     }
     let Ok(text) = std::str::from_utf8(text) else {
@@ -247,7 +332,11 @@ pub fn say_pipeline_help(alloc: Global, file: &str, text: &[u8], error: PipeErro
             let _is_said = file.say_key(err, part, index);
         }
         PipeError::BadEnv(error) => file.say_environment(err, error),
-        PipeError::BadTable { table, route, .. } => file.say_route(err, table, route),
+        PipeError::BadTable {
+            table,
+            route,
+            cause,
+        } => file.say_route(err, table, route, cause),
         _ => {}
     }
 }

@@ -5,8 +5,10 @@ ghost use Rattle.dp_pipe.specs.Nodes.{HasNoProgram, IsProgramOf};
 ghost use Rattle.dp_sources.specs.Sources.{files_of};
 ghost use Rattle.dp_sources.specs.Subjects.{asked_node};
 
-use crate::program_help::{say_certificate_help, say_program_help};
-use crate::source::{Lent, Sources};
+use crate::fault::unread_of;
+use crate::host::folder_of;
+use crate::program_help::{say_certificate_place, say_program_help};
+use crate::source::{Lent, ReadError, Sources, Unread};
 use crate::subject::{Asked, Subject};
 use dp_console::Text;
 use dp_infer::{InferError, infer};
@@ -47,9 +49,45 @@ pub fn program_of(alloc: Global, sources: &Sources, asked: Asked<'_>) -> Result<
     }
 }
 
-/// Says what is wrong with a node's certificate.
+/// Whether a node's program is accepted with an inferred certificate, if there is memory to tell.
+fn is_inferred(alloc: Global, sources: &Sources, env: &Env, asked: Asked<'_>) -> Option<bool> {
+    let program = program_of(alloc, sources, asked).ok()?;
+    match infer(alloc, &program, env, asked.node) {
+        Ok(_) => Some(true),
+        Err(InferError::NoCert { .. }) => Some(false),
+        Err(InferError::Memory) => None,
+    }
+}
+
+/// Says how to write another certificate for a program, or who says why none is inferred.
+fn say_new_certificate(
+    subject: Subject<'_>,
+    asked: Asked<'_>,
+    cert: &str,
+    is_inferred: bool,
+    err: &mut Text,
+) {
+    let (program, which) = (asked.program, Which(asked.node));
+    match (subject, is_inferred) {
+        (Subject::Pipeline { file, .. }, true) => err.say(format_args!(
+            "  help: leave out the key cert, or dpv infer {file} {which} > {cert}\n"
+        )),
+        (Subject::Pipeline { file, .. }, false) => err.say(format_args!(
+            "  help: none is inferred: leave out the key cert, and dpv explain {file} {which} explains why\n"
+        )),
+        (Subject::Single { .. }, true) => {
+            err.say(format_args!("  help: dpv infer-one {program} > {cert}\n"));
+        }
+        (Subject::Single { .. }, false) => err.say(format_args!(
+            "  help: none is inferred: dpv explain-one {program} explains why\n"
+        )),
+    }
+}
+
+/// Says what is wrong with a node's certificate, and what helps.
 fn say_certificate(
     alloc: Global,
+    subject: Subject<'_>,
     sources: &Sources,
     asked: Asked<'_>,
     fault: dp_cert::Fault,
@@ -59,20 +97,45 @@ fn say_certificate(
     let Some(text) = sources.get(name) else {
         return
     };
-    if let Ok(program) = program_of(alloc, sources, asked) {
-        let count = program.instrs().len();
-        say_certificate_help(name, text, fault, asked.program, count, err);
+    let Ok(program) = program_of(alloc, sources, asked) else {
+        return
+    };
+    let count = program.instrs().len();
+    say_certificate_place(name, text, fault, asked.program, count, err);
+    if let Some(is_inferred) = is_inferred(alloc, sources, subject.env(), asked) {
+        say_new_certificate(subject, asked, name, is_inferred, err);
     }
 }
 
-/// Whether a node's program is accepted with an inferred certificate, if there is memory to tell.
-fn is_inferred(alloc: Global, sources: &Sources, env: &Env, asked: Asked<'_>) -> Option<bool> {
-    let program = program_of(alloc, sources, asked).ok()?;
-    match infer(alloc, &program, env, asked.node) {
-        Ok(_) => Some(true),
-        Err(InferError::NoCert { .. }) => Some(false),
-        Err(InferError::Memory) => None,
+/// Says where a file is that was not found, if it is in the folder of the pipeline file.
+fn say_folder(subject: Subject<'_>, sources: &Sources, node: Entry, err: &mut Text) {
+    let Some(
+        Unread {
+            error: ReadError::IsBeside(_),
+            ..
+        },
+    ) = unread_of(node, subject, sources)
+    else {
+        return;
+    };
+    if let Subject::Pipeline { file, .. } = subject
+        && let Some(folder) = folder_of(file)
+    {
+        err.say(format_args!("  help: run dpv in {folder}\n"));
     }
+}
+
+/// Says who explains why a node of a pipeline has no certificate.
+fn say_explain(subject: Subject<'_>, asked: Asked<'_>, err: &mut Text) {
+    let which = Which(asked.node);
+    let Subject::Pipeline { file, .. } = subject else {
+        return
+    };
+    let begins = match asked.cert {
+        Some(_) => "leave out the key cert, and ",
+        None => "",
+    };
+    err.say(format_args!("  help: {begins}dpv explain {file} {which} explains why\n"));
 }
 
 /// Says that the given certificate of a refused program does not fit it, and what helps.
@@ -101,8 +164,8 @@ fn say_unfit(
     }
 }
 
-/// Says what helps, after it was said why a node is not loaded or has no verdict: the line of its program or certificate that is at fault and a cure; or
-/// that the given certificate does not fit.
+/// Says what helps, after it was said why a node is not loaded or has no verdict: the line of its program or certificate that is at fault and a cure;
+/// that the given certificate does not fit; who explains why there is none; or in which folder a missing file is.
 pub fn say_remedy(
     alloc: Global,
     subject: Subject<'_>,
@@ -110,8 +173,11 @@ pub fn say_remedy(
     error: PipeError,
     err: &mut Text,
 ) {
-    let (PipeError::Asm(node, _) | PipeError::BadCert(node, _) | PipeError::Refused { node, .. }) =
-        error
+    let (PipeError::File(node)
+    | PipeError::Asm(node, _)
+    | PipeError::BadCert(node, _)
+    | PipeError::Refused { node, .. }
+    | PipeError::NotInferred { node, .. }) = error
     else {
         return;
     };
@@ -119,12 +185,16 @@ pub fn say_remedy(
         return
     };
     match (error, asked.cert) {
+        (PipeError::File(_), _) => say_folder(subject, sources, node, err),
+        (PipeError::NotInferred { .. }, _) => say_explain(subject, asked, err),
         (PipeError::Asm(_, fault), _) => {
             if let Some(text) = sources.get(asked.program) {
                 say_program_help(asked.program, text, fault, err);
             }
         }
-        (PipeError::BadCert(_, fault), _) => say_certificate(alloc, sources, asked, fault, err),
+        (PipeError::BadCert(_, fault), _) => {
+            say_certificate(alloc, subject, sources, asked, fault, err);
+        }
         (_, Some(cert)) => {
             if let Some(is_inferred) = is_inferred(alloc, sources, subject.env(), asked) {
                 say_unfit(subject, asked, cert, is_inferred, err);

@@ -13,6 +13,8 @@ use std::{fmt, io};
 pub enum ReadError {
     /// The system's error.
     System(io::Error),
+    /// The system's error for a file that does not exist. One of its name is in the folder of the pipeline file.
+    IsBeside(io::Error),
     /// It has more than 1,048,576 bytes.
     TooLong,
 }
@@ -20,7 +22,7 @@ pub enum ReadError {
 impl fmt::Display for ReadError {
     fn fmt<W: fmt::Write>(&self, f: &mut fmt::Formatter<W>) -> fmt::Result {
         match self {
-            ReadError::System(error) => write!(f, "{error}"),
+            ReadError::System(error) | ReadError::IsBeside(error) => write!(f, "{error}"),
             ReadError::TooLong => write!(f, "it is longer than 1048576 bytes"),
         }
     }

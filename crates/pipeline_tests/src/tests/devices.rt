@@ -1,6 +1,6 @@
 //! What is seen of a reader and kept of a writer, and a device that fails.
 
-use dp_captures::{Guarded, LinkType, Progress, Watched};
+use dp_captures::{Format, Guarded, LinkType, Progress, Watched};
 use std::io::{Error, Read, Result, Stderr, Write};
 
 /// The errors of a disk that is full and of a device that cannot be read.
@@ -48,14 +48,20 @@ const COOKED: &[u8] = b"\xd4\xc3\xb2\xa1\x02\0\x04\0\0\0\0\0\0\0\0\0\0\0\x04\0\x
 
 const COOKED_BIG: &[u8] = b"\xa1\xb2\xc3\xd4\0\x02\0\x04\0\0\0\0\0\0\0\0\0\x04\0\0\0\0\0\x71";
 
-/// Front bytes of captures, with whether they begin a pcapng file, and the link type.
-static FRONTS: &[(&[u8], bool, Option<LinkType>)] = &[
-    (b"\x0a\x0d\x0d\x0a\x1c\0", true, None),
-    (b"\x0a\x0d\x0d", false, None),
-    (b"\xd4\xc3\xb2\xa1\x0a\x0d", false, None),
-    (b"", false, None),
-    (COOKED, false, Some(LinkType(113))),
-    (COOKED_BIG, false, Some(LinkType(113))),
+/// Front bytes of captures, with the other format that they begin, and the link type.
+static FRONTS: &[(&[u8], Option<Format>, Option<LinkType>)] = &[
+    (b"\x0a\x0d\x0d\x0a\x1c\0", Some(Format::Pcapng), None),
+    (b"\x0a\x0d\x0d", None, None),
+    (b"\x1f\x8b\x08", Some(Format::Gzip), None),
+    (b"BZh9", Some(Format::Bzip2), None),
+    (b"\xfd7zXZ\0\0", Some(Format::Xz), None),
+    (b"\xfd7zXZ", None, None),
+    (b"\x28\xb5\x2f\xfd", Some(Format::Zstd), None),
+    (b"\x04\x22\x4d\x18", Some(Format::Lz4), None),
+    (b"\xd4\xc3\xb2\xa1\x0a\x0d", None, None),
+    (b"", None, None),
+    (COOKED, None, Some(LinkType(113))),
+    (COOKED_BIG, None, Some(LinkType(113))),
 ];
 
 /// What is written to a device that takes two bytes: how many it takes, if it does, and the error that is kept.
@@ -78,17 +84,22 @@ fn read_twice<R: Read + Drop>(reader: &mut R) {
 }
 
 // Whether that is seen of a capture with these bytes in front.
-fn is_seen(to: Stderr, front: &'static [u8], is_pcapng: bool, link: Option<LinkType>) -> bool {
+fn is_seen(
+    to: Stderr,
+    front: &'static [u8],
+    format: Option<Format>,
+    link: Option<LinkType>,
+) -> bool {
     let mut reader = Watched::new(front, Progress::new(to, 0, false), "in.pcap");
     read_twice(&mut reader);
     let seen = reader.seen();
-    seen.is_pcapng == is_pcapng && seen.link == link && seen.failure.is_none()
+    seen.format == format && seen.link == link && seen.failure.is_none()
 }
 
 // The first front, from 0, of which something else is seen.
 fn first_seen(to: Stderr) -> Option<usize> {
-    for (k, (front, is_pcapng, link)) in FRONTS.iter().enumerate() {
-        if !is_seen(to, front, *is_pcapng, *link) {
+    for (k, (front, format, link)) in FRONTS.iter().enumerate() {
+        if !is_seen(to, front, *format, *link) {
             return Some(k);
         }
     }
