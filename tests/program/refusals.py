@@ -4,19 +4,78 @@
 Usage: tests/program/refusals.py [PROGRAM]   (the built program; by default the one that ./dpv builds and runs)
 examples/refused has for each rule a program that breaks it, jN.dpv, and dpv's explanation, jN.txt: of the pipeline jN.toml if there is one,
 else of the program by itself, with the certificate jN.cert if there is one. Its cure, cured/jN.dpv, has to be accepted; without a cure the
-program itself has to be, with the inferred certificate. docs/users/refusals.md has to contain these programs, explanations and cures. Prints a
-line for each rule that failed, and a count; exits with 1 if one failed.
+program itself has to be, with the inferred certificate. docs/users/refusals.md has to contain these programs, explanations and cures. Then
+programs of the language pkt in pipelines that do not fit them: the help is about their source or the pipeline, and with it they are accepted.
+Prints a line for each rule and program that failed, and a count; exits with 1 if one failed.
 """
 import pathlib
 import subprocess
 import sys
+from typing import NamedTuple
 
 import paths  # noqa: F401
 
-from command import TOP, asked
+from command import TOP, asked, new_folder
 
 FOLDER = TOP / "examples" / "refused"
 RULES = range(1, 12)
+
+
+FORWARD = "send port\n"
+MARK = (TOP / "examples/tasks/mark.pkt").read_text()
+GIVEN = "let the ring declare what given states in its source (share = 2 and head = 128 where it states nothing), or state what the ring declares"
+
+
+class Unfit(NamedTuple):
+    """A program of a port or a ring, the keys of the pipeline that are not the usual ones, the help, and the program and the keys that help."""
+
+    node: str
+    source: str
+    keys: dict[str, int]
+    help: str
+    cured: str
+    cured_keys: dict[str, int]
+
+
+USUAL = {"room": 2176, "share": 2, "head": 128, "first": 0, "segs": 1}
+LENGTH, WRITES = "given length 34\nif eth.type == 5 { drop }\nsend 0\n", "eth.type = 5\nsend 0\n"
+MAKES, SENDS = "new h from 1\npush eth { type = 5 } on h\nfree h\nsend 0\n", "need eth.type < 3\nsend eth.type\n"
+UNFIT = [
+    Unfit("port0", MARK, {"segs": 5}, "write segments 5 in its source, as the port takes packets of 5 segments, and build it again", f"segments 5\n{MARK}", {"segs": 5}),
+    Unfit("port0", f"ports 3\n{SENDS}", {}, "write ports 1 in its source, the number of ports, and build it again", f"ports 1\n{SENDS}", {}),
+    Unfit("port0", MAKES, {"room": 0}, "let new take its packet from a pool whose room is at least 128", MAKES, {"room": 142}),
+    Unfit("ring0", LENGTH, {}, GIVEN, LENGTH, {"first": 34}),
+    Unfit("ring0", WRITES, {"share": 0}, GIVEN, WRITES, {}),
+]
+
+
+def pipeline_with(keys: dict[str, int], node: str) -> str:
+    """A pipeline with a port, a ring and a second pool; this node has the program it.dpv."""
+    own, of_port, of_ring = {**USUAL, **keys}, "it.dpv" if node == "port0" else "send.dpv", "it.dpv" if node == "ring0" else "send.dpv"
+    pools = "".join(f"[[pool]]\ncount = 8\ncache = 0\nroom = {room}\n" for room in (2176, own["room"]))
+    fact = f"share = {own['share']}\nhead = {own['head']}\ntail = 0\nfirst = {own['first']}\nlast = 0\nsegs = 1\n"
+    ring = f'[[ring]]\ncount = 4\n{fact}node = "{of_ring}"\n'
+    return f'region = 1048576\n{pools}{ring}[[port]]\npool = 0\nsegs = {own["segs"]}\nqueue = 4\nnode = "{of_port}"\nin = "in.pcap"\nout = "out.pcap"\n'
+
+
+def explained(program: str, folder: pathlib.Path, node: str, source: str, keys: dict[str, int]) -> tuple[int, str]:
+    """The status and the explanation of a program of the language pkt at a node."""
+    (folder / "it.toml").write_text(pipeline_with(keys, node))
+    for name, text in (("it", source), ("send", FORWARD)):
+        (folder / f"{name}.pkt").write_text(text)
+        built = subprocess.run([str(TOP / "dpv"), "build", f"{name}.pkt"], cwd=folder, capture_output=True, text=True, timeout=60)
+        (folder / f"{name}.dpv").write_text(built.stdout)
+    return said(program, ["explain", "it.toml", node], folder)
+
+
+def is_helped(program: str, case: Unfit, folder: pathlib.Path) -> bool:
+    """Whether a program is refused with this help, and accepted with what helps."""
+    status, text = explained(program, folder, case.node, case.source, case.keys)
+    cured = explained(program, folder, case.node, case.cured, case.cured_keys)
+    passed = status == 1 and text.endswith(f"\n  help:   {case.help}\n") and cured == (0, f"{case.node[:4]} 0 accepted\n")
+    if not passed:
+        print(f"{case.source!r} at {case.node} with {case.keys}: status {status}, said {text!r}, then {cured}")
+    return passed
 
 
 def words_for(rule: int, folder: pathlib.Path, certs: bool) -> list[str]:
@@ -67,7 +126,9 @@ def main() -> int:
     program = asked()
     docs = (TOP / "docs" / "users" / "refusals.md").read_text()
     passed = [is_explained(program, rule) and is_cured(program, rule) and is_in_docs(rule, docs) for rule in RULES]
-    print(f"refusals: {sum(passed)} rules are as they should be, {len(passed) - sum(passed)} are not")
+    with new_folder() as folder:
+        passed += [is_helped(program, case, folder) for case in UNFIT]
+    print(f"refusals: {sum(passed)} rules and programs are as they should be, {len(passed) - sum(passed)} are not")
     return 0 if all(passed) else 1
 
 

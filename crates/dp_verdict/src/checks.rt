@@ -5,11 +5,12 @@ ghost use Rattle.dp_pipe.specs.Loads.{IsLoadedFrom, IsUnloaded};
 ghost use Rattle.dp_sources.specs.Sources.{files_of};
 ghost use Rattle.dp_verdict.specs.Checks.{IsChecked, IsRefused, IsReportOf, SaysChecked, SaysRefused, accepted, refusal_of, refused_at};
 
-use crate::finding::{Finding, RefusedAt, Verdict};
+use crate::finding::{Finding, ReasonLines, RefusedAt, Verdict};
+use crate::judging::finding_of;
 use crate::report::{Report, failed, reply_of};
-use dp_console::{Reply, USAGE};
+use dp_console::{MEMORY, Reply, Text};
 use dp_model::Entry;
-use dp_pipe::{How, NodeName, PipeError, Pipeline, load};
+use dp_pipe::{How, PipeError, Pipeline, load};
 use dp_sources::{Fault, Lent, Sources, Subject, fault_of, say_pipeline_help, say_remedy};
 use std::alloc::{AllocError, Global};
 
@@ -99,6 +100,27 @@ pub fn check<'a>(
     }
 }
 
+/// Says why a program by itself has no certificate.
+fn say_reason(
+    alloc: Global,
+    subject: Subject<'_>,
+    sources: &Sources,
+    error: PipeError,
+    err: &mut Text,
+) {
+    let (Subject::Single { env, .. }, PipeError::NotInferred { node, .. }) = (subject, error) else {
+        return;
+    };
+    let Some(asked) = subject.node(node) else {
+        return;
+    };
+    if let Ok(finding) = finding_of(alloc, sources, env, asked)
+        && let Some(why) = &finding.why
+    {
+        err.say(ReasonLines(why));
+    }
+}
+
 /// What is said of a pipeline that is not loaded, or of a program without a certificate; then what helps.
 pub fn unloaded(
     alloc: Global,
@@ -110,7 +132,10 @@ pub fn unloaded(
     ensures { SaysRefused error is_json result }
 {
     let mut reply = reply_of(alloc, &refused(alloc, error, subject, sources), is_json);
-    say_remedy(alloc, subject, sources, error, &mut reply.err);
+    if reply.status != MEMORY {
+        say_remedy(alloc, subject, sources, error, &mut reply.err);
+        say_reason(alloc, subject, sources, error, &mut reply.err);
+    }
     reply
 }
 
@@ -130,7 +155,9 @@ pub fn check_text(
 {
     let loaded = load(alloc, text, &mut Lent(sources), How::Given);
     let mut reply = reply_of(alloc, &check(alloc, &loaded, subject, sources), is_json);
-    if let Err(error) = loaded {
+    if let Err(error) = loaded
+        && reply.status != MEMORY
+    {
         say_remedy(alloc, subject, sources, error, &mut reply.err);
     }
     (reply, loaded)
@@ -140,18 +167,5 @@ pub fn check_text(
 pub fn misread(alloc: Global, file: &str, text: &[u8], error: PipeError, is_json: bool) -> Reply {
     let mut reply = failed(alloc, Fault::of_pipeline(error), is_json);
     say_pipeline_help(alloc, file, text, error, &mut reply.err);
-    reply
-}
-
-/// What is said if there is no node with this entry.
-pub fn no_node(alloc: Global, node: Entry) -> Reply
-    ensures { result.status ≡ USAGE }
-{
-    let mut reply = Reply::new(alloc);
-    reply.status = USAGE;
-    let name = NodeName(node);
-    reply
-        .err
-        .say(format_args!("error: the pipeline has no {name}\n"));
     reply
 }

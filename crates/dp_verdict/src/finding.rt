@@ -8,7 +8,7 @@ use dp_console::Item;
 use dp_lang::{Listed, SourceLine};
 use dp_model::Entry;
 use dp_pipe::NodeName;
-use dp_words::{HintText, KnownText, RuleText, WantedText};
+use dp_words::{BuiltFor, HintText, KnownText, RuleText, WantedText};
 use serde::{Described, Serialize, Serializer};
 use std::fmt;
 
@@ -22,6 +22,8 @@ pub struct Why<'a> {
     pub reason: Reason,
     /// Whether the certificate was inferred.
     pub inferred: bool,
+    /// The node for which the program was built, if it is one of the language pkt.
+    pub built_for: Option<BuiltFor>,
 }
 
 /// Where a program is refused, and by which rule.
@@ -103,7 +105,18 @@ impl fmt::Display for Piece<'_> {
             Part::States => write!(f, "{}", RuleText(reason.rule())),
             Part::Known => write!(f, "{}", KnownText(reason)),
             Part::Wanted => write!(f, "{}", WantedText { reason, source }),
-            Part::Help => write!(f, "{}", HintText { reason, inferred }),
+            Part::Help => {
+                let built_for = why.built_for;
+                write!(
+                    f,
+                    "{}",
+                    HintText {
+                        reason,
+                        inferred,
+                        built_for,
+                    }
+                )
+            }
         }
     }
 }
@@ -118,6 +131,33 @@ fn lines_of(verdict: Verdict) -> [(&'static str, Part); 6] {
         ("  wanted: ", Part::Wanted),
         ("  help:   ", Part::Help),
     ]
+}
+
+/// The lines after a verdict that a program has no certificate.
+const REASON: [(&str, Part); 5] = [
+    ("  at: ", Part::Place),
+    ("  ", Part::States),
+    ("  known:  ", Part::Known),
+    ("  wanted: ", Part::Wanted),
+    ("  help:   ", Part::Help),
+];
+
+/// Why a program has no certificate, as lines after the verdict.
+#[derive(Clone, Copy)]
+pub(crate) struct ReasonLines<'a>(pub &'a Why<'a>);
+
+impl fmt::Display for ReasonLines<'_> {
+    fn fmt<W: fmt::Write>(&self, f: &mut fmt::Formatter<W>) -> fmt::Result {
+        for (begins, part) in REASON {
+            let piece = Piece {
+                why: self.0,
+                begins,
+                part,
+            };
+            write!(f, "{piece}\n")?;
+        }
+        Ok(())
+    }
 }
 
 /// Writes an explanation.

@@ -8,8 +8,8 @@ ghost use Rattle.dp_sources.specs.Sources.{files_of};
 ghost use Rattle.dp_sources.specs.Subjects.{asked_node, env_of};
 ghost use Rattle.dp_verdict.specs.Inferring.{IsInferred, SaysCert, SaysInferred, by_itself, node_at};
 
-use crate::checks::{no_node, unloaded};
-use crate::report::failed;
+use crate::checks::unloaded;
+use crate::report::{failed, no_node};
 use dp_cert::{Cert, encode};
 use dp_check::Checked;
 use dp_console::{DONE, Reply, Text};

@@ -6,12 +6,11 @@ ghost use Rattle.dp_sources.specs.Subjects.{asked_node};
 ghost use Rattle.dp_verdict.specs.Judging.{AreFound, Explains, HasNoRows, IsCertFor, IsFinding, IsNext, IsUnjudged, SaysExplained, SaysFound, refused_for};
 ghost use Rattle.dp_verdict.specs.Reports.{findings_of};
 
-use crate::checks::no_node;
 use crate::finding::{Finding, RefusedAt, Verdict, Why};
-use crate::report::{Report, reply_of};
+use crate::report::{Report, no_node, reply_of};
 use dp_cert::Cert;
 use dp_check::{Diagnosis, Reason, diagnose};
-use dp_console::Reply;
+use dp_console::{MEMORY, Reply};
 use dp_infer::attempt;
 use dp_lang::{Program, SourceLine, listing_of};
 use dp_model::{Entry, Env};
@@ -19,6 +18,7 @@ use dp_pipe::{PipeError, cert_of};
 use dp_sources::{
     Asked, Lent, MAX_NODES, Sources, Subject, entry_at, fault_of, program_of, say_remedy,
 };
+use dp_words::BuiltFor;
 use std::alloc::{AllocError, Global};
 
 /// The certificate by which a program is judged.
@@ -111,8 +111,27 @@ pub fn judge<'a>(
     })
 }
 
+/// How the text of a program begins that `dpv build` compiled.
+const BUILT: &[u8] = b"# Built from ";
+
+/// The node for which a program was built, if it is one of the language pkt.
+fn built_for(env: &Env, node: Entry, text: &[u8]) -> Option<BuiltFor> {
+    match node {
+        _ if !text.starts_with(BUILT) => None,
+        Entry::Port(port) => {
+            let port = env.ports().get(usize::from(port))?;
+            Some(BuiltFor::Port(port.segs))
+        }
+        Entry::Ring(_) => Some(BuiltFor::Ring),
+    }
+}
+
 /// What a program is refused for, with the line of its text; nothing if it is accepted.
-fn why_of<'a>(alloc: Global, judged: &Judged<'a>) -> Result<Option<Why<'a>>, AllocError> {
+fn why_of<'a>(
+    alloc: Global,
+    env: &Env,
+    judged: &Judged<'a>,
+) -> Result<Option<Why<'a>>, AllocError> {
     let (Some(at), Some(reason)) = (judged.verdict.refused, judged.reason) else {
         return Ok(None);
     };
@@ -130,11 +149,12 @@ fn why_of<'a>(alloc: Global, judged: &Judged<'a>) -> Result<Option<Why<'a>>, All
         listing,
         reason,
         inferred: !at.given,
+        built_for: built_for(env, judged.verdict.node, judged.text),
     }))
 }
 
 /// The verdict on a node.
-fn finding_of<'a>(
+pub(crate) fn finding_of<'a>(
     alloc: Global,
     sources: &'a Sources,
     env: &Env,
@@ -144,7 +164,7 @@ fn finding_of<'a>(
     ensures fails { IfErr result (IsUnjudged (Some (files_of sources.now)) (asked_node asked.entry)) }
 {
     let judged = judge(alloc, sources, env, asked)?;
-    let why = why_of(alloc, &judged)?;
+    let why = why_of(alloc, env, &judged)?;
     Ok(Finding {
         verdict: judged.verdict,
         why,
@@ -238,7 +258,9 @@ fn said_findings(
 {
     let (report, error) = explained(alloc, subject, sources, which);
     let mut reply = reply_of(alloc, &report, is_json);
-    if let Some(error) = error {
+    if let Some(error) = error
+        && reply.status != MEMORY
+    {
         say_remedy(alloc, subject, sources, error, &mut reply.err);
     }
     reply

@@ -11,8 +11,8 @@ mod inferring;
 mod judging;
 mod report;
 
-pub use checks::{check, check_text, misread, no_node, unloaded};
+pub use checks::{check, check_text, misread, unloaded};
 pub use finding::{Finding, RefusedAt, Verdict, Why};
 pub use inferring::{infer, infer_one};
 pub use judging::{Judged, explain, judge};
-pub use report::{Report, failed, reply_of};
+pub use report::{Report, failed, no_node, reply_of};

@@ -7,7 +7,9 @@ ghost use Rattle.dp_verdict.specs.Reports.{findings_of, is_refused, status_of, t
 ghost use Rattle.dp_sources.specs.Faults as faults;
 
 use crate::finding::Finding;
-use dp_console::{DONE, REFUSED, Reply, Text, document_of};
+use dp_console::{DONE, REFUSED, Reply, Text, USAGE, document_of};
+use dp_model::Entry;
+use dp_pipe::NodeName;
 use dp_sources::Fault;
 use serde::{Described, Serialize, Serializer};
 use std::alloc::Global;
@@ -141,4 +143,17 @@ pub fn failed(alloc: Global, fault: Fault<'_>, is_json: bool) -> Reply
     ensures { result.status ≡ faults.status_of fault.entry }
 {
     reply_of(alloc, &Report::of_fault(fault), is_json)
+}
+
+/// What is said if there is no node with this entry.
+pub fn no_node(alloc: Global, node: Entry) -> Reply
+    ensures { result.status ≡ USAGE }
+{
+    let mut reply = Reply::new(alloc);
+    reply.status = USAGE;
+    let name = NodeName(node);
+    reply
+        .err
+        .say(format_args!("error: the pipeline has no {name}\n"));
+    reply
 }

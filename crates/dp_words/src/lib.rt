@@ -11,4 +11,4 @@ mod facts;
 mod refusals;
 
 pub use facts::{FactText, Part, parts_of};
-pub use refusals::{HintText, KnownText, RuleText, WantedText};
+pub use refusals::{BuiltFor, HintText, KnownText, RuleText, WantedText};

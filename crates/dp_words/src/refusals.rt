@@ -199,6 +199,71 @@ fn label_at<'a>(source: &[Listed<'a>], number: usize) -> Option<&'a str> {
     listed.labels.as_slice().first().copied()
 }
 
+/// The node for which a program of the language pkt was built.
+#[derive(Clone, Copy, PartialEq, Eq)]
+pub enum BuiltFor {
+    /// A port, whose packets have at most this many segments.
+    Port(u32),
+    /// A ring.
+    Ring,
+}
+
+/// What helps in the source of a program of the language pkt.
+#[derive(Clone, Copy)]
+enum SourceHint {
+    Ports(usize),
+    Segments(u32),
+    Given,
+    Room,
+}
+
+impl SourceHint {
+    /// What helps a program that was built for this node, if that is known.
+    fn of(node: BuiltFor, reason: Reason) -> Option<SourceHint> {
+        match (node, reason) {
+            (_, Reason::NoPort { ports, .. }) => Some(SourceHint::Ports(ports)),
+            (
+                _,
+                Reason::TooLittle {
+                    packet,
+                    part: Measure::Headroom,
+                    ..
+                },
+            ) if packet.number() != 0 => Some(SourceHint::Room),
+            (BuiltFor::Ring, Reason::TooLittle { .. } | Reason::NotAlone { .. }) => {
+                Some(SourceHint::Given)
+            }
+            (BuiltFor::Port(segs), Reason::TooLittle { .. }) if segs > 1 => {
+                Some(SourceHint::Segments(segs))
+            }
+            _ => None,
+        }
+    }
+}
+
+impl fmt::Display for SourceHint {
+    fn fmt<W: fmt::Write>(&self, f: &mut fmt::Formatter<W>) -> fmt::Result {
+        match self {
+            SourceHint::Ports(ports) => write!(
+                f,
+                "write ports {ports} in its source, the number of ports, and build it again"
+            ),
+            SourceHint::Segments(segs) => write!(
+                f,
+                "write segments {segs} in its source, as the port takes packets of {segs} segments, and build it again"
+            ),
+            SourceHint::Given => write!(
+                f,
+                "let the ring declare what given states in its source (share = 2 and head = 128 where it states nothing), or state what the ring declares"
+            ),
+            SourceHint::Room => write!(
+                f,
+                "let new take its packet from a pool whose room is at least 128"
+            ),
+        }
+    }
+}
+
 /// What helps, as text.
 #[derive(Clone, Copy)]
 pub struct HintText {
@@ -206,10 +271,24 @@ pub struct HintText {
     pub reason: Reason,
     /// Whether its certificate was inferred.
     pub inferred: bool,
+    /// The node for which it was built, if it is a program of the language pkt.
+    pub built_for: Option<BuiltFor>,
 }
 
 impl fmt::Display for HintText {
     fn fmt<W: fmt::Write>(&self, f: &mut fmt::Formatter<W>) -> fmt::Result {
+        if let Some(node) = self.built_for
+            && let Some(hint) = SourceHint::of(node, self.reason)
+        {
+            return write!(f, "{hint}");
+        }
+        self.write_hint(f)
+    }
+}
+
+impl HintText {
+    /// Writes what helps in the instructions of a program.
+    fn write_hint<W: fmt::Write>(&self, f: &mut fmt::Formatter<W>) -> fmt::Result {
         match self.reason {
             Reason::NotHeld { packet } => {
                 let p = packet.number();
