@@ -172,6 +172,8 @@ class Errors(unittest.TestCase):
     def test_places_and_cures(self) -> None:
         wanted = {
             "let x = 1\nsend y": "x.pkt:2:6: y is no variable here",
+            "send prt": "help: did you mean port? else let prt = .. makes one",
+            "\ufeffsend 0": "help: save the file without this byte-order mark",
             "ipv4.tll = 5": "x.pkt:1:6: ipv4 has no field tll",
             "send port send port": "x.pkt:1:11: control never comes here: the statement before it ends the program",
             "if ipv4 {\n  if arp { drop }\n}\nsend port": "x.pkt:2:12: control never comes here: what was asked before decides it",

@@ -23,6 +23,7 @@ CURES = {
     "!": "write `not`", ";": "no sign ends a statement", "&": "write `and`", "|": "write `or`", "-": "write x -= 1", "+": "write x += 1",
     ":": "an IPv6 address has eight groups, or :: for groups of 0", '"': "a text ends in its line", "lookup": "let x = lookup ..",
     "else": "an `else` comes after its statement", "the end of the text": "a block ends with }", "true": "write 1",
+    "\ufeff": "save the file without this byte-order mark, which editors do not show",
 }  # fmt: skip
 
 

@@ -4,6 +4,7 @@ import operator
 from collections.abc import Callable, Iterator
 from contextlib import contextmanager
 from dataclasses import dataclass, field, replace
+from difflib import get_close_matches
 from pathlib import Path as File
 from typing import NamedTuple
 
@@ -384,8 +385,11 @@ class Parser(Lexer):
 
     def refuse_unknown(self) -> None:
         """Refuses names that are not numbers."""
+        numbers = [word for word, what in self.names.items() if what in ("a variable", "a constant")]
         for at in self.unknown:
             cure = "write 1" if at.word == "true" else f"let {at.word} = .. makes one, to the end of its block"
+            if near := get_close_matches(at.word, numbers, 1):
+                cure = f"did you mean {near[0]}? else {cure}"
             raise SourceError(at, f"{at.word} is no variable here", cure)
 
     def packet(self) -> str:
