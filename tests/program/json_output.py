@@ -10,6 +10,7 @@ each case that failed, and a count; exits with 1 if a case failed.
 import json
 import pathlib
 import shutil
+import struct
 import subprocess
 import sys
 from typing import Any, NamedTuple
@@ -140,6 +141,15 @@ def is_same_run(program: str, folder: pathlib.Path, words: list[str]) -> bool:
     return passed and made.status == doc["fault"]["status"] and made.err.decode().splitlines()[0] == doc["fault"]["text"]
 
 
+def counts_truncated(program: str, folder: pathlib.Path) -> bool:
+    """Whether the document counts the records that were cut by their snap length, as standard error does."""
+    whole, cut = struct.pack("<IIII", 1, 2, 60, 60) + bytes(60), struct.pack("<IIII", 1, 2, 60, 1500) + bytes(60)
+    (folder / "case.pcap").write_bytes((folder / "in.pcap").read_bytes()[:24] + whole + cut + cut)
+    made = run(program, folder, "one", "strip.dpv", "strip.cert", "case.pcap", "out.pcap", "--json")
+    said = b"port 0: 2 records were cut by the capture's snap length: capture with a larger -s\n"
+    return (made.status, made.err, document(made.out)["ports"][0]["truncated"]) == (0, said, 2)
+
+
 def runs(program: str, top: pathlib.Path) -> list[tuple[str, bool]]:
     """The pipelines and programs of examples/, with and without counts, with calls refused and with captures that are cut."""
     cases = []
@@ -150,6 +160,7 @@ def runs(program: str, top: pathlib.Path) -> list[tuple[str, bool]]:
             words = ["run", pipeline.name, *more]
             cases.append((f"{pipeline.parent.name}: {words}", is_same_run(program, pipeline.parent, words)))
     strip = top / "strip"
+    cases.append(("records cut by their snap length", counts_truncated(program, strip)))
     one = ["one", "strip.dpv", "strip.cert"]
     whole = (strip / "in.pcap").read_bytes()
     for length in (len(whole), len(whole) - 3, 30, 23, 0):

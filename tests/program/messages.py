@@ -4,7 +4,8 @@
 Usage: tests/program/messages.py [PROGRAM]   (the built program; by default the one that ./dpv builds and runs)
 Files that are missing, folders, too long, not readable or writable; captures with each cause, in another format and with other link types;
 certificates of other programs; pipelines with each cause; full disks; outputs that are inputs by the same name, by another name, by a link
-and from standard input; words of `dpv trace` that name no port. The words are the system's on this host (os.strerror), or are given here.
+and from standard input; words of `dpv trace` that name no port; and what helps with what a user types first. The words are the system's on this
+host (os.strerror), or are given here.
 Then the lines of `--progress`, for captures of both byte orders and for runs that stop, and that there are none without it; and those on
 records that were dropped or cut. Prints a line for each case that failed, and a count; exits with 1 if a case failed.
 """
@@ -25,6 +26,8 @@ from command import asked, nested_folder, report_cases
 from faults import HEADER, ONE, POOL, capture, make_files, pipeline, run_of
 
 PCAPNG = "it is a pcapng file; editcap -F pcap IN OUT converts it to a capture"
+# How compressed files begin.
+PACKED = {"gzip": b"\x1f\x8b", "bzip2": b"BZh", "xz": b"\xfd7zXZ\0", "zstd": b"\x28\xb5\x2f\xfd", "lz4": b"\x04\x22\x4d\x18"}
 NOBODY = 65_534
 MILLION = 1_000_000
 
@@ -125,6 +128,8 @@ def captures() -> Iterator[Case]:
     }
     for name, (cause, reason) in words.items():
         yield strips(name, "out", of_input(0, cause, name, reason))
+    for tool in PACKED:
+        yield strips(f"packed.{tool}", "out", of_input(0, 1, f"packed.{tool}", f"it is compressed by {tool}; {tool} -dc IN > OUT unpacks it"))
     yield Case(["run", "no_header.toml"], 3, of_input(0, 6, "short.pcap", words["short.pcap"][1]))
     yield Case(["run", "no_other_header.toml"], 3, of_input(1, 3, "link.pcap", words["link.pcap"][1]))
     yield Case(["run", "no_bytes.toml"], 3, of_input(1, 8, "folder", system(errno.EISDIR)))
@@ -174,8 +179,79 @@ def unfit() -> Iterator[Case]:
         yield Case([command, "refused.toml"], 1, refused, is_whole=True)
         yield Case([command, "second.toml"], 1, second, is_whole=True)
         yield Case([command, "ring_unfit.toml"], 1, ring, is_whole=True)
-        yield Case([command, "lost.toml"], 1, "", is_whole=True)
+        yield Case([command, "lost.toml"], 1, "  help: dpv explain lost.toml port0 explains why\n", is_whole=True)
+    yield Case(["infer", "ring_unfit.toml", "ring0"], 1, "  help: leave out the key cert, and dpv explain ring_unfit.toml ring0 explains why\n", is_whole=True)
     yield Case(["one", "lost.dpv", "strip.cert", "in.pcap", "out"], 3, of_pipeline("7 BadCert port 0 line 3 cause 4", "line 3: there are too few or too many lines"))
+
+
+ROUTE = "a route is A.B.C.D/DEPTH HOP, as 10.1.0.0/16 3: DEPTH 1 to 32, HOP at most 16777215"
+HALVES = 'DEPTH is 1 to 32, and all addresses are two routes: "0.0.0.0/1 7", "128.0.0.0/1 7"'
+NO_NAME, NO_KEY = "line 1: no instruction has this name", "a key is missing, unknown, of the wrong type or out of its range"
+IS_PKT = "it is a program of the language pkt: "
+# The pipeline files whose routes are refused: the cause, the reason, the line, and what helps.
+ROUTES = {
+    "rules": ("4 BadTable 0 2 3", "no room for another rule", '12: "12.0.0.0/8 3",', "route 2 is '12.0.0.0/8 3'; rules = 2 is too small for it: raise rules, to at most 65536"),
+    "groups": ("4 BadTable 0 1 4", "no group left", '11: "11.0.0.0/25 2",', "route 1 is '11.0.0.0/25 2'; groups = 1 is too small for it: raise groups, to at most 256"),
+    "all_groups": ("4 BadTable 0 256 4", "no group left", '266: "11.1.0.0/25 1",', "route 256 is '11.1.0.0/25 1'; groups = 256 is too small for it: no table may have more groups"),
+    "all": ("4 BadTable 0 1 1", "the depth is not 1 to 32", '11: "0.0.0.0/0 7",', f"route 1 is '0.0.0.0/0 7'; {HALVES}"),
+    "twice": ("4 BadTable 0 2 1", "the depth is not 1 to 32", '12: "10.0.0.0/33 1", "10.0.0.0/33 1",', f"route 2 is '10.0.0.0/33 1'; {ROUTE}"),
+}
+# The routes of those files, with the numbers of rules and groups.
+TABLES = {
+    "rules": (2, 0, ["10.0.0.0/8 1", "11.0.0.0/8 2", "12.0.0.0/8 3"]),
+    "groups": (9, 1, ["10.0.0.0/25 1", "11.0.0.0/25 2"]),
+    "all_groups": (999, 256, [f"10.{k}.0.0/25 1" for k in range(256)] + ["11.1.0.0/25 1"]),
+    "all": (9, 0, ["10.0.0.0/8 1", "0.0.0.0/0 7"]),
+    "twice": (9, 0, ["10.0.0.0/8 1", "11.0.0.0/8 1", '10.0.0.0/33 1", "10.0.0.0/33 1']),
+}
+# Programs that are refused, with the reason and the cure as lines after the verdict.
+ALONE = "  at: bare.dpv:1: store p0,0,1,r1\n  J6: the packet has the bytes or the room that the instruction needs\n  known:  p0 first 0\n" \
+        "  wanted: p0 first 1\n  help:   iflen p0,1,L before it\n"
+
+
+def helped(cause: str, reason: str, place: str, cure: str) -> str:
+    """The lines for a pipeline, with the place and what helps."""
+    return f"{of_pipeline(cause, reason)}  at: {place}\n  help: {cure}\n"
+
+
+def cures() -> Iterator[Case]:
+    """What a user types first, and what helps."""
+    for name, (cause, reason, line, cure) in ROUTES.items():
+        yield Case(["check", f"{name}_full.toml"], 3, helped(cause, reason, f"{name}_full.toml:{line}", cure), is_whole=True)
+    bad = "7 BadCert port 0 line 7 cause 2", "line 7: this is not a line of 306 hexadecimal digits", "bad.cert:7"
+    yield Case(["run", "cert.toml"], 3, helped(*bad, "leave out the key cert, or dpv infer cert.toml port0 > bad.cert"), is_whole=True)
+    yield Case(["one", "strip.dpv", "bad.cert", "in.pcap", "out"], 3, helped(*bad, "dpv infer-one strip.dpv > bad.cert"), is_whole=True)
+    head = "7 BadCert port 0 line 1 cause 1", "line 1: this is not the head of a certificate", "in.pcap:1"
+    yield Case(["explain-one", "bare.dpv", "in.pcap"], 3, helped(*head, "none is inferred: dpv explain-one bare.dpv explains why"), is_whole=True)
+    yield Case(["run", "bare.toml"], 3, helped(*head, "none is inferred: leave out the key cert, and dpv explain bare.toml port0 explains why"), is_whole=True)
+    for words in (["filter", "bare.dpv", "in.pcap", "out"], ["filter", "bare.dpv", "in.pcap", "out", "--segs", "5"], ["infer-one", "bare.dpv"]):
+        yield Case(words, 1, ALONE, is_whole=True)
+    for name, line, cure in (("capitals", "IFLEN p0,14,d", "there is no instruction 'IFLEN'; did you mean 'iflen'?"), ("other", "SENT", "there is no instruction 'SENT'; did you mean 'set'?")):
+        yield Case(["infer-one", f"{name}.dpv"], 3, helped("6 Asm port 0 line 1 cause 2", NO_NAME, f"{name}.dpv:1: {line}", cure), is_whole=True)
+    marked = "6 Asm port 0 line 1 cause 1", "line 1: there is a byte that no program has", "marked.dpv:1: \ufeffexit"
+    yield Case(["infer-one", "marked.dpv"], 3, helped(*marked, "the file begins with a byte-order mark, which editors do not show: save it without one"), is_whole=True)
+    for name, line in (("capital_pool", "2"), ("other_pool", "6")):
+        place = f"{name}.toml:{line}: [[POOL]]"
+        yield Case(["check", f"{name}.toml"], 3, helped("2 BadKey top 0", NO_KEY, place, "there is no key 'POOL' here; did you mean 'pool'?"), is_whole=True)
+    text, word = ("1 NotToml", "the text is not TOML"), ("6 Asm port 0 line 1 cause 2", NO_NAME)
+    run_it = "dpv filter a.pkt IN OUT runs it, and dpv build a.pkt > a.dpv compiles it for a pipeline"
+    yield Case(["run", "a.pkt"], 3, helped(*text, "a.pkt", f"{IS_PKT}{run_it}"), is_whole=True)
+    yield Case(["run", "strip.dpv"], 3, helped(*text, "strip.dpv", "it is a program: dpv filter strip.dpv IN OUT runs it"), is_whole=True)
+    yield Case(["run", "pkt_node.toml"], 3, helped(*word, "a.pkt", f"{IS_PKT}dpv build a.pkt > a.dpv compiles it"), is_whole=True)
+
+
+def in_folders() -> Iterator[Case]:
+    """Pipeline files in another folder that name files beside them, or files that are nowhere."""
+    missing, cure = system(errno.ENOENT), "  help: run dpv in beside\n"
+    program, certificate, capture_of = node("port 0", "its.dpv", missing), node("port 0", "its.cert", missing), file("its.pcap", missing)
+    for command in ("check", "run", "trace", "explain"):
+        yield Case([command, "beside/program.toml"], 3, program + cure, is_whole=True)
+        yield Case([command, "beside/cert.toml"], 3, certificate + cure, is_whole=True)
+        yield Case([command, "beside/nowhere.toml"], 3, node("port 0", "none", missing), is_whole=True)
+    for command in ("run", "trace"):
+        yield Case([command, "beside/capture.toml"], 3, capture_of + cure, is_whole=True)
+        yield Case([command, "./beside/capture.toml"], 3, capture_of + cure.replace("in ", "in ./"), is_whole=True)
+        yield Case([command, "no_input.toml"], 3, file("none", missing), is_whole=True)
 
 
 def full_disks() -> Iterator[Case]:
@@ -303,6 +379,14 @@ def make_more(folder: pathlib.Path) -> None:
         "looped": pipeline(["loop.dpv"], ["loop.dpv"]).replace('in = "none"', 'in = "one.pcap"').replace('out = "none/none"', 'out = "out0"'),
         "endless": run_of(["one.pcap"], ["out0"]).replace("forward.dpv", "endless.dpv"),
         "ring_unfit": pipeline(["strip.dpv strip.cert"], ["lost6.dpv strip.cert"]),
+        "bare": pipeline(["bare.dpv in.pcap"]),
+        "capital_pool": pipeline(["strip.dpv"]).replace("[[pool]]", "[[POOL]]"),
+        "other_pool": pipeline(["strip.dpv"], table=POOL.replace("pool", "POOL")),
+        "pkt_node": pipeline(["a.pkt"]),
+        "beside/program": pipeline(["its.dpv"]),
+        "beside/cert": pipeline(["strip.dpv its.cert"]),
+        "beside/nowhere": pipeline(["none"]),
+        "beside/capture": run_of(["its.pcap"], ["out0"]),
     }
     data = {
         "magic.pcap": b"\0" + ONE[1:],
@@ -315,6 +399,13 @@ def make_more(folder: pathlib.Path) -> None:
         "big.pcap": struct.pack(">IHHIIII", 0xA1B2C3D4, 2, 4, 0, 0, 262144, 1) + (MILLION + 1) * struct.pack(">IIII", 1, 2, 0, 0),
         "kept.pcap": ONE,
         "closed": ONE,
+        "bare.dpv": b"store p0,0,1,r1\nfree p0\nexit\n",
+        "capitals.dpv": b"IFLEN p0,14,d\n",
+        "other.dpv": b"SENT\n",
+        "marked.dpv": "\ufeffexit\n".encode(),
+        "a.pkt": b"send port\n",
+        **dict.fromkeys(("beside/its.dpv", "beside/its.cert", "beside/its.pcap"), b"something"),
+        **{f"packed.{tool}": begin + bytes(30) for tool, begin in PACKED.items()},
         "lost6.dpv": 6 * b"exit\n",
         "loop.dpv": b"enq p0,0,d\nexit\nd: free p0\nexit\n",
         "endless.dpv": b"a: jmp a\n",
@@ -323,6 +414,10 @@ def make_more(folder: pathlib.Path) -> None:
         "checksums.pcap": header_of("little", 0x2400_0001),
     }
     data.update((f"{link}.{order}.pcap", header_of(order, link)) for link in LINKS for order in ("little", "big"))
+    for name, (rules, groups, routes) in TABLES.items():
+        lines = "".join(f'    "{it}",\n' for it in routes)
+        texts[f"{name}_full"] = pipeline(["none"], table=f"[[table]]\nrules = {rules}\ngroups = {groups}\nroutes = [\n{lines}]\n")
+    (folder / "beside").mkdir()
     for name, text in texts.items():
         (folder / f"{name}.toml").write_text(text)
     for name, bytes_of in data.items():
@@ -371,7 +466,7 @@ def main() -> int:
     with nested_folder() as folder:
         make_files(folder)
         make_more(folder)
-        kinds = (files, captures, links, unfit, full_disks, pipelines, same_files, no_text, traces, progress, drops, nothing_reported)
+        kinds = (files, captures, links, unfit, cures, in_folders, full_disks, pipelines, same_files, no_text, traces, progress, drops, nothing_reported)
         passed = [ends_so(program, case, folder) for kind in kinds for case in kind()]
         passed.append(goes_on(program, folder))
         passed += as_nobody(program, folder)
