@@ -52,6 +52,10 @@ def make_files(folder: pathlib.Path) -> None:
     files["table.toml"] = pipeline(["counting", "copying copying.cert", "looking"], TABLE)
     files["route.toml"] = files["table.toml"].replace("/25 2", "/99 2")
     files["text.toml"] = files["sound.toml"] + "port]] # one more\n"
+    files["beside/program.toml"] = files["sound.toml"].replace('"sending"', '"its"')
+    files["beside/capture.toml"] = files["sound.toml"].replace('"in1.pcap"', '"its"')
+    files["beside/its"], files["counting.dpv"] = SENDING, COUNTING
+    (folder / "beside").mkdir()
     for name, text in files.items():
         (folder / name).write_text(text)
     for k in range(2):
@@ -77,6 +81,12 @@ COMMANDS = [
     (["explain", "refused.toml"], 1),
     (["explain-one", "lost"], 1),
     (["infer-one", "counting"], 0),
+    (["infer-one", "lost"], 1),
+    (["filter", "lost", "in0.pcap", "port0.pcap"], 1),
+    (["filter", "counting", "sound.toml", "port0.pcap"], 3),
+    (["run", "beside/program.toml"], 3),
+    (["run", "beside/capture.toml"], 3),
+    (["run", "counting.dpv"], 3),
     (["show", "sound.toml", "port1"], 0),
     (["show", "sound.toml", "ring0", "--dot"], 0),
     (["show", "sound.toml", "--dot"], 0),
