@@ -1,5 +1,5 @@
 #!/usr/bin/env python3
-"""Compares what the built program dpv says of programs with texts that were worked out by hand: explain, show and infer-one.
+"""Compares what the built program dpv says of programs with texts that were worked out by hand: explain, show, infer-one and check --cost.
 
 Usage: tests/program/judged.py [PROGRAM]   (the built program; by default the one that ./dpv builds and runs)
 Programs that are accepted, that are refused with a certificate or without one, that have code that is never reached, or that are no programs; by
@@ -196,6 +196,48 @@ OF_PIPELINE = (
     (["infer", "case.toml", "port4"], 1, "port 1 not inferred at 0 by J9\n", ""),
 )
 
+# Programs, and the most labels along which control goes: through STRIP, PASS and LATE not by the first exit; and COUNT has 7 instructions.
+LATE = "iflen p0,14,d\nenq p0,0,d\nexit\nd: free p0\nexit\n"
+COUNT = "set r1,0\na: add r1,1\njlt r1,200,a\ntx p0,r0,e\nexit\ne: free p0\nexit\n"
+TAKES = {"strip.dpv": (STRIP, "5 instructions"), "pass.dpv": (PASS, "3 instructions"), "to0.dpv": (PASS.replace("tx p0,r0", "enq p0,0"), "3 instructions"),
+         "to1.dpv": (PASS.replace("tx p0,r0", "enq p0,1"), "3 instructions"), "late.dpv": (LATE, "4 instructions"), "drop.dpv": ("free p0\nexit\n", "2 instructions"),
+         "count.dpv": (COUNT, f"{257 * 7} instructions: it can jump back at 2")}
+RING_OF = "[[ring]]\ncount = 2\nshare = 0\nhead = 0\ntail = 0\nfirst = 0\nlast = 0\nsegs = 1\n"
+AGAIN = ": there is no bound for all turns in which a packet runs\n"
+# The programs of ports and of rings, and what is said after their costs: a turn is one run of the port's program, then up to 32 of those of rings.
+COSTS = (
+    (["strip.dpv"], [], "the turn of a record takes at most 5 instructions: 5 on port 0\n"),
+    (["pass.dpv", "count.dpv", "strip.dpv"], [], f"the turn of a record takes at most {257 * 7} instructions: {257 * 7} on port 1\n"),
+    (["to0.dpv"], ["to1.dpv", "drop.dpv"], "the turn of a record takes at most 99 instructions: 3 on port 0, 96 on packets in rings\n"),
+    (["pass.dpv"], ["count.dpv"], f"the turn of a record takes at most {3 + 32 * 257 * 7} instructions: 3 on port 0, {32 * 257 * 7} on packets in rings\n"),
+    (["to0.dpv", "strip.dpv"], ["to0.dpv"], f"the turn of a record takes at most 101 instructions: 5 on port 1, 96 on packets in rings\nring 0 leads to itself{AGAIN}"),
+    (["strip.dpv"], ["to1.dpv", "late.dpv", "to0.dpv"], "the turn of a record takes at most 133 instructions: 5 on port 0, 128 on packets in rings\n"
+     f"ring 0 leads to itself{AGAIN}ring 1 leads to itself{AGAIN}"),
+)
+
+
+def costs(ports: list[str], rings: list[str]) -> tuple[str, str]:
+    """A pipeline of these programs, and what is said of each."""
+    nodes = [(f"port {k}", name) for k, name in enumerate(ports)] + [(f"ring {k}", name) for k, name in enumerate(rings)]
+    text = POOL + "".join(f'{RING_OF}node = "{name}"\n' for name in rings)
+    text += "".join(f'[[port]]\npool = 0\nsegs = 1\nqueue = 32\nnode = "{name}"\nin = "a"\nout = "b{k}"\n' for k, name in enumerate(ports))
+    return text, "".join(f"{node} accepted\n" for node, _ in nodes) + "".join(f"{node} takes at most {TAKES[name][1]}\n" for node, name in nodes)
+
+
+def cost_cases(program: str, folder: pathlib.Path) -> list[bool]:
+    """What check --cost says of these pipelines, and of one with a refused program only the verdict."""
+    for name, (text, _) in TAKES.items():
+        (folder / name).write_text(text)
+    passed = []
+    for ports, rings, said in COSTS:
+        text, first = costs(ports, rings)
+        (folder / "cost.toml").write_text(text)
+        passed.append(is_said(program, folder, ["check", "cost.toml", "--cost"], 0, first + said, ""))
+    (folder / "lost.dpv").write_text(LOST)
+    (folder / "cost.toml").write_text(costs(["strip.dpv"], [])[0].replace("strip", "lost"))
+    passed.append(is_said(program, folder, ["check", "cost.toml", "--cost"], 1, "port 0 not inferred at 0 by J10\n", ""))
+    return passed
+
 
 def certificate(rows: tuple[str, ...]) -> str:
     """The text of a certificate whose rows begin so."""
@@ -233,6 +275,7 @@ def main() -> int:
         for name, text in files.items():
             (folder / name).write_text(text)
         passed += [is_said(program, folder, *case) for case in OF_PIPELINE]
+        passed += cost_cases(program, folder)
     return report_cases("judged", passed)
 
 

@@ -8,8 +8,23 @@ use dp_pipe::{How, Pipeline, load};
 use dp_script::mem_reply;
 use dp_show::{Counted, Form, compile_reply, counts_in, say_sizes, show};
 use dp_sources::{Asked, Lent, Subject, one_env};
-use dp_verdict::{check_text, explain, infer, infer_one, unloaded};
+use dp_verdict::{check_text, explain, infer, infer_one, say_costs, unloaded};
 use std::rt::Files;
+
+/// Adds what the words ask for of a pipeline whose programs are accepted.
+fn say_more<R>(call: &Call<'_, '_, R>, pipeline: &Pipeline, reply: &mut Reply) {
+    if call.flag("cost") {
+        say_costs(call.alloc, pipeline, &mut *reply);
+    }
+    if call.flag("sizes") {
+        say_sizes(
+            call.alloc,
+            pipeline.env(),
+            pipeline.region(),
+            &mut reply.out,
+        );
+    }
+}
 
 /// `dpv check FILE`.
 fn checked<R: Files>(call: &Call<'_, '_, R>) -> Result<Reply, Reply> {
@@ -24,16 +39,10 @@ fn checked<R: Files>(call: &Call<'_, '_, R>) -> Result<Reply, Reply> {
     let subject = given.subject();
     let sources = read_nodes(call, subject, None, How::Given, is_json)?;
     let (mut reply, loaded) = check_text(call.alloc, given.text(), subject, &sources, is_json);
-    if with_sizes
-        && reply.status == DONE
+    if reply.status == DONE
         && let Ok(pipeline) = &loaded
     {
-        say_sizes(
-            call.alloc,
-            pipeline.env(),
-            pipeline.region(),
-            &mut reply.out,
-        );
+        say_more(call, pipeline, &mut reply);
     }
     Ok(reply)
 }

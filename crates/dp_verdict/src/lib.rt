@@ -1,17 +1,20 @@
 //! The verdicts on the nodes of a pipeline, or on one program: accepted, refused with the reason, or without a certificate.
 //!
 //! [`check_text`] loads a pipeline, and [`explain`] judges each node by itself ([`judge`]). Both give a [`Report`]: a [`Finding`] for each node, and
-//! the fault that ended the command, if one did. [`reply_of`] says it as text or as a JSON document. [`infer`] and [`infer_one`] give the certificate
-//! of a program. Nothing here reads a file or prints: all texts are [`Sources`](dp_sources::Sources), and a reply is printed by its caller.
+//! the fault that ended the command, if one did. [`reply_of`] says it as text or as a JSON document. [`say_costs`] adds what accepted programs can
+//! cost. [`infer`] and [`infer_one`] give the certificate of a program. Nothing here reads a file or prints: all texts are
+//! [`Sources`](dp_sources::Sources), and a reply is printed by its caller.
 #![tactic(auto)]
 
 mod checks;
+mod costs;
 mod finding;
 mod inferring;
 mod judging;
 mod report;
 
 pub use checks::{check, check_text, misread, unloaded};
+pub use costs::say_costs;
 pub use finding::{Finding, RefusedAt, Verdict, Why};
 pub use inferring::{infer, infer_one};
 pub use judging::{Judged, explain, judge};
