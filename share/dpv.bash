@@ -24,10 +24,10 @@ _dpv_operands() {
         "build 0") _dpv_files pkt "$4" ;;
         "check 0" | "compile 0" | "infer 0" | "explain 0" | "show 0" | "run 0" | "trace 0") _dpv_files toml "$4" ;;
         "infer 1" | "explain 1" | "show 1") compgen -W "$(_dpv_nodes "$3")" -- "$4" ;;
-        "one 0" | "infer-one 0" | "explain-one 0" | "show-one 0") _dpv_files dpv "$4" ;;
-        "one 1" | "explain-one 1" | "show-one 1") _dpv_files cert "$4" ;;
+        "one 0" | "infer-one 0" | "explain-one 0" | "show-one 0" | "trace-one 0") _dpv_files dpv "$4" ;;
+        "one 1" | "explain-one 1" | "show-one 1" | "trace-one 1") _dpv_files cert "$4" ;;
         "filter 0") _dpv_files pkt "$4"; _dpv_files dpv "$4" ;;
-        "one 2" | "one 3" | "filter 1" | "filter 2") _dpv_files pcap "$4" ;;
+        "one 2" | "one 3" | "trace-one 2" | "filter 1" | "filter 2") _dpv_files pcap "$4" ;;
         "mem 0") compgen -f -- "$4" ;;
         "library 0") compgen -d -- "$4" ;;
     esac
@@ -35,7 +35,7 @@ _dpv_operands() {
 
 _dpv() {
     local word="${COMP_WORDS[COMP_CWORD]}" command first= count=0 place begin=1
-    local commands="filter one check compile infer infer-one explain explain-one show show-one run trace mem help" more=" build library --unproved --compiled"
+    local commands="filter one check compile infer infer-one explain explain-one show show-one run trace trace-one mem help" more=" build library --unproved --compiled"
     if ((COMP_CWORD > 1)) && [ "${COMP_WORDS[1]}" = --unproved ]; then
         begin=2 more=
     fi
@@ -70,11 +70,12 @@ _dpv() {
         esac
     done
     case "$command $word" in
-        trace\ -*) mapfile -t COMPREPLY < <(compgen -W "--records --port --only --instr --match --refuse --help" -- "$word") ;;
+        trace\ -*) mapfile -t COMPREPLY < <(compgen -W "--records --port --only --instr --match --refuse --json --help" -- "$word") ;;
+        trace-one\ -*) mapfile -t COMPREPLY < <(compgen -W "--records --port --only --instr --match --refuse --json --unbuffered --help" -- "$word") ;;
         run\ -*) mapfile -t COMPREPLY < <(compgen -W "--in --out --no-in --no-out --refuse --counts --source --drops --json --progress --unbuffered --help" -- "$word") ;;
         filter\ -*) mapfile -t COMPREPLY < <(compgen -W "--room --segs --counts --source --drops --json --progress --unbuffered --help" -- "$word") ;;
         one\ -*) mapfile -t COMPREPLY < <(compgen -W "--counts --source --drops --json --progress --unbuffered --help" -- "$word") ;;
-        check\ -*) mapfile -t COMPREPLY < <(compgen -W "--sizes --json --help" -- "$word") ;;
+        check\ -*) mapfile -t COMPREPLY < <(compgen -W "--cost --sizes --json --help" -- "$word") ;;
         explain\ -* | explain-one\ -*) mapfile -t COMPREPLY < <(compgen -W "--json --help" -- "$word") ;;
         show\ -*) mapfile -t COMPREPLY < <(compgen -W "--dot --calls --counts --help" -- "$word") ;;
         show-one\ -*) mapfile -t COMPREPLY < <(compgen -W "--dot --calls --help" -- "$word") ;;

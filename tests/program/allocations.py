@@ -68,7 +68,7 @@ class Ended:
         """Whether it reported the refused memory, and printed and wrote nothing else than that run."""
         return (
             (self.status, self.reported) == (4, b"fault: memory\n")
-            and (whole.printed.startswith(self.printed) or self.printed == NO_MEMORY)
+            and whole.printed.startswith(self.printed.removesuffix(NO_MEMORY))
             and all(held in (b"", complete) for held, complete in zip(self.written, whole.written))
         )
 

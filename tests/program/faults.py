@@ -415,10 +415,10 @@ def is_heard(program: str, words: list[str]) -> bool:
 
 # Commands in examples/ttl, each of which prints something.
 PRINTING = (
-    ["--help"], ["run", "--help"], ["check", "ttl.toml"], ["check", "ttl.toml", "--json"], ["check", "ttl.toml", "--sizes"], ["explain", "ttl.toml"],
+    ["--help"], ["run", "--help"], ["check", "ttl.toml"], ["check", "ttl.toml", "--json"], ["check", "ttl.toml", "--sizes"], ["check", "ttl.toml", "--cost"], ["explain", "ttl.toml"],
     ["infer", "ttl.toml", "port0"], ["infer-one", "ttl.dpv"], ["show", "ttl.toml", "port0"], ["show", "ttl.toml", "--dot"], ["compile", "ttl.toml"],
     ["run", "ttl.toml", "--no-out", "0"], ["run", "ttl.toml", "--no-out", "0", "--counts"], ["run", "ttl.toml", "--no-out", "0", "--json"],
-    ["filter", "ttl.dpv", "in.pcap", "/dev/null"], ["trace", "ttl.toml"],
+    ["filter", "ttl.dpv", "in.pcap", "/dev/null"], ["trace", "ttl.toml"], ["trace", "ttl.toml", "--json"],
 )
 
 
@@ -436,7 +436,7 @@ def main() -> int:
         passed += [shows_usage(program, list(words), 2, folder) for words in wrong]
         nodes = ("", "port", "port10", "Port0", "ring-1", "ringx", "port0 ", "pool0", "0")
         passed += [shows_usage(program, [command, "none", name], 2, folder) for command in ("infer", "explain", "show") for name in nodes]
-        wrong = (["infer-one"], ["infer-one", "none", "more"], ["explain"], ["explain-one"], ["show", "none"], ["show-one"], ["show-one", "--dots", "none"])
+        wrong = (["infer-one"], ["infer-one", "none", "more"], ["trace-one", *strip[1:3]], ["trace-one", *strip], ["explain"], ["explain-one"], ["show", "none"], ["show-one"], ["show-one", "--dots", "none"])
         passed += [shows_usage(program, list(words), 2, folder) for words in wrong]
         wrong = (["run"], ["run", "none", "more"], ["run", "none", "--refuse"], ["run", "none", "--refuse", "1", "--refuse", "2"])
         passed += [shows_usage(program, list(words), 2, folder) for words in wrong]

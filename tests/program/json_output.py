@@ -4,8 +4,10 @@
 Usage: tests/program/json_output.py [PROGRAM]   (the built program; by default the one that ./dpv builds and runs)
 Each pipeline of examples/ runs twice, as text and with --json, also with --counts: the status, the captures and standard error must be the
 same, standard output one line of JSON, and the text that this script writes from the document must be the text that dpv prints, to the byte.
-The sums that docs/reference/reports.md names must agree in the document. Then refused programs, explanations and faults. Prints a line for
-each case that failed, and a count; exits with 1 if a case failed.
+The sums that docs/reference/reports.md names must agree in the document. Then refused programs, explanations, costs and faults: no node run and no
+turn of an example takes more instructions than `check --cost` says, which is the longest way through each program. Each example is traced as
+text and with --json, where the text that this script writes from the documents must be what dpv prints. Prints a line for each case that
+failed, and a count; exits with 1 if a case failed.
 """
 import json
 import pathlib
@@ -18,6 +20,9 @@ from typing import Any, NamedTuple
 import paths  # noqa: F401
 
 from command import TOP, asked, new_folder
+from model.machine import Instr
+from model.programs import assemble
+from model.rules import JUMPS
 
 EXAMPLES = TOP / "examples"
 WORDS = {"freed": "     freed", "ended": "     ended"}
@@ -238,6 +243,116 @@ def verdicts(program: str, top: pathlib.Path) -> list[tuple[str, bool]]:
     return cases
 
 
+def longest(code: list[Instr]) -> tuple[int, int | None]:
+    """The longest way through a program, and no label; or 257 times its length, and the first label that jumps back."""
+    for label, instr in enumerate(code):
+        if instr.word in JUMPS and instr.args[-1] <= label:
+            return 257 * len(code), label
+    ways = [0] * (len(code) + 1)
+    for label in reversed(range(len(code))):
+        instr = code[label]
+        after = [ways[label + 1]] * (instr.word not in ("jmp", "exit")) + [ways[instr.args[-1]] for _ in "1" if instr.word in JUMPS]
+        ways[label] = 1 + max(after, default=0)
+    return ways[0], None
+
+
+def cost_lines(doc: dict[str, Any]) -> list[str]:
+    """What `check --cost` prints, from its document."""
+    nodes, turn = doc["nodes"], doc["turn"]
+    lines = [verdict_lines(node) for node in nodes]
+    lines += [f"{node['node']} takes at most {node['cost']} instructions" + (f": it can jump back at {node['back']}" if node["back"] is not None else "")
+              for node in nodes]
+    own = next(node["cost"] for node in nodes if node["node"] == f"port {turn['port']}")
+    beside = f", {turn['cost'] - own} on packets in rings" if turn["cost"] > own else ""
+    lines.append(f"the turn of a record takes at most {turn['cost']} instructions: {own} on port {turn['port']}{beside}")
+    return lines + [f"ring {ring} leads to itself: there is no bound for all turns in which a packet runs" for ring in turn["loops"]]
+
+
+def runs_within(ran: dict[str, Any], nodes: dict[str, int], turn: int) -> bool:
+    """Whether a counted run took no more instructions than its node runs and its turns may."""
+    total = 0
+    for node in ran["counts"]["nodes"]:
+        steps = sum(it["ran"] for it in node["instructions"])
+        runs = sum(it["cut"] + it["ran"] * (it["ends"] == "ended") for it in node["instructions"])
+        total += steps
+        if steps > runs * nodes[node["node"]]:
+            return False
+    return total <= turn * sum(port[it] for port in ran["ports"] for it in ("received", "nobuf", "oversize"))
+
+
+def has_costs(program: str, pipeline: pathlib.Path) -> bool:
+    """Whether the costs of an example are the same as text and with --json, those of its programs, and bounds of its runs and turns."""
+    folder, name = pipeline.parent, pipeline.name
+    text, made = (run(program, folder, "check", name, "--cost", *more) for more in ([], ["--json"]))
+    doc, ran = document(made.out), document(run(program, folder, "run", name, "--counts", "--json").out)
+    nodes, files = {it["node"]: it for it in doc["nodes"]}, {it["node"]: it["file"] for it in ran["counts"]["nodes"]}
+    exact = all(longest(assemble((folder / file).read_bytes())) == (nodes[node]["cost"], nodes[node]["back"]) for node, file in files.items())
+    rings = [it["cost"] for node, it in nodes.items() if node.startswith("ring")]
+    turn = max(it["cost"] for node, it in nodes.items() if node.startswith("port")) + 32 * max(rings, default=0)
+    traced = [json.loads(line) for line in run(program, folder, "trace", name, "--json", "--records", "100").out.splitlines()[:-1]]
+    within = runs_within(ran, {node: it["cost"] for node, it in nodes.items()}, turn) and all(it["steps"] <= turn for it in traced)
+    same = (text.status, made.status, text.err, made.err) == (0, 0, b"", b"") and cost_lines(doc) == text.out.decode().splitlines()
+    return same and exact and within and doc["turn"]["cost"] == turn
+
+
+def costs(program: str, top: pathlib.Path) -> list[tuple[str, bool]]:
+    """The costs of all examples."""
+    pipelines = [it for it in sorted(top.glob("*/*.toml")) if it.parent.name not in ("refused", "live")]
+    return [(f"check --cost {it.name}", has_costs(program, it)) for it in pipelines]
+
+
+def event_lines(event: dict[str, Any]) -> list[str]:
+    """The lines of an event of a trace, without the blanks before them."""
+    first = event["node"] if event["label"] is None else f"{event['label']}  {event['text']}"
+    return [first, *event["changes"]]
+
+
+def record_lines(doc: dict[str, Any]) -> list[str]:
+    """The lines of a record of a trace, without the blanks before them, but for those of a call for a record that was not received."""
+    lines = [f"record {doc['record']} port {doc['port']} time {doc['time']}, {doc['bytes']} bytes"]
+    lines += [doc["summary"]] if doc["summary"] is not None else []
+    for event in doc["events"]:
+        lines += event_lines(event)
+    lines.append(f"turn {doc['outcome']} runs {doc['runs']} cuts {doc['cuts']} steps {doc['steps']}")
+    lines += [f"port {it['port']} sends {it['packets']}" for it in doc["sends"]]
+    return [*lines, f"record {doc['record']}: {doc['became']}"]
+
+
+def is_traced(program: str, folder: pathlib.Path, words: list[str]) -> bool:
+    """Whether a trace as text and one with --json have the same records, and the last document what ended it."""
+    text, made = run(program, folder, *words), run(program, folder, *words, "--json")
+    docs = [document(line + b"\n") for line in made.out.splitlines()]
+    lines = [line for doc in docs[:-1] for line in record_lines(doc)]
+    printed = [line.strip() for line in text.out.decode().splitlines()]
+    if any(doc["outcome"] != "received" for doc in docs[:-1]):
+        printed = [line for line in printed if line not in [f"allocation call {k}: refused" for k in range(100)] or line in lines]
+    fault = {"status": made.status, "text": made.err.decode().splitlines()[0]} if made.status else None
+    ended = docs[-1] == {"fault": fault, "printed": len(docs) - 1}
+    return ended and lines == printed and (made.status, made.err) == (text.status, text.err)
+
+
+def traces(program: str, top: pathlib.Path) -> list[tuple[str, bool]]:
+    """Traces of all examples, of programs by themselves, and such as print no record or end with a fault."""
+    cases = []
+    for pipeline in sorted(top.glob("*/*.toml")):
+        if pipeline.parent.name in ("refused", "live"):
+            continue
+        for more in ([], ["--records", "3", "--refuse", "1,3"], ["--only", "freed"], ["--only", "99999"]):
+            words = ["trace", pipeline.name, *more]
+            cases.append((f"{pipeline.parent.name}: {words}", is_traced(program, pipeline.parent, words)))
+    strip = top / "strip"
+    (strip / "short.pcap").write_bytes((strip / "in.pcap").read_bytes()[:23])
+    one = ["trace-one", "strip.dpv", "strip.cert"]
+    for more in (["in.pcap"], ["in.pcap", "-U", "--only", "sent"], ["in.pcap", "--instr", "short"], ["in.pcap", "--match", "0800@12"], ["short.pcap"]):
+        cases.append((f"{[*one, *more]}", is_traced(program, strip, [*one, *more])))
+    cases.append(("trace-one of a capture that is not there", is_fault(program, strip, [*one, "none.pcap"])))
+    cases.append(("trace of a pipeline that is not there", is_fault(program, strip, ["trace", "none.toml"])))
+    cases.append(("trace-one of another port", is_silent(program, strip, [*one, "in.pcap", "--port", "1"])))
+    piped = subprocess.run([program, *one, "-"], cwd=strip, stdin=open(strip / "in.pcap", "rb"), capture_output=True, check=False)
+    cases.append(("trace-one of standard input", piped.stdout == run(program, strip, *one, "in.pcap").out and piped.returncode == 0))
+    return cases
+
+
 def is_fault(program: str, folder: pathlib.Path, words: list[str]) -> bool:
     """Whether a command that ends with a fault prints only that as its document, and is otherwise as without --json."""
     text = run(program, folder, *words)
@@ -284,7 +399,7 @@ def main() -> int:
     with new_folder() as outer:
         top = outer / "examples"
         shutil.copytree(EXAMPLES, top)
-        cases = runs(program, top) + verdicts(program, top) + faults(program, top)
+        cases = runs(program, top) + verdicts(program, top) + faults(program, top) + costs(program, top) + traces(program, top)
     failed = [name for name, passed in cases if not passed]
     for name in failed:
         print(f"json_output: {name}: another document")

@@ -319,6 +319,13 @@ def traces() -> Iterator[Case]:
     yield Case(["trace", "both.toml", "--instr", "nowhere"], 2, "error: no program has the label 'nowhere'\n")
     yield Case(["trace", "both.toml", "--port", "1", "--records", "1", "--only", "sent", "--instr", "0"], 0, "")
     yield Case(["trace", "both.toml", "--port", "1", "--records", "1"], 0, "")
+    unmatched = "note: no record of the trace was selected\n"
+    for more in (["--only", "99"], ["--instr", "99"], ["--match", "ff@60000"], ["--only", "99", "--json"]):
+        yield Case(["trace", "both.toml", *more], 0, unmatched)
+        yield Case(["trace-one", "strip.dpv", "strip.cert", "in.pcap", *more], 0, unmatched)
+    yield Case(["trace-one", "strip.dpv", "strip.cert", "in.pcap", "--port", "1"], 2, "error: the pipeline has no port 1\n")
+    yield Case(["trace-one", "none", "none", "none", "--port", "8"], 2, "error: '8' is not a port: a number from 0 to 7\n")
+    yield Case(["trace-one", "strip.dpv", "strip.cert", "none"], 3, file("none", system(errno.ENOENT)))
 
 
 def in_all(*counts: int) -> str:

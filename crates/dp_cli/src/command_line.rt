@@ -105,10 +105,22 @@ const SIZES: Word = Word {
     help: "prints after the verdicts what each pool, ring and port takes of the region",
 };
 
+const COST: Word = Word {
+    name: "cost",
+    form: Form::Flag,
+    help: "prints after the verdicts how many instructions each program and the turn of a record take at most",
+};
+
 const JSON: Word = Word {
     name: "json",
     form: Form::Flag,
     help: "prints one JSON document instead of text",
+};
+
+const JSON_LINES: Word = Word {
+    name: "json",
+    form: Form::Flag,
+    help: "prints a JSON document for each record, on a line of its own, and one at the end",
 };
 
 const DOT: Word = Word {
@@ -139,6 +151,12 @@ const UNBUFFERED: Word = Word {
     name: "unbuffered",
     form: Form::Letter('U'),
     help: "writes each record out as soon as it is sent, as for a pipe",
+};
+
+const AT_ONCE: Word = Word {
+    name: "unbuffered",
+    form: Form::Letter('U'),
+    help: "changes nothing: a trace prints each record as soon as it ends",
 };
 
 const REPLACED_IN: Word = Word {
@@ -275,7 +293,7 @@ const VERBS: &[Verb] = &[
     Verb {
         name: "check",
         about: "Checks the programs of a pipeline",
-        words: &[&FILE, &SIZES, &JSON],
+        words: &[&FILE, &COST, &SIZES, &JSON],
     },
     Verb {
         name: "infer",
@@ -333,7 +351,33 @@ const VERBS: &[Verb] = &[
     Verb {
         name: "trace",
         about: "Prints the first records of a pipeline instruction by instruction, and writes no capture",
-        words: &[&FILE, &RECORDS, &PORT, &REFUSE, &ONLY, &INSTR, &MATCH],
+        words: &[
+            &FILE,
+            &RECORDS,
+            &PORT,
+            &REFUSE,
+            &ONLY,
+            &INSTR,
+            &MATCH,
+            &JSON_LINES,
+        ],
+    },
+    Verb {
+        name: "trace-one",
+        about: "Prints the first records of one program, on the port of one, instruction by instruction",
+        words: &[
+            &NODE,
+            &CERT,
+            &IN,
+            &RECORDS,
+            &PORT,
+            &REFUSE,
+            &ONLY,
+            &INSTR,
+            &MATCH,
+            &JSON_LINES,
+            &AT_ONCE,
+        ],
     },
     Verb {
         name: "mem",

@@ -11,7 +11,7 @@ use crate::host::fill_streams;
 use crate::judging::answer;
 use crate::reading::{UNWRITTEN, without_memory};
 use crate::running::{run_file, run_filter, run_one};
-use crate::tracing::trace_file;
+use crate::tracing::{trace_file, trace_one};
 use clap::ArgMatches;
 use clap::error::ErrorKind;
 use dp_captures::Streams;
@@ -84,10 +84,10 @@ fn run_command<K: Known, R: Files, O: Write, E: Write>(
     reports_interpreted: bool,
     console: &mut Console<O, E>,
 ) -> u8 {
-    let reply = if name == "trace" {
-        trace_file(call, &mut console.out)
-    } else {
-        reply_to::<K, R>(call, name, reports_interpreted)
+    let reply = match name {
+        "trace" => trace_file(call, &mut console.out),
+        "trace-one" => trace_one(call, &mut console.out),
+        _ => reply_to::<K, R>(call, name, reports_interpreted),
     };
     end(console, &reply)
 }

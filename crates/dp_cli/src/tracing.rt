@@ -1,4 +1,4 @@
-//! `dpv trace` over the host's files.
+//! `dpv trace` and `dpv trace-one` over the host's files.
 
 ghost use Rattle.std.specs.Prelude.{◌≡◌, ◌≤◌, IfOk};
 ghost use Rattle.dp_engine.specs.Engines.{IsAscending};
@@ -8,16 +8,16 @@ use crate::operands::{port_in, records_in};
 use crate::reading::{read_nodes, read_pipeline, unwritten, without_memory};
 use crate::running::{refused_in, unopened};
 use dp_captures::{Finding, Replacements, finding_of, names_of, open_inputs};
-use dp_console::{FAULT, MEMORY, Reply};
+use dp_console::{FAULT, Reply};
 use dp_engine::Nothing;
 use dp_lang::listing_of;
 use dp_model::Entry;
-use dp_pipe::{How, MAX_RUN_TURNS, Pipeline, RunCause, Traced, load};
+use dp_pipe::{How, MAX_RUN_TURNS, Pipeline, RunCause, SingleFiles, Traced, load, load_single};
 use dp_runs::say_stop;
-use dp_sources::{Lent, Sources, Subject};
+use dp_sources::{Lent, ONE_REGION, Sources, Subject, one_env};
 use dp_trace::{
     NamedLabel, NodeTexts, Only, Pattern, Picked, Printed, Shown, TracedRun, only_in, pattern_in,
-    trace_records,
+    say_end, trace_records,
 };
 use dp_verdict::{no_node, unloaded};
 use std::alloc::{AllocError, Global};
@@ -196,7 +196,7 @@ fn labels_in<R>(
         let label = node.label(word);
         is_found = is_found || label.is_some();
         if labels.push(label).is_err() {
-            return Err(without_memory(call.alloc, false));
+            return Err(without_memory(call.alloc, call.flag("json")));
         }
     }
     if is_found {
@@ -209,47 +209,59 @@ fn labels_in<R>(
     }
 }
 
-/// The reply to a traced run that was printed.
+/// Adds the last document of a trace. The line of a fault is the first that was reported.
+fn end_document(alloc: Global, run: TracedRun, reply: &mut Reply) {
+    let reported = str::from_utf8(reply.err.bytes.as_slice()).unwrap_or("");
+    let fault = match run.answer {
+        Ok(()) => None,
+        Err(_) => Some((reply.status, reported.lines().next().unwrap_or(""))),
+    };
+    say_end(alloc, fault, run.shown, &mut reply.out);
+    reply.is_json = true;
+}
+
+/// The reply to a traced run that was printed, and had the memory that it needs.
 fn reply_to_run(
     alloc: Global,
     run: TracedRun,
     found: Option<Finding<'_>>,
-    is_selective: bool,
+    shown: Shown<'_>,
 ) -> Reply {
     let mut reply = Reply::new(alloc);
-    match run.answer {
-        Err(cause) => {
-            reply.status = if cause == RunCause::Memory {
-                MEMORY
-            } else {
-                FAULT
-            };
-            say_stop(cause, found, &mut reply.err);
-        }
-        Ok(()) if is_selective && run.shown == 0 => {
-            reply.err.say("note: no record of the trace was selected\n")
-        }
-        Ok(()) => {}
+    if let Err(cause) = run.answer {
+        reply.status = FAULT;
+        say_stop(cause, found, &mut reply.err);
+    }
+    if shown.is_json {
+        end_document(alloc, run, &mut reply);
+    }
+    if run.answer.is_ok() && is_selective(&shown.picked) && run.shown == 0 {
+        reply.err.say("note: no record of the trace was selected\n");
     }
     reply
+}
+
+/// Whether some records alone are printed.
+fn is_selective(picked: &Picked<'_>) -> bool {
+    picked.only.is_some() || picked.at.is_some() || picked.pattern.is_some()
 }
 
 /// Traces a pipeline over the captures that it reads; it opens none that it writes.
 fn trace_pipeline<R: Files, O: Write>(
     call: &Call<'_, '_, R>,
     pipeline: Pipeline,
+    given: &Replacements<'_>,
     pattern: Vec<u64>,
     which: Traced,
     shown: Shown<'_>,
-    is_selective: bool,
     out: &mut O,
 ) -> Reply
     requires pattern { IsAscending 0 pattern.items }
     requires limit { which.records ≤ MAX_RUN_TURNS }
 {
-    let alloc = call.alloc;
-    let Ok(names) = names_of(alloc, &pipeline, &Replacements::none(alloc)) else {
-        return without_memory(alloc, false);
+    let (alloc, is_json) = (call.alloc, shown.is_json);
+    let Ok(names) = names_of(alloc, &pipeline, given) else {
+        return without_memory(alloc, is_json);
     };
     let mut inputs = Vec::new(alloc);
     if let Err(fault) = open_inputs(
@@ -260,41 +272,46 @@ fn trace_pipeline<R: Files, O: Write>(
         false,
         &mut inputs,
     ) {
-        return unopened(call, fault, false);
+        return unopened(call, fault, is_json);
     }
     let ins = inputs.as_mut_slice();
     let run = trace_records::<Nothing, _, _>(alloc, pipeline, ins, pattern, which, shown, out);
-    match run.printed {
-        Printed::Whole => {
-            let found = match run.answer {
-                Err(cause) => finding_of(names.as_slice(), ins, cause, None),
-                Ok(()) => None,
-            };
-            reply_to_run(alloc, run, found, is_selective)
+    match (run.printed, run.answer) {
+        (Printed::Failed, _) => unwritten(alloc),
+        (Printed::NoMemory, _) | (_, Err(RunCause::Memory)) => without_memory(alloc, is_json),
+        (Printed::Whole, Err(cause)) => {
+            let found = finding_of(names.as_slice(), ins, cause, None);
+            reply_to_run(alloc, run, found, shown)
         }
-        Printed::NoMemory => without_memory(alloc, false),
-        Printed::Failed => unwritten(alloc),
+        (Printed::Whole, Ok(())) => reply_to_run(alloc, run, None, shown),
     }
 }
 
-/// `dpv trace FILE`.
-fn traced<R: Files, O: Write>(call: &Call<'_, '_, R>, out: &mut O) -> Result<Reply, Reply> {
-    let alloc = call.alloc;
-    let asked = asked_in(call)?;
-    let file = read_pipeline(call, false)?;
-    let subject = file.subject();
-    let sources = read_nodes(call, subject, None, How::Given, false)?;
-    let pipeline = match load(alloc, file.text(), &mut Lent(&sources), How::Given) {
-        Ok(pipeline) => pipeline,
-        Err(error) => return Err(unloaded(alloc, error, subject, &sources, false)),
-    };
+/// Traces a pipeline that is loaded, with its programs as in their sources.
+///
+/// # Errors
+///
+/// The reply to words that the pipeline does not fit, or if memory is refused.
+fn trace_loaded<R: Files, O: Write>(
+    call: &Call<'_, '_, R>,
+    pipeline: Pipeline,
+    subject: Subject<'_>,
+    sources: &Sources,
+    given: &Replacements<'_>,
+    asked: Asked,
+    out: &mut O,
+) -> Result<Reply, Reply>
+    requires limit { asked.which.records ≤ MAX_RUN_TURNS }
+    requires ascending { IsAscending 0 asked.pattern.items }
+{
+    let is_json = call.flag("json");
     if let Some(port) = asked.which.port
         && usize::from(port) >= pipeline.ports()
     {
-        return Err(no_node(alloc, Entry::Port(port)));
+        return Err(no_node(call.alloc, Entry::Port(port)));
     }
-    let Ok(nodes) = sources_of(alloc, &pipeline, subject, &sources) else {
-        return Err(without_memory(alloc, false));
+    let Ok(nodes) = sources_of(call.alloc, &pipeline, subject, sources) else {
+        return Err(without_memory(call.alloc, is_json));
     };
     let labels = labels_in(call, nodes.as_slice())?;
     let picked = Picked {
@@ -305,18 +322,66 @@ fn traced<R: Files, O: Write>(call: &Call<'_, '_, R>, out: &mut O) -> Result<Rep
         },
         pattern: asked.bytes,
     };
-    let is_selective = picked.only.is_some() || picked.at.is_some() || picked.pattern.is_some();
     let shown = Shown {
         sources: nodes.as_slice(),
         picked,
+        is_json,
     };
     let Asked { which, pattern, .. } = asked;
-    Ok(trace_pipeline(call, pipeline, pattern, which, shown, is_selective, out))
+    Ok(trace_pipeline(call, pipeline, given, pattern, which, shown, out))
+}
+
+/// `dpv trace FILE`.
+fn traced<R: Files, O: Write>(call: &Call<'_, '_, R>, out: &mut O) -> Result<Reply, Reply> {
+    let (alloc, is_json) = (call.alloc, call.flag("json"));
+    let asked = asked_in(call)?;
+    let file = read_pipeline(call, is_json)?;
+    let subject = file.subject();
+    let sources = read_nodes(call, subject, None, How::Given, is_json)?;
+    let pipeline = match load(alloc, file.text(), &mut Lent(&sources), How::Given) {
+        Ok(pipeline) => pipeline,
+        Err(error) => return Err(unloaded(alloc, error, subject, &sources, is_json)),
+    };
+    let given = Replacements::none(alloc);
+    trace_loaded(call, pipeline, subject, &sources, &given, asked, out)
 }
 
 /// `dpv trace FILE`: prints the records as they end; the reply has the rest.
 pub fn trace_file<R: Files, O: Write>(call: &Call<'_, '_, R>, out: &mut O) -> Reply {
     match traced(call, out) {
+        Ok(reply) | Err(reply) => reply,
+    }
+}
+
+/// `dpv trace-one NODE CERT IN`.
+fn traced_one<R: Files, O: Write>(call: &Call<'_, '_, R>, out: &mut O) -> Result<Reply, Reply> {
+    let (alloc, is_json, env) = (call.alloc, call.flag("json"), one_env());
+    let asked = asked_in(call)?;
+    let files = SingleFiles {
+        program: call.word("NODE"),
+        cert: Some(call.word("CERT")),
+        input: call.word("IN"),
+        output: "",
+    };
+    let Ok(given) = Replacements::of_one(alloc, files.input, files.output) else {
+        return Err(without_memory(alloc, is_json));
+    };
+    let subject = Subject::Single {
+        env: &env,
+        program: files.program,
+        cert: files.cert,
+    };
+    let sources = read_nodes(call, subject, None, How::Given, is_json)?;
+    let pipeline = match load_single(alloc, env.copy(), ONE_REGION, files, &mut Lent(&sources)) {
+        Ok(pipeline) => pipeline,
+        Err(error) => return Err(unloaded(alloc, error, subject, &sources, is_json)),
+    };
+    trace_loaded(call, pipeline, subject, &sources, &given, asked, out)
+}
+
+/// `dpv trace-one NODE CERT IN`: prints the records as they end; the reply has the rest.
+pub fn trace_one<R: Files, O: Write>(call: &Call<'_, '_, R>, out: &mut O) -> Reply {
+    match traced_one(call, out) {
         Ok(reply) | Err(reply) => reply,
     }
 }

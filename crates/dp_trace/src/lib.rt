@@ -1,12 +1,13 @@
 //! `dpv trace`: the first records of a pipeline's captures, instruction by instruction.
 //!
 //! [`trace_records`] runs a pipeline over readers by dp_pipe's `trace` and prints each selected record as it ends: where it came in, each node run,
-//! each instruction with what it changed, and the outcome. Its contract is that of `trace`: the records are those of the readers, in turn. The
-//! wording of the text is tested, not proved. A text for which memory was refused, or that could not be written, ends the printing; the run goes on,
-//! and [`Printed`] says which it was.
+//! each instruction with what it changed, and the outcome; as text, or each as a JSON document. Its contract is that of `trace`: the records are those
+//! of the readers, in turn. The wording is tested, not proved. A text for which memory was refused, or that could not be written, ends the printing;
+//! the run goes on, and [`Printed`] says which it was.
 #![tactic(auto)]
 
 mod changes;
+mod document;
 mod listing;
 mod matching;
 mod outcome;
@@ -16,6 +17,7 @@ mod summary;
 mod tracer;
 mod written;
 
+pub use document::say_end;
 pub use listing::{NamedLabel, NodeTexts};
 pub use matching::{Pattern, pattern_in};
 pub use outcome::{Only, Picked, only_in};

@@ -22,6 +22,8 @@ pub struct Shown<'a> {
     pub sources: &'a [NodeTexts<'a>],
     /// Which records are printed.
     pub picked: Picked<'a>,
+    /// Whether each record is printed as a JSON document.
+    pub is_json: bool,
 }
 
 /// The result of a traced run.
@@ -73,7 +75,7 @@ fn trace_begun<K: Known, R: Feed, O: Write>(
         ports,
         nodes: nodes.as_slice(),
     };
-    let mut printing = Printing::new(alloc, out, listing, shown.picked);
+    let mut printing = Printing::new(alloc, out, listing, shown.picked, shown.is_json);
     let answer = trace::<K, _, _>(alloc, pipeline, ins, pattern, which, &mut printing);
     let (printed, shown) = printing.ended();
     Ok(TracedRun {

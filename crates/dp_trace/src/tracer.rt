@@ -3,12 +3,13 @@
 ghost use Rattle.std.specs.Prelude.{◌≡◌};
 
 use crate::changes::{say_call, say_changes};
+use crate::document::{Arrival, Event, RecordDocument, Span, outcome_text};
 use crate::listing::Listing;
 use crate::outcome::{Picked, RecordOutcome};
 use crate::snapshot::{NOTHING, Snapshot};
 use crate::summary::Summary;
 use crate::written::{BytesBefore, bytes_before};
-use dp_console::Text;
+use dp_console::{Text, document_of};
 use dp_engine::{Outcome, Turn, View, Watch, Way};
 use dp_model::{Entry, PacketRegister};
 use dp_pcap::Time;
@@ -30,9 +31,12 @@ pub enum Printed {
 /// Prints the selected records of a traced run. After its first failure the writer is not called again.
 #[derive(Drop)]
 pub struct Printing<'a, W> {
+    alloc: Global,
     out: W,
     listing: Listing<'a>,
     picked: Picked<'a>,
+    /// Whether each record is a JSON document.
+    is_json: bool,
     node: Entry,
     /// The number of the record, from 1.
     records: u32,
@@ -43,25 +47,46 @@ pub struct Printing<'a, W> {
     next: Option<BytesBefore>,
     /// The text to print for the record.
     text: Text,
+    /// The record as it came in.
+    arrival: Arrival,
+    /// The line of the text that says what the record is.
+    summary: Option<Span>,
+    /// What happens to the record, if it is a document.
+    events: Vec<Event>,
     became: RecordOutcome,
     printed: Printed,
 }
 
 impl<'a, W: Write + Drop> Printing<'a, W> {
     /// Makes a tracer for a run of these programs.
-    pub fn new(alloc: Global, out: W, listing: Listing<'a>, picked: Picked<'a>) -> Printing<'a, W>
+    pub fn new(
+        alloc: Global,
+        out: W,
+        listing: Listing<'a>,
+        picked: Picked<'a>,
+        is_json: bool,
+    ) -> Printing<'a, W>
         ensures { result.records ≡ 0 }
     {
         Printing {
+            alloc,
             out,
             listing,
             picked,
+            is_json,
             node: Entry::Port(0),
             records: 0,
             shown: 0,
             before: NOTHING,
             next: None,
             text: Text::new(alloc),
+            arrival: Arrival {
+                port: 0,
+                time: Time { sec: 0, nano: 0 },
+                len: 0,
+            },
+            summary: None,
+            events: Vec::new(alloc),
             became: RecordOutcome::new(alloc),
             printed: Printed::Whole,
         }
@@ -72,17 +97,43 @@ impl<'a, W: Write + Drop> Printing<'a, W> {
         (self.printed, self.shown)
     }
 
+    /// Where the text of the record ends.
+    fn end(&self) -> usize {
+        self.text.bytes.len()
+    }
+
+    /// Notes what happens to the record, and that the text from a byte on says what this changed.
+    fn note_event(&mut self, label: Option<u16>, from: usize)
+        ensures { self.new.records ≡ self.old.records }
+    {
+        if !self.is_json {
+            return;
+        }
+        let (node, to) = (self.node, self.end());
+        let changes = Span { from, to };
+        let event = Event {
+            node,
+            label,
+            changes,
+        };
+        if self.events.push(event).is_err() {
+            self.text.has_failed = true;
+        }
+    }
+
     /// Adds an instruction, what it changed, and the bytes that it wrote.
     fn say_step(&mut self, label: u16, way: Way, view: &View<'_>, now: &Snapshot)
         ensures { self.new.records ≡ self.old.records }
     {
         let text = self.listing.text(self.node, label);
         self.text.say(format_args!("{label:>4}  {text}\n"));
+        let from = self.end();
         let is_made = now.has_new_packet(&self.before);
         say_changes(&mut self.text, view, &self.before, now, is_made);
         if let Some(bytes) = self.next {
             bytes.say(view, &mut self.text);
         }
+        self.note_event(Some(label), from);
         if let Some(instr) = self.listing.instr(self.node, label) {
             self.became.note(self.node, label, instr, way, view);
         }
@@ -106,8 +157,10 @@ impl<'a, W: Write + Drop> Printing<'a, W> {
         ensures { self.new.records ≡ self.old.records }
     {
         if let Some(segment) = view.segment(PacketRegister::new(0), 0) {
-            let bytes = segment.bytes;
+            let (bytes, from) = (segment.bytes, self.end());
             self.text.say(format_args!("      {}\n", Summary(bytes)));
+            let to = self.end();
+            self.summary = Some(Span { from, to });
             if let Some(pattern) = self.picked.pattern {
                 self.became.has_pattern = pattern.is_in(bytes);
             }
@@ -144,11 +197,41 @@ impl<'a, W: Write + Drop> Printing<'a, W> {
             .is_picked(&self.picked, self.records, is_received)
         {
             self.shown = self.shown.saturating_add(1);
-            if self.out.write_all(self.text.bytes.as_slice()).is_err() {
-                self.printed = Printed::Failed;
-            }
+            self.print_record(turn, now);
         }
     }
+
+    /// Prints the record, as text or as a document.
+    fn print_record(&mut self, turn: Turn, now: &Snapshot)
+        ensures { self.new.records ≡ self.old.records }
+    {
+        let mut line = Text::new(self.alloc);
+        if self.is_json {
+            let document = RecordDocument {
+                number: self.records,
+                arrival: self.arrival,
+                turn,
+                lists: &now.lists,
+                listing: self.listing,
+                text: text_of(self.text.bytes.as_slice()),
+                summary: self.summary,
+                events: self.events.as_slice(),
+                became: text_of(became_text(turn.outcome, &self.became)),
+            };
+            document_of(self.alloc, &document, &mut line);
+        }
+        let printed = if self.is_json { &line } else { &self.text };
+        if printed.has_failed {
+            self.printed = Printed::NoMemory;
+        } else if self.out.write_all(printed.bytes.as_slice()).is_err() {
+            self.printed = Printed::Failed;
+        }
+    }
+}
+
+/// A text of a trace, which has ASCII characters alone.
+fn text_of(bytes: &[u8]) -> &str {
+    str::from_utf8(bytes).unwrap_or("")
 }
 
 /// Adds how many packets each port sends.
@@ -179,15 +262,6 @@ fn label_after(label: u16, way: Way) -> Option<u16> {
     }
 }
 
-/// The name of an outcome.
-fn outcome_text(outcome: Outcome) -> &'static str {
-    match outcome {
-        Outcome::Got => "received",
-        Outcome::NoBuffer => "nobuf",
-        Outcome::Oversize => "oversize",
-    }
-}
-
 impl<W: Write + Drop> Watch for Printing<'_, W> {
     ghost use Rattle.dp_trace.specs.Traces.{numbers_event};
 
@@ -204,8 +278,10 @@ impl<W: Write + Drop> Watch for Printing<'_, W> {
         }
         let name = NodeName(node);
         self.text.say(format_args!("{name}\n"));
+        let from = self.end();
         // (if a node run of a port begins, the call for its record was not refused)
         say_changes(&mut self.text, &view, &self.before, &now, is_received);
+        self.note_event(None, from);
         self.look_ahead(Some(0), &view);
         self.before = now;
     }
@@ -230,6 +306,9 @@ impl<W: Write + Drop> Tracer for Printing<'_, W> {
         self.records = self.records.saturating_add(1);
         self.text.bytes.clear();
         self.became.clear();
+        self.arrival = Arrival { port, time, len };
+        self.summary = None;
+        self.events.clear();
         let number = self.records;
         let (seconds, nanos) = (time.sec, time.nano);
         self.text.say(format_args!("record {number} port {port}"));
