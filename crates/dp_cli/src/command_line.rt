@@ -132,7 +132,7 @@ const DOT: Word = Word {
 const COUNTS_FILE: Word = Word {
     name: "counts",
     form: Form::Valued("COUNTS"),
-    help: "with --dot, what run FILE --counts --json printed: how often control went which way",
+    help: "with --dot, what run FILE --counts --json printed: each arrow gets its count",
 };
 
 const COUNTS: Word = Word {
@@ -297,22 +297,22 @@ const VERBS: &[Verb] = &[
     },
     Verb {
         name: "infer",
-        about: "Prints the certificate of a program of a pipeline, all inferred",
+        about: "Infers the certificates of a pipeline, and prints one",
         words: &[&FILE, &WHICH],
     },
     Verb {
         name: "infer-one",
-        about: "Prints the certificate of one program, inferred for the port of one",
+        about: "Infers the certificate of one program on the port of one, and prints it",
         words: &[&NODE],
     },
     Verb {
         name: "explain",
-        about: "Says of the programs of a pipeline why they are refused and what would help; check --sizes says of its region what needs it",
+        about: "Explains why programs of a pipeline are refused, and what helps; check --sizes shows what takes the bytes of its region",
         words: &[&FILE, &WHICH_OR_ALL, &JSON],
     },
     Verb {
         name: "explain-one",
-        about: "Says of one program, on the port of one, why it is refused and what would help",
+        about: "Explains why one program is refused on the port of one, and what helps",
         words: &[&NODE, &INFERRED_CERT, &JSON],
     },
     Verb {

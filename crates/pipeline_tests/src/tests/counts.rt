@@ -59,7 +59,7 @@ const DOCUMENT: &[&str] = &[
 
 /// What is read of the counts of a node.
 enum Answer {
-    /// There are so many instructions; of some, how often each ran and its jump was taken.
+    /// The number of instructions; of some, how often each ran and its jump was taken.
     Counted(usize, &'static [(usize, ReadCount)]),
     /// There is no such node.
     NoNode,

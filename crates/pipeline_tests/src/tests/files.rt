@@ -10,7 +10,7 @@ pub enum Content {
     Text(&'static [&'static str]),
     /// A certificate of these rows. Zeros are left out at the end of each.
     Rows(&'static [&'static str]),
-    /// A text, so many times, and then another.
+    /// A text, this number of times, and then another.
     Repeated(&'static str, usize, &'static str),
 }
 

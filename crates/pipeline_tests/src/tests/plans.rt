@@ -153,7 +153,7 @@ fn input(alloc: Global, err: Stderr, plan: &Plan) -> Result<Input, Fail> {
     Ok(OfBufReader::new(reader))
 }
 
-// An output to a disk that takes so many bytes.
+// An output to a disk that is full after this number of bytes.
 fn output(alloc: Global, left: usize) -> Result<Output, Fail> {
     let guarded = Guarded::new(Disk { left, taken: 0 }, "out");
     let writer = BufWriter::with_capacity(alloc, 65_536, guarded)?;
@@ -206,7 +206,7 @@ pub fn watcher_of(
     }
 }
 
-/// Runs a pipeline under a watcher, on a disk that takes so many bytes. Returns also how many it took.
+/// Runs a pipeline under a watcher, on a disk that is full after this number of bytes. Returns also how many it took.
 pub fn ran(
     alloc: Global,
     err: Stderr,

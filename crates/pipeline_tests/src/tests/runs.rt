@@ -20,7 +20,7 @@ use std::alloc::{AllocError, Global};
 use std::io::Stderr;
 use std::test::Fail;
 
-/// A run on a disk of so many bytes: how many bytes it took, how many records the port received and sent, the error of the disk, and how often the
+/// A run on a disk of this size: how many bytes it took, how many records the port received and sent, the error of the disk, and how often the
 /// first transmit list, ring and pool were too small, as far as the watcher counts it.
 struct Run {
     plan: Plan,
@@ -124,7 +124,7 @@ static RUNS: &[Run] = &[
     },
 ];
 
-/// Runs by `run_line`, on a disk of so many bytes: how many it took, the status, and what is printed.
+/// Runs by `run_line`, on a disk of this size: how many it took, the status, and what is printed.
 static LINES: &[(Plan, usize, usize, u8, &str, &str)] = &[
     (TWICE, 1000, 44, 0, REPORT, ""),
     (

@@ -138,7 +138,7 @@ fn text_of(alloc: Global, shown: &Shown) -> Result<String, AllocError> {
     }
 }
 
-// The first that is shown in another way, from 0.
+// The first that is shown otherwise, from 0.
 fn first_wrong(alloc: Global) -> Result<Option<usize>, AllocError> {
     for (k, (shown, want)) in TEXTS.iter().enumerate() {
         if text_of(alloc, shown)?.as_str() != *want {
