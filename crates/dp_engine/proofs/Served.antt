@@ -70,7 +70,7 @@ can_run c nodes b keeps limits safe = record {
 
 -- ---- a record
 
--- what is known of a port
+-- what is known about a port
 pub record AtPort (c : Setting) (nodes : Nodes) (port : ℕ) (spec : PortSpec) : Type 0 where
   pub spec_is : slice_get c.env.ports port ≡ Some spec
   pub program : List Instr
@@ -156,7 +156,7 @@ pub record Next (c : Setting) (nodes : Nodes) (m m' : Core) (ring : ℕ) : Type 
   pub taken : m' ≡ moved (first_state next.packet next.ring (record m.state.world { rings = next.rings })) m
   pub there : ring < length c.env.rings
 
--- what is known of a machine from which a packet is taken
+-- what is known about a machine from which a packet is taken
 abbrev IsTaken : Core → Core → ℕ → Option (Waiting Packet) → Type 0
 IsTaken m m' ring o =
     MatchOption o ((Some ring ≡ None) × (m' ≡ m))

@@ -26,7 +26,7 @@ pub record Returns (n : ℕ) (old new : EngineMemoryView) : Type 0 where
   pub size : new.size ≡ old.size
   pub out : new.out + n ≡ old.out
 
--- the first slots hold, in order, what P says of the first list; the others are empty
+-- the first slots hold, in order, what P says about the first list; the others are empty
 abbrev pub Fills : {X V : Type 0} → (X → V → Type 0) → X → Option V → Type 0
 Fills P x None = ⊥
 Fills P x (Some v) = P x v

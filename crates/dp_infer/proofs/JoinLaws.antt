@@ -367,7 +367,7 @@ met_well_formed there row = go there.live refl
     go true e = rw e (joined_well_formed there row)
     go false e = rw e (joined_well_formed row row)
 
--- ---- what is known of two packets
+-- ---- what is known about two packets
 
 pub left_empty : (fact other : Fact) → holding fact ≡ None → Empty ≡ joined_fact fact other
 left_empty Empty other e = refl

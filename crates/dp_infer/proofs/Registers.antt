@@ -57,6 +57,6 @@ facts_at (f ∷ fs) (g ∷ gs) (suc p) h = facts_at fs gs p h.1
 facts_at [] (g ∷ gs) p h = absurd h
 facts_at (f ∷ fs) [] p h = absurd h
 
--- what is known of a packet
+-- what is known about a packet
 pub held_both : (a b : Row) (p : ℕ) → Stronger a b → StrongerOption (held_at a p) (held_at b p)
 held_both a b p h = facts_at a.facts b.facts p h.facts

@@ -28,7 +28,7 @@ fn joined_share(share: u8, other: u8) -> u8
     }
 }
 
-/// What is known of both packets: the lesser of each measure, and the greater number of segments.
+/// What is known about both packets: the lesser of each measure, and the greater number of segments.
 fn joined_holding(h: Holding, with: Holding) -> Holding
     ensures { held result ≡ spec.joined_fact (held h) (held with) }
 {

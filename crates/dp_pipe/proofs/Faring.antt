@@ -143,7 +143,7 @@ pub sound_writers : {D A : Type 0} (is_broken : D → Bool) (failures : D → �
 sound_writers is_broken failures (Ok done) olds news many fared sound ok = still_sound is_broken failures olds news many fared sound
 sound_writers is_broken failures (Err cause) olds news many fared sound ok = cc
 
--- ---- what a cause says of the others
+-- ---- what a cause says about the others
 
 -- a fault of one input is not of another's reader
 pub not_other : (error : PcapError) (port q : ℕ) → q ≢ port → failed_reader {A = ⊤} (Err (In port error)) q ≡ false

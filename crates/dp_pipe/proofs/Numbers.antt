@@ -112,7 +112,7 @@ left_only (suc most) (n ∷ counts) few = ap (λ m. m ∷ take (length counts) (
 
 -- ---- a report
 
--- what is known of an engine after a run: what it has counted of each port, and what is in its world
+-- what is known about an engine after a run: what it has counted of each port, and what is in its world
 pub record IsCounted (p : Plan) (pattern : List ℕ) (arrivals : List (Arrival Time)) (run : PacketRun p pattern arrivals) (e : EngineState) (sent : ℕ →
     ℕ) : Type 0 where
   pub setting : e.setting ≡ setting_in p pattern

@@ -88,7 +88,7 @@ pulls_most TooMany = omega arith
 pulls_most Read = omega arith
 pulls_most error = omega arith
 
--- what a fault says of the bytes
+-- what a fault says about the bytes
 pub refuses_of : (error : PcapError) (s s' : SourceState) (unit : TimeUnit) (records : List PacketRecord) (bytes rest buf : List ℕ) → s.unit ≡ unit →
     ReadsOn bytes records s s' rest buf (Err error) → Refuses unit records error bytes rest
 refuses_of BadMagic s s' unit records bytes rest buf same has = rw (← same) has

@@ -7,7 +7,7 @@ use dp_pipe::NodeName;
 use dp_region::{CACHE_LINE, MIN_REGION};
 use std::fmt;
 
-/// What is known of a run that its report does not have.
+/// What is known about a run that its report does not have.
 #[derive(Clone, Copy)]
 pub struct Notes {
     /// The size of the pipeline's region, and the bytes that it needs.

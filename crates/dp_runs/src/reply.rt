@@ -35,7 +35,7 @@ pub struct Printing<'p, 'a> {
     pub is_stdout_taken: bool,
     /// The finding for the capture at which the run stopped.
     pub found: Option<Finding<'p>>,
-    /// What is known of the run that its report does not have, if what it lost is said.
+    /// What is known about the run that its report does not have, if what it lost is said.
     pub notes: Option<Notes>,
 }
 

@@ -14,7 +14,7 @@ use Rattle.dp_engine.proofs.Writing.{piece_more}
 use Rattle.dp_engine.proofs.copying.copy_packet.Goals as goal
 use Rattle.dp_engine.proofs.copying.copy_packet.Goals.{After-segment_bytes-part}
 
--- what is known of it: its bytes come next, and there is room for them
+-- what is known about it: its bytes come next, and there is room for them
 record Next (c : After-segment_bytes-part) (k : Packet) : Type 0 where
   more : flat_map (segment_bytes c.args.mbufs.now.store.buffers) (take (c.loop-index.index + 1) k)
       ≡ flat_map (segment_bytes c.args.mbufs.now.store.buffers) (take c.loop-index.index k) ++ c.segment_bytes-part.result.now

@@ -11,7 +11,7 @@ use Rattle.dp_engine.proofs.Batches.{bytes_long, holds_more, frames_next, keeps_
 use Rattle.dp_engine.proofs.machine.Machine.copy_list.Goals as goal
 use Rattle.dp_engine.proofs.machine.Machine.copy_list.Goals.{After-copy_waiting-arg-1}
 
--- what is known of it: its index in the list, and that the batch has room for it
+-- what is known about it: its index in the list, and that the batch has room for it
 record Next (c : After-copy_waiting-arg-1) (packets : List Packet) : Type 0 where
   packet : Packet
   here : slice_get packets c.loop-at.at ≡ Some packet
