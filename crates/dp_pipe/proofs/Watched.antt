@@ -1,4 +1,4 @@
--- What a watcher is shown of a run, turn by turn: as a tracer to which nothing is reported between turns.
+-- What a watcher is shown of a run, turn by turn: the same as a tracer to which nothing is reported between turns.
 use Rattle.std.proofs.Common.{◌≡◌, ℕ, ◌+◌, ◌≤◌, List, length, map, None, Some, Result, Ok, Err, refl, sym, ◌∙◌, ap, subst, arith, ◌⊎◌, inl, inr}
 use Rattle.std.specs.Prelude.{slice_get, slice_set, ⊤}
 use Rattle.std.specs.List.{AllByRecursion}

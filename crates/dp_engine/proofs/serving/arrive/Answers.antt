@@ -1,4 +1,4 @@
--- A record at a port: what is known about the port, of what is received and of the node run on it is derived once, and each goal is one step from there.
+-- A record at a port: what is known about the port, about what is received and about the node run is derived once, and each goal is one step from there.
 use Rattle.std.proofs.Common.{◌≡◌, ◌≤◌, ℕ, Bool, false, List, [], ◌∷◌, length, refl, sym, ◌∙◌, ap, subst, arith}
 use Rattle.std.specs.Prelude.{slice_index_or}
 use Rattle.dp_model.specs.declared.env.PortSpec.{PortSpec}
