@@ -1,3 +1,4 @@
+pub mod Commands
 pub mod Given
 pub mod Operands
 pub mod Program

@@ -1,5 +1,9 @@
 //! The commands that judge programs: `check`, `infer`, `explain`, `show`, `compile` and those on one program; and `mem`.
 
+ghost use Rattle.std.specs.Prelude.{◌≡◌, ◌⊎◌, IfErr, IfOk, codes};
+ghost use Rattle.clap.specs.Matches.{found_of};
+ghost use Rattle.dp_cli.specs.Commands.{ChecksFile, InfersNode, InfersOne, IsLoaded, IsUndone};
+
 use crate::call::{Call, wrong};
 use crate::reading::{node_in, read_file, read_nodes, read_pipeline, which_in};
 use dp_console::{DONE, Reply};
@@ -27,7 +31,10 @@ fn say_more<R>(call: &Call<'_, '_, R>, pipeline: &Pipeline, reply: &mut Reply) {
 }
 
 /// `dpv check FILE`.
-fn checked<R: Files>(call: &Call<'_, '_, R>) -> Result<Reply, Reply> {
+fn checked<R: Files>(call: &Call<'_, '_, R>) -> Result<Reply, Reply>
+    ensures checks { IfOk result (ChecksFile (found_of call.now.words.now)) }
+    ensures undone { IfErr result IsUndone }
+{
     let (is_json, with_sizes) = (call.flag("json"), call.flag("sizes"));
     if is_json && with_sizes {
         return Err(wrong(
@@ -48,7 +55,10 @@ fn checked<R: Files>(call: &Call<'_, '_, R>) -> Result<Reply, Reply> {
 }
 
 /// A pipeline that is loaded with its named certificates, or with inferred ones.
-fn loaded<R: Files>(call: &Call<'_, '_, R>, how: How) -> Result<Pipeline, Reply> {
+fn loaded<R: Files>(call: &Call<'_, '_, R>, how: How) -> Result<Pipeline, Reply>
+    ensures loaded { IfOk result (IsLoaded how) }
+    ensures undone { IfErr result IsUndone }
+{
     let given = read_pipeline(call, false)?;
     let subject = given.subject();
     let sources = read_nodes(call, subject, None, how, false)?;
@@ -59,7 +69,10 @@ fn loaded<R: Files>(call: &Call<'_, '_, R>, how: How) -> Result<Pipeline, Reply>
 }
 
 /// `dpv infer FILE WHICH`.
-fn inferred<R: Files>(call: &Call<'_, '_, R>) -> Result<Reply, Reply> {
+fn inferred<R: Files>(call: &Call<'_, '_, R>) -> Result<Reply, Reply>
+    ensures infers { IfOk result (InfersNode (found_of call.now.words.now)) }
+    ensures undone { IfErr result IsUndone }
+{
     let node = node_in(call.alloc, call.word("WHICH"))?;
     let pipeline = loaded(call, How::Inferred)?;
     Ok(infer(call.alloc, &pipeline, node))
@@ -107,7 +120,10 @@ fn alone<'a>(env: &'a Env, program: &'a str) -> Subject<'a> {
 }
 
 /// `dpv infer-one NODE`.
-fn inferred_one<R: Files>(call: &Call<'_, '_, R>) -> Result<Reply, Reply> {
+fn inferred_one<R: Files>(call: &Call<'_, '_, R>) -> Result<Reply, Reply>
+    ensures infers { IfOk result (InfersOne (found_of call.now.words.now)) }
+    ensures undone { IfErr result IsUndone }
+{
     let env = one_env();
     let program = call.word("NODE");
     let subject = alone(&env, program);
@@ -195,7 +211,12 @@ fn played<R: Files>(call: &Call<'_, '_, R>) -> Result<Reply, Reply> {
 }
 
 /// The reply to the command of this name, or the reply to what is wrong with its words or its files.
-fn judge<R: Files>(call: &Call<'_, '_, R>, name: &str) -> Result<Reply, Reply> {
+fn judge<R: Files>(call: &Call<'_, '_, R>, name: &str) -> Result<Reply, Reply>
+    ensures check { name.now ≡ codes "check" → IfOk result (ChecksFile (found_of call.now.words.now)) }
+    ensures infer { name.now ≡ codes "infer" → IfOk result (InfersNode (found_of call.now.words.now)) }
+    ensures infer_one { name.now ≡ codes "infer-one" → IfOk result (InfersOne (found_of call.now.words.now)) }
+    ensures undone { name.now ≡ codes "check" ⊎ (name.now ≡ codes "infer" ⊎ name.now ≡ codes "infer-one") → IfErr result IsUndone }
+{
     match name {
         "check" => checked(call),
         "infer" => inferred(call),
@@ -211,7 +232,11 @@ fn judge<R: Files>(call: &Call<'_, '_, R>, name: &str) -> Result<Reply, Reply> {
 }
 
 /// The reply to the command of this name.
-pub fn answer<R: Files>(call: &Call<'_, '_, R>, name: &str) -> Reply {
+pub fn answer<R: Files>(call: &Call<'_, '_, R>, name: &str) -> Reply
+    ensures check { name.now ≡ codes "check" → ChecksFile (found_of call.now.words.now) result ⊎ IsUndone result }
+    ensures infer { name.now ≡ codes "infer" → InfersNode (found_of call.now.words.now) result ⊎ IsUndone result }
+    ensures infer_one { name.now ≡ codes "infer-one" → InfersOne (found_of call.now.words.now) result ⊎ IsUndone result }
+{
     match judge(call, name) {
         Ok(reply) | Err(reply) => reply,
     }

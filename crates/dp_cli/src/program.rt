@@ -1,8 +1,10 @@
 //! The program `dpv`: finds the command, runs it, and returns the exit status.
 
-ghost use Rattle.std.specs.Prelude.{◌≡◌, ◌⊎◌};
+ghost use Rattle.std.specs.Prelude.{◌≡◌, ◌⊎◌, codes};
+ghost use Rattle.clap.specs.Matches.{found_of};
 ghost use Rattle.clap.specs.Words.{kind_of};
 ghost use Rattle.dp_console.specs.Replies.{EndsWith};
+ghost use Rattle.dp_cli.specs.Commands.{Answers, EndsCommand};
 ghost use Rattle.dp_cli.specs.Program.{EndsHelped};
 
 use crate::call::{Call, wrong};
@@ -68,7 +70,9 @@ fn reply_to<K: Known, R: Files>(
     call: &Call<'_, '_, R>,
     name: &str,
     reports_interpreted: bool,
-) -> Reply {
+) -> Reply
+    ensures { Answers R.File.remaining name.now (found_of call.now.words.now) result }
+{
     match name {
         "run" => run_file::<K, R>(call, reports_interpreted),
         "one" => run_one(call),
@@ -83,7 +87,11 @@ fn run_command<K: Known, R: Files, O: Write, E: Write>(
     name: &str,
     reports_interpreted: bool,
     console: &mut Console<O, E>,
-) -> u8 {
+) -> u8
+    ensures { (name.now ≡ codes "trace" → ⊥) → (name.now ≡ codes "trace-one" → ⊥) → EndsCommand R.File.remaining name.now (found_of call.now.words.now)
+        console.old.has_failed console.new.has_failed (O.contents console.old.out) (O.contents console.new.out) (E.contents console.old.err)
+        (E.contents console.new.err) result }
+{
     let reply = match name {
         "trace" => trace_file(call, &mut console.out),
         "trace-one" => trace_one(call, &mut console.out),

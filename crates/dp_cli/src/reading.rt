@@ -1,6 +1,8 @@
 //! The files that a command reads before it decides.
 
-ghost use Rattle.std.specs.Prelude.{◌≡◌};
+ghost use Rattle.std.specs.Prelude.{◌≡◌, IfErr, IfOk};
+ghost use Rattle.dp_cli.specs.Commands.{IsUndone};
+ghost use Rattle.dp_cli.specs.Operands.{word_of};
 
 use crate::call::{Call, wrong};
 use crate::operands::node_named;
@@ -64,7 +66,9 @@ pub fn read_file<R: Files>(
     call: &Call<'_, '_, R>,
     name: &str,
     is_json: bool,
-) -> Result<Source, Reply> {
+) -> Result<Source, Reply>
+    ensures { IfErr result IsUndone }
+{
     let Ok(source) = read(call.rt, call.alloc, name) else {
         return Err(without_memory(call.alloc, is_json));
     };
@@ -79,7 +83,9 @@ pub fn read_file<R: Files>(
 /// # Errors
 ///
 /// The reply if it is not read, or is not a pipeline file.
-pub fn read_pipeline<R: Files>(call: &Call<'_, '_, R>, is_json: bool) -> Result<Given, Reply> {
+pub fn read_pipeline<R: Files>(call: &Call<'_, '_, R>, is_json: bool) -> Result<Given, Reply>
+    ensures { IfErr result IsUndone }
+{
     let source = read_file(call, call.word("FILE"), is_json)?;
     match survey_of(call.alloc, source.bytes.as_slice()) {
         Ok(survey) => Ok(Given { source, survey }),
@@ -101,7 +107,9 @@ pub fn read_nodes<R: Files>(
     which: Option<Entry>,
     how: How,
     is_json: bool,
-) -> Result<Sources, Reply> {
+) -> Result<Sources, Reply>
+    ensures { IfErr result (λ reply. reply.status ≡ MEMORY) }
+{
     match read_sources(call.rt, call.alloc, subject, which, how) {
         Ok(sources) => Ok(sources),
         Err(_) => Err(without_memory(call.alloc, is_json)),
@@ -113,7 +121,10 @@ pub fn read_nodes<R: Files>(
 /// # Errors
 ///
 /// The reply if the word names no node.
-pub fn node_in(alloc: Global, word: &str) -> Result<Entry, Reply> {
+pub fn node_in(alloc: Global, word: &str) -> Result<Entry, Reply>
+    ensures named { IfOk result (λ node. word.now ≡ word_of node) }
+    ensures wrong { IfErr result (λ reply. reply.status ≡ 2) }
+{
     match node_named(word) {
         Some(node) => Ok(node),
         None => Err(wrong(

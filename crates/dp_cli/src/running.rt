@@ -3,6 +3,7 @@
 ghost use Rattle.std.specs.Prelude.{◌≡◌, ◌⊎◌, IfErr, IfOk, IfSome, None, Some, codes, length, map};
 ghost use Rattle.clap.specs.Matches.{found_of};
 ghost use Rattle.dp_engine.specs.Engines.{IsAscending};
+ghost use Rattle.dp_cli.specs.Commands.{IsUndone, RunsFilter, RunsOne, RunsSingle};
 ghost use Rattle.dp_cli.specs.Given.{AreGiven, IsWrong, RunsFile, calls_in, words_of as given_words};
 ghost use Rattle.dp_cli.specs.Operands.{IsFlag};
 ghost use Rattle.dp_cli.specs.Runs.{NeverRuns, RunsOver, SaysRun, status_unopened, takes_stream};
@@ -425,7 +426,8 @@ fn ready_of<'a, R: Files>(
     sources: &'a Sources,
     file: Option<&str>,
 ) -> Result<Ready<'a>, Reply>
-    ensures { IfOk result (λ ready. ready.pipeline ≡ pipeline) }
+    ensures ready { IfOk result (λ ready. ready.pipeline ≡ pipeline) }
+    ensures memory { IfErr result (λ reply. reply.status ≡ 4) }
 {
     let is_json = call.flag("json");
     let Ok(programs) = programs_of(call.alloc, &pipeline, subject, sources) else {
@@ -482,7 +484,8 @@ fn ran<K: Known, R: Files>(
     call: &Call<'_, '_, R>,
     reports_interpreted: bool,
 ) -> Result<Reply, Reply>
-    ensures { IfOk result (RunsFile R.File.remaining (found_of call.now.words.now)) }
+    ensures runs { IfOk result (RunsFile R.File.remaining (found_of call.now.words.now)) }
+    ensures undone { IfErr result IsUndone }
 {
     let alloc = call.alloc;
     let pattern = refused_in(call)?;
@@ -511,7 +514,9 @@ fn ran<K: Known, R: Files>(
 }
 
 /// `dpv run FILE`.
-pub fn run_file<K: Known, R: Files>(call: &Call<'_, '_, R>, reports_interpreted: bool) -> Reply {
+pub fn run_file<K: Known, R: Files>(call: &Call<'_, '_, R>, reports_interpreted: bool) -> Reply
+    ensures { RunsFile R.File.remaining (found_of call.now.words.now) result ⊎ IsUndone result }
+{
     match ran::<K, R>(call, reports_interpreted) {
         Ok(reply) | Err(reply) => reply,
     }
@@ -526,6 +531,8 @@ fn run_single<R: Files>(
 ) -> Result<Reply, Reply>
     requires port { HasOnePort env.now }
     requires region { IsRegionSize region }
+    ensures runs { IfOk result (RunsSingle R.File.remaining env.now region files.entry) }
+    ensures undone { IfErr result IsUndone }
 {
     let alloc = call.alloc;
     let Ok(given) = Replacements::of_one(alloc, files.input, files.output) else {
@@ -548,7 +555,9 @@ fn run_single<R: Files>(
 }
 
 /// `dpv one NODE CERT IN OUT`.
-pub fn run_one<R: Files>(call: &Call<'_, '_, R>) -> Reply {
+pub fn run_one<R: Files>(call: &Call<'_, '_, R>) -> Reply
+    ensures { RunsOne R.File.remaining (found_of call.now.words.now) result ⊎ IsUndone result }
+{
     let files = SingleFiles {
         program: call.word("NODE"),
         cert: Some(call.word("CERT")),
@@ -608,7 +617,9 @@ fn option_in<R>(
     usual: u32,
     least: u32,
     most: u32,
-) -> Result<u32, Reply> {
+) -> Result<u32, Reply>
+    ensures { IfErr result (λ reply. reply.status ≡ 2) }
+{
     let Some(word) = call.value(name) else {
         return Ok(usual);
     };
@@ -622,7 +633,10 @@ fn option_in<R>(
 }
 
 /// `dpv filter PROGRAM IN OUT`.
-fn filtered<R: Files>(call: &Call<'_, '_, R>) -> Result<Reply, Reply> {
+fn filtered<R: Files>(call: &Call<'_, '_, R>) -> Result<Reply, Reply>
+    ensures runs { IfOk result (RunsFilter R.File.remaining (found_of call.now.words.now)) }
+    ensures undone { IfErr result IsUndone }
+{
     let room = option_in(call, "room", ROOM, MIN_PORT_ROOM, MAX_ROOM)?;
     let segs = option_in(call, "segs", 1, 1, u32::from(MAX_SEGMENTS))?;
     let Some(env) = filter_env(room, segs) else {
@@ -639,7 +653,9 @@ fn filtered<R: Files>(call: &Call<'_, '_, R>) -> Result<Reply, Reply> {
 }
 
 /// `dpv filter PROGRAM IN OUT`.
-pub fn run_filter<R: Files>(call: &Call<'_, '_, R>) -> Reply {
+pub fn run_filter<R: Files>(call: &Call<'_, '_, R>) -> Reply
+    ensures { RunsFilter R.File.remaining (found_of call.now.words.now) result ⊎ IsUndone result }
+{
     match filtered(call) {
         Ok(reply) | Err(reply) => reply,
     }

@@ -1,5 +1,5 @@
 -- A check ends with status 0 only if the pipeline was loaded.
-use Rattle.std.proofs.Common.{◌≡◌, ℕ, List, [], ◌∷◌, Option, Some, None, Result, Ok, Err, true, false, refl, subst, inl, inr, arith}
+use Rattle.std.proofs.Common.{◌≡◌, ℕ, List, [], ◌∷◌, Option, Some, None, Result, Ok, Err, Bool, true, false, refl, sym, ◌∙◌, subst, inl, inr, arith}
 use Rattle.std.specs.Prelude.{IfErr, MatchOption}
 use Rattle.dp_pipe.specs.declared.error.PipeError.{PipeError}
 use Rattle.dp_pipe.specs.Pipelines.{Plan}
@@ -9,12 +9,13 @@ use Rattle.dp_sources.specs.declared.fault.Fault.TheVariants as fault
 use Rattle.dp_verdict.specs.declared.finding.RefusedAt.{RefusedAt}
 use Rattle.dp_verdict.specs.declared.finding.Finding.{Finding}
 use Rattle.dp_verdict.specs.declared.report.Report.{Report}
-use Rattle.dp_verdict.specs.Checks.{HasOnly, IsChecked, refusal_of, refused_at}
+use Rattle.dp_console.specs.declared.reply.Reply.{Reply}
+use Rattle.dp_verdict.specs.Checks.{HasOnly, IsChecked, SaysRefused, refusal_of, refused_at}
 use Rattle.dp_sources.specs.Faults as faults
 use Rattle.dp_sources.specs.Faults.{IsFaultOf}
 use Rattle.dp_verdict.specs.Reports.{findings_of, status_of, status_with}
 
-fault_not_zero : (f : Fault) → faults.status_of f ≡ 0 → ⊥
+pub fault_not_zero : (f : Fault) → faults.status_of f ≡ 0 → ⊥
 fault_not_zero fault.Memory zero = absurd (omega (arith, zero))
 fault_not_zero (fault.File name because) zero = absurd (omega (arith, zero))
 fault_not_zero fault.Region zero = absurd (omega (arith, zero))
@@ -46,3 +47,6 @@ not_loaded e (Some refusal) report is zero = only_refused report refusal.0 refus
 pub zero_is_loaded : (loaded : Result Plan PipeError) (report : Report) → IsChecked loaded report → status_of report ≡ 0 → IfErr loaded (λ e. ⊥)
 zero_is_loaded (Ok p) report is zero = tt
 zero_is_loaded (Err e) report is zero = not_loaded e (refusal_of e) report is zero
+
+pub refused_not_zero : (e : PipeError) (is_json : Bool) (reply : Reply) → SaysRefused e is_json reply → reply.status ≡ 0 → ⊥
+refused_not_zero e is_json reply says zero = zero_is_loaded (Err e) says.report says.is (sym says.status ∙ zero)

@@ -122,6 +122,7 @@ fn say_reason(
 }
 
 /// What is said of a pipeline that is not loaded, or of a program without a certificate; then what helps.
+#[tactic(auto, using(crate::proofs::ZeroStatus::refused_not_zero))]
 pub fn unloaded(
     alloc: Global,
     error: PipeError,
@@ -129,7 +130,8 @@ pub fn unloaded(
     sources: &Sources,
     is_json: bool,
 ) -> Reply
-    ensures { SaysRefused error is_json result }
+    ensures says { SaysRefused error is_json result }
+    ensures not_done { result.status ≡ 0 → ⊥ }
 {
     let mut reply = reply_of(alloc, &refused(alloc, error, subject, sources), is_json);
     if reply.status != MEMORY {
@@ -164,7 +166,9 @@ pub fn check_text(
 }
 
 /// What is said of a text that is not read as a pipeline.
-pub fn misread(alloc: Global, file: &str, text: &[u8], error: PipeError, is_json: bool) -> Reply {
+pub fn misread(alloc: Global, file: &str, text: &[u8], error: PipeError, is_json: bool) -> Reply
+    ensures { result.status ≡ 0 → ⊥ }
+{
     let mut reply = failed(alloc, Fault::of_pipeline(error), is_json);
     say_pipeline_help(alloc, file, text, error, &mut reply.err);
     reply

@@ -139,8 +139,10 @@ pub fn reply_of(alloc: Global, report: &Report<'_>, is_json: bool) -> Reply
 }
 
 /// What is said of a fault that ended a command before the first node.
+#[tactic(auto, using(crate::proofs::ZeroStatus::fault_not_zero))]
 pub fn failed(alloc: Global, fault: Fault<'_>, is_json: bool) -> Reply
-    ensures { result.status ≡ faults.status_of fault.entry }
+    ensures status { result.status ≡ faults.status_of fault.entry }
+    ensures not_done { result.status ≡ 0 → ⊥ }
 {
     reply_of(alloc, &Report::of_fault(fault), is_json)
 }
