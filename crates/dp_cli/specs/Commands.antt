@@ -66,7 +66,7 @@ pub record RunsFilter {F : Type 0} (remaining : F → Option (List ℕ)) (found 
   pub region : ℕ
   pub runs : RunsSingle remaining env region files reply
 
--- `dpv check`: the verdict on a pipeline's text and the files that it names; without `--sizes`, nothing else is printed
+-- `dpv check`: the verdict on a pipeline's text and the files that it names
 pub record ChecksFile (found : Found) (reply : Reply) : Type 0 where
   pub text : List ℕ
   pub files : FileMap

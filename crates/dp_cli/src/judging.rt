@@ -16,7 +16,9 @@ use dp_verdict::{check_text, explain, infer, infer_one, say_costs, unloaded};
 use std::rt::Files;
 
 /// Adds what the words ask for of a pipeline whose programs are accepted.
-fn say_more<R>(call: &Call<'_, '_, R>, pipeline: &Pipeline, reply: &mut Reply) {
+fn say_more<R>(call: &Call<'_, '_, R>, pipeline: &Pipeline, reply: &mut Reply)
+    ensures { reply.new.status ≡ reply.old.status }
+{
     if call.flag("cost") {
         say_costs(call.alloc, pipeline, &mut *reply);
     }

@@ -239,7 +239,9 @@ impl Serialize for CostDocument<'_> {
 }
 
 /// Adds what the programs of an accepted pipeline can cost. A document gets these as members.
-pub fn say_costs(alloc: Global, pipeline: &Pipeline, reply: &mut Reply) {
+pub fn say_costs(alloc: Global, pipeline: &Pipeline, reply: &mut Reply)
+    ensures { reply.new.status ≡ reply.old.status }
+{
     if reply.is_json {
         reply.out.bytes.clear();
         document_of(alloc, &CostDocument(pipeline), &mut reply.out);
