@@ -1,13 +1,15 @@
 #!/usr/bin/env python3
 """Measures the hosts of examples/live: the engine alone, over DPDK's devices, and over Linux packet sockets, each beside no engine.
 
-Usage: bench/live.py [--library FOLDER] [--seconds N] [alone] [threads] [dpdk] [sockets]   (all four, with windows of 2 seconds)
+Usage: bench/live.py [--library FOLDER] [--seconds N] [alone] [threads] [dpdk] [lcores] [sockets]   (all five, with windows of 2 seconds)
 FOLDER has libdpv.a and dpv.h, as `./dpv library FOLDER` puts them there; by default that is done first.
   alone    dpv_pass with no device: nanoseconds of processor time and, by perf or valgrind, machine instructions for a frame
   threads  engines side by side, one for each of 1, 2 and 4 threads, with no device: nanoseconds of processor time for a frame, and frames a
            second by the clock in all
   dpdk     examples/live/dpdk.c over net_null (frames of zeros, nothing is written) and net_pcap (one capture over and over, what is sent is
            dropped), beside the same host with no engine, and beside a loop as that of DPDK's l2fwd (bench/live/l2fwd.c)
+  lcores   the same hosts and the same loop on 1, 2 and 4 lcores, over net_null and over net_ring (frames that circle between two devices), in one
+           run: frames a second by the clock, nanoseconds of processor time and, by valgrind, machine instructions for a frame
   sockets  examples/live/af_packet.c between two network namespaces with a sender, beside the same host with no engine
 The same host with no engine is its source over bench/live/none/dpv.h, which hands each frame across. A host is asked for its numbers twice, and
 between them its processor time is taken from /proc, so opening and closing are not in it. Prints a table for each; each figure is the best of
@@ -97,7 +99,8 @@ def threads(library: pathlib.Path, folder: pathlib.Path) -> None:
 class Host:
     """A host that runs, and prints its numbers when it is asked."""
 
-    def __init__(self, words: list[str], home: pathlib.Path) -> None:
+    def __init__(self, words: list[str], home: pathlib.Path, engines: int = 1) -> None:
+        self.lines = 2 * engines
         self.run = subprocess.Popen(words, cwd=home, stdout=subprocess.PIPE, stderr=subprocess.STDOUT, text=True)
         self.process = self.run.pid
         while not self.is_ready():
@@ -115,7 +118,7 @@ class Host:
         assert self.run.stdout
         os.kill(self.process, signal.SIGUSR1)
         came, ports = 0, 0
-        while ports < 2:
+        while ports < self.lines:
             line = self.run.stdout.readline()
             if not line:
                 raise EOFError("the host ended")
@@ -211,6 +214,66 @@ def over_dpdk(library: pathlib.Path, folder: pathlib.Path, seconds: float) -> No
             show(kind, size, best(ways, LIVE, seconds))
 
 
+# ---- on several lcores
+
+
+def clocked(words: list[str], home: pathlib.Path, engines: int, seconds: float) -> tuple[float, float]:
+    """Frames a second by the clock, and nanoseconds of processor time a frame."""
+    host = Host(words, home, engines)
+    try:
+        time.sleep(0.5)
+        frames, used, begun = host.frames(), host.processor()[0], time.monotonic()
+        time.sleep(seconds)
+        came, took = host.frames() - frames, time.monotonic() - begun
+        return came / took, (host.processor()[0] - used) / max(1, came) * 1e9
+    finally:
+        host.end()
+
+
+def counted(words: list[str], home: pathlib.Path, seconds: float) -> tuple[int, int] | None:
+    """The machine instructions and the frames of a run under valgrind, which ends after some seconds."""
+    tool = ["valgrind", "--tool=callgrind", "--callgrind-out-file=/dev/null"]
+    run = subprocess.Popen([*tool, *words], cwd=home, stdout=subprocess.PIPE, stderr=subprocess.PIPE, text=True)
+    time.sleep(seconds)
+    run.send_signal(signal.SIGTERM)
+    out, said = run.communicate(timeout=60)
+    found = re.search(r"Collected : (\d+)", said)
+    return (int(found[1]), sum(int(count) for count in re.findall(r"^port \d+ received (\d+)", out, re.M))) if found else None
+
+
+def each_frame(words: list[str], home: pathlib.Path) -> str:
+    """The machine instructions of a frame: those of a long run, without those of a short one."""
+    runs = [counted(words, home, seconds) for seconds in (8, 16)] if shutil.which("valgrind") else [None]
+    if None in runs or runs[1][1] <= runs[0][1]:
+        return "-"
+    return f"{(runs[1][0] - runs[0][0]) / (runs[1][1] - runs[0][1]):.0f}"
+
+
+def on_lcores(library: pathlib.Path, folder: pathlib.Path, seconds: float) -> None:
+    """The table of hosts on several lcores."""
+    flags = dpdk()
+    if flags is None:
+        print("\non several lcores: not measured, since DPDK is not installed")
+        return
+    print(f"\n{'on several lcores':<18} {'host':<22} {'lcores':>6} {'frames/second':>14} {'ns':>6} {'instructions':>13}   ({os.cpu_count()} processors)")
+    for kind, options, seed in (("net_null", ",size=60", []), ("net_ring", "", ["-DSIZE=60", "-include", str(HERE / "seed.h")])):
+        hosts = {
+            "a loop as l2fwd's": (compiled(HERE / "l2fwd.c", folder / f"l2fwd_{kind}", [*seed, *flags]), []),
+            "the host, no engine": (compiled(LIVE / "dpdk.c", folder / f"bare_{kind}", [*seed, *flags, f"-I{HERE / 'none'}"]), ["--", "cross.toml", "32"]),
+            "the host": (compiled(LIVE / "dpdk.c", folder / f"dpdk_{kind}", [*seed, *flags, *over(library)]), ["--", "cross.toml", "32"]),
+        }
+        for lcores in (1, 2, 4):
+            devices = [f"--vdev={kind}{k}{options}" for k in range(2)]
+            ways = {title: [str(host), *NO_CARD, "-l", f"0-{lcores - 1}", *devices, *rest] for title, (host, rest) in hosts.items()}
+            found: dict[str, list[tuple[float, float]]] = {way: [] for way in ways}
+            for _ in range(ROUNDS):
+                for way, words in ways.items():
+                    found[way].append(clocked(words, LIVE, lcores, seconds))
+            for way, taken in found.items():
+                most, least = max(it[0] for it in taken), min(it[1] for it in taken)
+                print(f"{kind:<18} {way:<22} {lcores:>6} {most:>14,.0f} {least:>6.0f} {each_frame(ways[way], LIVE):>13}", flush=True)
+
+
 # ---- over packet sockets
 
 
@@ -263,7 +326,7 @@ def main() -> None:
     parser.add_argument("--seconds", type=float, default=2)
     parser.add_argument("parts", nargs="*", metavar="PART")
     asked = parser.parse_args()
-    parts = asked.parts or ["alone", "threads", "dpdk", "sockets"]
+    parts = asked.parts or ["alone", "threads", "dpdk", "lcores", "sockets"]
     with tempfile.TemporaryDirectory() as name:
         folder = pathlib.Path(name)
         library = asked.library
@@ -277,6 +340,8 @@ def main() -> None:
             threads(library, folder)
         if "dpdk" in parts:
             over_dpdk(library, folder, asked.seconds)
+        if "lcores" in parts:
+            on_lcores(library, folder, asked.seconds)
         if "sockets" in parts:
             over_sockets(library, folder, asked.seconds)
 
