@@ -1,13 +1,15 @@
-/* af_packet PIPELINE [--control FIFO] 0=INTERFACE 1=INTERFACE ..: forwards live frames by the node programs of a pipeline, over Linux packet
-   sockets.
+/* af_packet PIPELINE [OPTION ..] 0=INTERFACE 1=INTERFACE ..: forwards live frames by the node programs of a pipeline, over Linux packet sockets.
 
    Each PORT=INTERFACE connects a port of the pipeline to a network interface. Frames sent by a port without an interface are counted
-   and dropped. SIGUSR1 prints the counts; SIGINT and SIGTERM print them and end the host. With --control it takes the commands of control.h
-   from a FIFO, between two bursts. It needs CAP_NET_RAW.
+   and dropped. SIGUSR1 prints the counts; SIGINT and SIGTERM print them and end the host. It needs CAP_NET_RAW. Options:
+
+   --control FIFO   takes the commands of control.h from a FIFO, between two bursts
+   --turns N        an engine takes N frames, at least 64; then the next one takes over (lasting.h)
 
    cc -O2 af_packet.c $(pkg-config --cflags --libs dpv) -o af_packet */
 #define _GNU_SOURCE
 #include "control.h"
+#include "options.h"
 #include "signals.h"
 #include <arpa/inet.h>
 #include <errno.h>
@@ -19,7 +21,6 @@
 #include <time.h>
 #include <unistd.h>
 
-#define MAX_PORTS 8
 #define BURST 64
 #define MAX_FRAME 65536
 
@@ -68,8 +69,9 @@ static void open_interfaces(int count, char **words, uint32_t ports)
 }
 
 /* Sends all records of a batch, each at its port. */
-static void send_batch(const struct dpv_batch *batch)
+static void send_batch(void *none, const struct dpv_batch *batch)
 {
+    (void)none;
     for (uint64_t k = 0; k < batch->filled.records; k++) {
         const struct dpv_record *record = &batch->records[k];
         int fd = sockets[record->port];
@@ -86,37 +88,37 @@ static uint64_t now(void)
     return (uint64_t)time.tv_sec * 1000000000u + (uint64_t)time.tv_nsec;
 }
 
-/* Passes in the frames that a port received, up to a burst. Returns whether the engine takes more. */
-static int forward_burst(dpv_t *engine, uint32_t port, struct mmsghdr *messages, struct dpv_batch *batch)
+/* Passes in the frames that a port received, up to a burst. */
+static void forward_burst(struct lasting *lasting, uint32_t port, struct mmsghdr *messages)
 {
-    int count = recvmmsg(sockets[port], messages, BURST, MSG_TRUNC, NULL);
+    int count;
+    renew_lasting(lasting, BURST, now(), send_batch, NULL);
+    count = recvmmsg(sockets[port], messages, BURST, MSG_TRUNC, NULL);
     for (int k = 0; k < count; k++) {
         uint32_t length = messages[k].msg_len;
         if (length > MAX_FRAME) {
             truncated++;
             continue;
         }
-        if (dpv_pass(engine, port, frames[k], length, now(), batch) == DPV_NO_TURNS)
-            return 0;
-        send_batch(batch);
+        (void)pass_lasting(lasting, port, frames[k], length, now());
+        send_batch(NULL, &lasting->batch);
     }
-    return 1;
 }
 
 /* Does what the commands say that have come. */
-static void run_commands(dpv_t *engine)
+static void run_commands(struct lasting *lasting)
 {
     struct command command;
     while (next_command(&control, &command)) {
         if (command.kind == PRINT_STATS)
-            print_numbers(engine, unsent);
+            print_numbers(lasting->engine, lasting->before, unsent);
         else
-            change_route(engine, &command);
+            change_route(lasting, &command);
     }
 }
 
-/* Forwards until a signal ends it, or the engine has taken all its turns. */
-static void forward(dpv_t *engine, uint32_t ports, struct dpv_batch *batch)
+/* Forwards until a signal ends it. */
+static void forward(struct lasting *lasting, uint32_t ports)
 {
     struct mmsghdr messages[BURST];
     struct iovec rooms[BURST];
@@ -132,49 +134,49 @@ static void forward(dpv_t *engine, uint32_t ports, struct dpv_batch *batch)
         for (uint32_t port = 0; port < ports; port++)
             waits[port] = (struct pollfd){.fd = sockets[port], .events = POLLIN};
         waits[ports] = (struct pollfd){.fd = control.fd, .events = POLLIN};
+        prepare_lasting(lasting);
         if (poll(waits, ports + 1, -1) < 0 && errno != EINTR)
             die("poll");
         if (is_asked) {
             is_asked = 0;
-            print_numbers(engine, unsent);
+            print_numbers(lasting->engine, lasting->before, unsent);
             continue;
         }
         if (waits[ports].revents & POLLIN)
-            run_commands(engine);
+            run_commands(lasting);
         for (uint32_t port = 0; port < ports && !is_stopped; port++)
-            if ((waits[port].revents & POLLIN) && !forward_burst(engine, port, messages, batch))
-                return;
+            if (waits[port].revents & POLLIN)
+                forward_burst(lasting, port, messages);
     }
 }
 
 int main(int argc, char **argv)
 {
     struct sigaction stops = {0}, asks = {0};
-    struct dpv_batch batch;
-    const char *name = take_control_name(&argc, argv);
-    dpv_t *engine;
+    const char *name = take_option(&argc, argv, "--control");
     uint32_t ports;
+    uint64_t limit = take_number(&argc, argv, "--turns", BURST, MAX_FRAMES);
+    struct pipeline pipeline;
+    struct lasting lasting;
     if (argc < 3) {
-        fprintf(stderr, "usage: af_packet PIPELINE [--control FIFO] 0=INTERFACE 1=INTERFACE ..\n");
+        fprintf(stderr, "usage: af_packet PIPELINE [--control FIFO] [--turns N] 0=INTERFACE 1=INTERFACE ..\n");
         return 2;
     }
-    engine = open_pipeline(argv[1]);
-    ports = count_ports(engine);
+    pipeline = read_pipeline(argv[1]);
+    open_lasting(&lasting, &pipeline, limit);
+    ports = count_ports(lasting.engine);
     open_interfaces(argc - 2, argv + 2, ports);
     if (name != NULL)
         open_control(&control, name);
-    if (dpv_batch_open(engine, &batch) != DPV_OK)
-        die("memory");
     stops.sa_handler = on_stop;
     asks.sa_handler = on_ask;
     sigaction(SIGINT, &stops, NULL);
     sigaction(SIGTERM, &stops, NULL);
     sigaction(SIGUSR1, &asks, NULL);
-    forward(engine, ports, &batch);
-    print_numbers(engine, unsent);
+    forward(&lasting, ports);
+    print_numbers(lasting.engine, lasting.before, unsent);
     if (truncated > 0)
         printf("truncated %llu\n", (unsigned long long)truncated);
-    dpv_batch_close(&batch);
-    close_engine(engine);
+    close_lasting(&lasting);
     return 0;
 }

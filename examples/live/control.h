@@ -2,7 +2,7 @@
 #ifndef CONTROL_H
 #define CONTROL_H
 
-#include "load.h"
+#include "lasting.h"
 #include <fcntl.h>
 #include <sys/stat.h>
 #include <unistd.h>
@@ -33,20 +33,6 @@ static inline void open_control(struct control *control, const char *name)
     control->fd = open(name, O_RDWR | O_NONBLOCK | O_CLOEXEC);
     if (control->fd < 0)
         die(name);
-}
-
-/* Takes the word --control and the name after it out of the arguments. Returns the name, or NULL. */
-static inline const char *take_control_name(int *argc, char **argv)
-{
-    for (int k = 1; k + 1 < *argc; k++)
-        if (strcmp(argv[k], "--control") == 0) {
-            const char *name = argv[k + 1];
-            for (int j = k; j + 2 <= *argc; j++)
-                argv[j] = argv[j + 2];
-            *argc -= 2;
-            return name;
-        }
-    return NULL;
 }
 
 /* Reads a prefix, as 10.1.0.0/16. Whether it is one; the library refuses a depth that is none. */
@@ -112,11 +98,11 @@ static inline const char *words_of(uint32_t answer)
 }
 
 /* Makes a change of a route, and prints what became of it. */
-static inline void change_route(dpv_t *engine, struct command *command)
+static inline void change_route(struct lasting *lasting, struct command *command)
 {
     struct dpv_route *route = &command->route;
     int adds = command->kind == ADD_ROUTE;
-    uint32_t answer = adds ? dpv_route_add(engine, route) : dpv_route_delete(engine, route);
+    uint32_t answer = change_lasting(lasting, route, adds);
     printf("%s %u %u.%u.%u.%u/%u: %s\n", adds ? "add" : "delete", route->table, route->ip >> 24, route->ip >> 16 & 255, route->ip >> 8 & 255,
            route->ip & 255, route->depth, words_of(answer));
     fflush(stdout);

@@ -1,14 +1,20 @@
-/* dpdk EAL-OPTIONS -- PIPELINE [--control FIFO] [BURST [IDLE]]: forwards frames by the node programs of a pipeline, over DPDK's ethernet devices.
+/* dpdk EAL-OPTIONS -- PIPELINE [OPTION ..] [BURST [IDLE]]: forwards frames by the node programs of a pipeline, over DPDK's ethernet devices.
 
    Port k of the pipeline is device k of DPDK. Each lcore (-l 0-3) has an engine of its own, and of each device a receive queue and a transmit
-   queue, up to as many lcores as each device has queues; a device with several queues hands each flow to one of them (RSS). BURST is how many frames are taken from a queue at once (32); with
-   IDLE an lcore ends after that many rounds without a frame. With --control a thread takes the commands of control.h from a FIFO, and hands
-   each to every engine over a ring of its own, which is emptied between two bursts. SIGUSR1 prints the counts; SIGINT and SIGTERM print them
-   and end the host. Without huge pages or a card:
+   queue, up to as many lcores as each device has queues; a device with several queues hands each flow to one of them (RSS). BURST is how many
+   frames are taken from a queue at once (32); with IDLE an lcore ends after that many rounds without a frame. SIGUSR1 prints the counts; SIGINT
+   and SIGTERM print them and end the host. Options:
+
+   --control FIFO   a thread takes the commands of control.h from a FIFO, and hands each to every engine over a ring of its own, which is emptied
+                    between two bursts
+   --turns N        an engine takes N frames, at least BURST; then the next one takes over (lasting.h)
+
+   Without huge pages or a card:
 
    dpdk --no-huge --no-pci -m 256 --vdev net_pcap0,rx_pcap=in.pcap,tx_pcap=out.pcap -- pipeline.toml 1 1000
    cc -O2 dpdk.c $(pkg-config --cflags --libs libdpdk dpv) -o dpdk */
 #include "control.h"
+#include "options.h"
 #include "signals.h"
 #include <pthread.h>
 #include <rte_cycles.h>
@@ -19,8 +25,6 @@
 #include <rte_mbuf.h>
 #include <rte_ring.h>
 
-#define MAX_PORTS 8
-#define MAX_BURST 64
 #define QUEUE_SLOTS 512
 #define LCORE_MBUFS 8191
 #define POOL_CACHE 256
@@ -30,8 +34,7 @@
 
 /* What an lcore has for itself. */
 struct worker {
-    dpv_t *engine;
-    struct dpv_batch batch;
+    struct lasting lasting;
     struct rte_ring *commands;
     uint16_t queue;
     uint16_t waits[MAX_PORTS];
@@ -43,6 +46,8 @@ struct worker {
 static struct worker workers[RTE_MAX_LCORE];
 static uint16_t lcores, devices, burst = 32;
 static long idle;
+static uint64_t limit;
+static struct pipeline pipeline;
 static struct rte_mempool *pool;
 static struct control control = {.fd = -1};
 static pthread_mutex_t printing = PTHREAD_MUTEX_INITIALIZER;
@@ -124,9 +129,9 @@ static void send_waiting(struct worker *worker, uint16_t port)
 }
 
 /* Queues all records of a batch, each at its port. */
-static void keep_batch(struct worker *worker)
+static void keep_batch(void *host, const struct dpv_batch *batch)
 {
-    const struct dpv_batch *batch = &worker->batch;
+    struct worker *worker = (struct worker *)host;
     for (uint64_t k = 0; k < batch->filled.records; k++) {
         const struct dpv_record *record = &batch->records[k];
         uint16_t port = (uint16_t)record->port;
@@ -141,28 +146,29 @@ static void keep_batch(struct worker *worker)
     }
 }
 
-/* Passes in a frame, and queues the frames that are sent for it. Returns whether the engine takes more. */
-static int forward_frame(struct worker *worker, uint16_t port, struct rte_mbuf *mbuf)
+/* Passes in a frame, and queues the frames that are sent for it. */
+static void forward_frame(struct worker *worker, uint16_t port, struct rte_mbuf *mbuf)
 {
     uint32_t length = rte_pktmbuf_pkt_len(mbuf);
     const uint8_t *bytes = length > MAX_FRAME ? NULL : (const uint8_t *)rte_pktmbuf_read(mbuf, 0, length, worker->flat);
-    uint32_t answer = bytes == NULL ? DPV_TOO_LONG : dpv_pass(worker->engine, port, bytes, length, rte_rdtsc(), &worker->batch);
+    if (bytes != NULL)
+        (void)pass_lasting(&worker->lasting, port, bytes, length, rte_rdtsc());
     rte_pktmbuf_free(mbuf);
     if (bytes != NULL)
-        keep_batch(worker);
-    return answer != DPV_NO_TURNS;
+        keep_batch(worker, &worker->lasting.batch);
 }
 
-/* Takes frames from each device in turn, and sends the results after each. Returns how many frames came, or -1 if the engine takes no more. */
+/* Takes frames from each device in turn, and sends the results after each. Returns how many frames came. */
 static long forward_round(struct worker *worker)
 {
     long came = 0;
     for (uint16_t port = 0; port < devices; port++) {
         struct rte_mbuf *mbufs[MAX_BURST];
-        uint16_t count = rte_eth_rx_burst(port, worker->queue, mbufs, burst);
+        uint16_t count;
+        renew_lasting(&worker->lasting, burst, rte_rdtsc(), keep_batch, worker);
+        count = rte_eth_rx_burst(port, worker->queue, mbufs, burst);
         for (uint16_t k = 0; k < count; k++)
-            if (!forward_frame(worker, port, mbufs[k]))
-                return -1;
+            forward_frame(worker, port, mbufs[k]);
         for (uint16_t to = 0; to < devices; to++)
             send_waiting(worker, to);
         came += count;
@@ -176,7 +182,7 @@ static void print_worker(const struct worker *worker)
     pthread_mutex_lock(&printing);
     if (lcores > 1)
         printf("engine %u\n", worker->queue);
-    print_numbers(worker->engine, worker->unsent);
+    print_numbers(worker->lasting.engine, worker->lasting.before, worker->unsent);
     pthread_mutex_unlock(&printing);
 }
 
@@ -190,7 +196,7 @@ static void run_commands(struct worker *worker)
             print_worker(worker);
         } else {
             pthread_mutex_lock(&printing);
-            change_route(worker->engine, command);
+            change_route(&worker->lasting, command);
             pthread_mutex_unlock(&printing);
         }
         free(command);
@@ -227,45 +233,55 @@ static void *read_commands(void *none)
     return none;
 }
 
-/* Forwards on an lcore until a signal ends it, no frame comes for `idle` rounds, or the engine has used all its turns. */
-static int forward(void *argument)
+/* Forwards until a signal ends it, or no frame comes for `idle` rounds. */
+static void forward_rounds(struct worker *worker)
 {
-    struct worker *worker = (struct worker *)argument;
     long quiet = 0;
     while (!is_stopped && (idle == 0 || quiet < idle)) {
-        long came = forward_round(worker);
-        if (came < 0)
-            return 0;
-        quiet = came == 0 ? quiet + 1 : 0;
+        quiet = forward_round(worker) == 0 ? quiet + 1 : 0;
+        if (quiet > 0)
+            prepare_lasting(&worker->lasting);
         if (!rte_ring_empty(worker->commands))
             run_commands(worker);
     }
+}
+
+/* What an lcore does: it opens its engine, forwards, and closes it. The main lcore's is already open. */
+static int forward(void *argument)
+{
+    struct worker *worker = (struct worker *)argument;
+    if (worker->queue > 0)
+        open_lasting(&worker->lasting, &pipeline, limit);
+    forward_rounds(worker);
+    run_commands(worker);
+    print_worker(worker);
+    pthread_mutex_lock(&printing);
+    close_lasting(&worker->lasting);
+    pthread_mutex_unlock(&printing);
     return 0;
 }
 
-/* Opens the engine of a worker, and what else it needs. */
-static void open_worker(uint16_t queue, const char *pipeline)
+/* Makes the ring of a worker's commands. */
+static void open_worker(uint16_t queue)
 {
     struct worker *worker = &workers[queue];
     char name[32];
     snprintf(name, sizeof name, "commands%u", queue);
     worker->queue = queue;
-    worker->engine = open_pipeline(pipeline);
     worker->commands = rte_ring_create(name, COMMANDS, SOCKET_ID_ANY, RING_F_SP_ENQ | RING_F_SC_DEQ);
     if (worker->commands == NULL)
         check(-rte_errno, "ring");
-    if (dpv_batch_open(worker->engine, &worker->batch) != DPV_OK)
-        die("memory");
 }
 
-/* Opens all workers and devices. */
-static void open_all(const char *pipeline)
+/* Opens all devices, and what the workers need. */
+static void open_all(void)
 {
     devices = rte_eth_dev_count_avail();
     lcores = count_lcores();
     for (uint16_t queue = 0; queue < lcores; queue++)
-        open_worker(queue, pipeline);
-    if (devices > count_ports(workers[0].engine)) {
+        open_worker(queue);
+    open_lasting(&workers[0].lasting, &pipeline, limit);
+    if (devices > count_ports(workers[0].lasting.engine)) {
         fprintf(stderr, "there are %u devices, and the pipeline has fewer ports\n", devices);
         exit(2);
     }
@@ -293,23 +309,36 @@ static void forward_on_all(void)
     pthread_join(reader, NULL);
 }
 
-int main(int argc, char **argv)
+/* Takes the options and the arguments: how many frames are taken at once, and after how many rounds without a frame an lcore ends. Returns the
+   name of the FIFO, or NULL. */
+static const char *take_arguments(int words, char **argv)
 {
-    int used = rte_eal_init(argc, argv), words = argc - used;
-    const char *name;
-    check(used, "EAL");
-    argv += used;
-    name = take_control_name(&words, argv);
+    const char *name = take_option(&words, argv, "--control");
+    limit = take_number(&words, argv, "--turns", 1, MAX_FRAMES);
     if (words < 2 || words > 4) {
-        fprintf(stderr, "usage: dpdk EAL-OPTIONS -- PIPELINE [--control FIFO] [BURST [IDLE]]\n");
-        return 2;
+        fprintf(stderr, "usage: dpdk EAL-OPTIONS -- PIPELINE [--control FIFO] [--turns N] [BURST [IDLE]]\n");
+        exit(2);
     }
     if (words > 2)
         burst = (uint16_t)atoi(argv[2]);
     if (burst < 1 || burst > MAX_BURST)
         burst = 32;
+    if (limit < burst) {
+        fprintf(stderr, "--turns: it has to be at least the burst, %u\n", burst);
+        exit(2);
+    }
     idle = words > 3 ? atol(argv[3]) : 0;
-    open_all(argv[1]);
+    pipeline = read_pipeline(argv[1]);
+    return name;
+}
+
+int main(int argc, char **argv)
+{
+    int used = rte_eal_init(argc, argv);
+    const char *name;
+    check(used, "EAL");
+    name = take_arguments(argc - used, argv + used);
+    open_all();
     if (name != NULL)
         open_control(&control, name);
     signal(SIGINT, on_stop);
@@ -319,12 +348,6 @@ int main(int argc, char **argv)
     for (uint16_t port = 0; port < devices; port++) {
         rte_eth_dev_stop(port);
         rte_eth_dev_close(port);
-    }
-    for (uint16_t queue = 0; queue < lcores; queue++) {
-        run_commands(&workers[queue]);
-        print_worker(&workers[queue]);
-        dpv_batch_close(&workers[queue].batch);
-        close_engine(workers[queue].engine);
     }
     rte_eal_cleanup();
     return 0;

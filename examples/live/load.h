@@ -55,44 +55,62 @@ static inline size_t name_at(const char *text, const char *at, const char **name
     return end == NULL ? 0 : (size_t)(end - at);
 }
 
-/* The files that a pipeline file names, packed one after the other. */
-static inline uint8_t *pack_files(const char *text, size_t *length)
+/* A pipeline file, and the files that it names, packed one after the other. */
+struct pipeline {
+    const char *name;
+    uint8_t *text, *packed;
+    size_t text_length, packed_length;
+};
+
+/* Reads and packs a file that a pipeline names. */
+static inline void pack_file(struct pipeline *pipeline, const char *path)
 {
-    uint8_t *packed = (uint8_t *)malloc(1);
-    *length = 0;
-    for (const char *at = text; *at != 0; at++) {
-        const char *name = NULL;
-        char path[4096];
-        size_t size, count = name_at(text, at, &name);
-        uint8_t *bytes;
-        if (count == 0 || count >= sizeof path)
-            continue;
-        memcpy(path, name, count);
-        path[count] = 0;
-        bytes = read_file(path, &size);
-        packed = (uint8_t *)realloc(packed, *length + dpv_pack(NULL, path, bytes, size));
-        if (packed == NULL)
-            die("memory");
-        *length += dpv_pack(packed + *length, path, bytes, size);
-        free(bytes);
-    }
-    return packed;
+    size_t size;
+    uint8_t *bytes = read_file(path, &size);
+    pipeline->packed = (uint8_t *)realloc(pipeline->packed, pipeline->packed_length + dpv_pack(NULL, path, bytes, size));
+    if (pipeline->packed == NULL)
+        die("memory");
+    pipeline->packed_length += dpv_pack(pipeline->packed + pipeline->packed_length, path, bytes, size);
+    free(bytes);
 }
 
-/* The engine of a pipeline file. If it is not loaded, ends the host with the reason that dpv check prints. */
-static inline dpv_t *open_pipeline(const char *name)
+/* Reads a pipeline file and the files that it names. */
+static inline struct pipeline read_pipeline(const char *name)
+{
+    struct pipeline pipeline = {name, NULL, NULL, 0, 0};
+    pipeline.text = read_file(name, &pipeline.text_length);
+    for (const char *at = (const char *)pipeline.text; *at != 0; at++) {
+        const char *begin = NULL;
+        char path[4096];
+        size_t count = name_at((const char *)pipeline.text, at, &begin);
+        if (count == 0 || count >= sizeof path)
+            continue;
+        memcpy(path, begin, count);
+        path[count] = 0;
+        pack_file(&pipeline, path);
+    }
+    return pipeline;
+}
+
+/* Opens an engine for a pipeline. If it is not loaded, ends the host with the reason that dpv check prints. */
+static inline dpv_t *open_engine(const struct pipeline *pipeline)
 {
     struct dpv_reason reason;
-    size_t text_length, packed_length;
-    uint8_t *text = read_file(name, &text_length);
-    uint8_t *packed = pack_files((const char *)text, &packed_length);
-    dpv_t *engine = dpv_open(text, text_length, packed, packed_length, &reason);
-    free(text);
-    free(packed);
+    dpv_t *engine = dpv_open(pipeline->text, pipeline->text_length, pipeline->packed, pipeline->packed_length, &reason);
     if (engine == NULL) {
-        fprintf(stderr, "%s: %.*s\n", name, (int)reason.length, reason.text);
+        fprintf(stderr, "%s: %.*s\n", pipeline->name, (int)reason.length, reason.text);
         exit(1);
     }
+    return engine;
+}
+
+/* The engine of a pipeline file. */
+static inline dpv_t *open_pipeline(const char *name)
+{
+    struct pipeline pipeline = read_pipeline(name);
+    dpv_t *engine = open_engine(&pipeline);
+    free(pipeline.text);
+    free(pipeline.packed);
     return engine;
 }
 
@@ -106,15 +124,17 @@ static inline uint32_t count_ports(dpv_t *engine)
     return ports;
 }
 
-/* Prints the counts of each port, with the records that the host could not send, and of each ring and pool. */
-static inline void print_numbers(dpv_t *engine, const uint64_t *unsent)
+/* Prints the counts of each port, with those of the engines before this one and the records that the host could not send, and of each ring and
+   pool. */
+static inline void print_numbers(dpv_t *engine, const struct dpv_port_stats *before, const uint64_t *unsent)
 {
     struct dpv_port_stats port;
     struct dpv_ring_stats ring;
     struct dpv_pool_stats pool;
     for (uint32_t k = 0; dpv_port(engine, k, &port) == DPV_OK; k++)
-        printf("port %u received %llu nobuf %llu oversize %llu sent %llu unsent %llu\n", k, (unsigned long long)port.received,
-               (unsigned long long)port.no_buffer, (unsigned long long)port.oversize, (unsigned long long)port.sent, (unsigned long long)unsent[k]);
+        printf("port %u received %llu nobuf %llu oversize %llu sent %llu unsent %llu\n", k, (unsigned long long)(before[k].received + port.received),
+               (unsigned long long)(before[k].no_buffer + port.no_buffer), (unsigned long long)(before[k].oversize + port.oversize),
+               (unsigned long long)(before[k].sent + port.sent), (unsigned long long)unsent[k]);
     for (uint32_t k = 0; dpv_ring(engine, k, &ring) == DPV_OK; k++)
         printf("ring %u waiting %llu\n", k, (unsigned long long)ring.waiting);
     for (uint32_t k = 0; dpv_pool(engine, k, &pool) == DPV_OK; k++)

@@ -14,9 +14,11 @@ finding.
 import argparse
 import concurrent.futures
 import contextlib
+import itertools
 import math
 import os
 import pathlib
+import re
 import shutil
 import struct
 import subprocess
@@ -110,16 +112,62 @@ def compile_host(name: str, library: pathlib.Path, folder: pathlib.Path, words: 
     return folder / name
 
 
+# A program that puts each frame into a ring, and one that takes a packet out as often as its first byte says before it sends it: at 32 node runs on
+# packets of rings for each frame, some wait for many frames.
+KEPT = {
+    "enter.dpv": b"        iflen p0,14,drop\n        enq p0,0,drop\n        exit\ndrop:   free p0\n        exit\n",
+    "wait.dpv": b"""        load r1,p0,0,1
+        jlt r1,1,send
+        sub r1,1
+        store p0,0,1,r1
+        enq p0,0,drop
+        exit
+send:   set r2,0
+        tx p0,r2,drop
+        exit
+drop:   free p0
+        exit
+""",
+    "kept.toml": b"""region = 4194304
+pool = [{ count = 2048, cache = 32, room = 512 }]
+ring = [{ count = 1024, share = 2, head = 128, tail = 0, first = 14, last = 0, segs = 1, node = "wait.dpv" }]
+port = [{ pool = 0, segs = 1, queue = 256, node = "enter.dpv", in = "none", out = "none" }]
+""",
+}
+
+
+def lasting(library: pathlib.Path, folder: pathlib.Path) -> int:
+    """How many runs over several engines differed from one engine."""
+    program, bad, ended = folder / "lasting_drive", 0, 0
+    compile_one("lasting_drive.c", library, program, "-fsanitize=address,undefined", "-fno-sanitize-recover=all")
+    kept = folder / "kept"
+    kept.mkdir()
+    for name, data in KEPT.items():
+        (kept / name).write_bytes(data)
+    found = sorted(it for it in (TOP / "examples").glob("*/*.toml") if it.parent.name != "refused")
+    runs = [(it, str(limit), str(5 * limit), "1") for it in found for limit in (8, 100, 3000)]
+    runs += [(kept / "kept.toml", str(limit), str(5 * limit), seed, "any") for limit in (8, 100, 1000) for seed in "123"]
+    for pipeline, *words in runs:
+        run = subprocess.run([str(program), pipeline.name, *words], cwd=pipeline.parent, capture_output=True, text=True, timeout=600)
+        number = re.search(r"engines that ended: (\d+)", run.stdout)
+        if run.returncode != 0 or number is None or int(number[1]) < 4:
+            bad += 1
+            print(f"host: lasting, {pipeline.name} {' '.join(words)}: status {run.returncode}\n{run.stdout[-1000:]}{run.stderr[-2000:]}")
+        ended += int(number[1]) if number else 0
+    print(f"host: {len(runs)} runs over several engines beside one, {ended} engines ended, {bad} findings")
+    return bad
+
+
 def records_of(capture: pathlib.Path) -> list[bytes]:
     """The bytes of the records of a capture."""
     return [record[2] for record in captures.read(capture.read_bytes()).records]
 
 
-def sends_otherwise(host: pathlib.Path, pipeline: pathlib.Path) -> str | None:
+def sends_otherwise(host: pathlib.Path, pipeline: pathlib.Path, turns: list[str]) -> str | None:
     """How dpdk.c over net_pcap differs from what is expected of `dpv run` with an example, a frame of each port in turn."""
     ports, home = tomllib.loads(pipeline.read_text())["port"], pipeline.parent
     devices = [f"--vdev=net_pcap{k},rx_pcap={home / port['in']},tx_pcap={home / f'over{k}.pcap'}" for k, port in enumerate(ports)]
-    run = subprocess.run([str(host), *NO_CARD, *devices, "--", pipeline.name, "1", "1000"], cwd=home, capture_output=True, text=True, timeout=60)
+    run = subprocess.run([str(host), *NO_CARD, *devices, "--", pipeline.name, *turns, "1", "1000"], cwd=home, capture_output=True, text=True, timeout=60)
     if run.returncode != 0:
         return f"status {run.returncode}, {run.stderr[-1000:]}"
     for k in range(len(ports)):
@@ -131,20 +179,21 @@ def sends_otherwise(host: pathlib.Path, pipeline: pathlib.Path) -> str | None:
 
 def hosts(library: pathlib.Path, folder: pathlib.Path) -> int:
     """How many of the hosts, and of the examples over DPDK, failed."""
+    findings = 0
     compile_host("af_packet", library, folder, [])
     words = words_of("libdpdk")
     if words is None:
         print("host: dpdk.c NOT TRIED, since DPDK is not installed")
-        return 0
-    host, findings = compile_host("dpdk", library, folder, words), 0
+        return findings
+    host = compile_host("dpdk", library, folder, words)
     shutil.copytree(TOP / "examples", folder / "examples")
     found = sorted(it for it in (folder / "examples").glob("*/*.toml") if it.parent.name not in ("refused", "live"))
-    for pipeline in found:
-        wrong = sends_otherwise(host, pipeline)
+    for pipeline, turns in itertools.product(found, ([], ["--turns", "1"], ["--turns", "7"])):
+        wrong = sends_otherwise(host, pipeline, turns)
         if wrong:
             findings += 1
-            print(f"host: dpdk.c, examples/{pipeline.parent.name}: {wrong}")
-    print(f"host: dpdk.c over net_pcap, {len(found)} examples, {findings} findings")
+            print(f"host: dpdk.c, examples/{pipeline.parent.name} {' '.join(turns)}: {wrong}")
+    print(f"host: dpdk.c over net_pcap, {len(found)} examples, by one engine and by several, {findings} findings")
     return findings
 
 
@@ -277,6 +326,18 @@ def differs(case: Case, stream: BinaryIO) -> str | None:
     return numbers_differ(world, stream, pipeline)
 
 
+# What a wrong dpv.h does, and the text of the right one with that in its place: a run of the cases has to find each.
+WRONG_HEADERS = {
+    "a burst that drops its last frame": (
+        "        uint64_t j;\n",
+        "        uint64_t j;\n        if (k > 0 && k + 1 == count) {\n            frames[k].first = frames[k].records = frames[k].answer = 0;\n            break;\n        }\n",
+    ),
+    "times of a burst exchanged": ("port, frames[k].time,", "port, frames[count - 1 - k].time,"),
+    "frames of a burst exchanged": ("frames[k].bytes, frames[k].length,", "frames[count - 1 - k].bytes, frames[count - 1 - k].length,"),
+    "records of a burst that begin where the first begin": ("records[j].offset += used.bytes;", ";"),
+}
+
+
 # What the library answers for a cause of a table, and the hop that the driver has before a look-up.
 ROUTE_ANSWERS = {0: 0, 1: 25, 2: 26, 3: 27, 4: 28, 5: 29}
 BATCH_TOO_SMALL, NO_TABLE, NO_ROUTE, UNTOUCHED = 23, 24, 30, 77
@@ -406,6 +467,22 @@ def at_random(asked: Any, library: pathlib.Path, folder: pathlib.Path) -> int:
     return len(findings)
 
 
+def wrong_headers(asked: Any, library: pathlib.Path, folder: pathlib.Path) -> int:
+    """How many wrong headers were not found by the cases."""
+    right, missed = (library / "dpv.h").read_text(), 0
+    for k, (title, (old, new)) in enumerate(WRONG_HEADERS.items()):
+        include, program = folder / f"wrong{k}", folder / f"drive{k}"
+        include.mkdir()
+        (include / "dpv.h").write_text(right.replace(old, new))
+        words = ["cc", "-std=c99", "-O1", f"-I{include}", str(HERE / "host_drive.c"), "-o", str(program), f"-L{library}", "-ldpv"]
+        subprocess.run(words, check=True)
+        if right.count(old) != 1 or play(program, asked.seed, range(1000), math.inf).finding is None:
+            missed += 1
+            print(f"host: {title} is not found")
+    print(f"host: {len(WRONG_HEADERS)} wrong headers, {missed} not found")
+    return missed
+
+
 def main() -> int:
     """All of it."""
     parser = argparse.ArgumentParser(description="Plays the C library of dpv.")
@@ -427,7 +504,8 @@ def main() -> int:
             library = folder / "library"
             put_library(library, asked.gate)
         library = library.resolve()
-        findings = wrong_callers(library, folder) + threads(library, folder) + hosts(library, folder) + at_random(asked, library, folder)
+        findings = wrong_callers(library, folder) + threads(library, folder) + lasting(library, folder) + hosts(library, folder)
+        findings += at_random(asked, library, folder) + wrong_headers(asked, library, folder)
     return 1 if findings else 0
 
 

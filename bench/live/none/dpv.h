@@ -9,6 +9,8 @@
 #include <string.h>
 
 #define PORTS 2
+#define DPV_MAX_FRAME 262144u
+#define DPV_MAX_TURNS UINT64_C(1099511627776)
 
 enum {
     DPV_OK, DPV_RECEIVED = 0, DPV_NO_PORT = 18, DPV_TOO_LONG = 21, DPV_NO_TURNS, DPV_NO_TABLE = 24, DPV_BAD_DEPTH, DPV_BAD_HOP, DPV_RULES_FULL,
@@ -34,7 +36,8 @@ static inline size_t dpv_pack(uint8_t *to, const char *name, const uint8_t *byte
 
 static inline dpv_t *dpv_open(const uint8_t *toml, size_t toml_length, const uint8_t *packed, size_t packed_length, struct dpv_reason *reason)
 {
-    (void)toml, (void)toml_length, (void)packed, (void)packed_length, (void)reason;
+    (void)toml, (void)toml_length, (void)packed, (void)packed_length;
+    memset(reason, 0, sizeof *reason);
     return (dpv_t *)calloc(1, sizeof(dpv_t));
 }
 
