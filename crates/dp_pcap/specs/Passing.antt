@@ -15,7 +15,7 @@ pub record FillsWhole {R : Type 0} (remaining : R → Option (List ℕ)) (is_bro
   pub bound : IfOk answer (λ n. n ≤ length after)
   pub bytes : MatchResult answer
       (λ n. Consumes (remaining old) (remaining new) (take n after) × (n < length after → IsAtEnd (remaining new)))
-      (λ _. (came : List ℕ) × (length came < length before) × Consumes (remaining old) (remaining new) came)
+      (λ _. (came : List ℕ) × (length came < length before) × Consumes (remaining old) (remaining new) came × (calls new ≤ calls old + length came + 1))
   pub failed : IsErr answer → IsTrue (is_broken new)
   pub sound : 0 < length before → IsOk answer → is_broken new ≡ false
   pub untouched : length before ≡ 0 → new ≡ old

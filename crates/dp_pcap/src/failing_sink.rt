@@ -109,4 +109,12 @@ impl<S: Sink> Sink for FailingSink<S> {
             Err(_) => Err(self.health.fail()),
         }
     }
+
+    /// False: it has no buffer.
+    fn has_room(&self, _head: usize, _body: usize) -> bool
+        ensures sound { IsTrue result → (sink_health self.now).is_broken ≡ false }
+        ensures never { result ≡ false }
+    {
+        false
+    }
 }

@@ -43,7 +43,7 @@ impl<W: Write> OfWrite<W> {
 }
 
 impl<W: Write> Sink for OfWrite<W> {
-    ghost use Rattle.std.specs.Prelude.{◌≡◌, ◌+◌, ◌<◌, ◌≤◌, ◌↔◌, [], ◌∷◌, ◌++◌, length, IfOk, IsErr, IsTrue, MatchResult};
+    ghost use Rattle.std.specs.Prelude.{◌≡◌, ◌+◌, ◌<◌, ◌≤◌, ◌↔◌, false, [], ◌∷◌, ◌++◌, length, IfOk, IsErr, IsTrue, MatchResult};
     ghost use Rattle.std.specs.Io.KnownBytes.{WriteAppends};
     ghost use Rattle.dp_pcap.specs.OfStd.{writer_inside, sink_health, sink_offers};
 
@@ -81,5 +81,14 @@ impl<W: Write> Sink for OfWrite<W> {
             Ok(n) if n > 0 || bytes.is_empty() => Ok(n),
             _ => Err(self.health.fail()),
         }
+    }
+
+    /// False: it has no buffer.
+    #[inline(always)]
+    fn has_room(&self, _head: usize, _body: usize) -> bool
+        ensures sound { IsTrue result → (sink_health self.now).is_broken ≡ false }
+        ensures never { result ≡ false }
+    {
+        false
     }
 }

@@ -270,6 +270,111 @@ fn a_call_a_piece(rt: HostRuntime) {
     assert_eq!(rt; miscalls(&mut Counting { inner, count: 0 }), None);
 }
 
+/// A reader that gives at most `most` bytes in a call, then ends or fails, and counts the calls.
+#[derive(Drop)]
+struct Sipped {
+    left: &'static [u8],
+    most: usize,
+    fails: bool,
+    count: usize,
+}
+
+impl Read for Sipped {
+    fn read(&mut self, buf: &mut [u8]) -> io::Result<usize> {
+        self.count = self.count.wrapping_add(1);
+        if self.fails && self.left.is_empty() {
+            return Err(io::ErrorKind::BrokenPipe.into());
+        }
+        let wanted = buf.len().min(self.most).min(self.left.len());
+        let left = self.left;
+        let (Some(front), Some(rest)) = (left.get(..wanted), left.get(wanted..)) else {
+            return Ok(0);
+        };
+        if let Some(place) = buf.get_mut(..wanted) {
+            place.copy_from_slice(front);
+        }
+        self.left = rest;
+        Ok(wanted)
+    }
+}
+
+/// How many bytes of `THREE_RECORDS` come, how many of them at most in a call, where the record begins in which they end, and the calls of the
+/// reader until then. The last call of each row gives nothing.
+static CUTS: [(usize, usize, u64, usize); 14] = [
+    // One call for each byte that came, and one more, whatever length the record would have.
+    (25, 1, 24, 26),
+    (39, 1, 24, 40),
+    (40, 1, 24, 41),
+    (53, 1, 24, 54),
+    (55, 1, 54, 56),
+    (86, 1, 70, 87),
+    (145, 1, 70, 146),
+    // Seven bytes a call: four calls for the header, three for a head.
+    (30, 7, 24, 6),
+    (45, 7, 24, 9),
+    (100, 7, 70, 18),
+    // All that it is asked for: a call a piece, and one more in the piece that is cut.
+    (30, 1000, 24, 3),
+    (40, 1000, 24, 3),
+    (45, 1000, 24, 4),
+    (100, 1000, 70, 7),
+];
+
+// Whether the records end like this, once, and then at the end.
+fn ends_with<R: Feed>(
+    r: &mut R,
+    source: &mut Source,
+    ends: Result<Next, PcapError>,
+    buf: &mut Buffer,
+) -> bool {
+    for _ in 0..3 {
+        match next(r, source, buf) {
+            Ok(Next::Record(_, _)) => {}
+            other => return other == ends && next(r, source, buf) == Ok(Next::End),
+        }
+    }
+    false
+}
+
+// The calls of a reader whose records end like this; none if they do not.
+fn calls_until(inner: Sipped, ends: Result<Next, PcapError>, buf: &mut Buffer) -> Option<usize> {
+    let mut r = OfRead::new(inner);
+    let Ok(mut source) = read_header(&mut r) else {
+        return None;
+    };
+    if ends_with(&mut r, &mut source, ends, buf) {
+        Some(r.into_inner().count)
+    } else {
+        None
+    }
+}
+
+// A reader that ends or fails inside a record is called once for each byte that came, and once more; after that it is not called.
+#[test]
+fn a_cut_takes_a_call_a_byte_and_one_more(rt: HostRuntime) {
+    let mut buf = [0u8; ROOM];
+    for (len, most, byte, calls) in CUTS.iter() {
+        for fails in [false, true] {
+            let inner = Sipped {
+                left: THREE_RECORDS.get(..*len).unwrap_or(&[]),
+                most: *most,
+                fails,
+                count: 0,
+            };
+            let ends = if fails {
+                Err(PcapError::Read)
+            } else {
+                Ok(Next::Cut(*byte))
+            };
+            assert_eq!(rt;
+                calls_until(inner, ends, &mut buf),
+                Some(*calls),
+                "{len} {most}"
+            );
+        }
+    }
+}
+
 // The calls of a feed of which `THREE_RECORDS` is copied, and the writer afterwards.
 fn calls_of_copy(taker: Taker) -> (usize, Taker) {
     let mut buf = [0u8; ROOM];

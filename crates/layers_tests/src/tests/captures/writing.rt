@@ -282,6 +282,48 @@ fn a_record_goes_into_a_buffer_at_once_or_in_parts(rt: HostRuntime) {
     assert!(rt; !OfWrite::new(Vec::new(rt.alloc())).has_room(0, 0));
 }
 
+// How many bytes of a piece a writer with a buffer takes in one call.
+fn taken_at_once(alloc: Global, room: usize, piece: &[u8]) -> Option<usize> {
+    match BufWriter::with_capacity(alloc, room, Vec::new(alloc)) {
+        Ok(inner) => OfBufWriter::new(inner).push(piece).ok(),
+        Err(_) => None,
+    }
+}
+
+// A piece that leaves room in the buffer is taken whole; of a longer one, as much as fills the buffer.
+#[test]
+fn a_piece_that_fits_is_taken_whole(rt: HostRuntime) {
+    for (room, taken) in [(1000usize, 60usize), (61, 60), (60, 60), (59, 59), (1, 1)] {
+        assert_eq!(rt;
+            taken_at_once(rt.alloc(), room, &BODY),
+            Some(taken),
+            "{room}"
+        );
+    }
+}
+
+// Whether a writer is flushed without an error, before each of two records and after the last, and takes them.
+fn is_flushed(alloc: Global, room: usize) -> bool {
+    let Ok(inner) = BufWriter::with_capacity(alloc, room, Vec::new(alloc)) else {
+        return false;
+    };
+    let mut w = OfBufWriter::new(inner);
+    for _ in 0..2 {
+        let flushed = w.flush().is_ok();
+        if !flushed || write_part(&mut w, Unit::Micro, &Record(1, 2000, &BODY)) != Ok(()) {
+            return false;
+        }
+    }
+    w.flush().is_ok() && w.get_ref().buffer().is_empty() && w.get_ref().get_ref().len() == 152
+}
+
+#[test]
+fn a_sound_writer_is_flushed(rt: HostRuntime) {
+    for room in [0usize, 16, 75, 76, 77, 200] {
+        assert!(&rt; is_flushed(rt.alloc(), room), "{room}");
+    }
+}
+
 /// How many of the bytes that it is offered a writer takes in a call.
 pub(super) enum Taking {
     AtMost(usize),
