@@ -201,31 +201,45 @@ impl<'a, W: Write + Drop> Printing<'a, W> {
         }
     }
 
+    /// The record as a document.
+    fn document(&self, turn: Turn, now: &Snapshot) -> Text {
+        let mut line = Text::new(self.alloc);
+        let document = RecordDocument {
+            number: self.records,
+            arrival: self.arrival,
+            turn,
+            lists: &now.lists,
+            listing: self.listing,
+            text: text_of(self.text.bytes.as_slice()),
+            summary: self.summary,
+            events: self.events.as_slice(),
+            became: text_of(became_text(turn.outcome, &self.became)),
+        };
+        document_of(self.alloc, &document, &mut line);
+        line
+    }
+
     /// Prints the record, as text or as a document.
     fn print_record(&mut self, turn: Turn, now: &Snapshot)
         ensures { self.new.records ≡ self.old.records }
     {
-        let mut line = Text::new(self.alloc);
-        if self.is_json {
-            let document = RecordDocument {
-                number: self.records,
-                arrival: self.arrival,
-                turn,
-                lists: &now.lists,
-                listing: self.listing,
-                text: text_of(self.text.bytes.as_slice()),
-                summary: self.summary,
-                events: self.events.as_slice(),
-                became: text_of(became_text(turn.outcome, &self.became)),
-            };
-            document_of(self.alloc, &document, &mut line);
-        }
-        let printed = if self.is_json { &line } else { &self.text };
-        if printed.has_failed {
-            self.printed = Printed::NoMemory;
-        } else if self.out.write_all(printed.bytes.as_slice()).is_err() {
-            self.printed = Printed::Failed;
-        }
+        self.printed = if self.is_json {
+            let line = self.document(turn, now);
+            write_text(&mut self.out, &line)
+        } else {
+            write_text(&mut self.out, &self.text)
+        };
+    }
+}
+
+/// Writes a text, and returns what became of it.
+fn write_text<W: Write>(out: &mut W, text: &Text) -> Printed {
+    if text.has_failed {
+        Printed::NoMemory
+    } else if out.write_all(text.bytes.as_slice()).is_err() {
+        Printed::Failed
+    } else {
+        Printed::Whole
     }
 }
 

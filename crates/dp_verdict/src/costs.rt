@@ -100,24 +100,21 @@ fn ways_of(pipeline: &Pipeline) -> Ways {
     ways
 }
 
-/// The rings that are in either set.
-fn either(first: [bool; RINGS], second: [bool; RINGS]) -> [bool; RINGS] {
-    let mut both = first;
+/// Adds rings to a set.
+fn add_rings(to: &mut [bool; RINGS], more: &[bool; RINGS]) {
     for ring in 0..RINGS {
-        both[ring] = first[ring] || second[ring];
+        to[ring] = to[ring] || more[ring];
     }
-    both
 }
 
-/// These rings, and those to which they lead by one program.
-fn one_further(ways: &Ways, reached: [bool; RINGS]) -> [bool; RINGS] {
-    let mut further = reached;
+/// Adds to a set of rings those to which they lead by one program.
+fn add_next(ways: &Ways, reached: &mut [bool; RINGS]) {
+    let before = *reached;
     for ring in 0..RINGS {
-        if reached[ring] {
-            further = either(further, ways[ring]);
+        if before[ring] {
+            add_rings(&mut *reached, &ways[ring]);
         }
     }
-    further
 }
 
 /// Whether a packet of a ring can come to the ring again.
@@ -126,7 +123,7 @@ fn comes_again(ways: &Ways, ring: usize) -> bool
 {
     let mut reached = ways[ring];
     for _ in 0..RINGS {
-        reached = one_further(ways, reached);
+        add_next(ways, &mut reached);
     }
     reached[ring]
 }
