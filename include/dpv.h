@@ -2,6 +2,7 @@
 
    dpv_open loads a pipeline file and opens its engine. Each dpv_pass takes one frame that a port received and returns all frames
    that the pipeline sends for it. dpv_close ends the engine. The library opens no socket, and after dpv_open only dpv_batch_open allocates memory.
+   dpv_cost, which needs no engine, bounds what a program can cost, before it is let in.
 
    What can be tested is tested: a refused call returns the reason, by one of the names below, and changes nothing, except that a refused
    dpv_pass or dpv_batch_open leaves the batch empty.
@@ -46,7 +47,9 @@ enum dpv_answer {
     DPV_RULES_FULL = 27,      /* the table has as many routes as it was made for */
     DPV_GROUPS_FULL = 28,     /* the route is deeper than 24 bits, and no group is left for it */
     DPV_NO_RULE = 29,         /* the table has no such route */
-    DPV_NO_ROUTE = 30         /* no route of the table is for the address */
+    DPV_NO_ROUTE = 30,        /* no route of the table is for the address */
+    DPV_NO_PROGRAM = 31,      /* the text is not a program */
+    DPV_NO_MEMORY = 32        /* memory was refused */
 };
 
 #define DPV_MAX_FRAME 262144u                           /* bytes of a frame */
@@ -127,6 +130,13 @@ struct dpv_hop {
     uint32_t hop; /* that of the deepest route */
 };
 
+/* What a run of a program can cost. A frame costs at most the steps of its port's program, and 32 times the most steps of a ring's. */
+struct dpv_cost {
+    uint32_t steps;      /* the greatest number of instructions that one run takes, whatever packet comes: 1 to 263168 */
+    uint32_t jumps_back; /* 1 if the program can jump back, and then steps is 257 times its length; else 0, and steps is its longest way */
+    uint32_t label;      /* the first instruction, from 0, that can jump back; else 0 */
+};
+
 /* The counts of a closed engine. */
 struct dpv_totals {
     uint64_t turns; /* frames that were passed in */
@@ -137,6 +147,8 @@ struct dpv_totals {
 
 /* The bytes that an engine needs in the caller's memory, apart from its region. Align them to 16. */
 size_t dpv_size(void);
+/* Gets what a run of the program in this text can cost; it needs no engine, and keeps no memory. DPV_OK, DPV_NO_PROGRAM or DPV_NO_MEMORY. */
+uint32_t dpv_cost(const uint8_t *text, size_t length, struct dpv_cost *cost);
 /* Opens an engine in memory of dpv_size() bytes; dpv_open calls it. If it opens none, dpv_why has the reason, and all later calls but
    dpv_why return DPV_NOT_OPEN. */
 void dpv_begin(dpv_t *engine, const uint8_t *toml, size_t toml_length, const uint8_t *packed, size_t packed_length);

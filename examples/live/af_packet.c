@@ -4,6 +4,7 @@
    and dropped. SIGUSR1 prints the counts; SIGINT and SIGTERM print them and end the host. It needs CAP_NET_RAW. Options:
 
    --control FIFO   takes the commands of control.h from a FIFO, between two bursts
+   --max-cost N     ends with status 1 if a run of a program can take more than N instructions
    --turns N        an engine takes N frames, at least 64; then the next one takes over (lasting.h)
 
    cc -O2 af_packet.c $(pkg-config --cflags --libs dpv) -o af_packet */
@@ -154,15 +155,15 @@ int main(int argc, char **argv)
 {
     struct sigaction stops = {0}, asks = {0};
     const char *name = take_option(&argc, argv, "--control");
-    uint32_t ports;
+    uint32_t max_cost = (uint32_t)take_number(&argc, argv, "--max-cost", 1, UINT32_MAX), ports;
     uint64_t limit = take_number(&argc, argv, "--turns", BURST, MAX_FRAMES);
     struct pipeline pipeline;
     struct lasting lasting;
     if (argc < 3) {
-        fprintf(stderr, "usage: af_packet PIPELINE [--control FIFO] [--turns N] 0=INTERFACE 1=INTERFACE ..\n");
+        fprintf(stderr, "usage: af_packet PIPELINE [--control FIFO] [--max-cost N] [--turns N] 0=INTERFACE 1=INTERFACE ..\n");
         return 2;
     }
-    pipeline = read_pipeline(argv[1]);
+    pipeline = read_pipeline(argv[1], max_cost);
     open_lasting(&lasting, &pipeline, limit);
     ports = count_ports(lasting.engine);
     open_interfaces(argc - 2, argv + 2, ports);

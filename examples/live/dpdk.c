@@ -7,6 +7,7 @@
 
    --control FIFO   a thread takes the commands of control.h from a FIFO, and hands each to every engine over a ring of its own, which is emptied
                     between two bursts
+   --max-cost N     ends with status 1 if a run of a program can take more than N instructions
    --turns N        an engine takes N frames, at least BURST; then the next one takes over (lasting.h)
 
    Without huge pages or a card:
@@ -314,9 +315,10 @@ static void forward_on_all(void)
 static const char *take_arguments(int words, char **argv)
 {
     const char *name = take_option(&words, argv, "--control");
+    uint32_t max_cost = (uint32_t)take_number(&words, argv, "--max-cost", 1, UINT32_MAX);
     limit = take_number(&words, argv, "--turns", 1, MAX_FRAMES);
     if (words < 2 || words > 4) {
-        fprintf(stderr, "usage: dpdk EAL-OPTIONS -- PIPELINE [--control FIFO] [--turns N] [BURST [IDLE]]\n");
+        fprintf(stderr, "usage: dpdk EAL-OPTIONS -- PIPELINE [--control FIFO] [--max-cost N] [--turns N] [BURST [IDLE]]\n");
         exit(2);
     }
     if (words > 2)
@@ -328,7 +330,7 @@ static const char *take_arguments(int words, char **argv)
         exit(2);
     }
     idle = words > 3 ? atol(argv[3]) : 0;
-    pipeline = read_pipeline(argv[1]);
+    pipeline = read_pipeline(argv[1], max_cost);
     return name;
 }
 

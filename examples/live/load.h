@@ -55,6 +55,22 @@ static inline size_t name_at(const char *text, const char *at, const char **name
     return end == NULL ? 0 : (size_t)(end - at);
 }
 
+/* Ends the host if a run of a program can take more instructions than this. What is no program is left to dpv_open, which says why. */
+static inline void check_cost(const char *name, const uint8_t *text, size_t length, uint32_t max_cost)
+{
+    struct dpv_cost cost;
+    uint32_t answer = dpv_cost(text, length, &cost);
+    if (answer == DPV_NO_MEMORY)
+        die("memory");
+    if (answer != DPV_OK || cost.steps <= max_cost)
+        return;
+    fprintf(stderr, "%s: a run of it can take %u instructions, and --max-cost is %u", name, cost.steps, max_cost);
+    if (cost.jumps_back)
+        fprintf(stderr, "; instruction %u, from 0, can jump back", cost.label);
+    fprintf(stderr, "\n");
+    exit(1);
+}
+
 /* A pipeline file, and the files that it names, packed one after the other. */
 struct pipeline {
     const char *name;
@@ -62,11 +78,13 @@ struct pipeline {
     size_t text_length, packed_length;
 };
 
-/* Reads and packs a file that a pipeline names. */
-static inline void pack_file(struct pipeline *pipeline, const char *path)
+/* Reads and packs a file that a pipeline names; if it is a program, its cost is at most max_cost. */
+static inline void pack_file(struct pipeline *pipeline, const char *path, int is_program, uint32_t max_cost)
 {
     size_t size;
     uint8_t *bytes = read_file(path, &size);
+    if (is_program)
+        check_cost(path, bytes, size, max_cost);
     pipeline->packed = (uint8_t *)realloc(pipeline->packed, pipeline->packed_length + dpv_pack(NULL, path, bytes, size));
     if (pipeline->packed == NULL)
         die("memory");
@@ -74,8 +92,8 @@ static inline void pack_file(struct pipeline *pipeline, const char *path)
     free(bytes);
 }
 
-/* Reads a pipeline file and the files that it names. */
-static inline struct pipeline read_pipeline(const char *name)
+/* Reads a pipeline file and the files that it names. A program that can cost more than max_cost ends the host. */
+static inline struct pipeline read_pipeline(const char *name, uint32_t max_cost)
 {
     struct pipeline pipeline = {name, NULL, NULL, 0, 0};
     pipeline.text = read_file(name, &pipeline.text_length);
@@ -87,7 +105,7 @@ static inline struct pipeline read_pipeline(const char *name)
             continue;
         memcpy(path, begin, count);
         path[count] = 0;
-        pack_file(&pipeline, path);
+        pack_file(&pipeline, path, *at == 'n', max_cost);
     }
     return pipeline;
 }
@@ -104,10 +122,10 @@ static inline dpv_t *open_engine(const struct pipeline *pipeline)
     return engine;
 }
 
-/* The engine of a pipeline file. */
+/* The engine of a pipeline file, whatever its programs cost. */
 static inline dpv_t *open_pipeline(const char *name)
 {
-    struct pipeline pipeline = read_pipeline(name);
+    struct pipeline pipeline = read_pipeline(name, UINT32_MAX);
     dpv_t *engine = open_engine(&pipeline);
     free(pipeline.text);
     free(pipeline.packed);

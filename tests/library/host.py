@@ -34,7 +34,7 @@ import paths  # noqa: F401
 
 from cases.pipelines import pipeline_files
 from command import TOP
-from model import captures, machine, pipelines
+from model import captures, costs, machine, pipelines, programs
 from over_gate import build
 from planted import CRATES
 
@@ -158,6 +158,34 @@ def lasting(library: pathlib.Path, folder: pathlib.Path) -> int:
     return bad
 
 
+# A word of a message, and what a host with --max-cost says of examples/live/cross.toml or of a program that jumps back.
+BACK = b"again:  set r1,1\n        jeq r1,2,again\n        free p0\n        exit\n"
+
+
+def costs_refused(host: pathlib.Path, folder: pathlib.Path, before: list[str], after: list[str]) -> int:
+    """How often a host with --max-cost did not say what it should."""
+    home, bad = folder / f"costs_{host.name}", 0
+    shutil.copytree(CROSS, home)
+    (home / "back.dpv").write_bytes(BACK)
+    (home / "back.toml").write_text((home / "cross.toml").read_text().replace("to0.dpv", "back.dpv"))
+    cases = [
+        ("cross.toml", "3", "to1.dpv: a run of it can take 4 instructions, and --max-cost is 3\n"),
+        ("back.toml", "1027", "back.dpv: a run of it can take 1028 instructions, and --max-cost is 1027; instruction 1, from 0, can jump back\n"),
+        ("cross.toml", "0", "--max-cost 0: it has to be a number from 1 to 4294967295\n"),
+        ("cross.toml", "4x", "--max-cost 4x: it has to be a number from 1 to 4294967295\n"),
+        ("cross.toml", "4", None),
+        ("back.toml", "1028", None),
+    ]
+    for file, most, wanted in cases:
+        run = subprocess.run([str(host), *before, file, "--max-cost", most, *after], cwd=home, capture_output=True, text=True, timeout=60)
+        status = (0, 3) if wanted is None else (1, 2)
+        if run.returncode not in status or (wanted is not None and not run.stderr.endswith(wanted)):
+            bad += 1
+            print(f"host: {host.name} {file} --max-cost {most}: status {run.returncode}, {run.stderr[-500:]!r}")
+    print(f"host: {host.name} --max-cost, {len(cases)} cases, {bad} findings")
+    return bad
+
+
 def records_of(capture: pathlib.Path) -> list[bytes]:
     """The bytes of the records of a capture."""
     return [record[2] for record in captures.read(capture.read_bytes()).records]
@@ -179,13 +207,13 @@ def sends_otherwise(host: pathlib.Path, pipeline: pathlib.Path, turns: list[str]
 
 def hosts(library: pathlib.Path, folder: pathlib.Path) -> int:
     """How many of the hosts, and of the examples over DPDK, failed."""
-    findings = 0
-    compile_host("af_packet", library, folder, [])
+    findings = costs_refused(compile_host("af_packet", library, folder, []), folder, [], ["0=none_such"])
     words = words_of("libdpdk")
     if words is None:
         print("host: dpdk.c NOT TRIED, since DPDK is not installed")
         return findings
     host = compile_host("dpdk", library, folder, words)
+    findings += costs_refused(host, folder, [*NO_CARD, "--vdev=net_null0", "--"], ["1", "1"])
     shutil.copytree(TOP / "examples", folder / "examples")
     found = sorted(it for it in (folder / "examples").glob("*/*.toml") if it.parent.name not in ("refused", "live"))
     for pipeline, turns in itertools.product(found, ([], ["--turns", "1"], ["--turns", "7"])):
@@ -234,6 +262,13 @@ class Burst(NamedTuple):
 
 
 Step = Frame | Change | Burst
+
+
+def sized(data: bytes) -> bytes:
+    """Bytes after their length."""
+    return struct.pack("<I", len(data)) + data
+
+
 # How many passes the driver's batch has room for.
 ROOM = 4
 
@@ -246,6 +281,7 @@ class Case:
         self.files = pipeline_files(rng, rng.random() < 0.85, has_tables).files
         self.text = self.files["it.toml"]
         names = [name for name in sorted(self.files) if name != "it.toml"]
+        self.named = [self.files[name] for name in names]
         self.packed = b"".join(
             struct.pack("<II", len(name.encode()), len(self.files[name])) + name.encode() + self.files[name] for name in names
         )
@@ -277,8 +313,9 @@ class Case:
 
     def spelled(self) -> bytes:
         """The case as the driver reads it."""
-        files = struct.pack("<I", len(self.text)) + self.text + struct.pack("<I", len(self.packed)) + self.packed
-        return files + struct.pack("<I", len(self.steps)) + b"".join(step.spelled() for step in self.steps)
+        files = [self.text, self.packed]
+        costs = struct.pack("<I", len(self.named)) + b"".join(sized(data) for data in self.named)
+        return b"".join(sized(data) for data in files) + costs + struct.pack("<I", len(self.steps)) + b"".join(step.spelled() for step in self.steps)
 
 
 def number(stream: BinaryIO, size: int) -> int:
@@ -302,8 +339,22 @@ def expected(case: Case, reason: str) -> tuple[int, str, pipelines.Pipeline | No
     return (3, "the region is too small", None) if loaded.region < loaded.env.need() else (0, "", loaded)
 
 
+# What the library answers to a text that is no program, and the numbers of a struct that the driver has filled and no call has set.
+NO_PROGRAM, UNSET = 31, 0xA5A5A5A5
+
+
+def cost_of(data: bytes) -> tuple[int, ...]:
+    """The answer and the numbers of the cost of a file."""
+    program = programs.assemble(data)
+    return (NO_PROGRAM, UNSET, UNSET, UNSET) if isinstance(program, programs.Fault) else (0, *costs.cost_of(program))
+
+
 def differs(case: Case, stream: BinaryIO) -> str | None:
     """Where the library differs from the model."""
+    for data in case.named:
+        cost = tuple(number(stream, 4) for _ in range(4))
+        if cost != cost_of(data):
+            return f"cost {cost} and not {cost_of(data)} of {data[:300]!r}"
     cause = number(stream, 4)
     reason = stream.read(number(stream, 4)).decode()
     wanted, words, pipeline = expected(case, reason)

@@ -1,9 +1,10 @@
 /* Reads cases from standard input, plays each through the C library, and writes what it answered: for tests/library/host.py.
 
-   A case: the text's length and the text, the packed files' length and these, the number of steps, and the steps. A step is a frame: 0, its
+   A case: the text's length and the text, the packed files' length and these, the number of files whose cost is asked for, and the length and
+   bytes of each, the number of steps, and the steps. A step is a frame: 0, its
    port, length and bytes; or an added (1), deleted (2) or looked up (3) route: its table, address, depth and hop; or a burst of frames: 4, the
    port, their number, and the length and bytes of each.
-   What is written: the cause; where that is 0 for each frame the answer and the records, for each route the answer and the hop of a look-up,
+   What is written: for each of these files the answer and the three numbers of its cost; the cause; where that is 0 for each frame the answer and the records, for each route the answer and the hop of a look-up,
    and at last all numbers. Each struct that the
    library fills lies between bytes that have to stay as they are. All numbers have 32 bits, or 64 where the header has so, little-endian. */
 #include "dpv.h"
@@ -119,6 +120,27 @@ static void change(dpv_t *engine, uint32_t kind)
     check_guard(hop.after, "dpv_hop");
 }
 
+/* Asks for the costs of some files. */
+static void costs(void)
+{
+    uint32_t count, length;
+    if (fread(&count, 4, 1, stdin) != 1)
+        exit(3);
+    while (count-- > 0) {
+        GUARDED(dpv_cost) cost;
+        uint8_t *bytes = bytes_in(&length);
+        if (bytes == NULL)
+            exit(3);
+        memset(&cost, GUARD, sizeof cost);
+        put32(dpv_cost(bytes, length, &cost.it));
+        put32(cost.it.steps);
+        put32(cost.it.jumps_back);
+        put32(cost.it.label);
+        check_guard(cost.after, "dpv_cost");
+        free(bytes);
+    }
+}
+
 /* Does the next step; where there is no engine, reads it alone. */
 static void do_step(dpv_t *engine, struct dpv_batch *batch)
 {
@@ -181,7 +203,10 @@ static int play(void)
     if (text == NULL)
         return 0;
     packed = bytes_in(&packed_length);
-    if (packed == NULL || fread(&steps, 4, 1, stdin) != 1)
+    if (packed == NULL)
+        exit(3);
+    costs();
+    if (fread(&steps, 4, 1, stdin) != 1)
         exit(3);
     memset(&reason, GUARD, sizeof reason);
     engine = dpv_open(text, text_length, packed, packed_length, &reason.it);

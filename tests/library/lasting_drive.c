@@ -140,7 +140,7 @@ int main(int argc, char **argv)
     is_any = argc > 5;
     frames = strtoul(argv[3], NULL, 10);
     state = strtoul(argv[4], NULL, 10) * 2654435769u + 1;
-    pipeline = read_pipeline(argv[1]);
+    pipeline = read_pipeline(argv[1], UINT32_MAX);
     one = open_engine(&pipeline);
     open_lasting(&lasting, &pipeline, strtoull(argv[2], NULL, 10));
     if (dpv_batch_open(one, &batch) != DPV_OK)

@@ -14,7 +14,7 @@
 
 enum {
     DPV_OK, DPV_RECEIVED = 0, DPV_NO_PORT = 18, DPV_TOO_LONG = 21, DPV_NO_TURNS, DPV_NO_TABLE = 24, DPV_BAD_DEPTH, DPV_BAD_HOP, DPV_RULES_FULL,
-    DPV_GROUPS_FULL, DPV_NO_RULE
+    DPV_GROUPS_FULL, DPV_NO_RULE, DPV_NO_MEMORY = 32
 };
 
 typedef struct { uint64_t received[PORTS]; } dpv_t;
@@ -27,6 +27,14 @@ struct dpv_pool_stats { uint64_t free, count; };
 struct dpv_ring_stats { uint64_t waiting; };
 struct dpv_totals { uint64_t turns, calls, cut, pools; };
 struct dpv_route { uint32_t table, ip, depth, hop; };
+struct dpv_cost { uint32_t steps, jumps_back, label; };
+
+static inline uint32_t dpv_cost(const uint8_t *text, size_t length, struct dpv_cost *cost)
+{
+    (void)text, (void)length;
+    memset(cost, 0, sizeof *cost);
+    return DPV_OK;
+}
 
 static inline size_t dpv_pack(uint8_t *to, const char *name, const uint8_t *bytes, size_t length)
 {

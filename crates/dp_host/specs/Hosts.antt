@@ -67,6 +67,8 @@ refusal_number refusal.RulesFull = 27
 refusal_number refusal.GroupsFull = 28
 refusal_number refusal.NoRule = 29
 refusal_number refusal.NoRoute = 30
+refusal_number refusal.NoProgram = 31
+refusal_number refusal.NoMemory = 32
 
 abbrev pub outcome_number : Outcome → ℕ
 outcome_number Got = 0

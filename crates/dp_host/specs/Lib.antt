@@ -1,3 +1,4 @@
 pub mod Packing
 pub mod Calls
 pub mod Hosts
+pub mod Costs

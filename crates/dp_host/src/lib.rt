@@ -4,15 +4,16 @@
 //! Who owns what: the memory is the caller's; the engine in it owns its region until `dpv_close`. Frames and batches are the caller's, and no
 //! call keeps a pointer to them.
 //!
-//! What to call: `dpv_begin`, once; `dpv_why`, which has the reason if there is no engine; `dpv_pass_into` for each frame, with a batch of the
-//! size that `dpv_batch_size` returns; `dpv_route_add`, `dpv_route_delete` and `dpv_route_lookup` for routes, between two passes; `dpv_port`,
-//! `dpv_pool` and `dpv_ring` for counts; `dpv_close` at the end. The inline functions of
-//! `include/dpv.h` are C, and not in this crate.
+//! What to call: `dpv_cost` for what a program can cost, with no engine; `dpv_begin`, once; `dpv_why`, which has the reason if there is no
+//! engine; `dpv_pass_into` for each frame, with a batch of the size that `dpv_batch_size` returns; `dpv_route_add`, `dpv_route_delete` and
+//! `dpv_route_lookup` for routes, between two passes; `dpv_port`, `dpv_pool` and `dpv_ring` for counts; `dpv_close` at the end. The inline
+//! functions of `include/dpv.h` are C, and not in this crate.
 //!
 //! What not to do: the memory may not move or be freed between `dpv_begin` and `dpv_close`, two calls may not run at once, and a call must
 //! get memory that `dpv_begin` has filled. Everything else is tested, and a call that is refused changes nothing.
 #![tactic(auto)]
 
+mod costs;
 mod host;
 mod numbers;
 mod packed;
@@ -28,10 +29,13 @@ ghost use types.Logic.{sem};
 ghost use Rattle.dp_host.specs.contracts.host.Host.{the_row};
 ghost use Rattle.dp_host.specs.declared.refusal.Refusal.TheVariants as refusal;
 ghost use Rattle.dp_host.specs.Hosts.{AddAnswers, DeleteAnswers, LookupAnswers, SetsOrRefuses, CloseAnswers, IsPoolStats, IsPortStats, IsRingStats};
+ghost use Rattle.dp_host.specs.Costs.{CostAnswers};
 ghost use Rattle.dp_host.specs.Hosts.{IsRoom, NoPool, NoPort, NoRing, Opens, PassAnswers};
 
 use crate::host::Host;
-use crate::numbers::{Hop, PoolStats, PortStats, Reason, RingStats, Room, Route, Totals};
+use crate::numbers::{
+    CostStats, Hop, PoolStats, PortStats, Reason, RingStats, Room, Route, Totals,
+};
 use dp_engine::SentRecord;
 use std::alloc::Global;
 
@@ -42,6 +46,14 @@ pub extern "C" fn dpv_size() -> usize
     ensures alignment { 16 % type_align the_row ≡ 0 }
 {
     std::mem::size_of::<Host>()
+}
+
+/// Sets `out` to what a node run of the program in a text can cost; no engine is needed. Returns 0, or the number of a refusal.
+#[unsafe(no_mangle)]
+pub extern "C" fn dpv_cost(alloc: Global, text: &[u8], out: &mut CostStats) -> u32
+    ensures { CostAnswers text.now out.old out.new result }
+{
+    costs::program_cost(alloc, text, out)
 }
 
 /// Opens the engine of a pipeline's text and its packed files. If it fails, `dpv_why` returns the reason.

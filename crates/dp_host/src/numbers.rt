@@ -92,3 +92,15 @@ pub struct Hop {
     /// That of the deepest route.
     pub hop: u32,
 }
+
+/// What a node run of a program can cost.
+#[repr(C)]
+#[derive(Clone, Copy, Drop)]
+pub struct CostStats {
+    /// The greatest number of instructions that it takes.
+    pub steps: u32,
+    /// 1 if the program can jump back, else 0.
+    pub jumps_back: u32,
+    /// The first label, from 0, at which it can, else 0.
+    pub label: u32,
+}

@@ -33,6 +33,10 @@ pub enum Refusal {
     NoRule,
     /// No route of the table is for the address.
     NoRoute,
+    /// The text is not a program.
+    NoProgram,
+    /// Memory was refused.
+    NoMemory,
 }
 
 impl Refusal {
@@ -59,6 +63,8 @@ impl Refusal {
             Refusal::GroupsFull => 28,
             Refusal::NoRule => 29,
             Refusal::NoRoute => 30,
+            Refusal::NoProgram => 31,
+            Refusal::NoMemory => 32,
         }
     }
 }
