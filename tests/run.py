@@ -62,7 +62,7 @@ STEPS = (
     Step("program", "tests/program/refusals.py", "that each program of examples/refused is explained as in docs/users/refusals.md, and its cure accepted", ON_PROGRAM),
     Step("program", "tests/program/judged.py", "what `explain`, `show`, `infer-one`, `one` and `check --cost` print about programs that are accepted, refused or faulty, beside texts that were worked out by hand", ON_PROGRAM),
     Step("program", "tests/program/tour.py", "that the commands of docs/users/tour.md print what it shows", ON_PROGRAM),
-    Step("program", "tests/program/json_output.py", "that the documents of `--json` have the numbers of the text report and of the text counts, and that their sums agree; refusals, faults and traces as documents; and that no run takes more instructions than `check --cost` says", ON_PROGRAM),
+    Step("program", "tests/program/json_output.py", "that the documents of `--json` have the numbers of the text report and of the text counts, and that their sums agree; that a program of pkt is counted by the lines of its source; refusals, faults and traces as documents; and that no run takes more instructions than `check --cost` says", ON_PROGRAM),
     Step("program", "tests/program/pictures.py", "the pictures of all examples and their programs, with counts, beside the sources; that graphviz draws them, where it is installed; and the sizes of all examples beside a formula", ON_PROGRAM),
     Step("program", "tests/program/compiled.py", "that `dpv compile` prints the modules that the script writes, to the byte", ON_PROGRAM),
     Step("program", "tests/program/faults.py", "faults of the command line, files, pipelines and captures, each together with every fault that is tested later", ON_PROGRAM),

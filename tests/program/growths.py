@@ -19,7 +19,7 @@ from model import rules
 from model.machine import Env, Pool, Port, Ring
 from model.programs import assemble
 
-COUNTING = "set r1,0\na: add r1,1\njlt r1,200,a\ntx p0,r0,e\nexit\ne: free p0\nexit\n"
+COUNTING = "set r1,0\na: add r1,1 # count rounds: of each packet\njlt r1,200,a\ntx p0,r0,e\nexit\ne: free p0\nexit\n"
 LOOKING = "lookup r2,0,r1,d\nd: free p0\nexit\n"
 COPYING = "clone p1,p0,1,d\nfree p1\niflen p0,1,d\nset r1,7\nstore p0,0,1,r1\nd: enq p0,0,e\nexit\ne: free p0\nexit\n"
 SENDING = "set r1,1\ntx p0,r1,d\nexit\nd: free p0\nexit\n"
@@ -107,6 +107,9 @@ COMMANDS = [
     (["run", "refused.toml"], 1),
     (["run", "sound.toml", "--refuse", "3,2"], 2),
     (["run", "sound.toml", "--json", "--counts"], 0),
+    (["run", "sound.toml", "--counts", "--drops"], 0),
+    (["run", "sound.toml", "--counts", "--source"], 0),
+    (["run", "sound.toml", "--counts", "--source", "--drops", "--json"], 0),
     (["run", "refused.toml", "--json"], 1),
     (["check", "sound.toml", "--json"], 0),
     (["check", "broken.toml", "--json"], 3),

@@ -4,8 +4,8 @@
 Usage: tests/program/json_output.py [PROGRAM]   (the built program; by default the one that ./dpv builds and runs)
 Each pipeline of examples/ runs twice, as text and with --json, also with --counts: the status, the captures and standard error must be the
 same, standard output one line of JSON, and the text that this script writes from the document must be the text that dpv prints, to the byte.
-The sums that docs/reference/reports.md names must agree in the document. Then refused programs, explanations, costs and faults: no node run and no
-turn of an example takes more instructions than `check --cost` says, which is the longest way through each program. Each example is traced as
+The sums that docs/reference/reports.md names must agree in the document. A program of the language pkt, which the launcher compiles, has to be
+counted and its drops listed by the lines of its own source. Then refused programs, explanations, costs and faults: no node run and no turn of an example takes more instructions than `check --cost` says, which is the longest way through each program. Each example is traced as
 text and with --json, where the text that this script writes from the documents must be what dpv prints. Prints a line for each case that
 failed, and a count; exits with 1 if a case failed.
 """
@@ -26,6 +26,30 @@ from model.rules import JUMPS
 
 EXAMPLES = TOP / "examples"
 WORDS = {"freed": "     freed", "ended": "     ended"}
+
+# A program of the language pkt, and the file that it includes.
+FIREWALL = """# What may pass.
+include "net.pkt"
+if arp { send port }
+need ipv4 else drop "not IPv4"
+if ipv4.pieces & 0x3fff != 0 {
+    drop "fragment"
+}
+if tcp.dport == 22 { count ssh drop "ssh" }
+if udp.dport == 53 { count dns } else if udp { count other }
+guarded()
+send port
+"""
+NET = """def guarded() {
+    need ipv4.dst >> 24 != 127 else drop "loop"
+}
+"""
+# By protocol, destination, port and fragment offset, how many frames its input has; 0 stands for ARP, and 41 for IPv6.
+FRAMES = {(0, 0, 0, 0): 1, (41, 0, 0, 0): 2, (17, 10, 53, 8): 3, (6, 10, 22, 0): 2, (17, 10, 53, 0): 4, (17, 127, 54, 0): 1, (6, 10, 80, 0): 1}
+# How many of them each line drops, by its file and number, the most first; and what each name counts.
+DROPPED = {("firewall.pkt", 6): 3, ("firewall.pkt", 4): 2, ("firewall.pkt", 8): 2, ("net.pkt", 2): 1}
+NAMED = {"ssh": 2, "dns": 4, "other": 1}
+SENT = 6
 
 
 class Ran(NamedTuple):
@@ -87,7 +111,12 @@ def counts_lines(doc: dict[str, Any]) -> list[str]:
     lines += [f"pool {it['pool']} least {it['least']} of {it['count']}" for it in counts["pools"]]
     lines += [f"port {it['port']} full {it['full']}" for it in doc["ports"] if it["full"] > 0]
     lines += [f"pool {it['pool']} refused {it['refused']}" for it in doc["pools"] if it["refused"] > 0]
-    return lines
+    return lines + named_lines(doc)
+
+
+def named_lines(doc: dict[str, Any]) -> list[str]:
+    """The counts with names in a document, as dpv prints them."""
+    return [f"{it['node']} count {it['name']} {it['packets']}" for it in doc["named"]]
 
 
 def printed_lines(text: str) -> list[str]:
@@ -174,6 +203,63 @@ def runs(program: str, top: pathlib.Path) -> list[tuple[str, bool]]:
             words = [*one, "case.pcap", "out.pcap", *more]
             cases.append((f"{length} bytes: {words}", is_same_run(program, strip, words)))
     return cases
+
+
+def frame(protocol: int, network: int, port: int, offset: int) -> bytes:
+    """An Ethernet frame, of zeros but for what a firewall asks for."""
+    kind = {0: 0x0806, 41: 0x86DD}.get(protocol, 0x0800)
+    header = struct.pack(">BBHHHBBHII", 0x45, 0, 40, 0, offset, 64, protocol, 0, 0x0A000001, network << 24 | 1)
+    ends = struct.pack(">HH", 1024, port)
+    return bytes(12) + struct.pack(">H", kind) + (header + ends if kind == 0x0800 else bytes(24)) + bytes(16)
+
+
+def capture(frames: list[bytes]) -> bytes:
+    """A capture of frames."""
+    records = (struct.pack("<IIII", 0, 0, len(it), len(it)) + it for it in frames)
+    return struct.pack("<IHHIIII", 0xA1B2C3D4, 2, 4, 0, 0, 65_535, 1) + b"".join(records)
+
+
+def launcher(program: str, folder: pathlib.Path) -> str:
+    """A script that starts the program as an installed dpv does."""
+    script = folder / "dpv"
+    script.write_text(f'#!/bin/sh\nprogram="{program}" pkt="{TOP}/tools/pkt" version= commit=\n. "{TOP}/tools/launch"\nlaunch "$@"\n')
+    script.chmod(0o755)
+    return str(script)
+
+
+def line_text(it: dict[str, Any]) -> str:
+    """A line of a source, as dpv prints it after its counts, without the name of the program's own file."""
+    return f"{it['file'] + ':' if it['file'] != 'firewall.pkt' else ''}{it['line']}: {it['text']}"
+
+
+def sources(program: str, folder: pathlib.Path) -> list[tuple[str, bool]]:
+    """The counts of a program of the language pkt, and where its packets end: by the lines of its source, with the numbers that belong to them."""
+    (folder / "firewall.pkt").write_text(FIREWALL)
+    (folder / "net.pkt").write_text(NET)
+    frames = [frame(*kind) for kind, count in FRAMES.items() for _ in range(count)]
+    (folder / "in.pcap").write_bytes(capture(frames))
+    texts = {"firewall.pkt": FIREWALL.splitlines(), "net.pkt": NET.splitlines()}
+    dpv, words = launcher(program, folder), ["filter", "firewall.pkt", "in.pcap", "out.pcap", "--counts", "--source", "--drops"]
+    doc = document(run(dpv, folder, *words, "--json").out)
+    printed = run(dpv, folder, *words).out.decode()[len(report_text(doc)):].splitlines()
+    (node,), port = doc["lines"], doc["ports"][0]
+    drops = [f"{it['packets']:>10}  port 0 {it['file']}:{it['line']}: {it['text']}" for it in doc["drops"]]
+    columns = [f"{it['came']:>10}{it['sent'] or '':>10}{it['dropped'] or '':>10}  {line_text(it)}" for it in node["lines"]]
+    of_lines = {(it["file"], it["line"]): it["dropped"] for it in node["lines"]}
+    counts = document(run(dpv, folder, *words[:4], "--counts", "--json").out)
+    text = run(dpv, folder, *words[:4], "--counts").out.decode()
+    return [
+        ("pkt: the drops", {(it["file"], it["line"]): it["packets"] for it in doc["drops"]} == DROPPED),
+        ("pkt: the drops, the most first", [it["packets"] for it in doc["drops"]] == sorted(DROPPED.values(), reverse=True)),
+        ("pkt: dropped by lines", {place: count for place, count in of_lines.items() if count} == DROPPED),
+        ("pkt: sent by lines", {it["line"]: it["sent"] for it in node["lines"] if it["sent"]} == {11: SENT}),
+        ("pkt: the lines of the source", all(it["text"] == texts[it["file"]][it["line"] - 1].strip() for it in [*node["lines"], *doc["drops"]])),
+        ("pkt: the report", (port["received"], port["sent"]) == (len(frames), SENT) and len(frames) - SENT == sum(DROPPED.values())),
+        ("pkt: the text", printed == ["port 0 firewall.pkt", "      came      sent   dropped", *columns, *named_lines(doc), *drops]),
+        ("pkt: the names", {it["name"]: it["packets"] for it in doc["named"]} == NAMED and doc["named"] == counts["named"]),
+        ("pkt: the names as text", text.splitlines()[-len(NAMED):] == named_lines(doc) and {it["node"] for it in doc["named"]} == {"port 0"}),
+        ("pkt: no names", "named" not in document(run(dpv, folder, *words[:4], "--drops", "--json").out)),
+    ]
 
 
 def verdict_lines(node: dict[str, Any]) -> str:
@@ -399,7 +485,7 @@ def main() -> int:
     with new_folder() as outer:
         top = outer / "examples"
         shutil.copytree(EXAMPLES, top)
-        cases = runs(program, top) + verdicts(program, top) + faults(program, top) + costs(program, top) + traces(program, top)
+        cases = runs(program, top) + sources(program, outer) + verdicts(program, top) + faults(program, top) + costs(program, top) + traces(program, top)
     failed = [name for name, passed in cases if not passed]
     for name in failed:
         print(f"json_output: {name}: another document")

@@ -1,18 +1,24 @@
-//! Where packets end without being sent, and the counts of a program by the lines of its source.
+//! The counts of a program by the lines of its source, the places where packets end without being sent, and the counts that have names.
 
 use crate::counts::{Counts, StepCounts};
 use crate::node_counts::NodeCounts;
 use crate::source::{NodeSource, words_of};
 use dp_engine::Report;
-use dp_lang::{SourceLine, arguments_of};
+use dp_lang::arguments_of;
 use dp_model::{Entry, Instr};
 use std::alloc::{AllocError, Global};
 
-/// The program of a node: its source, and its instructions.
-#[derive(Clone, Copy)]
-pub struct NodeProgram<'p, 'a> {
-    pub source: &'p NodeSource<'a>,
-    pub instrs: &'p [Instr],
+/// A line of a source: of a program that `dpv build` wrote, a line of what it was built from; else its own.
+#[derive(Clone, Copy, PartialEq, Eq)]
+pub struct Origin<'a> {
+    /// The name of the file.
+    pub file: &'a str,
+    /// The number of the line, from 1; none for what has no line of its own.
+    pub line: Option<usize>,
+    /// The line, without the blanks at its ends.
+    pub text: &'a str,
+    /// Whether `dpv build` wrote the program.
+    pub is_built: bool,
 }
 
 /// Why packets ended without being sent.
@@ -24,12 +30,8 @@ pub enum DropCause<'a> {
     NoBuffers,
     /// They were left in the ring at the end of the run.
     Left,
-    /// A `free` freed them, to which control came from this line, with its number from 1, of a file.
-    Freed {
-        file: &'a str,
-        line: usize,
-        text: &'a [u8],
-    },
+    /// A `free` freed them, to which control came from this line.
+    Freed(Origin<'a>),
 }
 
 /// A place where packets ended without being sent.
@@ -43,19 +45,28 @@ pub struct DropPlace<'a> {
     pub packets: u64,
 }
 
-/// A line of a source with its counts: of a program that `dpv build` wrote, a line of what it was built from; else its own.
+/// A line of a source with its counts.
 #[derive(Clone, Copy)]
 pub struct LineCounts<'a> {
-    /// The number of the line, from 1; none for what has no line of its own.
-    pub line: Option<usize>,
     /// The line.
-    pub text: &'a [u8],
+    pub origin: Origin<'a>,
     /// How often control came to it.
     pub came: u64,
     /// How many packets it sent, to a transmit list or a ring.
     pub sent: u64,
     /// How many packets were freed since control went on from it to a `free`.
     pub dropped: u64,
+}
+
+/// How often control came to the instructions of a program whose comments begin with `count NAME:`.
+#[derive(Clone, Copy)]
+pub struct NamedCount<'a> {
+    /// The node.
+    pub node: Entry,
+    /// The name.
+    pub name: &'a str,
+    /// How often, over all instructions with this name.
+    pub packets: u64,
 }
 
 /// How many instructions from a label on, one after the other, free a packet.
@@ -126,28 +137,14 @@ fn push_place<'a>(
     Ok(())
 }
 
-/// Adds the places of a program.
-fn push_places<'a>(
-    counts: &Counts,
-    program: NodeProgram<'_, 'a>,
+/// Adds the lines of a program at which packets ended.
+fn push_freed<'a>(
+    node: Entry,
+    lines: &[LineCounts<'a>],
     places: &mut Vec<DropPlace<'a>>,
 ) -> Result<(), AllocError> {
-    let NodeProgram { source, instrs } = program;
-    let mut reader = counts.node(source.node);
-    for (k, line) in source.lines.as_slice().iter().enumerate() {
-        let Some(step) = line.step else {
-            continue;
-        };
-        let Some(instr) = instrs.get(step.label) else {
-            continue;
-        };
-        let cause = DropCause::Freed {
-            file: source.name,
-            line: k.saturating_add(1),
-            text: line.text,
-        };
-        let packets = dropped_at(&mut reader, instrs, step.label, instr);
-        push_place(places, source.node, cause, packets)?;
+    for line in lines {
+        push_place(places, node, DropCause::Freed(line.origin), line.dropped)?;
     }
     Ok(())
 }
@@ -173,47 +170,85 @@ fn push_reported(report: &Report, places: &mut Vec<DropPlace<'_>>) -> Result<(),
 pub fn drop_places<'a>(
     alloc: Global,
     counts: &Counts,
-    programs: &[NodeProgram<'_, 'a>],
+    sources: &[NodeSource<'a>],
     report: &Report,
 ) -> Result<Vec<DropPlace<'a>>, AllocError> {
     let mut places = Vec::new(alloc);
     push_reported(report, &mut places)?;
-    for program in programs {
-        push_places(counts, *program, &mut places)?;
+    for source in sources {
+        let lines = lines_counted(alloc, counts, source)?;
+        push_freed(source.node, lines.as_slice(), &mut places)?;
     }
     places.sort_by_key(|place| u64::MAX - place.packets)?;
     Ok(places)
 }
 
-/// The number and the text of the line in which a comment of `dpv build` has what an instruction was built from, as `4: send port`.
-fn built_from(comment: &str) -> Option<(usize, &str)> {
-    let (digits, text) = comment.split_once(": ")?;
-    Some((digits.parse::<usize>().ok()?, text))
-}
-
-/// Whether `dpv build` wrote a program.
-fn is_built(source: &NodeSource<'_>) -> bool {
-    for line in source.lines.as_slice() {
-        if line.step.is_some()
-            && words_of(line.text, 0)
-                .comment()
-                .and_then(built_from)
-                .is_some()
-        {
-            return true;
-        }
+/// The name of the counter that a comment begins with, and what follows: `dns` and `4: count dns` of `count dns: 4: count dns`.
+fn counter_in(comment: &str) -> Option<(&str, &str)> {
+    let (name, rest) = comment.strip_prefix("count ")?.split_once(':')?;
+    if name.contains(' ') {
+        return None;
     }
-    false
+    Some((name, rest.trim_start()))
 }
 
-/// The number and the text of the line that an instruction is counted for.
-fn line_of<'a>(words: SourceLine<'a>, is_built: bool) -> (Option<usize>, &'a str) {
-    match words.comment() {
-        _ if !is_built => (Some(words.number), words.text),
-        None => (None, words.code()),
-        Some(comment) => match built_from(comment) {
-            Some((number, text)) => (Some(number), text),
-            None => (None, comment),
+/// The line in which a comment of `dpv build` has what an instruction was built from, as `4: send port`, or `net.pkt:4: send port` for a line of a file that
+/// the one with this name includes.
+fn built_from<'a>(comment: &'a str, name: &'a str) -> Option<Origin<'a>> {
+    let line = match counter_in(comment) {
+        Some((_counter, line)) => line,
+        None => comment,
+    };
+    let (place, text) = line.split_once(": ")?;
+    let (file, digits) = place.rsplit_once(':').unwrap_or((name, place));
+    Some(Origin {
+        file,
+        line: Some(digits.parse::<usize>().ok()?),
+        text,
+        is_built: true,
+    })
+}
+
+/// The name of the file that a program was built from, if `dpv build` wrote it.
+fn built_name<'a>(source: &NodeSource<'a>) -> Option<&'a str> {
+    let first = source.lines.as_slice().first()?;
+    let header = words_of(first.text, 1).comment()?;
+    let (name, _rest) = header
+        .strip_prefix("Built from ")?
+        .split_once(" by `dpv build`")?;
+    Some(name)
+}
+
+/// The name of the file with the source of a program: if `dpv build` wrote it, of what it was built from.
+pub fn source_name<'a>(source: &NodeSource<'a>) -> &'a str {
+    built_name(source).unwrap_or(source.name)
+}
+
+/// The line that the instruction in the line with this number is counted for; `before` is that of the instruction before it, which an instruction of a
+/// built program without a line belongs to.
+fn origin_of<'a>(
+    source: &NodeSource<'a>,
+    (number, text): (usize, &'a [u8]),
+    before: Option<Origin<'a>>,
+) -> Origin<'a> {
+    let words = words_of(text, number);
+    let own = Origin {
+        file: source.name,
+        line: Some(number),
+        text: words.text,
+        is_built: false,
+    };
+    let Some(name) = built_name(source) else {
+        return own;
+    };
+    let comment = words.comment().unwrap_or(words.code());
+    match built_from(comment, name).or(before) {
+        Some(origin) => origin,
+        None => Origin {
+            file: name,
+            line: None,
+            text: comment,
+            is_built: true,
         },
     }
 }
@@ -232,7 +267,7 @@ fn sent_at(counts: StepCounts, instr: &Instr) -> u64 {
 /// Adds the counts of an instruction to those of its line.
 fn add_counts<'a>(lines: &mut Vec<LineCounts<'a>>, more: LineCounts<'a>) -> Result<(), AllocError> {
     for line in lines.as_mut_slice() {
-        if line.line == more.line && line.text == more.text {
+        if line.origin == more.origin {
             line.came = line.came.wrapping_add(more.came);
             line.sent = line.sent.wrapping_add(more.sent);
             line.dropped = line.dropped.wrapping_add(more.dropped);
@@ -243,8 +278,8 @@ fn add_counts<'a>(lines: &mut Vec<LineCounts<'a>>, more: LineCounts<'a>) -> Resu
     Ok(())
 }
 
-/// The counts of a program by the lines of its source, in their order. Control came to a line as often as to the instructions in it that do not follow
-/// one of the same line.
+/// The counts of a program by the lines of its source, in their order; those of included files come last. Control came to a line as often as to the
+/// instructions in it that do not follow one of the same line.
 ///
 /// # Errors
 ///
@@ -252,35 +287,97 @@ fn add_counts<'a>(lines: &mut Vec<LineCounts<'a>>, more: LineCounts<'a>) -> Resu
 pub fn lines_counted<'a>(
     alloc: Global,
     counts: &Counts,
-    program: NodeProgram<'_, 'a>,
+    source: &NodeSource<'a>,
 ) -> Result<Vec<LineCounts<'a>>, AllocError> {
-    let NodeProgram { source, instrs } = program;
-    let is_built = is_built(source);
+    let (name, instrs) = (source_name(source), source.instrs.as_slice());
     let mut reader = counts.node(source.node);
     let mut lines = Vec::new(alloc);
-    let mut before = (None, "");
-    for (k, line) in source.lines.as_slice().iter().enumerate() {
+    let mut before = None;
+    for (k, line) in (1..usize::MAX).zip(source.lines.as_slice()) {
         let Some(step) = line.step else {
             continue;
         };
         let Some(instr) = instrs.get(step.label) else {
             continue;
         };
-        let own = line_of(words_of(line.text, k.saturating_add(1)), is_built);
+        let origin = origin_of(source, (k, line.text), before);
         let dropped = dropped_at(&mut reader, instrs, step.label, instr);
         let counts = reader.step(step.label);
         add_counts(
             &mut lines,
             LineCounts {
-                line: own.0,
-                text: own.1.as_bytes(),
-                came: if own == before { 0 } else { counts.ran },
+                origin,
+                came: if Some(origin) == before {
+                    0
+                } else {
+                    counts.ran
+                },
                 sent: sent_at(counts, instr),
                 dropped,
             },
         )?;
-        before = own;
+        before = Some(origin);
     }
-    lines.sort_by_key(|line| line.line.unwrap_or(usize::MAX))?;
+    lines.sort_by_key(|line| (
+        line.origin.file != name,
+        line.origin.line.unwrap_or(usize::MAX),
+    ))?;
     Ok(lines)
+}
+
+/// Adds to the count of a name of a node.
+fn add_named<'a>(
+    all: &mut Vec<NamedCount<'a>>,
+    node: Entry,
+    name: &'a str,
+    packets: u64,
+) -> Result<(), AllocError> {
+    for own in all.as_mut_slice() {
+        if own.node == node && own.name == name {
+            own.packets = own.packets.wrapping_add(packets);
+            return Ok(());
+        }
+    }
+    all.push(NamedCount {
+        node,
+        name,
+        packets,
+    })?;
+    Ok(())
+}
+
+/// Adds the counts of a program that have names.
+fn push_named<'a>(
+    counts: &Counts,
+    source: &NodeSource<'a>,
+    all: &mut Vec<NamedCount<'a>>,
+) -> Result<(), AllocError> {
+    let mut reader = counts.node(source.node);
+    for line in source.lines.as_slice() {
+        if let Some(step) = line.step
+            && let Some(comment) = words_of(line.text, 0).comment()
+            && let Some((name, _rest)) = counter_in(comment)
+        {
+            add_named(all, source.node, name, reader.step(step.label).ran)?;
+        }
+    }
+    Ok(())
+}
+
+/// The counts that have names, in the order of the programs and of the first instruction with each name. A name that stands several times in a program is
+/// one count.
+///
+/// # Errors
+///
+/// `AllocError` if memory is refused.
+pub fn named_counts<'a>(
+    alloc: Global,
+    counts: &Counts,
+    sources: &[NodeSource<'a>],
+) -> Result<Vec<NamedCount<'a>>, AllocError> {
+    let mut all = Vec::new(alloc);
+    for source in sources {
+        push_named(counts, source, &mut all)?;
+    }
+    Ok(all)
 }

@@ -1,6 +1,6 @@
 //! The counts of a run as parts of a document.
 
-use crate::by_line::{DropCause, DropPlace, LineCounts};
+use crate::by_line::{DropCause, DropPlace, LineCounts, NamedCount, Origin};
 use crate::counts::{Counts, StepCounts};
 use crate::node_counts::NodeCounts;
 use crate::source::{NodeSource, Role, SourceLine, Step, words_of};
@@ -36,11 +36,8 @@ pub struct CountsDocument<'p, 'a> {
     pub sources: &'p [NodeSource<'a>],
 }
 
-/// The comment and the code of a line of a program, each `null` if there is none.
-fn parts_of(line: Option<&[u8]>) -> (Item<'_>, Item<'_>) {
-    let Some(line) = line else {
-        return (Item::Null, Item::Null);
-    };
+/// The comment of a line of a program, or `null`, and its code.
+fn parts_of(line: &[u8]) -> (Item<'_>, Item<'_>) {
     let words = words_of(line, 0);
     match words.comment() {
         Some(comment) => (Item::Text(comment), Item::Text(words.code())),
@@ -67,7 +64,7 @@ fn write_step<S: Serializer>(
     line: &[u8],
     out: &mut S,
 ) -> Result<(), S::Error> {
-    let ((taken, ends), (comment, text)) = (items_of(step.role, counts), parts_of(Some(line)));
+    let ((taken, ends), (comment, text)) = (items_of(step.role, counts), parts_of(line));
     let members = [
         ("comment", comment),
         ("cut", Item::Number(counts.cut)),
@@ -190,7 +187,15 @@ fn cause_word(cause: DropCause<'_>) -> &'static str {
         DropCause::Oversize => "oversize",
         DropCause::NoBuffers => "nobuf",
         DropCause::Left => "left",
-        DropCause::Freed { .. } => "freed",
+        DropCause::Freed(_) => "freed",
+    }
+}
+
+/// The number of a line, or `null`.
+fn number_of(origin: Origin<'_>) -> Item<'static> {
+    match origin.line {
+        Some(line) => Item::Number(line as u64),
+        None => Item::Null,
     }
 }
 
@@ -198,13 +203,18 @@ impl Described for DropPlace<'_> {}
 
 impl Serialize for DropPlace<'_> {
     fn serialize<S: Serializer>(&self, out: &mut S) -> Result<(), S::Error> {
-        let (file, line, text) = match self.cause {
-            DropCause::Freed { file, line, text } => {
-                (Item::Text(file), Item::Number(line as u64), Some(text))
-            }
-            _ => (Item::Null, Item::Null, None),
+        let (file, line, (comment, text)) = match self.cause {
+            DropCause::Freed(origin) => (
+                Item::Text(origin.file),
+                number_of(origin),
+                if origin.is_built {
+                    (Item::Null, Item::Text(origin.text))
+                } else {
+                    parts_of(origin.text.as_bytes())
+                },
+            ),
+            _ => (Item::Null, Item::Null, (Item::Null, Item::Null)),
         };
-        let (comment, text) = parts_of(text);
         let members = [
             ("comment", comment),
             ("file", file),
@@ -222,19 +232,26 @@ impl Described for LineCounts<'_> {}
 
 impl Serialize for LineCounts<'_> {
     fn serialize<S: Serializer>(&self, out: &mut S) -> Result<(), S::Error> {
-        let line = match self.line {
-            Some(line) => Item::Number(line as u64),
-            None => Item::Null,
-        };
         let members = [
             ("came", Item::Number(self.came)),
             ("dropped", Item::Number(self.dropped)),
-            ("line", line),
+            ("file", Item::Text(self.origin.file)),
+            ("line", number_of(self.origin)),
             ("sent", Item::Number(self.sent)),
-            (
-                "text",
-                Item::Text(std::str::from_utf8(self.text).unwrap_or("")),
-            ),
+            ("text", Item::Text(self.origin.text)),
+        ];
+        Members(&members).serialize(out)
+    }
+}
+
+impl Described for NamedCount<'_> {}
+
+impl Serialize for NamedCount<'_> {
+    fn serialize<S: Serializer>(&self, out: &mut S) -> Result<(), S::Error> {
+        let members = [
+            ("name", Item::Text(self.name)),
+            ("node", name_of(self.node)),
+            ("packets", Item::Number(self.packets)),
         ];
         Members(&members).serialize(out)
     }

@@ -4,13 +4,15 @@
 //! instruction counts nothing: control comes to a label from the one before, unless an event says otherwise. So only the beginnings of node
 //! runs, taken jumps, ends and cuts are counted, and how often an instruction ran is their sum up to its label. An event takes no memory.
 //! After the run, `print_programs` prints the programs in the words of their source with their counts, and `print_tables` and `print_rings`
-//! the sums for each table and ring; `CountsDocument` is all of that as JSON, which `counts_of` reads. `Losses` is a watcher that counts only what
-//! was refused.
+//! the sums for each table and ring; `CountsDocument` is all of that as JSON, which `counts_of` reads. `lines_counted` sums by the lines of a
+//! source, of the language pkt where `dpv build` wrote the program; `drop_places` is where packets ended, and `named_counts` what has a name.
+//! `Losses` is a watcher that counts only what was refused.
 //!
 //! Who owns what: the caller owns the `Counts` and lends them to the run; `NodeCounts` borrows them. Only `new` takes memory, 560 kB.
 //!
 //! What not to assume: a number wraps at 2^64, which no run of captures reaches. `step` adds up from label 0 each time: use `Counts::node` to read
-//! many labels of a node. A step that was cut counts as one that ran and not as a jump. `levels`, refusals and documents are tested, not proved.
+//! many labels of a node. A step that was cut counts as one that ran and not as a jump. `levels`, refusals, sums by lines, names and documents are
+//! tested, not proved.
 #![tactic(auto)]
 
 mod by_line;
@@ -26,7 +28,10 @@ mod source;
 mod sums;
 mod totals;
 
-pub use by_line::{DropCause, DropPlace, LineCounts, NodeProgram, drop_places, lines_counted};
+pub use by_line::{
+    DropCause, DropPlace, LineCounts, NamedCount, Origin, drop_places, lines_counted, named_counts,
+    source_name,
+};
 pub use counts::{Counts, StepCounts};
 pub use document::CountsDocument;
 pub use laws::{counts_are_of_steps, counts_are_of_turns, counts_begin_at_zero, turns_are_runs};

@@ -76,6 +76,8 @@ pub struct NodeSource<'a> {
     pub name: &'a str,
     /// The lines of the file.
     pub lines: Vec<SourceLine<'a>>,
+    /// The instructions of its program.
+    pub instrs: Vec<Instr>,
 }
 
 /// The words of a line with this number: its code and its comment.

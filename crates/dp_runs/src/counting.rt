@@ -8,15 +8,16 @@ ghost use Rattle.dp_runs.specs.Replies.{Reads, counts_text};
 use crate::reply::both;
 use dp_console::Text;
 use dp_counts::{
-    Counts, DropCause, DropPlace, Levels, LineCounts, NodeProgram, NodeSource, Refusals,
-    drop_places, lines_counted, lines_of, print_pools, print_programs, print_rings, print_tables,
+    Counts, DropCause, DropPlace, Levels, LineCounts, NamedCount, NodeSource, Origin, Refusals,
+    drop_places, lines_counted, lines_of, named_counts, print_pools, print_programs, print_rings,
+    print_tables, source_name,
 };
 use dp_engine::Report;
 use dp_lang::{AsmError, source_lines};
-use dp_model::{Entry, Env, Instr};
+use dp_model::{Entry, Env};
 use dp_pipe::{NodeName, Pipeline};
 use std::alloc::{AllocError, Global};
-use std::io;
+use std::{fmt, io};
 
 /// The text of a node's program.
 #[derive(Clone, Copy)]
@@ -53,7 +54,7 @@ impl Wanted {
 #[derive(Drop)]
 pub(crate) struct NodeLines<'a> {
     pub node: Entry,
-    /// The name of its file.
+    /// The name of the file with its source.
     pub file: &'a str,
     pub lines: Vec<LineCounts<'a>>,
 }
@@ -65,8 +66,6 @@ pub struct Counting<'a> {
     pub counts: Counts,
     /// The sources, in the order of the nodes.
     pub sources: Vec<NodeSource<'a>>,
-    /// The instructions of each node's program.
-    instrs: Vec<Vec<Instr>>,
 }
 
 /// The line of each instruction of a program's text, from 1; none for a text that is not a program.
@@ -93,6 +92,7 @@ fn sources_of<'a>(
             node: program.node,
             name: program.name,
             lines: lines_of(alloc, program.text, own, places.as_slice())?,
+            instrs: Vec::from_slice(alloc, own.instrs())?,
         })?;
     }
     Ok(sources)
@@ -106,16 +106,6 @@ fn add_programs(counts: &mut Counts, pipeline: &Pipeline)
         let node = pipeline.node(k);
         counts.add(node.entry(), node.program());
     }
-}
-
-/// The instructions of the programs of a pipeline.
-fn instrs_of(alloc: Global, pipeline: &Pipeline) -> Result<Vec<Vec<Instr>>, AllocError> {
-    let mut programs = Vec::new(alloc);
-    for k in 0..pipeline.nodes() {
-        let program = pipeline.node(k).program();
-        programs.push(Vec::from_slice(alloc, program.instrs())?)?;
-    }
-    Ok(programs)
 }
 
 impl<'a> Counting<'a> {
@@ -132,26 +122,9 @@ impl<'a> Counting<'a> {
         ensures { IfOk result (λ counting. HasNone counting.counts) }
     {
         let sources = sources_of(alloc, pipeline, programs)?;
-        let instrs = instrs_of(alloc, pipeline)?;
         let mut counts = Counts::new(alloc)?;
         add_programs(&mut counts, pipeline);
-        Ok(Counting {
-            counts,
-            sources,
-            instrs,
-        })
-    }
-
-    /// The programs, in the order of the nodes.
-    fn programs(&self, alloc: Global) -> Result<Vec<NodeProgram<'_, 'a>>, AllocError> {
-        let mut programs = Vec::new(alloc);
-        for (source, instrs) in self.sources.as_slice().iter().zip(self.instrs.as_slice()) {
-            programs.push(NodeProgram {
-                source,
-                instrs: instrs.as_slice(),
-            })?;
-        }
-        Ok(programs)
+        Ok(Counting { counts, sources })
     }
 
     /// The places where packets of the run with this report ended without being sent, the one with most packets first.
@@ -160,18 +133,22 @@ impl<'a> Counting<'a> {
     ///
     /// `AllocError` if memory is refused.
     pub fn drops(&self, alloc: Global, report: &Report) -> Result<Vec<DropPlace<'a>>, AllocError> {
-        let programs = self.programs(alloc)?;
-        drop_places(alloc, &self.counts, programs.as_slice(), report)
+        drop_places(alloc, &self.counts, self.sources.as_slice(), report)
+    }
+
+    /// The counts that have names.
+    pub(crate) fn named(&self, alloc: Global) -> Result<Vec<NamedCount<'a>>, AllocError> {
+        named_counts(alloc, &self.counts, self.sources.as_slice())
     }
 
     /// The programs by the lines of their sources.
     pub(crate) fn lines(&self, alloc: Global) -> Result<Vec<NodeLines<'a>>, AllocError> {
         let mut nodes = Vec::new(alloc);
-        for program in self.programs(alloc)?.as_slice() {
+        for source in self.sources.as_slice() {
             nodes.push(NodeLines {
-                node: program.source.node,
-                file: program.source.name,
-                lines: lines_counted(alloc, &self.counts, *program)?,
+                node: source.node,
+                file: source_name(source),
+                lines: lines_counted(alloc, &self.counts, source)?,
             })?;
         }
         Ok(nodes)
@@ -204,10 +181,28 @@ fn listing_of(alloc: Global, counting: &Counting<'_>, env: &Env) -> Text
     Text { bytes, has_failed }
 }
 
-/// Adds bytes to a text.
-fn say_bytes(out: &mut Text, bytes: &[u8]) {
-    if out.bytes.extend_from_slice(bytes).is_err() {
-        out.has_failed = true;
+/// A line of a source, with the name of its file unless that is this one, its number, and its text.
+#[derive(Clone, Copy)]
+struct OriginText<'a> {
+    origin: Origin<'a>,
+    file: &'a str,
+}
+
+impl fmt::Display for OriginText<'_> {
+    fn fmt<W: fmt::Write>(&self, f: &mut fmt::Formatter<W>) -> fmt::Result {
+        let Origin {
+            file,
+            line,
+            text,
+            ..
+        } = self.origin;
+        if file != self.file {
+            write!(f, "{file}:")?;
+        }
+        match line {
+            Some(line) => write!(f, "{line}: {text}"),
+            None => write!(f, " {text}"),
+        }
     }
 }
 
@@ -219,10 +214,7 @@ fn say_place(place: &DropPlace<'_>, out: &mut Text) {
         DropCause::Oversize => out.say("records longer than the port takes"),
         DropCause::NoBuffers => out.say("records that found too few free buffers"),
         DropCause::Left => out.say("left in the ring at the end"),
-        DropCause::Freed { file, line, text } => {
-            out.say(format_args!("{file}:{line}: "));
-            say_bytes(out, text.trim_ascii_start());
-        }
+        DropCause::Freed(origin) => out.say(OriginText { origin, file: "" }),
     }
     out.say("\n");
 }
@@ -236,18 +228,17 @@ fn say_column(number: u64, out: &mut Text) {
     }
 }
 
-/// Says a line of a source with its counts.
-fn say_line(line: &LineCounts<'_>, out: &mut Text) {
+/// Says a line of a source with its counts; `file` is the name of the program's source.
+fn say_line(line: &LineCounts<'_>, file: &str, out: &mut Text) {
     let came = line.came;
     out.say(format_args!("{came:>10}"));
     say_column(line.sent, out);
     say_column(line.dropped, out);
-    match line.line {
-        Some(number) => out.say(format_args!("  {number}: ")),
-        None => out.say("  "),
-    }
-    say_bytes(out, line.text);
-    out.say("\n");
+    let origin = OriginText {
+        origin: line.origin,
+        file,
+    };
+    out.say(format_args!("  {origin}\n"));
 }
 
 /// Says the programs of a run by the lines of their sources.
@@ -256,8 +247,21 @@ fn say_lines(alloc: Global, counting: &Counting<'_>, out: &mut Text) -> Result<(
         let (node, file) = (NodeName(program.node), program.file);
         out.say(format_args!("{node} {file}\n      came      sent   dropped\n"));
         for line in program.lines.as_slice() {
-            say_line(line, out);
+            say_line(line, file, out);
         }
+    }
+    Ok(())
+}
+
+/// Says the counts that have names.
+fn say_named(alloc: Global, counting: &Counting<'_>, out: &mut Text) -> Result<(), AllocError> {
+    for own in counting.named(alloc)?.as_slice() {
+        let NamedCount {
+            node,
+            name,
+            packets,
+        } = *own;
+        out.say(format_args!("{} count {name} {packets}\n", NodeName(node)));
     }
     Ok(())
 }
@@ -289,17 +293,34 @@ fn say_refusals(refusals: Refusals, out: &mut Text) {
     }
 }
 
-/// The counts of the run with this report that are wanted after the listing: what was refused, the lines of the sources, and the places where packets
-/// ended.
+/// Says the counts of the run with this report that are wanted after the listing: what was refused, the lines of the sources, the counts that have names,
+/// and the places where packets ended.
+fn say_others(
+    alloc: Global,
+    counting: &Counting<'_>,
+    report: &Report,
+    wanted: Wanted,
+    out: &mut Text,
+) -> Result<(), AllocError> {
+    if wanted.counts {
+        say_refusals(counting.counts.refusals(), out);
+    }
+    if wanted.lines {
+        say_lines(alloc, counting, out)?;
+    }
+    if wanted.counts || wanted.lines {
+        say_named(alloc, counting, out)?;
+    }
+    if wanted.drops {
+        say_places(alloc, counting, report, out)?;
+    }
+    Ok(())
+}
+
+/// The counts of the run with this report that are wanted after the listing.
 fn others_of(alloc: Global, counting: &Counting<'_>, report: &Report, wanted: Wanted) -> Text {
     let mut out = Text::new(alloc);
-    if wanted.counts {
-        say_refusals(counting.counts.refusals(), &mut out);
-    }
-    if wanted.lines && say_lines(alloc, counting, &mut out).is_err() {
-        out.has_failed = true;
-    }
-    if wanted.drops && say_places(alloc, counting, report, &mut out).is_err() {
+    if say_others(alloc, counting, report, wanted, &mut out).is_err() {
         out.has_failed = true;
     }
     out

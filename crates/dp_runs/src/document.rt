@@ -4,7 +4,7 @@ use crate::counting::{Counting, NodeLines};
 use crate::reply::{Printing, StopText, printed_of, status_of};
 use crate::run::Ran;
 use dp_console::{Item, Members, Text, document_of};
-use dp_counts::{CountsDocument, DropPlace, Refusals};
+use dp_counts::{CountsDocument, DropPlace, NamedCount, Refusals};
 use dp_engine::{InputState, Report};
 use dp_pipe::{NodeName, RunCause};
 use serde::{Described, Serialize, Serializer};
@@ -30,17 +30,24 @@ impl Serialize for FaultItem {
     }
 }
 
-/// The document of a run.
-#[derive(Drop)]
-struct RunDocument<'p, 'a> {
-    /// The report; none if the run ran out of memory.
-    report: Option<&'p Report>,
-    fault: Option<FaultItem>,
+/// The numbers of ports, pools and rings.
+#[derive(Clone, Copy)]
+struct Numbers<'p> {
+    report: &'p Report,
     refusals: Refusals,
     truncated: [u64; 8],
+}
+
+/// The document of a run. What is not wanted has no member.
+#[derive(Drop)]
+struct RunDocument<'p, 'a> {
+    /// The numbers of its report; none if the run ran out of memory.
+    numbers: Option<Numbers<'p>>,
+    fault: Option<FaultItem>,
     counts: Option<CountsDocument<'p, 'a>>,
-    drops: Option<&'p [DropPlace<'a>]>,
-    lines: Option<&'p [NodeLines<'a>]>,
+    drops: Option<Vec<DropPlace<'a>>>,
+    lines: Option<Vec<NodeLines<'a>>>,
+    named: Option<Vec<NamedCount<'a>>>,
 }
 
 /// The word for how far an input was read, and where the record begins that is cut short.
@@ -52,165 +59,118 @@ fn items_of(state: InputState) -> (Item<'static>, Item<'static>) {
     }
 }
 
-/// Writes the numbers of the ports.
-fn write_ports<S: Serializer>(
-    all: &RunDocument<'_, '_>,
-    report: &Report,
+impl Numbers<'_> {
+    /// Writes those of the ports.
+    fn write_ports<S: Serializer>(self, out: &mut S) -> Result<(), S::Error> {
+        out.begin_seq(None)?;
+        let beside = self.refusals.lists.into_iter().zip(self.truncated);
+        let ports = self.report.ports.as_slice().iter().zip(beside);
+        for (k, (port, (full, truncated))) in ports.enumerate() {
+            let (input, cut_at) = items_of(port.state);
+            let members = [
+                ("cut_at", cut_at),
+                ("full", Item::Number(full)),
+                ("input", input),
+                ("nobuf", Item::Number(port.nobuf)),
+                ("oversize", Item::Number(port.oversize)),
+                ("port", Item::Number(k as u64)),
+                ("received", Item::Number(port.received)),
+                ("sent", Item::Number(port.sent)),
+                ("truncated", Item::Number(truncated)),
+            ];
+            Members(&members).serialize(out)?;
+        }
+        out.end_seq()
+    }
+
+    /// Writes those of the rings.
+    fn write_rings<S: Serializer>(self, out: &mut S) -> Result<(), S::Error> {
+        out.begin_seq(None)?;
+        let rings = self.report.rings.as_slice().iter().zip(self.refusals.rings);
+        for (k, (left, full)) in rings.enumerate() {
+            let members = [
+                ("full", Item::Number(full)),
+                ("left", Item::Number(*left)),
+                ("ring", Item::Number(k as u64)),
+            ];
+            Members(&members).serialize(out)?;
+        }
+        out.end_seq()
+    }
+
+    /// Writes those of the pools.
+    fn write_pools<S: Serializer>(self, out: &mut S) -> Result<(), S::Error> {
+        out.begin_seq(None)?;
+        let pools = self.report.pools.as_slice().iter().zip(self.refusals.pools);
+        for (k, (pool, refused)) in pools.enumerate() {
+            let members = [
+                ("count", Item::Number(pool.count)),
+                ("free", Item::Number(pool.free)),
+                ("pool", Item::Number(k as u64)),
+                ("refused", Item::Number(refused)),
+            ];
+            Members(&members).serialize(out)?;
+        }
+        out.end_seq()
+    }
+}
+
+impl Described for NodeLines<'_> {}
+
+impl Serialize for NodeLines<'_> {
+    fn serialize<S: Serializer>(&self, out: &mut S) -> Result<(), S::Error> {
+        out.begin_map(None)?;
+        write_member("file", &self.file, out)?;
+        write_member("lines", &self.lines, out)?;
+        out.key("node")?;
+        out.collect_str(&NodeName(self.node))?;
+        out.end_map()
+    }
+}
+
+/// Writes a member.
+fn write_member<T: Serialize, S: Serializer>(
+    name: &'static str,
+    value: &T,
     out: &mut S,
 ) -> Result<(), S::Error> {
-    out.begin_seq(None)?;
-    let beside = all.refusals.lists.into_iter().zip(all.truncated);
-    for (k, (port, (full, truncated))) in report.ports.as_slice().iter().zip(beside).enumerate() {
-        let (input, cut_at) = items_of(port.state);
-        let members = [
-            ("cut_at", cut_at),
-            ("full", Item::Number(full)),
-            ("input", input),
-            ("nobuf", Item::Number(port.nobuf)),
-            ("oversize", Item::Number(port.oversize)),
-            ("port", Item::Number(k as u64)),
-            ("received", Item::Number(port.received)),
-            ("sent", Item::Number(port.sent)),
-            ("truncated", Item::Number(truncated)),
-        ];
-        Members(&members).serialize(out)?;
-    }
-    out.end_seq()
+    out.key(name)?;
+    value.serialize(out)
 }
 
-/// Writes the numbers of the rings.
-fn write_rings<S: Serializer>(
-    all: &RunDocument<'_, '_>,
-    report: &Report,
+/// Writes a member, if it is wanted.
+fn write_wanted<T: Serialize, S: Serializer>(
+    name: &'static str,
+    value: &Option<T>,
     out: &mut S,
 ) -> Result<(), S::Error> {
-    out.begin_seq(None)?;
-    for (k, (left, full)) in report
-        .rings
-        .as_slice()
-        .iter()
-        .zip(all.refusals.rings)
-        .enumerate()
-    {
-        let members = [
-            ("full", Item::Number(full)),
-            ("left", Item::Number(*left)),
-            ("ring", Item::Number(k as u64)),
-        ];
-        Members(&members).serialize(out)?;
-    }
-    out.end_seq()
-}
-
-/// Writes the numbers of the pools.
-fn write_pools<S: Serializer>(
-    all: &RunDocument<'_, '_>,
-    report: &Report,
-    out: &mut S,
-) -> Result<(), S::Error> {
-    out.begin_seq(None)?;
-    for (k, (pool, refused)) in report
-        .pools
-        .as_slice()
-        .iter()
-        .zip(all.refusals.pools)
-        .enumerate()
-    {
-        let members = [
-            ("count", Item::Number(pool.count)),
-            ("free", Item::Number(pool.free)),
-            ("pool", Item::Number(k as u64)),
-            ("refused", Item::Number(refused)),
-        ];
-        Members(&members).serialize(out)?;
-    }
-    out.end_seq()
-}
-
-/// Writes the places where packets ended.
-fn write_drops<S: Serializer>(places: &[DropPlace<'_>], out: &mut S) -> Result<(), S::Error> {
-    out.key("drops")?;
-    out.begin_seq(None)?;
-    for place in places {
-        place.serialize(out)?;
-    }
-    out.end_seq()
-}
-
-/// Writes the counts of a program by lines.
-fn write_node<S: Serializer>(node: &NodeLines<'_>, out: &mut S) -> Result<(), S::Error> {
-    out.begin_map(None)?;
-    out.key("file")?;
-    out.str(node.file)?;
-    out.key("lines")?;
-    out.begin_seq(None)?;
-    for line in node.lines.as_slice() {
-        line.serialize(out)?;
-    }
-    out.end_seq()?;
-    out.key("node")?;
-    out.collect_str(&NodeName(node.node))?;
-    out.end_map()
-}
-
-/// Writes the counts by lines.
-fn write_lines<S: Serializer>(nodes: &[NodeLines<'_>], out: &mut S) -> Result<(), S::Error> {
-    out.key("lines")?;
-    out.begin_seq(None)?;
-    for node in nodes {
-        write_node(node, out)?;
-    }
-    out.end_seq()
-}
-
-/// Writes the fault, or `null`.
-fn write_fault<S: Serializer>(fault: Option<FaultItem>, out: &mut S) -> Result<(), S::Error> {
-    out.key("fault")?;
-    match fault {
-        Some(fault) => fault.serialize(out),
-        None => out.unit(),
-    }
-}
-
-/// Writes the members before the numbers of pools, ports and rings.
-fn write_first<S: Serializer>(
-    all: &RunDocument<'_, '_>,
-    report: &Report,
-    out: &mut S,
-) -> Result<(), S::Error> {
-    out.key("calls")?;
-    Item::Number(report.calls).serialize(out)?;
-    if let Some(counts) = &all.counts {
-        out.key("counts")?;
-        counts.serialize(out)?;
-    }
-    out.key("cut")?;
-    Item::Number(report.cut).serialize(out)?;
-    if let Some(drops) = all.drops {
-        write_drops(drops, out)?;
-    }
-    write_fault(all.fault, out)?;
-    match all.lines {
-        Some(lines) => write_lines(lines, out),
+    match value {
+        Some(value) => write_member(name, value, out),
         None => Ok(()),
     }
 }
 
-/// Writes the members of a run with this report.
+/// Writes the members of a run with these numbers.
 fn write_all<S: Serializer>(
     all: &RunDocument<'_, '_>,
-    report: &Report,
+    numbers: Numbers<'_>,
     out: &mut S,
 ) -> Result<(), S::Error> {
-    write_first(all, report, out)?;
+    let report = numbers.report;
+    write_member("calls", &Item::Number(report.calls), out)?;
+    write_wanted("counts", &all.counts, out)?;
+    write_member("cut", &Item::Number(report.cut), out)?;
+    write_wanted("drops", &all.drops, out)?;
+    write_member("fault", &all.fault, out)?;
+    write_wanted("lines", &all.lines, out)?;
+    write_wanted("named", &all.named, out)?;
     out.key("pools")?;
-    write_pools(all, report, out)?;
+    numbers.write_pools(out)?;
     out.key("ports")?;
-    write_ports(all, report, out)?;
-    out.key("refused")?;
-    Item::Number(report.refused).serialize(out)?;
+    numbers.write_ports(out)?;
+    write_member("refused", &Item::Number(report.refused), out)?;
     out.key("rings")?;
-    write_rings(all, report, out)
+    numbers.write_rings(out)
 }
 
 impl Described for RunDocument<'_, '_> {}
@@ -218,9 +178,9 @@ impl Described for RunDocument<'_, '_> {}
 impl Serialize for RunDocument<'_, '_> {
     fn serialize<S: Serializer>(&self, out: &mut S) -> Result<(), S::Error> {
         out.begin_map(None)?;
-        match self.report {
-            Some(report) => write_all(self, report, out)?,
-            None => write_fault(self.fault, out)?,
+        match self.numbers {
+            Some(numbers) => write_all(self, numbers, out)?,
+            None => write_member("fault", &self.fault, out)?,
         }
         out.end_map()
     }
@@ -237,71 +197,66 @@ fn fault_of(ran: &Ran) -> Option<FaultItem> {
     }
 }
 
-/// The places where packets ended, if they are wanted and counted.
-fn drops_of<'a>(
-    alloc: Global,
-    counting: Option<&Counting<'a>>,
-    report: Option<&Report>,
-    is_wanted: bool,
-) -> Result<Option<Vec<DropPlace<'a>>>, AllocError> {
-    match (counting, report) {
-        (Some(counting), Some(report)) if is_wanted => Ok(Some(counting.drops(alloc, report)?)),
-        _ => Ok(None),
-    }
-}
-
-/// The counts by lines, if they are wanted and counted.
-fn lines_of<'a>(
-    alloc: Global,
-    counting: Option<&Counting<'a>>,
-    is_wanted: bool,
-) -> Result<Option<Vec<NodeLines<'a>>>, AllocError> {
-    match counting {
-        Some(counting) if is_wanted => Ok(Some(counting.lines(alloc)?)),
-        _ => Ok(None),
-    }
-}
-
-/// Says a run as a document.
-fn say_document(
-    alloc: Global,
-    ran: &Ran,
-    printing: &Printing<'_, '_>,
-    out: &mut Text,
-) -> Result<(), AllocError> {
-    let (counting, wanted) = (printing.counting, printing.wanted);
-    let report = printed_of(&ran.flushed.answer);
-    let drops = drops_of(alloc, counting, report, wanted.drops)?;
-    let lines = lines_of(alloc, counting, wanted.lines)?;
-    let counts = match counting {
-        Some(counting) if wanted.counts => Some(CountsDocument {
-            counts: &counting.counts,
-            env: printing.env,
-            sources: counting.sources.as_slice(),
-        }),
-        _ => None,
-    };
-    let document = RunDocument {
+/// The numbers of a run, unless it ran out of memory.
+fn numbers_of<'p>(ran: &'p Ran, printing: &Printing<'_, '_>) -> Option<Numbers<'p>> {
+    let report = printed_of(&ran.flushed.answer)?;
+    Some(Numbers {
         report,
-        fault: fault_of(ran),
         refusals: ran.refusals,
         truncated: match printing.notes {
             Some(notes) => notes.truncated,
             None => [0; 8],
         },
-        counts,
-        drops: drops.as_deref(),
-        lines: lines.as_deref(),
+    })
+}
+
+/// The counts of a run that are wanted, as a part of its document.
+fn counts_in<'p, 'a>(printing: &Printing<'p, 'a>) -> Option<CountsDocument<'p, 'a>> {
+    match printing.counting {
+        Some(counting) if printing.wanted.counts => Some(CountsDocument {
+            counts: &counting.counts,
+            env: printing.env,
+            sources: counting.sources.as_slice(),
+        }),
+        _ => None,
+    }
+}
+
+/// The document of a run.
+fn run_document<'p, 'a>(
+    alloc: Global,
+    ran: &'p Ran,
+    printing: &Printing<'p, 'a>,
+) -> Result<RunDocument<'p, 'a>, AllocError> {
+    let (numbers, wanted) = (numbers_of(ran, printing), printing.wanted);
+    let drops = match (printing.counting, numbers) {
+        (Some(counting), Some(own)) if wanted.drops => Some(counting.drops(alloc, own.report)?),
+        _ => None,
     };
-    document_of(alloc, &document, out);
-    Ok(())
+    let lines = match printing.counting {
+        Some(counting) if wanted.lines => Some(counting.lines(alloc)?),
+        _ => None,
+    };
+    let named = match printing.counting {
+        Some(counting) if wanted.counts || wanted.lines => Some(counting.named(alloc)?),
+        _ => None,
+    };
+    Ok(RunDocument {
+        numbers,
+        fault: fault_of(ran),
+        counts: counts_in(printing),
+        drops,
+        lines,
+        named,
+    })
 }
 
 /// A run as a document.
 pub(crate) fn document_text(alloc: Global, ran: &Ran, printing: &Printing<'_, '_>) -> Text {
     let mut text = Text::new(alloc);
-    if say_document(alloc, ran, printing, &mut text).is_err() {
-        text.has_failed = true;
+    match run_document(alloc, ran, printing) {
+        Ok(document) => document_of(alloc, &document, &mut text),
+        Err(AllocError) => text.has_failed = true,
     }
     text
 }

@@ -1,6 +1,6 @@
 //! What a run lost, with what helps.
 
-use crate::run::Ran;
+use dp_counts::Refusals;
 use dp_engine::{InputState, PortReport, Report};
 use dp_model::{Entry, Env, MAX_BUFFERS, MAX_RING, MAX_ROOM, MAX_SEGMENTS, PoolSpec, PortSpec};
 use dp_pipe::NodeName;
@@ -22,7 +22,10 @@ pub struct Notes {
 /// The notes on a run.
 #[derive(Clone, Copy)]
 pub(crate) struct NoteText<'a> {
-    pub ran: &'a Ran,
+    /// The report of the run, even of one that stopped.
+    pub report: &'a Report,
+    /// What was refused.
+    pub refusals: Refusals,
     pub env: &'a Env,
     pub notes: Notes,
 }
@@ -49,8 +52,9 @@ impl fmt::Display for Cure {
             Cure::RaiseCount(pool) => write!(f, "raise the count of pool {pool}"),
             Cure::WriteFile => write!(f, "a pipeline file may give more"),
             Cure::AtLimit => write!(f, "no pipeline may have more"),
-            Cure::Refuse(1) => write!(f, "--refuse refused 1 call"),
-            Cure::Refuse(calls) => write!(f, "--refuse refused {calls} calls"),
+            Cure::Refuse(calls) => {
+                write!(f, "--refuse refused {}", Number(*calls, "call", "calls"))
+            }
         }
     }
 }
@@ -69,18 +73,16 @@ fn longest_record(port: &PortSpec, pools: &[PoolSpec]) -> (u64, bool) {
     }
 }
 
-/// The words for a number of records.
-fn records_are(number: u64) -> &'static str {
-    if number == 1 {
-        "record is"
-    } else {
-        "records are"
-    }
-}
+/// A number, with the words for one, and those for any other number.
+#[derive(Clone, Copy)]
+struct Number(u64, &'static str, &'static str);
 
-/// The words for a number of times.
-fn times(number: u64) -> &'static str {
-    if number == 1 { "time" } else { "times" }
+impl fmt::Display for Number {
+    fn fmt<W: fmt::Write>(&self, f: &mut fmt::Formatter<W>) -> fmt::Result {
+        let Number(number, one, others) = *self;
+        let words = if number == 1 { one } else { others };
+        write!(f, "{number} {words}")
+    }
 }
 
 impl NoteText<'_> {
@@ -94,12 +96,12 @@ impl NoteText<'_> {
     }
 
     /// What helps where a pool has too few buffers.
-    fn cure_of_pool(&self, pool: u32, refused: u64) -> Cure {
+    fn cure_of_pool(&self, pool: u32) -> Cure {
         let is_at_limit = match self.env.pools().get(pool as usize) {
             Some(own) => own.count >= MAX_BUFFERS,
             None => true,
         };
-        match refused {
+        match self.report.refused {
             0 => self.cure(is_at_limit, Cure::RaiseCount(pool)),
             calls => Cure::Refuse(calls),
         }
@@ -111,7 +113,6 @@ impl NoteText<'_> {
         f: &mut fmt::Formatter<W>,
         k: u8,
         numbers: PortReport,
-        refused: u64,
     ) -> fmt::Result {
         let Some(port) = self.env.ports().get(usize::from(k)) else {
             return Ok(());
@@ -124,21 +125,21 @@ impl NoteText<'_> {
         if oversize > 0 {
             let (longest, is_at_limit) = longest_record(port, self.env.pools());
             let cure = self.cure(is_at_limit, Cure::Raise("segs or room"));
-            let records = records_are(oversize);
+            let records = Number(oversize, "record is", "records are");
             writeln!(
                 f,
-                "port {k}: {oversize} {records} longer than it takes ({longest} bytes): {cure}"
+                "port {k}: {records} longer than it takes ({longest} bytes): {cure}"
             )?;
         }
         if nobuf > 0 {
-            let cure = self.cure_of_pool(port.pool, refused);
-            let records = if nobuf == 1 { "record" } else { "records" };
-            let found = if refused > 0 {
+            let cure = self.cure_of_pool(port.pool);
+            let records = Number(nobuf, "record", "records");
+            let found = if self.report.refused > 0 {
                 "got no buffers"
             } else {
                 "found too few free buffers"
             };
-            writeln!(f, "port {k}: {nobuf} {records} {found}: {cure}")?;
+            writeln!(f, "port {k}: {records} {found}: {cure}")?;
         }
         Ok(())
     }
@@ -156,22 +157,18 @@ impl NoteText<'_> {
             Entry::Ring(_) => ("it", Cure::Raise("its count")),
         };
         let cure = self.cure(places.unwrap_or(MAX_RING) >= MAX_RING, number);
-        let (name, times) = (NodeName(node), times(full));
+        let (name, times) = (NodeName(node), Number(full, "time", "times"));
         writeln!(
             f,
-            "{name}: {what} was full {full} {times} when a packet came: {cure}"
+            "{name}: {what} was full {times} when a packet came: {cure}"
         )
     }
 
     /// Writes what ports lost.
-    fn write_ports<W: fmt::Write>(
-        &self,
-        f: &mut fmt::Formatter<W>,
-        report: &Report,
-    ) -> fmt::Result {
-        let lists = self.ran.refusals.lists;
-        for (k, (numbers, full)) in (0..8u8).zip(report.ports.as_slice().iter().zip(lists)) {
-            self.write_records(f, k, *numbers, report.refused)?;
+    fn write_ports<W: fmt::Write>(&self, f: &mut fmt::Formatter<W>) -> fmt::Result {
+        let ports = self.report.ports.as_slice().iter();
+        for (k, (numbers, full)) in (0..8u8).zip(ports.zip(self.refusals.lists)) {
+            self.write_records(f, k, *numbers)?;
             if full > 0 {
                 let port = self.env.ports().get(usize::from(k));
                 self.write_full(f, Entry::Port(k), full, port.map(|port| port.queue))?;
@@ -187,26 +184,18 @@ impl NoteText<'_> {
     }
 
     /// Writes what rings lost.
-    fn write_rings<W: fmt::Write>(
-        &self,
-        f: &mut fmt::Formatter<W>,
-        report: &Report,
-    ) -> fmt::Result {
-        let rings = self.ran.refusals.rings;
-        for (k, (left, full)) in (0..8u8).zip(report.rings.as_slice().iter().zip(rings)) {
+    fn write_rings<W: fmt::Write>(&self, f: &mut fmt::Formatter<W>) -> fmt::Result {
+        let rings = self.report.rings.as_slice().iter();
+        for (k, (left, full)) in (0..8u8).zip(rings.zip(self.refusals.rings)) {
             if full > 0 {
                 let ring = self.env.rings().get(usize::from(k));
                 self.write_full(f, Entry::Ring(k), full, ring.map(|ring| ring.count))?;
             }
             if *left > 0 {
-                let packets = if *left == 1 {
-                    "packet was"
-                } else {
-                    "packets were"
-                };
+                let packets = Number(*left, "packet was", "packets were");
                 writeln!(
                     f,
-                    "ring {k}: {left} {packets} left at the end: a turn runs 32 packets from rings at most; let programs put fewer into rings for each record"
+                    "ring {k}: {packets} left at the end: a turn runs 32 packets from rings at most; let programs put fewer into rings for each record"
                 )?;
             }
         }
@@ -214,32 +203,26 @@ impl NoteText<'_> {
     }
 
     /// Writes which buffers programs did not get, and which node runs were cut.
-    fn write_programs<W: fmt::Write>(
-        &self,
-        f: &mut fmt::Formatter<W>,
-        report: &Report,
-    ) -> fmt::Result {
-        for (k, refused) in (0..8u32).zip(self.ran.refusals.pools) {
+    fn write_programs<W: fmt::Write>(&self, f: &mut fmt::Formatter<W>) -> fmt::Result {
+        for (k, refused) in (0..8u32).zip(self.refusals.pools) {
             if refused > 0 {
-                let cure = self.cure_of_pool(k, report.refused);
-                let times = times(refused);
-                writeln!(
-                    f,
-                    "pool {k}: alloc or clone got no buffers {refused} {times}: {cure}"
-                )?;
+                let cure = self.cure_of_pool(k);
+                let times = Number(refused, "time", "times");
+                writeln!(f, "pool {k}: alloc or clone got no buffers {times}: {cure}")?;
             }
         }
-        match report.cut {
-            0 => Ok(()),
-            1 => writeln!(
-                f,
-                "1 node run was cut: it took more than 256 backward jumps, and its packets were freed; --counts shows which loop"
-            ),
-            cut => writeln!(
-                f,
-                "{cut} node runs were cut: each took more than 256 backward jumps, and its packets were freed; --counts shows which loop"
-            ),
+        if self.report.cut == 0 {
+            return Ok(());
         }
+        let runs = Number(
+            self.report.cut,
+            "node run was cut: it",
+            "node runs were cut: each",
+        );
+        writeln!(
+            f,
+            "{runs} took more than 256 backward jumps, and its packets were freed; --counts shows which loop"
+        )
     }
 
     /// Writes the size of a region that is large enough.
@@ -257,28 +240,20 @@ impl NoteText<'_> {
 
 impl fmt::Display for NoteText<'_> {
     fn fmt<W: fmt::Write>(&self, f: &mut fmt::Formatter<W>) -> fmt::Result {
-        let report = match &self.ran.flushed.answer {
-            Ok(report) => report,
-            Err(fault) => &fault.report,
-        };
         if self.notes.region < self.notes.needed {
             self.write_region(f)?;
         } else {
-            self.write_ports(f, report)?;
-            self.write_rings(f, report)?;
-            self.write_programs(f, report)?;
+            self.write_ports(f)?;
+            self.write_rings(f)?;
+            self.write_programs(f)?;
         }
         for (port, records) in self.notes.truncated.into_iter().enumerate() {
-            match records {
-                0 => {}
-                1 => writeln!(
+            if records > 0 {
+                let records = Number(records, "record was", "records were");
+                writeln!(
                     f,
-                    "port {port}: 1 record was cut by the capture's snap length: capture with a larger -s"
-                )?,
-                records => writeln!(
-                    f,
-                    "port {port}: {records} records were cut by the capture's snap length: capture with a larger -s"
-                )?,
+                    "port {port}: {records} cut by the capture's snap length: capture with a larger -s"
+                )?;
             }
         }
         Ok(())

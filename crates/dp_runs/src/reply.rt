@@ -87,6 +87,14 @@ pub(crate) fn printed_of(answer: &Result<Report, RunFault>) -> Option<&Report>
     }
 }
 
+/// The report of a run, even of one that stopped.
+fn report_in(answer: &Result<Report, RunFault>) -> &Report {
+    match answer {
+        Ok(report) => report,
+        Err(fault) => &fault.report,
+    }
+}
+
 /// One text after the other.
 pub(crate) fn both(first: Text, more: &Text) -> Text
     ensures { spec.IsBoth first more.now result }
@@ -173,10 +181,10 @@ pub fn say_stop(cause: RunCause, found: Option<Finding<'_>>, err: &mut Text) {
 
 /// How many records of each port the run processed, if that is said.
 fn totals_of(alloc: Global, answer: &Result<Report, RunFault>, is_said: bool) -> Text {
-    match answer {
-        _ if !is_said => Text::new(alloc),
-        Ok(report) => shown(alloc, Totals(report.ports.as_slice())),
-        Err(fault) => shown(alloc, Totals(fault.report.ports.as_slice())),
+    if is_said {
+        shown(alloc, Totals(report_in(answer).ports.as_slice()))
+    } else {
+        Text::new(alloc)
     }
 }
 
@@ -206,8 +214,13 @@ fn notes_of(alloc: Global, ran: &Ran, printing: &Printing<'_, '_>) -> Text {
     let Some(notes) = printing.notes else {
         return Text::new(alloc);
     };
-    let env = printing.env;
-    shown(alloc, NoteText { ran, env, notes })
+    let note = NoteText {
+        report: report_in(&ran.flushed.answer),
+        refusals: ran.refusals,
+        env: printing.env,
+        notes,
+    };
+    shown(alloc, note)
 }
 
 /// What is said of a run: on standard output its report, or its document, and its counts; on standard error why it stopped, and what it lost. If a

@@ -1,12 +1,12 @@
 //! The counts of a run, their documents, and the lines and the places that they are for.
 
 use super::files::{Content, text_of};
-use super::plans::{FULL_RING, PORT, Watch, loaded, ran, watcher_of};
+use super::plans::{FULL_RING, Watch, loaded, ran, watcher_of};
 use Answer::{Counted, Missing, NoNode};
 use Content::Text;
 use arrayvec::ArrayVec;
 use dp_counts::{
-    Counts, CountsDocument, CountsError, DropCause, DropPlace, LineCounts, NodeProgram, NodeSource,
+    Counts, CountsDocument, CountsError, DropCause, DropPlace, LineCounts, NodeSource, Origin,
     ReadCount, Total, counts_of, lines_counted, lines_of, total_of,
 };
 use dp_engine::{InputState, PortReport, Report};
@@ -116,10 +116,11 @@ static LINES: &[(Option<usize>, u64, u64, u64)] = &[
 ];
 
 /// A text as `dpv build` writes it.
-const BUILT: &str = "# Built from a.pkt
-        iflen p0,4,L1     # 2: need 4 bytes else drop \"short\"
+const BUILT: &str = "# Built from a.pkt by `dpv build`
+        iflen p0,4,L1     # net.pkt:2: need 4 bytes else drop \"short\"
         load r1,p0,0,4    # 3: if r1 { }
         jeq r1,0,L1       # 3: if r1 { }
+        add r0,0          # count all: 4: count all
         tx p0,r0,L1       # 5: send port
         exit              # 5: send port
 L1:
@@ -127,12 +128,12 @@ L1:
         exit              # what is held is dropped
 ";
 
-/// The lines that it is built from.
-static BUILT_LINES: &[(Option<usize>, &str)] = &[
-    (Some(2), "need 4 bytes else drop \"short\""),
-    (Some(3), "if r1 { }"),
-    (Some(5), "send port"),
-    (None, "what is held is dropped"),
+/// The lines that it is built from, each with its file.
+static BUILT_LINES: &[(&str, usize, &str)] = &[
+    ("a.pkt", 3, "if r1 { }"),
+    ("a.pkt", 4, "count all"),
+    ("a.pkt", 5, "send port"),
+    ("net.pkt", 2, "need 4 bytes else drop \"short\""),
 ];
 
 // The counts of the run of a port and a ring, and its environment.
@@ -245,7 +246,7 @@ fn report_of() -> Report {
 // The line from which control came to where packets ended, and how many did.
 fn ended_at(place: &DropPlace<'_>) -> (usize, u64) {
     match place.cause {
-        DropCause::Freed { line, .. } => (line, place.packets),
+        DropCause::Freed(origin) => (origin.line.unwrap_or(0), place.packets),
         _ => (0, place.packets),
     }
 }
@@ -260,7 +261,7 @@ fn are_places(places: &[DropPlace<'_>]) -> bool {
 }
 
 fn is_line(line: &LineCounts<'_>, want: &(Option<usize>, u64, u64, u64)) -> bool {
-    (line.line, line.came, line.sent, line.dropped) == *want
+    (line.origin.line, line.came, line.sent, line.dropped) == *want
 }
 
 fn are_lines(lines: &[LineCounts<'_>]) -> bool {
@@ -276,19 +277,21 @@ fn has_lines(alloc: Global, counting: &Counting<'static>) -> Result<bool, Fail> 
     let Some(source) = counting.sources.as_slice().first() else {
         return Ok(false);
     };
-    let program = assemble(alloc, PORT)?;
-    let program = NodeProgram {
-        source,
-        instrs: program.instrs(),
-    };
-    let lines = lines_counted(alloc, &counting.counts, program)?;
+    let lines = lines_counted(alloc, &counting.counts, source)?;
     Ok(are_lines(lines.as_slice()))
+}
+
+// Whether it is this line of this file.
+fn is_from(origin: Origin<'_>, want: &(&str, usize, &str)) -> bool {
+    (origin.file, origin.line, origin.text) == (want.0, Some(want.1), want.2)
 }
 
 fn are_built(lines: &[LineCounts<'_>]) -> bool {
     lines.len() == BUILT_LINES.len()
-        && lines.iter().zip(BUILT_LINES).all(|(line, want)| line.line == want.0
-            && line.text == want.1.as_bytes())
+        && lines
+            .iter()
+            .zip(BUILT_LINES)
+            .all(|(line, want)| is_from(line.origin, want))
 }
 
 // Whether a built program is counted by the lines that it is built from.
@@ -299,12 +302,9 @@ fn is_built(alloc: Global) -> Result<bool, Fail> {
         node: Entry::Port(0),
         name: "a.dpv",
         lines: lines_of(alloc, BUILT.as_bytes(), &program, places.as_slice())?,
+        instrs: Vec::from_slice(alloc, program.instrs())?,
     };
-    let program = NodeProgram {
-        source: &source,
-        instrs: program.instrs(),
-    };
-    let lines = lines_counted(alloc, &Counts::new(alloc)?, program)?;
+    let lines = lines_counted(alloc, &Counts::new(alloc)?, &source)?;
     Ok(are_built(lines.as_slice()))
 }
 
