@@ -58,19 +58,19 @@ named_at capture_of names k name default named within at is = rw (at_index names
 pub input_named : (names : List CaptureNames) (k : ℕ) (name default : CaptureNames) (f : CaptureFault) → k < length names
     → name ≡ slice_index_or names k default → IsOf (input_capture name).1 f → IsInput names k f
 input_named names k name default fault.Memory within at is = tt
-input_named names k name default (fault.File named finding) within at is = named_at input_capture names k name default named.now within at is
+input_named names k name default (fault.File named problem) within at is = named_at input_capture names k name default named.now within at is
 
 pub output_named : (names : List CaptureNames) (k : ℕ) (name default : CaptureNames) (f : CaptureFault) → k < length names
     → name ≡ slice_index_or names k default → IsOf (output_capture name).1 f → IsOutput names f
 output_named names k name default fault.Memory within at is = tt
-output_named names k name default (fault.File named finding) within at is =
+output_named names k name default (fault.File named problem) within at is =
     (k, named_at output_capture names k name default named.now within at is)
 
 -- a fault of an output that is a file of the run
 pub clash_named : (kept : List Kept) (names : List CaptureNames) (targets : List Target) (f : CaptureFault) → IsFirstClash kept names targets f
     → IsOutput names f
 clash_named kept names targets fault.Memory h = tt
-clash_named kept names targets (fault.File named finding) h = elim h.2.2 [
+clash_named kept names targets (fault.File named problem) h = elim h.2.2 [
   | inl one ↦ (h.0, sym one.2.0)
   | inr other ↦ (h.0, sym other.2.0)
 ]

@@ -6,8 +6,8 @@ use Rattle.dp_pcap.specs.declared.of_buf_reader.OfBufReader.{OfBufReader}
 use Rattle.dp_pcap.specs.declared.of_buf_writer.OfBufWriter.{OfBufWriter}
 use Rattle.dp_captures.specs.declared.faults.CaptureFault.{CaptureFault}
 use Rattle.dp_captures.specs.declared.faults.CaptureFault.TheVariants as fault
-use Rattle.dp_captures.specs.declared.faults.Reason.{Reason}
-use Rattle.dp_captures.specs.declared.faults.Reason.TheVariants.{IsOutput}
+use Rattle.dp_captures.specs.declared.faults.CaptureReason.{CaptureReason}
+use Rattle.dp_captures.specs.declared.faults.CaptureReason.TheVariants.{IsOutput}
 use Rattle.dp_captures.specs.declared.file_id.FileId.{FileId}
 use Rattle.dp_captures.specs.declared.file_id.ReadFile.{ReadFile}
 use Rattle.dp_captures.specs.declared.guard.Kept.{Kept}
@@ -58,9 +58,9 @@ abbrev pub AreApart : List Kept → List Target → Type 0
 AreApart kept targets = (port : ℕ) → IsApartAt kept targets port
 
 -- a fault names this file, and another one with the reason
-abbrev pub Names : CaptureFault → Option (List ℕ) → Option (List ℕ) → Reason → Type 0
+abbrev pub Names : CaptureFault → Option (List ℕ) → Option (List ℕ) → CaptureReason → Type 0
 Names fault.Memory name other why = ⊥
-Names (fault.File name finding) named other why = (Some name.now ≡ named) × (option_map (λ file. file.now) finding.file ≡ other) × (finding.reason ≡ why)
+Names (fault.File name problem) named other why = (Some name.now ≡ named) × (option_map (λ file. file.now) problem.file ≡ other) × (problem.reason ≡ why)
 
 -- the name of the output of a port
 abbrev pub output_at : List CaptureNames → ℕ → Option (List ℕ)

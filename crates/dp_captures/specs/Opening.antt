@@ -15,17 +15,17 @@ use Rattle.dp_captures.specs.Names.{input_capture, output_capture}
 -- lack of memory, or a fault of the file with this name
 abbrev pub IsOf : List ℕ → CaptureFault → Type 0
 IsOf name fault.Memory = ⊤
-IsOf name (fault.File named finding) = named.now ≡ name
+IsOf name (fault.File named problem) = named.now ≡ name
 
 -- lack of memory, or a fault of the input of this port
 abbrev pub IsInput : List CaptureNames → ℕ → CaptureFault → Type 0
 IsInput names port fault.Memory = ⊤
-IsInput names port (fault.File named finding) = option_map (λ n. (input_capture n).1) (slice_get names port) ≡ Some named.now
+IsInput names port (fault.File named problem) = option_map (λ n. (input_capture n).1) (slice_get names port) ≡ Some named.now
 
 -- lack of memory, or a fault of the output of a port
 abbrev pub IsOutput : List CaptureNames → CaptureFault → Type 0
 IsOutput names fault.Memory = ⊤
-IsOutput names (fault.File named finding) = (port : ℕ) × (option_map (λ n. (output_capture n).1) (slice_get names port) ≡ Some named.now)
+IsOutput names (fault.File named problem) = (port : ℕ) × (option_map (λ n. (output_capture n).1) (slice_get names port) ≡ Some named.now)
 
 -- The captures of a run were not opened: an input could not be, those before it are open, and no output is; or all inputs are open, and the fault is of
 -- an output.

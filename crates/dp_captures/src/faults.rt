@@ -12,7 +12,7 @@ use std::io::Error;
 
 /// Why a capture is at fault.
 #[derive(Clone, Copy)]
-pub enum Reason {
+pub enum CaptureReason {
     /// The system's error.
     System(Error),
     /// The output is read by the same run.
@@ -31,26 +31,26 @@ pub enum Reason {
     Link(LinkType),
 }
 
-impl fmt::Display for Reason {
+impl fmt::Display for CaptureReason {
     fn fmt<W: fmt::Write>(&self, f: &mut fmt::Formatter<W>) -> fmt::Result {
         match self {
-            Reason::System(error) => write!(f, "{error}"),
-            Reason::Capture(error) => write!(f, "{error}"),
-            Reason::Link(link) => write!(f, "{link}"),
-            Reason::IsRead => write!(f, "the run reads this file, so it is not overwritten"),
-            Reason::IsOutput => write!(f, "another port writes this file, too"),
-            Reason::IsStdout => write!(f, "standard output goes to this file, too"),
-            Reason::IsStderr => write!(f, "standard error goes to this file, too"),
-            Reason::Other(format) => write!(f, "{format}"),
+            CaptureReason::System(error) => write!(f, "{error}"),
+            CaptureReason::Capture(error) => write!(f, "{error}"),
+            CaptureReason::Link(link) => write!(f, "{link}"),
+            CaptureReason::IsRead => write!(f, "the run reads this file, so it is not overwritten"),
+            CaptureReason::IsOutput => write!(f, "another port writes this file, too"),
+            CaptureReason::IsStdout => write!(f, "standard output goes to this file, too"),
+            CaptureReason::IsStderr => write!(f, "standard error goes to this file, too"),
+            CaptureReason::Other(format) => write!(f, "{format}"),
         }
     }
 }
 
-impl Reason {
+impl CaptureReason {
     /// What helps, if there is a line for it.
     pub fn cure(self) -> Option<&'static str> {
         match self {
-            Reason::Link(link) => Some(link.cure()),
+            CaptureReason::Link(link) => Some(link.cure()),
             _ => None,
         }
     }
@@ -58,11 +58,11 @@ impl Reason {
 
 /// A reason, and the file it concerns.
 #[derive(Clone, Copy)]
-pub struct Finding<'a> {
+pub struct CaptureProblem<'a> {
     /// The file's name, if it is to be reported.
     pub file: Option<&'a str>,
     /// Why.
-    pub reason: Reason,
+    pub reason: CaptureReason,
 }
 
 /// Why captures are not opened.
@@ -71,7 +71,10 @@ pub enum CaptureFault<'a> {
     /// Memory was refused.
     Memory,
     /// The capture of this name cannot be opened, or may not be made.
-    File { name: &'a str, finding: Finding<'a> },
+    File {
+        name: &'a str,
+        problem: CaptureProblem<'a>,
+    },
 }
 
 /// The name of the file at which a run stopped, if it stopped at one.
@@ -84,20 +87,24 @@ fn file_of(names: &[CaptureNames], cause: RunCause) -> Option<&str> {
 }
 
 /// The reason for a fault of an input: the system's error if its reader failed, otherwise the fault of the capture.
-fn reason_of_input(cause: PcapError, seen: Option<Seen>) -> Reason {
+fn reason_of_input(cause: PcapError, seen: Option<Seen>) -> CaptureReason {
     let Some(seen) = seen else {
-        return Reason::Capture(cause);
+        return CaptureReason::Capture(cause);
     };
     match (cause, seen.failure, seen.link, seen.format) {
-        (PcapError::Read, Some(error), _, _) => Reason::System(error),
-        (PcapError::BadMagic, _, _, Some(format)) => Reason::Other(format),
-        (PcapError::BadLink, _, Some(link), _) => Reason::Link(link),
-        _ => Reason::Capture(cause),
+        (PcapError::Read, Some(error), _, _) => CaptureReason::System(error),
+        (PcapError::BadMagic, _, _, Some(format)) => CaptureReason::Other(format),
+        (PcapError::BadLink, _, Some(link), _) => CaptureReason::Link(link),
+        _ => CaptureReason::Capture(cause),
     }
 }
 
 /// The reason why a run stopped at a capture, if it stopped at one. `failure` is the error of an output's file.
-fn reason_for<I: Inlet>(ins: &[I], cause: RunCause, failure: Option<Error>) -> Option<Reason> {
+fn reason_for<I: Inlet>(
+    ins: &[I],
+    cause: RunCause,
+    failure: Option<Error>,
+) -> Option<CaptureReason> {
     match (cause, failure) {
         (RunCause::In(port, error), _) => {
             let seen = match ins.get(usize::from(port)) {
@@ -106,20 +113,20 @@ fn reason_for<I: Inlet>(ins: &[I], cause: RunCause, failure: Option<Error>) -> O
             };
             Some(reason_of_input(error, seen))
         }
-        (RunCause::Out(_), Some(error)) => Some(Reason::System(error)),
-        (RunCause::Out(_), None) => Some(Reason::Capture(PcapError::Write)),
+        (RunCause::Out(_), Some(error)) => Some(CaptureReason::System(error)),
+        (RunCause::Out(_), None) => Some(CaptureReason::Capture(PcapError::Write)),
         (RunCause::Memory | RunCause::NoRoom, _) => None,
     }
 }
 
-/// The finding for the capture at which a run stopped, if it stopped at one.
-pub fn finding_of<'a, I: Inlet>(
+/// What is wrong with the capture at which a run stopped, if it stopped at one.
+pub fn problem_of<'a, I: Inlet>(
     names: &'a [CaptureNames],
     ins: &[I],
     cause: RunCause,
     failure: Option<Error>,
-) -> Option<Finding<'a>> {
+) -> Option<CaptureProblem<'a>> {
     let reason = reason_for(ins, cause, failure)?;
     let file = file_of(names, cause);
-    Some(Finding { file, reason })
+    Some(CaptureProblem { file, reason })
 }

@@ -3,7 +3,7 @@
 ghost use Rattle.std.specs.Prelude.{◌≡◌, ◌<◌, ◌≤◌, find, length, option_map, position, IfErr, IfOk, IfSome, OnOk};
 ghost use Rattle.dp_captures.specs.Guarding as spec;
 
-use crate::faults::{CaptureFault, Finding, Reason};
+use crate::faults::{CaptureFault, CaptureProblem, CaptureReason};
 use crate::file_id::{FileId, plain_file};
 use crate::names::CaptureNames;
 use crate::words::Place;
@@ -36,7 +36,7 @@ pub struct Kept<'a> {
     /// The name to report.
     pub name: Option<&'a str>,
     /// Why it may not be written.
-    pub why: Reason,
+    pub why: CaptureReason,
 }
 
 /// Whether two files or folders are the same.
@@ -101,19 +101,19 @@ fn refuse_clash<'a>(
     let name = names[port].output.as_str();
     let target = targets[port];
     if let Some(one) = first_kept(target, kept) {
-        let finding = Finding {
+        let problem = CaptureProblem {
             file: one.name,
             reason: one.why,
         };
-        return Err(CaptureFault::File { name, finding });
+        return Err(CaptureFault::File { name, problem });
     }
     match first_same(target, &targets[..port]) {
         Some(other) => {
-            let finding = Finding {
+            let problem = CaptureProblem {
                 file: Some(names[other].output.as_str()),
-                reason: Reason::IsOutput,
+                reason: CaptureReason::IsOutput,
             };
-            Err(CaptureFault::File { name, finding })
+            Err(CaptureFault::File { name, problem })
         }
         None => Ok(()),
     }

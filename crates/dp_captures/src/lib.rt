@@ -28,7 +28,7 @@ mod watched;
 mod words;
 
 pub use closing::{Flushed, flush_outputs};
-pub use faults::{CaptureFault, Finding, Reason, finding_of};
+pub use faults::{CaptureFault, CaptureProblem, CaptureReason, problem_of};
 pub use file_id::{FileId, ReadFile, add_read, id_of_open, note_read, plain_file};
 pub use format::Format;
 pub use guarded::Guarded;

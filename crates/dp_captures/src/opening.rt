@@ -6,7 +6,7 @@ ghost use Rattle.dp_captures.specs.Guarding.{AreFilesOf, AreGuarded, output_targ
 ghost use Rattle.dp_captures.specs.Names.{input_capture, output_capture};
 ghost use Rattle.dp_captures.specs.Opening as spec;
 
-use crate::faults::{CaptureFault, Finding, Reason};
+use crate::faults::{CaptureFault, CaptureProblem, CaptureReason};
 use crate::file_id::{FileId, ReadFile, plain_file};
 use crate::guard::{Kept, Target, keep_apart, target_named, target_of};
 use crate::guarded::Guarded;
@@ -50,14 +50,14 @@ fn unopened<'a>(name: &'a str, error: Error) -> CaptureFault<'a>
     if error.kind() == ErrorKind::OutOfMemory {
         return CaptureFault::Memory;
     }
-    let finding = Finding {
+    let problem = CaptureProblem {
         file: None,
-        reason: Reason::System(error),
+        reason: CaptureReason::System(error),
     };
-    CaptureFault::File { name, finding }
+    CaptureFault::File { name, problem }
 }
 
-/// Opens an input.
+/// Opens the capture that a port reads, or says why it cannot be opened.
 fn open_input<'a, R: Files>(
     rt: &R,
     alloc: Global,
@@ -163,7 +163,7 @@ fn keep<'a>(
     kept: &mut Vec<Kept<'a>>,
     id: Option<FileId>,
     name: Option<&'a str>,
-    why: Reason,
+    why: CaptureReason,
 ) -> Result<(), AllocError>
     ensures { OnOk result (map (λ one. one.id) kept.new.items ≡ map (λ one. one.id) kept.old.items ++ id ∷ []) }
 {
@@ -177,7 +177,12 @@ fn keep_reads<'a>(kept: &mut Vec<Kept<'a>>, reads: &'a [ReadFile]) -> Result<(),
     ensures { OnOk result (map (λ one. one.id) kept.new.items ≡ map (λ read. read.id) reads.now) }
 {
     for read in reads {
-        keep(kept, read.id, Some(read.name.as_str()), Reason::IsRead)?;
+        keep(
+            kept,
+            read.id,
+            Some(read.name.as_str()),
+            CaptureReason::IsRead,
+        )?;
     }
     Ok(())
 }
@@ -200,7 +205,12 @@ fn keep_inputs<'a, F: Read>(
 {
     for port in 0..inputs.len() {
         let id = input_id(&inputs[port]);
-        keep(kept, id, Some(names[port].input.as_str()), Reason::IsRead)?;
+        keep(
+            kept,
+            id,
+            Some(names[port].input.as_str()),
+            CaptureReason::IsRead,
+        )?;
     }
     Ok(())
 }
@@ -225,14 +235,14 @@ fn files_of_run<'a, R: Files>(
     keep_reads(&mut kept, reads)?;
     keep_inputs(&mut kept, names, inputs)?;
     let id = plain_file(rt, "/dev/stderr")?;
-    keep(&mut kept, id, None, Reason::IsStderr)?;
+    keep(&mut kept, id, None, CaptureReason::IsStderr)?;
     // If an output is standard output, texts go to standard error.
     let id = if take_stdout(names) {
         None
     } else {
         plain_file(rt, "/dev/stdout")?
     };
-    keep(&mut kept, id, None, Reason::IsStdout)?;
+    keep(&mut kept, id, None, CaptureReason::IsStdout)?;
     Ok(kept)
 }
 

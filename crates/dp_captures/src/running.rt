@@ -7,7 +7,7 @@ ghost use Rattle.dp_captures.specs.Runs as spec;
 use crate::closing::{Flushed, flush_outputs};
 use crate::inlet::Inlet;
 use crate::outlet::Outlet;
-use dp_engine::{Known, Watch};
+use dp_engine::{CompiledPrograms, Watch};
 use dp_pipe::{Pipeline, run_watched};
 use std::alloc::Global;
 
@@ -21,7 +21,7 @@ fn count_ports(pipeline: &Pipeline) -> usize
 
 /// Runs a pipeline from captures to captures under a watcher, one input and one output for each port, and then writes out the bytes that its outputs
 /// hold back. Programs that are among `K` run as machine code; nothing else depends on `K`.
-pub fn run_captures<K: Known, V: Watch, I: Inlet, O: Outlet>(
+pub fn run_captures<K: CompiledPrograms, V: Watch, I: Inlet, O: Outlet>(
     alloc: Global,
     pipeline: Pipeline,
     ins: &mut [I],

@@ -23,9 +23,9 @@ pub enum Place {
 /// The capture that a word gives a port.
 #[derive(Clone, Copy)]
 pub struct Replaced<'a> {
-    /// The word.
+    /// The whole word, as `1=out.pcap`.
     pub word: &'a str,
-    /// The port.
+    /// The port whose capture it replaces.
     pub port: u8,
     /// Where the capture is.
     pub place: Place,

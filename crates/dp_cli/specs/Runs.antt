@@ -82,7 +82,7 @@ pub record RunsOver {F : Type 0} (remaining : F → Option (List ℕ)) (p : Plan
 -- the status of captures that are not opened: 4 for lack of memory, else 3
 abbrev pub status_unopened : CaptureFault → ℕ
 status_unopened fault.Memory = 4
-status_unopened (fault.File name finding) = 3
+status_unopened (fault.File name problem) = 3
 
 -- the captures of a pipeline were not opened, and the first fault of them gives the status
 pub record HasUnopened {F : Type 0} (remaining : F → Option (List ℕ)) (p : Plan) (inputs outputs : List Replaced) (reply : Reply) : Type 0 where

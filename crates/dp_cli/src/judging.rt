@@ -4,8 +4,8 @@ ghost use Rattle.std.specs.Prelude.{◌≡◌, ◌⊎◌, IfErr, IfOk, codes};
 ghost use Rattle.clap.specs.Matches.{found_of};
 ghost use Rattle.dp_cli.specs.Commands.{ChecksFile, InfersNode, InfersOne, IsLoaded, IsUndone};
 
-use crate::call::{Call, wrong};
 use crate::reading::{node_in, read_file, read_nodes, read_pipeline, which_in};
+use crate::request::{Request, wrong};
 use dp_console::{DONE, Reply};
 use dp_model::{Entry, Env};
 use dp_pipe::{How, Pipeline, load};
@@ -16,15 +16,15 @@ use dp_verdict::{check_text, explain, infer, infer_one, say_costs, unloaded};
 use std::rt::Files;
 
 /// Adds what the words ask for of a pipeline whose programs are accepted.
-fn say_more<R>(call: &Call<'_, '_, R>, pipeline: &Pipeline, reply: &mut Reply)
+fn say_more<R>(request: &Request<'_, '_, R>, pipeline: &Pipeline, reply: &mut Reply)
     ensures { reply.new.status ≡ reply.old.status }
 {
-    if call.flag("cost") {
-        say_costs(call.alloc, pipeline, &mut *reply);
+    if request.flag("cost") {
+        say_costs(request.alloc, pipeline, &mut *reply);
     }
-    if call.flag("sizes") {
+    if request.flag("sizes") {
         say_sizes(
-            call.alloc,
+            request.alloc,
             pipeline.env(),
             pipeline.region(),
             &mut reply.out,
@@ -33,83 +33,83 @@ fn say_more<R>(call: &Call<'_, '_, R>, pipeline: &Pipeline, reply: &mut Reply)
 }
 
 /// `dpv check FILE`.
-fn checked<R: Files>(call: &Call<'_, '_, R>) -> Result<Reply, Reply>
-    ensures checks { IfOk result (ChecksFile (found_of call.now.words.now)) }
+fn checked<R: Files>(request: &Request<'_, '_, R>) -> Result<Reply, Reply>
+    ensures checks { IfOk result (ChecksFile (found_of request.now.words.now)) }
     ensures undone { IfErr result IsUndone }
 {
-    let (is_json, with_sizes) = (call.flag("json"), call.flag("sizes"));
+    let (is_json, with_sizes) = (request.flag("json"), request.flag("sizes"));
     if is_json && with_sizes {
         return Err(wrong(
-            call.alloc,
+            request.alloc,
             "error: --sizes is printed as text alone: leave out --json, or --sizes",
         ));
     }
-    let given = read_pipeline(call, is_json)?;
+    let given = read_pipeline(request, is_json)?;
     let subject = given.subject();
-    let sources = read_nodes(call, subject, None, How::Given, is_json)?;
-    let (mut reply, loaded) = check_text(call.alloc, given.text(), subject, &sources, is_json);
+    let sources = read_nodes(request, subject, None, How::Given, is_json)?;
+    let (mut reply, loaded) = check_text(request.alloc, given.text(), subject, &sources, is_json);
     if reply.status == DONE
         && let Ok(pipeline) = &loaded
     {
-        say_more(call, pipeline, &mut reply);
+        say_more(request, pipeline, &mut reply);
     }
     Ok(reply)
 }
 
 /// A pipeline that is loaded with its named certificates, or with inferred ones.
-fn loaded<R: Files>(call: &Call<'_, '_, R>, how: How) -> Result<Pipeline, Reply>
+fn loaded<R: Files>(request: &Request<'_, '_, R>, how: How) -> Result<Pipeline, Reply>
     ensures loaded { IfOk result (IsLoaded how) }
     ensures undone { IfErr result IsUndone }
 {
-    let given = read_pipeline(call, false)?;
+    let given = read_pipeline(request, false)?;
     let subject = given.subject();
-    let sources = read_nodes(call, subject, None, how, false)?;
-    match load(call.alloc, given.text(), &mut Lent(&sources), how) {
+    let sources = read_nodes(request, subject, None, how, false)?;
+    match load(request.alloc, given.text(), &mut Lent(&sources), how) {
         Ok(pipeline) => Ok(pipeline),
-        Err(error) => Err(unloaded(call.alloc, error, subject, &sources, false)),
+        Err(error) => Err(unloaded(request.alloc, error, subject, &sources, false)),
     }
 }
 
 /// `dpv infer FILE WHICH`.
-fn inferred<R: Files>(call: &Call<'_, '_, R>) -> Result<Reply, Reply>
-    ensures infers { IfOk result (InfersNode (found_of call.now.words.now)) }
+fn inferred<R: Files>(request: &Request<'_, '_, R>) -> Result<Reply, Reply>
+    ensures infers { IfOk result (InfersNode (found_of request.now.words.now)) }
     ensures undone { IfErr result IsUndone }
 {
-    let node = node_in(call.alloc, call.word("WHICH"))?;
-    let pipeline = loaded(call, How::Inferred)?;
-    Ok(infer(call.alloc, &pipeline, node))
+    let node = node_in(request.alloc, request.word("WHICH"))?;
+    let pipeline = loaded(request, How::Inferred)?;
+    Ok(infer(request.alloc, &pipeline, node))
 }
 
 /// `dpv compile FILE`.
-fn compiled<R: Files>(call: &Call<'_, '_, R>) -> Result<Reply, Reply> {
-    let pipeline = loaded(call, How::Given)?;
-    Ok(compile_reply(call.alloc, &pipeline))
+fn compiled<R: Files>(request: &Request<'_, '_, R>) -> Result<Reply, Reply> {
+    let pipeline = loaded(request, How::Given)?;
+    Ok(compile_reply(request.alloc, &pipeline))
 }
 
 /// `dpv explain FILE [WHICH]`.
-fn explained<R: Files>(call: &Call<'_, '_, R>) -> Result<Reply, Reply> {
-    let (is_json, which) = (call.flag("json"), which_in(call)?);
-    let given = read_pipeline(call, is_json)?;
+fn explained<R: Files>(request: &Request<'_, '_, R>) -> Result<Reply, Reply> {
+    let (is_json, which) = (request.flag("json"), which_in(request)?);
+    let given = read_pipeline(request, is_json)?;
     let subject = given.subject();
-    let sources = read_nodes(call, subject, which, How::Given, is_json)?;
-    Ok(explain(call.alloc, subject, &sources, which, is_json))
+    let sources = read_nodes(request, subject, which, How::Given, is_json)?;
+    Ok(explain(request.alloc, subject, &sources, which, is_json))
 }
 
 /// The program of a command on one program, for the port of `dpv one`.
-fn single<'a, 'w: 'a, R>(call: &Call<'_, 'w, R>, env: &'a Env) -> Subject<'a> {
+fn single<'a, 'w: 'a, R>(request: &Request<'_, 'w, R>, env: &'a Env) -> Subject<'a> {
     Subject::Single {
         env,
-        program: call.word("NODE"),
-        cert: call.value("CERT"),
+        program: request.word("NODE"),
+        cert: request.value("CERT"),
     }
 }
 
 /// `dpv explain-one NODE [CERT]`.
-fn explained_one<R: Files>(call: &Call<'_, '_, R>) -> Result<Reply, Reply> {
-    let (env, is_json) = (one_env(), call.flag("json"));
-    let subject = single(call, &env);
-    let sources = read_nodes(call, subject, None, How::Given, is_json)?;
-    Ok(explain(call.alloc, subject, &sources, None, is_json))
+fn explained_one<R: Files>(request: &Request<'_, '_, R>) -> Result<Reply, Reply> {
+    let (env, is_json) = (one_env(), request.flag("json"));
+    let subject = single(request, &env);
+    let sources = read_nodes(request, subject, None, How::Given, is_json)?;
+    Ok(explain(request.alloc, subject, &sources, None, is_json))
 }
 
 /// A program without a certificate, for the port of `dpv one`.
@@ -122,27 +122,27 @@ fn alone<'a>(env: &'a Env, program: &'a str) -> Subject<'a> {
 }
 
 /// `dpv infer-one NODE`.
-fn inferred_one<R: Files>(call: &Call<'_, '_, R>) -> Result<Reply, Reply>
-    ensures infers { IfOk result (InfersOne (found_of call.now.words.now)) }
+fn inferred_one<R: Files>(request: &Request<'_, '_, R>) -> Result<Reply, Reply>
+    ensures infers { IfOk result (InfersOne (found_of request.now.words.now)) }
     ensures undone { IfErr result IsUndone }
 {
     let env = one_env();
-    let program = call.word("NODE");
+    let program = request.word("NODE");
     let subject = alone(&env, program);
-    let sources = read_nodes(call, subject, None, How::Inferred, false)?;
+    let sources = read_nodes(request, subject, None, How::Inferred, false)?;
     let asked = Asked {
         node: Entry::Port(0),
         program,
         cert: None,
     };
-    Ok(infer_one(call.alloc, subject, &sources, asked))
+    Ok(infer_one(request.alloc, subject, &sources, asked))
 }
 
 /// The form of a picture, or of a listing without `--dot`.
-fn form_of<'a, R>(call: &Call<'_, '_, R>, counts: Option<Counted<'a>>) -> Form<'a> {
-    if call.flag("dot") {
+fn form_of<'a, R>(request: &Request<'_, '_, R>, counts: Option<Counted<'a>>) -> Form<'a> {
+    if request.flag("dot") {
         Form::Picture {
-            all: call.flag("calls"),
+            all: request.flag("calls"),
             counts,
         }
     } else {
@@ -151,8 +151,8 @@ fn form_of<'a, R>(call: &Call<'_, '_, R>, counts: Option<Counted<'a>>) -> Form<'
 }
 
 /// What is wrong with the words of `show`, if anything is.
-fn show_problem<R>(call: &Call<'_, '_, R>, which: Option<Entry>) -> Option<&'static str> {
-    match (which, call.value("counts"), call.flag("dot")) {
+fn show_problem<R>(request: &Request<'_, '_, R>, which: Option<Entry>) -> Option<&'static str> {
+    match (which, request.value("counts"), request.flag("dot")) {
         (None, Some(_), _) => Some(
             "error: --counts is for the picture of one program: WHICH is missing, such as port0",
         ),
@@ -168,78 +168,78 @@ fn show_problem<R>(call: &Call<'_, '_, R>, which: Option<Entry>) -> Option<&'sta
 
 /// Shows a node's program with the counts of a file, or the picture of a pipeline.
 fn shown_in<R: Files>(
-    call: &Call<'_, '_, R>,
+    request: &Request<'_, '_, R>,
     which: Option<Entry>,
     counts: Option<Counted<'_>>,
 ) -> Result<Reply, Reply> {
-    let given = read_pipeline(call, false)?;
+    let given = read_pipeline(request, false)?;
     let subject = given.subject();
-    let sources = read_nodes(call, subject, which, How::Given, false)?;
-    let form = form_of(call, counts);
-    Ok(show(call.alloc, subject, &sources, which, form))
+    let sources = read_nodes(request, subject, which, How::Given, false)?;
+    let form = form_of(request, counts);
+    Ok(show(request.alloc, subject, &sources, which, form))
 }
 
 /// `dpv show FILE [WHICH]`.
-fn shown<R: Files>(call: &Call<'_, '_, R>) -> Result<Reply, Reply> {
-    let which = which_in(call)?;
-    if let Some(problem) = show_problem(call, which) {
-        return Err(wrong(call.alloc, problem));
+fn shown<R: Files>(request: &Request<'_, '_, R>) -> Result<Reply, Reply> {
+    let which = which_in(request)?;
+    if let Some(problem) = show_problem(request, which) {
+        return Err(wrong(request.alloc, problem));
     }
-    let (Some(node), Some(name)) = (which, call.value("counts")) else {
-        return shown_in(call, which, None);
+    let (Some(node), Some(name)) = (which, request.value("counts")) else {
+        return shown_in(request, which, None);
     };
-    let source = read_file(call, name, false)?;
-    let steps = counts_in(call.alloc, &source, node)?;
+    let source = read_file(request, name, false)?;
+    let steps = counts_in(request.alloc, &source, node)?;
     let counted = Counted {
         file: name,
         steps: steps.as_slice(),
     };
-    shown_in(call, which, Some(counted))
+    shown_in(request, which, Some(counted))
 }
 
 /// `dpv show-one NODE [CERT]`.
-fn shown_one<R: Files>(call: &Call<'_, '_, R>) -> Result<Reply, Reply> {
+fn shown_one<R: Files>(request: &Request<'_, '_, R>) -> Result<Reply, Reply> {
     let env = one_env();
-    let subject = single(call, &env);
-    let sources = read_nodes(call, subject, None, How::Given, false)?;
-    let (form, node) = (form_of(call, None), Some(Entry::Port(0)));
-    Ok(show(call.alloc, subject, &sources, node, form))
+    let subject = single(request, &env);
+    let sources = read_nodes(request, subject, None, How::Given, false)?;
+    let (form, node) = (form_of(request, None), Some(Entry::Port(0)));
+    Ok(show(request.alloc, subject, &sources, node, form))
 }
 
 /// `dpv mem FILE`.
-fn played<R: Files>(call: &Call<'_, '_, R>) -> Result<Reply, Reply> {
-    let script = read_file(call, call.word("FILE"), false)?;
-    Ok(mem_reply(call.alloc, script.bytes.as_slice()))
+fn played<R: Files>(request: &Request<'_, '_, R>) -> Result<Reply, Reply> {
+    let script = read_file(request, request.word("FILE"), false)?;
+    Ok(mem_reply(request.alloc, script.bytes.as_slice()))
 }
 
 /// The reply to the command of this name, or the reply to what is wrong with its words or its files.
-fn judge<R: Files>(call: &Call<'_, '_, R>, name: &str) -> Result<Reply, Reply>
-    ensures check { name.now ≡ codes "check" → IfOk result (ChecksFile (found_of call.now.words.now)) }
-    ensures infer { name.now ≡ codes "infer" → IfOk result (InfersNode (found_of call.now.words.now)) }
-    ensures infer_one { name.now ≡ codes "infer-one" → IfOk result (InfersOne (found_of call.now.words.now)) }
+fn judge<R: Files>(request: &Request<'_, '_, R>, name: &str) -> Result<Reply, Reply>
+    ensures check { name.now ≡ codes "check" → IfOk result (ChecksFile (found_of request.now.words.now)) }
+    ensures infer { name.now ≡ codes "infer" → IfOk result (InfersNode (found_of request.now.words.now)) }
+    ensures infer_one { name.now ≡ codes "infer-one" → IfOk result (InfersOne (found_of request.now.words.now)) }
     ensures undone { name.now ≡ codes "check" ⊎ (name.now ≡ codes "infer" ⊎ name.now ≡ codes "infer-one") → IfErr result IsUndone }
 {
     match name {
-        "check" => checked(call),
-        "infer" => inferred(call),
-        "infer-one" => inferred_one(call),
-        "explain" => explained(call),
-        "explain-one" => explained_one(call),
-        "show" => shown(call),
-        "show-one" => shown_one(call),
-        "compile" => compiled(call),
-        "mem" => played(call),
-        _ => Err(wrong(call.alloc, "error: there is no such command")),
+        "check" => checked(request),
+        "infer" => inferred(request),
+        "infer-one" => inferred_one(request),
+        "explain" => explained(request),
+        "explain-one" => explained_one(request),
+        "show" => shown(request),
+        "show-one" => shown_one(request),
+        "compile" => compiled(request),
+        "mem" => played(request),
+        _ => Err(wrong(request.alloc, "error: there is no such command")),
     }
 }
 
 /// The reply to the command of this name.
-pub fn answer<R: Files>(call: &Call<'_, '_, R>, name: &str) -> Reply
-    ensures check { name.now ≡ codes "check" → ChecksFile (found_of call.now.words.now) result ⊎ IsUndone result }
-    ensures infer { name.now ≡ codes "infer" → InfersNode (found_of call.now.words.now) result ⊎ IsUndone result }
-    ensures infer_one { name.now ≡ codes "infer-one" → InfersOne (found_of call.now.words.now) result ⊎ IsUndone result }
+pub fn answer<R: Files>(request: &Request<'_, '_, R>, name: &str) -> Reply
+    ensures check { name.now ≡ codes "check" → ChecksFile (found_of request.now.words.now) result ⊎ IsUndone result }
+    ensures infer { name.now ≡ codes "infer" → InfersNode (found_of request.now.words.now) result ⊎ IsUndone result }
+    ensures infer_one { name.now ≡ codes "infer-one" → InfersOne (found_of request.now.words.now) result ⊎ IsUndone result }
 {
-    match judge(call, name) {
+    match judge(request, name) {
         Ok(reply) | Err(reply) => reply,
     }
 }

@@ -7,13 +7,13 @@
 //! What not to do: do not print to the streams directly, as the [`Console`](dp_console::Console) remembers a failed write for the status.
 #![tactic(auto)]
 
-mod call;
 mod command_line;
 mod host;
 mod judging;
 mod operands;
 mod program;
 mod reading;
+mod request;
 mod running;
 mod tracing;
 

@@ -7,18 +7,18 @@ ghost use Rattle.dp_console.specs.Replies.{EndsWith};
 ghost use Rattle.dp_cli.specs.Commands.{Answers, EndsCommand};
 ghost use Rattle.dp_cli.specs.Program.{EndsHelped};
 
-use crate::call::{Call, wrong};
 use crate::command_line::command;
 use crate::host::fill_streams;
 use crate::judging::answer;
 use crate::reading::{UNWRITTEN, without_memory};
+use crate::request::{Request, wrong};
 use crate::running::{run_file, run_filter, run_one};
 use crate::tracing::{trace_file, trace_one};
 use clap::ArgMatches;
 use clap::error::ErrorKind;
 use dp_captures::Streams;
 use dp_console::{Console, DONE, FAULT, Reply, USAGE};
-use dp_engine::{Known, Nothing};
+use dp_engine::{CompiledPrograms, Nothing};
 use std::alloc::{AllocError, Global};
 use std::io::{self, Write};
 use std::rt::{Env, Files};
@@ -66,42 +66,42 @@ fn wrong_words<R: Print + Eprint, O: Write, E: Write>(
 }
 
 /// The reply to a command that runs a pipeline, or to one that judges programs.
-fn reply_to<K: Known, R: Files>(
-    call: &Call<'_, '_, R>,
+fn reply_to<K: CompiledPrograms, R: Files>(
+    request: &Request<'_, '_, R>,
     name: &str,
     reports_interpreted: bool,
 ) -> Reply
-    ensures { Answers R.File.remaining name.now (found_of call.now.words.now) result }
+    ensures { Answers R.File.remaining name.now (found_of request.now.words.now) result }
 {
     match name {
-        "run" => run_file::<K, R>(call, reports_interpreted),
-        "one" => run_one(call),
-        "filter" => run_filter(call),
-        _ => answer(call, name),
+        "run" => run_file::<K, R>(request, reports_interpreted),
+        "one" => run_one(request),
+        "filter" => run_filter(request),
+        _ => answer(request, name),
     }
 }
 
 /// Runs the command of this name, prints its reply, and returns the status.
-fn run_command<K: Known, R: Files, O: Write, E: Write>(
-    call: &Call<'_, '_, R>,
+fn run_command<K: CompiledPrograms, R: Files, O: Write, E: Write>(
+    request: &Request<'_, '_, R>,
     name: &str,
     reports_interpreted: bool,
     console: &mut Console<O, E>,
 ) -> u8
-    ensures { (name.now ≡ codes "trace" → ⊥) → (name.now ≡ codes "trace-one" → ⊥) → EndsCommand R.File.remaining name.now (found_of call.now.words.now)
+    ensures { (name.now ≡ codes "trace" → ⊥) → (name.now ≡ codes "trace-one" → ⊥) → EndsCommand R.File.remaining name.now (found_of request.now.words.now)
         console.old.has_failed console.new.has_failed (O.contents console.old.out) (O.contents console.new.out) (E.contents console.old.err)
         (E.contents console.new.err) result }
 {
     let reply = match name {
-        "trace" => trace_file(call, &mut console.out),
-        "trace-one" => trace_one(call, &mut console.out),
-        _ => reply_to::<K, R>(call, name, reports_interpreted),
+        "trace" => trace_file(request, &mut console.out),
+        "trace-one" => trace_one(request, &mut console.out),
+        _ => reply_to::<K, R>(request, name, reports_interpreted),
     };
     end(console, &reply)
 }
 
 /// Runs the command of the command line, and returns the status.
-fn run_matches<'a, K: Known, R: Files, O: Write, E: Write>(
+fn run_matches<'a, K: CompiledPrograms, R: Files, O: Write, E: Write>(
     rt: &'a R,
     alloc: Global,
     matches: &'a ArgMatches<'_>,
@@ -112,13 +112,13 @@ fn run_matches<'a, K: Known, R: Files, O: Write, E: Write>(
     let Some((name, words)) = matches.subcommand() else {
         return end(console, &wrong(alloc, "error: there is no command"));
     };
-    let call = Call {
+    let request = Request {
         rt,
         alloc,
         words,
         streams,
     };
-    run_command::<K, R, O, E>(&call, name, reports_interpreted, console)
+    run_command::<K, R, O, E>(&request, name, reports_interpreted, console)
 }
 
 /// Runs the command that these words name, of which the first is the name of the program, and returns the status.
@@ -126,7 +126,7 @@ fn run_matches<'a, K: Known, R: Files, O: Write, E: Write>(
 /// # Errors
 ///
 /// `AllocError` if there is no memory for the commands that the words are compared with.
-fn run_given<'a, K: Known, R: AllocGlobal + Files + Print + Eprint, O: Write, E: Write>(
+fn run_given<'a, K: CompiledPrograms, R: AllocGlobal + Files + Print + Eprint, O: Write, E: Write>(
     rt: &'a R,
     words: &'a [String],
     streams: Streams,
@@ -153,7 +153,12 @@ fn run_given<'a, K: Known, R: AllocGlobal + Files + Print + Eprint, O: Write, E:
 /// # Errors
 ///
 /// `AllocError` if there is no memory for the words or for the commands that they are compared with.
-fn run_words<K: Known, R: Env + AllocGlobal + Files + Print + Eprint, O: Write, E: Write>(
+fn run_words<
+    K: CompiledPrograms,
+    R: Env + AllocGlobal + Files + Print + Eprint,
+    O: Write,
+    E: Write,
+>(
     rt: &R,
     streams: Streams,
     reports_interpreted: bool,
@@ -173,7 +178,7 @@ fn run_words<K: Known, R: Env + AllocGlobal + Files + Print + Eprint, O: Write, 
 }
 
 /// Runs the command of the host's command line over the host's files, with these programs compiled, and returns the status.
-fn run_with<K: Known, R: Env + AllocGlobal + Files + Print + Eprint>(
+fn run_with<K: CompiledPrograms, R: Env + AllocGlobal + Files + Print + Eprint>(
     rt: &R,
     streams: Streams,
     reports_interpreted: bool,
@@ -198,7 +203,7 @@ pub fn run_command_line<R: Env + AllocGlobal + Files + Print + Eprint>(
 
 /// Runs the command of the host's command line, as [`run_command_line`] does, and returns the status. Programs among `K` run as machine code; for a
 /// run, each program that is not among them is reported.
-pub fn run_compiled<K: Known, R: Env + AllocGlobal + Files + Print + Eprint>(
+pub fn run_compiled<K: CompiledPrograms, R: Env + AllocGlobal + Files + Print + Eprint>(
     rt: &R,
     streams: Streams,
 ) -> u8 {

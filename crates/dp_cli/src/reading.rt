@@ -4,8 +4,8 @@ ghost use Rattle.std.specs.Prelude.{◌≡◌, IfErr, IfOk};
 ghost use Rattle.dp_cli.specs.Commands.{IsUndone};
 ghost use Rattle.dp_cli.specs.Operands.{word_of};
 
-use crate::call::{Call, wrong};
 use crate::operands::node_named;
+use crate::request::{Request, wrong};
 use dp_console::{FAULT, MEMORY, Reply};
 use dp_model::Entry;
 use dp_pipe::{How, Survey, survey_of};
@@ -63,17 +63,17 @@ pub fn unwritten(alloc: Global) -> Reply
 ///
 /// The reply if it is not read.
 pub fn read_file<R: Files>(
-    call: &Call<'_, '_, R>,
+    request: &Request<'_, '_, R>,
     name: &str,
     is_json: bool,
 ) -> Result<Source, Reply>
     ensures { IfErr result IsUndone }
 {
-    let Ok(source) = read(call.rt, call.alloc, name) else {
-        return Err(without_memory(call.alloc, is_json));
+    let Ok(source) = read(request.rt, request.alloc, name) else {
+        return Err(without_memory(request.alloc, is_json));
     };
     match source.unread() {
-        Some(unread) => Err(failed(call.alloc, Fault::of_unread(unread), is_json)),
+        Some(unread) => Err(failed(request.alloc, Fault::of_unread(unread), is_json)),
         None => Ok(source),
     }
 }
@@ -83,15 +83,15 @@ pub fn read_file<R: Files>(
 /// # Errors
 ///
 /// The reply if it is not read, or is not a pipeline file.
-pub fn read_pipeline<R: Files>(call: &Call<'_, '_, R>, is_json: bool) -> Result<Given, Reply>
+pub fn read_pipeline<R: Files>(request: &Request<'_, '_, R>, is_json: bool) -> Result<Given, Reply>
     ensures { IfErr result IsUndone }
 {
-    let source = read_file(call, call.word("FILE"), is_json)?;
-    match survey_of(call.alloc, source.bytes.as_slice()) {
+    let source = read_file(request, request.word("FILE"), is_json)?;
+    match survey_of(request.alloc, source.bytes.as_slice()) {
         Ok(survey) => Ok(Given { source, survey }),
         Err(error) => {
             let (name, text) = (source.name.as_str(), source.bytes.as_slice());
-            Err(misread(call.alloc, name, text, error, is_json))
+            Err(misread(request.alloc, name, text, error, is_json))
         }
     }
 }
@@ -102,7 +102,7 @@ pub fn read_pipeline<R: Files>(call: &Call<'_, '_, R>, is_json: bool) -> Result<
 ///
 /// The reply if memory is refused.
 pub fn read_nodes<R: Files>(
-    call: &Call<'_, '_, R>,
+    request: &Request<'_, '_, R>,
     subject: Subject<'_>,
     which: Option<Entry>,
     how: How,
@@ -110,9 +110,9 @@ pub fn read_nodes<R: Files>(
 ) -> Result<Sources, Reply>
     ensures { IfErr result (λ reply. reply.status ≡ MEMORY) }
 {
-    match read_sources(call.rt, call.alloc, subject, which, how) {
+    match read_sources(request.rt, request.alloc, subject, which, how) {
         Ok(sources) => Ok(sources),
-        Err(_) => Err(without_memory(call.alloc, is_json)),
+        Err(_) => Err(without_memory(request.alloc, is_json)),
     }
 }
 
@@ -139,9 +139,9 @@ pub fn node_in(alloc: Global, word: &str) -> Result<Entry, Reply>
 /// # Errors
 ///
 /// The reply if the word names no node.
-pub fn which_in<R>(call: &Call<'_, '_, R>) -> Result<Option<Entry>, Reply> {
-    match call.value("WHICH") {
-        Some(word) => match node_in(call.alloc, word) {
+pub fn which_in<R>(request: &Request<'_, '_, R>) -> Result<Option<Entry>, Reply> {
+    match request.value("WHICH") {
+        Some(word) => match node_in(request.alloc, word) {
             Ok(node) => Ok(Some(node)),
             Err(reply) => Err(reply),
         },

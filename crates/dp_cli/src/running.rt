@@ -13,25 +13,27 @@ ghost use Rattle.dp_region.specs.Region.{IsRegionSize};
 ghost use Rattle.dp_runs.specs.Replies.{IsReplied, status_of};
 ghost use Rattle.dp_sources.specs.Faults as faults;
 
-use crate::call::{Call, wrong};
 use crate::operands::{number_within, numbers_in};
 use crate::reading::{read_nodes, read_pipeline, without_memory};
+use crate::request::{Request, wrong};
 use clap::ArgMatches;
 use dp_captures::{
-    BUFFER, CaptureFault, CaptureNames, CaptureWords, Finding, InputOf, OutputOf, ReadFile,
-    Reason as CaptureReason, Replacements, UNBUFFERED, WordProblem, names_of, note_read,
-    open_captures, remove_empty_outputs,
+    BUFFER, CaptureFault, CaptureNames, CaptureProblem, CaptureReason, CaptureWords, InputOf,
+    OutputOf, ReadFile, Replacements, UNBUFFERED, WordProblem, names_of, note_read, open_captures,
+    remove_empty_outputs,
 };
 use dp_console::{Reply, Text};
-use dp_engine::{Known, Nothing, need};
+use dp_engine::{CompiledPrograms, Nothing, need};
 use dp_model::{Entry, Env, MAX_ROOM, MAX_SEGMENTS, MIN_PORT_ROOM, PoolSpec, PortSpec};
 use dp_pipe::{How, NodeName, Pipeline, SingleFiles, load, load_single};
 use dp_region::{CACHE_LINE, MAX_REGION, MIN_REGION};
 use dp_runs::{
-    Counting, Notes, Printing, ProgramText, Ran, Wanted, Watcher, found_of, reply_of, run_over,
+    Counting, Notes, Printing, ProgramText, Ran, Wanted, Watcher, problem_of_run, reply_of,
+    run_over,
 };
 use dp_sources::{
-    Because, Fault, Lent, ONE_REGION, ReadError, Reason, Sources, Subject, folder_with, one_env,
+    Because, Fault, FaultReason, Lent, ONE_REGION, ReadError, Sources, Subject, folder_with,
+    one_env,
 };
 use dp_verdict::{failed, no_node, unloaded};
 use std::alloc::{AllocError, Global};
@@ -43,23 +45,23 @@ use std::rt::Files;
 /// # Errors
 ///
 /// The reply to a word that is no list.
-pub fn refused_in<R>(call: &Call<'_, '_, R>) -> Result<Vec<u64>, Reply>
-    ensures calls { IfOk result (λ pattern. Some pattern.items ≡ calls_in (found_of call.now.words.now)) }
+pub fn refused_in<R>(request: &Request<'_, '_, R>) -> Result<Vec<u64>, Reply>
+    ensures calls { IfOk result (λ pattern. Some pattern.items ≡ calls_in (found_of request.now.words.now)) }
     ensures ascending { IfOk result (λ pattern. IsAscending 0 pattern.items) }
-    ensures wrong { IfErr result (λ reply. ((reply.status ≡ 2) × (calls_in (found_of call.now.words.now) ≡ None)) ⊎ (reply.status ≡ 4)) }
+    ensures wrong { IfErr result (λ reply. ((reply.status ≡ 2) × (calls_in (found_of request.now.words.now) ≡ None)) ⊎ (reply.status ≡ 4)) }
 {
-    let Some(list) = call.value("refuse") else {
-        return Ok(Vec::new(call.alloc));
+    let Some(list) = request.value("refuse") else {
+        return Ok(Vec::new(request.alloc));
     };
-    match numbers_in(call.alloc, list) {
+    match numbers_in(request.alloc, list) {
         Ok(Some(pattern)) => Ok(pattern),
         Ok(None) => Err(wrong(
-            call.alloc,
+            request.alloc,
             format_args!(
                 "error: '{list}' is not a list: numbers from 1 on, each above the one before it, joined by commas"
             ),
         )),
-        Err(_) => Err(without_memory(call.alloc, call.flag("json"))),
+        Err(_) => Err(without_memory(request.alloc, request.flag("json"))),
     }
 }
 
@@ -109,12 +111,12 @@ fn capture_lists<'w>(alloc: Global, words: &ArgMatches<'w>) -> Result<CaptureLis
 /// # Errors
 ///
 /// The reply to words that give none, or that clash.
-fn captures_in<'w, R>(call: &Call<'_, 'w, R>) -> Result<Replacements<'w>, Reply>
-    ensures given { IfOk result (λ given. AreGiven (found_of call.now.words.now) given.inputs.items given.outputs.items) }
+fn captures_in<'w, R>(request: &Request<'_, 'w, R>) -> Result<Replacements<'w>, Reply>
+    ensures given { IfOk result (λ given. AreGiven (found_of request.now.words.now) given.inputs.items given.outputs.items) }
     ensures wrong { IfErr result IsWrong }
 {
-    let Ok(lists) = capture_lists(call.alloc, call.words) else {
-        return Err(without_memory(call.alloc, call.flag("json")));
+    let Ok(lists) = capture_lists(request.alloc, request.words) else {
+        return Err(without_memory(request.alloc, request.flag("json")));
     };
     let words = CaptureWords {
         inputs: lists.inputs.as_slice(),
@@ -122,30 +124,30 @@ fn captures_in<'w, R>(call: &Call<'_, 'w, R>) -> Result<Replacements<'w>, Reply>
         outputs: lists.outputs.as_slice(),
         no_outputs: lists.no_outputs.as_slice(),
     };
-    match Replacements::of_words(call.alloc, words) {
+    match Replacements::of_words(request.alloc, words) {
         Ok(given) => Ok(given),
-        Err(WordProblem::Memory) => Err(without_memory(call.alloc, call.flag("json"))),
-        Err(problem) => Err(wrong(call.alloc, problem)),
+        Err(WordProblem::Memory) => Err(without_memory(request.alloc, request.flag("json"))),
+        Err(problem) => Err(wrong(request.alloc, problem)),
     }
 }
 
 /// The fault of a capture with this name, with the words of its reason and what helps.
 fn fault_of<'a>(
     name: &'a str,
-    finding: Finding<'a>,
+    problem: CaptureProblem<'a>,
     words: &'a str,
     help: Option<&'a str>,
 ) -> Fault<'a>
     ensures { faults.status_of result ≡ 3 }
 {
-    let reason = match finding.reason {
-        CaptureReason::System(error) => Reason::Read(ReadError::System(error)),
-        _ => Reason::Words(words),
+    let reason = match problem.reason {
+        CaptureReason::System(error) => FaultReason::Read(ReadError::System(error)),
+        _ => FaultReason::Words(words),
     };
     Fault::File(
         name,
         Because {
-            file: finding.file,
+            file: problem.file,
             reason,
             help,
         },
@@ -154,38 +156,42 @@ fn fault_of<'a>(
 
 /// Says where a capture is that was not found, if it is in the folder of the pipeline file.
 fn say_folder<R: Files>(
-    call: &Call<'_, '_, R>,
+    request: &Request<'_, '_, R>,
     name: &str,
     reason: CaptureReason,
     help: &mut Text,
 ) {
     if let CaptureReason::System(error) = reason
         && error.kind() == ErrorKind::NotFound
-        && let Some(file) = call.value("FILE")
-        && let Some(folder) = folder_with(call.rt, call.alloc, file, name)
+        && let Some(file) = request.value("FILE")
+        && let Some(folder) = folder_with(request.rt, request.alloc, file, name)
     {
         help.say(format_args!("run dpv in {folder}"));
     }
 }
 
 /// The reply to captures that are not opened.
-pub fn unopened<R: Files>(call: &Call<'_, '_, R>, fault: CaptureFault<'_>, is_json: bool) -> Reply
+pub fn unopened<R: Files>(
+    request: &Request<'_, '_, R>,
+    fault: CaptureFault<'_>,
+    is_json: bool,
+) -> Reply
     ensures { result.status ≡ status_unopened fault.entry }
 {
-    let alloc = call.alloc;
-    let CaptureFault::File { name, finding } = fault else {
+    let alloc = request.alloc;
+    let CaptureFault::File { name, problem } = fault else {
         return without_memory(alloc, is_json);
     };
     let mut text = Text::new(alloc);
-    text.say(finding.reason);
+    text.say(problem.reason);
     let words = str::from_utf8(text.bytes.as_slice()).unwrap_or("");
     let mut folder = Text::new(alloc);
-    say_folder(call, name, finding.reason, &mut folder);
+    say_folder(request, name, problem.reason, &mut folder);
     let help = match str::from_utf8(folder.bytes.as_slice()) {
         Ok(help) if !help.is_empty() && !folder.has_failed => Some(help),
-        _ => finding.reason.cure(),
+        _ => problem.reason.cure(),
     };
-    failed(alloc, fault_of(name, finding, words, help), is_json)
+    failed(alloc, fault_of(name, problem, words, help), is_json)
 }
 
 /// The texts of the programs of a pipeline, in the order of its nodes.
@@ -210,27 +216,27 @@ fn programs_of<'a>(
 
 /// The files that a run reads besides its captures: those of the programs, and its own.
 fn reads_of<R: Files>(
-    call: &Call<'_, '_, R>,
+    request: &Request<'_, '_, R>,
     sources: &Sources,
     file: Option<&str>,
 ) -> Result<Vec<ReadFile>, AllocError> {
-    let mut reads = Vec::new(call.alloc);
+    let mut reads = Vec::new(request.alloc);
     for source in &sources.files {
-        note_read(call.rt, call.alloc, &mut reads, source.name.as_str())?;
+        note_read(request.rt, request.alloc, &mut reads, source.name.as_str())?;
     }
     if let Some(file) = file {
-        note_read(call.rt, call.alloc, &mut reads, file)?;
+        note_read(request.rt, request.alloc, &mut reads, file)?;
     }
     Ok(reads)
 }
 
 /// Which counts the words ask for.
-fn wanted_in<R>(call: &Call<'_, '_, R>) -> Wanted {
-    let (counts, lines) = (call.flag("counts"), call.flag("source"));
+fn wanted_in<R>(request: &Request<'_, '_, R>) -> Wanted {
+    let (counts, lines) = (request.flag("counts"), request.flag("source"));
     Wanted {
         counts: counts && !lines,
         lines,
-        drops: call.flag("drops"),
+        drops: request.flag("drops"),
     }
 }
 
@@ -271,17 +277,17 @@ struct Options {
 }
 
 /// What the words ask for of a run with these captures.
-fn options_in<R>(call: &Call<'_, '_, R>, given: &Replacements<'_>, is_single: bool) -> Options
-    ensures json { IsFlag (found_of call.now.words.now) (codes "json") result.is_json }
+fn options_in<R>(request: &Request<'_, '_, R>, given: &Replacements<'_>, is_single: bool) -> Options
+    ensures json { IsFlag (found_of request.now.words.now) (codes "json") result.is_json }
     ensures taken { result.is_stdout_taken ≡ takes_stream given.now.outputs.items }
 {
     Options {
-        is_json: call.flag("json"),
-        is_progress: call.flag("progress"),
-        is_unbuffered: call.flag("unbuffered"),
+        is_json: request.flag("json"),
+        is_progress: request.flag("progress"),
+        is_unbuffered: request.flag("unbuffered"),
         is_single,
         is_stdout_taken: given.take_stdout(),
-        wanted: wanted_in(call),
+        wanted: wanted_in(request),
     }
 }
 
@@ -291,7 +297,7 @@ fn said_of<'p, 'a>(
     env: &'p Env,
     ran: &Ran,
     counting: Option<&'p Counting<'a>>,
-    found: Option<Finding<'p>>,
+    problem: Option<CaptureProblem<'p>>,
     notes: Notes,
     options: Options,
 ) -> Reply
@@ -305,14 +311,14 @@ fn said_of<'p, 'a>(
         totals: options.is_progress,
         is_json: options.is_json,
         is_stdout_taken: options.is_stdout_taken,
-        found,
+        problem,
         notes: Some(notes),
     };
     reply_of(alloc, ran, &printing)
 }
 
 /// Runs a pipeline over its open captures, and says what it did.
-fn run_opened<K: Known, R: Files>(
+fn run_opened<K: CompiledPrograms, R: Files>(
     rt: &R,
     alloc: Global,
     pipeline: Pipeline,
@@ -337,9 +343,17 @@ fn run_opened<K: Known, R: Files>(
         truncated: truncated_in(inputs),
         is_single: options.is_single,
     };
-    let found = found_of(names, inputs, &ran);
+    let problem = problem_of_run(names, inputs, &ran);
     remove_empty_outputs(rt, alloc, names, outputs);
-    said_of(alloc, &env, &ran, watcher.counting(), found, notes, options)
+    said_of(
+        alloc,
+        &env,
+        &ran,
+        watcher.counting(),
+        problem,
+        notes,
+        options,
+    )
 }
 
 /// A pipeline that is loaded, and the files that were read for it.
@@ -355,8 +369,8 @@ struct Ready<'a> {
 /// # Errors
 ///
 /// The reply if memory is refused, or a capture is not opened.
-fn run_ready<K: Known, R: Files>(
-    call: &Call<'_, '_, R>,
+fn run_ready<K: CompiledPrograms, R: Files>(
+    request: &Request<'_, '_, R>,
     ready: Ready<'_>,
     given: &Replacements<'_>,
     pattern: Vec<u64>,
@@ -368,7 +382,7 @@ fn run_ready<K: Known, R: Files>(
         ready.entry.reads.items) }
     ensures never { IfErr result (NeverRuns R.File.remaining ready.entry.pipeline given.now.inputs.items given.now.outputs.items) }
 {
-    let (alloc, is_json) = (call.alloc, options.is_json);
+    let (alloc, is_json) = (request.alloc, options.is_json);
     let Ready {
         pipeline,
         programs,
@@ -387,9 +401,9 @@ fn run_ready<K: Known, R: Files>(
     };
     let (mut inputs, mut outputs) = (Vec::new(alloc), Vec::new(alloc));
     let opened = open_captures(
-        call.rt,
+        request.rt,
         alloc,
-        call.streams,
+        request.streams,
         reads.as_slice(),
         names.as_slice(),
         options.is_progress,
@@ -398,11 +412,11 @@ fn run_ready<K: Known, R: Files>(
         &mut outputs,
     );
     if let Err(fault) = opened {
-        remove_empty_outputs(call.rt, alloc, names.as_slice(), outputs.as_slice());
-        return Err(unopened(call, fault, is_json));
+        remove_empty_outputs(request.rt, alloc, names.as_slice(), outputs.as_slice());
+        return Err(unopened(request, fault, is_json));
     }
     Ok(run_opened::<K, R>(
-        call.rt,
+        request.rt,
         alloc,
         pipeline,
         names.as_slice(),
@@ -420,7 +434,7 @@ fn run_ready<K: Known, R: Files>(
 ///
 /// The reply if memory is refused.
 fn ready_of<'a, R: Files>(
-    call: &Call<'_, '_, R>,
+    request: &Request<'_, '_, R>,
     pipeline: Pipeline,
     subject: Subject<'a>,
     sources: &'a Sources,
@@ -429,12 +443,12 @@ fn ready_of<'a, R: Files>(
     ensures ready { IfOk result (λ ready. ready.pipeline ≡ pipeline) }
     ensures memory { IfErr result (λ reply. reply.status ≡ 4) }
 {
-    let is_json = call.flag("json");
-    let Ok(programs) = programs_of(call.alloc, &pipeline, subject, sources) else {
-        return Err(without_memory(call.alloc, is_json));
+    let is_json = request.flag("json");
+    let Ok(programs) = programs_of(request.alloc, &pipeline, subject, sources) else {
+        return Err(without_memory(request.alloc, is_json));
     };
-    let Ok(reads) = reads_of(call, sources, file) else {
-        return Err(without_memory(call.alloc, is_json));
+    let Ok(reads) = reads_of(request, sources, file) else {
+        return Err(without_memory(request.alloc, is_json));
     };
     Ok(Ready {
         pipeline,
@@ -444,7 +458,7 @@ fn ready_of<'a, R: Files>(
 }
 
 /// Adds a note for each program of a pipeline that is not among `K`, and so is interpreted.
-fn note_interpreted<K: Known>(pipeline: &Pipeline, err: &mut Text) {
+fn note_interpreted<K: CompiledPrograms>(pipeline: &Pipeline, err: &mut Text) {
     for k in 0..pipeline.nodes() {
         let node = pipeline.node(k);
         if K::number_of(node.program().instrs(), 0).is_none() {
@@ -480,20 +494,20 @@ fn after(alloc: Global, notes: Text, reply: Reply) -> Reply
 }
 
 /// `dpv run FILE`.
-fn ran<K: Known, R: Files>(
-    call: &Call<'_, '_, R>,
+fn ran<K: CompiledPrograms, R: Files>(
+    request: &Request<'_, '_, R>,
     reports_interpreted: bool,
 ) -> Result<Reply, Reply>
-    ensures runs { IfOk result (RunsFile R.File.remaining (found_of call.now.words.now)) }
+    ensures runs { IfOk result (RunsFile R.File.remaining (found_of request.now.words.now)) }
     ensures undone { IfErr result IsUndone }
 {
-    let alloc = call.alloc;
-    let pattern = refused_in(call)?;
-    let given = captures_in(call)?;
-    let options = options_in(call, &given, false);
-    let file = read_pipeline(call, options.is_json)?;
+    let alloc = request.alloc;
+    let pattern = refused_in(request)?;
+    let given = captures_in(request)?;
+    let options = options_in(request, &given, false);
+    let file = read_pipeline(request, options.is_json)?;
     let subject = file.subject();
-    let sources = read_nodes(call, subject, None, How::Given, options.is_json)?;
+    let sources = read_nodes(request, subject, None, How::Given, options.is_json)?;
     let pipeline = match load(alloc, file.text(), &mut Lent(&sources), How::Given) {
         Ok(pipeline) => pipeline,
         Err(error) => return Err(unloaded(alloc, error, subject, &sources, options.is_json)),
@@ -506,25 +520,28 @@ fn ran<K: Known, R: Files>(
         note_interpreted::<K>(&pipeline, &mut notes);
     }
     let name = Some(file.source.name.as_str());
-    let ready = ready_of(call, pipeline, subject, &sources, name)?;
-    match run_ready::<K, R>(call, ready, &given, pattern, options) {
+    let ready = ready_of(request, pipeline, subject, &sources, name)?;
+    match run_ready::<K, R>(request, ready, &given, pattern, options) {
         Ok(reply) => Ok(after(alloc, notes, reply)),
         Err(reply) => Err(after(alloc, notes, reply)),
     }
 }
 
 /// `dpv run FILE`.
-pub fn run_file<K: Known, R: Files>(call: &Call<'_, '_, R>, reports_interpreted: bool) -> Reply
-    ensures { RunsFile R.File.remaining (found_of call.now.words.now) result ⊎ IsUndone result }
+pub fn run_file<K: CompiledPrograms, R: Files>(
+    request: &Request<'_, '_, R>,
+    reports_interpreted: bool,
+) -> Reply
+    ensures { RunsFile R.File.remaining (found_of request.now.words.now) result ⊎ IsUndone result }
 {
-    match ran::<K, R>(call, reports_interpreted) {
+    match ran::<K, R>(request, reports_interpreted) {
         Ok(reply) | Err(reply) => reply,
     }
 }
 
 /// Runs a program on one port of an environment.
 fn run_single<R: Files>(
-    call: &Call<'_, '_, R>,
+    request: &Request<'_, '_, R>,
     env: &Env,
     region: u32,
     files: SingleFiles<'_>,
@@ -534,38 +551,38 @@ fn run_single<R: Files>(
     ensures runs { IfOk result (RunsSingle R.File.remaining env.now region files.entry) }
     ensures undone { IfErr result IsUndone }
 {
-    let alloc = call.alloc;
+    let alloc = request.alloc;
     let Ok(given) = Replacements::of_one(alloc, files.input, files.output) else {
-        return Err(without_memory(alloc, call.flag("json")));
+        return Err(without_memory(alloc, request.flag("json")));
     };
-    let options = options_in(call, &given, true);
+    let options = options_in(request, &given, true);
     let subject = Subject::Single {
         env,
         program: files.program,
         cert: files.cert,
     };
-    let sources = read_nodes(call, subject, None, How::Given, options.is_json)?;
+    let sources = read_nodes(request, subject, None, How::Given, options.is_json)?;
     let pipeline = match load_single(alloc, env.copy(), region, files, &mut Lent(&sources)) {
         Ok(pipeline) => pipeline,
         Err(error) => return Err(unloaded(alloc, error, subject, &sources, options.is_json)),
     };
-    let ready = ready_of(call, pipeline, subject, &sources, None)?;
+    let ready = ready_of(request, pipeline, subject, &sources, None)?;
     let pattern = Vec::new(alloc);
-    run_ready::<Nothing, R>(call, ready, &given, pattern, options)
+    run_ready::<Nothing, R>(request, ready, &given, pattern, options)
 }
 
 /// `dpv one NODE CERT IN OUT`.
-pub fn run_one<R: Files>(call: &Call<'_, '_, R>) -> Reply
-    ensures { RunsOne R.File.remaining (found_of call.now.words.now) result ⊎ IsUndone result }
+pub fn run_one<R: Files>(request: &Request<'_, '_, R>) -> Reply
+    ensures { RunsOne R.File.remaining (found_of request.now.words.now) result ⊎ IsUndone result }
 {
     let files = SingleFiles {
-        program: call.word("NODE"),
-        cert: Some(call.word("CERT")),
-        input: call.word("IN"),
-        output: call.word("OUT"),
+        program: request.word("NODE"),
+        cert: Some(request.word("CERT")),
+        input: request.word("IN"),
+        output: request.word("OUT"),
     };
     let env = one_env();
-    match run_single(call, &env, ONE_REGION, files) {
+    match run_single(request, &env, ONE_REGION, files) {
         Ok(reply) | Err(reply) => reply,
     }
 }
@@ -612,7 +629,7 @@ fn region_for(env: &Env) -> u32
 ///
 /// The reply to a word that is no number in this range.
 fn option_in<R>(
-    call: &Call<'_, '_, R>,
+    request: &Request<'_, '_, R>,
     name: &str,
     usual: u32,
     least: u32,
@@ -620,43 +637,46 @@ fn option_in<R>(
 ) -> Result<u32, Reply>
     ensures { IfErr result (λ reply. reply.status ≡ 2) }
 {
-    let Some(word) = call.value(name) else {
+    let Some(word) = request.value(name) else {
         return Ok(usual);
     };
     match number_within(word, least, most) {
         Some(number) => Ok(number),
         None => Err(wrong(
-            call.alloc,
+            request.alloc,
             format_args!("error: --{name} '{word}' is not a number from {least} to {most}"),
         )),
     }
 }
 
 /// `dpv filter PROGRAM IN OUT`.
-fn filtered<R: Files>(call: &Call<'_, '_, R>) -> Result<Reply, Reply>
-    ensures runs { IfOk result (RunsFilter R.File.remaining (found_of call.now.words.now)) }
+fn filtered<R: Files>(request: &Request<'_, '_, R>) -> Result<Reply, Reply>
+    ensures runs { IfOk result (RunsFilter R.File.remaining (found_of request.now.words.now)) }
     ensures undone { IfErr result IsUndone }
 {
-    let room = option_in(call, "room", ROOM, MIN_PORT_ROOM, MAX_ROOM)?;
-    let segs = option_in(call, "segs", 1, 1, u32::from(MAX_SEGMENTS))?;
+    let room = option_in(request, "room", ROOM, MIN_PORT_ROOM, MAX_ROOM)?;
+    let segs = option_in(request, "segs", 1, 1, u32::from(MAX_SEGMENTS))?;
     let Some(env) = filter_env(room, segs) else {
-        return Err(wrong(call.alloc, "error: no pipeline has such --room and --segs"));
+        return Err(wrong(
+            request.alloc,
+            "error: no pipeline has such --room and --segs",
+        ));
     };
     let files = SingleFiles {
-        program: call.word("PROGRAM"),
+        program: request.word("PROGRAM"),
         cert: None,
-        input: call.word("IN"),
-        output: call.word("OUT"),
+        input: request.word("IN"),
+        output: request.word("OUT"),
     };
     let region = region_for(&env);
-    run_single(call, &env, region, files)
+    run_single(request, &env, region, files)
 }
 
 /// `dpv filter PROGRAM IN OUT`.
-pub fn run_filter<R: Files>(call: &Call<'_, '_, R>) -> Reply
-    ensures { RunsFilter R.File.remaining (found_of call.now.words.now) result ⊎ IsUndone result }
+pub fn run_filter<R: Files>(request: &Request<'_, '_, R>) -> Reply
+    ensures { RunsFilter R.File.remaining (found_of request.now.words.now) result ⊎ IsUndone result }
 {
-    match filtered(call) {
+    match filtered(request) {
         Ok(reply) | Err(reply) => reply,
     }
 }

@@ -3,11 +3,11 @@
 ghost use Rattle.std.specs.Prelude.{◌≡◌, ◌≤◌, IfOk};
 ghost use Rattle.dp_engine.specs.Engines.{IsAscending};
 
-use crate::call::{Call, wrong};
 use crate::operands::{port_in, records_in};
 use crate::reading::{read_nodes, read_pipeline, unwritten, without_memory};
+use crate::request::{Request, wrong};
 use crate::running::{refused_in, unopened};
-use dp_captures::{Finding, Replacements, finding_of, names_of, open_inputs};
+use dp_captures::{CaptureProblem, Replacements, names_of, open_inputs, problem_of};
 use dp_console::{FAULT, Reply};
 use dp_engine::Nothing;
 use dp_lang::listing_of;
@@ -34,12 +34,12 @@ struct Asked {
 }
 
 /// The number of records that are traced by default: 10, or all if some of them are selected.
-fn usual_count<R>(call: &Call<'_, '_, R>) -> u32
+fn usual_count<R>(request: &Request<'_, '_, R>) -> u32
     ensures { result ≤ MAX_RUN_TURNS }
 {
-    let is_selected = call.value("only").is_some()
-        || call.value("instr").is_some()
-        || call.value("match").is_some();
+    let is_selected = request.value("only").is_some()
+        || request.value("instr").is_some()
+        || request.value("match").is_some();
     if is_selected {
         MAX_RUN_TURNS as u32
     } else {
@@ -52,16 +52,16 @@ fn usual_count<R>(call: &Call<'_, '_, R>) -> u32
 /// # Errors
 ///
 /// The reply to a word that is no such number.
-fn records_of<R>(call: &Call<'_, '_, R>) -> Result<u32, Reply>
+fn records_of<R>(request: &Request<'_, '_, R>) -> Result<u32, Reply>
     ensures { IfOk result (λ records. records ≤ MAX_RUN_TURNS) }
 {
-    let Some(word) = call.value("records") else {
-        return Ok(usual_count(call));
+    let Some(word) = request.value("records") else {
+        return Ok(usual_count(request));
     };
     match records_in(word) {
         Some(records) => Ok(records),
         None => Err(wrong(
-            call.alloc,
+            request.alloc,
             format_args!("error: '{word}' is not a number of records: from 1 to {MAX_RUN_TURNS}"),
         )),
     }
@@ -72,14 +72,14 @@ fn records_of<R>(call: &Call<'_, '_, R>) -> Result<u32, Reply>
 /// # Errors
 ///
 /// The reply to a word that is no port.
-fn port_of<R>(call: &Call<'_, '_, R>) -> Result<Option<u8>, Reply> {
-    let Some(word) = call.value("port") else {
+fn port_of<R>(request: &Request<'_, '_, R>) -> Result<Option<u8>, Reply> {
+    let Some(word) = request.value("port") else {
         return Ok(None);
     };
     match port_in(word) {
         Some(port) => Ok(Some(port)),
         None => Err(wrong(
-            call.alloc,
+            request.alloc,
             format_args!("error: '{word}' is not a port: a number from 0 to 7"),
         )),
     }
@@ -90,14 +90,14 @@ fn port_of<R>(call: &Call<'_, '_, R>) -> Result<Option<u8>, Reply> {
 /// # Errors
 ///
 /// The reply to a word that means nothing.
-fn only_of<R>(call: &Call<'_, '_, R>) -> Result<Option<Only>, Reply> {
-    let Some(word) = call.value("only") else {
+fn only_of<R>(request: &Request<'_, '_, R>) -> Result<Option<Only>, Reply> {
+    let Some(word) = request.value("only") else {
         return Ok(None);
     };
     match only_in(word, records_in(word)) {
         Some(only) => Ok(Some(only)),
         None => Err(wrong(
-            call.alloc,
+            request.alloc,
             format_args!(
                 "error: '{word}' is none of sent, freed, refused and cut, and no number of a record"
             ),
@@ -110,14 +110,14 @@ fn only_of<R>(call: &Call<'_, '_, R>) -> Result<Option<Only>, Reply> {
 /// # Errors
 ///
 /// The reply to a word that means none.
-fn bytes_of<R>(call: &Call<'_, '_, R>) -> Result<Option<Pattern>, Reply> {
-    let Some(word) = call.value("match") else {
+fn bytes_of<R>(request: &Request<'_, '_, R>) -> Result<Option<Pattern>, Reply> {
+    let Some(word) = request.value("match") else {
         return Ok(None);
     };
     match pattern_in(word) {
         Some(pattern) => Ok(Some(pattern)),
         None => Err(wrong(
-            call.alloc,
+            request.alloc,
             format_args!(
                 "error: '{word}' is neither an address A.B.C.D nor BYTES@OFFSET, as 0800@12"
             ),
@@ -130,20 +130,20 @@ fn bytes_of<R>(call: &Call<'_, '_, R>) -> Result<Option<Pattern>, Reply> {
 /// # Errors
 ///
 /// The reply to wrong words.
-fn asked_in<R>(call: &Call<'_, '_, R>) -> Result<Asked, Reply>
+fn asked_in<R>(request: &Request<'_, '_, R>) -> Result<Asked, Reply>
     ensures limit { IfOk result (λ asked. asked.which.records ≤ MAX_RUN_TURNS) }
     ensures ascending { IfOk result (λ asked. IsAscending 0 asked.pattern.items) }
 {
     let which = Traced {
-        records: records_of(call)?,
-        port: port_of(call)?,
+        records: records_of(request)?,
+        port: port_of(request)?,
     };
-    let (only, bytes) = (only_of(call)?, bytes_of(call)?);
+    let (only, bytes) = (only_of(request)?, bytes_of(request)?);
     Ok(Asked {
         which,
         only,
         bytes,
-        pattern: refused_in(call)?,
+        pattern: refused_in(request)?,
     })
 }
 
@@ -184,26 +184,26 @@ fn sources_of<'a>(
 ///
 /// The reply if no program has it, or memory is refused.
 fn labels_in<R>(
-    call: &Call<'_, '_, R>,
+    request: &Request<'_, '_, R>,
     nodes: &[NodeTexts<'_>],
 ) -> Result<Option<Vec<Option<u16>>>, Reply> {
-    let Some(word) = call.value("instr") else {
+    let Some(word) = request.value("instr") else {
         return Ok(None);
     };
-    let mut labels = Vec::new(call.alloc);
+    let mut labels = Vec::new(request.alloc);
     let mut is_found = false;
     for node in nodes {
         let label = node.label(word);
         is_found = is_found || label.is_some();
         if labels.push(label).is_err() {
-            return Err(without_memory(call.alloc, call.flag("json")));
+            return Err(without_memory(request.alloc, request.flag("json")));
         }
     }
     if is_found {
         Ok(Some(labels))
     } else {
         Err(wrong(
-            call.alloc,
+            request.alloc,
             format_args!("error: no program has the label '{word}'"),
         ))
     }
@@ -224,13 +224,13 @@ fn end_document(alloc: Global, run: TracedRun, reply: &mut Reply) {
 fn reply_to_run(
     alloc: Global,
     run: TracedRun,
-    found: Option<Finding<'_>>,
+    problem: Option<CaptureProblem<'_>>,
     shown: Shown<'_>,
 ) -> Reply {
     let mut reply = Reply::new(alloc);
     if let Err(cause) = run.answer {
         reply.status = FAULT;
-        say_stop(cause, found, &mut reply.err);
+        say_stop(cause, problem, &mut reply.err);
     }
     if shown.is_json {
         end_document(alloc, run, &mut reply);
@@ -248,7 +248,7 @@ fn is_selective(picked: &Picked<'_>) -> bool {
 
 /// Traces a pipeline over the captures that it reads; it opens none that it writes.
 fn trace_pipeline<R: Files, O: Write>(
-    call: &Call<'_, '_, R>,
+    request: &Request<'_, '_, R>,
     pipeline: Pipeline,
     given: &Replacements<'_>,
     pattern: Vec<u64>,
@@ -259,20 +259,20 @@ fn trace_pipeline<R: Files, O: Write>(
     requires pattern { IsAscending 0 pattern.items }
     requires limit { which.records ≤ MAX_RUN_TURNS }
 {
-    let (alloc, is_json) = (call.alloc, shown.is_json);
+    let (alloc, is_json) = (request.alloc, shown.is_json);
     let Ok(names) = names_of(alloc, &pipeline, given) else {
         return without_memory(alloc, is_json);
     };
     let mut inputs = Vec::new(alloc);
     if let Err(fault) = open_inputs(
-        call.rt,
+        request.rt,
         alloc,
-        call.streams,
+        request.streams,
         names.as_slice(),
         false,
         &mut inputs,
     ) {
-        return unopened(call, fault, is_json);
+        return unopened(request, fault, is_json);
     }
     let ins = inputs.as_mut_slice();
     let run = trace_records::<Nothing, _, _>(alloc, pipeline, ins, pattern, which, shown, out);
@@ -280,8 +280,8 @@ fn trace_pipeline<R: Files, O: Write>(
         (Printed::Failed, _) => unwritten(alloc),
         (Printed::NoMemory, _) | (_, Err(RunCause::Memory)) => without_memory(alloc, is_json),
         (Printed::Whole, Err(cause)) => {
-            let found = finding_of(names.as_slice(), ins, cause, None);
-            reply_to_run(alloc, run, found, shown)
+            let problem = problem_of(names.as_slice(), ins, cause, None);
+            reply_to_run(alloc, run, problem, shown)
         }
         (Printed::Whole, Ok(())) => reply_to_run(alloc, run, None, shown),
     }
@@ -293,7 +293,7 @@ fn trace_pipeline<R: Files, O: Write>(
 ///
 /// The reply to words that the pipeline does not fit, or if memory is refused.
 fn trace_loaded<R: Files, O: Write>(
-    call: &Call<'_, '_, R>,
+    request: &Request<'_, '_, R>,
     pipeline: Pipeline,
     subject: Subject<'_>,
     sources: &Sources,
@@ -304,16 +304,16 @@ fn trace_loaded<R: Files, O: Write>(
     requires limit { asked.which.records ≤ MAX_RUN_TURNS }
     requires ascending { IsAscending 0 asked.pattern.items }
 {
-    let is_json = call.flag("json");
+    let is_json = request.flag("json");
     if let Some(port) = asked.which.port
         && usize::from(port) >= pipeline.ports()
     {
-        return Err(no_node(call.alloc, Entry::Port(port)));
+        return Err(no_node(request.alloc, Entry::Port(port)));
     }
-    let Ok(nodes) = sources_of(call.alloc, &pipeline, subject, sources) else {
-        return Err(without_memory(call.alloc, is_json));
+    let Ok(nodes) = sources_of(request.alloc, &pipeline, subject, sources) else {
+        return Err(without_memory(request.alloc, is_json));
     };
-    let labels = labels_in(call, nodes.as_slice())?;
+    let labels = labels_in(request, nodes.as_slice())?;
     let picked = Picked {
         only: asked.only,
         at: match &labels {
@@ -328,39 +328,42 @@ fn trace_loaded<R: Files, O: Write>(
         is_json,
     };
     let Asked { which, pattern, .. } = asked;
-    Ok(trace_pipeline(call, pipeline, given, pattern, which, shown, out))
+    Ok(trace_pipeline(request, pipeline, given, pattern, which, shown, out))
 }
 
 /// `dpv trace FILE`.
-fn traced<R: Files, O: Write>(call: &Call<'_, '_, R>, out: &mut O) -> Result<Reply, Reply> {
-    let (alloc, is_json) = (call.alloc, call.flag("json"));
-    let asked = asked_in(call)?;
-    let file = read_pipeline(call, is_json)?;
+fn traced<R: Files, O: Write>(request: &Request<'_, '_, R>, out: &mut O) -> Result<Reply, Reply> {
+    let (alloc, is_json) = (request.alloc, request.flag("json"));
+    let asked = asked_in(request)?;
+    let file = read_pipeline(request, is_json)?;
     let subject = file.subject();
-    let sources = read_nodes(call, subject, None, How::Given, is_json)?;
+    let sources = read_nodes(request, subject, None, How::Given, is_json)?;
     let pipeline = match load(alloc, file.text(), &mut Lent(&sources), How::Given) {
         Ok(pipeline) => pipeline,
         Err(error) => return Err(unloaded(alloc, error, subject, &sources, is_json)),
     };
     let given = Replacements::none(alloc);
-    trace_loaded(call, pipeline, subject, &sources, &given, asked, out)
+    trace_loaded(request, pipeline, subject, &sources, &given, asked, out)
 }
 
 /// `dpv trace FILE`: prints the records as they end; the reply has the rest.
-pub fn trace_file<R: Files, O: Write>(call: &Call<'_, '_, R>, out: &mut O) -> Reply {
-    match traced(call, out) {
+pub fn trace_file<R: Files, O: Write>(request: &Request<'_, '_, R>, out: &mut O) -> Reply {
+    match traced(request, out) {
         Ok(reply) | Err(reply) => reply,
     }
 }
 
 /// `dpv trace-one NODE CERT IN`.
-fn traced_one<R: Files, O: Write>(call: &Call<'_, '_, R>, out: &mut O) -> Result<Reply, Reply> {
-    let (alloc, is_json, env) = (call.alloc, call.flag("json"), one_env());
-    let asked = asked_in(call)?;
+fn traced_one<R: Files, O: Write>(
+    request: &Request<'_, '_, R>,
+    out: &mut O,
+) -> Result<Reply, Reply> {
+    let (alloc, is_json, env) = (request.alloc, request.flag("json"), one_env());
+    let asked = asked_in(request)?;
     let files = SingleFiles {
-        program: call.word("NODE"),
-        cert: Some(call.word("CERT")),
-        input: call.word("IN"),
+        program: request.word("NODE"),
+        cert: Some(request.word("CERT")),
+        input: request.word("IN"),
         output: "",
     };
     let Ok(given) = Replacements::of_one(alloc, files.input, files.output) else {
@@ -371,17 +374,17 @@ fn traced_one<R: Files, O: Write>(call: &Call<'_, '_, R>, out: &mut O) -> Result
         program: files.program,
         cert: files.cert,
     };
-    let sources = read_nodes(call, subject, None, How::Given, is_json)?;
+    let sources = read_nodes(request, subject, None, How::Given, is_json)?;
     let pipeline = match load_single(alloc, env.copy(), ONE_REGION, files, &mut Lent(&sources)) {
         Ok(pipeline) => pipeline,
         Err(error) => return Err(unloaded(alloc, error, subject, &sources, is_json)),
     };
-    trace_loaded(call, pipeline, subject, &sources, &given, asked, out)
+    trace_loaded(request, pipeline, subject, &sources, &given, asked, out)
 }
 
 /// `dpv trace-one NODE CERT IN`: prints the records as they end; the reply has the rest.
-pub fn trace_one<R: Files, O: Write>(call: &Call<'_, '_, R>, out: &mut O) -> Reply {
-    match traced_one(call, out) {
+pub fn trace_one<R: Files, O: Write>(request: &Request<'_, '_, R>, out: &mut O) -> Reply {
+    match traced_one(request, out) {
         Ok(reply) | Err(reply) => reply,
     }
 }

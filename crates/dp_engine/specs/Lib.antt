@@ -4,7 +4,7 @@ pub mod Putting
 pub mod Engines
 pub mod Handles
 pub mod HandleQueues
-pub mod Known
+pub mod CompiledPrograms
 pub mod Laws
 pub mod Layouts
 pub mod Midway

@@ -14,7 +14,7 @@ pub struct SentRecord {
     pub length: u32,
 }
 
-/// The size of a batch.
+/// How much a batch holds, or has room for.
 #[derive(Clone, Copy, Debug, Default, PartialEq, Eq)]
 pub struct BatchSize {
     /// The number of records, or the room for them.

@@ -13,7 +13,7 @@ ghost use Rattle.dp_engine.specs.Rerouting.{RefusesRoute, IsRetabled};
 ghost use Rattle.dp_engine.specs.Steps.{routes_of};
 ghost use Rattle.dp_engine.specs.Schemes.{scheme_of, programs_of, AreNodes};
 
-use crate::known::Known;
+use crate::compiled_programs::CompiledPrograms;
 use crate::node::Node;
 use crate::rerouting::RouteFault;
 use arrayvec::ArrayVec;
@@ -28,7 +28,7 @@ type Programs<K> = ArrayVec<Node<K>, 8, Global>;
 
 /// The read-only context of node runs.
 #[derive(Drop)]
-pub(crate) struct Context<K: Known> {
+pub(crate) struct Context<K: CompiledPrograms> {
     env: Env,
     tables: Tables,
     ports: Programs<K>,
@@ -36,7 +36,7 @@ pub(crate) struct Context<K: Known> {
     pattern: Vec<u64>,
 }
 
-impl<K: Known> Model for Context<K> {
+impl<K: CompiledPrograms> Model for Context<K> {
     ghost use Rattle.dp_engine.specs.Schemes.{Scheme, scheme_in, IsScheme};
 
     ghost Value = { Scheme };
@@ -47,7 +47,7 @@ impl<K: Known> Model for Context<K> {
 }
 
 // Splits the programs into those of the ports, which come first, and those of the rings.
-fn parted<K: Known>(nodes: Vec<Checked>, ports: usize) -> (Programs<K>, Programs<K>)
+fn parted<K: CompiledPrograms>(nodes: Vec<Checked>, ports: usize) -> (Programs<K>, Programs<K>)
     requires ports { ports ≤ 8 }
     requires rings { length nodes.items ≤ ports + 8 }
     ensures ports { result.0.items ≡ take ports (programs_of nodes.items) }
@@ -68,7 +68,7 @@ fn parted<K: Known>(nodes: Vec<Checked>, ports: usize) -> (Programs<K>, Programs
     (of_ports, of_rings)
 }
 
-impl<K: Known> Context<K> {
+impl<K: CompiledPrograms> Context<K> {
     // A context in which no call is refused.
     pub(crate) fn new(env: &Env, tables: Vec<Lpm>, nodes: Vec<Checked>) -> Context<K>
         requires tables { length tables.items ≡ env.now.tables }

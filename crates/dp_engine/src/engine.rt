@@ -13,8 +13,8 @@ mod reporting;
 mod routes;
 mod turns;
 
+use crate::compiled_programs::{CompiledPrograms, Nothing};
 use crate::context::Context;
-use crate::known::{Known, Nothing};
 use crate::machine::Machine;
 use crate::memory::{EngineMemory, Parts};
 use crate::queues::Queues;
@@ -60,9 +60,9 @@ pub struct WriteFault {
 
 /// The region is smaller than the engine needs. The error returns everything that was handed in.
 pub struct OpenFault {
-    /// The region.
+    /// The region that is too small.
     pub region: Region,
-    /// The tables.
+    /// The tables, as they were handed in.
     pub tables: Vec<Lpm>,
     /// The checked programs.
     pub nodes: Vec<Checked>,
@@ -70,7 +70,7 @@ pub struct OpenFault {
 
 /// An engine: pools of mbufs, rings and transmit lists in one region, tables, and a checked program for each port and ring. `finish` ends it.
 /// Programs that are among `K` run as machine code, others are interpreted; nothing else depends on `K`.
-pub struct Engine<K: Known = Nothing> {
+pub struct Engine<K: CompiledPrograms = Nothing> {
     context: Context<K>,
     machine: Machine,
     memory: EngineMemory,
@@ -79,7 +79,7 @@ pub struct Engine<K: Known = Nothing> {
     left: [u64; 8],
 }
 
-impl<K: Known> Model for Engine<K> {
+impl<K: CompiledPrograms> Model for Engine<K> {
     ghost use Rattle.dp_engine.specs.Engines.{EngineState, engine_of, IsEngine};
 
     ghost Value = { EngineState };
@@ -89,7 +89,7 @@ impl<K: Known> Model for Engine<K> {
     ghost invariant = { λ e. IsEngine e.context e.machine e.memory e.turns e.tallies e.left };
 }
 
-impl<K: Known> Engine<K> {
+impl<K: CompiledPrograms> Engine<K> {
     /// Opens an engine in a region with nothing lent. The tables are as many as the environment has; the checked programs are one for each
     /// port and then one for each ring, each of this environment and its own entry. No allocation call is refused at first. It fails exactly
     /// if the region has fewer bytes than `need` returns; the error returns the region, tables and programs.

@@ -37,11 +37,11 @@
 mod acts;
 mod batch;
 mod builder;
+mod compiled_programs;
 mod context;
 mod control;
 mod copying;
 mod engine;
-mod known;
 mod machine;
 mod memory;
 mod names;
@@ -59,8 +59,8 @@ mod view;
 mod watch;
 
 pub use batch::{BatchSize, SentRecord};
+pub use compiled_programs::{Also, Compiled, CompiledPrograms, Nothing};
 pub use engine::{Engine, OpenFault, Outcome, Pass, Turn, WriteFault};
-pub use known::{Also, Compiled, Known, Nothing};
 pub use needs::need;
 pub use report::{InputState, PoolReport, PortReport, Report};
 pub use rerouting::RouteFault;

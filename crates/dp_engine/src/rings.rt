@@ -34,7 +34,6 @@ fn first_empty(slots: &[Option<Ring>]) -> Option<usize>
     slots.iter().position(|slot| slot.is_none())
 }
 
-// The ring of this number.
 fn ring_in(rings: &[Option<Ring>; 8], k: u8) -> &Ring
     requires { k < length (rings_in rings.now) }
     ensures { result.now ≡ ring_at (rings_in rings.now) k }

@@ -8,9 +8,9 @@ ghost use Rattle.dp_engine.specs.Outcomes.{outcome_of, max_steps};
 ghost use Rattle.dp_engine.specs.Tallies.{packet_count};
 ghost use Rattle.dp_engine.specs.Serving.{ArrivesAt, ServesOne, Rests, WatchesArrival, WatchesOne, WatchesServing};
 
+use crate::compiled_programs::CompiledPrograms;
 use crate::context::Context;
 use crate::engine::Outcome;
-use crate::known::Known;
 use crate::machine::Machine;
 use crate::run::NodeRun;
 use crate::view::View;
@@ -23,7 +23,7 @@ const MAX_RING_RUNS: u8 = 32;
 const NO_RUN: NodeRun = NodeRun { steps: 0, cuts: 0 };
 
 // Receives or drops a record at a port, and runs the port's node on it if it is received.
-pub(crate) fn arrive<K: Known, W: Watch>(
+pub(crate) fn arrive<K: CompiledPrograms, W: Watch>(
     context: &Context<K>,
     m: &mut Machine,
     port: u8,
@@ -65,7 +65,7 @@ pub(crate) fn arrive<K: Known, W: Watch>(
 }
 
 // Runs the lowest non-empty ring's program on its front packet, if there is such a ring.
-fn serve_one<K: Known, W: Watch>(
+fn serve_one<K: CompiledPrograms, W: Watch>(
     context: &Context<K>,
     m: &mut Machine,
     watch: &mut W,
@@ -100,7 +100,7 @@ pub(crate) struct Served {
 }
 
 // Runs the lowest non-empty ring's program on its front packet, up to 32 times.
-pub(crate) fn serve<K: Known, W: Watch>(
+pub(crate) fn serve<K: CompiledPrograms, W: Watch>(
     context: &Context<K>,
     m: &mut Machine,
     watch: &mut W,

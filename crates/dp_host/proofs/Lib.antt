@@ -1,5 +1,5 @@
 pub mod Serving
 pub mod Files
 pub mod Reported
-pub mod Reasons
+pub mod Explanations
 pub mod Depths

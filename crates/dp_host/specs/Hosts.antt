@@ -34,8 +34,8 @@ use Rattle.dp_pipe.specs.Pipelines.{Plan}
 use Rattle.dp_pipe.specs.Running.{IsUnopened}
 use Rattle.dp_host.specs.declared.host.OpenError.{OpenError}
 use Rattle.dp_host.specs.declared.host.OpenError.TheVariants.{Unread, Load, Open}
-use Rattle.dp_host.specs.declared.numbers.TheConstants.{MAX_REASON}
-use Rattle.dp_host.specs.declared.numbers.Reason.{Reason}
+use Rattle.dp_host.specs.declared.numbers.TheConstants.{MAX_EXPLANATION}
+use Rattle.dp_host.specs.declared.numbers.Explanation.{Explanation}
 use Rattle.dp_host.specs.declared.numbers.Room.{Room}
 use Rattle.dp_host.specs.declared.numbers.PortStats.{PortStats}
 use Rattle.dp_host.specs.declared.numbers.PoolStats.{PoolStats}
@@ -96,53 +96,54 @@ IsOpenErrorFor text packed (Unread unread.Memory) = Unit {0}
 IsOpenErrorFor text packed (Load error) = (files : List NamedBytes) × ArePacked packed files × IsUnloaded (Some (listed files)) Given text error
 IsOpenErrorFor text packed (Open cause) = HasPlan text packed (λ plan. IsUnopened plan cause)
 
--- the length of a text in a reason: a zero has to fit after it
+-- the length of a text in an explanation: a zero has to fit after it
 abbrev pub cut_length : List ℕ → ℕ
-cut_length text = min (length text) (MAX_REASON - 1)
+cut_length text = min (length text) (MAX_EXPLANATION - 1)
 
 -- a text before zeros
 abbrev pub padded : List ℕ → List ℕ
-padded text = take (cut_length text) text ++ replicate (MAX_REASON - cut_length text) 0
+padded text = take (cut_length text) text ++ replicate (MAX_EXPLANATION - cut_length text) 0
 
--- a reason with this cause and this text
-abbrev pub reason_with : ℕ → List ℕ → Reason
-reason_with cause text = record { cause = cause; length = cut_length text; text = padded text }
+-- an explanation with this cause and this text
+abbrev pub explanation_with : ℕ → List ℕ → Explanation
+explanation_with cause text = record { cause = cause; length = cut_length text; text = padded text }
 
 -- that of an engine that was opened
-abbrev pub no_reason : Reason
-no_reason = reason_with 0 []
+abbrev pub no_explanation : Explanation
+no_explanation = explanation_with 0 []
 
 -- memory was refused
-abbrev pub no_memory : Reason
-no_memory = reason_with 1 (codes "memory")
+abbrev pub no_memory : Explanation
+no_memory = explanation_with 1 (codes "memory")
 
 -- the files are not read
-abbrev pub not_packed : Reason
-not_packed = reason_with 2 (codes "the files are not packed as they should be")
+abbrev pub not_packed : Explanation
+not_packed = explanation_with 2 (codes "the files are not packed as they should be")
 
 -- the region has too few bytes
-abbrev pub too_small : Reason
-too_small = reason_with 3 (codes "the region is too small")
+abbrev pub too_small : Explanation
+too_small = explanation_with 3 (codes "the region is too small")
 
--- the reason for a pipeline that is not loaded: memory, if that was the cause; else the cause with its text, which is `memory` if there was none for it
-abbrev pub IsReasonIn : PipeError → Reason → Type 0
-IsReasonIn error r =
+-- the explanation of a pipeline that is not loaded: memory, if that was the cause; else the cause with its text, or with `memory` if there was none for it
+abbrev pub IsExplanationIn : PipeError → Explanation → Type 0
+IsExplanationIn error r =
     ((number_of error ≡ 0) × (r ≡ no_memory))
     ⊎ ((0 < number_of error)
-    × ((r ≡ reason_with (10 + number_of error) (text_of error)) ⊎ (r ≡ reason_with (10 + number_of error) (codes "memory"))))
+    × ((r ≡ explanation_with (10 + number_of error) (text_of error)) ⊎ (r ≡ explanation_with (10 + number_of error) (codes "memory"))))
 
--- the reason for an error
-abbrev pub IsReasonFor : OpenError → Reason → Type 0
-IsReasonFor (Unread unread.Form) r = r ≡ not_packed
-IsReasonFor (Unread unread.Memory) r = r ≡ no_memory
-IsReasonFor (Load error) r = IsReasonIn error r
-IsReasonFor (Open run_cause.NoRoom) r = r ≡ too_small
-IsReasonFor (Open cause) r = r ≡ no_memory
+-- the explanation of an error
+abbrev pub IsExplanationFor : OpenError → Explanation → Type 0
+IsExplanationFor (Unread unread.Form) r = r ≡ not_packed
+IsExplanationFor (Unread unread.Memory) r = r ≡ no_memory
+IsExplanationFor (Load error) r = IsExplanationIn error r
+IsExplanationFor (Open run_cause.NoRoom) r = r ≡ too_small
+IsExplanationFor (Open cause) r = r ≡ no_memory
 
--- an engine is open and there is no reason, or none is open, and this is the reason
-abbrev pub Opens : List ℕ → List ℕ → Option EngineState → Refusal → Reason → Type 0
-Opens text packed (Some e) missing reason = IsOpenedFor text packed e × (missing ≡ refusal.Closed) × (reason ≡ no_reason)
-Opens text packed None missing reason = (missing ≡ refusal.NotOpen) × ((error : OpenError) × IsOpenErrorFor text packed error × IsReasonFor error reason)
+-- an engine is open, and there is nothing to explain; or none is open, and this is the explanation
+abbrev pub Opens : List ℕ → List ℕ → Option EngineState → Refusal → Explanation → Type 0
+Opens text packed (Some e) missing explanation = IsOpenedFor text packed e × (missing ≡ refusal.Closed) × (explanation ≡ no_explanation)
+Opens text packed None missing explanation =
+    (missing ≡ refusal.NotOpen) × ((error : OpenError) × IsOpenErrorFor text packed error × IsExplanationFor error explanation)
 
 -- ---- a pass
 

@@ -1,15 +1,15 @@
-//! The contents of a caller's memory: an open engine, or none, with the reason.
+//! The contents of a caller's memory: an open engine, or none, with the explanation.
 
 ghost use Rattle.std.specs.Prelude.{◌≡◌, ◌≤◌, [], ◌++◌, drop, length, IfErr, IfOk};
 ghost use Rattle.dp_pipe.specs.Pipelines.{IsPlan};
 ghost use Rattle.dp_pipe.specs.Running.{IsUnopened};
 ghost use Rattle.dp_host.specs.Calls.{HasServedCalls};
 ghost use Rattle.dp_host.specs.Hosts.{AddAnswers, DeleteAnswers, LookupAnswers, SetsOrRefuses, CloseAnswers, IsOpenErrorFor, IsOpenedFor, IsPoolStats};
-ghost use Rattle.dp_host.specs.Hosts.{IsPortStats, IsReasonFor, IsReasonIn, IsRingStats, IsRoom, Opens, PassAnswers};
-ghost use Rattle.dp_host.specs.Hosts.{NoPool, NoPort, NoRing, outcome_number, padded, reason_with};
+ghost use Rattle.dp_host.specs.Hosts.{IsPortStats, IsExplanationFor, IsExplanationIn, IsRingStats, IsRoom, Opens, PassAnswers};
+ghost use Rattle.dp_host.specs.Hosts.{NoPool, NoPort, NoRing, outcome_number, padded, explanation_with};
 
 use crate::numbers::{
-    Hop, MAX_REASON, PoolStats, PortStats, Reason, RingStats, Room, Route, Totals,
+    Explanation, Hop, MAX_EXPLANATION, PoolStats, PortStats, RingStats, Room, Route, Totals,
 };
 use crate::packed::{Unread, files_in};
 use crate::refusal::Refusal;
@@ -24,7 +24,7 @@ use std::alloc::Global;
 pub struct Host {
     pub(crate) running: Option<Running>,
     pub(crate) missing: Refusal,
-    pub(crate) reason: Reason,
+    pub(crate) explanation: Explanation,
 }
 
 /// Why no engine is open.
@@ -96,76 +96,76 @@ fn put_front(room: &mut [u8], text: &[u8])
 }
 
 // A text before zeros, cut so that a zero follows it.
-fn padded(text: &[u8]) -> [u8; MAX_REASON]
+fn padded(text: &[u8]) -> [u8; MAX_EXPLANATION]
     ensures { result ≡ padded text.now }
 {
-    let mut room = [0; MAX_REASON];
-    let (front, _) = text.split_at(text.len().min(MAX_REASON - 1));
+    let mut room = [0; MAX_EXPLANATION];
+    let (front, _) = text.split_at(text.len().min(MAX_EXPLANATION - 1));
     put_front(&mut room, front);
     room
 }
 
-// A reason with this cause and this text.
-fn reason_of(cause: u32, text: &[u8]) -> Reason
-    ensures { result ≡ reason_with cause text.now }
+// An explanation with this cause and this text.
+fn explanation_of(cause: u32, text: &[u8]) -> Explanation
+    ensures { result ≡ explanation_with cause text.now }
 {
-    Reason {
+    Explanation {
         cause,
-        length: text.len().min(MAX_REASON - 1) as u32,
+        length: text.len().min(MAX_EXPLANATION - 1) as u32,
         text: padded(text),
     }
 }
 
-// The reason for a pipeline that is not loaded, as `dpv check` prints it.
-fn reason_in(alloc: Global, error: PipeError) -> Reason
-    ensures { IsReasonIn error result }
+// The explanation of a pipeline that is not loaded, as `dpv check` prints it.
+fn explanation_in(alloc: Global, error: PipeError) -> Explanation
+    ensures { IsExplanationIn error result }
 {
     let number = error.number();
     if number == 0 {
-        return reason_of(1, b"memory");
+        return explanation_of(1, b"memory");
     }
     let cause = 10 + u32::from(number);
     match format!(in alloc; "{error}") {
-        Ok(text) => reason_of(cause, text.as_bytes()),
-        Err(_) => reason_of(cause, b"memory"),
+        Ok(text) => explanation_of(cause, text.as_bytes()),
+        Err(_) => explanation_of(cause, b"memory"),
     }
 }
 
-// The reason for an error.
-fn reason_for(alloc: Global, error: OpenError) -> Reason
-    ensures { IsReasonFor error result }
+// The explanation of an error.
+fn explanation_for(alloc: Global, error: OpenError) -> Explanation
+    ensures { IsExplanationFor error result }
 {
     match error {
-        OpenError::Unread(Unread::Form) => reason_of(
+        OpenError::Unread(Unread::Form) => explanation_of(
             2,
             b"the files are not packed as they should be",
         ),
-        OpenError::Unread(Unread::Memory) => reason_of(1, b"memory"),
-        OpenError::Load(pipe_error) => reason_in(alloc, pipe_error),
-        OpenError::Open(RunCause::NoRoom) => reason_of(3, b"the region is too small"),
-        OpenError::Open(_) => reason_of(1, b"memory"),
+        OpenError::Unread(Unread::Memory) => explanation_of(1, b"memory"),
+        OpenError::Load(pipe_error) => explanation_in(alloc, pipe_error),
+        OpenError::Open(RunCause::NoRoom) => explanation_of(3, b"the region is too small"),
+        OpenError::Open(_) => explanation_of(1, b"memory"),
     }
 }
 
-/// Opens the engine of a pipeline's text and its files, or keeps the reason why not.
+/// Opens the engine of a pipeline's text and its files, or keeps the explanation why not.
 pub(crate) fn opened(alloc: Global, toml: &[u8], packed: &[u8]) -> Host
-    ensures { Opens toml.now packed.now result.running result.missing result.reason }
+    ensures { Opens toml.now packed.now result.running result.missing result.explanation }
 {
     match started(alloc, toml, packed) {
         Ok(running) => Host {
             running: Some(running),
             missing: Refusal::Closed,
-            reason: reason_of(0, b""),
+            explanation: explanation_of(0, b""),
         },
         Err(error) => Host {
             running: None,
             missing: Refusal::NotOpen,
-            reason: reason_for(alloc, error),
+            explanation: explanation_for(alloc, error),
         },
     }
 }
 
-// The number of an outcome.
+// The number of an outcome in dpv.h.
 fn outcome_number(outcome: Outcome) -> u32
     ensures { result ≡ outcome_number outcome }
 {
@@ -198,7 +198,7 @@ pub(crate) fn passed(
 ) -> u32
     ensures { PassAnswers host.old.running host.old.missing host.new.running port time frame.now
         (record { records = records.old; bytes = bytes.old }) (record { records = records.new; bytes = bytes.new }) filled.new result
-        × (host.new.missing ≡ host.old.missing) × (host.new.reason ≡ host.old.reason) }
+        × (host.new.missing ≡ host.old.missing) × (host.new.explanation ≡ host.old.explanation) }
 {
     *filled = Room {
         records: 0,
@@ -220,7 +220,7 @@ pub(crate) fn passed(
 /// Adds a route to a table; returns 0 or the number of a refusal.
 pub(crate) fn route_added(host: &mut Host, route: &mut Route) -> u32
     ensures { AddAnswers route.old host.old.running host.old.missing host.new.running result
-        × (host.new.missing ≡ host.old.missing) × (host.new.reason ≡ host.old.reason) × (route.new ≡ route.old) }
+        × (host.new.missing ≡ host.old.missing) × (host.new.explanation ≡ host.old.explanation) × (route.new ≡ route.old) }
 {
     let Some(running) = &mut host.running else {
         return host.missing.number();
@@ -234,7 +234,7 @@ pub(crate) fn route_added(host: &mut Host, route: &mut Route) -> u32
 /// Deletes a route of a table; returns 0 or the number of a refusal.
 pub(crate) fn route_deleted(host: &mut Host, route: &mut Route) -> u32
     ensures { DeleteAnswers route.old host.old.running host.old.missing host.new.running result
-        × (host.new.missing ≡ host.old.missing) × (host.new.reason ≡ host.old.reason) × (route.new ≡ route.old) }
+        × (host.new.missing ≡ host.old.missing) × (host.new.explanation ≡ host.old.explanation) × (route.new ≡ route.old) }
 {
     let Some(running) = &mut host.running else {
         return host.missing.number();
@@ -335,20 +335,20 @@ pub(crate) fn ring_stats(host: &mut Host, ring: u32, stats: &mut RingStats) -> u
     }
 }
 
-/// Sets the reason why the pipeline was not loaded.
-pub(crate) fn reason(host: &mut Host, reason: &mut Reason) -> u32
-    ensures { (host.new ≡ host.old) × (reason.new ≡ host.old.reason) × (result ≡ 0) }
+/// Sets the explanation why the pipeline was not loaded.
+pub(crate) fn explanation(host: &mut Host, explanation: &mut Explanation) -> u32
+    ensures { (host.new ≡ host.old) × (explanation.new ≡ host.old.explanation) × (result ≡ 0) }
 {
-    reason.cause = host.reason.cause;
-    reason.length = host.reason.length;
-    reason.text = host.reason.text;
+    explanation.cause = host.explanation.cause;
+    explanation.length = host.explanation.length;
+    explanation.text = host.explanation.text;
     0
 }
 
 /// Ends the engine.
 pub(crate) fn closed(host: &mut Host, totals: &mut Totals) -> u32
     ensures { CloseAnswers host.old.running host.old.missing host.new.running host.new.missing totals.old totals.new result
-        × (host.new.reason ≡ host.old.reason) }
+        × (host.new.explanation ≡ host.old.explanation) }
 {
     // The laws of uses, and of uses without a change.
     uses_keep_safe::<u64>();

@@ -34,7 +34,7 @@ ghost use Rattle.dp_host.specs.Hosts.{IsRoom, NoPool, NoPort, NoRing, Opens, Pas
 
 use crate::host::Host;
 use crate::numbers::{
-    CostStats, Hop, PoolStats, PortStats, Reason, RingStats, Room, Route, Totals,
+    CostStats, Explanation, Hop, PoolStats, PortStats, RingStats, Room, Route, Totals,
 };
 use dp_engine::SentRecord;
 use std::alloc::Global;
@@ -56,11 +56,11 @@ pub extern "C" fn dpv_cost(alloc: Global, text: &[u8], out: &mut CostStats) -> u
     costs::program_cost(alloc, text, out)
 }
 
-/// Opens the engine of a pipeline's text and its packed files. If it fails, `dpv_why` returns the reason.
+/// Opens the engine of a pipeline's text and its packed files. If it fails, `dpv_why` explains why.
 #[unsafe(no_mangle)]
 pub unsafe extern "C" fn dpv_begin(alloc: Global, at: *mut u8, toml: &[u8], packed: &[u8])
     requires* { sem 𝓛 (room_at the_row at) }
-    ensures* { ∃ₛ (λ (h : Host). sem 𝓛 (lies_at the_row full_share at h) ∗ ⌜ Opens toml.now packed.now h.running h.missing h.reason ⌝) }
+    ensures* { ∃ₛ (λ (h : Host). sem 𝓛 (lies_at the_row full_share at h) ∗ ⌜ Opens toml.now packed.now h.running h.missing h.explanation ⌝) }
 {
     (at as *mut Host).write(host::opened(alloc, toml, packed))
 }
@@ -81,7 +81,7 @@ pub unsafe extern "C" fn dpv_pass_into(
     requires* { sem 𝓛 (lies_at the_row full_share at h) }
     ensures* { ∃ₛ (λ (h' : Host). sem 𝓛 (lies_at the_row full_share at h') ∗ ⌜ PassAnswers h.running h.missing h'.running port time frame.now
         (record { records = records.old; bytes = bytes.old }) (record { records = records.new; bytes = bytes.new }) filled.new result
-        × (h'.missing ≡ h.missing) × (h'.reason ≡ h.reason) ⌝) }
+        × (h'.missing ≡ h.missing) × (h'.explanation ≡ h.explanation) ⌝) }
 {
     host::passed(
         &mut *(at as *mut Host),
@@ -105,14 +105,14 @@ pub unsafe extern "C" fn dpv_batch_size(at: *mut u8, size: &mut Room) -> u32
     host::batch_size(&mut *(at as *mut Host), size)
 }
 
-/// Sets `reason` to why the pipeline was not loaded; cause 0 if it was. Returns 0.
+/// Sets `explanation` to why the pipeline was not loaded; cause 0 if it was. Returns 0.
 #[unsafe(no_mangle)]
-pub unsafe extern "C" fn dpv_why(at: *mut u8, reason: &mut Reason) -> u32
+pub unsafe extern "C" fn dpv_why(at: *mut u8, explanation: &mut Explanation) -> u32
     ghost h: { Host }
     requires* { sem 𝓛 (lies_at the_row full_share at h) }
-    ensures* { ∃ₛ (λ (h' : Host). sem 𝓛 (lies_at the_row full_share at h') ∗ ⌜ (h' ≡ h) × (reason.new ≡ h.reason) × (result ≡ 0) ⌝) }
+    ensures* { ∃ₛ (λ (h' : Host). sem 𝓛 (lies_at the_row full_share at h') ∗ ⌜ (h' ≡ h) × (explanation.new ≡ h.explanation) × (result ≡ 0) ⌝) }
 {
-    host::reason(&mut *(at as *mut Host), reason)
+    host::explanation(&mut *(at as *mut Host), explanation)
 }
 
 /// Sets `out` to the counts of a port so far. Returns 0, or the number of a refusal.
@@ -154,7 +154,7 @@ pub unsafe extern "C" fn dpv_route_add(at: *mut u8, route: &mut Route) -> u32
     ghost h: { Host }
     requires* { sem 𝓛 (lies_at the_row full_share at h) }
     ensures* { ∃ₛ (λ (h' : Host). sem 𝓛 (lies_at the_row full_share at h') ∗ ⌜ AddAnswers route.old h.running h.missing h'.running result
-        × (h'.missing ≡ h.missing) × (h'.reason ≡ h.reason) × (route.new ≡ route.old) ⌝) }
+        × (h'.missing ≡ h.missing) × (h'.explanation ≡ h.explanation) × (route.new ≡ route.old) ⌝) }
 {
     host::route_added(&mut *(at as *mut Host), route)
 }
@@ -165,7 +165,7 @@ pub unsafe extern "C" fn dpv_route_delete(at: *mut u8, route: &mut Route) -> u32
     ghost h: { Host }
     requires* { sem 𝓛 (lies_at the_row full_share at h) }
     ensures* { ∃ₛ (λ (h' : Host). sem 𝓛 (lies_at the_row full_share at h') ∗ ⌜ DeleteAnswers route.old h.running h.missing h'.running result
-        × (h'.missing ≡ h.missing) × (h'.reason ≡ h.reason) × (route.new ≡ route.old) ⌝) }
+        × (h'.missing ≡ h.missing) × (h'.explanation ≡ h.explanation) × (route.new ≡ route.old) ⌝) }
 {
     host::route_deleted(&mut *(at as *mut Host), route)
 }
@@ -187,7 +187,7 @@ pub unsafe extern "C" fn dpv_close(at: *mut u8, totals: &mut Totals) -> u32
     ghost h: { Host }
     requires* { sem 𝓛 (lies_at the_row full_share at h) }
     ensures* { ∃ₛ (λ (h' : Host). sem 𝓛 (lies_at the_row full_share at h') ∗ ⌜ CloseAnswers h.running h.missing h'.running h'.missing
-        totals.old totals.new result × (h'.reason ≡ h.reason) ⌝) }
+        totals.old totals.new result × (h'.explanation ≡ h.explanation) ⌝) }
 {
     host::closed(&mut *(at as *mut Host), totals)
 }

@@ -1,7 +1,7 @@
 //! The `repr(C)` structs of dpv.h. `dpv.h` has the same structs.
 
-/// The size of a reason's text with the zeros after it, in bytes.
-pub const MAX_REASON: usize = 128;
+/// The size of an explanation's text with the zeros after it, in bytes.
+pub const MAX_EXPLANATION: usize = 128;
 
 /// The size of a batch: how large one must be, or how much of one is filled.
 #[repr(C)]
@@ -16,13 +16,13 @@ pub struct Room {
 /// Why a pipeline was not loaded.
 #[repr(C)]
 #[derive(Drop)]
-pub struct Reason {
+pub struct Explanation {
     /// The number of the cause, or 0 if the pipeline was loaded.
     pub cause: u32,
     /// The length of the text.
     pub length: u32,
     /// The text, in the first `length` bytes, and zeros after it, at least one.
-    pub text: [u8; MAX_REASON],
+    pub text: [u8; MAX_EXPLANATION],
 }
 
 /// The counts of a port, in frames.
@@ -75,7 +75,7 @@ pub struct Totals {
 #[repr(C)]
 #[derive(Clone, Copy, Drop)]
 pub struct Route {
-    /// The number of the table.
+    /// The table, by its place in the pipeline file, from 0.
     pub table: u32,
     /// The address; its bits below the depth are ignored.
     pub ip: u32,

@@ -113,7 +113,12 @@ fn found_rows(
 }
 
 /// The strongest rows, as a certificate.
-fn found(alloc: Global, program: &Program, env: &Env, entry: Entry) -> Result<Cert, AllocError>
+fn cert_of_rows(
+    alloc: Global,
+    program: &Program,
+    env: &Env,
+    entry: Entry,
+) -> Result<Cert, AllocError>
     ensures some { 1 ≤ length program.now }
     ensures found { IfOk result (λ cert. cert ≡ certificate_of (spec.found_rows program.now env.now entry)) }
     ensures well_formed { IfOk result (λ cert. IsTrue (list_all is_well_formed_row cert.rows)) }
@@ -153,7 +158,7 @@ fn last_tried(
     ensures refused { IfOk result (λ b. IfSome b.1 (λ f. AreRefused program.now env.now entry b.0.rows f.0 (number_of f.1))) }
     ensures last { IfOk result (λ b. AreLast program.now env.now entry b.0.rows) }
 {
-    let cert = found(alloc, program, env, entry)?;
+    let cert = cert_of_rows(alloc, program, env, entry)?;
     match fault_of(program, &cert, env, entry) {
         None => Ok((cert, None)),
         Some(_) => {
@@ -243,7 +248,7 @@ fn inferred_checked(
     ensures last { IfOk result (λ q. AreLast program env.now entry q.rows) }
     ensures of_last { IfErr result (λ e. IsOfLast program env.now entry e) }
 {
-    let cert = found(alloc, &program, env, entry)?;
+    let cert = cert_of_rows(alloc, &program, env, entry)?;
     match check(program, cert, env, entry) {
         Ok(checked) => Ok(checked),
         Err(refused) => {

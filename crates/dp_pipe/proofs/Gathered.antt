@@ -22,9 +22,9 @@ use Rattle.dp_pipe.proofs.Indices.{taken_more, parted, zipped_more, length-nodes
 -- ---- one node
 
 -- the certificate with which a program is checked is the one in its file
-pub spelled_cert : (known : Option FileMap) (name : List ℕ) (program : List Instr) (cert : Certificate) (env : Environment) (entry : Entry) (q : Question) →
-    q ≡ question program cert env entry → IsCertOf known name (length program) cert → HasCert known (Some name) q
-spelled_cert known name program cert env entry q is spelled = subst (HasCert known (Some name)) (sym is) (cert, refl, spelled)
+pub spelled_cert : (contents : Option FileMap) (name : List ℕ) (program : List Instr) (cert : Certificate) (env : Environment) (entry : Entry) (q : Question) →
+    q ≡ question program cert env entry → IsCertOf contents name (length program) cert → HasCert contents (Some name) q
+spelled_cert contents name program cert env entry q is spelled = subst (HasCert contents (Some name)) (sym is) (cert, refl, spelled)
 
 most_of : (program : List Instr) (env : Environment) (entry : Entry) (q : Question) → q.env ≡ env → q.entry ≡ entry → q.program ≡ program →
     SaysMost program env entry q.rows → SaysMost q.program q.env q.entry q.rows
@@ -33,39 +33,40 @@ most_of program env entry q e n p most =
     let at_env : SaysMost q.program q.env entry q.rows = subst (λ (x : Environment). SaysMost q.program x entry q.rows) (sym e) at_program in
     subst (λ (x : Entry). SaysMost q.program q.env x q.rows) (sym n) at_env
 
-pub inferred_loaded : (known : Option FileMap) (env : Environment) (node : Node) (program : List Instr) (q : Question)
-    → IsProgramOf known node.program program → None ≡ node.cert
+pub inferred_loaded : (contents : Option FileMap) (env : Environment) (node : Node) (program : List Instr) (q : Question)
+    → IsProgramOf contents node.program program → None ≡ node.cert
     → q.env ≡ env → q.entry ≡ node.entry → q.program ≡ program → IsChecked q → IsWith q (certificate_of q.rows) → SaysMost program env node.entry q.rows →
-    IsLoaded known env node q
-inferred_loaded known env node program q reads is e n p checked same most = record {
+    IsLoaded contents env node q
+inferred_loaded contents env node program q reads is e n p checked same most = record {
   env_is = e;
   entry_is = n;
   checked = checked;
-  program = subst (λ (x : List Instr). IsProgramOf known node.program x) (sym p) reads;
-  cert = subst (λ (c : Option (List ℕ)). HasCert known c q) is (same, most_of program env node.entry q e n p most);
+  program = subst (λ (x : List Instr). IsProgramOf contents node.program x) (sym p) reads;
+  cert = subst (λ (c : Option (List ℕ)). HasCert contents c q) is (same, most_of program env node.entry q e n p most);
 }
 
-pub all_loaded : (known : Option FileMap) (env : Environment) (node : Node) (program : List Instr) (result : Result Question PipeError)
-    → IsProgramOf known node.program program → None ≡ node.cert
+pub all_loaded : (contents : Option FileMap) (env : Environment) (node : Node) (program : List Instr) (result : Result Question PipeError)
+    → IsProgramOf contents node.program program → None ≡ node.cert
     → IfOk result (λ q. q.env ≡ env) → IfOk result (λ q. q.entry ≡ node.entry) → IfOk result (λ q. q.program ≡ program) → IfOk result IsChecked →
     IfOk result (λ q. IsWith q (certificate_of q.rows)) → IfOk result (λ q. SaysMost program env node.entry q.rows)
-    → IfOk result (IsLoaded known env node)
-all_loaded known env node program (Ok q) reads is e n p checked same most = inferred_loaded known env node program q reads is e n p checked same most
-all_loaded known env node program (Err fault) reads is e n p checked same most = tt
+    → IfOk result (IsLoaded contents env node)
+all_loaded contents env node program (Ok q) reads is e n p checked same most = inferred_loaded contents env node program q reads is e n p checked same most
+all_loaded contents env node program (Err fault) reads is e n p checked same most = tt
 
 -- ---- all nodes
 
-pub one_more : (known later : Option FileMap) (env : Environment) (nodes : List Node) (k : ℕ) (node : Node) (loaded : List Question) (q : Question)
-    → later ≡ known → slice_get nodes k ≡ Some node → AreLoaded known env (take k nodes) loaded → IsLoaded later env node q →
-    AreLoaded known env (take (k + 1) nodes) (loaded ++ q ∷ [])
-one_more known later env nodes k node loaded q stays at all new =
-    let here : IsLoaded known env node q = subst (λ (f : Option FileMap). IsLoaded f env node q) stays new in
-    subst (λ (xs : List Node). AreLoaded known env xs (loaded ++ q ∷ [])) (sym (taken_more nodes k node at))
-    (zipped_more (IsLoaded known env) (take k nodes) loaded node q all here)
+pub one_more : (contents later : Option FileMap) (env : Environment) (nodes : List Node) (k : ℕ) (node : Node) (loaded : List Question) (q : Question)
+    → later ≡ contents → slice_get nodes k ≡ Some node → AreLoaded contents env (take k nodes) loaded → IsLoaded later env node q →
+    AreLoaded contents env (take (k + 1) nodes) (loaded ++ q ∷ [])
+one_more contents later env nodes k node loaded q stays at all new =
+    let here : IsLoaded contents env node q = subst (λ (f : Option FileMap). IsLoaded f env node q) stays new in
+    subst (λ (xs : List Node). AreLoaded contents env xs (loaded ++ q ∷ [])) (sym (taken_more nodes k node at))
+    (zipped_more (IsLoaded contents env) (take k nodes) loaded node q all here)
 
-pub fails_here : (known later : Option FileMap) (env : Environment) (nodes : List Node) (k : ℕ) (node : Node) (loaded : List Question) (e : PipeError)
-    → later ≡ known → slice_get nodes k ≡ Some node → AreLoaded known env (take k nodes) loaded → Fails later env node e → FailsAtFirst known env nodes e
-fails_here known later env nodes k node loaded e stays at all fails = record {
+pub fails_here : (contents later : Option FileMap) (env : Environment) (nodes : List Node) (k : ℕ) (node : Node) (loaded : List Question) (e : PipeError)
+    → later ≡ contents → slice_get nodes k ≡ Some node → AreLoaded contents env (take k nodes) loaded → Fails later env node e →
+    FailsAtFirst contents env nodes e
+fails_here contents later env nodes k node loaded e stays at all fails = record {
   before = take k nodes;
   node = node;
   after = drop (suc k) nodes;
@@ -85,6 +86,6 @@ how_many how ports rings =
           rings,
     )
 
-pub whole : (known : Option FileMap) (env : Environment) (nodes : List Node) (n : ℕ) (loaded : List Question) → length nodes ≤ n →
-    AreLoaded known env (take n nodes) loaded → AreLoaded known env nodes loaded
-whole known env nodes n loaded few all = subst (λ (xs : List Node). AreLoaded known env xs loaded) (take_all n nodes few) all
+pub whole : (contents : Option FileMap) (env : Environment) (nodes : List Node) (n : ℕ) (loaded : List Question) → length nodes ≤ n →
+    AreLoaded contents env (take n nodes) loaded → AreLoaded contents env nodes loaded
+whole contents env nodes n loaded few all = subst (λ (xs : List Node). AreLoaded contents env xs loaded) (take_all n nodes few) all

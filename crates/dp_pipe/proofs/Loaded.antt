@@ -102,10 +102,10 @@ same_nodes how s c is =
 
 -- ---- what is loaded
 
-pub fit_nodes : (known : Option FileMap) (how : How) (text : List ℕ) (c : Config) (nodes : List Question) → IsConfigOf text c →
-    AreLoaded known c.env (kept_nodes how c) nodes → HasNodes c.env nodes
-fit_nodes known how text c nodes is all =
-    has_nodes known c.env how (map (λ port. node_names port.files) c.ports.items) (map node_names c.rings.items) nodes all
+pub fit_nodes : (contents : Option FileMap) (how : How) (text : List ℕ) (c : Config) (nodes : List Question) → IsConfigOf text c →
+    AreLoaded contents c.env (kept_nodes how c) nodes → HasNodes c.env nodes
+fit_nodes contents how text c nodes is all =
+    has_nodes contents c.env how (map (λ port. node_names port.files) c.ports.items) (map node_names c.rings.items) nodes all
     (length-map c.ports.items (λ port. node_names port.files) ∙ ports_of is.setup c is.config)
     (length-map c.rings.items node_names ∙ rings_of is.setup c is.config)
 
@@ -119,12 +119,12 @@ config_plan c nodes = record {
   outputs = map output_of c.ports.items;
 }
 
-pub loaded_from : (known : Option FileMap) (how : How) (text : List ℕ) (c : Config) (nodes : List Question) → IsConfigOf text c →
-    AreLoaded known c.env (kept_nodes how c) nodes → IsLoadedFrom known how text (config_plan c nodes)
-loaded_from known how text c nodes is all =
+pub loaded_from : (contents : Option FileMap) (how : How) (text : List ℕ) (c : Config) (nodes : List Question) → IsConfigOf text c →
+    AreLoaded contents c.env (kept_nodes how c) nodes → IsLoadedFrom contents how text (config_plan c nodes)
+loaded_from contents how text c nodes is all =
     let s : Setup = is.setup in
-    let moved : AreLoaded known (environment_of s) (kept_nodes how c) nodes =
-    subst (λ (e : Environment). AreLoaded known e (kept_nodes how c) nodes) is.config.env all in
+    let moved : AreLoaded contents (environment_of s) (kept_nodes how c) nodes =
+    subst (λ (e : Environment). AreLoaded contents e (kept_nodes how c) nodes) is.config.env all in
     record {
       top = is.top;
       setup = s;
@@ -135,21 +135,21 @@ loaded_from known how text c nodes is all =
         region = is.config.region;
         env = is.config.env;
         tables = is.config.tables;
-        nodes = subst (λ (ns : List Node). AreLoaded known (environment_of s) ns nodes) (same_nodes how s c is.config) moved;
+        nodes = subst (λ (ns : List Node). AreLoaded contents (environment_of s) ns nodes) (same_nodes how s c is.config) moved;
         inputs = port_inputs s c is.config;
         outputs = port_outputs s c is.config;
       };
     }
 
-pub bad_node : (known : Option FileMap) (how : How) (text : List ℕ) (c : Config) (e : PipeError) → IsConfigOf text c →
-    (e ≡ Memory) ⊎ FailsAtFirst known c.env (kept_nodes how c) e → IsUnloaded known how text e
-bad_node known how text c e is h =
+pub bad_node : (contents : Option FileMap) (how : How) (text : List ℕ) (c : Config) (e : PipeError) → IsConfigOf text c →
+    (e ≡ Memory) ⊎ FailsAtFirst contents c.env (kept_nodes how c) e → IsUnloaded contents how text e
+bad_node contents how text c e is h =
     elim h [
       | inl memory ↦ inl (subst (IsFaultOf text) (sym memory) is.toml.0)
       | inr fails ↦
           let s : Setup = is.setup in
-          let moved : FailsAtFirst known (environment_of s) (kept_nodes how c) e =
-          subst (λ (x : Environment). FailsAtFirst known x (kept_nodes how c) e) is.config.env fails in
+          let moved : FailsAtFirst contents (environment_of s) (kept_nodes how c) e =
+          subst (λ (x : Environment). FailsAtFirst contents x (kept_nodes how c) e) is.config.env fails in
           inr (record {
             top = is.top;
             setup = s;
@@ -158,6 +158,6 @@ bad_node known how text c e is h =
             fits = is.config.fits;
             tables = c.tables.items;
             filled = is.config.tables;
-            fails = subst (λ (ns : List Node). FailsAtFirst known (environment_of s) ns e) (same_nodes how s c is.config) moved;
+            fails = subst (λ (ns : List Node). FailsAtFirst contents (environment_of s) ns e) (same_nodes how s c is.config) moved;
           })
     ]

@@ -19,44 +19,44 @@ use Rattle.dp_pipe.specs.Pipelines.{Plan, IsPlan, IsFor, HasNodes}
 use Rattle.dp_pipe.proofs.Indices.{length-nodes_from, nodes_from_entry, front_of, beyond}
 use Rattle.dp_pipe.specs.Laws.{are_nodes, all_checked}
 
-for_entry : (known : Option FileMap) (env : Environment) (entry : Entry) (node : Node) (q : Question) → node.entry ≡ entry → IsLoaded known env node q →
+for_entry : (contents : Option FileMap) (env : Environment) (entry : Entry) (node : Node) (q : Question) → node.entry ≡ entry → IsLoaded contents env node q →
     IsFor env entry q
-for_entry known env entry node q e loaded = record { env_is = loaded.env_is; entry_is = loaded.entry_is ∙ e; checked = loaded.checked }
+for_entry contents env entry node q e loaded = record { env_is = loaded.env_is; entry_is = loaded.entry_is ∙ e; checked = loaded.checked }
 
-port_is : (known : Option FileMap) (env : Environment) (how : How) (ports rings : List NodeFiles) (nodes : List Question) →
-    AreLoaded known env (all_nodes how ports rings) nodes
+port_is : (contents : Option FileMap) (env : Environment) (how : How) (ports rings : List NodeFiles) (nodes : List Question) →
+    AreLoaded contents env (all_nodes how ports rings) nodes
     → (port : ℕ) (q : Question) → port < length ports → slice_get nodes port ≡ Some q → IsFor env (Port port) q
-port_is known env how ports rings nodes all port q lt e =
-    let (node, at, loaded) = zip_back (IsLoaded known env) (all_nodes how ports rings) nodes port q all e in
+port_is contents env how ports rings nodes all port q lt e =
+    let (node, at, loaded) = zip_back (IsLoaded contents env) (all_nodes how ports rings) nodes port q all e in
     let few : port < length (nodes_from how Port 0 ports) = omega (arith, length-nodes_from how Port 0 ports) in
     let here : slice_get (nodes_from how Port 0 ports) port ≡ Some node = sym (front_of (nodes_from how Port 0 ports)
     (nodes_from how Ring 0 rings) port few) ∙ at in
-    for_entry known env (Port port) node q (nodes_from_entry how Port 0 ports port node here ∙ ap Port (zero-add port)) loaded
+    for_entry contents env (Port port) node q (nodes_from_entry how Port 0 ports port node here ∙ ap Port (zero-add port)) loaded
 
-ring_is : (known : Option FileMap) (env : Environment) (how : How) (ports rings : List NodeFiles) (nodes : List Question) →
-    AreLoaded known env (all_nodes how ports rings) nodes
+ring_is : (contents : Option FileMap) (env : Environment) (how : How) (ports rings : List NodeFiles) (nodes : List Question) →
+    AreLoaded contents env (all_nodes how ports rings) nodes
     → (ring : ℕ) (q : Question) → slice_get nodes (length ports + ring) ≡ Some q → IsFor env (Ring ring) q
-ring_is known env how ports rings nodes all ring q e =
-    let (node, at, loaded) = zip_back (IsLoaded known env) (all_nodes how ports rings) nodes (length ports + ring) q all e in
+ring_is contents env how ports rings nodes all ring q e =
+    let (node, at, loaded) = zip_back (IsLoaded contents env) (all_nodes how ports rings) nodes (length ports + ring) q all e in
     let index : length (nodes_from how Port 0 ports) + ring ≡ length ports + ring = ap (λ n. n + ring) (length-nodes_from how Port 0 ports) in
     let here : slice_get (nodes_from how Ring 0 rings) ring ≡ Some node =
     sym (beyond (nodes_from how Port 0 ports) (nodes_from how Ring 0 rings) ring) ∙ ap (slice_get (all_nodes how ports rings)) index ∙ at in
-    for_entry known env (Ring ring) node q (nodes_from_entry how Ring 0 rings ring node here ∙ ap Ring (zero-add ring)) loaded
+    for_entry contents env (Ring ring) node q (nodes_from_entry how Ring 0 rings ring node here ∙ ap Ring (zero-add ring)) loaded
 
 -- the nodes that are loaded are one for each port and each ring of the environment
-pub has_nodes : (known : Option FileMap) (env : Environment) (how : How) (ports rings : List NodeFiles) (nodes : List Question) →
-    AreLoaded known env (all_nodes how ports rings) nodes
+pub has_nodes : (contents : Option FileMap) (env : Environment) (how : How) (ports rings : List NodeFiles) (nodes : List Question) →
+    AreLoaded contents env (all_nodes how ports rings) nodes
     → length ports ≡ length env.ports → length rings ≡ length env.rings → HasNodes env nodes
-has_nodes known env how ports rings nodes all p r = record {
+has_nodes contents env how ports rings nodes all p r = record {
   count = omega (
     arith,
-    AllZip-long (IsLoaded known env) (all_nodes how ports rings) nodes all,
+    AllZip-long (IsLoaded contents env) (all_nodes how ports rings) nodes all,
     length-append (nodes_from how Port 0 ports) (nodes_from how Ring 0 rings),
     length-nodes_from how Port 0 ports,
     length-nodes_from how Ring 0 rings,
   );
-  ports = λ port q lt e. port_is known env how ports rings nodes all port q (omega arith) e;
-  rings = λ ring q e. ring_is known env how ports rings nodes all ring q (ap (λ n. slice_get nodes (n + ring)) p ∙ e);
+  ports = λ port q lt e. port_is contents env how ports rings nodes all port q (omega arith) e;
+  rings = λ ring q e. ring_is contents env how ports rings nodes all ring q (ap (λ n. slice_get nodes (n + ring)) p ∙ e);
 }
 
 -- ---- the nodes of a pipeline, shown as a plan

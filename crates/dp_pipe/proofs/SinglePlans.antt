@@ -12,8 +12,8 @@ use Rattle.dp_pipe.specs.Singles.{HasOnePort}
 use Rattle.dp_pipe.proofs.Planned.{has_nodes}
 
 -- one loaded node is that of the only port
-pub single_nodes : (known : Option FileMap) (env : Environment) (files : NodeFiles) (question : Question) (nodes : List Question) → HasOnePort env
-    → nodes ≡ question ∷ [] → IsLoaded known env (node_of Given (Port 0) files) question → HasNodes env nodes
-single_nodes known env files question nodes one are loaded =
+pub single_nodes : (contents : Option FileMap) (env : Environment) (files : NodeFiles) (question : Question) (nodes : List Question) → HasOnePort env
+    → nodes ≡ question ∷ [] → IsLoaded contents env (node_of Given (Port 0) files) question → HasNodes env nodes
+single_nodes contents env files question nodes one are loaded =
     subst (λ (list : List Question). HasNodes env list) (sym are)
-    (has_nodes known env Given (files ∷ []) [] (question ∷ []) (loaded, tt) (sym one.ports) (ap length (sym one.rings)))
+    (has_nodes contents env Given (files ∷ []) [] (question ∷ []) (loaded, tt) (sym one.ports) (ap length (sym one.rings)))

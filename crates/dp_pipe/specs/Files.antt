@@ -20,16 +20,16 @@ fetched files name = if_short (files name)
 
 -- if the files are known, the one of this name has these bytes
 abbrev pub HasBytes : Option FileMap → List ℕ → List ℕ → Type 0
-HasBytes known name bytes = (files : FileMap) → known ≡ Some files → files name ≡ Some bytes
+HasBytes contents name bytes = (files : FileMap) → contents ≡ Some files → files name ≡ Some bytes
 
 -- if the files are known, none has this name
 abbrev pub NoneIsNamed : Option FileMap → List ℕ → Type 0
-NoneIsNamed known name = (files : FileMap) → known ≡ Some files → files name ≡ None
+NoneIsNamed contents name = (files : FileMap) → contents ≡ Some files → files name ≡ None
 
 -- if the files are known, the one of this name has these bytes, which are not too many
 abbrev pub IsFile : Option FileMap → List ℕ → List ℕ → Type 0
-IsFile known name bytes = (files : FileMap) → known ≡ Some files → fetched files name ≡ Some bytes
+IsFile contents name bytes = (files : FileMap) → contents ≡ Some files → fetched files name ≡ Some bytes
 
 -- if the files are known, none has this name, or it is too long
 abbrev pub IsNoFile : Option FileMap → List ℕ → Type 0
-IsNoFile known name = (files : FileMap) → known ≡ Some files → fetched files name ≡ None
+IsNoFile contents name = (files : FileMap) → contents ≡ Some files → fetched files name ≡ None

@@ -19,12 +19,12 @@ abbrev pub single_node : SingleFiles → Node
 single_node files = record { entry = Port 0; program = files.program.now; cert = option_map (λ name. name.now) files.cert }
 
 -- the pipeline of this environment, region and files
-pub record IsSinglePlan (known : Option FileMap) (env : Environment) (region : ℕ) (files : SingleFiles) (p : Plan) : Type 0 where
+pub record IsSinglePlan (contents : Option FileMap) (env : Environment) (region : ℕ) (files : SingleFiles) (p : Plan) : Type 0 where
   pub env_is : p.env ≡ env
   pub region_is : p.region ≡ region
   pub tables_are : p.tables ≡ []
   pub question : Question
   pub nodes_are : p.nodes ≡ question ∷ []
-  pub loaded : IsLoaded known env (single_node files) question
+  pub loaded : IsLoaded contents env (single_node files) question
   pub inputs_are : p.inputs ≡ files.input.now ∷ []
   pub outputs_are : p.outputs ≡ files.output.now ∷ []

@@ -75,7 +75,7 @@ pub enum PipeError {
     BadCert(Entry, dp_cert::Fault),
     /// No certificate is found for a node's program.
     NotInferred {
-        /// The node.
+        /// The port or ring whose program it is.
         node: Entry,
         /// The lowest label, from 0, at which a rule fails with the last certificate that was tried.
         label: u16,
@@ -84,7 +84,7 @@ pub enum PipeError {
     },
     /// A node's program is refused with its certificate.
     Refused {
-        /// The node.
+        /// The port or ring whose program it is.
         node: Entry,
         /// The lowest label, from 0, at which a rule fails.
         label: u16,

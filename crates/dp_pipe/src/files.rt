@@ -14,7 +14,7 @@ pub const MAX_FILE: usize = 1_048_576;
 /// Contracts see the bytes of each file, where they are known.
 pub trait Files {
     // The bytes of each file by its name, where they are known.
-    ghost known: { Self → Option (List ℕ → Option (List ℕ)) };
+    ghost contents: { Self → Option (List ℕ → Option (List ℕ)) };
 
     /// Returns the bytes of a file. A file longer than [`MAX_FILE`] may be cut to `MAX_FILE + 1` bytes, unless the files are known.
     ///
@@ -22,7 +22,7 @@ pub trait Files {
     ///
     /// [`FetchFault::Missing`] if there is no such file or it cannot be read, and [`FetchFault::Memory`] if memory for its bytes is refused.
     fn fetch(&mut self, alloc: Global, name: &str) -> Result<Vec<u8>, FetchFault>
-        ensures found { IfOk result (λ bytes. HasBytes (known self.old) name.now bytes.items) }
-        ensures missing { IsErrOf result FetchFault.Missing → NoneIsNamed (known self.old) name.now }
-        ensures stays { known self.new ≡ known self.old };
+        ensures found { IfOk result (λ bytes. HasBytes (contents self.old) name.now bytes.items) }
+        ensures missing { IsErrOf result FetchFault.Missing → NoneIsNamed (contents self.old) name.now }
+        ensures stays { contents self.new ≡ contents self.old };
 }

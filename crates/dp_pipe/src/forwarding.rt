@@ -11,7 +11,7 @@ ghost use Rattle.dp_pcap.specs.declared.format.TheConstants.{NANOS_A_SECOND};
 ghost use Rattle.dp_pcap.specs.declared.time.Time.{Time as InSeconds};
 ghost use Rattle.dp_pcap.specs.declared.time.Unit.{Unit as TimeUnit};
 
-use dp_engine::{Engine, InputState, Known, Watch};
+use dp_engine::{CompiledPrograms, Engine, InputState, Watch};
 use dp_pcap::{
     Feed, HEAD_SIZE, MAX_RECORD, MAX_RECORDS, Next, PcapError, Sink, Source, Time, Unit,
     next_record, pass_record, put_header, read_header, record_at_hand,
@@ -61,7 +61,7 @@ fn bytes_of<'a, R: Feed>(r: &'a R, buf: &'a [u8], is_held: bool, len: usize) -> 
 // Reads what comes next in an input and, if it is a record, takes a watched turn with it. Usually the reader has buffered the record: then the
 // bytes are copied once, into the mbuf.
 #[inline(always)]
-fn next_turn<K: Known, R: Feed, V: Watch>(
+fn next_turn<K: CompiledPrograms, R: Feed, V: Watch>(
     engine: &mut Engine<K>,
     port: u8,
     r: &mut R,
@@ -98,7 +98,7 @@ fn next_turn<K: Known, R: Feed, V: Watch>(
 
 // Drains the transmit lists of all ports, in port order, with one time. Returns the port whose writer failed, if one did.
 #[inline(always)]
-fn drain_all<K: Known, W: Sink>(
+fn drain_all<K: CompiledPrograms, W: Sink>(
     engine: &mut Engine<K>,
     time: Time,
     unit: Unit,
@@ -134,7 +134,7 @@ pub(crate) fn is_open(input: &InputProgress) -> bool
 }
 
 // Reads what comes next in an input, if it is open. After a record it takes a watched turn, and drains all ports.
-fn ask<K: Known, R: Feed, W: Sink, V: Watch>(
+fn ask<K: CompiledPrograms, R: Feed, W: Sink, V: Watch>(
     engine: &mut Engine<K>,
     port: u8,
     input: &mut InputProgress,
@@ -183,7 +183,7 @@ fn ask<K: Known, R: Feed, W: Sink, V: Watch>(
 }
 
 // Takes one turn for each open input, in port order, each followed by the drains.
-fn round<K: Known, R: Feed, W: Sink, V: Watch>(
+fn round<K: CompiledPrograms, R: Feed, W: Sink, V: Watch>(
     engine: &mut Engine<K>,
     inputs: &mut [InputProgress],
     ins: &mut [R],
@@ -241,7 +241,7 @@ fn is_any_open(inputs: &[InputProgress]) -> bool
 }
 
 // Takes rounds until every input has ended.
-pub(crate) fn rounds<K: Known, R: Feed, W: Sink, V: Watch>(
+pub(crate) fn rounds<K: CompiledPrograms, R: Feed, W: Sink, V: Watch>(
     engine: &mut Engine<K>,
     inputs: &mut [InputProgress],
     ins: &mut [R],

@@ -10,7 +10,7 @@ use std::alloc::Global;
 /// A file in memory.
 #[derive(Clone, Copy, Debug)]
 pub struct NamedBytes<'a> {
-    /// Its name.
+    /// The name under which it is fetched.
     pub name: &'a str,
     /// What it holds.
     pub bytes: &'a [u8],
@@ -19,7 +19,7 @@ pub struct NamedBytes<'a> {
 /// Files in memory; of two with the same name, the first counts.
 #[derive(Clone, Copy, Debug)]
 pub struct Listed<'a> {
-    /// The files.
+    /// The files, in the order of the search.
     pub files: &'a [NamedBytes<'a>],
 }
 
@@ -34,7 +34,7 @@ impl Files for Listed<'_> {
     ghost use Rattle.std.specs.Prelude.{Some};
     ghost use Rattle.dp_pipe.specs.Listed.{listed};
 
-    ghost known = { λ it. Some (listed it.files.now) };
+    ghost contents = { λ it. Some (listed it.files.now) };
 
     fn fetch(&mut self, alloc: Global, name: &str) -> Result<Vec<u8>, FetchFault> {
         match file_named(self.files, name) {

@@ -23,9 +23,9 @@ pub fn load<F: Files>(
     files: &mut F,
     how: How,
 ) -> Result<Pipeline, PipeError>
-    ensures loaded { IfOk result (IsLoadedFrom (F.known files.old) how text.now) }
-    ensures fails { IfErr result (IsUnloaded (F.known files.old) how text.now) }
-    ensures stays { F.known files.new ≡ F.known files.old }
+    ensures loaded { IfOk result (IsLoadedFrom (F.contents files.old) how text.now) }
+    ensures fails { IfErr result (IsUnloaded (F.contents files.old) how text.now) }
+    ensures stays { F.contents files.new ≡ F.contents files.old }
 {
     let config = configure(alloc, text)?;
     let nodes = load_nodes(alloc, files, how, &config.env, &config.ports, &config.rings)?;

@@ -41,9 +41,9 @@ pub fn bytes_of<F: Files>(
     node: Entry,
     name: &str,
 ) -> Result<Vec<u8>, PipeError>
-    ensures found { IfOk result (λ bytes. IsFile (F.known files.old) name.now bytes.items) }
-    ensures missing { IfErr result (λ e. (e ≡ PipeError.Memory) ⊎ IsMissing (F.known files.old) node name.now e) }
-    ensures stays { F.known files.new ≡ F.known files.old }
+    ensures found { IfOk result (λ bytes. IsFile (F.contents files.old) name.now bytes.items) }
+    ensures missing { IfErr result (λ e. (e ≡ PipeError.Memory) ⊎ IsMissing (F.contents files.old) node name.now e) }
+    ensures stays { F.contents files.new ≡ F.contents files.old }
 {
     match files.fetch(alloc, name) {
         Ok(bytes) => {
@@ -65,9 +65,9 @@ fn program_of<F: Files>(
     node: Entry,
     name: &str,
 ) -> Result<Program, PipeError>
-    ensures read { IfOk result (IsProgramOf (F.known files.old) name.now) }
-    ensures fails { IfErr result (λ e. (e ≡ PipeError.Memory) ⊎ HasNoProgram (F.known files.old) node name.now e) }
-    ensures stays { F.known files.new ≡ F.known files.old }
+    ensures read { IfOk result (IsProgramOf (F.contents files.old) name.now) }
+    ensures fails { IfErr result (λ e. (e ≡ PipeError.Memory) ⊎ HasNoProgram (F.contents files.old) node name.now e) }
+    ensures stays { F.contents files.new ≡ F.contents files.old }
 {
     let text = bytes_of(alloc, files, node, name)?;
     match assemble(alloc, text.as_slice()) {
@@ -89,10 +89,10 @@ pub fn cert_of<F: Files>(
     name: &str,
     n: usize,
 ) -> Result<Cert, PipeError>
-    ensures read { IfOk result (λ cert. IsCertOf (F.known files.old) name.now n cert) }
-    ensures fails { IfErr result (λ e. (e ≡ PipeError.Memory) ⊎ IsMissing (F.known files.old) node name.now e
-        ⊎ IsBadCert (F.known files.old) node name.now n e) }
-    ensures stays { F.known files.new ≡ F.known files.old }
+    ensures read { IfOk result (λ cert. IsCertOf (F.contents files.old) name.now n cert) }
+    ensures fails { IfErr result (λ e. (e ≡ PipeError.Memory) ⊎ IsMissing (F.contents files.old) node name.now e
+        ⊎ IsBadCert (F.contents files.old) node name.now n e) }
+    ensures stays { F.contents files.new ≡ F.contents files.old }
 {
     let text = bytes_of(alloc, files, node, name)?;
     match decode(alloc, text.as_slice(), n) {
@@ -116,11 +116,11 @@ fn given<F: Files>(
     ensures entry { IfOk result (λ q. q.entry ≡ node) }
     ensures program { IfOk result (λ q. q.program ≡ program) }
     ensures checked { IfOk result IsChecked }
-    ensures cert { IfOk result (λ q. HasCert (F.known files.old) (Some name.now) q) }
-    ensures fails { IfErr result (λ e. (e ≡ PipeError.Memory) ⊎ IsMissing (F.known files.old) node name.now e
-        ⊎ IsBadCert (F.known files.old) node name.now (length program) e
-        ⊎ IsRefusedBy (F.known files.old) env.now node name.now program e) }
-    ensures stays { F.known files.new ≡ F.known files.old }
+    ensures cert { IfOk result (λ q. HasCert (F.contents files.old) (Some name.now) q) }
+    ensures fails { IfErr result (λ e. (e ≡ PipeError.Memory) ⊎ IsMissing (F.contents files.old) node name.now e
+        ⊎ IsBadCert (F.contents files.old) node name.now (length program) e
+        ⊎ IsRefusedBy (F.contents files.old) env.now node name.now program e) }
+    ensures stays { F.contents files.new ≡ F.contents files.old }
 {
     let cert = cert_of(alloc, files, node, name, program.instrs().len())?;
     match check(program, cert, env, node) {
@@ -181,9 +181,9 @@ pub(crate) fn load_node<F: Files>(
     node: Entry,
     names: &NodeNames,
 ) -> Result<Checked, PipeError>
-    ensures loaded { IfOk result (IsLoaded (F.known files.old) env.now (node_of how node (node_names names.now))) }
-    ensures fails { IfErr result (Fails (F.known files.old) env.now (node_of how node (node_names names.now))) }
-    ensures stays { F.known files.new ≡ F.known files.old }
+    ensures loaded { IfOk result (IsLoaded (F.contents files.old) env.now (node_of how node (node_names names.now))) }
+    ensures fails { IfErr result (Fails (F.contents files.old) env.now (node_of how node (node_names names.now))) }
+    ensures stays { F.contents files.new ≡ F.contents files.old }
 {
     let program = program_of(alloc, files, node, names.node.as_str())?;
     match cert_read(how, names) {
@@ -227,11 +227,11 @@ pub(crate) fn load_nodes<F: Files>(
 ) -> Result<Vec<Checked>, PipeError>
     requires few_ports { length ports.now ≤ 8 }
     requires few_rings { length rings.now ≤ 8 }
-    ensures loaded { IfOk result (λ nodes. AreLoaded (F.known files.old) env.now
+    ensures loaded { IfOk result (λ nodes. AreLoaded (F.contents files.old) env.now
         (all_nodes how (map (λ port. node_names port.files) ports.now) (map node_names rings.now)) nodes.items) }
-    ensures fails { IfErr result (λ e. (e ≡ PipeError.Memory) ⊎ FailsAtFirst (F.known files.old) env.now
+    ensures fails { IfErr result (λ e. (e ≡ PipeError.Memory) ⊎ FailsAtFirst (F.contents files.old) env.now
         (all_nodes how (map (λ port. node_names port.files) ports.now) (map node_names rings.now)) e) }
-    ensures stays { F.known files.new ≡ F.known files.old }
+    ensures stays { F.contents files.new ≡ F.contents files.old }
 {
     let mut nodes = Vec::new(alloc);
     for index in 0..ports.len() + rings.len() {

@@ -8,7 +8,7 @@ ghost use Rattle.dp_pipe.specs.Running.{IsFirst, IsUnopened};
 
 use crate::forwarding::{InputProgress, RunCause};
 use crate::pipeline::Pipeline;
-use dp_engine::{Engine, Known, need};
+use dp_engine::{CompiledPrograms, Engine, need};
 use dp_pcap::MAX_RECORD;
 use dp_region::Region;
 use std::alloc::Global;
@@ -34,7 +34,7 @@ fn ask_room(pipeline: &Pipeline) -> Result<(), RunCause>
 ///
 /// [`RunCause::NoRoom`] exactly if the region is smaller than the engine needs, else [`RunCause::Memory`] if the region is
 /// refused.
-pub fn engine_of<K: Known>(
+pub fn engine_of<K: CompiledPrograms>(
     alloc: Global,
     pipeline: Pipeline,
     pattern: Vec<u64>,
@@ -59,7 +59,7 @@ pub fn engine_of<K: Known>(
 }
 
 /// Opens the engine of a pipeline, with the pattern of calls to refuse, an empty list with room for its inputs, and a buffer for a record.
-pub(crate) fn opened<K: Known>(
+pub(crate) fn opened<K: CompiledPrograms>(
     alloc: Global,
     pipeline: Pipeline,
     pattern: Vec<u64>,

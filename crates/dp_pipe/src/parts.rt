@@ -16,7 +16,7 @@ use dp_model::{Fact, PoolSpec, PortSpec, RingSpec};
 use dp_region::{CACHE_LINE, MAX_REGION, MIN_REGION};
 use toml::{Table, Value};
 
-/// A `[[pool]]`.
+/// Reads a `[[pool]]`; none if a key or a value is wrong.
 fn pool_in(table: &Table) -> Option<PoolSpec>
     ensures { result ≡ spec.pool_in (table_view table.now) }
 {
@@ -51,7 +51,7 @@ fn texts_at<'a>(table: &'a Table, key: &str) -> Option<&'a [Value]>
     }
 }
 
-/// A `[[table]]`.
+/// Reads a `[[table]]`; none if a key or a value is wrong.
 fn table_in(table: &Table) -> Option<TablePart<'_>>
     ensures { option_map view.table_part result ≡ spec.table_in (table_view table.now) }
 {
@@ -98,7 +98,7 @@ fn ring_spec_in(table: &Table) -> Option<RingSpec>
     })
 }
 
-/// A `[[ring]]`.
+/// Reads a `[[ring]]`; none if a key or a value is wrong.
 fn ring_in(table: &Table) -> Option<RingPart<'_>>
     ensures { option_map view.ring_part result ≡ spec.ring_in (table_view table.now) }
 {
@@ -124,7 +124,7 @@ fn port_spec_in(table: &Table) -> Option<PortSpec>
     })
 }
 
-/// A `[[port]]`.
+/// Reads a `[[port]]`; none if a key or a value is wrong.
 fn port_in(table: &Table) -> Option<PortPart<'_>>
     ensures { option_map view.port_part result ≡ spec.port_in (table_view table.now) }
 {

@@ -23,7 +23,7 @@ use crate::pipeline::Pipeline;
 use arrayvec::ArrayVec;
 use dp_copies::clones_are_copies;
 use dp_engine::{
-    Engine, InputState, Known, Nothing, PoolReport, PortReport, Report, Silent, Watch,
+    CompiledPrograms, Engine, InputState, Nothing, PoolReport, PortReport, Report, Silent, Watch,
 };
 use dp_model::{Env, PoolSpec, PortSpec, RingSpec, runs_keep_safe};
 use dp_pcap::{Feed, MAX_RECORD, Sink, Time, Unit, put_header, read_header};
@@ -129,7 +129,7 @@ fn put_headers<W: Sink>(outs: &mut [W], unit: Unit) -> Result<(), RunCause>
 }
 
 // Runs an open engine: headers in, headers out, then record by record.
-fn forward<K: Known, R: Feed, W: Sink, V: Watch>(
+fn forward<K: CompiledPrograms, R: Feed, W: Sink, V: Watch>(
     engine: &mut Engine<K>,
     inputs: &mut Vec<InputProgress>,
     ins: &mut [R],
@@ -186,7 +186,7 @@ fn answer_with(outcome: Result<(), RunCause>, report: Report) -> Result<Report, 
 }
 
 // Runs an engine to its end.
-fn run_through<K: Known, R: Feed, W: Sink, V: Watch>(
+fn run_through<K: CompiledPrograms, R: Feed, W: Sink, V: Watch>(
     engine: Engine<K>,
     inputs: &mut Vec<InputProgress>,
     ins: &mut [R],
@@ -281,7 +281,7 @@ fn idle_report(env: &Env) -> Report
 }
 
 // Opens the engine of a pipeline, and runs it to its end.
-fn answer<K: Known, R: Feed, W: Sink, V: Watch>(
+fn answer<K: CompiledPrograms, R: Feed, W: Sink, V: Watch>(
     alloc: Global,
     pipeline: Pipeline,
     ins: &mut [R],
@@ -329,7 +329,7 @@ fn answer<K: Known, R: Feed, W: Sink, V: Watch>(
 /// # Errors
 ///
 /// Those of [`run`].
-pub fn run_watched<K: Known, R: Feed, W: Sink, V: Watch>(
+pub fn run_watched<K: CompiledPrograms, R: Feed, W: Sink, V: Watch>(
     alloc: Global,
     pipeline: Pipeline,
     ins: &mut [R],

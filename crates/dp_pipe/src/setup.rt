@@ -29,14 +29,14 @@ pub struct TablePart<'a> {
     ghost groups_fit: { groups ≤ MAX_GROUPS },
 }
 
-/// A `[[ring]]`.
+/// What a `[[ring]]` says.
 #[derive(Clone, Copy)]
 pub struct RingPart<'a> {
     pub spec: RingSpec,
     pub files: NodeFiles<'a>,
 }
 
-/// A `[[port]]`.
+/// What a `[[port]]` says.
 #[derive(Clone, Copy)]
 pub struct PortPart<'a> {
     pub spec: PortSpec,

@@ -69,9 +69,9 @@ pub fn load_single<F: Files>(
 ) -> Result<Pipeline, PipeError>
     requires port { HasOnePort env }
     requires region { IsRegionSize region }
-    ensures loaded { IfOk result (IsSinglePlan (F.known files.old) env region names.entry) }
-    ensures fails { IfErr result (Fails (F.known files.old) env (single_node names.entry)) }
-    ensures stays { F.known files.new ≡ F.known files.old }
+    ensures loaded { IfOk result (IsSinglePlan (F.contents files.old) env region names.entry) }
+    ensures fails { IfErr result (Fails (F.contents files.old) env (single_node names.entry)) }
+    ensures stays { F.contents files.new ≡ F.contents files.old }
 {
     let port = names_of(alloc, names)?;
     let node = load_node(alloc, files, How::Given, &env, Entry::Port(0), &port.files)?;

@@ -13,7 +13,7 @@ use crate::forwarding::{InputProgress, MAX_RUN_TURNS, ROUNDS, RunCause, is_open}
 use crate::opening::opened;
 use crate::pipeline::Pipeline;
 use crate::running::read_headers;
-use dp_engine::{Engine, InputState, Known, Turn, View, Watch};
+use dp_engine::{CompiledPrograms, Engine, InputState, Turn, View, Watch};
 use dp_pcap::{Feed, MAX_RECORD, Next, PcapError, Source, Time, next_record};
 use std::alloc::Global;
 
@@ -57,7 +57,7 @@ impl Traced {
 }
 
 // Reads what comes next in an input and, if it is a record, takes a turn with it that is traced.
-fn trace_next<K: Known, R: Feed, T: Tracer>(
+fn trace_next<K: CompiledPrograms, R: Feed, T: Tracer>(
     engine: &mut Engine<K>,
     port: u8,
     r: &mut R,
@@ -88,7 +88,7 @@ fn trace_next<K: Known, R: Feed, T: Tracer>(
 }
 
 // Takes a traced turn for a port that is traced and open, if more records are wanted. Then drops what the turn put into transmit lists.
-fn trace_port<K: Known, R: Feed, T: Tracer>(
+fn trace_port<K: CompiledPrograms, R: Feed, T: Tracer>(
     engine: &mut Engine<K>,
     port: u8,
     input: &mut InputProgress,
@@ -134,7 +134,7 @@ fn trace_port<K: Known, R: Feed, T: Tracer>(
 }
 
 // Takes one traced turn for each input that is traced and open, in port order.
-fn trace_round<K: Known, R: Feed, T: Tracer>(
+fn trace_round<K: CompiledPrograms, R: Feed, T: Tracer>(
     engine: &mut Engine<K>,
     inputs: &mut [InputProgress],
     ins: &mut [R],
@@ -197,7 +197,7 @@ fn is_any_left(inputs: &[InputProgress], which: Traced) -> bool
 }
 
 // Traces the records of inputs whose headers were read, round by round.
-fn trace_rounds<K: Known, R: Feed, T: Tracer>(
+fn trace_rounds<K: CompiledPrograms, R: Feed, T: Tracer>(
     engine: &mut Engine<K>,
     inputs: &mut [InputProgress],
     ins: &mut [R],
@@ -230,7 +230,7 @@ fn trace_rounds<K: Known, R: Feed, T: Tracer>(
 }
 
 // Traces an open engine: headers in, then record by record, round by round.
-fn trace_records<K: Known, R: Feed, T: Tracer>(
+fn trace_records<K: CompiledPrograms, R: Feed, T: Tracer>(
     engine: &mut Engine<K>,
     inputs: &mut Vec<InputProgress>,
     ins: &mut [R],
@@ -262,7 +262,7 @@ fn trace_records<K: Known, R: Feed, T: Tracer>(
 /// [`RunCause::NoRoom`] exactly if the pipeline's region is smaller than its engine needs, which is known before memory is asked for, and
 /// [`RunCause::Memory`] if memory is refused; nothing was read or traced then. [`RunCause::In`] if an input has a fault, in its header or
 /// after the records that were traced.
-pub fn trace<K: Known, R: Feed, T: Tracer>(
+pub fn trace<K: CompiledPrograms, R: Feed, T: Tracer>(
     alloc: Global,
     pipeline: Pipeline,
     ins: &mut [R],

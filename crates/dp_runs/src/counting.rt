@@ -22,7 +22,7 @@ use std::{fmt, io};
 /// The text of a node's program.
 #[derive(Clone, Copy)]
 pub struct ProgramText<'a> {
-    /// The node.
+    /// The port or ring that runs it.
     pub node: Entry,
     /// The name of its file.
     pub name: &'a str,
@@ -62,7 +62,7 @@ pub(crate) struct NodeLines<'a> {
 /// The counts of a run, and its programs.
 #[derive(Drop)]
 pub struct Counting<'a> {
-    /// The counts.
+    /// What was counted so far.
     pub counts: Counts,
     /// The sources, in the order of the nodes.
     pub sources: Vec<NodeSource<'a>>,

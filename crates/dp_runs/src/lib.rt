@@ -20,4 +20,4 @@ pub use counting::{Counting, ProgramText, Wanted};
 pub use notes::Notes;
 pub use reply::{Printing, reply_of, say_stop, status_of};
 pub use report::print_report;
-pub use run::{Ran, Watcher, found_of, run_line, run_over};
+pub use run::{Ran, Watcher, problem_of_run, run_line, run_over};

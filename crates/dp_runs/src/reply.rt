@@ -10,7 +10,7 @@ use crate::document::document_text;
 use crate::notes::{NoteText, Notes};
 use crate::report::print_report;
 use crate::run::Ran;
-use dp_captures::{Finding, Totals};
+use dp_captures::{CaptureProblem, Totals};
 use dp_console::{DONE, FAULT, MEMORY, Reply, Text};
 use dp_engine::Report;
 use dp_model::Env;
@@ -33,8 +33,8 @@ pub struct Printing<'p, 'a> {
     pub is_json: bool,
     /// Whether a capture goes to standard output. Then the report goes to standard error.
     pub is_stdout_taken: bool,
-    /// The finding for the capture at which the run stopped.
-    pub found: Option<Finding<'p>>,
+    /// What is wrong with the capture at which the run stopped.
+    pub problem: Option<CaptureProblem<'p>>,
     /// What is known about the run that its report does not have, if what it lost is said.
     pub notes: Option<Notes>,
 }
@@ -119,11 +119,11 @@ fn report_of(alloc: Global, answer: &Result<Report, RunFault>) -> Text
 
 /// The lines after that of a run that stopped.
 #[derive(Clone, Copy)]
-struct FoundText<'a>(Finding<'a>);
+struct ProblemText<'a>(CaptureProblem<'a>);
 
-impl fmt::Display for FoundText<'_> {
+impl fmt::Display for ProblemText<'_> {
     fn fmt<W: fmt::Write>(&self, f: &mut fmt::Formatter<W>) -> fmt::Result {
-        let Finding { file, reason } = self.0;
+        let CaptureProblem { file, reason } = self.0;
         if let Some(file) = file {
             writeln!(f, "  file: {file}")?;
         }
@@ -152,30 +152,30 @@ fn stop_line(alloc: Global, cause: RunCause) -> Text
     text
 }
 
-/// The lines after that of a run that stopped, if there is a finding.
-fn found_of(alloc: Global, found: Option<Finding<'_>>) -> Text {
-    match found {
-        Some(finding) => shown(alloc, FoundText(finding)),
+/// The lines after that of a run that stopped, if a capture is at fault.
+fn problem_lines(alloc: Global, problem: Option<CaptureProblem<'_>>) -> Text {
+    match problem {
+        Some(problem) => shown(alloc, ProblemText(problem)),
         None => Text::new(alloc),
     }
 }
 
 /// Why a run stopped, if it did.
-fn stop_of(alloc: Global, answer: &Result<Report, RunFault>, found: &Text) -> Text
-    ensures { Reads result (spec.stop_lines (answer_of answer.now) found.now.bytes.items) }
+fn stop_of(alloc: Global, answer: &Result<Report, RunFault>, problem: &Text) -> Text
+    ensures { Reads result (spec.stop_lines (answer_of answer.now) problem.now.bytes.items) }
 {
     match answer {
         Ok(_) => Text::new(alloc),
-        Err(fault) => both(stop_line(alloc, fault.cause), found),
+        Err(fault) => both(stop_line(alloc, fault.cause), problem),
     }
 }
 
 /// Says why a run stopped: the line of its cause, and the lines on what was found at its capture.
-pub fn say_stop(cause: RunCause, found: Option<Finding<'_>>, err: &mut Text) {
+pub fn say_stop(cause: RunCause, problem: Option<CaptureProblem<'_>>, err: &mut Text) {
     err.say(StopText(cause));
     err.say("\n");
-    if let Some(finding) = found {
-        err.say(FoundText(finding));
+    if let Some(problem) = problem {
+        err.say(ProblemText(problem));
     }
 }
 
@@ -232,8 +232,8 @@ pub fn reply_of(alloc: Global, ran: &Ran, printing: &Printing<'_, '_>) -> Reply
     let answer = &ran.flushed.answer;
     let (status, is_json) = (status_of(answer), printing.is_json);
     let main = main_of(alloc, ran, printing);
-    let found = found_of(alloc, printing.found);
-    let stop = stop_of(alloc, answer, &found);
+    let problem = problem_lines(alloc, printing.problem);
+    let stop = stop_of(alloc, answer, &problem);
     let counts = counts_of(alloc, ran, printing);
     let notes = notes_of(alloc, ran, printing);
     let totals = totals_of(alloc, answer, printing.totals);

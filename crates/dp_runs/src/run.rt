@@ -9,10 +9,10 @@ ghost use Rattle.dp_runs.specs.Watching.{IsRunUnder};
 
 use crate::counting::{Counting, Wanted};
 use crate::reply::{Printing, reply_of};
-use dp_captures::{CaptureNames, Finding, Flushed, Inlet, Outlet, finding_of, run_captures};
+use dp_captures::{CaptureNames, CaptureProblem, Flushed, Inlet, Outlet, problem_of, run_captures};
 use dp_console::{FAULT, MEMORY, Reply};
 use dp_counts::{Counts, Losses, Refusals};
-use dp_engine::{Known, Nothing, Silent};
+use dp_engine::{CompiledPrograms, Nothing, Silent};
 use dp_model::Env;
 use dp_pipe::Pipeline;
 use std::alloc::{AllocError, Global};
@@ -72,7 +72,7 @@ pub struct Ran {
 }
 
 /// Runs a pipeline under a watcher.
-fn run_watching<K: Known, I: Inlet, O: Outlet>(
+fn run_watching<K: CompiledPrograms, I: Inlet, O: Outlet>(
     alloc: Global,
     pipeline: Pipeline,
     ins: &mut [I],
@@ -102,7 +102,7 @@ fn run_watching<K: Known, I: Inlet, O: Outlet>(
 
 /// Runs a pipeline from captures to captures, one input and one output for each port, with these allocation calls refused, under a watcher, and writes
 /// out what the outputs hold back. Programs that are among `K` run as machine code; nothing else depends on `K`.
-pub fn run_over<K: Known, I: Inlet, O: Outlet>(
+pub fn run_over<K: CompiledPrograms, I: Inlet, O: Outlet>(
     alloc: Global,
     pipeline: Pipeline,
     ins: &mut [I],
@@ -123,20 +123,20 @@ pub fn run_over<K: Known, I: Inlet, O: Outlet>(
     }
 }
 
-/// The finding for the capture at which a run stopped, if it stopped at one.
-pub fn found_of<'a, I: Inlet>(
+/// What is wrong with the capture at which a run stopped, if it stopped at one.
+pub fn problem_of_run<'a, I: Inlet>(
     names: &'a [CaptureNames],
     ins: &[I],
     ran: &Ran,
-) -> Option<Finding<'a>> {
+) -> Option<CaptureProblem<'a>> {
     match &ran.flushed.answer {
         Ok(_) => None,
-        Err(fault) => finding_of(names, ins, fault.cause, ran.flushed.failure),
+        Err(fault) => problem_of(names, ins, fault.cause, ran.flushed.failure),
     }
 }
 
 /// What is printed of a run: its report, and why it stopped.
-fn report_alone<'p>(env: &'p Env, found: Option<Finding<'p>>) -> Printing<'p, 'static>
+fn report_alone<'p>(env: &'p Env, problem: Option<CaptureProblem<'p>>) -> Printing<'p, 'static>
     ensures text { result.is_json ≡ false }
     ensures streams { result.is_stdout_taken ≡ false }
 {
@@ -147,7 +147,7 @@ fn report_alone<'p>(env: &'p Env, found: Option<Finding<'p>>) -> Printing<'p, 's
         totals: false,
         is_json: false,
         is_stdout_taken: false,
-        found,
+        problem,
         notes: None,
     }
 }
@@ -205,7 +205,7 @@ pub fn run_line<I: Inlet, O: Outlet, P: Write, E: Write>(
         flushed,
         refusals: Refusals::NONE,
     };
-    let found = found_of(&[], ins, &ran);
-    let reply = reply_of(alloc, &ran, &report_alone(&env, found));
+    let problem = problem_of_run(&[], ins, &ran);
+    let reply = reply_of(alloc, &ran, &report_alone(&env, problem));
     print_reply(&reply, out, err)
 }

@@ -14,7 +14,7 @@ use std::fmt;
 
 /// Why something is at fault.
 #[derive(Clone, Copy)]
-pub enum Reason<'a> {
+pub enum FaultReason<'a> {
     /// A file cannot be opened, made, read or written, or is too long.
     Read(ReadError),
     /// What is wrong with a capture.
@@ -25,13 +25,13 @@ pub enum Reason<'a> {
     Words(&'a str),
 }
 
-impl fmt::Display for Reason<'_> {
+impl fmt::Display for FaultReason<'_> {
     fn fmt<W: fmt::Write>(&self, f: &mut fmt::Formatter<W>) -> fmt::Result {
         match *self {
-            Reason::Read(error) => write!(f, "{error}"),
-            Reason::Capture(error) => write!(f, "{error}"),
-            Reason::Pipeline(error) => write!(f, "{}", PipelineWords(error)),
-            Reason::Words(words) => write!(f, "{words}"),
+            FaultReason::Read(error) => write!(f, "{error}"),
+            FaultReason::Capture(error) => write!(f, "{error}"),
+            FaultReason::Pipeline(error) => write!(f, "{}", PipelineWords(error)),
+            FaultReason::Words(words) => write!(f, "{words}"),
         }
     }
 }
@@ -41,14 +41,14 @@ impl fmt::Display for Reason<'_> {
 pub struct Because<'a> {
     /// The file, if the line does not name it.
     pub file: Option<&'a str>,
-    pub reason: Reason<'a>,
+    pub reason: FaultReason<'a>,
     /// What helps, if that is known.
     pub help: Option<&'a str>,
 }
 
 impl<'a> Because<'a> {
     /// A reason, and the file that it is about if the line does not name it.
-    pub fn in_file(file: Option<&'a str>, reason: Reason<'a>) -> Because<'a> {
+    pub fn in_file(file: Option<&'a str>, reason: FaultReason<'a>) -> Because<'a> {
         Because {
             file,
             reason,
@@ -107,7 +107,10 @@ impl fmt::Display for Fault<'_> {
 impl<'a> Fault<'a> {
     /// The fault of a file that was not read.
     pub fn of_unread(file: Unread<'a>) -> Fault<'a> {
-        Fault::File(file.name, Because::in_file(None, Reason::Read(file.error)))
+        Fault::File(
+            file.name,
+            Because::in_file(None, FaultReason::Read(file.error)),
+        )
     }
 
     /// The fault of a pipeline that is not loaded. A file that was not read is not named.
@@ -138,9 +141,12 @@ impl<'a> Fault<'a> {
             | Fault::Output { because, .. } => Some(because),
             Fault::Pipeline(_, Some(file)) => Some(Because::in_file(
                 Some(file.name),
-                Reason::Read(file.error),
+                FaultReason::Read(file.error),
             )),
-            Fault::Pipeline(error, None) => Some(Because::in_file(None, Reason::Pipeline(error))),
+            Fault::Pipeline(error, None) => Some(Because::in_file(
+                None,
+                FaultReason::Pipeline(error),
+            )),
             Fault::Memory | Fault::Region | Fault::Line(_) => None,
         }
     }

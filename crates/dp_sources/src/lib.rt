@@ -19,7 +19,7 @@ mod routes;
 mod source;
 mod subject;
 
-pub use fault::{Because, Fault, Reason, fault_of};
+pub use fault::{Because, Fault, FaultReason, fault_of};
 pub use host::{MAX_NODES, entry_at, folder_with, read, read_sources};
 pub use pipeline_help::say_pipeline_help;
 pub use remedy::{program_of, say_remedy};

@@ -108,7 +108,7 @@ impl Files for Lent<'_> {
     ghost use Rattle.std.specs.Prelude.{Some};
     ghost use Rattle.dp_sources.specs.Sources.{files_of};
 
-    ghost known = { λ lent. Some (files_of lent.0.now) };
+    ghost contents = { λ lent. Some (files_of lent.0.now) };
 
     fn fetch(&mut self, alloc: Global, name: &str) -> Result<Vec<u8>, FetchFault> {
         match self.0.get(name) {

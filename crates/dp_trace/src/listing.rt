@@ -99,7 +99,7 @@ impl ProgramTexts {
 /// The instructions of each node's program: those of ports come first, and then those of rings.
 #[derive(Clone, Copy)]
 pub struct Listing<'a> {
-    /// The number of ports.
+    /// How many of the nodes are ports.
     pub ports: usize,
     /// The instructions of each node.
     pub nodes: &'a [NodeListing<'a>],

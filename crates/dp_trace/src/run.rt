@@ -9,7 +9,7 @@ use crate::listing::{Listing, NodeTexts, ProgramTexts};
 use crate::outcome::Picked;
 pub use crate::tracer::Printed;
 use crate::tracer::Printing;
-use dp_engine::{Known, need};
+use dp_engine::{CompiledPrograms, need};
 use dp_pcap::Feed;
 use dp_pipe::{MAX_RUN_TURNS, Pipeline, RunCause, Traced, trace};
 use std::alloc::{AllocError, Global};
@@ -52,7 +52,7 @@ impl TracedRun {
 
 /// Traces the first records of a pipeline's captures, one reader for each port, with these allocation calls refused, and prints what each
 /// instruction did. No capture is written.
-fn trace_begun<K: Known, R: Feed, O: Write>(
+fn trace_begun<K: CompiledPrograms, R: Feed, O: Write>(
     alloc: Global,
     pipeline: Pipeline,
     ins: &mut [R],
@@ -87,7 +87,7 @@ fn trace_begun<K: Known, R: Feed, O: Write>(
 
 /// Traces the first records of a pipeline's captures, one reader for each port, with these allocation calls refused, and prints the selected ones as
 /// they end. No capture is written. If the pipeline's region is too small the answer is `NoRoom`, which is known before any memory is asked for.
-pub fn trace_records<K: Known, R: Feed, O: Write>(
+pub fn trace_records<K: CompiledPrograms, R: Feed, O: Write>(
     alloc: Global,
     pipeline: Pipeline,
     ins: &mut [R],

@@ -25,9 +25,9 @@ by_itself node = record { entry = node.entry; program = node.program; cert = Non
 
 -- the certificate of a node's program: the program is accepted with it, no other says more if the program is forward, and it has the version of its
 -- rows
-pub record IsInferred (known : Option FileMap) (env : Environment) (node : Node) (cert : Certificate) : Type 0 where
+pub record IsInferred (contents : Option FileMap) (env : Environment) (node : Node) (cert : Certificate) : Type 0 where
   pub program : List Instr
-  pub read : IsProgramOf known node.program program
+  pub read : IsProgramOf contents node.program program
   pub accepted : Certifies program env node.entry cert.rows
   pub most : SaysMost program env node.entry cert.rows
   pub version : cert.version ≡ version_for cert.rows
@@ -37,16 +37,16 @@ abbrev pub SaysCert : Certificate → Reply → Type 0
 SaysCert cert reply = ((reply.status ≡ 0) × (reply.out.bytes.items ≡ spelling cert)) ⊎ (reply.status ≡ 4)
 
 -- there is such a certificate, and it is said
-pub record HasInferred (known : Option FileMap) (env : Environment) (node : Node) (reply : Reply) : Type 0 where
+pub record HasInferred (contents : Option FileMap) (env : Environment) (node : Node) (reply : Reply) : Type 0 where
   pub cert : Certificate
-  pub inferred : IsInferred known env node cert
+  pub inferred : IsInferred contents env node cert
   pub says : SaysCert cert reply
 
 -- why there is none is said
-pub record HasNotInferred (known : Option FileMap) (env : Environment) (node : Node) (reply : Reply) : Type 0 where
+pub record HasNotInferred (contents : Option FileMap) (env : Environment) (node : Node) (reply : Reply) : Type 0 where
   pub error : PipeError
-  pub fails : Fails known env node error
+  pub fails : Fails contents env node error
   pub says : SaysRefused error false reply
 
 abbrev pub SaysInferred : Option FileMap → Environment → Node → Reply → Type 0
-SaysInferred known env node reply = HasInferred known env node reply ⊎ HasNotInferred known env node reply
+SaysInferred contents env node reply = HasInferred contents env node reply ⊎ HasNotInferred contents env node reply

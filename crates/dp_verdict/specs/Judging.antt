@@ -24,65 +24,67 @@ use Rattle.dp_verdict.specs.Reports.{findings_of, status_of}
 
 -- the certificate in the given file; or one with which the program is accepted, or it has none, if it is forward
 abbrev pub IsCertFor : Option FileMap → Environment → Entry → Option (List ℕ) → List Instr → Certificate → Type 0
-IsCertFor known env entry None program cert =
+IsCertFor contents env entry None program cert =
     (Certifies program env entry cert.rows ⊎ HasNone program env entry) × (cert.version ≡ version_for cert.rows)
-IsCertFor known env entry (Some name) program cert = IsCertOf known name (length program) cert
+IsCertFor contents env entry (Some name) program cert = IsCertOf contents name (length program) cert
 
 -- the verdict on a node's program, from its files
-pub record IsJudged (known : Option FileMap) (env : Environment) (node : Node) (diagnosis : Option Diagnosis) : Type 0 where
+pub record IsJudged (contents : Option FileMap) (env : Environment) (node : Node) (diagnosis : Option Diagnosis) : Type 0 where
   pub program : List Instr
   pub cert : Certificate
-  pub reads : IsProgramOf known node.program program
-  pub certified : IsCertFor known env node.entry node.cert program cert
+  pub reads : IsProgramOf contents node.program program
+  pub certified : IsCertFor contents env node.entry node.cert program cert
   pub verdict : MatchOption diagnosis (IsAccepted (question program cert env node.entry)) (IsDiagnosis (question program cert env node.entry))
 
 -- why there is no certificate to judge a program by
 abbrev pub HasNoRows : Option FileMap → Entry → Option (List ℕ) → List Instr → PipeError → Type 0
-HasNoRows known entry None program e = ⊥
-HasNoRows known entry (Some name) program e = IsMissing known entry name e ⊎ IsBadCert known entry name (length program) e
+HasNoRows contents entry None program e = ⊥
+HasNoRows contents entry (Some name) program e = IsMissing contents entry name e ⊎ IsBadCert contents entry name (length program) e
 
 -- why a node is not judged: first what is wrong with its program, then with its certificate; but memory can run out at any time
 abbrev pub IsUnjudged : Option FileMap → Node → PipeError → Type 0
-IsUnjudged known node e =
-    (e ≡ Memory) ⊎ HasNoProgram known node.entry node.program e
-    ⊎ ((program : List Instr) × IsProgramOf known node.program program × HasNoRows known node.entry node.cert program e)
+IsUnjudged contents node e =
+    (e ≡ Memory) ⊎ HasNoProgram contents node.entry node.program e
+    ⊎ ((program : List Instr) × IsProgramOf contents node.program program × HasNoRows contents node.entry node.cert program e)
 
 -- how a diagnosis is reported
 abbrev pub refused_for : Option (List ℕ) → Diagnosis → RefusedAt
 refused_for cert d = record { given = is_some cert; label = d.label; rule = number_of (rule_of d.reason) }
 
 -- the verdict that is reported of a node
-pub record IsFinding (known : Option FileMap) (env : Environment) (node : Node) (verdict : Verdict) : Type 0 where
+pub record IsFinding (contents : Option FileMap) (env : Environment) (node : Node) (verdict : Verdict) : Type 0 where
   pub diagnosis : Option Diagnosis
-  pub judged : IsJudged known env node diagnosis
+  pub judged : IsJudged contents env node diagnosis
   pub entry : verdict.node ≡ node.entry
   pub refused : verdict.refused ≡ option_map (refused_for node.cert) diagnosis
 
 -- one more finding, if the pipeline has the node
-pub record IsMore (known : Option FileMap) (env : Environment) (old new : List Finding) (node : Node) : Type 0 where
+pub record IsMore (contents : Option FileMap) (env : Environment) (old new : List Finding) (node : Node) : Type 0 where
   pub finding : Finding
-  pub found : IsFinding known env node finding.verdict
+  pub found : IsFinding contents env node finding.verdict
   pub grown : new ≡ old ++ finding ∷ []
 
 abbrev pub IsNext : Option FileMap → Subject → Entry → List Finding → List Finding → Type 0
-IsNext known subject entry old new = MatchOption (node_of subject entry) (new ≡ old) (IsMore known (env_of subject) old new)
+IsNext contents subject entry old new = MatchOption (node_of subject entry) (new ≡ old) (IsMore contents (env_of subject) old new)
 
 -- the findings on the nodes with an index below n, in order
-abbrev pub AreFound : Option FileMap → Subject → ℕ → List Finding → Type 0
-AreFound known subject zero findings = findings ≡ []
-AreFound known subject (suc n) findings = (before : List Finding) × AreFound known subject n before × IsNext known subject (entry_at n) before findings
+abbrev pub AreFindings : Option FileMap → Subject → ℕ → List Finding → Type 0
+AreFindings contents subject zero findings = findings ≡ []
+AreFindings contents subject (suc n) findings =
+    (before : List Finding) × AreFindings contents subject n before × IsNext contents subject (entry_at n) before findings
 
 -- on all nodes, or on one
 abbrev pub Explains : Option FileMap → Subject → Option Entry → List Finding → Type 0
-Explains known subject None findings = AreFound known subject 16 findings
-Explains known subject (Some entry) findings = IsNext known subject entry [] findings
+Explains contents subject None findings = AreFindings contents subject 16 findings
+Explains contents subject (Some entry) findings = IsNext contents subject entry [] findings
 
 -- the verdicts are said, and the status is theirs; or 2 if there is no such node
-pub record SaysFound (known : Option FileMap) (subject : Subject) (which : Option Entry) (reply : Reply) : Type 0 where
+pub record SaysFindings (contents : Option FileMap) (subject : Subject) (which : Option Entry) (reply : Reply) : Type 0 where
   pub report : Report
-  pub found : report.fault ≡ None → Explains known subject which (findings_of report)
+  pub found : report.fault ≡ None → Explains contents subject which (findings_of report)
   pub status : reply.status ≡ status_of report
 
 abbrev pub SaysExplained : Option FileMap → Subject → Option Entry → Reply → Type 0
-SaysExplained known subject None reply = SaysFound known subject None reply
-SaysExplained known subject (Some entry) reply = MatchOption (node_of subject entry) (reply.status ≡ 2) (λ node. SaysFound known subject (Some entry) reply)
+SaysExplained contents subject None reply = SaysFindings contents subject None reply
+SaysExplained contents subject (Some entry) reply =
+    MatchOption (node_of subject entry) (reply.status ≡ 2) (λ node. SaysFindings contents subject (Some entry) reply)

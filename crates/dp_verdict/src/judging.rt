@@ -3,7 +3,8 @@
 ghost use Rattle.std.specs.Prelude.{◌≡◌, ◌⊎◌, [], IfErr, IfOk, None, Some, option_map};
 ghost use Rattle.dp_sources.specs.Sources.{files_of};
 ghost use Rattle.dp_sources.specs.Subjects.{asked_node};
-ghost use Rattle.dp_verdict.specs.Judging.{AreFound, Explains, HasNoRows, IsCertFor, IsFinding, IsNext, IsUnjudged, SaysExplained, SaysFound, refused_for};
+ghost use Rattle.dp_verdict.specs.Judging.{AreFindings, Explains, HasNoRows, IsCertFor, IsFinding, IsNext, IsUnjudged};
+ghost use Rattle.dp_verdict.specs.Judging.{SaysExplained, SaysFindings, refused_for};
 ghost use Rattle.dp_verdict.specs.Reports.{findings_of};
 
 use crate::finding::{Finding, RefusedAt, Verdict, Why};
@@ -192,7 +193,7 @@ fn find_at<'a>(
 }
 
 /// Adds the verdicts on all nodes, up to the first fault.
-#[tactic(auto, using(crate::proofs::FoundNext::found_next))]
+#[tactic(auto, using(crate::proofs::FindingsNext::findings_next))]
 fn find_all<'a>(
     alloc: Global,
     subject: Subject<'a>,
@@ -200,7 +201,7 @@ fn find_all<'a>(
     findings: &mut Vec<Finding<'a>>,
 ) -> Result<(), PipeError>
     requires { findings.old.items ≡ [] }
-    ensures { IfOk result (λ _. AreFound (Some (files_of sources.now)) subject.entry 16 findings.new.items) }
+    ensures { IfOk result (λ _. AreFindings (Some (files_of sources.now)) subject.entry 16 findings.new.items) }
 {
     for index in 0..MAX_NODES {
         find_at(alloc, subject, sources, entry_at(index), findings)?;
@@ -254,7 +255,7 @@ fn said_findings(
     which: Option<Entry>,
     is_json: bool,
 ) -> Reply
-    ensures { SaysFound (Some (files_of sources.now)) subject.entry which result }
+    ensures { SaysFindings (Some (files_of sources.now)) subject.entry which result }
 {
     let (report, error) = explained(alloc, subject, sources, which);
     let mut reply = reply_of(alloc, &report, is_json);

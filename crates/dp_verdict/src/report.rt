@@ -34,7 +34,7 @@ impl<'a> Report<'a> {
         }
     }
 
-    /// The findings.
+    /// The verdict on each node, in the order of the nodes.
     pub fn findings(&self) -> &[Finding<'a>]
         ensures { result.now ≡ findings_of self.now }
     {

@@ -9,12 +9,12 @@ ghost use Rattle.dp_engine.specs.Drains.{Written, WrotePart, IsCalledFor};
 ghost use Rattle.dp_engine.specs.Outcomes.{sent_of};
 ghost use Rattle.dp_engine.specs.Engines.{drained, left_at, with_left, flushed};
 
+use crate::compiled_programs::CompiledPrograms;
 use crate::engine::{Engine, WriteFault};
-use crate::known::Known;
 use dp_model::Queue;
 use dp_pcap::{Sink, Time, Unit};
 
-impl<K: Known> Engine<K> {
+impl<K: CompiledPrograms> Engine<K> {
     /// Writes the packets of a port's transmit list as records of that time, first to last, in the format of classic pcap 2.4, and frees them, even
     /// if the writer fails. Returns how many records were written; an error has how many were written whole before the writer failed.
     #[inline(always)]

@@ -7,14 +7,14 @@ ghost use Rattle.dp_engine.specs.Engines.{drained, max_turns};
 ghost use Rattle.dp_engine.specs.Shapes.{AreWaiting};
 
 use crate::batch::{BatchSize, SentRecord};
+use crate::compiled_programs::CompiledPrograms;
 use crate::engine::{Engine, Turn};
-use crate::known::Known;
 use dp_model::{PoolSpec, Queue};
 
 /// What a pass did.
 #[derive(Clone, Copy, Debug, PartialEq, Eq)]
 pub struct Pass {
-    /// The turn.
+    /// What became of the record, and the node runs.
     pub turn: Turn,
     /// What it sent: the number of records, and of their bytes.
     pub sent: BatchSize,
@@ -43,7 +43,7 @@ fn widest_room(pools: &[PoolSpec]) -> usize
     room
 }
 
-impl<K: Known> Engine<K> {
+impl<K: CompiledPrograms> Engine<K> {
     /// The size of a batch with room for whatever a turn sends: as many records as there are buffers, each with the largest data room.
     pub fn batch_size(&self) -> BatchSize
         ensures { result ≡ max_batch self.now.setting.env }

@@ -7,8 +7,8 @@ ghost use Rattle.dp_model.specs.Runs.{between};
 ghost use Rattle.dp_engine.specs.Reports.{IsReport, port_report, pool_reports};
 ghost use Rattle.dp_engine.specs.Tallies.{refused_of};
 
+use crate::compiled_programs::CompiledPrograms;
 use crate::engine::Engine;
-use crate::known::Known;
 use crate::machine::Machine;
 use crate::report::{InputState, PoolReport, PortReport, Report, Tallies};
 use arrayvec::ArrayVec;
@@ -74,7 +74,7 @@ fn pool_reports(machine: &Machine, specs: &[PoolSpec]) -> ArrayVec<PoolReport, 8
     pools
 }
 
-impl<K: Known> Engine<K> {
+impl<K: CompiledPrograms> Engine<K> {
     /// The counts so far. The states of the inputs are open.
     pub fn report(&self) -> Report
         ensures { IsReport self.now result }

@@ -7,11 +7,11 @@ ghost use Rattle.dp_lpm.specs.Faults.{add_fault, delete_fault};
 ghost use Rattle.dp_lpm.specs.Routes.{RouteTable};
 ghost use Rattle.dp_engine.specs.Rerouting.{RefusesRoute, with_tables};
 
+use crate::compiled_programs::CompiledPrograms;
 use crate::engine::Engine;
-use crate::known::Known;
 use crate::rerouting::RouteFault;
 
-impl<K: Known> Engine<K> {
+impl<K: CompiledPrograms> Engine<K> {
     /// Adds a route to a table, or replaces the hop of its route of this prefix and depth, as [`Lpm::add`](dp_lpm::Lpm::add) does. The next turn has
     /// it. A refused call changes nothing.
     pub fn add_route(&mut self, table: u8, ip: u32, depth: u8, hop: u32) -> Result<(), RouteFault>

@@ -6,8 +6,8 @@ ghost use Rattle.dp_engine.specs.Engines.{max_turns, tallies_at, counted_at, rec
 ghost use Rattle.dp_engine.specs.Outcomes.{outcome_of};
 ghost use Rattle.dp_engine.specs.Watching.{WatchesTurn};
 
+use crate::compiled_programs::CompiledPrograms;
 use crate::engine::{Engine, Outcome, Turn};
-use crate::known::Known;
 use crate::report::Tallies;
 use crate::serving::{arrive, serve};
 use crate::view::View;
@@ -27,7 +27,7 @@ fn count(tallies: &mut [Tallies; 8], port: u8, outcome: Outcome)
     }
 }
 
-impl<K: Known> Engine<K> {
+impl<K: CompiledPrograms> Engine<K> {
     /// Takes a turn with a record of at most 262,144 bytes at a port, which must exist: receives it and runs the port's program, or drops it. Then up
     /// to 32 node runs follow, each on the front packet of the lowest ring that has one. An engine takes at most 1,099,511,627,776 turns (2^40). No
     /// node run is ever stuck.

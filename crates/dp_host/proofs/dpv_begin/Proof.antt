@@ -44,7 +44,7 @@ abbrev stayed : Stays f.ended.signature.params f.ended.kept
 stayed = (stay_dropped _ yes, (stay_dropped _ yes, (stay_dropped _ yes, (stay_dropped _ yes, tt))))
 
 abbrev Says : List ℕ → List ℕ → R.Denot → Type 0
-Says toml packed h = Opens toml packed h.running h.missing h.reason
+Says toml packed h = Opens toml packed h.running h.missing h.explanation
 
 lies : {M : Type 1} {𝓤 : Ura M} (𝓛 : Logic 𝓤) (r : R.Denot) (v : Val) (b o : ℕ)
     → ent 𝓤 (sep 𝓤 (sem 𝓛 (cell_at full_share R.mir (v ∷ []) b o)) (sem 𝓛 (R.own_val r (v ∷ [])))) (sem 𝓛 (lies_at R full_share (block_ptr b o) r))

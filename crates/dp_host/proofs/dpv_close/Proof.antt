@@ -44,7 +44,7 @@ abbrev stayed : Stays f.ended.signature.params f.ended.kept
 stayed = (stay_dropped _ yes, (stay_ref (0 ∷ []) tt (plain (λ _. F)), tt))
 
 abbrev Says : R.Denot → ℕ → F.Denot → R.Denot → F.Denot → Type 0
-Says h n old h' x = CloseAnswers h.running h.missing h'.running h'.missing old x n × (h'.reason ≡ h.reason)
+Says h n old h' x = CloseAnswers h.running h.missing h'.running h'.missing old x n × (h'.explanation ≡ h.explanation)
 
 pub dpv_close_spec : {M : Type 1} → statement M
 dpv_close_spec 𝓤 𝓛 𝓜 𝓡 wired =

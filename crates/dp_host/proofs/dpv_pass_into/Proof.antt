@@ -62,7 +62,7 @@ stayed = (
 abbrev Says : R.Denot → ℕ → ℕ → List ℕ → List E.Denot → List ℕ → ℕ → R.Denot → List E.Denot → List ℕ → F.Denot → Type 0
 Says h port time frame records bytes n h' records' bytes' x =
     PassAnswers h.running h.missing h'.running port time frame (record { records = records; bytes = bytes }) (record { records = records'; bytes = bytes' }) x n
-    × (h'.missing ≡ h.missing) × (h'.reason ≡ h.reason)
+    × (h'.missing ≡ h.missing) × (h'.explanation ≡ h.explanation)
 
 pub dpv_pass_into_spec : {M : Type 1} → statement M
 dpv_pass_into_spec 𝓤 𝓛 𝓜 𝓡 wired =

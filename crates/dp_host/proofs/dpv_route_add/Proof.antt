@@ -44,7 +44,7 @@ abbrev stayed : Stays f.ended.signature.params f.ended.kept
 stayed = (stay_dropped _ yes, (stay_ref (0 ∷ []) tt (plain (λ _. F)), tt))
 
 abbrev Says : R.Denot → ℕ → F.Denot → R.Denot → F.Denot → Type 0
-Says h n old h' x = AddAnswers old h.running h.missing h'.running n × (h'.missing ≡ h.missing) × (h'.reason ≡ h.reason) × (x ≡ old)
+Says h n old h' x = AddAnswers old h.running h.missing h'.running n × (h'.missing ≡ h.missing) × (h'.explanation ≡ h.explanation) × (x ≡ old)
 
 pub dpv_route_add_spec : {M : Type 1} → statement M
 dpv_route_add_spec 𝓤 𝓛 𝓜 𝓡 wired =

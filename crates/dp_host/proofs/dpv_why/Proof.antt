@@ -34,16 +34,16 @@ use denote.Triple.Walked.{Stays, walk_of, stay_dropped, Goes-dropped, stay_ref, 
 use Rattle.dp_host.specs.contracts.dpv_why as f
 use Rattle.dp_host.proofs.dpv_why.Statement.{statement}
 use Rattle.dp_host.proofs.dpv_why.Code as code
-use Rattle.dp_host.specs.contracts.host.reason as g
-use Rattle.dp_host.proofs.host.reason.Met.{met}
+use Rattle.dp_host.specs.contracts.host.explanation as g
+use Rattle.dp_host.proofs.host.explanation.Met.{met}
 use Rattle.dp_host.specs.contracts.host.Host.{the_row as R}
-use Rattle.dp_host.specs.contracts.numbers.Reason.{the_row as F}
+use Rattle.dp_host.specs.contracts.numbers.Explanation.{the_row as F}
 
 abbrev stayed : Stays f.ended.signature.params f.ended.kept
 stayed = (stay_dropped _ yes, (stay_ref (0 ∷ []) tt (plain (λ _. F)), tt))
 
 abbrev Says : R.Denot → ℕ → F.Denot → R.Denot → F.Denot → Type 0
-Says h n old h' x = (h' ≡ h) × (x ≡ h.reason) × (n ≡ 0)
+Says h n old h' x = (h' ≡ h) × (x ≡ h.explanation) × (n ≡ 0)
 
 pub dpv_why_spec : {M : Type 1} → statement M
 dpv_why_spec 𝓤 𝓛 𝓜 𝓡 wired =
@@ -85,7 +85,7 @@ dpv_why_spec 𝓤 𝓛 𝓜 𝓡 wired =
     -- [the arguments; what the frame's holder keeps; the lender's part; the token of β; that of α]
     nothing ! $ move ! (4 ∷ 0 ∷ []) $ join ! $ move ! (4 ∷ 0 ∷ []) $ join ! $ join ! $
     nothing ! $ move ! (1 ∷ 0 ∷ []) $ use2 𝓛 (raw (G.pre z)) (id⊢ 𝓤 _) $
-    calls_at ! (framed 𝓤 𝓛.H 𝓜 (tables 𝓤 𝓛.H 𝓜 𝓡 𝓡.env)) G (met 𝓤 𝓛 𝓜 𝓡 (code.calls-dp_host::host::reason 𝓡.env wired)) z
+    calls_at ! (framed 𝓤 𝓛.H 𝓜 (tables 𝓤 𝓛.H 𝓜 𝓡 𝓡.env)) G (met 𝓤 𝓛 𝓜 𝓡 (code.calls-dp_host::host::explanation 𝓡.env wired)) z
     (and_then ! (get ! refl) (and_then ! (get ! refl) (no_more !))) (λ v.
     use1 𝓛 (later (some (λ (n : ℕ). ((‵ (flft (α ∷ []) full_share) ⊛ (‵ (flft (β ∷ []) full_share) ⊛ ‵ ftrue)) ⊛ ‵ (u32.own_val n (v ∷ []))) ⊛
     some (λ (ws : R.Denot × (F.Denot × Unit {0})). ‵ (lasts g.ended z.0.0 z.0.3 ws) ⊛ raw (fact 𝓤 (let (h', (out, _)) = ws in Says h n r.now h' out))))))

@@ -76,7 +76,6 @@ pub fn code_of(error: Option<Error>) -> Option<i32> {
     error.and_then(|error| error.raw_os_error())
 }
 
-// Reads twice.
 fn read_twice<R: Read + Drop>(reader: &mut R) {
     let mut buf = [0; 24];
     let _first = reader.read(&mut buf);

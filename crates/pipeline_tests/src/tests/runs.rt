@@ -352,7 +352,7 @@ fn reply<'p>(
         totals: false,
         is_json: said.is_json,
         is_stdout_taken: said.is_stdout_taken,
-        found: None,
+        problem: None,
         notes: Some(Notes {
             region: 65_536,
             needed: 4096,

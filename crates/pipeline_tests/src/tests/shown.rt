@@ -1,7 +1,7 @@
 //! The texts of causes, of link types and of the numbers of a run.
 
 use Shown::{Cause, Cure, Link, Sums};
-use dp_captures::{LinkType, Reason, Totals};
+use dp_captures::{CaptureReason, LinkType, Totals};
 use dp_engine::{InputState, PortReport};
 use dp_lpm::LpmError;
 use dp_model::{Entry, EnvError};
@@ -132,8 +132,11 @@ const MANY: PortReport = PortReport {
 fn text_of(alloc: Global, shown: &Shown) -> Result<String, AllocError> {
     match shown {
         Cause(error) => format!(in alloc; "{error}"),
-        Link(link) => format!(in alloc; "{}", Reason::Link(LinkType(*link))),
-        Cure(link) => String::from_str(alloc, Reason::Link(LinkType(*link)).cure().unwrap_or("")),
+        Link(link) => format!(in alloc; "{}", CaptureReason::Link(LinkType(*link))),
+        Cure(link) => String::from_str(
+            alloc,
+            CaptureReason::Link(LinkType(*link)).cure().unwrap_or(""),
+        ),
         Sums(ports) => format!(in alloc; "{}", Totals(ports)),
     }
 }

@@ -1,5 +1,5 @@
 -- The text is in front, and the zeros that the room had follow it.
-use Rattle.dp_host.proofs.Reasons.{padded_is}
+use Rattle.dp_host.proofs.Explanations.{padded_is}
 use Rattle.dp_host.proofs.host.padded.Goals as goal
 
 pub returns : goal.returns

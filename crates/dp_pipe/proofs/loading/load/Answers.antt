@@ -31,13 +31,13 @@ pub returns-in_err-nodes-clause-fails : goal.returns-in_err-nodes-clause-fails
 returns-in_err-nodes-clause-fails g c =
     let fails = rw (c.deref.ensures.value, c.deref-2.ensures.value) at c.in_err-nodes.ensures.fails in
     let p = err_from_is_err_and c.from_residual-in_err-nodes.result c.from_residual-in_err-nodes.ensures.1 in
-    rw (p.1, p.2) (bad_node (g.F.Files.known c.args.files.now) c.args.how c.args.text.now c.in_ok-config.config c.in_err-nodes.field-0.0
+    rw (p.1, p.2) (bad_node (g.F.Files.contents c.args.files.now) c.args.how c.args.text.now c.in_ok-config.config c.in_err-nodes.field-0.0
     c.in_ok-config.ensures.ok fails)
 
 pub new-requires-clause-nodes : goal.new-requires-clause-nodes
 new-requires-clause-nodes g c =
     let loaded = rw (c.deref.ensures.value, c.deref-2.ensures.value) at c.in_ok-nodes.ensures.loaded in
-    fit_nodes (g.F.Files.known c.args.files.now) c.args.how c.args.text.now c.in_ok-config.config c.in_ok-nodes.nodes.items c.in_ok-config.ensures.ok loaded
+    fit_nodes (g.F.Files.contents c.args.files.now) c.args.how c.args.text.now c.in_ok-config.config c.in_ok-nodes.nodes.items c.in_ok-config.ensures.ok loaded
 
 pub new-requires-clause-tables : goal.new-requires-clause-tables
 new-requires-clause-tables g c = tables_of c.in_ok-config.ensures.ok.setup c.in_ok-config.config c.in_ok-config.ensures.ok.config
@@ -54,8 +54,9 @@ new-requires-clause-ports g c = ports_of c.in_ok-config.ensures.ok.setup c.in_ok
 pub returns-clause-loaded : goal.returns-clause-loaded
 returns-clause-loaded g c =
     let loaded = rw (c.deref.ensures.value, c.deref-2.ensures.value) at c.in_ok-nodes.ensures.loaded in
-    subst (λ (p : Plan). IsLoadedFrom (g.F.Files.known c.args.files.now) c.args.how c.args.text.now p) (sym c.new.ensures)
-    (loaded_from (g.F.Files.known c.args.files.now) c.args.how c.args.text.now c.in_ok-config.config c.in_ok-nodes.nodes.items c.in_ok-config.ensures.ok loaded)
+    subst (λ (p : Plan). IsLoadedFrom (g.F.Files.contents c.args.files.now) c.args.how c.args.text.now p) (sym c.new.ensures)
+    (loaded_from (g.F.Files.contents c.args.files.now) c.args.how c.args.text.now c.in_ok-config.config c.in_ok-nodes.nodes.items c.in_ok-config.ensures.ok
+    loaded)
 
 pub new-requires-clause-region : goal.new-requires-clause-region
 new-requires-clause-region g c =

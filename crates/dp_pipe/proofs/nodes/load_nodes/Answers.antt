@@ -13,7 +13,7 @@ returns-in_err-checked-clause-fails g c =
     let nodes : List Node = all_nodes c.args.how (map (λ port. node_names port.files) c.args.ports.now) (map node_names c.args.rings.now) in
     let node : Node = node_of c.args.how c.node_at-node.result.0 (node_names c.node_at-node.result.1.now) in
     let p = err_from_is_err_and c.from_residual.result c.from_residual.ensures.1 in
-    rw (p.1, p.2) (inr (fails_here (g.F.Files.known c.args.files.now) (g.F.Files.known c.loop-index.files) c.args.env.now nodes c.loop-index.index node
+    rw (p.1, p.2) (inr (fails_here (g.F.Files.contents c.args.files.now) (g.F.Files.contents c.loop-index.files) c.args.env.now nodes c.loop-index.index node
     c.loop-index.nodes.items c.in_err-checked.field-0.0
     c.loop-index.invariant.stays (c.node_at-node.ensures c.args.how) c.loop-index.invariant.loaded c.in_err-checked.ensures.fails))
 
@@ -24,7 +24,7 @@ loop-index-preserved g c =
     record {
       stays = c.in_ok-checked.ensures.stays ∙ c.loop-index.invariant.stays;
       loaded = rw c.in_ok-push.ensures.items
-          (one_more (g.F.Files.known c.args.files.now) (g.F.Files.known c.loop-index.files) c.args.env.now nodes c.loop-index.index node
+          (one_more (g.F.Files.contents c.args.files.now) (g.F.Files.contents c.loop-index.files) c.args.env.now nodes c.loop-index.index node
           c.loop-index.nodes.items c.in_ok-checked.checked
           c.loop-index.invariant.stays (c.node_at-node.ensures c.args.how) c.loop-index.invariant.loaded c.in_ok-checked.ensures.loaded);
     }
@@ -41,5 +41,5 @@ returns-clause-loaded g c =
       length-map c.args.rings.now node_names,
       c.loop-index-test.false,
     ) in
-    whole (g.F.Files.known c.args.files.now) c.args.env.now (all_nodes c.args.how ports rings) c.loop-index.index c.loop-index.nodes.items many
+    whole (g.F.Files.contents c.args.files.now) c.args.env.now (all_nodes c.args.how ports rings) c.loop-index.index c.loop-index.nodes.items many
     c.loop-index.invariant.loaded

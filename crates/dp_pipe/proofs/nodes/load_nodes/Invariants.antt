@@ -6,7 +6,8 @@ use Rattle.dp_pipe.proofs.nodes.load_nodes.Given as goal
 
 abbrev pub invariant-loop-index : goal.invariant-loop-index
 invariant-loop-index g l = record {
-  stays : g.F.Files.known l.files ≡ g.F.Files.known l.fn.files;
-  loaded : AreLoaded (g.F.Files.known l.fn.files) l.env (take l.index (all_nodes l.how (map (λ port. node_names port.files) l.ports) (map node_names l.rings)))
+  stays : g.F.Files.contents l.files ≡ g.F.Files.contents l.fn.files;
+  loaded : AreLoaded (g.F.Files.contents l.fn.files) l.env
+      (take l.index (all_nodes l.how (map (λ port. node_names port.files) l.ports) (map node_names l.rings)))
       l.nodes.items;
 }

@@ -6,5 +6,5 @@ use Rattle.dp_pipe.proofs.single.load_single.Goals as goal
 
 pub new-requires-2-clause-nodes : goal.new-requires-2-clause-nodes
 new-requires-2-clause-nodes g c =
-    single_nodes (g.F.Files.known c.args.files.now) c.args.env (node_names c.in_ok-port.port.files) c.in_ok-node.node c.push.new.self.items
+    single_nodes (g.F.Files.contents c.args.files.now) c.args.env (node_names c.in_ok-port.port.files) c.in_ok-node.node c.push.new.self.items
     c.requires.port (search rules) c.in_ok-node.ensures.loaded

@@ -13,7 +13,7 @@ returns-then-printing-clause-parts c whole =
       parts = record {
         totals = c.totals_of-totals.result.bytes.items;
         report = c.main_of-main.result.bytes.items;
-        more = c.found_of-found.result.bytes.items;
+        more = c.problem_lines-problem.result.bytes.items;
         counts = c.counts_of-counts.result.bytes.items;
         notes = c.notes_of-notes.result.bytes.items;
       };
@@ -35,7 +35,7 @@ returns-clause-parts c whole =
       parts = record {
         totals = c.totals_of-totals.result.bytes.items;
         report = c.main_of-main.result.bytes.items;
-        more = c.found_of-found.result.bytes.items;
+        more = c.problem_lines-problem.result.bytes.items;
         counts = c.counts_of-counts.result.bytes.items;
         notes = c.notes_of-notes.result.bytes.items;
       };

@@ -1,8 +1,8 @@
 -- The findings so far.
 use Rattle.std.specs.Prelude.{Some}
-use Rattle.dp_verdict.specs.Judging.{AreFound}
+use Rattle.dp_verdict.specs.Judging.{AreFindings}
 use Rattle.dp_sources.specs.Sources.{files_of}
 use Rattle.dp_verdict.proofs.judging.find_all.Given as goal
 
 abbrev pub invariant-loop-index : goal.invariant-loop-index
-invariant-loop-index l = AreFound (Some (files_of l.sources)) l.subject l.index l.findings.items
+invariant-loop-index l = AreFindings (Some (files_of l.sources)) l.subject l.index l.findings.items
