@@ -113,7 +113,9 @@ ASM = """fault: pipeline 6 Asm port 0 line 2 cause 5
 FAULTY = tuple(Case(command, "exit\nadj p0,65536\n", (), 3, "", ASM) for command in ("explain-one", "show-one", "infer-one"))
 INFERRED = (
     Case("infer-one", STRIP, (), 0, "dpv-cert 1\n" + "".join(f"{row:0<306}\n" for row in (SOLE, LONGER, SHORTER, NONE, SOLE, NONE))),
-    Case("infer-one", "exit\n", (), 1, "port 0 not inferred at 0 by J10\n"),
+    Case("infer-one", "exit\n", (), 1, "port 0 not inferred at 0 by J10\n",
+         "  at: node.dpv:1: exit\n  J10: at exit no register holds a packet\n  known:  p0 sole, headroom 128, at most 1 segment\n"
+         "  wanted: p0 empty\n  help:   free p0 before it\n"),
 )
 UNFIT = "  because: the certificate node.cert does not fit the program node.dpv\n"
 RUN = (
@@ -193,7 +195,7 @@ OF_PIPELINE = (
   3      exit        + p0 empty
 """, ""),
     (["show", "case.toml", "ring1"], 2, "", "error: the pipeline has no ring 1\n"),
-    (["infer", "case.toml", "port4"], 1, "port 1 not inferred at 0 by J9\n", ""),
+    (["infer", "case.toml", "port4"], 1, "port 1 not inferred at 0 by J9\n", "  help: dpv explain case.toml port1 explains why\n"),
 )
 
 # Programs, and the most labels along which control goes: through STRIP, PASS and LATE not by the first exit; and COUNT has 7 instructions.
@@ -235,7 +237,8 @@ def cost_cases(program: str, folder: pathlib.Path) -> list[bool]:
         passed.append(is_said(program, folder, ["check", "cost.toml", "--cost"], 0, first + said, ""))
     (folder / "lost.dpv").write_text(LOST)
     (folder / "cost.toml").write_text(costs(["strip.dpv"], [])[0].replace("strip", "lost"))
-    passed.append(is_said(program, folder, ["check", "cost.toml", "--cost"], 1, "port 0 not inferred at 0 by J10\n", ""))
+    help_line = "  help: dpv explain cost.toml port0 explains why\n"
+    passed.append(is_said(program, folder, ["check", "cost.toml", "--cost"], 1, "port 0 not inferred at 0 by J10\n", help_line))
     return passed
 
 

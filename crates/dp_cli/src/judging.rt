@@ -2,13 +2,14 @@
 
 ghost use Rattle.std.specs.Prelude.{◌≡◌, ◌⊎◌, IfErr, IfOk, codes};
 ghost use Rattle.clap.specs.Matches.{found_of};
+ghost use Rattle.dp_sources.specs.Subjects.{env_of};
 ghost use Rattle.dp_cli.specs.Commands.{ChecksFile, InfersNode, InfersOne, IsLoaded, IsUndone};
 
 use crate::reading::{node_in, read_file, read_nodes, read_pipeline, which_in};
 use crate::request::{Request, wrong};
 use dp_console::{DONE, Reply};
 use dp_model::{Entry, Env};
-use dp_pipe::{How, Pipeline, load};
+use dp_pipe::{How, PipeError, Pipeline, load};
 use dp_script::mem_reply;
 use dp_show::{Counted, Form, compile_reply, counts_in, say_sizes, show};
 use dp_sources::{Asked, Lent, Subject, one_env};
@@ -16,9 +17,19 @@ use dp_verdict::{check_text, explain, infer, infer_one, say_costs, unloaded};
 use std::rt::Files;
 
 /// Adds what the words ask for of a pipeline whose programs are accepted.
-fn say_more<R>(request: &Request<'_, '_, R>, pipeline: &Pipeline, reply: &mut Reply)
+fn say_more<R>(
+    request: &Request<'_, '_, R>,
+    loaded: &Result<Pipeline, PipeError>,
+    reply: &mut Reply,
+)
     ensures { reply.new.status ≡ reply.old.status }
 {
+    let Ok(pipeline) = loaded else {
+        return;
+    };
+    if reply.status != DONE {
+        return;
+    }
     if request.flag("cost") {
         say_costs(request.alloc, pipeline, &mut *reply);
     }
@@ -48,11 +59,7 @@ fn checked<R: Files>(request: &Request<'_, '_, R>) -> Result<Reply, Reply>
     let subject = given.subject();
     let sources = read_nodes(request, subject, None, How::Given, is_json)?;
     let (mut reply, loaded) = check_text(request.alloc, given.text(), subject, &sources, is_json);
-    if reply.status == DONE
-        && let Ok(pipeline) = &loaded
-    {
-        say_more(request, pipeline, &mut reply);
-    }
+    say_more(request, &loaded, &mut reply);
     Ok(reply)
 }
 
@@ -113,7 +120,9 @@ fn explained_one<R: Files>(request: &Request<'_, '_, R>) -> Result<Reply, Reply>
 }
 
 /// A program without a certificate, for the port of `dpv one`.
-fn alone<'a>(env: &'a Env, program: &'a str) -> Subject<'a> {
+fn alone<'a>(env: &'a Env, program: &'a str) -> Subject<'a>
+    ensures { env_of result ≡ env.now }
+{
     Subject::Single {
         env,
         program,

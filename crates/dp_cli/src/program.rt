@@ -81,23 +81,42 @@ fn reply_to<K: CompiledPrograms, R: Files>(
     }
 }
 
-/// Runs the command of this name, prints its reply, and returns the status.
+/// Prints the reply to a command that prints nothing else, and returns the status.
+fn answer_command<K: CompiledPrograms, R: Files, O: Write, E: Write>(
+    request: &Request<'_, '_, R>,
+    name: &str,
+    reports_interpreted: bool,
+    console: &mut Console<O, E>,
+) -> u8
+    ensures { EndsCommand R.File.remaining name.now (found_of request.now.words.now) console.old.has_failed console.new.has_failed
+        (O.contents console.old.out) (O.contents console.new.out) (E.contents console.old.err) (E.contents console.new.err) result }
+{
+    let reply = reply_to::<K, R>(request, name, reports_interpreted);
+    end(console, &reply)
+}
+
+/// Runs the command of this name, prints its reply, and returns the status. A trace prints its records as they end.
 fn run_command<K: CompiledPrograms, R: Files, O: Write, E: Write>(
     request: &Request<'_, '_, R>,
     name: &str,
     reports_interpreted: bool,
     console: &mut Console<O, E>,
 ) -> u8
-    ensures { (name.now ≡ codes "trace" → ⊥) → (name.now ≡ codes "trace-one" → ⊥) → EndsCommand R.File.remaining name.now (found_of request.now.words.now)
-        console.old.has_failed console.new.has_failed (O.contents console.old.out) (O.contents console.new.out) (E.contents console.old.err)
-        (E.contents console.new.err) result }
+    ensures { (name.now ≡ codes "trace" → ⊥) → (name.now ≡ codes "trace-one" → ⊥) → EndsCommand R.File.remaining name.now
+        (found_of request.now.words.now) console.old.has_failed console.new.has_failed (O.contents console.old.out) (O.contents console.new.out)
+        (E.contents console.old.err) (E.contents console.new.err) result }
 {
-    let reply = match name {
-        "trace" => trace_file(request, &mut console.out),
-        "trace-one" => trace_one(request, &mut console.out),
-        _ => reply_to::<K, R>(request, name, reports_interpreted),
-    };
-    end(console, &reply)
+    match name {
+        "trace" => {
+            let reply = trace_file(request, &mut console.out);
+            end(console, &reply)
+        }
+        "trace-one" => {
+            let reply = trace_one(request, &mut console.out);
+            end(console, &reply)
+        }
+        _ => answer_command::<K, R, O, E>(request, name, reports_interpreted, console),
+    }
 }
 
 /// Runs the command of the command line, and returns the status.

@@ -568,7 +568,8 @@ fn run_single<R: Files>(
     };
     let ready = ready_of(request, pipeline, subject, &sources, None)?;
     let pattern = Vec::new(alloc);
-    run_ready::<Nothing, R>(request, ready, &given, pattern, options)
+    let reply = run_ready::<Nothing, R>(request, ready, &given, pattern, options)?;
+    Ok(reply)
 }
 
 /// `dpv one NODE CERT IN OUT`.

@@ -1,0 +1,17 @@
+-- `run_single`: the pipeline of one port is run over the two captures that are named.
+use Rattle.dp_sources.specs.Sources.{files_of}
+use Rattle.dp_cli.proofs.running.run_single.Goals as goal
+
+pub returns-clause-runs : goal.returns-clause-runs
+returns-clause-runs g c = record {
+  texts = files_of c.in_ok-sources.sources;
+  p = c.in_ok-ready.ready.pipeline;
+  loaded = rw (c.in_ok-ready.ensures.ready, ← c.copy.ensures.same) c.in-Ok-load_single.ensures.loaded;
+  inputs = c.in-Ok.given.inputs.items;
+  outputs = c.in-Ok.given.outputs.items;
+  reads_from = c.in-Ok.ensures.inputs;
+  writes_to = c.in-Ok.ensures.outputs;
+  is_json = c.options_in-options.result.is_json;
+  reads = c.in_ok-ready.ready.reads.items;
+  runs = rw (c.new-pattern.ensures.items) at c.in_ok-reply.ensures.runs;
+}
