@@ -130,7 +130,7 @@ impl Serialize for NodeLines<'_> {
 
 /// Writes a member.
 fn write_member<T: Serialize, S: Serializer>(
-    name: &'static str,
+    name: &str,
     value: &T,
     out: &mut S,
 ) -> Result<(), S::Error> {
@@ -140,7 +140,7 @@ fn write_member<T: Serialize, S: Serializer>(
 
 /// Writes a member, if it is wanted.
 fn write_wanted<T: Serialize, S: Serializer>(
-    name: &'static str,
+    name: &str,
     value: &Option<T>,
     out: &mut S,
 ) -> Result<(), S::Error> {
