@@ -1,3 +1,4 @@
+pub mod Costs
 pub mod Serving
 pub mod Files
 pub mod Reported
