@@ -1,4 +1,4 @@
-pub mod Costs
+pub mod Unread
 pub mod Serving
 pub mod Files
 pub mod Reported

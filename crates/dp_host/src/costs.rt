@@ -41,7 +41,7 @@ fn stats_of(cost: Cost) -> CostStats
 }
 
 /// Sets `stats` to the cost of the program that a text reads as; returns 0 or the number of a refusal.
-#[tactic(auto, using(crate::proofs::Costs::no_program))]
+#[tactic(auto, using(crate::proofs::Unread::no_program))]
 pub(crate) fn program_cost(alloc: Global, text: &[u8], stats: &mut CostStats) -> u32
     ensures { CostAnswers text.now stats.old stats.new result }
 {

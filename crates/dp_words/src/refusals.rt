@@ -218,24 +218,28 @@ enum SourceHint {
 }
 
 impl SourceHint {
+    /// What helps a program with too few bytes or too little room, if that is known.
+    fn of_too_little(node: BuiltFor, is_received: bool, part: Measure) -> Option<SourceHint> {
+        match (part, node) {
+            (Measure::Headroom, _) if !is_received => Some(SourceHint::Room),
+            (_, BuiltFor::Ring) => Some(SourceHint::Given),
+            (_, BuiltFor::Port(segs)) if segs > 1 => Some(SourceHint::Segments(segs)),
+            _ => None,
+        }
+    }
+
     /// What helps a program that was built for this node, if that is known.
     fn of(node: BuiltFor, reason: Reason) -> Option<SourceHint> {
-        match (node, reason) {
-            (_, Reason::NoPort { ports, .. }) => Some(SourceHint::Ports(ports)),
-            (
-                _,
-                Reason::TooLittle {
-                    packet,
-                    part: Measure::Headroom,
-                    ..
-                },
-            ) if packet.number() != 0 => Some(SourceHint::Room),
-            (BuiltFor::Ring, Reason::TooLittle { .. } | Reason::NotAlone { .. }) => {
-                Some(SourceHint::Given)
+        match reason {
+            Reason::NoPort { ports, .. } => Some(SourceHint::Ports(ports)),
+            Reason::TooLittle { packet, part, .. } => {
+                let number = packet.number();
+                SourceHint::of_too_little(node, number == 0, part)
             }
-            (BuiltFor::Port(segs), Reason::TooLittle { .. }) if segs > 1 => {
-                Some(SourceHint::Segments(segs))
-            }
+            Reason::NotAlone { .. } => match node {
+                BuiltFor::Ring => Some(SourceHint::Given),
+                BuiltFor::Port(_) => None,
+            },
             _ => None,
         }
     }
