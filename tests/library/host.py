@@ -213,7 +213,7 @@ def hosts(library: pathlib.Path, folder: pathlib.Path) -> int:
         print("host: dpdk.c NOT TRIED, since DPDK is not installed")
         return findings
     host = compile_host("dpdk", library, folder, words)
-    findings += costs_refused(host, folder, [*NO_CARD, "--vdev=net_null0", "--"], ["1", "1"])
+    findings += costs_refused(host, folder, [*NO_CARD, "--vdev=net_null0,no-rx=1", "--"], ["1", "1"])
     shutil.copytree(TOP / "examples", folder / "examples")
     found = sorted(it for it in (folder / "examples").glob("*/*.toml") if it.parent.name not in ("refused", "live"))
     for pipeline, turns in itertools.product(found, ([], ["--turns", "1"], ["--turns", "7"])):

@@ -101,10 +101,10 @@ pub fn check<'a>(
 }
 
 /// Says why a program by itself has no certificate.
-fn say_reason(
+fn say_reason<'a>(
     alloc: Global,
-    subject: Subject<'_>,
-    sources: &Sources,
+    subject: Subject<'a>,
+    sources: &'a Sources,
     error: PipeError,
     err: &mut Text,
 ) {
@@ -114,11 +114,13 @@ fn say_reason(
     let Some(asked) = subject.node(node) else {
         return;
     };
-    if let Ok(finding) = finding_of(alloc, sources, env, asked)
-        && let Some(why) = &finding.why
-    {
-        err.say(ReasonLines(why));
-    }
+    let Ok(finding) = finding_of(alloc, sources, env, asked) else {
+        return;
+    };
+    let Some(why) = finding.why else {
+        return;
+    };
+    err.say(ReasonLines(why));
 }
 
 /// What is said of a pipeline that is not loaded, or of a program without a certificate; then what helps.

@@ -142,21 +142,26 @@ const REASON: [(&str, Part); 5] = [
     ("  help:   ", Part::Help),
 ];
 
+/// Writes why a program has no certificate.
+fn write_reason<W: fmt::Write>(f: &mut fmt::Formatter<W>, why: &Why<'_>) -> fmt::Result {
+    for (begins, part) in REASON {
+        let piece = Piece {
+            why: &*why,
+            begins,
+            part,
+        };
+        write!(f, "{piece}\n")?;
+    }
+    Ok(())
+}
+
 /// Why a program has no certificate, as lines after the verdict.
-#[derive(Clone, Copy)]
-pub(crate) struct ReasonLines<'a>(pub &'a Why<'a>);
+#[derive(Drop)]
+pub(crate) struct ReasonLines<'a>(pub Why<'a>);
 
 impl fmt::Display for ReasonLines<'_> {
     fn fmt<W: fmt::Write>(&self, f: &mut fmt::Formatter<W>) -> fmt::Result {
-        for (begins, part) in REASON {
-            let piece = Piece {
-                why: self.0,
-                begins,
-                part,
-            };
-            write!(f, "{piece}\n")?;
-        }
-        Ok(())
+        write_reason(f, &self.0)
     }
 }
 
