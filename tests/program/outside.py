@@ -152,11 +152,11 @@ def without(closed: tuple[str, ...]) -> Callable[[Tried], bool]:
 
 
 def nothing_to_read(tried: Tried) -> bool:
-    """Standard input is closed, but read: it is empty."""
+    """Standard input is closed, but read: it is empty, and no new output stays."""
     words = [tried.program, "one", *tried.words()[2:4], "/dev/stdin", str(tried.output)]
     run = subprocess.run(["sh", "-c", '"$@" <&-', "sh", *words], capture_output=True, text=True, timeout=60)
     reported = (run.returncode, run.stdout, run.stderr.partition("\n")[0])
-    return reported == (3, REPORT.format(0).replace("whole", "open"), "fault: input 0 cause 6") and tried.output.read_bytes() == b""
+    return reported == (3, REPORT.format(0).replace("whole", "open"), "fault: input 0 cause 6") and not tried.output.exists()
 
 
 def closed_pipe(tried: Tried) -> bool:
