@@ -5,8 +5,9 @@ Usage: tests/program/json_output.py [PROGRAM]   (the built program; by default t
 Each pipeline of examples/ runs twice, as text and with --json, also with --counts: the status, the captures and standard error must be the
 same, standard output one line of JSON, and the text that this script writes from the document must be the text that dpv prints, to the byte.
 The sums that docs/reference/reports.md names must agree in the document. A program of the language pkt, which the launcher compiles, has to be
-counted and its drops listed by the lines of its own source. Then refused programs, explanations, costs and faults: no node run and no turn of an example takes more instructions than `check --cost` says, which is the longest way through each program. Each example is traced as
-text and with --json, where the text that this script writes from the documents must be what dpv prints. Prints a line for each case that
+counted and its drops listed by the lines of its own source. Then refused programs, explanations, costs and faults: no node run and no turn of
+an example takes more instructions than `check --cost` says, which is the longest way through each program. Each example is traced as text and
+with --json, where the text that this script writes from the documents must be what dpv prints. Prints a line for each case that
 failed, and a count; exits with 1 if a case failed.
 """
 import json
@@ -485,7 +486,9 @@ def main() -> int:
     with new_folder() as outer:
         top = outer / "examples"
         shutil.copytree(EXAMPLES, top)
-        cases = runs(program, top) + sources(program, outer) + verdicts(program, top) + faults(program, top) + costs(program, top) + traces(program, top)
+        cases = runs(program, top) + costs(program, top) + traces(program, top)
+        # (these add pipelines that are at fault)
+        cases += sources(program, outer) + verdicts(program, top) + faults(program, top)
     failed = [name for name, passed in cases if not passed]
     for name in failed:
         print(f"json_output: {name}: another document")
