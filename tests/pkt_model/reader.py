@@ -3,6 +3,7 @@ import re
 from collections.abc import Callable
 from dataclasses import replace
 from functools import lru_cache
+from pathlib import Path as File
 from typing import NamedTuple, TypeVar
 
 from .arithmetic import BINARY, MASK
@@ -18,7 +19,8 @@ RESERVED = frozenset(
 )
 TOKEN = re.compile(
     r"""(?P<blank>[ \t\r\n]+|\#[^\n]*)
-    |(?P<six>(?:[0-9a-fA-F]{1,4}:){7}[0-9a-fA-F]{1,4}|[0-9a-fA-F:]*::[0-9a-fA-F:]*)
+    |(?P<six>(?:[0-9a-fA-F:]*::(?:[0-9a-fA-F]+:)*|(?:[0-9a-fA-F]{1,4}:){6})[0-9]+\.[0-9]+\.[0-9]+\.[0-9]+
+    |(?:[0-9a-fA-F]{1,4}:){7}[0-9a-fA-F]{1,4}|[0-9a-fA-F:]*::[0-9a-fA-F:]*)
     |(?P<ether>[0-9a-fA-F]{2}(?::[0-9a-fA-F]{2}){5}(?![0-9a-zA-Z_:]))
     |(?P<dotted>[0-9]+\.[0-9]+\.[0-9]+\.[0-9]+)
     |(?P<hex>0[xX][0-9a-fA-F]+)
@@ -41,11 +43,12 @@ class Fault(Exception):
 
 
 class Token(NamedTuple):
-    """A word of the text."""
+    """A word of the text, and the folder of the file that it is in."""
 
     kind: str
     text: str
     line: int
+    folder: File | None = None
 
 
 def value_of(kind: str, text: str) -> int:
@@ -61,7 +64,10 @@ def value_of(kind: str, text: str) -> int:
 
 
 def six(text: str) -> int:
-    """The number of an IPv6 address; `::` are the groups of 0 that lack."""
+    """The number of an IPv6 address; `::` are the groups of 0 that lack, and the last two groups may be an IPv4 address."""
+    if "." in text:
+        end = value_of("dotted", text[text.rindex(":") + 1 :])
+        text = f"{text[: text.rindex(':') + 1]}{end >> 16:x}:{end & 0xFFFF:x}"
     ends = [[int(group, 16) for group in end.split(":") if group] for end in text.split("::")]
     groups = ends[0] + [0] * (8 - sum(map(len, ends))) + ends[1] if len(ends) == 2 else ends[0]
     if len(ends) > 2 or len(groups) != 8 or max(groups) > 0xFFFF:
@@ -69,15 +75,15 @@ def six(text: str) -> int:
     return int.from_bytes(b"".join(group.to_bytes(2, "big") for group in groups), "big")
 
 
-def tokens(text: str) -> list[Token]:
-    """The words of a text, and an end."""
+def tokens(text: str, folder: File | None = None) -> list[Token]:
+    """The words of a text in a folder, and an end."""
     found, at, line = [], 0, 1
     while at < len(text):
         match = TOKEN.match(text, at)
         if match is None or match.lastgroup is None:
             raise Fault(f"line {line}: {text[at]!r}")
         if match.lastgroup != "blank":
-            found.append(Token(match.lastgroup, match[0], line))
+            found.append(Token(match.lastgroup, match[0], line, folder))
         line += match[0].count("\n")
         at = match.end()
     return [*found, Token("end", "", line)]
@@ -86,8 +92,8 @@ def tokens(text: str) -> list[Token]:
 class Reader:
     """Reads words, one after another."""
 
-    def __init__(self, text: str, headers: dict[str, Header]) -> None:
-        self.tokens, self.at = tokens(text), 0
+    def __init__(self, text: str, headers: dict[str, Header], folder: File | None = None) -> None:
+        self.tokens, self.at, self.included = tokens(text, folder), 0, set[File]()
         self.constants: dict[str, Constant | Wide] = {}
         # Where the items of each set begin; the parameters of each `def`, and where its block begins; what its names end with where it is used.
         self.sets: dict[str, int] = {}
@@ -319,9 +325,22 @@ class Reader:
         elif self.takes("header"):
             header = self.header()
             self.program.headers[header.name] = header
+        elif self.token.text == "include" and self.tokens[self.at + 1].kind == "string":
+            self.include()
         else:
             return self.naming()
         return True
+
+    def include(self) -> None:
+        """The text of a file, once, in place of its name."""
+        self.take()
+        name = self.take()
+        if name.folder is None:
+            raise Fault("a text in no folder includes no file")
+        path = (name.folder / name.text.strip('"')).resolve()
+        if path not in self.included:
+            self.included.add(path)
+            self.tokens[self.at : self.at] = tokens(path.read_text(encoding="utf-8"), path.parent)[:-1]
 
     def naming(self) -> bool:
         """Reads the declaration of a set, a `def`, a name of a number or a further header before one, if one is next, and says whether."""
@@ -645,6 +664,6 @@ def headers_of(prelude: str) -> dict[str, Header]:
     return Reader(prelude, {}).read().headers
 
 
-def read(text: str, prelude: str) -> Program:
-    """A program, with the headers that everybody knows."""
-    return Reader(text, headers_of(prelude)).read()
+def read(text: str, prelude: str, folder: File | None = None) -> Program:
+    """A program, with the headers that everybody knows, and perhaps with files of a folder."""
+    return Reader(text, headers_of(prelude), folder).read()

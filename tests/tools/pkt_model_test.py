@@ -3,6 +3,8 @@
 
 Usage: tests/tools/pkt_model_test.py   (needs no program and no compiler; less than a second)
 """
+import pathlib
+import tempfile
 import unittest
 
 import paths  # noqa: F401
@@ -11,7 +13,7 @@ from command import TOP
 from model import captures, pipelines
 from model.machine import Env, Input, Pool, Port, Ring, run
 from pkt_model.machine import Open, Source, SourceWorld
-from pkt_model.reader import Fault, read
+from pkt_model.reader import Fault, read, six
 
 EXAMPLES = TOP / "examples"
 PRELUDE = (TOP / "tools/pkt/prelude.pkt").read_text()
@@ -138,6 +140,23 @@ class Numbers(unittest.TestCase):
         self.assertEqual(len(sent(text + "need ipv4.src in IN and not ipv4.src in {8.8.8.8} and ipv4.dst in T send 0", PLAIN)[0]), 1)
         frame = data_of(PLAIN.replace("0073 0000", "0073 0005"))
         self.assertEqual(sent(text + "let x = 2 f(x, 3) need x == 2 send 0", PLAIN)[0], [frame.hex()])
+
+    def test_files(self) -> None:
+        with tempfile.TemporaryDirectory() as name:
+            folder = pathlib.Path(name)
+            (folder / "sub").mkdir()
+            (folder / "net.pkt").write_text('include "sub/more.pkt"\ndef out(a) { ipv4.ttl = a }')
+            (folder / "sub/more.pkt").write_text('set IN = {10.0.0.0/8}\ninclude "../net.pkt"\nconst HOPS = 9')
+            text = 'include "net.pkt" include "net.pkt" need ipv4.src in IN out(HOPS) send port'
+            plain = "need ipv4.src in 10.0.0.0/8 ipv4.ttl = 9 send port"
+            self.assertEqual(str(read(text, PRELUDE, folder).block[0]), str(read(plain, PRELUDE).block[0]))
+            self.assertEqual(str(read(text, PRELUDE, folder).block[1].body), str(read(plain, PRELUDE).block[1:2]))
+            self.assertRaises(Fault, read, text, PRELUDE)
+
+    def test_addresses(self) -> None:
+        for text, wanted in {"::1.2.3.4": 0x1020304, "1:2:3:4:5:6:7.8.9.10": 0x1000200030004000500060708090A, "1::8.0.0.2": (1 << 112) + 0x8000002}.items():
+            self.assertEqual(six(text), wanted)
+        self.assertRaises(Fault, six, "1::2::1.2.3.4")
 
     def test_lookup(self) -> None:
         self.assertEqual([len(it) for it in sent("ports 3 let hop = lookup 0 ipv4.dst else drop send hop", PLAIN)], [0, 0, 1])

@@ -86,13 +86,14 @@ PLANTED = (
 
 
 class Case(NamedTuple):
-    """A program, what it is compiled to, its seconds, and those after which a process begins none."""
+    """A program, what it is compiled to, its seconds, those after which a process begins none, and the folder of the files that it includes."""
 
     name: str
     source: str
     text: str
     each: float
     seconds: float = 600
+    folder: pathlib.Path | None = None
 
 
 def decided(case: Case):
@@ -102,7 +103,7 @@ def decided(case: Case):
         return None
     lacks()
     from pkt.prove.decide import prove
-    return prove(case.source, case.text, seconds=min(case.each, left))
+    return prove(case.source, case.text, seconds=min(case.each, left), folder=case.folder)
 
 
 def verdicts(cases: list[Case]):
@@ -117,7 +118,7 @@ def cases_of(files: list[pathlib.Path], seconds: float, each: float) -> Iterator
     """Programs in files."""
     for it in files:
         name, source = str(it.relative_to(TOP)) if it.is_relative_to(TOP) else str(it), it.read_text()
-        yield Case(name, source, compile_text(source, it.name, it.parent), each, seconds)
+        yield Case(name, source, compile_text(source, it.name, it.parent), each, seconds, it.parent)
 
 
 def random_cases(number: int, seed: int, each: float) -> Iterator[Case]:

@@ -34,7 +34,7 @@ def main() -> int:
     else:
         if note:
             print(f"{path}: note: {note}", file=sys.stderr)
-        return prove_text(source, text, asked.rounds, asked.seconds) if asked else written(text)
+        return prove_text(source, text, path.parent, asked.rounds, asked.seconds) if asked else written(text)
     return 1
 
 

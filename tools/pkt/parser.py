@@ -37,6 +37,8 @@ STATEMENTS: dict[str, tuple[type[Node], str]] = {
 }  # fmt: skip
 
 
+# What is no number, and the cures where one is wanted.
+NO_NUMBERS = {"a set": "x in {}", "a packet": "send {} to ..", "a def": "{}(..) is a statement", "a table": "let x = lookup {} ..", "a pool": "", "a ring": ""}
 # The words that begin a declaration where a name or a text is after them; elsewhere they are names.
 WORDS = ("set", "def", "include", "table", "pool", "ring", "extend")
 
@@ -232,7 +234,9 @@ class Parser(Lexer):
         if sign in COMPARISONS:
             return self.compared(sign, left, right)
         for side in (left, right):
-            is_open = not isinstance(side, Number) or not side.at.word[:1].isdigit()
+            # A constant with a name, of 0 or 1, may switch a part off.
+            is_switch = isinstance(side, Number) and side.value < 2 and self.names.get(side.at.word) in ("a constant", "a parameter")
+            is_open = not isinstance(side, Number) or is_switch
             require(is_open, side.at, f"{side.at.word} alone is a condition that never changes", "x in {1, 2} compares x with each")
         return (And if sign == "and" else Or)(left.at, as_condition(left), as_condition(right))
 
@@ -263,6 +267,7 @@ class Parser(Lexer):
             return list(self.sets[self.take().word])
         right = as_side(self.operation(NUMBERS))
         if self.may(".."):
+            require(not isinstance(right, Wide), right.at, "IPv6 addresses have no range", "a prefix, as 2001:db8::/32")
             low, high = Number(right.at, constant_of(right)), Number(right.at, self.constant())
             require(low.value <= high.value, low.at, f"no number is from {low.value:,} to {high.value:,}", "the smaller one comes first")
             return [Item(right.at, low, last=high)]
@@ -338,8 +343,8 @@ class Parser(Lexer):
         if at.word in self.constants:
             return replace(self.constants[at.word], at=self.take())
         require(self.place(1).word != ".", at, f"there is no header {at.word}", self.known_headers())
-        is_number = at.word not in self.sets and at.word not in self.numbered and at.word not in self.functions
-        require(is_number, at, f"{at.word} is {self.names.get(at.word)}, and no number", f"x in {at.word}" if at.word in self.sets else "")
+        is_number = self.names.get(at.word) not in NO_NUMBERS
+        require(is_number, at, f"{at.word} is {self.names.get(at.word)}, and no number", NO_NUMBERS.get(self.names.get(at.word, ""), "").format(at.word))
         require_word(at.word not in RESERVED - {PORT}, at, f"a number or a condition is wanted here, and this is {at.word!r}")
         if self.names.get(at.word) != "a variable":
             self.unknown.append(at)
@@ -488,11 +493,13 @@ class Parser(Lexer):
         require(name not in self.active, at, f"{name} is used in itself", "`while` repeats statements")
         outside = self.next, self.names, self.constants, self.suffix
         self.inlined += 1
-        self.names = {word: what for word, what in self.names.items() if what not in ("a variable", "a packet") or word == PORT}
-        self.constants, self.suffix, lets = dict(self.constants), f"{PRIME}{self.inlined}", list[Node]()
+        self.constants = {word: value for word, value in self.constants.items() if self.names[word] != "a parameter"}
+        self.names = {word: what for word, what in self.names.items() if what not in ("a variable", "a packet", "a parameter") or word == PORT}
+        self.suffix, lets = f"{PRIME}{self.inlined}", list[Node]()
         for word, value in zip(function.parameters, values):
             is_constant = isinstance(value, Number) or isinstance(value, Wide) and isinstance(value.high, Number)
-            self.names[word] = "a constant" if is_constant else "a variable"
+            require(word not in self.names, at, f"{word} is {self.names.get(word)}, and a parameter of {name}", "take another name for one of them")
+            self.names[word] = "a parameter" if is_constant else "a variable"
             if is_constant:
                 self.constants[word] = value  # type: ignore[assignment]
             else:

@@ -281,7 +281,8 @@ def port_of(way: Way, it: Send) -> Value | None:
         return None
     if isinstance(it.port, Number):
         number, ports = it.port.value, way.unit.program.ports
-        require(number < ports, it.port.at, f"there is no port {number}: the program has {ports}", f"ports {number + 1}")
+        cure = f"ports {number + 1}" if number <= MAX_PORT else f"the ports are 0 to {ports - 1}"
+        require(number < ports, it.port.at, f"there is no port {number}: the program has {ports}", cure)
     return registers.in_register(way, registers.evaluate(way, it.port))
 
 

@@ -23,14 +23,14 @@ def lacks() -> str:
     return "" if importlib.util.find_spec("z3") else "python3-z3"
 
 
-def prove_text(source: str, text: str, rounds: int, seconds: float) -> int:
-    """Proves that a node program does what its source says. Returns the status: 0, 1 for a difference, 3 if it is open, 70 if z3 is missing."""
+def prove_text(source: str, text: str, folder: pathlib.Path, rounds: int, seconds: float) -> int:
+    """Proves that a node program does what its source in a folder says. Returns the status: 0, 1 for a difference, 3 if it is open, 70 without z3."""
     missing = lacks()
     if missing:
         print(f"dpv build --prove needs {missing}", file=sys.stderr)
         return CANNOT
     from .decide import prove
-    result = prove(source, text, rounds, seconds)
+    result = prove(source, text, rounds, seconds, folder=folder)
     print(result.line())
     if result.verdict == "proved":
         print(*unreached(text, result.seen), sep="\n", end="")

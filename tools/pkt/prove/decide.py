@@ -145,13 +145,13 @@ class Proof(NamedTuple):
     result: Result
 
 
-def prove(text: str, node_text: str, rounds: int = 256, seconds: float = 300, replays: bool = False) -> Result:
-    """The verdict on a node program and its source, in some seconds of processor time. Of packets in several segments, those with one and with two
-    count."""
+def prove(text: str, node_text: str, rounds: int = 256, seconds: float = 300, replays: bool = False, folder: pathlib.Path | None = None) -> Result:
+    """The verdict on a node program and its source, which may include files of a folder, in some seconds of processor time. Of packets in several
+    segments, those with one and with two count."""
     begin, result = time.process_time(), Result()
     explorer = Explorer(begin + seconds)
     try:
-        program, node = read(text, PRELUDE.read_text(encoding="utf-8")), assemble(node_text.encode())
+        program, node = read(text, PRELUDE.read_text(encoding="utf-8"), folder), assemble(node_text.encode())
         if not isinstance(node, list):
             raise Fault(f"the program does not assemble: {node}")
         proof = Proof(program, Source(program), node, rounds, replays, result)
