@@ -217,6 +217,8 @@ class Writer:
             return [f"{head} else {self.end(there)[0]}"]
         lines, ends = self.block(there, deep - 1)
         if not ends and (must_end or self.chance(0.5)):
+            # The clones of the block are still there.
+            there.is_lost = there.is_lost or any(line.startswith("clone ") for line in lines)
             lines += self.end(there)
         return [head + " else {", *indented(lines), "}"]
 

@@ -80,6 +80,8 @@ PLANTED = (
     Planted("reach.py", "here.learn(name, Value(low=c))", "here.learn(name, Value(low=c + 1))", "one value too few after <",
             "let a = ipv4.ttl if a < 5 { drop } if a == 5 { ipv4.tos = 1 } send port"),
     Planted("reach.py", "it.operands[0] not in read[it.next]", "True", "numbers that are read are left out", "let a = ipv4.ttl ipv4.tos = a send port"),
+    Planted("ways.py", "if self.changes_searches(name):", "if False:", "a tag is looked for before a header that may follow it",
+            "if port == 1 and vlan.vid == 5 { drop } if port == 1 and vlan.vid == 6 { drop } if ipv4.ttl <= 9 { drop } send port"),
     Planted("conditions.py", "there.learn(span, value)\n    way", "there.learn(span, value ^ 2)\n    way", "a wrong fact after ==",
             "if ipv4.proto == 17 { need udp.dport == 53 } send port"),
 )

@@ -606,6 +606,21 @@ class ByHand(unittest.TestCase):
         everything = [*wanted, *[[]] * (3 - len(wanted))]
         self.assertEqual((sent(source, *frames), by_model), (everything, everything), source)
 
+    def test_a_header_is_not_looked_for_early_where_another_search_can_tell(self) -> None:
+        frame, inner = udp(5, 53), tagged(udp(5, 53), 9)
+        service = tagged(frame, 9, 0x88A8)
+        rows = "if port == 1 and vlan.vid == 5 { drop }\nif port == 1 and vlan.vid == 6 { drop }\n"
+        self.both(rows + "if ipv4.ttl == 64 { drop }\nsend port", [frame, inner], [inner])
+        self.both(rows.replace("vlan", "qinq") + "push vlan { vid = 7 }\nsend port", [service], [tagged(service)])
+        self.both(rows.replace("vlan", "qinq") + "if vlan.vid == 9 { drop }\nsend port", [inner, tagged(inner, 9, 0x88A8)], [tagged(inner, 9, 0x88A8)])
+        self.both("if eth { pop eth/vlan }\nif qinq.vid == 7 { }\nif qinq.pcp == 2 { }\nsend port", [tagged(inner, 9, 0x88A8)])
+        self.both("if port == 0 { mend ipv4.ttl -= 1 }\nif vlan.vid == 5 { drop }\nif vlan.vid == 6 { drop }\nsend port", [inner])
+        both_present = """header a { x:16 } after eth if eth.type >= 0x800
+header b { y:8 } after eth if eth.type > 0x100
+header c { z:8 } after a if a.x > 9 after b if b.y > 5
+"""
+        self.both(both_present + rows.replace("vlan.vid", "b.y") + "need c.z == 3\nsend port", [eth(b"\1\2\3"), eth(b"\7\3\4")], [eth(b"\1\2\3")])
+
     def test_tcp_behind_hop_by_hop_options(self) -> None:
         begin = """header options6 { next:8 len:8 rest:48 } after ipv6 if ipv6.next == 0 length ((v & 255) + 1) * 8 for v:16 in 0x0600..0x0604
 extend tcp after options6 if options6.next == 6

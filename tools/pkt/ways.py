@@ -28,6 +28,8 @@ class Unit:
         self.appended = 0
         used = self.needs_of(program.statements) | self.needs_of(program.otherwise)
         self.used_headers = {name for name in self.headers if (name, False) in used}
+        tags = {it.headers[0].header for it in parts(program.statements) if isinstance(it, Push) and self.tag_follows(it)}
+        self.searched = self.used_headers | tags
         self.near = {name for it in parts(program.statements) if isinstance(it, (Pop, Push)) for name in self.headers_of(it)}
 
     def needs_of(self, it: Any, first: int = 0) -> Needs:
@@ -93,9 +95,22 @@ class Unit:
                 found |= {it.target, *(Field(it.at, name, self.headers[name].sum) for name in names if self.headers[name].sum)}
         return found
 
+    def changes_searches(self, name: str) -> bool:
+        """Whether the program may look for a header that comes after this one, and find it elsewhere if this one was looked for before. It does not
+        where it looks for this one first, and at most one of those that it may follow is present."""
+        for other in self.headers.after(name) & self.searched:
+            search = self.headers.looked_for(other)
+            between = [self.headers[it] for it in search if it != name and name in self.headers[it].before]
+            if name not in search or any(len(it.follows) > 1 and not it.is_known for it in between):
+                return True
+        return False
+
     @cache
     def is_early(self, name: str) -> bool:
-        """Whether a header may be looked for earlier than where it is used: no assignment of the program can change what the search finds."""
+        """Whether a header may be looked for earlier than where it is used: that changes no other search, and no assignment of the program can change
+        what this one finds."""
+        if self.changes_searches(name):
+            return False
         before = self.headers[name].before
         asked = {part for other in before for part in parts(tuple(self.headers[other].follows.values())) if isinstance(part, Field)}
         spans = {(it.header, self.headers[it.header].fields[it.name]) for it in asked} | {(it, Span(0, self.headers[it].bits)) for it in before}
