@@ -274,6 +274,9 @@ class Limits(unittest.TestCase):
             "more than 32 headers": "header h0 { a:8 } after eth if eth.type == 5\n"
                                     + "".join(f"header h{k} {{ a:8 }} after h{k - 1} if h{k - 1}.a == 1\n" for k in range(1, 1500)),
             "these headers have 70,000 bytes": f"push {'eth { } ' * 5000}send port",
+            "more than 16,384 operators and items": f"set S = {{{', '.join(map(str, range(1000)))}}}\ndef f(a) {{ if a in S {{ drop }} }}\n"
+                                                    + "f(tcp.dport)\nif tcp.dport in S { drop }\n" * 300 + "send port",
+            "the program has 4": "push eth { dst = eth.src } ipv4 { len = ipv4.len } udp { len = ipv4.len }\n" * 200 + "send port",
             "the program has": "".join(f"while eth.type == {k} {{ eth.type += 1 }}\n" for k in range(250)) + "send port",
         }
         limit = sys.getrecursionlimit()
@@ -286,6 +289,20 @@ class Limits(unittest.TestCase):
                 self.assertGreater(caught.exception.at.line, 0)
                 self.assertLess(time.process_time() - begun, 10)
         self.assertEqual(sys.getrecursionlimit(), limit)
+
+    def test_many_headers(self) -> None:
+        """A header after many others, headers that are extended, and headers that may come one after another in many ways."""
+        begin = "".join(f"header h{k} {{ a:8 }} after eth if eth.type == {k}\n" for k in range(400))
+        wide = begin + "header z { b:8 } " + " ".join(f"after h{k} if h{k}.a == 1" for k in range(400)) + "\nif z.b == 1 { drop }\nsend port"
+        extended = begin + "".join(f"extend h{k} after arp if arp.op == {k}\n" for k in range(400)) + "send port"
+        ways = "header h0 { a:8 } after eth if eth.type == 5\n"
+        for k in range(1, 15):
+            ways += "".join(f"header x{k}y{w} {{ a:8 }} after h{k - 1} if h{k - 1}.a == {w}\n" for w in range(4))
+            ways += f"header h{k} {{ a:8 }} " + " ".join(f"after x{k}y{w} if x{k}y{w}.a == 1" for w in range(4)) + "\n"
+        for text in (wide, extended, ways + "if h3.a == 1 { drop }\nsend port"):
+            begun = time.process_time()
+            self.assertGreater(count(text), 0)
+            self.assertLess(time.process_time() - begun, 10)
 
     def test_what_is_just_possible(self) -> None:
         deep = "".join(f"if eth.type > {k} {{\n" for k in range(40)) + "drop" + " }" * 40 + "\nsend port"

@@ -157,7 +157,7 @@ def look_for(way: Way, name: str, yes: Join[Way], no: Join[Way]) -> None:
         return way.jump(no if way.found[name] is None else yes)
     missing = Join[Way]()
     for s in paths(lambda found: search(way, way.headers[name], found, missing)):
-        s.found = {it: at for it, at in s.found.items() if at is not None or it not in way.headers.after(name)}
+        s.found = {it: at for it, at in s.found.items() if at is not None or name not in way.headers[it].before or it == name}
         s.jump(yes)
     for s in missing.begin():
         s.found[name] = None

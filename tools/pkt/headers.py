@@ -84,12 +84,10 @@ class Headers(dict[str, Header]):
     def extend(self, name: str, other: str, condition: Node) -> None:
         """Lets a header follow another one too."""
         self[name] = replace(self[name], follows={**self[name].follows, other: condition}, is_known=False)
-        before: dict[str, frozenset[str]] = {}
-        while before != {it: header.before for it, header in self.items()}:
-            before = {it: header.before for it, header in self.items()}
-            for it, header in self.items():
-                all_before = frozenset({it}).union(*(self[follows].before for follows in header.follows))
-                self[it] = replace(header, before=all_before, is_known=header.is_known and all_before == header.before)
+        more = self[other].before
+        for it, header in self.items():
+            if name in header.before and not more <= header.before:
+                self[it] = replace(header, before=header.before | more, is_known=False)
 
     def in_order(self, names: Iterable[str]) -> list[str]:
         """Names in order of declaration, each once."""
@@ -105,18 +103,27 @@ class Headers(dict[str, Header]):
         before them is."""
         found: list[str] = []
         for other in self[name].follows:
-            if not any(self.requires(other, it) for it in found):
+            if self.required(other).isdisjoint(found):
                 found.append(other)
         return found
 
-    def requires(self, name: str, other: str) -> bool:
-        """Whether a header is absent wherever another one is."""
-        follows = self[name].follows
-        return name == other or bool(follows) and all(self.requires(it, other) for it in follows)
+    def required(self, name: str) -> frozenset[str]:
+        """A header, and those without which it is absent."""
+        known: dict[str, frozenset[str]] = {}
+        for it in sorted(self[name].before, key=lambda it: len(self[it].before)):
+            follows = [known[other] for other in self[it].follows]
+            known[it] = frozenset.intersection(*follows) | {it} if follows else frozenset({it})
+        return known[name]
 
     def looked_for(self, name: str) -> set[str]:
         """A header, and all that are looked for if none before it was found."""
-        return {name}.union(*(self.looked_for(other) for other in self.tried(name)))
+        found, pending = set[str](), [name]
+        while pending:
+            it = pending.pop()
+            if it not in found:
+                found.add(it)
+                pending += self.tried(it)
+        return found
 
     def covering(self, target: Field) -> list[str]:
         """The headers whose checksum is over a field of another header."""

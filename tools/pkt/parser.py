@@ -24,8 +24,8 @@ ASSIGNMENTS = ("=", *(f"{sign}=" for sign in OPERATORS))
 LEVELS = (("or",), ("and",), (*COMPARISONS, "in"), ("|",), ("^",), ("&",), ("<<", ">>"), ("+", "-"), ("*",))
 NOT, NUMBERS = 2, 3
 # How many digits a number has, how many parentheses or braces lie in one another, how many operators follow one another, how many items a
-# list has, how many statements a text, and how many headers follow one another.
-MAX_DIGITS, MAX_NESTING, MAX_OPERATORS, MAX_ITEMS, MAX_STATEMENTS, MAX_HEADERS = 20, 40, 200, 1_024, 4_096, 32
+# list has, how many statements a text, how many operators and items in all, and how many headers follow one another.
+MAX_DIGITS, MAX_NESTING, MAX_OPERATORS, MAX_ITEMS, MAX_STATEMENTS, MAX_IN_ALL, MAX_HEADERS = 20, 40, 200, 1_024, 4_096, 16_384, 32
 LIMITS = {"port": 7, "table": 3, "ring": 7, "pool": 7, "count": 65_535, "length": 4_096, "number of ports": 8, "number of segments": 64, "headroom": 65_535}
 # The syntax after the first word of a statement: methods of the parser, words, and constants within limits.
 STATEMENTS: dict[str, tuple[type[Node], str]] = {
@@ -174,7 +174,7 @@ class Parser(Lexer):
         self.names: dict[str, str] = {**dict.fromkeys(headers, "a header"), PORT: "a variable"}
         self.constants: dict[str, Number | Wide] = {}
         self.unknown: list[Place] = []
-        self.depth = self.statements = 0
+        self.depth = self.statements = self.operators = 0
         self.given: set[str] = set()
 
     def condition(self) -> Node:
@@ -213,12 +213,19 @@ class Parser(Lexer):
             limit = MAX_OPERATORS if level >= NUMBERS else MAX_ITEMS
             cure = "let x = .. has a part of it; a prefix or a table has many addresses"
             require(count <= limit, self.place(), f"more than {limit:,} operators in a row", cure)
+            self.count_operators(1)
             sign = self.take().word
             if sign == "in":
                 node = self.items(as_side(node))
             else:
                 node = self.joined(sign, node, self.operation(level + 1)) if level < NUMBERS else combined(sign, node, self.operation(level + 1))
         return node
+
+    def count_operators(self, number: int) -> None:
+        """Refuses more operators and items of lists in all than any program has."""
+        self.operators += number
+        fault = f"more than {MAX_IN_ALL:,} operators and items of lists in all"
+        require(self.operators <= MAX_IN_ALL, self.place(), fault, "a program has at most 1,024 instructions; a table has many addresses")
 
     @contextmanager
     def nested(self, what: str) -> Iterator[None]:
@@ -243,7 +250,9 @@ class Parser(Lexer):
     def items(self, left: Node) -> Node:
         """The items after `in`: a comparison for each."""
         node: Node | None = None
-        for item in self.listed():
+        listed = self.listed()
+        self.count_operators(len(listed))
+        for item in listed:
             test = self.is_item(left, item)
             node = Or(left.at, node, test) if node else test
         assert node is not None

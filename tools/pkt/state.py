@@ -16,6 +16,8 @@ NOTHING, EVERYTHING = Needs(), Needs({ALL})
 
 # Who shares the buffers of a packet: registers of packets, somebody permanently, or somebody those after the first one.
 SOMEBODY, SOMEBODY_THE_REST = -1, -2
+# Bits that moved further back than this byte are forgotten.
+MAX_KNOWN = 1_024
 # Where a header begins that is at the offset in the register.
 FAR = Start(True, 0)
 # The factors by which instructions with a count change the headroom of a packet and the length of its first segment.
@@ -139,12 +141,14 @@ class State:
     def overwrite(self, span: Span) -> None:
         """Records that bits changed, and forgets the other bits of their bytes."""
         self.loaded = {it: r for it, r in self.loaded.items() if not it.meets(span)}
-        self.bits = {(is_far, bit): it for (is_far, bit), it in self.bits.items() if is_far != span.is_far or bit // 8 not in span.bytes}
+        for bit in range(8 * span.bytes.start, 8 * span.bytes.stop):
+            self.bits.pop((span.is_far, bit), None)
 
     def move(self, count: int, start: int = 0) -> None:
         """Records that the bytes from start on moved count bytes up, and that those before it changed."""
         self.loaded = {it.moved(count): r for it, r in self.loaded.items() if it.bit >= 8 * start}
-        self.bits = {(is_far, bit + 8 * count): it for (is_far, bit), it in self.bits.items() if bit >= 8 * start}
+        low, high = 8 * start, 8 * (MAX_KNOWN - count)
+        self.bits = {(is_far, bit + 8 * count): it for (is_far, bit), it in self.bits.items() if low <= bit < high}
 
     def share(self, p: int, q: int) -> None:
         """Records that p is a clone of q."""
