@@ -60,7 +60,7 @@ STEPS = (
     Step("bodies", "tests/planted.py", "that the prover refuses wrong bodies (edits that make a function wrong; see below) under `crates/*/planted`: all of `planted/always`, and of the others those of changed functions and those whose turn it is, at most 70", ("--gate", "--jobs", "2"), seconds=300),
     Step("program", "tests/program/examples.py", "that each example writes the expected captures, to the byte, with its node programs and with those that `dpv build` makes from its .pkt files", ON_PROGRAM),
     Step("program", "tests/program/refusals.py", "that each program of examples/refused is explained as in docs/users/refusals.md, and its cure accepted", ON_PROGRAM),
-    Step("program", "tests/program/judged.py", "what `explain`, `show`, `infer-one` and `one` say of programs that are accepted, refused or faulty, with texts that were worked out by hand", ON_PROGRAM),
+    Step("program", "tests/program/judged.py", "what `explain`, `show`, `infer-one` and `one` print about programs that are accepted, refused or faulty, beside texts that were worked out by hand", ON_PROGRAM),
     Step("program", "tests/program/tour.py", "that the commands of docs/users/tour.md print what it shows", ON_PROGRAM),
     Step("program", "tests/program/json_output.py", "that the documents of `--json` have the numbers of the text report and of the text counts, and that their sums agree; refusals and faults as documents", ON_PROGRAM),
     Step("program", "tests/program/pictures.py", "the pictures of all examples and their programs, with counts, beside the sources; that graphviz draws them, where it is installed; and the sizes of all examples beside a formula", ON_PROGRAM),
