@@ -13,7 +13,7 @@ Where nothing says which, all are tried.
   FILE.edit    this one
   --since C    those of the crates whose code, definitions or proofs differ from commit C, and those that are new since
   --part N OF  the N-th part of all (0 <= N < OF): the parts 0 .. OF - 1 have each once, and which has one never changes
-  --most N     of what CRATE and --since ask for beyond the part no more than N, beginning with the part behind it; the others
+  --most N     of what CRATE and --since ask for beyond the part no more than N, beginning with the part after it; the others
                are left for another time, and counted
   --must-fail  those of must-fail/ as well, which `rt ci` tries each time
   --gate       what the gate tries at this commit, at most 70: all of planted/always; then edits that are new since the commit 8
@@ -64,11 +64,11 @@ IMPL = re.compile(r"(?:unsafe )?impl\b(?:<(?:[^<>]|<[^<>]*>)*>)? *(?:([\w:]+)(?:
 OVER = re.compile(r".* for &?(?:'\w+ )?(?:mut )?\w+<(\w+)<")
 # A conversion, whose source a check prints after the trait.
 CONVERSION = re.compile(r"impl\b(?:<(?:[^<>]|<[^<>]*>)*>)? *From<&?(?:'\w+ )?(?:\w+::)*(\w+)[^ ]* for (?:\w+::)*(\w+)")
-# An impl of a type at other types, which a check prints behind a plus.
+# An impl of a type at other types, which a check prints after a plus.
 IMPL_AT = re.compile(r"(?:unsafe )?impl (\w+)<(\w+)>(?! for)")
 TRAIT = re.compile(r"(?:pub )?(?:unsafe )?trait (\w+)")
 CALL = re.compile(r"(?:\.|\b[A-Z]\w*::|\b)[a-z_]\w*(?=\()")
-# What a check says of a function that has no proof for its own cause, and not only for that of a callee.
+# What a check prints for a function that has no proof for its own cause, and not only for that of a callee.
 UNPROVED = re.compile(r"^fn (\S+): (?:not proved|no proof)(?!(?:; it stands on [^;\n]*)?(?:; |: )it calls).*$", re.M)
 PRINTING = threading.Lock()
 

@@ -1,4 +1,4 @@
-// Loads an eBPF program of 1,024 instructions so many times: bpf LINE ROUNDS, where LINE is numbers, bytes or jumps. It prints how often it was accepted.
+// Loads an eBPF program of 1,024 instructions again and again: bpf LINE ROUNDS, where LINE is numbers, bytes or jumps. It prints how often it was accepted.
 #include <stdint.h>
 #include <stdio.h>
 #include <stdlib.h>

@@ -229,7 +229,7 @@ static void files_opened(char **names) {
     out_count = opened;
 }
 
-// The program of a file, as librte_bpf loads it: it gets at the packet's length, 2 bytes, and 64 bytes behind them, and answers the port,
+// The program of a file, as librte_bpf loads it: it gets the packet's length in 2 bytes, and 64 bytes after them, and returns the port,
 // or all ones.
 static struct rte_bpf *loaded(const char *name) {
     static struct ebpf_insn program[4096];

@@ -6,7 +6,7 @@
 #define get32(p) __builtin_bswap32(*(uint32_t *)(p))
 #define put16(p, n) (*(uint16_t *)(p) = __builtin_bswap16(n))
 
-// The length, and the packet's bytes behind it.
+// The length, and the packet's bytes after it.
 static inline uint64_t taken_length(uint8_t **p) {
     uint64_t length = *(uint16_t *)*p;
     *p += 2;

@@ -391,7 +391,7 @@ def play(program: pathlib.Path, seed: str, numbers: range, until: float) -> Play
 
 
 def at_random(asked: Any, library: pathlib.Path, folder: pathlib.Path) -> int:
-    """How many drivers had a finding among cases at random: so many drivers as there are jobs, which play them in turn."""
+    """How many drivers found something in random cases: there are as many drivers as jobs, which play the cases in turn."""
     program, jobs = folder / "drive", asked.jobs
     compile_one("host_drive.c", library, program, "-fsanitize=undefined", "-fno-sanitize-recover=all")
     until = time.monotonic() + asked.seconds if asked.seconds else math.inf

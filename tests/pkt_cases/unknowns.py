@@ -58,7 +58,7 @@ def some_known(rng: Random, values: dict[Atom, int]) -> Known:
 
 
 def check(count: int, seed: int) -> str:
-    """Tries so many numbers; says which one is wrong, if there is one."""
+    """Tries this many numbers; returns what is wrong with the first one that is, if there is one."""
     rng, unknown = Random(seed), [number(whole(a)) for a in LEAVES]
     for k in range(count):
         values = {a: rng.choice((0, a.high, rng.getrandbits(a.width))) for a in LEAVES}

@@ -30,7 +30,7 @@ def ethernet(kind: int, packet: bytes) -> bytes:
 
 
 def cooked(kind: int, packet: bytes) -> bytes:
-    """A packet behind a header of Linux's captures on all interfaces: packet type, ARP type, length of the address, address, protocol."""
+    """A packet after a header of Linux's captures on all interfaces: packet type, ARP type, length of the address, address, protocol."""
     return struct.pack(">HHH8sH", 0, 1, 6, MACS[6:] + bytes(2), kind) + packet
 
 

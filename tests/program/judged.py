@@ -1,5 +1,5 @@
 #!/usr/bin/env python3
-"""Compares what the built program dpv says of programs with texts that were worked out by hand: explain, show and infer-one.
+"""Compares what the built program dpv prints about programs with texts that were worked out by hand: explain, show and infer-one.
 
 Usage: tests/program/judged.py [PROGRAM]   (the built program; by default the one that ./dpv builds and runs)
 Programs that are accepted, that are refused with a certificate or without one, that have code that is never reached, or that are no programs; by
@@ -109,7 +109,7 @@ SHOWN = (
 ASM = """fault: pipeline 6 Asm port 0 line 2 cause 5
   because: line 2: an operand is not a number, or is out of its range
 """
-# What each command says of a faulty text.
+# What each command prints about a faulty text.
 FAULTY = tuple(Case(command, "exit\nadj p0,65536\n", (), 3, "", ASM) for command in ("explain-one", "show-one", "infer-one"))
 INFERRED = (
     Case("infer-one", STRIP, (), 0, "dpv-cert 1\n" + "".join(f"{row:0<306}\n" for row in (SOLE, LONGER, SHORTER, NONE, SOLE, NONE))),

@@ -230,7 +230,7 @@ def main() -> int:
         with new_folder() as folder:
             folder.chmod(0o755)
             passed.append(case(Tried(program, folder)))
-        print(f"{name}: {'as it has to be' if passed[-1] else 'ANOTHER WAY'}")
+        print(f"{name}: {'as it has to be' if passed[-1] else 'FAILED'}")
     return 0 if all(passed) else 1
 
 

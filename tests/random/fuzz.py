@@ -275,7 +275,7 @@ def runs_once_more(place: Place, case: Case, ended: Ended, how: str, number: int
 
 
 def judge(place: Place, case: Case, rng: Random, tally: Tally, shims: pathlib.Path | None) -> str | None:
-    """Runs a case, some of them once more in another way, and returns what is wrong with it."""
+    """Runs a case, and some cases again with other options; returns what is wrong with it."""
     ended, wrong = fault_of(place, case, tally)
     if wrong or rng.random() < 0.75:
         return wrong

@@ -6,7 +6,7 @@ The programs of N families of cases (by default 12) are built into a program, on
 that takes some minutes. It then runs cases of these families, each with other captures and other calls refused, and compares them with
 tests/model, as tests/random/fuzz.py does. Prints what tests/random/fuzz.py prints, and ends as it does. With --gate the program is built over the crates
 as `rt ci` left them, with the node program of examples/ttl beside the others, and first tested with that example, as by tests/program/compiled.py
---build; of the families so many are taken as have 200 instructions together, so that the time is about the same for each seed.
+--build; as many families are taken as have 200 instructions together, so that the time is about the same for each seed.
 """
 import argparse
 import os

@@ -30,7 +30,7 @@ static void *taken(void *block) {
     return block;
 }
 
-/* Counts them as given back. What was taken before main and is given back behind it counts as nothing. */
+/* Counts them as given back. What was taken before main and is given back after it counts as nothing. */
 static void given_back(size_t size) {
     if (started) kept -= size < kept ? size : kept;
 }

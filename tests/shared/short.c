@@ -1,4 +1,4 @@
-/* Lets each read and write of a program take at most so many bytes: as many as MOST says. Loaded before the C library (LD_PRELOAD). */
+/* Lets each read and write of a program take at most MOST bytes. Loaded before the C library (LD_PRELOAD). */
 #define _GNU_SOURCE
 #include <stdlib.h>
 #include <sys/syscall.h>
