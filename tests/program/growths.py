@@ -15,7 +15,7 @@ import paths  # noqa: F401
 from allocations import Ended, shim_in
 from command import asked, fixed, new_folder
 from faults import capture
-from model import rules
+from model import answers, rules
 from model.machine import Env, Pool, Port, Ring
 from model.programs import assemble
 
@@ -44,6 +44,8 @@ def make_files(folder: pathlib.Path) -> None:
     code = assemble(COPYING.encode())
     files = {"counting": COUNTING, "looking": LOOKING, "copying": COPYING, "sending": SENDING, "lost": LOST, "broken": "exit\nfree p9\n"}
     files["copying.cert"] = rules.spelled(rules.infer(ENV, code, rules.entry_row(ENV, 1))).decode()
+    one = rules.infer(answers.ONE, assemble(COUNTING.encode()), rules.entry_row(answers.ONE, 0))
+    files["counting.cert"] = rules.spelled(one).decode()
     files["broken.cert"] = files["copying.cert"][:-2] + "\n"
     files["sound.toml"] = pipeline(["counting", "copying copying.cert", "sending"])
     files["refused.toml"] = pipeline(["counting", "copying copying.cert", "lost"])
@@ -98,7 +100,7 @@ COMMANDS = [
     (["trace", "sound.toml", "--port", "1", "--refuse", "2"], 0),
     (["trace", "sound.toml", "--only", "99"], 0),
     (["trace", "sound.toml", "--instr", "d", "--json"], 0),
-    (["trace-one", "copying", "copying.cert", "in0.pcap"], 0),
+    (["trace-one", "counting", "counting.cert", "in0.pcap"], 0),
     (["run", "sound.toml"], 0),
     (["run", "table.toml", "--refuse", "2,3"], 0),
     (["run", "sound.toml", "-U", "--in", "0=in1.pcap", "--no-in", "1", "--out", "1=other.pcap", "--no-out", "0"], 0),

@@ -192,7 +192,7 @@ class Runs(Case):
             self.assertEqual((done.status, done.reported, done.written), (3, f"fault: file {name}\n", {}))
         (self.folder / "old").write_bytes(b"old")
         self.assertEqual([*self.run_on(text.replace("out1", "old"), one, two).written], ["out0", "old"])
-        self.assertEqual(self.run_on(text.replace("out1", "old"), one, b"").written, {"out0": b""})
+        self.assertEqual(self.run_on(text.replace("out1", "old"), one, b"").written, {})
 
     def test_output_that_is_named_twice(self) -> None:
         text = pipeline([Pool(4, 0, 2176)], [port(0, "forward"), port(1, "forward")])

@@ -260,6 +260,9 @@ static CASES: &[Case] = &[
         out: Text(&[]),
         err: Text(&["error: the pipeline has no port 3\n"]),
     },
+];
+
+static CERTIFIED: &[Case] = &[
     // A pipeline is checked, and its certificates are inferred.
     Case {
         files: PROGRAMS,
@@ -304,7 +307,13 @@ static CASES: &[Case] = &[
         asked: InferAlone("free.dpv"),
         status: 1,
         out: Text(&["port 0 not inferred at 0 by J3\n"]),
-        err: Text(&[]),
+        err: Text(&[
+            "  at: free.dpv:1: free p0\n",
+            "  J3: the pool, the table, the ring and each label exist\n",
+            "  known:  the number of instructions is 1\n",
+            "  wanted: an instruction with the number 1, from 0\n",
+            "  help:   end the program with exit or jmp\n",
+        ]),
     },
 ];
 
@@ -386,8 +395,8 @@ fn replied(alloc: Global, case: &Case) -> Result<Reply, Fail> {
 }
 
 // The first case with another reply, from 0.
-fn first_wrong(alloc: Global) -> Result<Option<usize>, Fail> {
-    for (k, case) in CASES.iter().enumerate() {
+fn first_wrong(alloc: Global, cases: &[Case]) -> Result<Option<usize>, Fail> {
+    for (k, case) in cases.iter().enumerate() {
         let reply = replied(alloc, case)?;
         if !is_reply(alloc, &reply, case.status, &case.out, &case.err)? {
             return Ok(Some(k));
@@ -398,7 +407,13 @@ fn first_wrong(alloc: Global) -> Result<Option<usize>, Fail> {
 
 #[test]
 fn replies(rt: HostRuntime) -> Result<(), Fail> {
-    assert_eq!(&rt; first_wrong(rt.alloc())?, None);
+    assert_eq!(&rt; first_wrong(rt.alloc(), CASES)?, None);
+    Ok(())
+}
+
+#[test]
+fn replies_with_certificates(rt: HostRuntime) -> Result<(), Fail> {
+    assert_eq!(&rt; first_wrong(rt.alloc(), CERTIFIED)?, None);
     Ok(())
 }
 
