@@ -7,6 +7,7 @@
 set -eu
 host="$(readlink -f "$1")"
 here="$(cd "$(dirname "$0")" && pwd)"
+. "$here/hosts.sh"
 if ! ip netns add dpv_a 2>/dev/null; then
     echo "live: skipped, since this user may not make network namespaces"
     exit 0
@@ -14,20 +15,10 @@ fi
 engine=""
 clean() {
     [ -z "$engine" ] || kill "$engine" 2>/dev/null || true
-    for name in a b box; do ip netns del "dpv_$name" 2>/dev/null || true; done
+    remove_hosts dpv
 }
 trap clean EXIT
-ip netns add dpv_b
-ip netns add dpv_box
-for side in a b; do
-    ip link add "v$side" netns "dpv_$side" type veth peer name "box$side" netns dpv_box
-    for place in "dpv_$side v$side" "dpv_box box$side"; do
-        # shellcheck disable=SC2086
-        set -- $place
-        ip netns exec "$1" sysctl -qw net.ipv6.conf.all.disable_ipv6=1 2>/dev/null || true
-        ip netns exec "$1" ethtool -K "$2" tx off rx off tso off gso off gro off >/dev/null 2>&1 || true
-    done
-done
+link_hosts dpv
 
 # start FOLDER PIPELINE PORT=INTERFACE ..: starts the engine in the box.
 start() {
@@ -77,11 +68,8 @@ sys.exit(answer != hashlib.sha256(data).digest())' "$1"
 echo "two ports that cross"
 ip -n dpv_a addr add 10.9.0.1/24 dev va
 ip -n dpv_b addr add 10.9.0.2/24 dev vb
-for place in "dpv_a va" "dpv_b vb" "dpv_box boxa" "dpv_box boxb" "dpv_a lo" "dpv_b lo"; do
-    # shellcheck disable=SC2086
-    set -- $place
-    ip -n "$1" link set "$2" up
-done
+ip -n dpv_a link set lo up
+ip -n dpv_b link set lo up
 start "$here" cross.toml 0=boxa 1=boxb
 ip netns exec dpv_a ping -q -c 100 -i 0.01 10.9.0.2 | grep -E "received|rtt"
 send_megabyte 10.9.0.2
@@ -90,14 +78,7 @@ stop
 echo "examples/router"
 ip -n dpv_a addr flush dev va
 ip -n dpv_b addr flush dev vb
-ip -n dpv_a link set va address 02:00:00:00:01:01
-ip -n dpv_b link set vb address 02:00:00:00:01:02
-ip -n dpv_a addr add 10.7.0.1/32 dev va
-ip -n dpv_b addr add 10.1.0.1/32 dev vb
-ip -n dpv_a route add 10.1.0.1 dev va
-ip -n dpv_b route add 10.7.0.1 dev vb
-ip -n dpv_a neigh replace 10.1.0.1 lladdr 02:00:00:00:00:01 dev va
-ip -n dpv_b neigh replace 10.7.0.1 lladdr 02:00:00:00:00:01 dev vb
+name_neighbours dpv
 start "$here/../router" router.toml 1=boxa 2=boxb
 ip netns exec dpv_a ping -c 3 -i 0.1 10.1.0.1 | grep -E "ttl|received"
 ip netns exec dpv_a ping -q -c 1 -W 1 -t 1 10.1.0.1 | grep received || true

@@ -8,7 +8,8 @@
 set -eu
 host="$(readlink -f "$1")"
 here="$(cd "$(dirname "$0")" && pwd)"
-if ! ip netns add dpv_ra 2>/dev/null; then
+. "$here/hosts.sh"
+if ! ip netns add dpv_routes_a 2>/dev/null; then
     echo "routes: skipped, since this user may not make network namespaces"
     exit 0
 fi
@@ -16,44 +17,26 @@ folder="$(mktemp -d)"
 started=""
 clean() {
     for process in $started; do kill "$process" 2>/dev/null || true; done
-    for name in ra rb rbox; do ip netns del "dpv_$name" 2>/dev/null || true; done
+    remove_hosts dpv_routes
     rm -rf "$folder"
 }
 trap clean EXIT
-ip netns add dpv_rb
-ip netns add dpv_rbox
-for side in a b; do
-    ip link add "v$side" netns "dpv_r$side" type veth peer name "box$side" netns dpv_rbox
-    for place in "dpv_r$side v$side" "dpv_rbox box$side"; do
-        # shellcheck disable=SC2086
-        set -- $place
-        ip netns exec "$1" sysctl -qw net.ipv6.conf.all.disable_ipv6=1 2>/dev/null || true
-        ip netns exec "$1" ethtool -K "$2" tx off rx off tso off gso off gro off >/dev/null 2>&1 || true
-        ip -n "$1" link set "$2" up
-    done
-done
-ip -n dpv_ra link set va address 02:00:00:00:01:01
-ip -n dpv_rb link set vb address 02:00:00:00:01:02
-ip -n dpv_ra addr add 10.7.0.1/32 dev va
-ip -n dpv_rb addr add 10.1.0.1/32 dev vb
-ip -n dpv_ra route add 10.1.0.1 dev va
-ip -n dpv_rb route add 10.7.0.1 dev vb
-ip -n dpv_ra neigh replace 10.1.0.1 lladdr 02:00:00:00:00:01 dev va
-ip -n dpv_rb neigh replace 10.7.0.1 lladdr 02:00:00:00:00:01 dev vb
+link_hosts dpv_routes
+name_neighbours dpv_routes
 cd "$here/../router"
-ip netns exec dpv_rbox "$host" router.toml --control "$folder/control" 1=boxa 2=boxb >"$folder/said" 2>&1 &
+ip netns exec dpv_routes_box "$host" router.toml --control "$folder/control" 1=boxa 2=boxb >"$folder/said" 2>&1 &
 engine=$!
 started="$engine"
 # The requests, as the sender sends them and as the other receives them.
 for side in "a out" "b in"; do
     way="${side#* }" side="${side% *}"
-    ip netns exec "dpv_r$side" tcpdump -n -Q "$way" -i "v$side" -w "$folder/$side.pcap" --immediate-mode "icmp[icmptype] = icmp-echo" 2>/dev/null &
+    ip netns exec "dpv_routes_$side" tcpdump -n -Q "$way" -i "v$side" -w "$folder/$side.pcap" --immediate-mode "icmp[icmptype] = icmp-echo" 2>/dev/null &
     started="$started $!"
 done
 sleep 1
-ip netns exec dpv_ra ping -q -c 200 -i 0.01 10.1.0.1 >"$folder/ping" &
+ip netns exec dpv_routes_a ping -q -c 200 -i 0.01 10.1.0.1 >"$folder/ping" &
 ping=$!
-ip netns exec dpv_rb timeout 30 python3 -c '
+ip netns exec dpv_routes_b timeout 30 python3 -c '
 import socket
 with socket.create_server(("10.1.0.1", 5001)) as server:
     peer, _ = server.accept()
@@ -64,7 +47,7 @@ with socket.create_server(("10.1.0.1", 5001)) as server:
 server=$!
 started="$started $ping $server"
 sleep 0.5
-ip netns exec dpv_ra timeout 30 python3 -c '
+ip netns exec dpv_routes_a timeout 30 python3 -c '
 import socket, time
 with socket.create_connection(("10.1.0.1", 5001)) as peer:
     for _ in range(64):
