@@ -33,9 +33,9 @@ def run(words: list[str], folder: pathlib.Path, **more: str) -> subprocess.Compl
     return subprocess.run(words, cwd=folder, env=around, capture_output=True, text=True, stdin=subprocess.DEVNULL)
 
 
-def says(name: str, done: subprocess.CompletedProcess, wanted: str) -> bool:
-    """Whether a command ended well and printed these words somewhere; else it is reported."""
-    is_so = done.returncode == 0 and wanted in done.stdout + done.stderr
+def says(name: str, done: subprocess.CompletedProcess, wanted: str, status: int = 0) -> bool:
+    """Whether a command ended with this status and printed these words somewhere; else it is reported."""
+    is_so = done.returncode == status and wanted in done.stdout + done.stderr
     if not is_so:
         print(f"install: {name}: status {done.returncode}: {(done.stdout + done.stderr)[-300:]}")
     return is_so
@@ -61,6 +61,7 @@ def runs_programs(prefix: pathlib.Path, room: pathlib.Path) -> list[bool]:
         says("build", built, ""),
         says("infer-one", run([dpv, "infer-one", "built.dpv"], example), "dpv-cert"),
         says("help", run([dpv, "help"], room), "build FILE.pkt"),
+        says("no words", run([dpv], room), "build FILE.pkt", 2),
         says("filter", run([dpv, "filter", "strip.pkt", "in.pcap", "filtered.pcap"], example), "input whole"),
         is_missing(run([dpv, "filter", "nothing.pkt", "in.pcap", "filtered.pcap"], example)),
     ]
