@@ -9,7 +9,7 @@ FOLDER has libdpv.a and dpv.h, as `./dpv library FOLDER` puts them there; by def
   dpdk     examples/live/dpdk.c over net_null (frames of zeros, nothing is written) and net_pcap (one capture over and over, what is sent is
            dropped), beside the same host with no engine, and beside a loop as that of DPDK's l2fwd (bench/live/l2fwd.c)
   lcores   the same hosts and the same loop on 1, 2 and 4 lcores, over net_null and over net_ring (frames that circle between two devices), in one
-           run: frames a second by the clock, nanoseconds of processor time and, by valgrind, machine instructions for a frame
+           run: frames a second by the clock, nanoseconds of processor time and, for one lcore by valgrind, machine instructions for a frame
   sockets  examples/live/af_packet.c between two network namespaces with a sender, beside the same host with no engine
 The same host with no engine is its source over bench/live/none/dpv.h, which hands each frame across. A host is asked for its numbers twice, and
 between them its processor time is taken from /proc, so opening and closing are not in it. Prints a table for each; each figure is the best of
@@ -131,7 +131,8 @@ class Host:
         """Seconds of processor time so far: in all, and the part of it that was spent in the kernel."""
         fields = pathlib.Path(f"/proc/{self.process}/stat").read_text().rpartition(")")[2].split()
         user, kernel = int(fields[11]), int(fields[12])
-        total = int(pathlib.Path(f"/proc/{self.process}/schedstat").read_text().split()[0]) / 1e9
+        threads = pathlib.Path(f"/proc/{self.process}/task").iterdir()
+        total = sum(int((thread / "schedstat").read_text().split()[0]) for thread in threads) / 1e9
         return total, total * kernel / max(1, user + kernel)
 
     def window(self, seconds: float) -> Taken:
@@ -236,14 +237,20 @@ def counted(words: list[str], home: pathlib.Path, seconds: float) -> tuple[int, 
     run = subprocess.Popen([*tool, *words], cwd=home, stdout=subprocess.PIPE, stderr=subprocess.PIPE, text=True)
     time.sleep(seconds)
     run.send_signal(signal.SIGTERM)
-    out, said = run.communicate(timeout=60)
+    try:
+        out, said = run.communicate(timeout=60)
+    except subprocess.TimeoutExpired:
+        # (the signal came while DPDK was still starting)
+        run.kill()
+        run.communicate()
+        return None
     found = re.search(r"Collected : (\d+)", said)
     return (int(found[1]), sum(int(count) for count in re.findall(r"^port \d+ received (\d+)", out, re.M))) if found else None
 
 
 def each_frame(words: list[str], home: pathlib.Path) -> str:
     """The machine instructions of a frame: those of a long run, without those of a short one."""
-    runs = [counted(words, home, seconds) for seconds in (8, 16)] if shutil.which("valgrind") else [None]
+    runs = [counted(words, home, seconds) for seconds in (15, 25)] if shutil.which("valgrind") else [None]
     if None in runs or runs[1][1] <= runs[0][1]:
         return "-"
     return f"{(runs[1][0] - runs[0][0]) / (runs[1][1] - runs[0][1]):.0f}"
@@ -271,7 +278,8 @@ def on_lcores(library: pathlib.Path, folder: pathlib.Path, seconds: float) -> No
                     found[way].append(clocked(words, LIVE, lcores, seconds))
             for way, taken in found.items():
                 most, least = max(it[0] for it in taken), min(it[1] for it in taken)
-                print(f"{kind:<18} {way:<22} {lcores:>6} {most:>14,.0f} {least:>6.0f} {each_frame(ways[way], LIVE):>13}", flush=True)
+                count = each_frame(ways[way], LIVE) if lcores == 1 else ""
+                print(f"{kind:<18} {way:<22} {lcores:>6} {most:>14,.0f} {least:>6.0f} {count:>13}".rstrip(), flush=True)
 
 
 # ---- over packet sockets
