@@ -48,9 +48,19 @@ _dpv() {
         return
     fi
     # (bash takes PORT=NAME for three words)
+    case "$command ${COMP_WORDS[COMP_CWORD - 3]-} ${COMP_WORDS[COMP_CWORD - 1]}" in
+        "run --routes =" | "check --routes =" | "trace --routes =")
+            mapfile -t COMPREPLY < <(compgen -f -- "$word")
+            return
+            ;;
+    esac
     case "$command ${COMP_WORDS[COMP_CWORD - 1]}" in
         "run =")
             mapfile -t COMPREPLY < <(_dpv_files pcap "$word")
+            return
+            ;;
+        "run --routes" | "check --routes" | "trace --routes")
+            mapfile -t COMPREPLY < <(compgen -W "0 1 2 3" -- "$word")
             return
             ;;
         "run --in" | "run --out" | "run --no-in" | "run --no-out")
@@ -60,7 +70,7 @@ _dpv() {
     esac
     for ((place = begin + 1; place < COMP_CWORD; place++)); do
         case "${COMP_WORDS[place]}" in
-            --in | --out | --no-in | --no-out | --refuse | --records | --port | --only | --instr | --match | --room | --segs | =) place=$((place + 1)) ;;
+            --in | --out | --no-in | --no-out | --routes | --refuse | --records | --port | --only | --instr | --match | --room | --segs | --name | =) place=$((place + 1)) ;;
             --counts) [ "$command" != show ] || place=$((place + 1)) ;;
             -*) ;;
             *)
@@ -70,12 +80,12 @@ _dpv() {
         esac
     done
     case "$command $word" in
-        trace\ -*) mapfile -t COMPREPLY < <(compgen -W "--records --port --only --instr --match --refuse --json --help" -- "$word") ;;
+        trace\ -*) mapfile -t COMPREPLY < <(compgen -W "--routes --records --port --only --instr --match --refuse --json --help" -- "$word") ;;
         trace-one\ -*) mapfile -t COMPREPLY < <(compgen -W "--records --port --only --instr --match --refuse --json --unbuffered --help" -- "$word") ;;
-        run\ -*) mapfile -t COMPREPLY < <(compgen -W "--in --out --no-in --no-out --refuse --counts --source --drops --json --progress --unbuffered --help" -- "$word") ;;
-        filter\ -*) mapfile -t COMPREPLY < <(compgen -W "--room --segs --counts --source --drops --json --progress --unbuffered --help" -- "$word") ;;
+        run\ -*) mapfile -t COMPREPLY < <(compgen -W "--in --out --no-in --no-out --routes --refuse --counts --source --drops --json --progress --unbuffered --help" -- "$word") ;;
+        filter\ -*) mapfile -t COMPREPLY < <(compgen -W "--room --segs --name --counts --source --drops --json --progress --unbuffered --help" -- "$word") ;;
         one\ -*) mapfile -t COMPREPLY < <(compgen -W "--counts --source --drops --json --progress --unbuffered --help" -- "$word") ;;
-        check\ -*) mapfile -t COMPREPLY < <(compgen -W "--cost --sizes --json --help" -- "$word") ;;
+        check\ -*) mapfile -t COMPREPLY < <(compgen -W "--routes --cost --sizes --json --help" -- "$word") ;;
         explain\ -* | explain-one\ -*) mapfile -t COMPREPLY < <(compgen -W "--json --help" -- "$word") ;;
         show\ -*) mapfile -t COMPREPLY < <(compgen -W "--dot --calls --counts --help" -- "$word") ;;
         show-one\ -*) mapfile -t COMPREPLY < <(compgen -W "--dot --calls --help" -- "$word") ;;

@@ -54,6 +54,7 @@ def make_files(folder: pathlib.Path) -> None:
     files["table.toml"] = pipeline(["counting", "copying copying.cert", "looking"], TABLE)
     files["route.toml"] = files["table.toml"].replace("/25 2", "/99 2")
     files["text.toml"] = files["sound.toml"] + "port]] # one more\n"
+    files["routes.txt"] = "# more\n10.1.0.0/16 2\n10.0.0.0/8 5\n"
     files["beside/program.toml"] = files["sound.toml"].replace('"sending"', '"its"')
     files["beside/capture.toml"] = files["sound.toml"].replace('"in1.pcap"', '"its"')
     files["beside/its"], files["counting.dpv"] = SENDING, COUNTING
@@ -103,6 +104,9 @@ COMMANDS = [
     (["trace-one", "counting", "counting.cert", "in0.pcap"], 0),
     (["run", "sound.toml"], 0),
     (["run", "table.toml", "--refuse", "2,3"], 0),
+    (["run", "table.toml", "--routes", "0=routes.txt"], 0),
+    (["check", "table.toml", "--routes", "0=routes.txt", "--routes", "0=table.toml"], 3),
+    (["trace", "table.toml", "--routes", "1=routes.txt"], 2),
     (["run", "sound.toml", "-U", "--in", "0=in1.pcap", "--no-in", "1", "--out", "1=other.pcap", "--no-out", "0"], 0),
     (["run", "sound.toml", "--out", "1=a", "--out", "1=b"], 2),
     (["run", "sound.toml", "--no-in", "7"], 2),

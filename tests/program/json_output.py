@@ -257,6 +257,7 @@ def sources(program: str, folder: pathlib.Path) -> list[tuple[str, bool]]:
         ("pkt: the lines of the source", all(it["text"] == texts[it["file"]][it["line"] - 1].strip() for it in [*node["lines"], *doc["drops"]])),
         ("pkt: the report", (port["received"], port["sent"]) == (len(frames), SENT) and len(frames) - SENT == sum(DROPPED.values())),
         ("pkt: the text", printed == ["port 0 firewall.pkt", "      came      sent   dropped", *columns, *named_lines(doc), *drops]),
+        ("pkt: the heading", "port 0 firewall.pkt" in text.splitlines()),
         ("pkt: the names", {it["name"]: it["packets"] for it in doc["named"]} == NAMED and doc["named"] == counts["named"]),
         ("pkt: the names as text", text.splitlines()[-len(NAMED):] == named_lines(doc) and {it["node"] for it in doc["named"]} == {"port 0"}),
         ("pkt: no names", "named" not in document(run(dpv, folder, *words[:4], "--drops", "--json").out)),

@@ -4,7 +4,7 @@
 Usage: tests/program/messages.py [PROGRAM]   (the built program; by default the one that ./dpv builds and runs)
 Files that are missing, folders, too long, not readable or writable; captures with each cause, in another format and with other link types;
 certificates of other programs; pipelines with each cause; full disks; outputs that are inputs by the same name, by another name, by a link
-and from standard input; words of `dpv trace` that name no port; and what helps with what a user types first. The words are the system's on this
+and from standard input; words of `dpv trace` that name no port; files with routes; and what helps with what a user types first. The words are the system's on this
 host (os.strerror), or are given here.
 Then the lines of `--progress`, for captures of both byte orders and for runs that stop, and that there are none without it; and those on
 records that were dropped or cut. Prints a line for each case that failed, and a count; exits with 1 if a case failed.
@@ -240,6 +240,54 @@ def cures() -> Iterator[Case]:
     yield Case(["run", "pkt_node.toml"], 3, helped(*word, "a.pkt", f"{IS_PKT}dpv build a.pkt > a.dpv compiles it"), is_whole=True)
 
 
+# The files with routes for routed.toml, whose table 0 has a route and room for two, with the words, the cause, the reason, the line, and what helps.
+MORE = {
+    "rules.txt": b"# more\n\n11.0.0.0/8 2\n10.0.0.0/8 9\n12.0.0.0/8 3\n",
+    "all.txt": b"#\r\n0.0.0.0/0 7",
+    "kept.txt": b"10.0.0.0/8 7\n",
+    "depth.txt": b"10.0.0.0/33 1\n",
+    "hop.txt": b"10.0.0.0/8 16777216\n",
+    "deep.txt": b"10.0.0.0/25 1\n",
+    "blank.txt": b" 10.0.0.0/8 1\n",
+    "quoted.txt": b'\n"10.0.0.0/8 1"\n',
+    "marked.txt": "\ufeff10.0.0.0/8 1\n".encode(),
+    "tab.txt": "# \u00fc\n10.0.0.0/8\t1\n".encode(),
+    "return.txt": b"10.0.0.0/8 1\r",
+    "latin.txt": b"# \xfc\n10.0.0.0/8 1\n",
+    "long.txt": bytes(1_048_577),
+}
+ROUTED = [
+    (["0=rules.txt"], "4 BadTable 0 3 3", "no room for another rule", "rules.txt:5: 12.0.0.0/8 3", "route 3 is '12.0.0.0/8 3'; rules = 2 is too small for it: raise rules, to at most 65536"),
+    (["0=kept.txt", "1=none.txt", "0=all.txt"], "4 BadTable 0 2 1", "the depth is not 1 to 32", "all.txt:2: 0.0.0.0/0 7", f"route 2 is '0.0.0.0/0 7'; {HALVES}"),
+    (["1=depth.txt", "1=rules.txt"], "4 BadTable 1 0 1", "the depth is not 1 to 32", "depth.txt:1: 10.0.0.0/33 1", f"route 0 is '10.0.0.0/33 1'; {ROUTE}"),
+    (["1=rules.txt", "0=hop.txt"], "4 BadTable 0 1 2", "the hop is above 16777215", "hop.txt:1: 10.0.0.0/8 16777216", f"route 1 is '10.0.0.0/8 16777216'; {ROUTE}"),
+    (["0=deep.txt"], "4 BadTable 0 1 4", "no group left", "deep.txt:1: 10.0.0.0/25 1", "route 1 is '10.0.0.0/25 1'; groups = 0 is too small for it: raise groups, to at most 256"),
+    (["0=blank.txt"], "4 BadTable 0 1 6", "the route is not written A.B.C.D/DEPTH HOP", "blank.txt:1:  10.0.0.0/8 1", f"route 1 is ' 10.0.0.0/8 1'; {ROUTE}"),
+    (["0=quoted.txt"], "4 BadTable 0 1 6", "the route is not written A.B.C.D/DEPTH HOP", 'quoted.txt:2: "10.0.0.0/8 1"', f"route 1 is '\"10.0.0.0/8 1\"'; {ROUTE}"),
+]
+
+
+def route_files() -> Iterator[Case]:
+    """Files with routes: each cause for which one is refused, files that are no such text, and tables that the pipeline does not have."""
+    for command in ("check", "run", "trace"):
+        for words, cause, reason, place, cure in ROUTED:
+            given = [word for it in words for word in ("--routes", it)]
+            yield Case([command, "routed.toml", *given], 3, helped(cause, reason, place, cure), is_whole=True)
+        own = [command, "rules_full.toml", "--routes", "0=all.txt"]
+        yield Case(own, 3, helped(*ROUTES["rules"][:2], f"rules_full.toml:{ROUTES['rules'][2]}", ROUTES["rules"][3]), is_whole=True)
+        cure = "  help: each line is a route, A.B.C.D/DEPTH HOP, or begins with #\n"
+        for name, line in (("marked.txt", 1), ("tab.txt", 2), ("return.txt", 1)):
+            yield Case([command, "routed.toml", f"--routes=0={name}"], 3, file(name, f"line {line} has a character that is not printable ASCII") + cure, is_whole=True)
+        yield Case([command, "routed.toml", "--routes=1=latin.txt"], 3, file("latin.txt", "it is not UTF-8") + cure, is_whole=True)
+        for name, reason in (("none", system(errno.ENOENT)), ("folder", system(errno.EISDIR)), ("long.txt", "it is longer than 1048576 bytes")):
+            yield Case([command, "routed.toml", f"--routes=0={name}"], 3, file(name, reason), is_whole=True)
+        its = "its tables are the [[table]] of its file, counted from 0"
+        yield Case([command, "routed.toml", "--routes=2=kept.txt"], 2, f"error: the pipeline has no table 2: {its}\n")
+        yield Case([command, "both.toml", "--routes=0=none.txt"], 2, f"error: the pipeline has no table 0: {its}\n")
+        yield Case([command, "text.toml", "--routes", "3=kept.txt"], 3, of_pipeline("1 NotToml", "the text is not TOML"))
+        yield Case([command, "none", "--routes=4=none"], 2, "error: '4=none' is not TABLE=FILE: TABLE a digit from 0 to 3, FILE a file with a route on each line\n")
+
+
 def in_folders() -> Iterator[Case]:
     """Pipeline files in another folder that name files beside them, or files that are nowhere."""
     missing, cure = system(errno.ENOENT), "  help: run dpv in beside\n"
@@ -349,6 +397,11 @@ def progress() -> Iterator[Case]:
 def drops() -> Iterator[Case]:
     """Runs that reach their end and sent fewer packets than came in, each with its cure."""
     yield Case(["run", "narrow.toml"], 0, "port 0: 1 record is longer than it takes (64 bytes): raise segs or room\n")
+    filtered = ["filter", "forward.dpv", "wide.pcap", "out"]
+    yield Case([*filtered, "--room", "192"], 0, "port 0: 1 record is longer than it takes (64 bytes): raise --segs or --room\n")
+    yield Case([*filtered, "--room", "192", "--segs", "2"], 0, "")
+    yield Case(["filter", "forward.dpv", "widest.pcap", "out", "--room", "4096", "--segs", "64"], 0, "port 0: 1 record is longer than it takes (253952 bytes): no pipeline may have more\n")
+    yield Case(["one", "strip.dpv", "strip.cert", "widest.pcap", "out"], 0, "port 0: 1 record is longer than it takes (2048 bytes): a pipeline file may give more\n")
     yield Case(["run", "both.toml", "--refuse", "1"], 0, "port 0: 1 record got no buffers: --refuse refused 1 call\n")
     left = "a turn runs 32 packets from rings at most; let programs put fewer into rings for each record"
     yield Case(["run", "looped.toml"], 0, f"ring 0: 1 packet was left at the end: {left}\n")
@@ -379,6 +432,7 @@ def make_more(folder: pathlib.Path) -> None:
         "depth": pipeline(["none"], table=table.format("10.0.0.0/33 1")),
         "hop": pipeline(["none"], table=table.format("10.0.0.0/8 16777216")),
         "unread_route": pipeline(["none"], table=table.format("10.0.0.0 1")),
+        "routed": pipeline(["none"], table=table.replace("1", "2").format("10.0.0.0/8 1") + "[[table]]\nrules = 9\ngroups = 0\nroutes = []\n"),
         "late_full": run_of(["one.pcap", "two.pcap"], ["out0", "/dev/full"]),
         "crossed": run_of(["one.pcap", "kept.pcap"], ["kept.pcap", "out1"]),
         "two_links": run_of(["one.pcap", "101.big.pcap"], ["out0", "out1"]),
@@ -417,6 +471,9 @@ def make_more(folder: pathlib.Path) -> None:
         "loop.dpv": b"enq p0,0,d\nexit\nd: free p0\nexit\n",
         "endless.dpv": b"a: jmp a\n",
         "wide.pcap": capture(bytes(100)),
+        "widest.pcap": capture(bytes(262_144)),
+        **MORE,
+        "none.txt": b"",
         "snapped.pcap": HEADER + struct.pack("<IIII", 1, 2, 4, 60) + b"data",
         "checksums.pcap": header_of("little", 0x2400_0001),
     }
@@ -473,7 +530,7 @@ def main() -> int:
     with nested_folder() as folder:
         make_files(folder)
         make_more(folder)
-        kinds = (files, captures, links, unfit, cures, in_folders, full_disks, pipelines, same_files, no_text, traces, progress, drops, nothing_reported)
+        kinds = (files, captures, links, unfit, cures, route_files, in_folders, full_disks, pipelines, same_files, no_text, traces, progress, drops, nothing_reported)
         passed = [ends_so(program, case, folder) for kind in kinds for case in kind()]
         passed.append(goes_on(program, folder))
         passed += as_nobody(program, folder)

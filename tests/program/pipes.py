@@ -1,15 +1,17 @@
 #!/usr/bin/env python3
-"""Tests the built program dpv in pipes, and with captures that the command line gives its ports.
+"""Tests the built program dpv in pipes, and with captures and routes that the command line gives.
 
 Usage: tests/program/pipes.py [PROGRAM]   (the built program; by default the one that ./dpv builds and runs; some seconds)
 First, live runs with -U: a record is written to a pipe, and what the program makes of it is read, while the next record has not come. Then
 `-` as the capture to read and to write: the capture alone is on standard output, the report on standard error, and a file that the shell
 has opened keeps what it had. Then runs with --in, --out, --no-in and --no-out, each beside the run of a pipeline file that was edited to the
-same. Then words that give no captures, ports that the pipeline does not have, outputs that are a file which the run reads, and which fault
-is the first. Prints a line for each case that failed, and a count; exits with 1 if a case failed.
+same; and runs with --routes beside one of a pipeline file that has those routes. Then words that give no captures or routes, ports and tables
+that the pipeline does not have, outputs that are a file which the run reads, and which fault is the first. Prints a line for each case that
+failed, and a count; exits with 1 if a case failed.
 """
 import os
 import pathlib
+import re
 import select
 import shutil
 import struct
@@ -21,12 +23,13 @@ from typing import NamedTuple
 
 import paths  # noqa: F401
 
-from command import MULTICAST, STRIP, asked, new_folder, report_cases
+from command import MULTICAST, STRIP, TOP, asked, new_folder, report_cases
 from model import captures
 
 READ = "the run reads this file, so it is not overwritten"
 WRITTEN = "another port writes this file, too"
 EMPTY = captures.written(False, [])
+TABLE_WORDS = "TABLE a digit from 0 to 3, FILE a file with a route on each line"
 IN_WORDS = "PORT a digit from 0 to 7, NAME a capture, or - for the standard stream"
 
 
@@ -330,6 +333,59 @@ def not_opened(tried: Tried) -> bool:
     return came("not opened", (run.returncode, run.stderr, tried.data("new.pcap")), (0, b"", EMPTY))
 
 
+# ---- routes that are given
+
+ROUTER = TOP / "examples/router"
+FIRST = "10.0.0.0/8 1", "10.1.0.0/16 2"
+INLINE = f'table = [ # ]\n  {{ rules = 16, groups = 4, "rout\\u0065s" = ["{FIRST[0]}", """{FIRST[1]}"""] }}, # ]\n]\n'
+# What stands for the key routes of examples/router, whose routes begin with these two; and the words that give the table the others.
+ROUTED = [
+    ("routes = []", ["0=first.txt", "0=rest.txt"]),
+    (f'routes = [ # ] "\n  "{FIRST[0]}", # ]\n  \'\'\'{FIRST[1]}\'\'\',\n] # ]', ["0=rest.txt"]),
+    (f'"routes"=["{FIRST[0]}",\'{FIRST[1]}\']', ["0=rest.txt"]),
+    ('routes = ["10.1.0.0/16 7", "10.0.0.0/8 7"]', ["0=first.txt", "0=rest.txt"]),
+    (None, ["0=rest.txt"]),
+]
+
+
+def router_text(routes: str | None) -> str:
+    """The pipeline of examples/router with this in place of the key routes; or with an inline table of the first two."""
+    text = (ROUTER / "router.toml").read_text()
+    begin, end = text.index("routes = ["), text.index("]\n\n[[port]]") + 1
+    if routes is None:
+        top = text.index("[[pool]]")
+        return text[:top] + INLINE + text[top:text.index("[[table]]")] + text[end:]
+    return text[:begin] + routes + text[end:]
+
+
+def routed(tried: Tried, name: str, words: list[str]) -> list[tuple[int, bytes, bytes]]:
+    """What `run`, `check` and `trace` print of a pipeline with these words, and the captures of the run."""
+    given = [word for it in words for word in ("--routes", it)]
+    runs = [tried.run(*command, name, *given) for command in (["run"], ["check", "--cost"], ["trace", "--json"])]
+    made = [tried.folder / f"out{port}.pcap" for port in range(3)]
+    written = [(0, it.read_bytes(), b"") for it in made]
+    for it in made:
+        it.unlink()
+    return [(run.returncode, run.stdout, run.stderr) for run in runs] + written
+
+
+def given_routes(tried: Tried) -> bool:
+    """Routes from files are as good as those of the pipeline file, in each form that the key routes may have; and a run keeps their files."""
+    for it in ROUTER.iterdir():
+        shutil.copy(it, tried.folder)
+    text = (ROUTER / "router.toml").read_text()
+    rest = re.findall(r'"(\d.*?/.*?)"', text)[len(FIRST):]
+    (tried.folder / "first.txt").write_text("# the first\n\n" + "".join(f"{route}\n" for route in FIRST))
+    (tried.folder / "rest.txt").write_bytes("\r\n".join(rest).encode())
+    wanted, passed = routed(tried, "router.toml", []), len(rest) == 4
+    for routes, words in ROUTED:
+        (tried.folder / "case.toml").write_text(router_text(routes))
+        passed &= came(f"{routes} {words}", routed(tried, "case.toml", words), wanted)
+    run = tried.run("run", "router.toml", "--routes", "0=rest.txt", "--out", "1=./rest.txt")
+    reported = f"fault: file ./rest.txt\n  file: rest.txt\n  because: {READ}\n"
+    return came("routes kept", (run.returncode, run.stdout, run.stderr.decode()), (3, b"", reported)) and passed
+
+
 # ---- faults
 
 
@@ -352,7 +408,8 @@ def forms() -> list[Fault]:
     bare = ["", "8", "00", "x", "port0", "0=", "0=a", " 0", "10", "/", ":"]
     faults = [Fault([f"{option}={word}"], 2, usage(f"'{word}' is not PORT=NAME: {IN_WORDS}")) for option in ("--in", "--out") for word in named if word]
     faults += [Fault([f"{option}={word}"], 2, usage(f"'{word}' is not a port: a digit from 0 to 7")) for option in ("--no-in", "--no-out") for word in bare if word]
-    return faults
+    tables = ["0", "=", "0=", "=a", "4=a", "9=a", "00=a", "x=a", "-1=a", " 0=a", "table0=a", "0 =a", "0:a", "٠=a", "10=a", "/=a", "[[table]]"]
+    return faults + [Fault([f"--routes={word}"], 2, usage(f"'{word}' is not TABLE=FILE: {TABLE_WORDS}")) for word in tables]
 
 
 def twice() -> list[Fault]:
@@ -406,6 +463,10 @@ def first_faults() -> list[Fault]:
         Fault(["--in", "y", "--no-in", "x", "--out", "9"], 2, usage(f"'y' is not PORT=NAME: {IN_WORDS}")),
         Fault(["--no-in", "x", "--out", "9"], 2, usage("'x' is not a port: a digit from 0 to 7")),
         Fault(["--out", "9", "--no-out", "x"], 2, usage(f"'9' is not PORT=NAME: {IN_WORDS}")),
+        Fault(["--routes", "y", "--out", "9"], 2, usage(f"'9' is not PORT=NAME: {IN_WORDS}")),
+        Fault(["--routes", "0=none", "--routes", "y"], 2, usage(f"'y' is not TABLE=FILE: {TABLE_WORDS}")),
+        Fault(["--routes", "3=none", "--in", "7=none"], 3, none),
+        Fault(["--routes", "3=/dev/null", "--in", "7=none"], 2, usage("the pipeline has no table 3: its tables are the [[table]] of its file, counted from 0")),
         Fault(["--in", "7=none", "--in", "0=none"], 2, usage("the pipeline has no port 7")),
         Fault(["--out", "0=in0.pcap", "--in", "1=none"], 3, none),
         Fault(["--out", "0=none/none", "--in", "0=none", "--in", "1=none/none"], 3, none),
@@ -446,7 +507,7 @@ TRIED: list[Callable[[Tried], bool]] = [
     stream_clash((*ONE, "in.pcap", "-"), ">> in.pcap", "-", "in.pcap"),
     stream_clash((*ONE, "-", "in.pcap"), "< in.pcap", "in.pcap", "-"),
     stream_clash((*ONE, "-", "-"), "< in.pcap >> in.pcap", "-", "-"),
-    named_dash, given_streams, not_opened, not_loaded,
+    named_dash, given_streams, not_opened, given_routes, not_loaded,
 ]
 
 

@@ -183,6 +183,12 @@ const NO_OUT: Word = Word {
     help: "a port whose records are dropped",
 };
 
+const ROUTES: Word = Word {
+    name: "routes",
+    form: Form::Repeated("TABLE=FILE"),
+    help: "a file with a route on each line, which a table gets after its own routes",
+};
+
 const REFUSE: Word = Word {
     name: "refuse",
     form: Form::Valued("LIST"),
@@ -231,6 +237,12 @@ const SEGS: Word = Word {
     help: "how many segments a received record may have, 1 if not given",
 };
 
+const NAME: Word = Word {
+    name: "name",
+    form: Form::Valued("NAME"),
+    help: "what --counts calls the program, PROGRAM if not given",
+};
+
 const SOURCE: Word = Word {
     name: "source",
     form: Form::Flag,
@@ -266,6 +278,7 @@ const VERBS: &[Verb] = &[
             &OUT,
             &ROOM,
             &SEGS,
+            &NAME,
             &COUNTS,
             &SOURCE,
             &DROPS,
@@ -293,7 +306,7 @@ const VERBS: &[Verb] = &[
     Verb {
         name: "check",
         about: "Checks the programs of a pipeline",
-        words: &[&FILE, &COST, &SIZES, &JSON],
+        words: &[&FILE, &ROUTES, &COST, &SIZES, &JSON],
     },
     Verb {
         name: "infer",
@@ -339,6 +352,7 @@ const VERBS: &[Verb] = &[
             &REPLACED_OUT,
             &NO_IN,
             &NO_OUT,
+            &ROUTES,
             &REFUSE,
             &COUNTS,
             &SOURCE,
@@ -353,6 +367,7 @@ const VERBS: &[Verb] = &[
         about: "Prints the first records of a pipeline instruction by instruction, and writes no capture",
         words: &[
             &FILE,
+            &ROUTES,
             &RECORDS,
             &PORT,
             &REFUSE,

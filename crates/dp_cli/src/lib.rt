@@ -14,6 +14,7 @@ mod operands;
 mod program;
 mod reading;
 mod request;
+mod routes;
 mod running;
 mod tracing;
 

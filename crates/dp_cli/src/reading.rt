@@ -6,10 +6,11 @@ ghost use Rattle.dp_cli.specs.Operands.{word_of};
 
 use crate::operands::node_named;
 use crate::request::{Request, wrong};
+use crate::routes::{read_routes, routes_named, test_tables};
 use dp_console::{FAULT, MEMORY, Reply};
 use dp_model::Entry;
 use dp_pipe::{How, Survey, survey_of};
-use dp_sources::{Fault, Source, Sources, Subject, read, read_sources};
+use dp_sources::{Fault, RouteFile, Source, Sources, Subject, joined, read, read_sources};
 use dp_verdict::{failed, misread};
 use std::alloc::Global;
 use std::rt::Files;
@@ -18,20 +19,24 @@ use std::rt::Files;
 #[derive(Drop)]
 pub struct Given {
     pub source: Source,
+    /// The files with more routes.
+    pub routes: Vec<RouteFile>,
+    /// The text of the file with those routes.
+    joined: Vec<u8>,
     pub survey: Survey,
 }
 
 impl Given {
-    /// The text of the file.
+    /// The text of the file, with the routes that the command line gives.
     pub fn text(&self) -> &[u8] {
-        self.source.bytes.as_slice()
+        self.joined.as_slice()
     }
 
     /// The pipeline as the subject of a command.
     pub fn subject(&self) -> Subject<'_> {
         Subject::Pipeline {
             file: self.source.name.as_str(),
-            text: self.source.bytes.as_slice(),
+            text: self.joined.as_slice(),
             survey: &self.survey,
         }
     }
@@ -78,22 +83,35 @@ pub fn read_file<R: Files>(
     }
 }
 
-/// Reads the pipeline file of a command.
+/// Reads the pipeline file of a command, and the files with more routes.
 ///
 /// # Errors
 ///
-/// The reply if it is not read, or is not a pipeline file.
+/// The reply to wrong words; or if a file is not read, or they are not a pipeline.
 pub fn read_pipeline<R: Files>(request: &Request<'_, '_, R>, is_json: bool) -> Result<Given, Reply>
     ensures { IfErr result IsUndone }
 {
+    let alloc = request.alloc;
+    let named = routes_named(request, is_json)?;
     let source = read_file(request, request.word("FILE"), is_json)?;
-    match survey_of(request.alloc, source.bytes.as_slice()) {
-        Ok(survey) => Ok(Given { source, survey }),
+    let routes = read_routes(request, named.as_slice(), is_json)?;
+    let (name, text) = (source.name.as_str(), source.bytes.as_slice());
+    let Ok(joined) = joined(alloc, text, routes.as_slice()) else {
+        return Err(without_memory(alloc, is_json));
+    };
+    let survey = match survey_of(alloc, joined.as_slice()) {
+        Ok(survey) => survey,
         Err(error) => {
-            let (name, text) = (source.name.as_str(), source.bytes.as_slice());
-            Err(misread(request.alloc, name, text, error, is_json))
+            return Err(misread(alloc, name, text, routes.as_slice(), error, is_json));
         }
-    }
+    };
+    test_tables(alloc, routes.as_slice(), survey.env())?;
+    Ok(Given {
+        source,
+        routes,
+        joined,
+        survey,
+    })
 }
 
 /// Reads the programs and certificates of a command's nodes, or of one.

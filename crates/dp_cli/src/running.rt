@@ -14,7 +14,7 @@ ghost use Rattle.dp_runs.specs.Replies.{IsReplied, status_of};
 ghost use Rattle.dp_sources.specs.Faults as faults;
 
 use crate::operands::{number_within, numbers_in};
-use crate::reading::{read_nodes, read_pipeline, without_memory};
+use crate::reading::{Given, read_nodes, read_pipeline, without_memory};
 use crate::request::{Request, wrong};
 use clap::ArgMatches;
 use dp_captures::{
@@ -28,7 +28,7 @@ use dp_model::{Entry, Env, MAX_ROOM, MAX_SEGMENTS, MIN_PORT_ROOM, PoolSpec, Port
 use dp_pipe::{How, NodeName, Pipeline, SingleFiles, load, load_single};
 use dp_region::{CACHE_LINE, MAX_REGION, MIN_REGION};
 use dp_runs::{
-    Counting, Notes, Printing, ProgramText, Ran, Wanted, Watcher, problem_of_run, reply_of,
+    Counting, Notes, Origin, Printing, ProgramText, Ran, Wanted, Watcher, problem_of_run, reply_of,
     run_over,
 };
 use dp_sources::{
@@ -194,38 +194,54 @@ pub fn unopened<R: Files>(
     failed(alloc, fault_of(name, problem, words, help), is_json)
 }
 
-/// The texts of the programs of a pipeline, in the order of its nodes.
+/// The texts of the programs of a pipeline, in the order of its nodes. They are called by this name, if there is one, and else as their files.
 fn programs_of<'a>(
     alloc: Global,
     pipeline: &Pipeline,
     subject: Subject<'a>,
     sources: &'a Sources,
+    called: Option<&'a str>,
 ) -> Result<Vec<ProgramText<'a>>, AllocError> {
     let mut programs = Vec::new(alloc);
     for k in 0..pipeline.nodes() {
         let node = pipeline.node(k).entry();
-        let name = match subject.node(node) {
+        let file = match subject.node(node) {
             Some(asked) => asked.program,
             None => "",
         };
-        let text = sources.get(name).unwrap_or(&[]);
+        let name = called.unwrap_or(file);
+        let text = sources.get(file).unwrap_or(&[]);
         programs.push(ProgramText { node, name, text })?;
     }
     Ok(programs)
+}
+
+/// Notes that a run reads a pipeline file and the files with its routes.
+fn note_pipeline<R: Files>(
+    request: &Request<'_, '_, R>,
+    file: &Given,
+    reads: &mut Vec<ReadFile>,
+) -> Result<(), AllocError> {
+    let (rt, alloc) = (request.rt, request.alloc);
+    note_read(rt, alloc, &mut *reads, file.source.name.as_str())?;
+    for routes in &file.routes {
+        note_read(rt, alloc, &mut *reads, routes.source.name.as_str())?;
+    }
+    Ok(())
 }
 
 /// The files that a run reads besides its captures: those of the programs, and its own.
 fn reads_of<R: Files>(
     request: &Request<'_, '_, R>,
     sources: &Sources,
-    file: Option<&str>,
+    file: Option<&Given>,
 ) -> Result<Vec<ReadFile>, AllocError> {
     let mut reads = Vec::new(request.alloc);
     for source in &sources.files {
         note_read(request.rt, request.alloc, &mut reads, source.name.as_str())?;
     }
     if let Some(file) = file {
-        note_read(request.rt, request.alloc, &mut reads, file)?;
+        note_pipeline(request, file, &mut reads)?;
     }
     Ok(reads)
 }
@@ -269,15 +285,15 @@ struct Options {
     is_json: bool,
     is_progress: bool,
     is_unbuffered: bool,
-    /// Whether the pipeline has a port alone, and no file.
-    is_single: bool,
+    /// Where the numbers of the pipeline are given.
+    origin: Origin,
     /// Whether a capture goes to standard output.
     is_stdout_taken: bool,
     wanted: Wanted,
 }
 
 /// What the words ask for of a run with these captures.
-fn options_in<R>(request: &Request<'_, '_, R>, given: &Replacements<'_>, is_single: bool) -> Options
+fn options_in<R>(request: &Request<'_, '_, R>, given: &Replacements<'_>, origin: Origin) -> Options
     ensures json { IsFlag (found_of request.now.words.now) (codes "json") result.is_json }
     ensures taken { result.is_stdout_taken ≡ takes_stream given.now.outputs.items }
 {
@@ -285,7 +301,7 @@ fn options_in<R>(request: &Request<'_, '_, R>, given: &Replacements<'_>, is_sing
         is_json: request.flag("json"),
         is_progress: request.flag("progress"),
         is_unbuffered: request.flag("unbuffered"),
-        is_single,
+        origin,
         is_stdout_taken: given.take_stdout(),
         wanted: wanted_in(request),
     }
@@ -341,7 +357,7 @@ fn run_opened<K: CompiledPrograms, R: Files>(
         region,
         needed,
         truncated: truncated_in(inputs),
-        is_single: options.is_single,
+        origin: options.origin,
     };
     let problem = problem_of_run(names, inputs, &ran);
     remove_empty_outputs(rt, alloc, names, outputs);
@@ -433,18 +449,19 @@ fn run_ready<K: CompiledPrograms, R: Files>(
 /// # Errors
 ///
 /// The reply if memory is refused.
-fn ready_of<'a, R: Files>(
-    request: &Request<'_, '_, R>,
+fn ready_of<'a, 'w: 'a, R: Files>(
+    request: &Request<'_, 'w, R>,
     pipeline: Pipeline,
     subject: Subject<'a>,
     sources: &'a Sources,
-    file: Option<&str>,
+    file: Option<&Given>,
 ) -> Result<Ready<'a>, Reply>
     ensures ready { IfOk result (λ ready. ready.pipeline ≡ pipeline) }
     ensures memory { IfErr result (λ reply. reply.status ≡ 4) }
 {
     let is_json = request.flag("json");
-    let Ok(programs) = programs_of(request.alloc, &pipeline, subject, sources) else {
+    let called = request.value("name");
+    let Ok(programs) = programs_of(request.alloc, &pipeline, subject, sources, called) else {
         return Err(without_memory(request.alloc, is_json));
     };
     let Ok(reads) = reads_of(request, sources, file) else {
@@ -504,7 +521,7 @@ fn ran<K: CompiledPrograms, R: Files>(
     let alloc = request.alloc;
     let pattern = refused_in(request)?;
     let given = captures_in(request)?;
-    let options = options_in(request, &given, false);
+    let options = options_in(request, &given, Origin::File);
     let file = read_pipeline(request, options.is_json)?;
     let subject = file.subject();
     let sources = read_nodes(request, subject, None, How::Given, options.is_json)?;
@@ -519,8 +536,7 @@ fn ran<K: CompiledPrograms, R: Files>(
     if reports_interpreted {
         note_interpreted::<K>(&pipeline, &mut notes);
     }
-    let name = Some(file.source.name.as_str());
-    let ready = ready_of(request, pipeline, subject, &sources, name)?;
+    let ready = ready_of(request, pipeline, subject, &sources, Some(&file))?;
     match run_ready::<K, R>(request, ready, &given, pattern, options) {
         Ok(reply) => Ok(after(alloc, notes, reply)),
         Err(reply) => Err(after(alloc, notes, reply)),
@@ -536,6 +552,14 @@ pub fn run_file<K: CompiledPrograms, R: Files>(
 {
     match ran::<K, R>(request, reports_interpreted) {
         Ok(reply) | Err(reply) => reply,
+    }
+}
+
+/// Where the numbers of a pipeline of one program are given: only `dpv filter` runs one without a certificate.
+fn origin_of(cert: Option<&str>) -> Origin {
+    match cert {
+        Some(_) => Origin::Fixed,
+        None => Origin::Options,
     }
 }
 
@@ -555,7 +579,7 @@ fn run_single<R: Files>(
     let Ok(given) = Replacements::of_one(alloc, files.input, files.output) else {
         return Err(without_memory(alloc, request.flag("json")));
     };
-    let options = options_in(request, &given, true);
+    let options = options_in(request, &given, origin_of(files.cert));
     let subject = Subject::Single {
         env,
         program: files.program,

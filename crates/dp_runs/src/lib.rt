@@ -17,7 +17,7 @@ mod report;
 mod run;
 
 pub use counting::{Counting, ProgramText, Wanted};
-pub use notes::Notes;
+pub use notes::{Notes, Origin};
 pub use reply::{Printing, reply_of, say_stop, status_of};
 pub use report::print_report;
 pub use run::{Ran, Watcher, problem_of_run, run_line, run_over};

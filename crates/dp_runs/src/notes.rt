@@ -7,6 +7,17 @@ use dp_pipe::NodeName;
 use dp_region::{CACHE_LINE, MIN_REGION};
 use std::fmt;
 
+/// Where the numbers of a run's pipeline are given, which may be too small.
+#[derive(Clone, Copy)]
+pub enum Origin {
+    /// In a pipeline file.
+    File,
+    /// In the options of `dpv filter`, for the segments and the room of its port.
+    Options,
+    /// Nowhere: they are those of `dpv one`.
+    Fixed,
+}
+
 /// What is known about a run that its report does not have.
 #[derive(Clone, Copy)]
 pub struct Notes {
@@ -15,8 +26,8 @@ pub struct Notes {
     pub needed: u64,
     /// For each port, how many records were cut by the capture's snap length.
     pub truncated: [u64; 8],
-    /// Whether there is no pipeline file, in which numbers could be raised.
-    pub is_single: bool,
+    /// Where a number could be raised.
+    pub origin: Origin,
 }
 
 /// The notes on a run.
@@ -33,7 +44,7 @@ pub(crate) struct NoteText<'a> {
 /// What helps.
 #[derive(Clone, Copy)]
 enum Cure {
-    /// A number of the pipeline file may be raised.
+    /// A number of the pipeline file, or an option, may be raised.
     Raise(&'static str),
     /// A number of this pool may be raised.
     RaiseCount(u32),
@@ -86,12 +97,20 @@ impl fmt::Display for Number {
 }
 
 impl NoteText<'_> {
-    /// What helps where a number of the pipeline file is too small.
+    /// What helps where a number of the pipeline is too small that a file has, and no option.
     fn cure(&self, is_at_limit: bool, cure: Cure) -> Cure {
-        match cure {
-            _ if self.notes.is_single => Cure::WriteFile,
+        match self.notes.origin {
             _ if is_at_limit => Cure::AtLimit,
-            _ => cure,
+            Origin::File => cure,
+            Origin::Options | Origin::Fixed => Cure::WriteFile,
+        }
+    }
+
+    /// What helps where records are longer than a port takes.
+    fn cure_of_length(&self, is_at_limit: bool) -> Cure {
+        match self.notes.origin {
+            Origin::Options if !is_at_limit => Cure::Raise("--segs or --room"),
+            _ => self.cure(is_at_limit, Cure::Raise("segs or room")),
         }
     }
 
@@ -124,7 +143,7 @@ impl NoteText<'_> {
         } = numbers;
         if oversize > 0 {
             let (longest, is_at_limit) = longest_record(port, self.env.pools());
-            let cure = self.cure(is_at_limit, Cure::Raise("segs or room"));
+            let cure = self.cure_of_length(is_at_limit);
             let records = Number(oversize, "record is", "records are");
             writeln!(
                 f,

@@ -1,6 +1,7 @@
 //! Says which line of a pipeline file is at fault, and what helps.
 
 use crate::keys::key_fault;
+use crate::route_files::{RouteFile, route_in};
 use crate::routes::RouteHelp;
 use dp_console::Text;
 use dp_lang::{SourceLine, source_line};
@@ -49,12 +50,13 @@ fn key_in(line: &str) -> Option<&str> {
     Some(key.trim().trim_matches('"'))
 }
 
-/// A pipeline file: its name, its text and its table.
+/// A pipeline file: its name, its text, its table, and the files with more routes.
 #[derive(Clone, Copy)]
 struct PipelineFile<'a> {
     name: &'a str,
     text: &'a str,
     top: &'a Table,
+    routes: &'a [RouteFile],
 }
 
 /// The line that assigns a value to a key of a part, or else the header of the part. The part is the one with this index among its kind.
@@ -197,23 +199,31 @@ impl<'a> PipelineFile<'a> {
         }
     }
 
-    /// Says which route of a table is refused.
+    /// Says which route of a table is refused: one of the pipeline file, or of a file with more routes.
     fn say_route(self, err: &mut Text, index: usize, route: usize, error: RouteError) {
         let Some(table) = self.table(Part::Table, index) else {
             return;
         };
+        let own = routes_of(table);
+        let given = match route.checked_sub(own.len()) {
+            Some(place) => route_in(self.routes, index, place),
+            None => None,
+        };
+        let (file, line, words) = match given {
+            Some((file, line)) => (file, Some(line), line.text),
+            None => (
+                self.name,
+                self.line_of_route(table, index, route),
+                text_at(own, route),
+            ),
+        };
         let help = RouteHelp {
             table,
             route,
-            words: text_at(routes_of(table), route),
+            words,
             error,
         };
-        say_place(
-            err,
-            self.name,
-            self.line_of_route(table, index, route),
-            help,
-        );
+        say_place(err, file, line, help);
     }
 }
 
@@ -299,9 +309,16 @@ fn line_of_offset(text: &str, offset: usize) -> Option<SourceLine<'_>> {
     source_line(text, number.saturating_add(1))
 }
 
-/// Says which line of a pipeline file is at fault, and what helps, for a text that was refused with this error. Says nothing if the error is not in the
-/// text alone, or memory ran out.
-pub fn say_pipeline_help(alloc: Global, file: &str, text: &[u8], error: PipeError, err: &mut Text) {
+/// Says which line of a pipeline file, or of a file with more routes, is at fault, and what helps, for a text that was refused with this error. Says
+/// nothing if the error is not in the text alone, or memory ran out.
+pub fn say_pipeline_help(
+    alloc: Global,
+    file: &str,
+    text: &[u8],
+    routes: &[RouteFile],
+    error: PipeError,
+    err: &mut Text,
+) {
     if let PipeError::Memory = error {
         return;
     }
@@ -326,6 +343,7 @@ pub fn say_pipeline_help(alloc: Global, file: &str, text: &[u8], error: PipeErro
         name: file,
         text,
         top: &top,
+        routes,
     };
     match error {
         PipeError::BadKey { part, index } => {

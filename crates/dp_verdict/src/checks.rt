@@ -11,7 +11,9 @@ use crate::report::{Report, failed, reply_of};
 use dp_console::{MEMORY, Reply, Text};
 use dp_model::Entry;
 use dp_pipe::{How, PipeError, Pipeline, load};
-use dp_sources::{Fault, Lent, Sources, Subject, fault_of, say_pipeline_help, say_remedy};
+use dp_sources::{
+    Fault, Lent, RouteFile, Sources, Subject, fault_of, say_pipeline_help, say_remedy,
+};
 use std::alloc::{AllocError, Global};
 
 /// The nodes of a pipeline, which are all accepted.
@@ -167,11 +169,18 @@ pub fn check_text(
     (reply, loaded)
 }
 
-/// What is said of a text that is not read as a pipeline.
-pub fn misread(alloc: Global, file: &str, text: &[u8], error: PipeError, is_json: bool) -> Reply
+/// What is said of a text that, with the routes of these files, is not read as a pipeline.
+pub fn misread(
+    alloc: Global,
+    file: &str,
+    text: &[u8],
+    routes: &[RouteFile],
+    error: PipeError,
+    is_json: bool,
+) -> Reply
     ensures { result.status ≡ 0 → ⊥ }
 {
     let mut reply = failed(alloc, Fault::of_pipeline(error), is_json);
-    say_pipeline_help(alloc, file, text, error, &mut reply.err);
+    say_pipeline_help(alloc, file, text, routes, error, &mut reply.err);
     reply
 }

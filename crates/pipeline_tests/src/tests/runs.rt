@@ -15,7 +15,7 @@ use dp_counts::Refusals;
 use dp_engine::{Nothing, Report};
 use dp_model::Env;
 use dp_pipe::Pipeline;
-use dp_runs::{Notes, Printing, Ran, Wanted, Watcher, reply_of};
+use dp_runs::{Notes, Origin, Printing, Ran, Wanted, Watcher, reply_of};
 use std::alloc::{AllocError, Global};
 use std::io::Stderr;
 use std::test::Fail;
@@ -357,7 +357,7 @@ fn reply<'p>(
             region: 65_536,
             needed: 4096,
             truncated: [0; 8],
-            is_single: false,
+            origin: Origin::File,
         }),
     };
     reply_of(alloc, ran, &printing)

@@ -1,0 +1,141 @@
+//! Files with routes, which the command line gives tables beside the routes of the pipeline.
+//!
+//! Each line of such a file is a route, as in a pipeline's `routes`; an empty line, and one that begins with `#`, is none. [`joined`] adds the routes to
+//! their tables and prints the pipeline again: that text is loaded. What is said of other faults is said of the pipeline's own text.
+
+ghost use Rattle.std.specs.Prelude.{◌≡◌, [], IfOk};
+
+use crate::source::Source;
+use dp_lang::SourceLine;
+use std::alloc::{AllocError, Global};
+use toml::ser::Error;
+use toml::{Table, Value};
+
+/// A file with routes for a table.
+#[derive(Drop)]
+pub struct RouteFile {
+    /// The number of the table.
+    pub table: usize,
+    pub source: Source,
+}
+
+/// Whether a line has a route.
+fn has_route(line: &str) -> bool {
+    !line.is_empty() && !line.starts_with('#')
+}
+
+/// Whether all characters of a line are printable ASCII.
+fn is_printable(line: &str) -> bool {
+    line.as_bytes()
+        .iter()
+        .all(|byte| matches!(*byte, b' '..=b'~'))
+}
+
+impl RouteFile {
+    /// Its text. It is empty if the file is not UTF-8.
+    fn text(&self) -> &str {
+        str::from_utf8(self.source.bytes.as_slice()).unwrap_or("")
+    }
+
+    /// Whether it is UTF-8.
+    pub fn is_text(&self) -> bool {
+        str::from_utf8(self.source.bytes.as_slice()).is_ok()
+    }
+
+    /// The number of its first line that has a route with a character that is not printable ASCII.
+    pub fn strange_line(&self) -> Option<usize> {
+        let mut number = 0usize;
+        for line in self.text().lines() {
+            number = number.saturating_add(1);
+            if has_route(line) && !is_printable(line) {
+                return Some(number);
+            }
+        }
+        None
+    }
+
+    /// The line of a route of the file, by its place from 0; or the number of routes, if there are no more.
+    fn route(&self, place: usize) -> Result<SourceLine<'_>, usize> {
+        let (mut number, mut routes) = (0usize, 0usize);
+        for text in self.text().lines() {
+            number = number.saturating_add(1);
+            if has_route(text) {
+                if routes == place {
+                    return Ok(SourceLine { number, text });
+                }
+                routes = routes.saturating_add(1);
+            }
+        }
+        Err(routes)
+    }
+}
+
+/// The file and the line of a route that files give a table, by its place from 0 among those.
+pub(crate) fn route_in(
+    files: &[RouteFile],
+    table: usize,
+    place: usize,
+) -> Option<(&str, SourceLine<'_>)> {
+    let mut left = place;
+    for file in files {
+        if file.table == table {
+            match file.route(left) {
+                Ok(line) => return Some((file.source.name.as_str(), line)),
+                Err(routes) => left = left.saturating_sub(routes),
+            }
+        }
+    }
+    None
+}
+
+/// The routes of a table of a pipeline, if it has them.
+fn routes_of(top: &mut Table, table: usize) -> Option<&mut Vec<Value>> {
+    top.get_mut("table")?
+        .get_mut(table)?
+        .get_mut("routes")?
+        .as_array_mut()
+}
+
+/// Adds the routes of a file to those of its table, if the pipeline has it.
+fn add_file(alloc: Global, file: &RouteFile, top: &mut Table) -> Result<(), AllocError> {
+    let Some(routes) = routes_of(top, file.table) else {
+        return Ok(());
+    };
+    for line in file.text().lines() {
+        if has_route(line) {
+            routes.push(Value::string(alloc, line)?)?;
+        }
+    }
+    Ok(())
+}
+
+/// A pipeline's text with the routes of files.
+fn printed(alloc: Global, top: &mut Table, files: &[RouteFile]) -> Result<String, Error> {
+    for file in files {
+        add_file(alloc, file, &mut *top)?;
+    }
+    toml::table_to_string(alloc, top)
+}
+
+/// A pipeline's text with the routes of these files after those of their tables. A text that is not TOML stays as it is.
+///
+/// # Errors
+///
+/// `AllocError` if memory is refused.
+pub fn joined(alloc: Global, text: &[u8], files: &[RouteFile]) -> Result<Vec<u8>, AllocError>
+    ensures { files.now ≡ [] → IfOk result (λ joined. joined.items ≡ text.now) }
+{
+    if files.is_empty() {
+        return text.to_vec(alloc);
+    }
+    let mut top = match toml::table_from_slice(alloc, text) {
+        Ok(top) => top,
+        Err(error) if error.is_memory() => return Err(AllocError),
+        Err(_) => return text.to_vec(alloc),
+    };
+    match printed(alloc, &mut top, files) {
+        Ok(printed) => Ok(printed.into_bytes()),
+        Err(Error::OutOfMemory) => Err(AllocError),
+        Err(Error::DateInvalid) => text.to_vec(alloc),
+    }
+}
