@@ -5,11 +5,12 @@ use Rattle.std.specs.Prelude.{slice_get, flat_map}
 use Rattle.std.specs.Io.KnownBytes.{Appends}
 use Rattle.std.proofs.lemmas.Option.{same_Some}
 use Rattle.std.proofs.KnownBytes.{Appends-nil, Appends-trans}
+use Rattle.dp_pcap.specs.declared.byte_order.Order.{Order}
 use Rattle.dp_pcap.specs.declared.time.Time.{Time}
 use Rattle.dp_pcap.specs.declared.time.Unit.{Unit as TimeUnit}
 use Rattle.dp_pcap.specs.SourceState.{SourceState}
-use Rattle.dp_pcap.specs.Source.{WhereKnown}
-use Rattle.dp_pcap.specs.Capture.{PacketRecord}
+use Rattle.dp_pcap.specs.Source.{WhereKnown, HasRead}
+use Rattle.dp_pcap.specs.Capture.{PacketRecord, AreRecords}
 use Rattle.dp_pcap.specs.Text.{header_text, head_text, record_text, text}
 use Rattle.dp_pcap.specs.Laws.Chaining.{length_head}
 use Rattle.dp_model.specs.Machine.{World}
@@ -18,7 +19,7 @@ use Rattle.dp_engine.specs.Drains.{captured, Written, WrotePart, IsCalledFor}
 use Rattle.dp_pipe.specs.Devices.{Device, IsGiven}
 use Rattle.dp_engine.specs.declared.report.InputState.{InputState}
 use Rattle.dp_engine.specs.declared.report.InputState.TheVariants.{Open, Whole, Cut}
-use Rattle.dp_pipe.specs.Forwarding.{Input, InputGives, HasReadSo, IsRead, IsReadBy, DrainedPart, records_text}
+use Rattle.dp_pipe.specs.Forwarding.{Input, InputGives, HasReadSo, IsRead, IsReadBy, PullsUpTo, DrainedPart, last_pulls, records_text}
 
 -- ---- lengths of texts
 
@@ -52,6 +53,37 @@ length_more unit xs r = omega (
 -- a header alone
 pub length_none : (unit : TimeUnit) → length (text unit []) ≡ 24
 length_none unit = omega (arith, length-append (header_text unit) [], length_header unit)
+
+-- records are as long as their text, in any unit
+length_body : (order : Order) (unit to : TimeUnit) (records : List PacketRecord) (body : List ℕ) → AreRecords order unit records body
+    → length body ≡ length (records_text to records)
+length_body order unit to [] body are = ap length are
+length_body order unit to (x ∷ records) body (head, more, is, split, are) =
+    let size : length head ≡ 16 = is.size in
+    omega (
+      arith,
+      size,
+      ap length split,
+      length-append (head ++ x.bytes) more,
+      length-append head x.bytes,
+      length_body order unit to records more are,
+      length-append (record_text to x) (records_text to records),
+      length_record to x,
+    )
+
+-- and so is all that was read
+length_read : (s : SourceState) (to : TimeUnit) (records : List PacketRecord) (bytes rest : List ℕ) (h : HasRead bytes s records rest)
+    → length (h.header ++ h.body) ≡ length (text to records)
+length_read s to records bytes rest h =
+    let size : length h.header ≡ 24 = h.is_header.size in
+    omega (
+      arith,
+      size,
+      length-append h.header h.body,
+      length_body s.order s.unit to records h.body h.are_records,
+      length-append (header_text to) (records_text to records),
+      length_header to,
+    )
 
 -- ---- writers
 
@@ -104,4 +136,23 @@ pub read_as : (i : Input) (s : SourceState) (a b : Device) → s.unit ≡ i.unit
 read_as i s a b same by = record {
   gives = known_map a.bytes b.bytes _ _ (λ bytes rest has. gives_of i.state s i.unit i.records bytes rest same has) by.has;
   calls = by.calls;
+  pulls = by.pulls;
+}
+
+-- an open input took at most one call for each byte that came
+pulls_open : (state : InputState) (s : SourceState) (unit : TimeUnit) (records : List PacketRecord) (bytes rest : List ℕ) (old new : ℕ) → state ≡ Open
+    → HasReadSo state s records bytes rest → new ≤ old + length (text unit records) + last_pulls state → PullsUpTo state old new bytes rest
+pulls_open Open s unit records bytes rest old new is h few =
+    let most : new ≤ old + length (text unit records) + 0 = few in
+    let all : new ≤ old + (length (h.header ++ h.body) + 0) = omega (arith, most, length_read s unit records bytes rest h) in
+    (h.header ++ h.body, h.whole, all)
+pulls_open Whole s unit records bytes rest old new is h few = cc
+pulls_open (Cut byte) s unit records bytes rest old new is h few = cc
+
+pub read_open : (i : Input) (s : SourceState) (a b : Device) → i.state ≡ Open → WhereKnown a.bytes b.bytes (HasReadSo i.state s i.records)
+    → b.calls ≤ a.calls + length (text i.unit i.records) + last_pulls i.state → IsReadBy i s a b
+read_open i s a b is has calls = record {
+  has = has;
+  calls = calls;
+  pulls = known_map a.bytes b.bytes _ _ (λ bytes rest h. pulls_open i.state s i.unit i.records bytes rest a.calls b.calls is h calls) has;
 }

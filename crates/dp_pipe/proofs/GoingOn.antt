@@ -14,7 +14,7 @@ use Rattle.dp_pcap.specs.declared.source.Next.TheVariants as next
 use Rattle.dp_pcap.specs.SourceState.{SourceState}
 use Rattle.dp_pcap.specs.Capture.{PacketRecord, IsCapture}
 use Rattle.dp_pcap.specs.Capture as capture
-use Rattle.dp_pcap.specs.Source.{WhereKnown, HasRead, Continues, IsInRange, Moves, advanced, max_pulls, over}
+use Rattle.dp_pcap.specs.Source.{WhereKnown, HasRead, Continues, IsInRange, Moves, advanced, over}
 use Rattle.dp_model.specs.Machine.{Setting}
 use Rattle.dp_model.specs.Runs.{records_at, joined}
 use Rattle.dp_engine.specs.declared.report.InputState.{InputState}
@@ -23,12 +23,13 @@ use Rattle.dp_engine.specs.Engines.{EngineState}
 use Rattle.dp_pipe.specs.declared.forwarding.InputProgress.{InputProgress}
 use Rattle.dp_pipe.specs.Devices.{Device, Transfer}
 use Rattle.dp_pipe.specs.Forwarding.{Input, HasReadSo, IsProgressOf, ReadsTurn, HasTurn, DrainedAll, DrainedFirst, Follows}
-use Rattle.dp_pipe.specs.Forwarding.{Advances, RunUntil, AnswersSo, asked, arrivals_of, HasRun, last_pulls, records_many, unit_for}
+use Rattle.dp_pipe.specs.Forwarding.{Advances, RunUntil, AnswersSo, HasPulled, PullsUpTo, asked, arrivals_of, HasRun, last_pulls, records_many, unit_for}
 use Rattle.dp_pipe.proofs.RunOn.{run_on, arrival}
 use Rattle.dp_pipe.proofs.Advancing.{with_record, ended, arrivals_more, arrivals_ended, order_next, wrote_more, joined_many}
 use Rattle.dp_pipe.proofs.Units.{units_set}
 use Rattle.dp_pipe.proofs.Stepping.{input_at, all_progress, calls_ended, calls_more, known_then, open_read, progress_more, progress_ended}
-use Rattle.dp_pipe.proofs.Giving.{known_map}
+use Rattle.dp_pipe.proofs.Stepping.{pulls_ended, pulls_whole, pulls_cut}
+use Rattle.dp_pipe.proofs.Giving.{known_map, read_open}
 
 -- what all steps of a round share: as many inputs, readers and writers as ports
 pub record AreMany (e : EngineState) (holds : List Device) : Type 0 where
@@ -131,11 +132,10 @@ module _ {unit : TimeUnit} {e0 e : EngineState} {t : Transfer} {progress : List 
             ∙ omega (arith, along.total, many_more inputs port i r i_here);
         progress_is = all_progress port b along.progress_is is_progress (λ old at.
             let was = along.progress_is.read port p i here i_here old a at left_a in
-            record {
-              has = known_then old.bytes a.bytes b.bytes _ _ _ (λ bytes left rest before now. rw i_open
-                  (now bytes i.records (open_read i.state p.source i.records bytes left i_open before))) was.has more;
-              calls = calls_more i time len buf old.calls a.calls b.calls i_open fits was.calls pulls;
-            });
+            read_open i' p'.source old b i_open
+            (known_then old.bytes a.bytes b.bytes _ _ _ (λ bytes left rest before now. rw i_open
+            (now bytes i.records (open_read i.state p.source i.records bytes left i_open before))) was.has more)
+            (calls_more i time len buf old.calls a.calls b.calls i_open fits was.calls pulls));
         order = order_next inputs round port i' along.order (rw i_open (length-append i.records (r ∷ []) ∙ ap (λ m. m + 1) count));
         captures = joined along.captures (records_at time e1.world);
         many = joined_many along.captures (records_at time e1.world) (along.many ∙ sym long) ∙ along.many;
@@ -147,12 +147,12 @@ module _ {unit : TimeUnit} {e0 e : EngineState} {t : Transfer} {progress : List 
 
   -- the input ended
   ended_on : {e' : EngineState} {holds : List Device} (state : InputState) → (state ≡ Open → ⊥)
-      → b.calls ≤ a.calls + last_pulls state
+      → b.calls ≤ a.calls + last_pulls state → WhereKnown a.bytes b.bytes (PullsUpTo state a.calls b.calls)
       → WhereKnown a.bytes b.bytes (λ left rest. (bytes : List ℕ) (records : List PacketRecord) → HasRead bytes p.source records left →
       HasReadSo state p'.source records bytes rest)
       → p'.source ≡ over p.source → p'.state ≡ state → e' ≡ e → holds ≡ t.holds
       → RunUntil unit e0 e' (after_asking t port b holds) (slice_set progress port p') (slice_set inputs port (ended state i)) round (port + 1)
-  ended_on state closed pulls more moved is e_is holds_is = rw (e_is, holds_is) (record {
+  ended_on state closed pulls last more moved is e_is holds_is = rw (e_is, holds_is) (record {
     first = along.first;
     held_many = along.held_many;
     inputs_many = length-set inputs port (ended state i) ∙ along.inputs_many;
@@ -164,6 +164,7 @@ module _ {unit : TimeUnit} {e0 e : EngineState} {t : Transfer} {progress : List 
           has = known_then old.bytes a.bytes b.bytes _ _ _
               (λ bytes left rest before now. now bytes i.records (open_read i.state p.source i.records bytes left i_open before)) was.has more;
           calls = calls_ended i old.calls a.calls b.calls (last_pulls state) i_open was.calls pulls;
+          pulls = pulls_ended i state old a b i_open was.pulls last;
         });
     order = order_next inputs round port (ended state i) along.order (less state closed);
     captures = along.captures;
@@ -182,20 +183,20 @@ module _ {unit : TimeUnit} {e0 e : EngineState} {t : Transfer} {progress : List 
       → (inputs' : List Input) × RunUntil unit e0 e' (after_asking t port b holds) (slice_set progress port p') inputs' round (port + 1)
   goes_on {e' = e'} {holds = holds} step = go step.next step.read step.pulls step.in_range step.moves step.follows
     where
-      go : (answer : Result Next PcapError) → ReadsTurn port e step.engine p.source p'.source a.bytes b.bytes answer → b.calls ≤ a.calls + max_pulls answer
+      go : (answer : Result Next PcapError) → ReadsTurn port e step.engine p.source p'.source a.bytes b.bytes answer → HasPulled answer a b
           → IsInRange p.source answer → Moves p.source p'.source answer → Follows port unit step.engine e' p'.state t.holds holds answer (Ok tt)
           → (inputs' : List Input) × RunUntil unit e0 e' (after_asking t port b holds) (slice_set progress port p') inputs' round (port + 1)
-      go (Ok (Record time len)) (buf, more, (fits, turn)) pulls (nano, few, less) moves (open_p', drains) =
+      go (Ok (Record time len)) (buf, more, (fits, turn)) (pulls, last) (nano, few, less) moves (open_p', drains) =
           (_, record_on time len buf step.engine e' holds fits pulls more less moves turn open_p' drains)
-      go (Ok End) (buf, more, same) pulls range moves (is, ok, e_is, holds_is) = (
+      go (Ok End) (buf, more, same) (pulls, last) range moves (is, ok, e_is, holds_is) = (
         _,
-        ended_on Whole (λ c. cc) pulls (known_map a.bytes b.bytes _ _
+        ended_on Whole (λ c. cc) pulls (pulls_whole a b last) (known_map a.bytes b.bytes _ _
             (λ left rest now bytes records has. whole_read p.source p'.source records bytes moves (now bytes records has)) more) moves is
             (e_is ∙ same) holds_is,
       )
-      go (Ok (next.Cut byte)) (buf, more, same) pulls range moves (is, ok, e_is, holds_is) = (
+      go (Ok (next.Cut byte)) (buf, more, same) (pulls, last) range moves (is, ok, e_is, holds_is) = (
         _,
-        ended_on (Cut byte) (λ c. cc) pulls (known_map a.bytes b.bytes _ _
+        ended_on (Cut byte) (λ c. cc) pulls (pulls_cut byte a b last) (known_map a.bytes b.bytes _ _
             (λ left rest now bytes records has. cut_read byte p.source p'.source records bytes moves (now bytes records has)) more) moves is
             (e_is ∙ same) holds_is,
       )

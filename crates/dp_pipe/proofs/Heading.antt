@@ -19,7 +19,7 @@ use Rattle.dp_pipe.specs.declared.forwarding.InputProgress.{InputProgress}
 use Rattle.dp_pipe.specs.Devices.{Device, IsGiven, IsGivenPart, Fared}
 use Rattle.dp_pipe.specs.Forwarding.{is_nano, units_of, IsProgressOf, AreProgressOf, IsReadBy, IsRead, AreRead}
 use Rattle.dp_pipe.specs.Running.{all_begun, with_states, AreUnread, HeadersStopped, ReadsBadHeader, HasHeaderFault, IsBegun, begun}
-use Rattle.dp_pipe.proofs.Giving.{length_none, read_as}
+use Rattle.dp_pipe.proofs.Giving.{length_none, read_as, read_open}
 
 -- an input has nanoseconds where its source has
 pub any_nano : (inputs : List InputProgress) → list_any is_nano (units_of (all_begun inputs)) ≡ list_any (λ (p : InputProgress). is_nano p.source.unit) inputs
@@ -227,10 +227,8 @@ progress_begun p is = record {
 
 -- so its source has read no record yet
 unread_by : (p : InputProgress) (a b : Device) → p.state ≡ Open → HeaderRead p.source a b → IsReadBy (begun p) p.source a b
-unread_by p a b is h = record {
-  has = rw is h.has;
-  calls = rw is (omega (arith, h.calls, length_none p.source.unit));
-}
+unread_by p a b is h =
+    read_open (begun p) p.source a b is (rw is h.has) (rw is (omega (arith, h.calls, length_none p.source.unit)))
 
 pub all_progress : {R : Type 0} {device : R → Device} {failures : R → ℕ} {is_broken : R → Bool} {n : ℕ} {olds news : List R} {inputs : List InputProgress}
     → ReadFirst device failures is_broken n olds news inputs → AreProgressOf (map device olds) (map device news) inputs (all_begun inputs)

@@ -1,21 +1,25 @@
 -- An input is read, and the run continues.
 use Rattle.std.proofs.Common.{◌≡◌, ◌≢◌, ℕ, ◌<◌, true, List, [], ◌∷◌, ◌++◌, ◌+◌, ◌≤◌, length, length-take-le, take, Option, Some, None, refl, sym, ◌∙◌, ap}
-use Rattle.std.proofs.Common.{arith, ◌⊎◌, inl, inr}
+use Rattle.std.proofs.Common.{arith, ◌⊎◌, inl, inr, Ok, Err}
 use Rattle.std.specs.Prelude.{slice_get, slice_set}
-use Rattle.std.proofs.lemmas.List.{length-append, length-set}
+use Rattle.std.proofs.lemmas.List.{append_assoc, length-append, length-set}
 use Rattle.std.proofs.lemmas.Option.{slice_get_within}
+use Rattle.dp_pcap.specs.declared.error.PcapError.{PcapError}
+use Rattle.dp_pcap.specs.declared.error.PcapError.TheVariants.{BadMagic, BadVersion, BadLink, BadTime, TooLong, ShortHeader, TooMany, Read}
+use Rattle.dp_pcap.specs.declared.source.Next.TheVariants.{End}
+use Rattle.dp_pcap.specs.declared.source.Next.TheVariants as next
 use Rattle.dp_pcap.specs.declared.time.Time.{Time}
 use Rattle.dp_pcap.specs.SourceState.{SourceState}
 use Rattle.dp_pcap.specs.Capture.{PacketRecord}
-use Rattle.dp_pcap.specs.Source.{WhereKnown, HasRead, advanced, over}
+use Rattle.dp_pcap.specs.Source.{WhereKnown, HasRead, PullsFor, advanced, over, pulls_of}
 use Rattle.dp_pcap.specs.Text.{text}
 use Rattle.dp_model.specs.Laws.Lists.{get_set_other, get_within}
 use Rattle.dp_engine.specs.declared.report.InputState.{InputState}
 use Rattle.dp_engine.specs.declared.report.InputState.TheVariants.{Open, Whole, Cut}
 use Rattle.dp_pipe.specs.declared.forwarding.InputProgress.{InputProgress}
 use Rattle.dp_pipe.specs.Devices.{Device}
-use Rattle.dp_pipe.specs.Forwarding.{Input, HasReadSo, IsReadBy, IsGoingOn, IsProgressOf, AreProgressOf, last_pulls}
-use Rattle.dp_pipe.proofs.Giving.{length_more}
+use Rattle.dp_pipe.specs.Forwarding.{Input, HasReadSo, IsReadBy, IsGoingOn, IsProgressOf, AreProgressOf, PullsUpTo, LastPulls, end_pulls, last_pulls}
+use Rattle.dp_pipe.proofs.Giving.{known_map, length_more}
 use Rattle.dp_pipe.proofs.Forwarded.{split}
 use Rattle.dp_pipe.proofs.Indices.{set_here}
 use Rattle.dp_pipe.proofs.Advancing.{with_record, ended}
@@ -96,6 +100,64 @@ calls_more i time len buf a b c is fits before now =
 pub calls_ended : (i : Input) (a b c more : ℕ) → i.state ≡ Open → b ≤ a + length (text i.unit i.records) + last_pulls i.state → c ≤ b + more
     → c ≤ a + length (text i.unit i.records) + more
 calls_ended i a b c more is before now = let none : last_pulls i.state ≡ 0 = rw is refl in omega (arith, before, now, none)
+
+-- ---- calls for bytes that came in pieces
+
+-- two pieces, one after the other
+both_came : (bytes left rest first more : List ℕ) → bytes ≡ first ++ left → left ≡ more ++ rest → bytes ≡ (first ++ more) ++ rest
+both_came bytes left rest first more those these = those ∙ ap (λ l. first ++ l) these ∙ sym (append_assoc first more rest)
+
+pulls_join : (i : Input) (state : InputState) (old a b : ℕ) (bytes left rest : List ℕ) → i.state ≡ Open → PullsUpTo i.state old a bytes left
+    → PullsUpTo state a b left rest → PullsUpTo state old b bytes rest
+pulls_join i state old a b bytes left rest is (first, those, few) (more, these, last) =
+    let none : end_pulls i.state ≡ 0 = rw is refl in
+    (first ++ more, both_came bytes left rest first more those these, omega (arith, few, last, none, length-append first more))
+
+-- the input was open until its end was found
+pub pulls_ended : (i : Input) (state : InputState) (old a b : Device) → i.state ≡ Open
+    → WhereKnown old.bytes a.bytes (PullsUpTo i.state old.calls a.calls) → WhereKnown a.bytes b.bytes (PullsUpTo state a.calls b.calls)
+    → WhereKnown old.bytes b.bytes (PullsUpTo state old.calls b.calls)
+pulls_ended i state old a b is =
+    known_then old.bytes a.bytes b.bytes (PullsUpTo i.state old.calls a.calls) (PullsUpTo state a.calls b.calls) (PullsUpTo state old.calls b.calls)
+    (λ bytes left rest before now. pulls_join i state old.calls a.calls b.calls bytes left rest is before now)
+
+-- more bytes before a fault take one more call each
+pulls_beyond : (error : PcapError) (m n : ℕ) → pulls_of (Err error) (m + n) ≡ m + pulls_of (Err error) n
+pulls_beyond BadMagic m n = refl
+pulls_beyond BadVersion m n = refl
+pulls_beyond BadLink m n = refl
+pulls_beyond BadTime m n = refl
+pulls_beyond TooLong m n = refl
+pulls_beyond ShortHeader m n = refl
+pulls_beyond TooMany m n = omega arith
+pulls_beyond Read m n = omega arith
+pulls_beyond error m n = refl
+
+pulls_to : (i : Input) (error : PcapError) (old a b : ℕ) (bytes left rest : List ℕ) → i.state ≡ Open → PullsUpTo i.state old a bytes left
+    → PullsFor (Err error) a b left rest → PullsFor (Err error) old b bytes rest
+pulls_to i error old a b bytes left rest is (first, those, few) (more, these, last) =
+    let none : end_pulls i.state ≡ 0 = rw is refl in
+    let long : pulls_of (Err error) (length (first ++ more)) ≡ length first + pulls_of (Err error) (length more) =
+    ap (λ n. pulls_of (Err error) n) (length-append first more) ∙ pulls_beyond error (length first) (length more) in
+    (first ++ more, both_came bytes left rest first more those these, omega (arith, few, last, none, long))
+
+-- or until its fault
+pub pulls_failed : (i : Input) (error : PcapError) (old a b : Device) → i.state ≡ Open
+    → WhereKnown old.bytes a.bytes (PullsUpTo i.state old.calls a.calls) → LastPulls (Err error) a b
+    → WhereKnown old.bytes b.bytes (PullsFor (Err error) old.calls b.calls)
+pulls_failed i error old a b is =
+    known_then old.bytes a.bytes b.bytes (PullsUpTo i.state old.calls a.calls) (PullsFor (Err error) a.calls b.calls)
+    (PullsFor (Err error) old.calls b.calls)
+    (λ bytes left rest before now. pulls_to i error old.calls a.calls b.calls bytes left rest is before now)
+
+-- the last calls of an input that is whole or cut
+pub pulls_whole : (a b : Device) → LastPulls (Ok End) a b → WhereKnown a.bytes b.bytes (PullsUpTo Whole a.calls b.calls)
+pulls_whole a b = known_map a.bytes b.bytes (PullsFor (Ok End) a.calls b.calls) (PullsUpTo Whole a.calls b.calls) (λ left rest now. now)
+
+pub pulls_cut : (byte : ℕ) (a b : Device) → LastPulls (Ok (next.Cut byte)) a b → WhereKnown a.bytes b.bytes (PullsUpTo (Cut byte) a.calls b.calls)
+pulls_cut byte a b = known_map a.bytes b.bytes (PullsFor (Ok (next.Cut byte)) a.calls b.calls) (PullsUpTo (Cut byte) a.calls b.calls) (λ left rest now. now)
+
+-- ---- progress
 
 -- after a record
 pub progress_more : (p p' : InputProgress) (i : Input) (time : Time) (len : ℕ) (buf : List ℕ) → IsProgressOf p i → p.state ≡ Open → p'.state ≡ Open →

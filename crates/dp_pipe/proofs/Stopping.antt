@@ -23,14 +23,14 @@ use Rattle.dp_pipe.specs.Devices.{Device, Transfer}
 use Rattle.dp_pipe.specs.declared.forwarding.RunCause.{RunCause}
 use Rattle.dp_pipe.specs.declared.forwarding.RunCause.TheVariants.{In, Out}
 use Rattle.dp_pipe.specs.Forwarding.{Input, IsReadTo, AreRead, Refuses, IsProgressOf, AreProgressOf, ReadsTurn, Follows, Advances, RunUntil, StopsRun}
-use Rattle.dp_pipe.specs.Forwarding.{HasTurn, DrainsStopped, arrivals_of, unit_for}
+use Rattle.dp_pipe.specs.Forwarding.{HasTurn, HasPulled, DrainsStopped, arrivals_of, unit_for}
 use Rattle.dp_pipe.proofs.Indices.{set_here}
 use Rattle.dp_pipe.proofs.RunOn.{arrival}
 use Rattle.dp_pipe.proofs.Advancing.{with_record, arrivals_more, order_next}
 use Rattle.dp_pipe.proofs.GoingOn.{after_asking, wanted}
 use Rattle.dp_pipe.proofs.Units.{units_set}
-use Rattle.dp_pipe.proofs.Stepping.{input_at, all_progress, calls_ended, calls_more, known_then, open_read, progress_more}
-use Rattle.dp_pipe.proofs.Giving.{read_as}
+use Rattle.dp_pipe.proofs.Stepping.{input_at, all_progress, calls_ended, calls_more, known_then, open_read, progress_more, pulls_failed}
+use Rattle.dp_pipe.proofs.Giving.{read_as, read_open}
 
 -- ---- states
 
@@ -130,11 +130,10 @@ module _ {unit : TimeUnit} {e0 e : EngineState} {t : Transfer} {progress : List 
       let is_progress = progress_more p p' i time len buf i_progress open_p is moves less in
       let progress_is = all_progress port b along.progress_is is_progress (λ old at.
       let was = along.progress_is.read port p i here i_here old a at left_a in
-      record {
-        has = known_then old.bytes a.bytes b.bytes _ _ _ (λ bytes left rest before now. rw i_open
-            (now bytes i.records (open_read i.state p.source i.records bytes left i_open before))) was.has more;
-        calls = calls_more i time len buf old.calls a.calls b.calls i_open fits was.calls pulls;
-      }) in (
+      read_open i' p'.source old b i_open
+      (known_then old.bytes a.bytes b.bytes _ _ _ (λ bytes left rest before now. rw i_open
+      (now bytes i.records (open_read i.state p.source i.records bytes left i_open before))) was.has more)
+      (calls_more i time len buf old.calls a.calls b.calls i_open fits was.calls pulls)) in (
         slice_set inputs port i',
         states_same progress_is,
         record {
@@ -166,20 +165,21 @@ module _ {unit : TimeUnit} {e0 e : EngineState} {t : Transfer} {progress : List 
       ∙ set_itself (map state_at progress) port p.state (states_get progress port p here))
 
   -- what was read up to a fault
-  read_to : (error : PcapError) (buf : List ℕ) → b.calls ≤ a.calls + max_pulls (Err error)
+  read_to : (error : PcapError) (buf : List ℕ) → HasPulled (Err error) a b
       → WhereKnown a.bytes b.bytes (λ left rest. Continues p.source p'.source left rest buf (Err error))
       → (old : Device) → slice_get t.had port ≡ Some old → IsReadTo i error old b
-  read_to error buf pulls more old at =
+  read_to error buf (pulls, last) more old at =
       let was = along.progress_is.read port p i here i_here old a at left_a in
       record {
         refuses = known_then old.bytes a.bytes b.bytes _ _ _ (λ bytes left rest before now.
             refuses_of error p.source p'.source i.unit i.records bytes rest buf i_progress.unit
             (now bytes i.records (open_read i.state p.source i.records bytes left i_open before))) was.has more;
         calls = calls_ended i old.calls a.calls b.calls 262160 i_open was.calls (omega (arith, pulls, pulls_most error));
+        pulls = pulls_failed i error old a b i_open was.pulls last;
       }
 
   -- the input is at fault
-  refused_here : (error : PcapError) (buf : List ℕ) → b.calls ≤ a.calls + max_pulls (Err error)
+  refused_here : (error : PcapError) (buf : List ℕ) → HasPulled (Err error) a b
       → WhereKnown a.bytes b.bytes (λ left rest. Continues p.source p'.source left rest buf (Err error)) → p'.state ≡ Open
       → StopsRun unit e0 e (after_asking t port b t.holds) (slice_set progress port p') (In port error)
   refused_here error buf pulls more is = (
@@ -212,10 +212,10 @@ module _ {unit : TimeUnit} {e0 e : EngineState} {t : Transfer} {progress : List 
       same_err : (x y : RunCause) → ◌≡◌ {A = Result ⊤ RunCause} (Err x) (Err y) → x ≡ y
       same_err x y e = cc
 
-      go : (answer : Result Next PcapError) → ReadsTurn port e step.engine p.source p'.source a.bytes b.bytes answer → b.calls ≤ a.calls + max_pulls answer
+      go : (answer : Result Next PcapError) → ReadsTurn port e step.engine p.source p'.source a.bytes b.bytes answer → HasPulled answer a b
           → IsInRange p.source answer → Moves p.source p'.source answer → Follows port unit step.engine e' p'.state t.holds holds answer (Err cause)
           → StopsRun unit e0 e' (after_asking t port b holds) (slice_set progress port p') cause
-      go (Ok (Record time len)) (buf, more, (fits, turn)) pulls (nano, few, less) moves (is, q, cause_is, stops) =
+      go (Ok (Record time len)) (buf, more, (fits, turn)) (pulls, last) (nano, few, less) moves (is, q, cause_is, stops) =
           rw cause_is (failed_after holds time len buf step.engine e' q fits pulls more less moves turn is stops)
       go (Ok End) reads pulls range moves (is, bad, e_is, holds_is) = cc
       go (Ok (next.Cut byte)) reads pulls range moves (is, bad, e_is, holds_is) = cc

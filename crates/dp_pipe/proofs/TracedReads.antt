@@ -10,7 +10,7 @@ use Rattle.dp_model.specs.Runs.{Arrival, with_empty_outboxes}
 use Rattle.dp_model.specs.Laws.Lists.{each_at, get_set_other, get_within, map_get, set_itself}
 use Rattle.dp_pcap.specs.Capture.{PacketRecord}
 use Rattle.dp_pcap.specs.SourceState.{SourceState}
-use Rattle.dp_pcap.specs.Source.{WhereKnown, HasRead, Continues, IsInRange, Moves, advanced, max_pulls, over}
+use Rattle.dp_pcap.specs.Source.{WhereKnown, HasRead, Continues, IsInRange, Moves, advanced, over}
 use Rattle.dp_pcap.specs.declared.format.TheConstants.{MAX_RECORD}
 use Rattle.dp_pcap.specs.declared.error.PcapError.{PcapError}
 use Rattle.dp_pcap.specs.declared.source.Next.{Next}
@@ -22,7 +22,8 @@ use Rattle.dp_engine.specs.declared.report.InputState.TheVariants.{Open, Whole, 
 use Rattle.dp_engine.specs.Engines.{EngineState}
 use Rattle.dp_engine.specs.Watching.{Event}
 use Rattle.dp_pipe.specs.Devices.{Device}
-use Rattle.dp_pipe.specs.Forwarding.{Input, AreProgressOf, AnswersSo, HasReadSo, IsReadTo, IsProgressOf, arrivals_of, asked, last_pulls}
+use Rattle.dp_pipe.specs.Forwarding.{Input, AreProgressOf, AnswersSo, HasReadSo, IsReadTo, IsProgressOf, HasPulled, PullsUpTo, arrivals_of, asked}
+use Rattle.dp_pipe.specs.Forwarding.{last_pulls}
 use Rattle.dp_pipe.specs.Running.{IsBegun, IsHeaderCause, all_begun, begun}
 use Rattle.dp_pipe.specs.Tracing.{Note, IsTraced, HasTraced, TracesRead, TracedUntil, TracesRecords, TracesNext, FollowsTraced, TracesInput}
 use Rattle.dp_pipe.specs.Tracing.{IsNotAsked, TracesStep, TracesUntil, NoneIsWanted}
@@ -31,13 +32,14 @@ use Rattle.dp_pipe.specs.declared.forwarding.RunCause.{RunCause}
 use Rattle.dp_pipe.specs.declared.forwarding.RunCause.TheVariants.{Memory, NoRoom, In, Out}
 use Rattle.dp_pipe.proofs.Advancing.{with_record, ended, arrivals_grown, arrivals_ended, given_few, asked_next, more_due}
 use Rattle.dp_pipe.proofs.Forwarded.{split}
-use Rattle.dp_pipe.proofs.Giving.{known_map}
+use Rattle.dp_pipe.proofs.Giving.{known_map, read_open}
 use Rattle.dp_pipe.proofs.GoingOn.{wanted, whole_read, cut_read}
 use Rattle.dp_pipe.proofs.Heading.{answers_at}
 use Rattle.dp_pipe.proofs.Indices.{set_here}
 use Rattle.dp_pipe.proofs.Lending.{has_room}
 use Rattle.dp_pipe.proofs.RunOn.{arrival}
 use Rattle.dp_pipe.proofs.Stepping.{input_at, all_progress, calls_ended, calls_more, known_then, open_going, open_read, progress_more, progress_ended}
+use Rattle.dp_pipe.proofs.Stepping.{pulls_ended, pulls_failed, pulls_whole, pulls_cut}
 use Rattle.dp_pipe.proofs.Stopping.{are_read, pulls_most, refuses_of}
 use Rattle.dp_pipe.proofs.Through.{asked_none, no_arrivals}
 use Rattle.dp_pipe.proofs.TracedTurns.{traced_none, traced_push}
@@ -214,11 +216,10 @@ module _ {V : Type 0} {sees : V → Event → V → Type 0} {noted : V → Note 
               (progress_more p p' i time len buf i_progress open_p open_p' moved less)
               (λ old at.
               let was = until.progress_is.read port p i here i_here old a at left_a in
-              record {
-                has = known_then old.bytes a.bytes b.bytes _ _ _ (λ bytes rest last before now. rw is_open
-                    (now bytes i.records (open_read i.state p.source i.records bytes rest is_open before))) was.has more;
-                calls = calls_more i time len buf old.calls a.calls b.calls is_open fits was.calls pulls;
-              });
+              read_open i' p'.source old b is_open
+              (known_then old.bytes a.bytes b.bytes _ _ _ (λ bytes rest last before now. rw is_open
+              (now bytes i.records (open_read i.state p.source i.records bytes rest is_open before))) was.has more)
+              (calls_more i time len buf old.calls a.calls b.calls is_open fits was.calls pulls));
           reached = round;
           coming = port + 1;
           order = until_next only round port until.inputs i' of order (rw is_open (length-append i.records (r ∷ []) ∙ ap (λ m. m + 1) count));
@@ -230,11 +231,12 @@ module _ {V : Type 0} {sees : V → Event → V → Type 0} {noted : V → Note 
 
     -- the input ended
     ended_on : (state : InputState) → (state ≡ Open → ⊥) → IsTraced only port → p.state ≡ Open → 1 ≤ need → b.calls ≤ a.calls + last_pulls state
+        → WhereKnown a.bytes b.bytes (PullsUpTo state a.calls b.calls)
         → WhereKnown a.bytes b.bytes (λ rest last. (bytes : List ℕ) (records : List PacketRecord) → HasRead bytes p.source records rest →
         HasReadSo state p'.source records bytes last)
         → p'.source ≡ over p.source → p'.state ≡ state → v' ≡ v → e' ≡ e → need' ≡ need
         → TracesUntil sees noted v0 v' only most e0 e' had (slice_set left port b) (slice_set progress port p') round (port + 1) need'
-    ended_on state closed of open_p some pulls more moved is v_is e_is need_is =
+    ended_on state closed of open_p some pulls final more moved is v_is e_is need_is =
         let is_open = i_open open_p in
         let count = count_now of open_p some in
         let arrivals : arrivals_of (slice_set until.inputs port (ended state i)) ≡ arrivals_of until.inputs = arrivals_ended until.inputs port i state i_here in
@@ -251,6 +253,7 @@ module _ {V : Type 0} {sees : V → Event → V → Type 0} {noted : V → Note 
                 has = known_then old.bytes a.bytes b.bytes _ _ _
                     (λ bytes rest last before now. now bytes i.records (open_read i.state p.source i.records bytes rest is_open before)) was.has more;
                 calls = calls_ended i old.calls a.calls b.calls (last_pulls state) is_open was.calls pulls;
+                pulls = pulls_ended i state old a b is_open was.pulls final;
               });
           reached = round;
           coming = port + 1;
@@ -267,10 +270,10 @@ module _ {V : Type 0} {sees : V → Event → V → Type 0} {noted : V → Note 
         less (Cut byte) closed count = omega (arith, count)
 
     -- it is at fault
-    fault_here : (error : PcapError) (buf : List ℕ) → IsTraced only port → p.state ≡ Open → 1 ≤ need → b.calls ≤ a.calls + max_pulls (Err error)
+    fault_here : (error : PcapError) (buf : List ℕ) → IsTraced only port → p.state ≡ Open → 1 ≤ need → HasPulled (Err error) a b
         → WhereKnown a.bytes b.bytes (λ rest last. Continues p.source p'.source rest last buf (Err error)) → v' ≡ v → e' ≡ e
         → TracesRecords sees noted v0 v' only most e0 e' had (slice_set left port b) (Err (In port error))
-    fault_here error buf of open_p some pulls more v_is e_is =
+    fault_here error buf of open_p some (pulls, final) more v_is e_is =
         let is_open = i_open open_p in
         let long = ap length until.arrivals_are in
         rw (v_is, e_is) (record {
@@ -295,6 +298,7 @@ module _ {V : Type 0} {sees : V → Event → V → Type 0} {noted : V → Note 
                       refuses_of error p.source p'.source i.unit i.records bytes last buf i_progress.unit
                       (now bytes i.records (open_read i.state p.source i.records bytes rest is_open before))) was.has more;
                   calls = calls_ended i old.calls a.calls b.calls 262160 is_open was.calls (omega (arith, pulls, pulls_most error));
+                  pulls = pulls_failed i error old a b is_open was.pulls final;
                 });
             others = λ q j other at old new x y.
                 are_read until.progress_is q j at old new x (sym (get_set_other left port q b other) ∙ y);
@@ -307,17 +311,17 @@ module _ {V : Type 0} {sees : V → Event → V → Type 0} {noted : V → Note 
     goes_on step = go step.next step.read step.pulls step.in_range step.moves step.follows
       where
         go : (answer : Result Next PcapError) → TracesNext sees noted v v' port e step.engine p.source p'.source a.bytes b.bytes answer →
-            b.calls ≤ a.calls + max_pulls answer → IsInRange p.source answer → Moves p.source p'.source answer →
+            HasPulled answer a b → IsInRange p.source answer → Moves p.source p'.source answer →
             FollowsTraced step.engine e' p'.state need need' answer (Ok tt)
             → TracesUntil sees noted v0 v' only most e0 e' had (slice_set left port b) (slice_set progress port p') round (port + 1) need'
-        go (Ok (Record time len)) (buf, more, (fits, t, bytes_are)) pulls (nano, few, less) moves (open_p', ok, e_is, fewer) =
+        go (Ok (Record time len)) (buf, more, (fits, t, bytes_are)) (pulls, final) (nano, few, less) moves (open_p', ok, e_is, fewer) =
             record_on time len buf step.engine step.is_traced step.is_open step.some fits pulls more less moves open_p' t bytes_are e_is fewer
-        go (Ok End) (buf, more, (v_is, same)) pulls range moves (is, ok, e_is, need_is) =
-            ended_on Whole (λ c. cc) step.is_traced step.is_open step.some pulls (known_map a.bytes b.bytes _ _
+        go (Ok End) (buf, more, (v_is, same)) (pulls, final) range moves (is, ok, e_is, need_is) =
+            ended_on Whole (λ c. cc) step.is_traced step.is_open step.some pulls (pulls_whole a b final) (known_map a.bytes b.bytes _ _
             (λ rest last now bytes records has. whole_read p.source p'.source records bytes moves (now bytes records has)) more) moves is v_is (e_is ∙ same)
             need_is
-        go (Ok (next.Cut byte)) (buf, more, (v_is, same)) pulls range moves (is, ok, e_is, need_is) =
-            ended_on (Cut byte) (λ c. cc) step.is_traced step.is_open step.some pulls (known_map a.bytes b.bytes _ _
+        go (Ok (next.Cut byte)) (buf, more, (v_is, same)) (pulls, final) range moves (is, ok, e_is, need_is) =
+            ended_on (Cut byte) (λ c. cc) step.is_traced step.is_open step.some pulls (pulls_cut byte a b final) (known_map a.bytes b.bytes _ _
             (λ rest last now bytes records has. cut_read byte p.source p'.source records bytes moves (now bytes records has)) more) moves is v_is
             (e_is ∙ same) need_is
         go (Err error) reads pulls range moves (is, bad, e_is, need_is) = cc
@@ -331,7 +335,7 @@ module _ {V : Type 0} {sees : V → Event → V → Type 0} {noted : V → Note 
         same_error x y is = cc
 
         go : (answer : Result Next PcapError) → TracesNext sees noted v v' port e step.engine p.source p'.source a.bytes b.bytes answer →
-            b.calls ≤ a.calls + max_pulls answer → FollowsTraced step.engine e' p'.state need need' answer (Err error)
+            HasPulled answer a b → FollowsTraced step.engine e' p'.state need need' answer (Err error)
             → TracesRecords sees noted v0 v' only most e0 e' had (slice_set left port b) (Err (In port error))
         go (Ok (Record time len)) reads pulls (is, bad, e_is, fewer) = cc
         go (Ok End) reads pulls (is, bad, e_is, need_is) = cc

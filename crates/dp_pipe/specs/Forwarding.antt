@@ -12,7 +12,7 @@ use Rattle.dp_pcap.specs.declared.error.PcapError.TheVariants.{Read}
 use Rattle.dp_pcap.specs.SourceState.{SourceState}
 use Rattle.dp_pcap.specs.Capture.{PacketRecord, IsCapture}
 use Rattle.dp_pcap.specs.Capture as capture
-use Rattle.dp_pcap.specs.Source.{WhereKnown, HasRead, FailsAfter, Continues, IsInRange, Moves, max_pulls}
+use Rattle.dp_pcap.specs.Source.{WhereKnown, HasRead, FailsAfter, Continues, IsInRange, Moves, PullsFor, max_pulls}
 use Rattle.dp_pcap.specs.declared.source.Next.{Next}
 use Rattle.dp_pcap.specs.declared.source.Next.TheVariants.{Record, End}
 use Rattle.dp_pcap.specs.declared.source.Next.TheVariants as next
@@ -51,10 +51,22 @@ last_pulls Open = 0
 last_pulls Whole = 1
 last_pulls (Cut byte) = HEAD_SIZE + MAX_RECORD
 
+-- the same, apart from one call for each byte that came
+abbrev pub end_pulls : InputState → ℕ
+end_pulls Open = 0
+end_pulls Whole = 1
+end_pulls (Cut byte) = 1
+
+-- the bytes that came took at most one call each, and the end of the input one more; the rest is left
+abbrev pub PullsUpTo : InputState → ℕ → ℕ → List ℕ → List ℕ → Type 0
+PullsUpTo state old new bytes rest = (came : List ℕ) × (bytes ≡ came ++ rest) × (new ≤ old + (length came + end_pulls state))
+
 -- this input was read, with at most one call for each byte of its header and its records, and those that find its end
 pub record IsRead (i : Input) (old new : Device) : Type 0 where
   pub gives : WhereKnown old.bytes new.bytes (InputGives i.state i.unit i.records)
   pub calls : new.calls ≤ old.calls + length (text i.unit i.records) + last_pulls i.state
+  -- where its bytes are known: one for each that came, and one that found its end
+  pub pulls : WhereKnown old.bytes new.bytes (PullsUpTo i.state old.calls new.calls)
 
 -- each of these inputs was read
 abbrev pub AreRead : List Device → List Device → List Input → Type 0
@@ -70,6 +82,8 @@ Refuses unit records error bytes rest = IsCapture bytes unit records (capture.En
 pub record IsReadTo (i : Input) (error : PcapError) (old new : Device) : Type 0 where
   pub refuses : WhereKnown old.bytes new.bytes (Refuses i.unit i.records error)
   pub calls : new.calls ≤ old.calls + length (text i.unit i.records) + (HEAD_SIZE + MAX_RECORD)
+  -- where its bytes are known: one for each that came, and one that failed
+  pub pulls : WhereKnown old.bytes new.bytes (PullsFor (Err error) old.calls new.calls)
 
 -- the unit of the outputs: nanoseconds if any input has them, else microseconds
 abbrev pub is_nano : TimeUnit → Bool
@@ -189,6 +203,15 @@ abbrev pub ReadsTurn : ℕ → EngineState → EngineState → SourceState → S
 ReadsTurn port before after source source' a b answer =
     (bytes : List ℕ) × WhereKnown a b (λ left rest. Continues source source' left rest bytes answer) × TurnsOn port before after bytes answer
 
+-- where the bytes are known: a result that is no record took at most one call for each that came, and one that found the end or failed
+abbrev pub LastPulls : Result Next PcapError → Device → Device → Type 0
+LastPulls (Ok (Record time len)) old new = ⊤
+LastPulls answer old new = WhereKnown old.bytes new.bytes (PullsFor answer old.calls new.calls)
+
+-- a result took no more calls of a reader than the largest such result, and, where the bytes are known, than those that came
+abbrev pub HasPulled : Result Next PcapError → Device → Device → Type 0
+HasPulled answer old new = (new.calls ≤ old.calls + max_pulls answer) × LastPulls answer old new
+
 -- what the drains at a time write at each port
 abbrev pub drained_at : Time → World → ℕ → List PacketRecord
 drained_at time w port = capture_at (records_at time w) port
@@ -250,10 +273,11 @@ pub record IsProgressOf (p : InputProgress) (i : Input) : Type 0 where
   pub goes_on : IsGoingOn i.state p.source (length i.records)
   pub few : length i.records ≤ MAX_RECORDS
 
--- this input was read by a source, with at most this many calls
+-- this input was read by a source, with at most as many calls as `IsRead` says
 pub record IsReadBy (i : Input) (source : SourceState) (old new : Device) : Type 0 where
   pub has : WhereKnown old.bytes new.bytes (HasReadSo i.state source i.records)
   pub calls : new.calls ≤ old.calls + length (text i.unit i.records) + last_pulls i.state
+  pub pulls : WhereKnown old.bytes new.bytes (PullsUpTo i.state old.calls new.calls)
 
 pub record AreProgressOf (had left : List Device) (progress : List InputProgress) (inputs : List Input) : Type 0 where
   pub many : length progress ≡ length inputs
@@ -307,7 +331,7 @@ pub record Advances (port : ℕ) (unit : TimeUnit) (before after : EngineState) 
   -- after the turn
   pub engine : EngineState
   pub read : ReadsTurn port before engine p.source p'.source old.bytes new.bytes next
-  pub pulls : new.calls ≤ old.calls + max_pulls next
+  pub pulls : HasPulled next old new
   pub in_range : IsInRange p.source next
   pub moves : Moves p.source p'.source next
   pub follows : Follows port unit engine after p'.state held holds next answer

@@ -4,7 +4,7 @@ use Rattle.std.specs.List.{AllByRecursion}
 use Rattle.dp_model.specs.Machine.{Setting, World}
 use Rattle.dp_model.specs.Runs.{Arrival, Nodes, Consumed, with_empty_outboxes}
 use Rattle.dp_pcap.specs.SourceState.{SourceState}
-use Rattle.dp_pcap.specs.Source.{WhereKnown, Continues, IsInRange, Moves, max_pulls}
+use Rattle.dp_pcap.specs.Source.{WhereKnown, Continues, IsInRange, Moves}
 use Rattle.dp_pcap.specs.declared.error.PcapError.{PcapError}
 use Rattle.dp_pcap.specs.declared.source.Next.{Next}
 use Rattle.dp_pcap.specs.declared.source.Next.TheVariants.{Record, End}
@@ -17,7 +17,7 @@ use Rattle.dp_engine.specs.Engines.{EngineState}
 use Rattle.dp_engine.specs.Outcomes.{outcome_of}
 use Rattle.dp_engine.specs.Watching.{Event, WatchesTurn}
 use Rattle.dp_pipe.specs.Devices.{Device, At}
-use Rattle.dp_pipe.specs.Forwarding.{Input, AreRead, IsRead, IsReadTo, AreProgressOf, AnswersSo, arrivals_of, asked}
+use Rattle.dp_pipe.specs.Forwarding.{Input, AreRead, IsRead, IsReadTo, AreProgressOf, AnswersSo, HasPulled, arrivals_of, asked}
 use Rattle.dp_pipe.specs.Pipelines.{Plan}
 use Rattle.dp_pipe.specs.Running.{IsFirst, HasHeaderFault}
 use Rattle.dp_pipe.specs.declared.forwarding.InputProgress.{InputProgress}
@@ -167,7 +167,7 @@ pub record TracesInput {V : Type 0} (sees : V → Event → V → Type 0) (noted
   -- after the turn
   pub engine : EngineState
   pub read : TracesNext sees noted v v' port before engine p.source p'.source old.bytes new.bytes next
-  pub pulls : new.calls ≤ old.calls + max_pulls next
+  pub pulls : HasPulled next old new
   pub in_range : IsInRange p.source next
   pub moves : Moves p.source p'.source next
   pub follows : FollowsTraced engine after p'.state wanted wanted' next answer

@@ -4,7 +4,7 @@ ghost use Rattle.std.specs.Prelude.{IfOk, IfErr, IsOk, IsErr, IsErrOf, IsTrue};
 ghost use Rattle.dp_pcap.specs.Source.{body_in, IsInRange, Moves, max_pulls, failed_pulls};
 ghost use Rattle.dp_pipe.specs.Devices.{Device, seen, transfer, AllSound, AllFared, FaredAlone, failed_reader, failed_writer, failed_drain};
 ghost use Rattle.dp_pipe.specs.Forwarding.{Input, ReadsTurn, DrainedAll, DrainsStopped, DrainedFirst, Advances, RunUntil, IsUnderway, IsRound, AreRounds};
-ghost use Rattle.dp_pipe.specs.Forwarding.{NoneIsOpen, SomeIsOpen};
+ghost use Rattle.dp_pipe.specs.Forwarding.{LastPulls, NoneIsOpen, SomeIsOpen};
 ghost use Rattle.dp_pipe.specs.Watched.{ShowsNext, ShowsInput, ShowsUntil, ShowsRound, ShowsTurns};
 ghost use Rattle.dp_engine.specs.Engines.{EngineState};
 ghost use Rattle.dp_pcap.specs.declared.format.TheConstants.{NANOS_A_SECOND};
@@ -80,6 +80,7 @@ fn next_turn<K: CompiledPrograms, R: Feed, V: Watch>(
     ensures failed { IsErrOf result PcapError.Read ↔ IsTrue (R.is_broken r.new) }
     ensures stays { IsTrue (R.is_broken r.old) → IsTrue (R.is_broken r.new) }
     ensures counted { R.calls r.new ≤ R.calls r.old + max_pulls result }
+    ensures pulls { LastPulls result (seen R.remaining R.calls r.old) (seen R.remaining R.calls r.new) }
     ensures failures { R.failures r.new ≡ R.failures r.old + failed_pulls result }
 {
     let (time, len, is_held) = match record_at_hand(r, source) {

@@ -383,8 +383,9 @@ pub fn run_watched<K: CompiledPrograms, R: Feed, W: Sink, V: Watch>(
 /// All memory is taken before anything is read: the engine's region, a buffer for a record, and a list of the inputs. Whatever `run`
 /// returns, all packets are freed at the end, and all buffers are free.
 ///
-/// No input is read ahead of its turn. A reader is called at most once for each byte of its header and records, and of one more record if
-/// its input ends or has a fault; a writer is called at most once for each byte that it is given.
+/// No input is read ahead of its turn. A reader is called at most once for each byte that comes, and once more if its input ends or has a
+/// fault; where its bytes are not known, at most once for each byte of its header and records, and of one more record there. A header at
+/// fault takes at most 24 calls. A writer is called at most once for each byte that it is given.
 ///
 /// # Errors
 ///

@@ -6,6 +6,7 @@ ghost use Rattle.dp_pcap.specs.Source.{IsInRange, Moves, max_pulls};
 ghost use Rattle.dp_engine.specs.Engines.{EngineState, IsAscending};
 ghost use Rattle.dp_engine.specs.Needs.{bytes_needed};
 ghost use Rattle.dp_pipe.specs.Devices.{Device, seen};
+ghost use Rattle.dp_pipe.specs.Forwarding.{LastPulls};
 ghost use Rattle.dp_pipe.specs.Tracing.{IsTraced, TracesNext, TracesStep, TracesUntil, TracesRound, TracesRecords, TracesFirst, NoneIsWanted};
 ghost use Rattle.dp_pipe.specs.Tracing.{IsOfInput};
 
@@ -74,6 +75,7 @@ fn trace_next<K: CompiledPrograms, R: Feed, T: Tracer>(
     ensures in_range { IsInRange source.old result }
     ensures source { Moves source.old source.new result }
     ensures counted { R.calls r.new ≤ R.calls r.old + max_pulls result }
+    ensures pulls { LastPulls result (seen R.remaining R.calls r.old) (seen R.remaining R.calls r.new) }
     ensures buf { length buf.new ≡ length buf.old }
 {
     match next_record(r, source, buf) {
