@@ -1,6 +1,7 @@
 -- What clauses see of the captures of a run as they are open.
 use Rattle.std.specs.Prelude.{◌≡◌, ℕ, false, List, [], ◌∷◌, map, Option, None, Some, ⊤}
-use Rattle.std.specs.Io.Buffered.{reader_buffer, reader_inner, writer_buffer, writer_inner}
+use Rattle.std.specs.Io.Buffered.{reader_buffer, reader_inner}
+use Rattle.dp_pcap.specs.Buffers.{writer_buffer, writer_inner}
 use Rattle.dp_pcap.specs.declared.of_buf_reader.OfBufReader.{OfBufReader}
 use Rattle.dp_pcap.specs.declared.of_buf_writer.OfBufWriter.{OfBufWriter}
 use Rattle.dp_pcap.specs.Health.{fresh}
@@ -70,7 +71,7 @@ abbrev pub input_file : {F : Type 0} → OfBufReader (Watched (InputFile F)) →
 input_file {F} input = (reader_inner {T = Watched (InputFile F)} (buffered_reader input)).inner
 
 abbrev pub output_file : {F : Type 0} → OfBufWriter (Guarded (OutputFile F)) → OutputFile F
-output_file {F} output = (writer_inner {T = Guarded (OutputFile F)} (buffered_writer output)).inner
+output_file {F} output = (writer_inner {W = Guarded (OutputFile F)} (buffered_writer output)).inner
 
 -- an input as it is opened: it is this capture, under this name; it is sound and was not called; no byte of it was read
 pub record IsOpenedInput {F : Type 0} (capture : Place × List ℕ) (input : OfBufReader (Watched (InputFile F))) : Type 0 where
@@ -83,10 +84,10 @@ pub record IsOpenedInput {F : Type 0} (capture : Place × List ℕ) (input : OfB
 -- an output as it is opened: it is this capture, under this name; it is sound and was not called; its file took no byte, and none is held for it
 pub record IsOpenedOutput {F : Type 0} (capture : Place × List ℕ) (output : OfBufWriter (Guarded (OutputFile F))) : Type 0 where
   pub place : destination_place (output_file output).destination ≡ capture.0
-  pub name : (writer_inner {T = Guarded (OutputFile F)} (buffered_writer output)).of.pieces ≡ capture.1 ∷ []
+  pub name : (writer_inner {W = Guarded (OutputFile F)} (buffered_writer output)).of.pieces ≡ capture.1 ∷ []
   pub health : buffered_sink_health output ≡ fresh
-  pub unbuffered : writer_buffer {T = Guarded (OutputFile F)} (buffered_writer output) ≡ []
-  pub took : (writer_inner {T = Guarded (OutputFile F)} (buffered_writer output)).took.pieces ≡ []
+  pub unbuffered : writer_buffer {W = Guarded (OutputFile F)} (buffered_writer output) ≡ []
+  pub took : (writer_inner {W = Guarded (OutputFile F)} (buffered_writer output)).took.pieces ≡ []
   pub unwritten : IsUnwritten (output_file output)
 
 -- each of a list is opened as the capture at its place

@@ -17,10 +17,10 @@ use crate::progress::Progress;
 use crate::watched::Watched;
 use crate::words::Place;
 use arrayvec::ArrayVec;
-use dp_pcap::{OfBufReader, OfBufWriter};
+use dp_pcap::{Buffered, OfBufReader, OfBufWriter};
 use std::alloc::{AllocError, Global};
 use std::fs::OpenFile;
-use std::io::{BufReader, BufWriter, Error, ErrorKind, Read, Stderr, Stdin, Stdout, Write};
+use std::io::{BufReader, Error, ErrorKind, Read, Stderr, Stdin, Stdout, Write};
 use std::rt::Files;
 
 /// The size of a capture's buffer, in bytes.
@@ -126,7 +126,7 @@ fn open_output<'a, R: Files>(
         Ok(file) => file,
         Err(error) => return Err(unopened(name, error)),
     };
-    match BufWriter::with_capacity(alloc, buffer, Guarded::new(file, name)) {
+    match Buffered::with_capacity(alloc, buffer, Guarded::new(file, name)) {
         Ok(writer) => Ok(OfBufWriter::new(writer)),
         Err(_) => Err(CaptureFault::Memory),
     }
@@ -261,6 +261,13 @@ fn named_targets<'a, R: Files>(
     Ok(targets)
 }
 
+/// What an output is, as it is open.
+fn target_of_output<F: Write + OpenFile + Drop>(output: &OutputOf<F>) -> Target<'static>
+    ensures { result ≡ output_target output.now }
+{
+    target_of(output.get_ref().get_ref().get_ref().id())
+}
+
 /// The files that the outputs are, as they are open.
 fn open_targets<F: Write + OpenFile + Drop>(outputs: &[OutputOf<F>]) -> ArrayVec<Target<'static>, 8>
     requires { length outputs.now ≤ 8 }
@@ -268,7 +275,7 @@ fn open_targets<F: Write + OpenFile + Drop>(outputs: &[OutputOf<F>]) -> ArrayVec
 {
     let mut targets = ArrayVec::new();
     for output in outputs {
-        targets.push(target_of(output.get_ref().get_ref().get_ref().id()));
+        targets.push(target_of_output(output));
     }
     targets
 }

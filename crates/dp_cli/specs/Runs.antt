@@ -1,6 +1,7 @@
 -- Runs of `dpv run`, `dpv one` and `dpv filter`: the captures that are opened for a pipeline, the run over them, and what is said of it.
 use Rattle.std.specs.Prelude.{◌≡◌, ℕ, ◌⊎◌, List, Bool, Option, Some, map}
-use Rattle.std.specs.Io.Buffered.{reader_remaining, writer_contents}
+use Rattle.std.specs.Io.Buffered.{reader_remaining}
+use Rattle.dp_pcap.specs.Buffers.{writer_contents}
 use Rattle.std.specs.List.{list_any}
 use Rattle.dp_pcap.specs.declared.of_buf_reader.OfBufReader.{OfBufReader}
 use Rattle.dp_pcap.specs.declared.of_buf_writer.OfBufWriter.{OfBufWriter}
@@ -38,7 +39,7 @@ inputs_kind {F} remaining = feed (λ input. reader_remaining {T = Watched (Input
 
 -- and of an output: the bytes that its file took and those that are held for it
 abbrev pub outputs_kind : {F : Type 0} → Kind (OfBufWriter (Guarded (OutputFile F)))
-outputs_kind {F} = sink (λ output. writer_contents {T = Guarded (OutputFile F)} (λ guarded. Some (joined guarded.took.pieces))
+outputs_kind {F} = sink (λ output. writer_contents {W = Guarded (OutputFile F)} (λ guarded. Some (joined guarded.took.pieces))
     (buffered_writer output)) (λ output. (buffered_sink_health output).calls) (λ output. (buffered_sink_health output).is_broken)
     (λ output. (buffered_sink_health output).failures)
 

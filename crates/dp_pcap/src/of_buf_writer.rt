@@ -1,16 +1,16 @@
-//! A sink over a buffered writer of std.
+//! A sink over a writer with a buffer.
 ghost use Rattle.std.specs.Prelude.{◌≡◌, [], ◌∷◌, ◌++◌, ◌+◌, ◌<◌, ◌≤◌, ◌↔◌, length, take, IfOk, IsErr, IsTrue, MatchResult, OnOk, false};
 ghost use Rattle.std.specs.Io.KnownBytes.{Keeps, WriteAppends};
-ghost use Rattle.std.specs.Io.Buffered.{writer_buffer, writer_capacity, writer_contents};
+ghost use Rattle.dp_pcap.specs.Buffers.{writer_buffer, writer_capacity, writer_contents};
 ghost use Rattle.dp_pcap.specs.OfStd.{writer_inside, sink_health, sink_offers};
 
-use crate::{Failed, OfWrite, Offers, Sink};
-use std::io::{self, BufWriter, Write};
+use crate::{Buffered, Failed, OfWrite, Offers, Sink};
+use std::io::{self, Write};
 
 /// A buffered writer as a [`Sink`], like [`OfWrite`]. Bytes that fit into its buffer go there at once.
 #[derive(Drop)]
 pub struct OfBufWriter<W: Write + Drop> {
-    sink: OfWrite<BufWriter<W>>,
+    sink: OfWrite<Buffered<W>>,
     // What this sink was offered. The inner sink is offered what fills the buffer.
     offers: Offers,
 }
@@ -20,7 +20,7 @@ impl<W: Write + Drop> OfBufWriter<W> {
     ghost use Rattle.dp_pcap.specs.OfStd.{buffered_writer, buffered_sink_health, buffered_sink_offers};
 
     /// Wraps a writer.
-    pub fn new(inner: BufWriter<W>) -> OfBufWriter<W>
+    pub fn new(inner: Buffered<W>) -> OfBufWriter<W>
         ensures inner { buffered_writer result ≡ inner }
         ensures health { buffered_sink_health result ≡ fresh }
         ensures offers { buffered_sink_offers result ≡ [] }
@@ -32,7 +32,7 @@ impl<W: Write + Drop> OfBufWriter<W> {
     }
 
     /// The writer.
-    pub fn get_ref(&self) -> &BufWriter<W>
+    pub fn get_ref(&self) -> &Buffered<W>
         ensures { result.now ≡ buffered_writer self.now }
     {
         &self.sink.inner
@@ -53,7 +53,7 @@ impl<W: Write + Drop> OfBufWriter<W> {
     }
 
     /// Returns the writer, without flushing it.
-    pub fn into_inner(self) -> BufWriter<W>
+    pub fn into_inner(self) -> Buffered<W>
         ensures { result ≡ buffered_writer self }
     {
         let OfBufWriter { sink, offers: _ } = self;
@@ -125,7 +125,7 @@ impl<W: Write + Drop> Sink for OfBufWriter<W> {
 #[cold]
 #[inline(never)]
 fn push_past<W: Write + Drop>(
-    sink: &mut OfWrite<BufWriter<W>>,
+    sink: &mut OfWrite<Buffered<W>>,
     bytes: &[u8],
     spare: usize,
 ) -> Result<usize, Failed>

@@ -3,11 +3,11 @@
 use super::devices::Disk;
 use dp_captures::{Guarded, Progress, Watched};
 use dp_engine::Nothing;
-use dp_pcap::{OfBufReader, OfBufWriter};
+use dp_pcap::{Buffered, OfBufReader, OfBufWriter};
 use dp_pipe::{How, Listed, NamedBytes, Pipeline, load};
 use dp_runs::{Counting, ProgramText, Ran, Watcher, run_line, run_over};
 use std::alloc::{AllocError, Global};
-use std::io::{BufReader, BufWriter, Stderr};
+use std::io::{BufReader, Stderr};
 use std::test::Fail;
 
 /// A pipeline, the programs of its nodes, and the capture that its port reads.
@@ -156,7 +156,7 @@ fn input(alloc: Global, err: Stderr, plan: &Plan) -> Result<Input, Fail> {
 // An output to a disk that is full after this number of bytes.
 fn output(alloc: Global, left: usize) -> Result<Output, Fail> {
     let guarded = Guarded::new(Disk { left, taken: 0 }, "out");
-    let writer = BufWriter::with_capacity(alloc, 65_536, guarded)?;
+    let writer = Buffered::with_capacity(alloc, 65_536, guarded)?;
     Ok(OfBufWriter::new(writer))
 }
 

@@ -3,12 +3,12 @@
 use super::writing::Taker;
 use super::{Buffer, HUNDRED, ROOM, THREE_RECORDS, copied, edited, next};
 use dp_pcap::{
-    Failed, FailingFeed, Feed, Next, OfBufReader, OfBufWriter, OfRead, OfWrite, PcapError, Source,
-    Time, pass_record, read_header, record_at_hand,
+    Buffered, Failed, FailingFeed, Feed, Next, OfBufReader, OfBufWriter, OfRead, OfWrite,
+    PcapError, Source, Time, pass_record, read_header, record_at_hand,
 };
 use std::alloc::Global;
 use std::io;
-use std::io::{BufReader, BufWriter, Read};
+use std::io::{BufReader, Read};
 
 /// Counts the calls of a feed.
 #[derive(Drop)]
@@ -454,7 +454,7 @@ fn is_same(alloc: Global, room: usize, buf: &mut Buffer) -> bool {
 
 // Whether a copy from this feed through a buffer is `HUNDRED`.
 fn is_written<R: Feed>(alloc: Global, room: usize, r: &mut R, buf: &mut Buffer) -> bool {
-    let Ok(inner) = BufWriter::with_capacity(alloc, room, Vec::new(alloc)) else {
+    let Ok(inner) = Buffered::with_capacity(alloc, room, Vec::new(alloc)) else {
         return false;
     };
     let mut w = OfBufWriter::new(inner);

@@ -4,11 +4,11 @@ use super::{BODY, Buffer, HUNDRED, ROOM, copied};
 use Put::{Bytes, Head, Header, Record};
 use Taking::{AtMost, Fails};
 use dp_pcap::{
-    FailingSink, MAX_RECORD, NANOS_A_SECOND, OfBufReader, OfBufWriter, OfRead, OfWrite, PcapError,
-    Sink, Time, Unit, put_bytes, put_head, put_header, put_record,
+    Buffered, FailingSink, MAX_RECORD, NANOS_A_SECOND, OfBufReader, OfBufWriter, OfRead, OfWrite,
+    PcapError, Sink, Time, Unit, put_bytes, put_head, put_header, put_record,
 };
 use std::alloc::Global;
-use std::io::{BufReader, BufWriter, Write};
+use std::io::{BufReader, Write};
 use std::test::Fail;
 use std::{fs, io};
 
@@ -234,7 +234,7 @@ fn through_buffers(rt: &HostRuntime, buf: &mut Buffer) -> Result<Vec<u8>, Fail> 
     let file = fs::open(rt, "pcap_copy_in")?;
     let mut r = OfBufReader::new(BufReader::new(rt.alloc(), file)?);
     let file = fs::create(rt, "pcap_copy_out")?;
-    let mut w = OfBufWriter::new(BufWriter::new(rt.alloc(), file)?);
+    let mut w = OfBufWriter::new(Buffered::with_capacity(rt.alloc(), 8192, file)?);
     copied(&mut r, &mut w, buf)?;
     w.flush()?;
     Ok(fs::read(rt, "pcap_copy_out")?)
@@ -266,7 +266,7 @@ fn empties(w: &mut OfBufWriter<Vec<u8>>, fits: bool) -> bool {
 }
 
 fn goes_into(alloc: Global, room: usize, fits: bool, held: usize) -> bool {
-    let Ok(inner) = BufWriter::with_capacity(alloc, room, Vec::new(alloc)) else {
+    let Ok(inner) = Buffered::with_capacity(alloc, room, Vec::new(alloc)) else {
         return false;
     };
     let mut w = OfBufWriter::new(inner);
@@ -284,7 +284,7 @@ fn a_record_goes_into_a_buffer_at_once_or_in_parts(rt: HostRuntime) {
 
 // How many bytes of a piece a writer with a buffer takes in one call.
 fn taken_at_once(alloc: Global, room: usize, piece: &[u8]) -> Option<usize> {
-    match BufWriter::with_capacity(alloc, room, Vec::new(alloc)) {
+    match Buffered::with_capacity(alloc, room, Vec::new(alloc)) {
         Ok(inner) => OfBufWriter::new(inner).push(piece).ok(),
         Err(_) => None,
     }
@@ -304,7 +304,7 @@ fn a_piece_that_fits_is_taken_whole(rt: HostRuntime) {
 
 // Whether a writer is flushed without an error, before each of two records and after the last, and takes them.
 fn is_flushed(alloc: Global, room: usize) -> bool {
-    let Ok(inner) = BufWriter::with_capacity(alloc, room, Vec::new(alloc)) else {
+    let Ok(inner) = Buffered::with_capacity(alloc, room, Vec::new(alloc)) else {
         return false;
     };
     let mut w = OfBufWriter::new(inner);
@@ -447,7 +447,7 @@ fn is_left_alone(
         let first = differs(&mut w, Unit::Micro, steps);
         return first == None && w.into_inner().offered.as_slice() == offered;
     };
-    let Ok(inner) = BufWriter::with_capacity(alloc, room, inner) else {
+    let Ok(inner) = Buffered::with_capacity(alloc, room, inner) else {
         return false;
     };
     let mut w = OfBufWriter::new(inner);

@@ -1,0 +1,73 @@
+//! Bytes that are still to be written.
+ghost use Rattle.std.specs.Prelude.{◌≡◌, ◌+◌, ◌≤◌, [], ◌++◌, length, take, IfOk};
+
+use std::alloc::{AllocError, Global};
+
+/// A buffer of bytes that are still to be written: a fixed number of places, of which the first `len` hold them.
+#[derive(Drop)]
+pub(crate) struct Pending {
+    bytes: Vec<u8>,
+    len: usize,
+    ghost fits: { len ≤ length bytes.items },
+}
+
+impl Pending {
+    ghost use Rattle.dp_pcap.specs.Buffers.{pending, places};
+
+    // An empty buffer with this many places.
+    pub(crate) fn with_capacity(alloc: Global, capacity: usize) -> Result<Pending, AllocError>
+        ensures empty { IfOk result (λ p. pending p ≡ []) }
+        ensures capacity { IfOk result (λ p. places p ≡ capacity) }
+    {
+        let mut bytes = Vec::new(alloc);
+        bytes.resize(capacity, 0u8)?;
+        Ok(Pending { bytes, len: 0 })
+    }
+
+    // How many places it has.
+    #[inline(always)]
+    pub(crate) fn capacity(&self) -> usize
+        ensures { result ≡ places self.now }
+    {
+        self.bytes.len()
+    }
+
+    // How many bytes it holds.
+    #[inline(always)]
+    pub(crate) fn len(&self) -> usize
+        ensures value { result ≡ length (pending self.now) }
+        ensures fits { result ≤ places self.now }
+    {
+        self.len
+    }
+
+    // The bytes that it holds.
+    #[inline(always)]
+    pub(crate) fn bytes(&self) -> &[u8]
+        ensures { result.now ≡ pending self.now }
+    {
+        &self.bytes[..self.len]
+    }
+
+    // Appends bytes for which it has room.
+    #[inline(always)]
+    pub(crate) fn append(&mut self, bytes: &[u8])
+        requires { length (pending self.old) + length bytes.now ≤ places self.old }
+        ensures bytes { pending self.new ≡ pending self.old ++ bytes.now }
+        ensures places { places self.new ≡ places self.old }
+    {
+        let end = self.len + bytes.len();
+        self.bytes[self.len..end].copy_from_slice(bytes);
+        self.len = end;
+    }
+
+    // Removes bytes from its front.
+    pub(crate) fn remove_front(&mut self, count: usize)
+        requires within { count ≤ length (pending self.old) }
+        ensures bytes { pending self.old ≡ take count (pending self.old) ++ pending self.new }
+        ensures places { places self.new ≡ places self.old }
+    {
+        self.bytes.as_mut_slice().copy_within(count..self.len, 0);
+        self.len -= count;
+    }
+}
