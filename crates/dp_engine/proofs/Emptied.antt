@@ -170,6 +170,30 @@ drops s core core' memory turns tallies left e port is becomes =
     ∙ ap (λ l. engine_of s (moved (with_queue (Tx port) [] core.state) core) memory turns l left) (sym (sent_none tallies port))
     ∙ ap (drained port 0) is
 
+-- a transmit list that has no packet
+no_packets : (packets : List Packet) → length packets ≡ 0 → packets ≡ []
+no_packets [] none = refl
+no_packets (k ∷ packets) none = absurd (omega (arith, none))
+
+pub none_at : (s : Scheme) (core : Core) (memory : EngineMemoryView) (turns : ℕ) (tallies : List Tallies) (left : List ℕ) (e : EngineState) (port n : ℕ)
+    → engine_of s core memory turns tallies left ≡ e
+    → (packets : List Packet) × (slice_get core.state.world.outboxes port ≡ Some packets) × (n ≡ length packets) → n ≡ 0
+    → slice_get e.world.outboxes port ≡ Some []
+none_at s core memory turns tallies left e port n is (packets, box, count) none =
+    ap (λ (x : EngineState). slice_get x.world.outboxes port) (sym is) ∙ box ∙ ap Some (no_packets packets (sym count ∙ none))
+
+emptied_none : (lists : List (List Packet)) (port : ℕ) → slice_get lists port ≡ Some [] → slice_set lists port [] ≡ lists
+emptied_none [] port e = refl
+emptied_none (l ∷ lists) zero e = ap (λ k. k ∷ lists) (sym (same_Some l [] e))
+emptied_none (l ∷ lists) (suc port) e = ap (λ k. l ∷ k) (emptied_none lists port e)
+
+-- its drain changes nothing
+pub drained_none : (port : ℕ) (e : EngineState) → slice_get e.world.outboxes port ≡ Some [] → e ≡ drained port 0 e
+drained_none port e none =
+    let f = emptied_none e.world.outboxes port none in
+    let h = sent_none e.tallies port in
+    rw (f, h) refl
+
 -- ---- the first slots, and all
 
 -- the first n lists are emptied

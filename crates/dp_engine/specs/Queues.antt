@@ -1,5 +1,5 @@
 -- Internal: the rings of an engine, by number.
-use Rattle.std.specs.Prelude.{◌≡◌, ℕ, ◌==◌, Bool, not, List, [], ◌∷◌, length, Option, Some, None, slice_index_or}
+use Rattle.std.specs.Prelude.{◌≡◌, ℕ, ◌<◌, ◌≤◌, ◌==◌, Bool, not, List, [], ◌∷◌, length, Option, Some, None, slice_index_or}
 use Rattle.std.specs.List.{AllByRecursion}
 use Rattle.dp_ring.specs.Rings.{RingView}
 
@@ -37,6 +37,13 @@ ring_at rings k = slice_index_or rings k no_ring
 -- whether a ring has an entry
 abbrev pub is_waiting : RingView → Bool
 is_waiting r = not (length r.entries == 0)
+
+-- the numbers of entries of these lists, each of which has room for more
+pub record AreCounts (counts : List ℕ) (lists : List RingView) : Type 0 where
+  pub many : length counts ≡ 8
+  pub few : length lists ≤ 8
+  pub each : (k : ℕ) → k < length lists → slice_index_or counts k 0 ≡ length (ring_at lists k).entries
+  pub room : (k : ℕ) → k < length lists → length (ring_at lists k).entries < (ring_at lists k).count
 
 -- ---- the queues of a machine
 

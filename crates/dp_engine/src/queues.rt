@@ -1,9 +1,10 @@
-//! The queues of a machine: its transmit lists, its rings, and the number of the lowest non-empty ring.
+//! The queues of a machine: its transmit lists, their counts, its rings, and the number of the lowest non-empty ring.
 
 ghost use Rattle.std.specs.Prelude.{◌≡◌, ◌<◌, ◌≤◌, ◌++◌, ◌∷◌, [], length, nat_lt, drop, slice_get, true, false, IsTrue, IfSome};
 ghost use Rattle.std.specs.List.{position, position_or_len};
 ghost use Rattle.dp_ring.specs.Rings.{room_in};
-ghost use Rattle.dp_engine.specs.Queues.{rings_in, RingsFirst, ring_at, is_waiting};
+ghost use Rattle.dp_engine.specs.Queues.{rings_in, RingsFirst, ring_at, is_waiting, AreCounts};
+ghost use Rattle.dp_model.specs.declared.queue.Queue.TheVariants.{Tx};
 ghost use Rattle.dp_engine.specs.HandleQueues.{IsQueue, ring_of_queue, Becomes};
 
 use crate::rings::Rings;
@@ -11,24 +12,26 @@ use dp_model::Queue;
 use dp_ring::Ring;
 use std::marker::Model;
 
-/// The transmit lists and the rings of a machine, by number, and which ring is the lowest non-empty one.
+/// The transmit lists and the rings of a machine, by number, the counts of the lists, and which ring is the lowest non-empty one.
 pub struct Queues {
     outboxes: Rings,
     rings: Rings,
     // The least number of a ring that has an entry; the number of rings if none has.
     first: u8,
+    // The number of entries of each transmit list. After most turns most lists have none, and here that is seen soonest.
+    counts: [u32; 8],
 }
 
 impl Model for Queues {
     ghost use Rattle.std.specs.Prelude.{◌≡◌};
     ghost use Rattle.std.specs.List.{position_or_len};
-    ghost use Rattle.dp_engine.specs.Queues.{QueuesView, is_waiting};
+    ghost use Rattle.dp_engine.specs.Queues.{QueuesView, is_waiting, AreCounts};
 
     ghost Value = { QueuesView };
 
     ghost view = { λ q. record { rings = q.rings; outboxes = q.outboxes } };
 
-    ghost invariant = { λ q. q.first ≡ position_or_len is_waiting q.rings };
+    ghost invariant = { λ q. (q.first ≡ position_or_len is_waiting q.rings) × AreCounts q.counts q.outboxes };
 }
 
 // The least number of a ring that has an entry; the number of rings if none has. No ring below `from` has one.
@@ -45,6 +48,17 @@ fn first_from(rings: &Rings, from: u8) -> u8
     end
 }
 
+// The numbers of entries of these lists.
+fn counts_of(lists: &Rings) -> [u32; 8]
+    ensures { AreCounts result lists.now }
+{
+    let mut counts = [0; 8];
+    for k in 0..lists.len() as u8 {
+        counts[usize::from(k)] = lists.count(k);
+    }
+    counts
+}
+
 impl Queues {
     /// Takes ownership of these rings and transmit lists, by slot.
     pub fn over(rings: [Option<Ring>; 8], outboxes: [Option<Ring>; 8]) -> Queues
@@ -55,10 +69,12 @@ impl Queues {
         let rings = Rings::over(rings);
         let outboxes = Rings::over(outboxes);
         let first = first_from(&rings, 0);
+        let counts = counts_of(&outboxes);
         Queues {
             outboxes,
             rings,
             first,
+            counts,
         }
     }
 
@@ -86,7 +102,7 @@ impl Queues {
         ensures bound { result < (ring_of_queue queue self.now.rings self.now.outboxes).count }
     {
         match queue {
-            Queue::Tx(port) => self.outboxes.count(port),
+            Queue::Tx(port) => self.counts[usize::from(port)],
             Queue::Ring(ring) => self.rings.count(ring),
         }
     }
@@ -103,6 +119,31 @@ impl Queues {
         }
     }
 
+    // Appends a handle to a transmit list. Returns false if the list is full.
+    #[inline(always)]
+    fn push_list(&mut self, port: u8, handle: u32) -> bool
+        requires { port < length self.old.outboxes }
+        ensures taken { result ≡ nat_lt 0 (room_in (ring_at self.old.outboxes port)) }
+        ensures more { IsTrue result → Becomes (Tx port) ((ring_at self.old.outboxes port).entries ++ handle ∷ []) self.old self.new }
+        ensures full { result ≡ false → self.new ≡ self.old }
+    {
+        let is_taken = self.outboxes.push(port, handle);
+        self.counts[usize::from(port)] = self.outboxes.count(port);
+        is_taken
+    }
+
+    // Removes and returns the first handle of a transmit list, if there is one.
+    #[inline(always)]
+    fn pop_list(&mut self, port: u8) -> Option<u32>
+        requires { port < length self.old.outboxes }
+        ensures first { result ≡ slice_get (ring_at self.old.outboxes port).entries 0 }
+        ensures rest { Becomes (Tx port) (drop 1 (ring_at self.old.outboxes port).entries) self.old self.new }
+    {
+        let handle = self.outboxes.pop(port);
+        self.counts[usize::from(port)] = self.outboxes.count(port);
+        handle
+    }
+
     /// Appends a handle to a queue. Returns false if the queue is full.
     #[inline(always)]
     pub fn push(&mut self, queue: Queue, handle: u32) -> bool
@@ -112,7 +153,7 @@ impl Queues {
         ensures full { result ≡ false → self.new ≡ self.old }
     {
         match queue {
-            Queue::Tx(port) => self.outboxes.push(port, handle),
+            Queue::Tx(port) => self.push_list(port, handle),
             Queue::Ring(ring) => {
                 let is_taken = self.rings.push(ring, handle);
                 if is_taken && ring < self.first {
@@ -131,7 +172,7 @@ impl Queues {
         ensures rest { Becomes queue (drop 1 (ring_of_queue queue self.old.rings self.old.outboxes).entries) self.old self.new }
     {
         match queue {
-            Queue::Tx(port) => self.outboxes.pop(port),
+            Queue::Tx(port) => self.pop_list(port),
             Queue::Ring(ring) => {
                 let handle = self.rings.pop(ring);
                 if ring <= self.first {
@@ -164,6 +205,7 @@ impl Queues {
             outboxes,
             rings,
             first: _,
+            counts: _,
         } = self;
         (rings.into_rings(), outboxes.into_rings())
     }

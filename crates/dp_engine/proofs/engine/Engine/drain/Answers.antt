@@ -1,9 +1,12 @@
--- The drain of a port: its transmit list is found once, and each goal is one step from there.
-use Rattle.std.proofs.Common.{◌≡◌, ◌<◌, List, length, Some, ap, arith}
+-- The drain of a port: its transmit list is found once, and each goal is one step from there. A list without packets stays as it is.
+use Rattle.std.proofs.Common.{◌≡◌, ◌<◌, List, [], length, Some, refl, ap, arith}
 use Rattle.std.specs.Prelude.{slice_get}
+use Rattle.std.proofs.KnownBytes.{Appends-nil}
 use Rattle.dp_model.specs.Packets.{Packet}
 use Rattle.dp_engine.specs.Engines.{EngineState}
-use Rattle.dp_engine.proofs.Emptied.{port_within, box_at, sent_kept, sent_fits}
+use Rattle.dp_engine.proofs.Called.{called_written}
+use Rattle.dp_engine.proofs.Emptied.{port_within, box_at, sent_kept, sent_fits, none_at, drained_none}
+use Rattle.dp_engine.proofs.Writing.{all_written}
 use Rattle.dp_engine.proofs.engine.Engine.drain.Goals as goal
 use Rattle.dp_engine.proofs.engine.Engine.drain.Goals.{After-drain_list}
 
@@ -47,3 +50,24 @@ invariant_of-self-in-Err g c =
     let (lt, (packets, box)) = its_list g (goal.at.invariant_of-self-in-Err g c).After-drain_list in
     rw (c.drain_list.ensures.empty, c.from-in-Err.ensures, c.from-in-Err-2.ensures) (sent_kept e.context e.machine e.memory e.turns e.tallies e.left
     c.self.invariant c.args.port c.in-Err.sent packets lt box (c.in-Err.ensures.most packets box))
+
+pub returns-then-count-eq0-clause-ok : goal.returns-then-count-eq0-clause-ok
+returns-then-count-eq0-clause-ok g c =
+    let e = c.self.inside in
+    let none = none_at e.context e.machine e.memory e.turns e.tallies e.left c.args.self.now c.args.port c.count.result c.self.view_is c.count.ensures.list
+    c.if-count-eq0.true in
+    all_written c.args.unit c.args.time c.args.port c.args.self.now.world _ _ 0 0 [] none refl (omega arith) (omega arith)
+    (Appends-nil (g.W.Sink.contents c.args.w.now))
+
+pub returns-then-count-eq0-clause-empty : goal.returns-then-count-eq0-clause-empty
+returns-then-count-eq0-clause-empty g c =
+    let e = c.self.inside in
+    drained_none c.args.port c.args.self.now (none_at e.context e.machine e.memory e.turns e.tallies e.left c.args.self.now c.args.port c.count.result
+    c.self.view_is c.count.ensures.list c.if-count-eq0.true)
+
+pub returns-then-count-eq0-clause-counted : goal.returns-then-count-eq0-clause-counted
+returns-then-count-eq0-clause-counted g c =
+    let e = c.self.inside in
+    let none = none_at e.context e.machine e.memory e.turns e.tallies e.left c.args.self.now c.args.port c.count.result c.self.view_is c.count.ensures.list
+    c.if-count-eq0.true in
+    called_written c.args.unit c.args.time c.args.port c.args.self.now.world [] _ _ 1 none (omega arith)

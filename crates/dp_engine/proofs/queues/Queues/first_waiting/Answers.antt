@@ -6,6 +6,6 @@ use Rattle.dp_engine.proofs.queues.Queues.first_waiting.Goals as goal
 pub returns-then-from-len-clause-waits : goal.returns-then-from-len-clause-waits
 returns-then-from-len-clause-waits c =
     let rings = c.self.inside.rings in
-    let there : first_slot rings < length rings = omega (arith, c.if-from-len.true, c.self.invariant, c.from.ensures, c.len.ensures.value) in
+    let there : first_slot rings < length rings = omega (arith, c.if-from-len.true, c.self.invariant.0, c.from.ensures, c.len.ensures.value) in
     ap (λ (q : QueuesView). is_waiting (ring_at q.rings c.self.inside.first)) (sym c.self.view_is)
-    ∙ (ap (λ k. is_waiting (ring_at rings k)) c.self.invariant ∙ first_waits rings there)
+    ∙ (ap (λ k. is_waiting (ring_at rings k)) c.self.invariant.0 ∙ first_waits rings there)

@@ -21,20 +21,20 @@ pub first_from-self-inside-requires : goal.first_from-self-inside-requires
 first_from-self-inside-requires c =
     let rings = c.self.inside.rings in
     subst (λ rs. c.in-Ring.ring ≤ first_slot rs) (sym c.pop-handle.ensures.rest)
-    (not_before rings c.in-Ring.ring (without_first (ring_at rings c.in-Ring.ring) 1) (omega (arith, c.self.invariant, c.if-ring-self.true))
+    (not_before rings c.in-Ring.ring (without_first (ring_at rings c.in-Ring.ring) 1) (omega (arith, c.self.invariant.0, c.if-ring-self.true))
     (there (goal.at.first_from-self-inside-requires c).After-pop-handle))
 
 pub invariant_of-self-else-ring-self : goal.invariant_of-self-else-ring-self
 invariant_of-self-else-ring-self c =
-    let rings = c.self.inside.rings in
-    c.self.invariant ∙ sym (ap first_slot c.pop-handle.ensures.rest
-    ∙ stays rings c.in-Ring.ring (without_first (ring_at rings c.in-Ring.ring) 1) (omega (arith, c.self.invariant, c.if-ring-self.false))
-    (there (goal.at.invariant_of-self-else-ring-self c).After-pop-handle))
+    let rings = c.self.inside.rings in (
+      c.self.invariant.0 ∙ sym (ap first_slot c.pop-handle.ensures.rest
+          ∙ stays rings c.in-Ring.ring (without_first (ring_at rings c.in-Ring.ring) 1) (omega (arith, c.self.invariant.0, c.if-ring-self.false))
+          (there (goal.at.invariant_of-self-else-ring-self c).After-pop-handle)),
+      c.self.invariant.1,
+    )
 
 pub returns-in-Tx-clause-rest : goal.returns-in-Tx-clause-rest
-returns-in-Tx-clause-rest c =
-    let its = popped c.self.inside.outboxes c.pop.new.self c.in-Tx.port c.pop.ensures.rest in
-    rw (← c.self.view_is, c.in-Tx.is) (record { rings_stay = refl; outboxes_stay = its.frames; rings_have = refl; outboxes_have = its.lists })
+returns-in-Tx-clause-rest c = rw (c.in-Tx.is) c.pop_list.ensures.rest
 
 pub returns-then-ring-self-clause-rest : goal.returns-then-ring-self-clause-rest
 returns-then-ring-self-clause-rest c = rest (goal.at.returns-then-ring-self-clause-rest c).After-pop-handle

@@ -21,19 +21,21 @@ more c taken =
     (sym c.push-is_taken.ensures.taken ∙ taken) in
     rw (← c.self.view_is, c.in-Ring.is) (record { rings_stay = its.frames; outboxes_stay = refl; rings_have = its.lists; outboxes_have = refl })
 
-pub invariant_of-self-then-ring-self : goal.invariant_of-self-then-ring-self
-invariant_of-self-then-ring-self c =
-    (put (goal.at.invariant_of-self-then-ring-self c).After-push-is_taken).earlier c.if-is_taken.true (omega (arith, c.self.invariant, c.if-ring-self.true))
+pub invariant_of-self : goal.invariant_of-self
+invariant_of-self c = (
+  (put (goal.at.invariant_of-self c).After-push-is_taken).earlier c.if-is_taken.true (omega (arith, c.self.invariant.0, c.if-ring-self.true)),
+  c.self.invariant.1,
+)
 
 pub invariant_of-self-else-ring-self : goal.invariant_of-self-else-ring-self
-invariant_of-self-else-ring-self c =
-    c.self.invariant ∙ (put (goal.at.invariant_of-self-else-ring-self c).After-push-is_taken).later c.if-is_taken.true
-    (omega (arith, c.self.invariant, c.if-ring-self.false))
+invariant_of-self-else-ring-self c = (
+  c.self.invariant.0 ∙ (put (goal.at.invariant_of-self-else-ring-self c).After-push-is_taken).later c.if-is_taken.true
+      (omega (arith, c.self.invariant.0, c.if-ring-self.false)),
+  c.self.invariant.1,
+)
 
 pub returns-in-Tx-clause-more : goal.returns-in-Tx-clause-more
-returns-in-Tx-clause-more c taken =
-    let its = pushed c.self.inside.outboxes c.push.new.self c.in-Tx.port c.args.handle _ c.push.ensures.rings (sym c.push.ensures.taken ∙ taken) in
-    rw (← c.self.view_is, c.in-Tx.is) (record { rings_stay = refl; outboxes_stay = its.frames; rings_have = refl; outboxes_have = its.lists })
+returns-in-Tx-clause-more c taken = rw (c.in-Tx.is) (c.push_list.ensures.more taken)
 
 pub returns-then-ring-self-clause-more : goal.returns-then-ring-self-clause-more
 returns-then-ring-self-clause-more c taken = more (goal.at.returns-then-ring-self-clause-more c).After-push-is_taken taken
