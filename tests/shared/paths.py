@@ -5,5 +5,9 @@ import sys
 
 TOP = pathlib.Path(__file__).resolve().parents[2]
 FOLDERS = ("tests/shared", "tests", "tests/proofs", "tests/program", "tests/tools", "tests/library", "tests/random", "tools", "bench")
+# Where Debian's packages are, which another Python than Debian's does not look for.
+DEBIAN = "/usr/lib/python3/dist-packages"
 
 sys.path[1:1] = [str(TOP / it) for it in FOLDERS if str(TOP / it) not in sys.path]
+if DEBIAN not in sys.path:
+    sys.path.append(DEBIAN)

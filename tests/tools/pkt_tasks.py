@@ -11,6 +11,8 @@ import struct
 import sys
 from collections.abc import Callable, Iterable, Iterator
 
+from paths import TOP
+
 try:
     from scapy.all import ARP, GRE, ICMP, IP, TCP, UDP, Dot1Q, Ether, IPv6, Packet, Raw, raw
     from scapy.contrib.mpls import MPLS
@@ -23,8 +25,6 @@ try:
 except ImportError:
     print("pkt_tasks: skipped, as scapy is not installed")
     sys.exit(0)
-
-from paths import TOP
 
 import edge_tasks
 from model import programs, rules
