@@ -32,48 +32,195 @@ impl fmt::Display for RuleText {
     }
 }
 
-/// A packet register, and what is known or wanted of it.
+/// A part of a refusal as text: words around a number, or something with a text of its own.
 #[derive(Clone, Copy)]
-struct Held(PacketRegister, Fact);
+enum Phrase<'a> {
+    Words(&'a str),
+    Number(&'a str, u64, &'a str),
+    /// Words around a packet register.
+    Register(&'a str, PacketRegister, &'a str),
+    /// The same with the register once more between further words.
+    RegisterTwice(&'a str, PacketRegister, &'a str, &'a str),
+    /// Words around a number register and the number of ports.
+    Ports(&'a str, NumberRegister, &'a str, usize, &'a str),
+    /// A packet register, and what is known or wanted of it.
+    Packet(PacketRegister, Fact),
+    /// A packet register, and one part of what is known of it.
+    PacketPart(PacketRegister, Part),
+    /// The segments of two packet registers.
+    Segments(PacketRegister, u8, PacketRegister, u8),
+    /// A number register, and the greatest number that it can have.
+    Bound(NumberRegister, u64),
+    /// A measure of a packet register: the bytes from `start`.
+    Bytes {
+        packet: PacketRegister,
+        part: Measure,
+        start: u64,
+        count: u32,
+    },
+}
 
-impl fmt::Display for Held {
+impl fmt::Display for Phrase<'_> {
     fn fmt<W: fmt::Write>(&self, f: &mut fmt::Formatter<W>) -> fmt::Result {
-        write!(f, "p{} {}", self.0.number(), FactText(self.1))
+        match *self {
+            Phrase::Words(words) => write!(f, "{words}"),
+            Phrase::Number(before, number, after) => write!(f, "{before}{number}{after}"),
+            Phrase::Register(before, packet, after) => {
+                write!(f, "{before}p{}{after}", packet.number())
+            }
+            Phrase::RegisterTwice(before, packet, between, after) => {
+                let number = packet.number();
+                write!(f, "{before}p{number}{between}p{number}{after}")
+            }
+            Phrase::Ports(before, register, between, ports, after) => {
+                write!(f, "{before}r{}{between}{ports}{after}", register.number())
+            }
+            Phrase::Packet(packet, fact) => write!(f, "p{} {}", packet.number(), FactText(fact)),
+            Phrase::PacketPart(packet, part) => write!(f, "p{} {part}", packet.number()),
+            Phrase::Segments(front, known, back, more) => {
+                let (known, more) = (Part::Segments(known), Part::Segments(more));
+                write!(f, "p{} {known}, p{} {more}", front.number(), back.number())
+            }
+            Phrase::Bound(register, most) => write!(f, "r{} <= {most}", register.number()),
+            Phrase::Bytes {
+                packet,
+                part,
+                start: 0,
+                count,
+            } => write!(f, "p{} {} {count}", packet.number(), measure_word(part)),
+            Phrase::Bytes {
+                packet,
+                part,
+                start,
+                count,
+            } => write!(
+                f,
+                "p{} {} {start} + {count}",
+                packet.number(),
+                measure_word(part)
+            ),
+        }
     }
 }
 
-/// What is known where the row of an instruction asks for more, or what it asks for.
-#[derive(Clone, Copy)]
-enum RowText {
-    Known(Gap),
-    Wanted(Gap),
+/// What is known where the row of an instruction asks for more.
+fn known_of_gap<'a>(gap: Gap) -> Phrase<'a> {
+    match gap {
+        Gap::Dead => Phrase::Words("control comes there"),
+        Gap::Packet { packet, known, .. } | Gap::Group { packet, known, .. } => {
+            Phrase::Packet(packet, known)
+        }
+        Gap::Number {
+            register,
+            known,
+            ..
+        } => Phrase::Bound(register, known),
+    }
 }
 
-impl fmt::Display for RowText {
-    fn fmt<W: fmt::Write>(&self, f: &mut fmt::Formatter<W>) -> fmt::Result {
-        match *self {
-            RowText::Known(Gap::Dead) => write!(f, "control comes there"),
-            RowText::Wanted(Gap::Dead) => write!(f, "that control never comes there"),
-            RowText::Known(Gap::Packet { packet, known, .. } | Gap::Group { packet, known, .. }) =>
-                { write!(f, "{}", Held(packet, known)) }
-            RowText::Wanted(
-                Gap::Packet { packet, wanted, .. } | Gap::Group { packet, wanted, .. },
-            ) => { write!(f, "{}", Held(packet, wanted)) }
-            RowText::Known(
-                Gap::Number {
-                    register: r,
-                    known: n,
-                    ..
-                },
-            )
-            | RowText::Wanted(
-                Gap::Number {
-                    register: r,
-                    wanted: n,
-                    ..
-                },
-            ) => write!(f, "r{} <= {n}", r.number()),
+/// What the row of an instruction asks for.
+fn wanted_of_gap<'a>(gap: Gap) -> Phrase<'a> {
+    match gap {
+        Gap::Dead => Phrase::Words("that control never comes there"),
+        Gap::Packet { packet, wanted, .. } | Gap::Group { packet, wanted, .. } => {
+            Phrase::Packet(packet, wanted)
         }
+        Gap::Number {
+            register,
+            wanted,
+            ..
+        } => Phrase::Bound(register, wanted),
+    }
+}
+
+/// What is known where a rule fails.
+fn known_of<'a>(reason: &Reason) -> Phrase<'a> {
+    match *reason {
+        Reason::RowCount { known, .. } => Phrase::Number("", known as u64, " rows"),
+        Reason::NoEntry => Phrase::Words("no such port or ring"),
+        Reason::EntryRow(gap) | Reason::Successor { gap, .. } => known_of_gap(gap),
+        Reason::NoPool { known, .. } => Phrase::Number("the number of pools is ", known as u64, ""),
+        Reason::NoTable { known, .. } => {
+            Phrase::Number("the number of tables is ", u64::from(known), "")
+        }
+        Reason::NoRing { known, .. } => Phrase::Number("the number of rings is ", known as u64, ""),
+        Reason::NoInstruction { known, .. } => {
+            Phrase::Number("the number of instructions is ", known as u64, "")
+        }
+        Reason::NotHeld { packet } => Phrase::Packet(packet, Fact::Empty),
+        Reason::NotEmpty { packet, known }
+        | Reason::LeftOver { packet, known }
+        | Reason::NotAlone { packet, known, .. }
+        | Reason::LessThanRing { packet, known, .. } => Phrase::Packet(packet, known),
+        Reason::OneRegister { packet } => { Phrase::Register("both are ", packet, "") }
+        Reason::TooLittle {
+            packet,
+            part,
+            known,
+            ..
+        } => Phrase::PacketPart(packet, Part::Bytes(part, known)),
+        Reason::TooLong {
+            front,
+            back,
+            known,
+            more,
+        } => Phrase::Segments(front, known, back, more),
+        Reason::NoPort {
+            register,
+            known,
+            ..
+        } => Phrase::Bound(register, known),
+    }
+}
+
+/// What a rule wants where it fails; of a successor, what its row wants.
+fn wanted_of<'a>(reason: &Reason) -> Phrase<'a> {
+    match *reason {
+        Reason::RowCount { wanted, .. } => Phrase::Number("", wanted as u64, " rows"),
+        Reason::NoEntry => Phrase::Words("a port or ring of the environment"),
+        Reason::EntryRow(gap) | Reason::Successor { gap, .. } => wanted_of_gap(gap),
+        Reason::NoPool { pool, .. } => {
+            Phrase::Number("a pool with the number ", u64::from(pool), ", from 0")
+        }
+        Reason::NoTable { table, .. } => {
+            Phrase::Number("a table with the number ", u64::from(table), ", from 0")
+        }
+        Reason::NoRing { ring, .. } => {
+            Phrase::Number("a ring with the number ", u64::from(ring), ", from 0")
+        }
+        Reason::NoInstruction { to, .. } => {
+            Phrase::Number("an instruction with the number ", u64::from(to), ", from 0")
+        }
+        Reason::NotHeld { packet } => { Phrase::Register("a packet in ", packet, "") }
+        Reason::NotEmpty { packet, .. } | Reason::LeftOver { packet, .. } => {
+            Phrase::Packet(packet, Fact::Empty)
+        }
+        Reason::OneRegister { .. } => Phrase::Words("two registers"),
+        Reason::TooLittle {
+            packet,
+            part,
+            start,
+            count,
+            ..
+        } => Phrase::Bytes {
+            packet,
+            part,
+            start,
+            count,
+        },
+        Reason::NotAlone {
+            packet,
+            wanted: 2,
+            ..
+        } => Phrase::Register("", packet, " sole"),
+        Reason::NotAlone { packet, .. } => { Phrase::Register("", packet, " sole or head sole") }
+        Reason::TooLong { .. } => Phrase::Words("at most 64 together"),
+        Reason::NoPort {
+            register,
+            ports,
+            ..
+        } => Phrase::Ports("", register, " below ", ports, ", the number of ports"),
+        Reason::LessThanRing { packet, wanted, .. } => Phrase::Packet(packet, wanted),
     }
 }
 
@@ -83,45 +230,7 @@ pub struct KnownText(pub Reason);
 
 impl fmt::Display for KnownText {
     fn fmt<W: fmt::Write>(&self, f: &mut fmt::Formatter<W>) -> fmt::Result {
-        match self.0 {
-            Reason::RowCount { known, .. } => write!(f, "{known} rows"),
-            Reason::NoEntry => write!(f, "no such port or ring"),
-            Reason::EntryRow(gap) | Reason::Successor { gap, .. } => {
-                write!(f, "{}", RowText::Known(gap))
-            }
-            Reason::NoPool { known, .. } => write!(f, "the number of pools is {known}"),
-            Reason::NoTable { known, .. } => write!(f, "the number of tables is {known}"),
-            Reason::NoRing { known, .. } => write!(f, "the number of rings is {known}"),
-            Reason::NoInstruction { known, .. } => {
-                write!(f, "the number of instructions is {known}")
-            }
-            Reason::NotHeld { packet } => write!(f, "p{} empty", packet.number()),
-            Reason::NotEmpty { packet, known }
-            | Reason::LeftOver { packet, known }
-            | Reason::NotAlone { packet, known, .. }
-            | Reason::LessThanRing { packet, known, .. } => write!(f, "{}", Held(packet, known)),
-            Reason::OneRegister { packet } => write!(f, "both are p{}", packet.number()),
-            Reason::TooLittle {
-                packet,
-                part,
-                known,
-                ..
-            } => write!(f, "p{} {} {known}", packet.number(), measure_word(part)),
-            Reason::TooLong {
-                front,
-                back,
-                known,
-                more,
-            } => {
-                let (known, more) = (Part::Segments(known), Part::Segments(more));
-                write!(f, "p{} {known}, p{} {more}", front.number(), back.number())
-            }
-            Reason::NoPort {
-                register,
-                known,
-                ..
-            } => write!(f, "r{} <= {known}", register.number()),
-        }
+        write!(f, "{}", known_of(&self.0))
     }
 }
 
@@ -136,59 +245,13 @@ pub struct WantedText<'s, 't> {
 
 impl fmt::Display for WantedText<'_, '_> {
     fn fmt<W: fmt::Write>(&self, f: &mut fmt::Formatter<W>) -> fmt::Result {
-        match self.reason {
-            Reason::RowCount { wanted, .. } => write!(f, "{wanted} rows"),
-            Reason::NoEntry => write!(f, "a port or ring of the environment"),
-            Reason::EntryRow(gap) => write!(f, "{}", RowText::Wanted(gap)),
-            Reason::NoPool { pool, .. } => write!(f, "a pool with the number {pool}, from 0"),
-            Reason::NoTable { table, .. } => write!(f, "a table with the number {table}, from 0"),
-            Reason::NoRing { ring, .. } => write!(f, "a ring with the number {ring}, from 0"),
-            Reason::NoInstruction { to, .. } => {
-                write!(f, "an instruction with the number {to}, from 0")
-            }
-            Reason::NotHeld { packet } => write!(f, "a packet in p{}", packet.number()),
-            Reason::NotEmpty { packet, .. } | Reason::LeftOver { packet, .. } => {
-                write!(f, "p{} empty", packet.number())
-            }
-            Reason::OneRegister { .. } => write!(f, "two registers"),
-            Reason::TooLittle {
-                packet,
-                part,
-                start,
-                count,
-                ..
-            } => {
-                write!(f, "p{} {} ", packet.number(), measure_word(part))?;
-                if start > 0 {
-                    write!(f, "{start} + ")?;
-                }
-                write!(f, "{count}")
-            }
-            Reason::NotAlone {
-                packet,
-                wanted: 2,
-                ..
-            } => write!(f, "p{} sole", packet.number()),
-            Reason::NotAlone { packet, .. } => {
-                write!(f, "p{} sole or head sole", packet.number())
-            }
-            Reason::TooLong { .. } => write!(f, "at most 64 together"),
-            Reason::NoPort {
-                register,
-                ports,
-                ..
-            } => {
-                let number = register.number();
-                write!(f, "r{number} below {ports}, the number of ports")
-            }
-            Reason::LessThanRing { packet, wanted, .. } => write!(f, "{}", Held(packet, wanted)),
-            Reason::Successor { to, gap } => {
-                let row = RowText::Wanted(gap);
-                match label_at(self.source, usize::from(to)) {
-                    Some(label) => write!(f, "at {to}, {label}: {row}"),
-                    None => write!(f, "at {to}: {row}"),
-                }
-            }
+        let wanted = wanted_of(&self.reason);
+        let Reason::Successor { to, .. } = self.reason else {
+            return write!(f, "{wanted}");
+        };
+        match label_at(self.source, usize::from(to)) {
+            Some(label) => write!(f, "at {to}, {label}: {wanted}"),
+            None => write!(f, "at {to}: {wanted}"),
         }
     }
 }
@@ -286,54 +349,59 @@ impl fmt::Display for HintText {
         {
             return write!(f, "{hint}");
         }
-        self.write_hint(f)
+        if let Reason::TooLittle {
+            packet,
+            part,
+            start,
+            count,
+            ..
+        } = self.reason
+        {
+            return write_test(f, packet.number(), part, start, count);
+        }
+        write!(f, "{}", help_for(&self.reason, self.inferred))
     }
 }
 
-impl HintText {
-    /// Writes what helps in the instructions of a program.
-    fn write_hint<W: fmt::Write>(&self, f: &mut fmt::Formatter<W>) -> fmt::Result {
-        match self.reason {
-            Reason::NotHeld { packet } => {
-                let p = packet.number();
-                write!(f, "put a packet into p{p} before it, by alloc or clone")
-            }
-            Reason::NotEmpty { packet, .. } => {
-                let p = packet.number();
-                write!(f, "free p{p} before it, or take another register")
-            }
-            Reason::LeftOver { packet, .. } => write!(f, "free p{} before it", packet.number()),
-            Reason::NoPort {
-                register,
-                ports,
-                ..
-            } => {
-                let number = register.number();
-                write!(f, "jlt r{number},{ports},L before it, and at L the tx")
-            }
-            Reason::TooLittle {
+/// What helps in the instructions of a program, if no test of a measure does.
+fn help_for<'a>(reason: &Reason, inferred: bool) -> Phrase<'a> {
+    match *reason {
+        Reason::NotHeld { packet } => Phrase::Register(
+            "put a packet into ",
+            packet,
+            " before it, by alloc or clone",
+        ),
+        Reason::NotEmpty { packet, .. } => Phrase::Register(
+            "free ",
+            packet,
+            " before it, or take another register",
+        ),
+        Reason::LeftOver { packet, .. } => { Phrase::Register("free ", packet, " before it") }
+        Reason::NoPort {
+            register,
+            ports,
+            ..
+        } => Phrase::Ports(
+            "jlt ",
+            register,
+            ",",
+            ports,
+            ",L before it, and at L the tx",
+        ),
+        Reason::Successor {
+            gap: Gap::Packet {
                 packet,
-                part,
-                start,
-                count,
+                wanted: Fact::Empty,
                 ..
-            } => write_test(f, packet.number(), part, start, count),
-            Reason::Successor {
-                gap: Gap::Packet {
-                    packet,
-                    wanted: Fact::Empty,
-                    ..
-                },
-                ..
-            } if self.inferred => {
-                let p = packet.number();
-                write!(
-                    f,
-                    "free p{p} before control goes there: another path arrives with p{p} empty"
-                )
-            }
-            reason => write!(f, "{}", hint(reason, self.inferred)),
-        }
+            },
+            ..
+        } if inferred => Phrase::RegisterTwice(
+            "free ",
+            packet,
+            " before control goes there: another path arrives with ",
+            " empty",
+        ),
+        _ => Phrase::Words(hint(*reason, inferred)),
     }
 }
 
