@@ -1,7 +1,7 @@
 -- What a writer is offered of a piece, call by call.
-use Rattle.std.proofs.Common.{◌≡◌, ℕ, ◌+◌, ◌<◌, ◌≤◌, List, [], ◌∷◌, ◌++◌, length, drop, refl, arith, append_assoc, length-drop}
-use Rattle.std.proofs.lemmas.List.{drop-drop}
-use Rattle.dp_pcap.specs.Offering.{AreRests, OffersWhole, OffersPart}
+use Rattle.std.proofs.Common.{◌≡◌, ℕ, ◌+◌, ◌<◌, ◌≤◌, List, [], ◌∷◌, ◌++◌, length, drop, refl, sym, arith, append_assoc, length-drop}
+use Rattle.std.proofs.lemmas.List.{append-nil, drop-drop}
+use Rattle.dp_pcap.specs.Offering.{AreRests, OffersWhole, OffersPart, OffersTwo}
 
 -- one rest more
 rests_more : (piece : List ℕ) (from : ℕ) (os : List (List ℕ)) (taken next : ℕ) → AreRests piece from os taken → taken < next →
@@ -49,3 +49,17 @@ module _ (old mid new : List (List ℕ)) (piece rest : List ℕ) (n : ℕ) (firs
     omega (arith, long),
     beyond os taken rests,
   )
+
+-- two pieces that were offered once each and taken whole
+pub both_once : (old new : List (List ℕ)) (first second : List ℕ) → new ≡ (old ++ first ∷ []) ++ second ∷ [] → 0 < length first → 0 < length second →
+    OffersTwo old new first second
+both_once old new first second is some other = (
+  old ++ first ∷ [],
+  (first ∷ [], refl, (refl, (length first, some, refl))),
+  (second ∷ [], is, (refl, (length second, other, refl))),
+)
+
+-- the first alone, where the second is empty
+pub first_once : (old new : List (List ℕ)) (first second : List ℕ) → new ≡ old ++ first ∷ [] → 0 < length first → length second ≡ 0 →
+    OffersTwo old new first second
+first_once old new first second is some none = (new, (first ∷ [], is, (refl, (length first, some, refl))), ([], sym (append-nil new), sym none))

@@ -53,6 +53,17 @@ impl<W: Write + Drop> Buffered<W> {
         self.pending.bytes()
     }
 
+    // Takes two pieces for which the buffer has room.
+    #[inline(always)]
+    pub(crate) fn take_both(&mut self, first: &[u8], second: &[u8])
+        requires { length (writer_buffer self.old) + (length first.now + length second.now) ≤ writer_capacity self.old }
+        ensures bytes { writer_buffer self.new ≡ writer_buffer self.old ++ (first.now ++ second.now) }
+        ensures capacity { writer_capacity self.new ≡ writer_capacity self.old }
+        ensures inner { writer_inner self.new ≡ writer_inner self.old }
+    {
+        self.pending.append_both(first, second);
+    }
+
     // Writes the buffer out. What a failure leaves unwritten stays in it.
     fn write_out(&mut self) -> io::Result<()>
         ensures empty { OnOk result (writer_buffer self.new ≡ []) }

@@ -1,7 +1,8 @@
 //! A sink over a writer with a buffer.
-ghost use Rattle.std.specs.Prelude.{◌≡◌, [], ◌∷◌, ◌++◌, ◌+◌, ◌<◌, ◌≤◌, ◌↔◌, length, take, IfOk, IsErr, IsTrue, MatchResult, OnOk, false};
-ghost use Rattle.std.specs.Io.KnownBytes.{Keeps, WriteAppends};
+ghost use Rattle.std.specs.Prelude.{◌≡◌, [], ◌∷◌, ◌++◌, ◌+◌, ◌<◌, ◌≤◌, ◌↔◌, length, take, IfOk, IsErr, IsTrue, MatchResult, OnOk, false, nat_lt, if◌then◌else◌};
+ghost use Rattle.std.specs.Io.KnownBytes.{Appends, Keeps, WriteAppends};
 ghost use Rattle.dp_pcap.specs.Buffers.{writer_buffer, writer_capacity, writer_contents};
+ghost use Rattle.dp_pcap.specs.Offering.{OffersTwo};
 ghost use Rattle.dp_pcap.specs.OfStd.{writer_inside, sink_health, sink_offers};
 
 use crate::{Buffered, Failed, OfWrite, Offers, Sink};
@@ -108,16 +109,50 @@ impl<W: Write + Drop> Sink for OfBufWriter<W> {
         ensures exact { (buffered_sink_health self.now).is_broken ≡ false →
             length (writer_buffer (buffered_writer self.now)) + head + body < writer_capacity (buffered_writer self.now) → IsTrue result }
     {
-        // The pushes make these tests again, in the same terms, so that the compiler sees that no piece lacks room. `after < capacity` always holds; it
-        // keeps `after` a number of its own, as the second push has it.
-        let held = self.sink.inner.buffer().len();
-        let capacity = self.sink.inner.capacity();
-        if self.sink.health.is_broken() || head >= capacity - held {
+        let spare = self.sink.inner.capacity() - self.sink.inner.buffer().len();
+        !self.sink.health.is_broken() && head < spare && body < spare - head
+    }
+
+    /// True exactly where `has_room` is. Nothing is written out then.
+    #[inline(always)]
+    fn push_both(&mut self, head: &[u8], body: &[u8]) -> bool
+        requires { 0 < length head.now }
+        ensures bytes { IsTrue result →
+            Appends (writer_contents W.contents (buffered_writer self.old)) (writer_contents W.contents (buffered_writer self.new)) (head.now ++ body.now) }
+        ensures offered { IsTrue result → OffersTwo (buffered_sink_offers self.old) (buffered_sink_offers self.new) head.now body.now }
+        ensures counted { IsTrue result →
+            (buffered_sink_health self.new).calls ≡ (buffered_sink_health self.old).calls + (if nat_lt 0 (length body.now) then 2 else 1) }
+        ensures sound { IsTrue result → ((buffered_sink_health self.old).is_broken ≡ false) × ((buffered_sink_health self.new).is_broken ≡ false) }
+        ensures failures { (buffered_sink_health self.new).failures ≡ (buffered_sink_health self.old).failures }
+        ensures untouched { result ≡ false → self.new ≡ self.old }
+        ensures buffered { IsTrue result → writer_buffer (buffered_writer self.new) ≡ writer_buffer (buffered_writer self.old) ++ (head.now ++ body.now) }
+        ensures exact { (buffered_sink_health self.old).is_broken ≡ false →
+            length (writer_buffer (buffered_writer self.old)) + length head.now + length body.now < writer_capacity (buffered_writer self.old)
+            → IsTrue result }
+    {
+        if !self.has_room(head.len(), body.len()) {
             return false;
         }
-        let after = held + head;
-        after < capacity && body < capacity - after
+        self.offers = both_offered(&self.offers, head, body);
+        self.sink.health.call();
+        if !body.is_empty() {
+            self.sink.health.call();
+        }
+        self.sink.inner.take_both(head, body);
+        true
     }
+}
+
+// The offers after those of two pieces; an empty body is not offered.
+#[inline(always)]
+fn both_offered(offers: &Offers, head: &[u8], body: &[u8]) -> Offers
+    requires { 0 < length head.now }
+    ensures { OffersTwo offers.now.pieces result.pieces head.now body.now }
+{
+    if body.is_empty() {
+        return offers.and(head);
+    }
+    offers.and(head).and(body)
 }
 
 // Takes bytes for which the buffer has no room: as many as fill it, or all if it is full. So the inner writer gets whole buffers, and a file that

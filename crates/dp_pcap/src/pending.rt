@@ -61,6 +61,18 @@ impl Pending {
         self.len = end;
     }
 
+    // Appends two pieces for which it has room. Their places are one slice, so that the buffer is looked up once.
+    #[inline(always)]
+    pub(crate) fn append_both(&mut self, first: &[u8], second: &[u8])
+        requires { length (pending self.old) + (length first.now + length second.now) ≤ places self.old }
+        ensures bytes { pending self.new ≡ pending self.old ++ (first.now ++ second.now) }
+        ensures places { places self.new ≡ places self.old }
+    {
+        let end = self.len + (first.len() + second.len());
+        write_both(&mut self.bytes[self.len..end], first, second);
+        self.len = end;
+    }
+
     // Removes bytes from its front.
     pub(crate) fn remove_front(&mut self, count: usize)
         requires within { count ≤ length (pending self.old) }
@@ -70,4 +82,14 @@ impl Pending {
         self.bytes.as_mut_slice().copy_within(count..self.len, 0);
         self.len -= count;
     }
+}
+
+// Writes two pieces that are as long as `to` together.
+#[inline(always)]
+fn write_both(to: &mut [u8], first: &[u8], second: &[u8])
+    requires { length to.old ≡ length first.now + length second.now }
+    ensures { to.new ≡ first.now ++ second.now }
+{
+    to[..first.len()].copy_from_slice(first);
+    to[first.len()..].copy_from_slice(second);
 }
