@@ -69,10 +69,12 @@ impl<R: Read> Feed for OfBufReader<R> {
 
     #[inline(always)]
     fn held(&self) -> &[u8] {
+        // None of these bytes are at the same place as all, so that a caller who needs no length makes no test.
+        let held = self.feed.inner.buffer();
         if self.feed.health.is_broken() {
-            return &[];
+            return &held[..0];
         }
-        self.feed.inner.buffer()
+        held
     }
 
     #[inline(always)]
