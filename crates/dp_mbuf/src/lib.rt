@@ -49,6 +49,7 @@ mod big_endian;
 mod header;
 mod limits;
 mod mbufs;
+mod never;
 mod objects;
 mod steps;
 

@@ -19,6 +19,7 @@ use crate::header::{
     write_segs_and_last, write_words,
 };
 use crate::limits::{HEADER_SIZE, MAX_MBUFS, MAX_POOLS, NEXT, OFFSET, REFS, SEGS, WORDS};
+use crate::never::never;
 use dp_model::Width;
 use dp_pool::Pool;
 use std::marker::Model;
@@ -50,7 +51,10 @@ fn pool_at(pools: &[Option<Pool>; MAX_POOLS], k: u16) -> &Pool
 {
     match &pools[usize::from(k)] {
         Some(pool) => pool,
-        None => unreachable!(),
+        None => {
+            never();
+            unreachable!()
+        }
     }
 }
 
@@ -63,6 +67,8 @@ fn write_in(slot: &mut Option<Pool>, index: u16, at: u32, bytes: &[u8])
 {
     if let Some(pool) = slot {
         pool.write(u32::from(index), at, bytes);
+    } else {
+        never();
     }
 }
 
@@ -74,6 +80,8 @@ fn write_words_in(slot: &mut Option<Pool>, index: u16, at: usize, x: u16, y: u16
 {
     if let Some(pool) = slot {
         write_words(pool.object_mut(u32::from(index)), at, x, y);
+    } else {
+        never();
     }
 }
 
@@ -86,6 +94,8 @@ fn write_segs_and_last_in(slot: &mut Option<Pool>, index: u16, segs: u16, last: 
 {
     if let Some(pool) = slot {
         write_segs_and_last(pool.object_mut(u32::from(index)), segs, last);
+    } else {
+        never();
     }
 }
 
@@ -99,6 +109,8 @@ fn write_both_in(slot: &mut Option<Pool>, index: u16, header: &[u8], at: usize, 
 {
     if let Some(pool) = slot {
         write_both(pool.object_mut(u32::from(index)), header, at, bytes);
+    } else {
+        never();
     }
 }
 
@@ -110,6 +122,8 @@ fn write_number_in(slot: &mut Option<Pool>, index: u16, at: usize, width: Width,
 {
     if let Some(pool) = slot {
         write_number(pool.object_mut(u32::from(index)), at, width, n);
+    } else {
+        never();
     }
 }
 
@@ -121,6 +135,8 @@ fn zero_in(slot: &mut Option<Pool>, index: u16, at: usize, len: usize)
 {
     if let Some(pool) = slot {
         pool.object_mut(u32::from(index))[at..at + len].fill(0);
+    } else {
+        never();
     }
 }
 
@@ -132,6 +148,8 @@ fn put_in(slot: &mut Option<Pool>, index: u16)
 {
     if let Some(pool) = slot {
         pool.put(u32::from(index));
+    } else {
+        never();
     }
 }
 
@@ -143,8 +161,10 @@ fn end_in(slot: &mut Option<Pool>, index: u16)
     ensures { SlotBecomes (λ p. put_back (with_written p index SEGS (then_word 0 [])) index) slot.old slot.new }
 {
     if let Some(pool) = slot {
-        pool.write(u32::from(index), SEGS as u32, &bytes_of_word(0));
+        pool.clear(u32::from(index), SEGS as u32, 2);
         pool.put(u32::from(index));
+    } else {
+        never();
     }
 }
 
@@ -193,7 +213,10 @@ fn get_in(slot: &mut Option<Pool>) -> Option<u16>
             let index = pool.get()?;
             Some(index as u16)
         }
-        None => None,
+        None => {
+            never();
+            None
+        }
     }
 }
 
