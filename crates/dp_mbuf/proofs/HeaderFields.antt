@@ -50,10 +50,10 @@ module _ (old : List ℕ) (at : ℕ) (new : List ℕ) (fits : at + length new �
   word_after a b = omega (arith, byte_after a b, byte_after (a + 1) (omega arith))
 
   mbuf_before : (a : ℕ) → a + 4 ≤ at → mbuf_number (overwritten old at new) a ≡ mbuf_number old a
-  mbuf_before a b = number_path _ _ (word_before a (omega arith)) (word_before (a + 2) (omega arith))
+  mbuf_before a b = number_path _ _ (word_before (a + 2) (omega arith)) (word_before a (omega arith))
 
   mbuf_after : (a : ℕ) → at + length new ≤ a → mbuf_number (overwritten old at new) a ≡ mbuf_number old a
-  mbuf_after a b = number_path _ _ (word_after a b) (word_after (a + 2) (omega arith))
+  mbuf_after a b = number_path _ _ (word_after (a + 2) (omega arith)) (word_after a b)
 
 -- ---- two numbers, one after the other
 
@@ -158,31 +158,31 @@ module _ (o : List ℕ) (long : 128 ≤ length o) where
       ∙ word_back y) (mbuf_after o 6 new fits 10 (omega arith)) (mbuf_after o 6 new fits 14 (omega arith))
       (mbuf_after o 6 new fits 18 (omega arith))
 
-  next_written : (n : Number) → header_of (overwritten o 10 (then_word n.pool (then_word n.index []))) ≡ record (header_of o) { next = n }
+  next_written : (n : Number) → header_of (overwritten o 10 (then_word n.index (then_word n.pool []))) ≡ record (header_of o) { next = n }
   unfolding header_of
   next_written n =
-      let new : List ℕ = then_word n.pool (then_word n.index []) in
+      let new : List ℕ = then_word n.index (then_word n.pool []) in
       let fits : 10 + length new ≤ length o = omega arith in
       header_eq _ _ (word_before o 10 new fits 0 (omega arith)) (omega (
         arith,
         word_before o 10 new fits 2 (omega arith),
         word_before o 10 new fits 4 (omega arith),
       )) (word_before o 10 new fits 6 (omega arith)) (word_before o 10 new fits 8 (omega arith))
-      (number_path _ _ (word_in o 10 new fits 10 0 refl (omega arith)) (word_in o 10 new fits 12 2 refl (omega arith))
+      (number_path _ _ (word_in o 10 new fits 12 2 refl (omega arith)) (word_in o 10 new fits 10 0 refl (omega arith))
       ∙ mbuf_back n) (mbuf_after o 10 new fits 14 (omega arith)) (mbuf_after o 10 new fits 18 (omega arith))
 
-  last_written : (n : Number) → header_of (overwritten o 14 (then_word n.pool (then_word n.index []))) ≡ record (header_of o) { last = n }
+  last_written : (n : Number) → header_of (overwritten o 14 (then_word n.index (then_word n.pool []))) ≡ record (header_of o) { last = n }
   unfolding header_of
   last_written n =
-      let new : List ℕ = then_word n.pool (then_word n.index []) in
+      let new : List ℕ = then_word n.index (then_word n.pool []) in
       let fits : 14 + length new ≤ length o = omega arith in
       header_eq _ _ (word_before o 14 new fits 0 (omega arith)) (omega (
         arith,
         word_before o 14 new fits 2 (omega arith),
         word_before o 14 new fits 4 (omega arith),
       )) (word_before o 14 new fits 6 (omega arith)) (word_before o 14 new fits 8 (omega arith))
-      (mbuf_before o 14 new fits 10 (omega arith)) (number_path _ _ (word_in o 14 new fits 14 0 refl (omega arith))
-      (word_in o 14 new fits 16 2 refl (omega arith)) ∙ mbuf_back n) (mbuf_after o 14 new fits 18 (omega arith))
+      (mbuf_before o 14 new fits 10 (omega arith)) (number_path _ _ (word_in o 14 new fits 16 2 refl (omega arith))
+      (word_in o 14 new fits 14 0 refl (omega arith)) ∙ mbuf_back n) (mbuf_after o 14 new fits 18 (omega arith))
 
 -- ---- the header afterwards
 
@@ -208,16 +208,16 @@ module _ (ps ps' : List PoolView) (n : Number) (long : 128 ≤ length (object_in
       HeaderSet ps n (record (header_at ps n) { offset = x; len = y }) ps'
   bounds_done x y e = written_is ps ps' n 6 bytes _ _ e (bounds_written object long x y)
 
-  pub next_done : (m : Number) (x y : ℕ) → x ≡ m.pool → y ≡ m.index → bytes ≡ then_word x (then_word y []) → HeaderSet ps n (header_with ps n 10 bytes) ps' →
+  pub next_done : (m : Number) (x y : ℕ) → x ≡ m.index → y ≡ m.pool → bytes ≡ then_word x (then_word y []) → HeaderSet ps n (header_with ps n 10 bytes) ps' →
       HeaderSet ps n (record (header_at ps n) { next = m }) ps'
   next_done m x y ex ey e =
-      let is : bytes ≡ then_word m.pool (then_word m.index []) = rw (e, ex, ey) in
+      let is : bytes ≡ then_word m.index (then_word m.pool []) = rw (e, ex, ey) in
       written_is ps ps' n 10 bytes _ _ is (next_written object long m)
 
-  pub last_done : (m : Number) (x y : ℕ) → x ≡ m.pool → y ≡ m.index → bytes ≡ then_word x (then_word y []) → HeaderSet ps n (header_with ps n 14 bytes) ps' →
+  pub last_done : (m : Number) (x y : ℕ) → x ≡ m.index → y ≡ m.pool → bytes ≡ then_word x (then_word y []) → HeaderSet ps n (header_with ps n 14 bytes) ps' →
       HeaderSet ps n (record (header_at ps n) { last = m }) ps'
   last_done m x y ex ey e =
-      let is : bytes ≡ then_word m.pool (then_word m.index []) = rw (e, ex, ey) in
+      let is : bytes ≡ then_word m.index (then_word m.pool []) = rw (e, ex, ey) in
       written_is ps ps' n 14 bytes _ _ is (last_written object long m)
 
 pub header_set : (ps : List PoolView) (n : Number) (h : Header) → ArePools ps → HasObject ps n → Small (header_bytes h) →

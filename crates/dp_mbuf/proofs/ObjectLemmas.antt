@@ -52,7 +52,7 @@ word_same : (xs ys : List ℕ) (a : ℕ) → ((k : ℕ) → k < 128 → get_or x
 word_same xs ys a e h = omega (arith, e a (omega arith), e (a + 1) h)
 
 mbuf_same : (xs ys : List ℕ) (a : ℕ) → ((k : ℕ) → k < 128 → get_or xs k 0 ≡ get_or ys k 0) → a + 3 < 128 → mbuf_number xs a ≡ mbuf_number ys a
-mbuf_same xs ys a e h = number_path _ _ (word_same xs ys a e (omega arith)) (word_same xs ys (a + 2) e (omega arith))
+mbuf_same xs ys a e h = number_path _ _ (word_same xs ys (a + 2) e (omega arith)) (word_same xs ys a e (omega arith))
 
 -- a header depends on an object's first bytes only
 pub header_same : (xs ys : List ℕ) → ((k : ℕ) → k < 128 → get_or xs k 0 ≡ get_or ys k 0) → header_of xs ≡ header_of ys

@@ -24,7 +24,7 @@ module _ (pools : List (Option PoolView)) (ps : List PoolView) (e : present pool
       → ArePoolSlots (set pools n.pool o) × HeaderSet ps n (record (header_at ps n) { segs = segs; last = last }) (present (set pools n.pool o))
   first_set_here n segs last d o few pool index object b =
       let x : List ℕ = then_word segs [] in
-      let y : List ℕ = then_word last.pool (then_word last.index []) in
+      let y : List ℕ = then_word last.index (then_word last.pool []) in
       let there : n.pool < length ps = object_pool ps n object in
       let below = (listed pools ps e inv n.pool there).0 in
       let is = slot_is pools ps n.pool d e there in
@@ -39,9 +39,9 @@ module _ (pools : List (Option PoolView)) (ps : List PoolView) (e : present pool
       let left : o ≡ Some (with_object p n.index (with_segs_and_last (object_in p n.index) segs last)) =
       rw is at b in
       let again : o ≡ Some (with_written q n.index 14 y) = rw left (ap Some (written_again p n.index 0 14 x y object)) in
-      let g = front_done middle (present middle) refl f.0 n n.pool n.index 14 y d o refl refl (small_words last.pool last.index pool index) object'
+      let g = front_done middle (present middle) refl f.0 n n.pool n.index 14 y d o refl refl (small_words last.index last.pool index pool) object'
       (omega arith) (rw (get_or-set_same pools n.pool (Some q) d below) again) in
-      let second = last_done (present middle) (present (set middle n.pool o)) n (object_long (present middle) n first.are object') y last last.pool last.index
+      let second = last_done (present middle) (present (set middle n.pool o)) n (object_long (present middle) n first.are object') y last last.index last.pool
       refl refl refl g.1 in
       rw (← set-set pools n.pool (Some q) o)
       (g.0, first_set_twice ps (present middle) (present (set middle n.pool o)) n segs last first second)

@@ -58,9 +58,9 @@ grown_direct ps ps1 ps' hand slots n x o l w t done segs one fits =
 pub small_header : (h : Header) → h.segs < 65536 → h.refs < 4294967296 → h.offset < 65536 → h.len < 65536 → (h.next.pool < 65536) × (h.next.index < 65536) →
     (h.last.pool < 65536) × (h.last.index < 65536) → (h.buffer.pool < 65536) × (h.buffer.index < 65536) → Small (header_bytes h)
 small_header h a b c d e f g =
-    let mbufs : List ℕ = h.next.pool ∷ h.next.index ∷ h.last.pool ∷ h.last.index ∷ h.buffer.pool ∷ h.buffer.index ∷ [] in
+    let mbufs : List ℕ = h.next.index ∷ h.next.pool ∷ h.last.index ∷ h.last.pool ∷ h.buffer.index ∷ h.buffer.pool ∷ [] in
     small_all (h.segs ∷ h.refs % 65536 ∷ h.refs / 65536 ∷ h.offset ∷ h.len ∷ mbufs)
-    (a, (omega arith, (omega arith, (c, (d, (e.0, (e.1, (f.0, (f.1, (g.0, (g.1, tt)))))))))))
+    (a, (omega arith, (omega arith, (c, (d, (e.1, (e.0, (f.1, (f.0, (g.1, (g.0, tt)))))))))))
 
 -- ---- setting a header again
 set_again : (ps a b : List PoolView) (n : Number) (x y : Header) → HeaderSet ps n x a → HeaderSet ps n y b → HeaderSet a n y b

@@ -1,59 +1,12 @@
 //! The header in the first bytes of each object.
 
 ghost use Rattle.std.specs.Prelude.{◌≡◌, ◌<◌, ◌≤◌, ◌+◌, ◌/◌, ◌%◌, [], length};
-ghost use Rattle.dp_model.specs.Buffers.{same_number, overwritten};
+ghost use Rattle.dp_model.specs.Buffers.{overwritten};
 ghost use Rattle.dp_mbuf.specs.Headers.{header_of, word, then_word, with_both, with_segs_and_last, header_bytes};
 
 use crate::limits::{BUFFER, FIELDS_SIZE, HEADER_SIZE, LAST, LEN, NEXT, OFFSET, REFS, SEGS, WORDS};
+use crate::mbuf_number::MbufNumber;
 use byteorder::{ByteOrder, LittleEndian};
-use std::marker::Model;
-
-/// The number of an mbuf or of a buffer: its pool, and its index there.
-#[derive(Clone, Copy)]
-pub(crate) struct MbufNumber {
-    pub pool: u16,
-    pub index: u16,
-}
-
-impl Model for MbufNumber {
-    ghost use Rattle.dp_model.specs.Buffers.{Number};
-
-    ghost Value = { Number };
-
-    ghost view = { λ p. record { pool = p.pool; index = p.index } };
-
-    ghost inverse = { λ n. record { pool = n.pool; index = n.index } };
-}
-
-impl MbufNumber {
-    /// Makes the number of an mbuf from its pool and its index.
-    pub fn new(pool: u16, index: u16) -> MbufNumber
-        ensures { result ≡ record { pool = pool; index = index } }
-    {
-        MbufNumber { pool, index }
-    }
-
-    /// Whether the two are the same.
-    pub fn is(self, other: MbufNumber) -> bool
-        ensures { result ≡ same_number self other }
-    {
-        self.pool == other.pool && self.index == other.index
-    }
-
-    /// Its pool.
-    pub fn pool(self) -> u16
-        ensures { result ≡ self.pool }
-    {
-        self.pool
-    }
-
-    /// Its index in the pool.
-    pub fn index(self) -> u16
-        ensures { result ≡ self.index }
-    {
-        self.index
-    }
-}
 
 /// The contents of an object's header. As an mbuf: its part of a buffer, and the next mbuf; as the first of a packet also the number of segments (0
 /// in any other) and the last mbuf. As a buffer: how many segments refer to it.
@@ -88,9 +41,9 @@ pub(crate) fn read_header(object: &[u8]) -> Header
         refs: u32::from(read_word(object, REFS)) + u32::from(read_word(object, REFS + 2)) * WORDS,
         offset: read_word(object, OFFSET),
         len: read_word(object, LEN),
-        next: MbufNumber::new(read_word(object, NEXT), read_word(object, NEXT + 2)),
-        last: MbufNumber::new(read_word(object, LAST), read_word(object, LAST + 2)),
-        buffer: MbufNumber::new(read_word(object, BUFFER), read_word(object, BUFFER + 2)),
+        next: MbufNumber::new(read_word(object, NEXT + 2), read_word(object, NEXT)),
+        last: MbufNumber::new(read_word(object, LAST + 2), read_word(object, LAST)),
+        buffer: MbufNumber::new(read_word(object, BUFFER + 2), read_word(object, BUFFER)),
     }
 }
 
@@ -144,7 +97,7 @@ pub(crate) fn write_segs_and_last(object: &mut [u8], segs: u16, last: MbufNumber
     ensures small { (last.pool < WORDS) × (last.index < WORDS) }
 {
     write_word(object, SEGS, segs);
-    write_words(object, LAST, last.pool(), last.index());
+    write_words(object, LAST, last.index(), last.pool());
 }
 
 // Overwrites bytes at offset `at`.
@@ -195,17 +148,17 @@ pub(crate) fn bytes_of_header(h: Header) -> [u8; FIELDS_SIZE]
         high(h.offset),
         low(h.len),
         high(h.len),
-        low(h.next.pool()),
-        high(h.next.pool()),
         low(h.next.index()),
         high(h.next.index()),
-        low(h.last.pool()),
-        high(h.last.pool()),
+        low(h.next.pool()),
+        high(h.next.pool()),
         low(h.last.index()),
         high(h.last.index()),
-        low(h.buffer.pool()),
-        high(h.buffer.pool()),
+        low(h.last.pool()),
+        high(h.last.pool()),
         low(h.buffer.index()),
         high(h.buffer.index()),
+        low(h.buffer.pool()),
+        high(h.buffer.pool()),
     ]
 }

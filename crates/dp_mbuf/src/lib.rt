@@ -48,6 +48,7 @@
 mod big_endian;
 mod header;
 mod limits;
+mod mbuf_number;
 mod mbufs;
 mod never;
 mod objects;

@@ -17,10 +17,9 @@ ghost use Rattle.dp_mbuf.specs.Mbufs.{Freeing, Sound, shown};
 ghost use Rattle.dp_mbuf.specs.Alone.{IsAlone};
 
 use crate::big_endian::read_number;
-use crate::header::{Header, MbufNumber};
-use crate::limits::{
-    HEADROOM, MAX_LENGTH, MAX_MBUFS, MAX_POOLS, MAX_ROOM, MAX_SEGMENTS, POOL_HANDLES,
-};
+use crate::header::Header;
+use crate::limits::{HEADROOM, MAX_LENGTH, MAX_MBUFS, MAX_POOLS, MAX_ROOM, MAX_SEGMENTS};
+use crate::mbuf_number::MbufNumber;
 use crate::objects::Objects;
 use crate::steps::{
     beyond, clear_first, clone_segment, fill_segment, fresh_header, release, release_only, relink,
@@ -50,11 +49,7 @@ impl Model for Mbufs {
 fn first_number(packet: &Packet) -> MbufNumber
     ensures { result ≡ numbered packet.now }
 {
-    let number = packet.number();
-    MbufNumber::new(
-        (number / POOL_HANDLES) as u16,
-        (number % POOL_HANDLES) as u16,
-    )
+    MbufNumber::of(packet.number())
 }
 
 // The packet that begins at this mbuf.
@@ -62,7 +57,7 @@ fn first_number(packet: &Packet) -> MbufNumber
 fn packet_of(mbuf: MbufNumber) -> Packet
     ensures { result ≡ handle mbuf }
 {
-    Packet::of(u32::from(mbuf.pool()) * POOL_HANDLES + u32::from(mbuf.index()))
+    Packet::of(mbuf.handle())
 }
 
 // The header of a packet's first mbuf.

@@ -15,10 +15,11 @@ ghost use Rattle.dp_mbuf.specs.Objects.{FirstsCleared, FirstsClearedTo, SlotFirs
 
 use crate::big_endian::write_number;
 use crate::header::{
-    Header, MbufNumber, bytes_of_header, bytes_of_refs, bytes_of_word, read_header, write_both,
+    Header, bytes_of_header, bytes_of_refs, bytes_of_word, read_header, write_both,
     write_segs_and_last, write_words,
 };
 use crate::limits::{HEADER_SIZE, MAX_MBUFS, MAX_POOLS, NEXT, OFFSET, REFS, SEGS, WORDS};
+use crate::mbuf_number::MbufNumber;
 use crate::never::never;
 use dp_model::Width;
 use dp_pool::Pool;
@@ -393,7 +394,7 @@ impl Objects {
         requires { HasObject self.old n }
         ensures { HeaderSet self.old n (record (header_at self.old n) { next = next }) self.new }
     {
-        self.write_pair(n, NEXT, next.pool(), next.index());
+        self.write_pair(n, NEXT, next.index(), next.pool());
     }
 
     /// Sets the number of segments and the last mbuf.

@@ -5,8 +5,9 @@ ghost use Rattle.dp_model.specs.Environments.{room_at};
 ghost use Rattle.dp_mbuf.specs.Objects.{header_at, is_out, specs_of, HasObject, count_in, ArePools, HeaderSet, Taken};
 ghost use Rattle.dp_mbuf.specs.Steps.{MbufBack, BufferLess, CanRelease, Released, CanClone, Cloned, FilledBy};
 
-use crate::header::{Header, MbufNumber};
+use crate::header::Header;
 use crate::limits::HEADROOM;
+use crate::mbuf_number::MbufNumber;
 use crate::objects::Objects;
 
 /// Clears the first mbuf's number of segments, so that no packet begins there, and returns the header that it had.
