@@ -1,6 +1,7 @@
 -- Lists the lemma files.
 pub mod PoolLemmas
 pub mod Spelled
+pub mod Putting
 pub mod ObjectLemmas
 pub mod ObjectCalls
 pub mod HeaderFields

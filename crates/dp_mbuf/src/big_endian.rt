@@ -1,6 +1,6 @@
 //! Reads and writes big-endian numbers.
 
-ghost use Rattle.std.specs.Prelude.{◌≡◌, ◌≤◌, ◌+◌, length, take};
+ghost use Rattle.std.specs.Prelude.{◌≡◌, ◌≤◌, ◌+◌, ◌∷◌, [], length, take};
 ghost use Rattle.dp_model.specs.Arithmetic.{bytes_in, spelled, big_endian};
 ghost use Rattle.dp_model.specs.Buffers.{overwritten};
 
@@ -31,6 +31,26 @@ fn bytes_of_number(n: u64) -> [u8; 8]
     bytes
 }
 
+// Writes two bytes, one store each: the compiler makes one of them, without a test whether the bytes overlap others.
+#[inline(always)]
+fn put_two(bytes: &mut [u8], at: usize, a: u8, b: u8)
+    requires { at + 2 ≤ length bytes.old }
+    ensures { bytes.new ≡ overwritten bytes.old at (a ∷ b ∷ []) }
+{
+    bytes[at] = a;
+    bytes[at + 1] = b;
+}
+
+// Writes four bytes in the same way.
+#[inline(always)]
+fn put_four(bytes: &mut [u8], at: usize, a: u8, b: u8, c: u8, d: u8)
+    requires { at + 4 ≤ length bytes.old }
+    ensures { bytes.new ≡ overwritten bytes.old at (a ∷ b ∷ c ∷ d ∷ []) }
+{
+    put_two(bytes, at, a, b);
+    put_two(bytes, at + 2, c, d);
+}
+
 /// Writes the low `width` bytes of a number, big-endian. Each width has its own branch, with a constant length, so the compiler makes one store
 /// of it.
 #[inline(always)]
@@ -40,9 +60,9 @@ pub(crate) fn write_number(bytes: &mut [u8], at: usize, width: Width, n: u64)
 {
     let all = bytes_of_number(n);
     match width {
-        Width::One => bytes[at..at + 1].copy_from_slice(&all[7..]),
-        Width::Two => bytes[at..at + 2].copy_from_slice(&all[6..]),
-        Width::Four => bytes[at..at + 4].copy_from_slice(&all[4..]),
+        Width::One => bytes[at] = all[7],
+        Width::Two => put_two(bytes, at, all[6], all[7]),
+        Width::Four => put_four(bytes, at, all[4], all[5], all[6], all[7]),
         Width::Eight => bytes[at..at + 8].copy_from_slice(&all),
     }
 }

@@ -6,7 +6,7 @@ ghost use Rattle.std.specs.Prelude.{◌^◌};
 ghost use Rattle.dp_model.specs.Packets.{Segment, needed, refs, IsSole, segment_bytes, packet_bytes, headroom, tailroom, first_len, last_len, at_front};
 ghost use Rattle.dp_model.specs.Packets.{at_end, more_before, less_before, more_after, less_after, zeroed_before, zeroed_after, available, loaded, stored};
 ghost use Rattle.dp_model.specs.Packets.{IsHeadSole, IsTailSole};
-ghost use Rattle.dp_model.specs.Arithmetic.{bytes_in};
+ghost use Rattle.dp_model.specs.Arithmetic.{bytes_in, spelled};
 ghost use Rattle.dp_model.specs.Buffers.{Number, same_number, bytes_of};
 ghost use Rattle.dp_model.specs.Environments.{room_at};
 ghost use Rattle.dp_model.specs.Stores.{segments_of, Has, HasSome, IsLive, Of, Becomes, unwritten, with_slot, Allocates, Chains, Clones, ReceivesInto};
@@ -136,6 +136,51 @@ fn bytes_in_segment(objects: &Objects, header: Header) -> &[u8]
 {
     let from = usize::from(header.offset);
     &objects.bytes(header.buffer)[from..from + usize::from(header.len)]
+}
+
+// The big-endian number at offset `from + more` of the data room of buffer `b`.
+#[inline(always)]
+fn number_in(objects: &Objects, b: MbufNumber, from: u16, more: u64, width: Width) -> u64
+    requires object { HasObject objects.now b }
+    requires fits { from + more + bytes_in width ≤ room_at (specs_of objects.now) b.pool }
+    requires small { from + more ≤ MAX_ROOM }
+    ensures { result ≡ spelled (slice_range (bytes_of (buffers_of objects.now) b) (from + more) (from + more + bytes_in width)) }
+{
+    let at = usize::from(from) + more as usize;
+    read_number(&objects.bytes(b)[at..], width)
+}
+
+// The same of a buffer that is another mbuf.
+#[inline(never)]
+fn number_far(objects: &Objects, b: MbufNumber, from: u16, more: u64, width: Width) -> u64
+    requires object { HasObject objects.now b }
+    requires fits { from + more + bytes_in width ≤ room_at (specs_of objects.now) b.pool }
+    requires small { from + more ≤ MAX_ROOM }
+    ensures { result ≡ spelled (slice_range (bytes_of (buffers_of objects.now) b) (from + more) (from + more + bytes_in width)) }
+{
+    number_in(objects, b, from, more, width)
+}
+
+// The same of a buffer that mostly is mbuf `n` itself, whose address is at hand.
+#[inline(always)]
+fn number_near(
+    objects: &Objects,
+    n: MbufNumber,
+    b: MbufNumber,
+    from: u16,
+    more: u64,
+    width: Width,
+) -> u64
+    requires object { HasObject objects.now b }
+    requires fits { from + more + bytes_in width ≤ room_at (specs_of objects.now) b.pool }
+    requires small { from + more ≤ MAX_ROOM }
+    ensures { result ≡ spelled (slice_range (bytes_of (buffers_of objects.now) b) (from + more) (from + more + bytes_in width)) }
+{
+    if b.is(n) {
+        number_in(objects, n, from, more, width)
+    } else {
+        number_far(objects, b, from, more, width)
+    }
 }
 
 impl Mbufs {
@@ -375,9 +420,15 @@ impl Mbufs {
         ensures { Of self.now.store packet.now (λ k. result ≡ loaded offset (bytes_in width) k self.now.store.buffers) }
     {
         let head = first_header(&self.objects, packet);
-        let at = usize::from(head.offset) + offset as usize;
-        let room = self.objects.bytes(head.buffer);
-        read_number(&room[at..], width)
+        let first = first_number(packet);
+        number_near(
+            &self.objects,
+            first,
+            head.buffer,
+            head.offset,
+            offset,
+            width,
+        )
     }
 
     /// Writes the low `width` bytes of `n` at `offset` of the first segment, big-endian. They must lie in it, and its buffer must have one reference.
@@ -388,8 +439,9 @@ impl Mbufs {
         ensures zones { self.new.zones ≡ self.old.zones }
     {
         let head = first_header(&self.objects, packet);
-        let at = u32::from(head.offset) + offset as u32;
-        self.objects.write_number(head.buffer, at, width, n);
+        let first = first_number(packet);
+        self.objects
+            .write_number_near(first, head.buffer, head.offset, offset as u32, width, n);
     }
 
     /// Extends the first segment by `n` zero bytes at its front. The headroom must have that many, and the segment's buffer one reference.

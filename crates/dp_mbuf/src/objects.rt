@@ -18,7 +18,7 @@ use crate::header::{
     Header, bytes_of_header, bytes_of_refs, bytes_of_word, read_header, write_both,
     write_segs_and_last, write_words,
 };
-use crate::limits::{HEADER_SIZE, MAX_MBUFS, MAX_POOLS, NEXT, OFFSET, REFS, SEGS, WORDS};
+use crate::limits::{HEADER_SIZE, MAX_MBUFS, MAX_POOLS, MAX_ROOM, NEXT, OFFSET, REFS, SEGS, WORDS};
 use crate::mbuf_number::MbufNumber;
 use crate::never::never;
 use dp_model::Width;
@@ -430,6 +430,40 @@ impl Objects {
         let slot = &mut self.pools[usize::from(n.pool())];
         let from = HEADER_SIZE as usize + at as usize;
         write_number_in(slot, n.index(), from, width, number);
+    }
+
+    // Writes the low bytes of a number into the data room of a buffer that is another mbuf.
+    #[inline(never)]
+    fn write_number_far(&mut self, b: MbufNumber, from: u16, more: u32, width: Width, number: u64)
+        requires object { HasObject self.old b }
+        requires fits { from + more + bytes_in width ≤ room_at (specs_of self.old) b.pool }
+        requires small { from + more ≤ MAX_ROOM }
+        ensures { RoomWritten self.old b (from + more) (big_endian (bytes_in width) number) self.new }
+    {
+        self.write_number(b, u32::from(from) + more, width, number);
+    }
+
+    /// Writes the low bytes of a number into the data room of buffer `b` at offset `from + more`, big-endian. The buffer mostly is mbuf `n` itself.
+    #[inline(always)]
+    pub fn write_number_near(
+        &mut self,
+        n: MbufNumber,
+        b: MbufNumber,
+        from: u16,
+        more: u32,
+        width: Width,
+        number: u64,
+    )
+        requires object { HasObject self.old b }
+        requires fits { from + more + bytes_in width ≤ room_at (specs_of self.old) b.pool }
+        requires small { from + more ≤ MAX_ROOM }
+        ensures { RoomWritten self.old b (from + more) (big_endian (bytes_in width) number) self.new }
+    {
+        if b.is(n) {
+            self.write_number(n, u32::from(from) + more, width, number);
+        } else {
+            self.write_number_far(b, from, more, width, number);
+        }
     }
 
     /// Writes zeros into a data room at an offset.

@@ -8,8 +8,8 @@ use Rattle.dp_mbuf.proofs.mbufs.Mbufs.store.Goals as goal
 pub first_header-head-requires : goal.first_header-head-requires
 first_header-head-requires c = live_object _ _ c.args.packet.now (same_store c.self.view_is) c.self.invariant (c.requires.0, c.requires.1, tt)
 
-pub overflow_add-at : goal.overflow_add-at
-overflow_add-at c =
+pub write_number_near-requires-clause-small : goal.write_number_near-requires-clause-small
+write_number_near-requires-clause-small c =
     let (k, has, (fits, _)) = c.requires in
     omega (
       arith,
@@ -17,14 +17,14 @@ overflow_add-at c =
           (bytes_in c.args.width) c.first_header-head.ensures (k, has, fits),
     )
 
-pub write_number-requires-clause-object : goal.write_number-requires-clause-object
-write_number-requires-clause-object c =
+pub write_number_near-requires-clause-object : goal.write_number_near-requires-clause-object
+write_number_near-requires-clause-object c =
     let (k, has, (fits, _)) = c.requires in
     (at_first _ _ c.args.packet.now (same_store c.self.view_is) c.self.invariant _ c.args.offset (bytes_in c.args.width) c.first_header-head.ensures
     (k, has, fits)).1
 
-pub write_number-requires-clause-fits : goal.write_number-requires-clause-fits
-write_number-requires-clause-fits c =
+pub write_number_near-requires-clause-fits : goal.write_number_near-requires-clause-fits
+write_number_near-requires-clause-fits c =
     let (k, has, (fits, _)) = c.requires in
     omega (
       arith,
@@ -35,9 +35,9 @@ write_number-requires-clause-fits c =
 pub invariant_of-self : goal.invariant_of-self
 invariant_of-self c =
     (stored_done _ _ c.args.packet.now (same_store c.self.view_is) c.self.invariant _ _ c.args.offset (bytes_in c.args.width) c.args.n _ _
-    c.first_header-head.ensures (c.requires.0, c.requires.1, tt) refl refl (rw c.from.ensures at c.write_number.ensures)).0
+    c.first_header-head.ensures (c.requires.0, c.requires.1, tt) refl refl c.write_number_near.ensures).0
 
 pub returns-clause-packets : goal.returns-clause-packets
 returns-clause-packets c =
     (stored_done _ _ c.args.packet.now (same_store c.self.view_is) c.self.invariant _ _ c.args.offset (bytes_in c.args.width) c.args.n _ _
-    c.first_header-head.ensures (c.requires.0, c.requires.1, tt) refl refl (rw c.from.ensures at c.write_number.ensures)).1
+    c.first_header-head.ensures (c.requires.0, c.requires.1, tt) refl refl c.write_number_near.ensures).1
