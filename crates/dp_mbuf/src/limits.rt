@@ -44,13 +44,13 @@ pub const OFFSET: usize = 6;
 /// Offset of the segment's length (`data_len`).
 pub const LEN: usize = 8;
 
-/// Offset of the next mbuf, a pool and an index (`next`).
+/// Offset of the next mbuf, an index and a pool (`next`).
 pub const NEXT: usize = 10;
 
-/// Offset of the packet's last mbuf, a pool and an index.
+/// Offset of the packet's last mbuf, an index and a pool.
 pub const LAST: usize = 14;
 
-/// Offset of the buffer, a pool and an index (`buf_addr`).
+/// Offset of the buffer, an index and a pool (`buf_addr`).
 pub const BUFFER: usize = 18;
 
 /// The bytes of a header that are used.

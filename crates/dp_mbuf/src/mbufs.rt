@@ -598,7 +598,8 @@ impl Mbufs {
             segs: 1,
             ..fresh_header(first, HEADROOM, bytes.len() as u16)
         };
-        self.objects.fill(first, header, u32::from(HEADROOM), bytes);
+        self.objects
+            .fill(pool as u16, first, header, u32::from(HEADROOM), bytes);
         Some(packet_of(first))
     }
 

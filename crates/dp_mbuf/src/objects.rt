@@ -407,15 +407,16 @@ impl Objects {
         write_segs_and_last_in(slot, n.index(), segs, last);
     }
 
-    /// Writes a header, and bytes into the data room at an offset.
+    /// Writes a header, and bytes into the data room at an offset. `pool` is the pool of `n`, which is at hand where `n` was taken.
     #[inline(always)]
-    pub fn fill(&mut self, n: MbufNumber, h: Header, at: u32, bytes: &[u8])
+    pub fn fill(&mut self, pool: u16, n: MbufNumber, h: Header, at: u32, bytes: &[u8])
+        requires pool { n.pool ≡ pool }
         requires object { HasObject self.old n }
         requires fits { at + length bytes.now ≤ room_at (specs_of self.old) n.pool }
         ensures both { BothWritten self.old n h at bytes.now self.new }
         ensures small { (k : ℕ) → slice_index bytes.now k < 256 }
     {
-        let slot = &mut self.pools[usize::from(n.pool())];
+        let slot = &mut self.pools[usize::from(pool)];
         let from = HEADER_SIZE as usize + at as usize;
         write_both_in(slot, n.index(), &bytes_of_header(h), from, bytes);
     }

@@ -190,6 +190,6 @@ pub(crate) fn fill_segment(objects: &mut Objects, pool: u16, full: u16, bytes: &
     let chunk = &bytes[..count];
     let n = take_one(objects, pool);
     let header = fresh_header(n, HEADROOM, chunk.len() as u16);
-    objects.fill(n, header, u32::from(HEADROOM), chunk);
+    objects.fill(pool, n, header, u32::from(HEADROOM), chunk);
     n
 }
