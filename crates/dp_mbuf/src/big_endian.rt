@@ -58,11 +58,16 @@ pub(crate) fn write_number(bytes: &mut [u8], at: usize, width: Width, n: u64)
     requires { at + bytes_in width ≤ length bytes.old }
     ensures { bytes.new ≡ overwritten bytes.old at (big_endian (bytes_in width) n) }
 {
-    let all = bytes_of_number(n);
     match width {
-        Width::One => bytes[at] = all[7],
-        Width::Two => put_two(bytes, at, all[6], all[7]),
-        Width::Four => put_four(bytes, at, all[4], all[5], all[6], all[7]),
-        Width::Eight => bytes[at..at + 8].copy_from_slice(&all),
+        Width::One => bytes[at] = bytes_of_number(n)[7],
+        Width::Two => {
+            let all = bytes_of_number(n);
+            put_two(bytes, at, all[6], all[7]);
+        }
+        Width::Four => {
+            let all = bytes_of_number(n);
+            put_four(bytes, at, all[4], all[5], all[6], all[7]);
+        }
+        Width::Eight => bytes[at..at + 8].copy_from_slice(&bytes_of_number(n)),
     }
 }

@@ -50,7 +50,6 @@ mod header;
 mod limits;
 mod mbuf_number;
 mod mbufs;
-mod never;
 mod objects;
 mod steps;
 

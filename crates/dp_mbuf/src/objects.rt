@@ -20,7 +20,6 @@ use crate::header::{
 };
 use crate::limits::{HEADER_SIZE, MAX_MBUFS, MAX_POOLS, MAX_ROOM, NEXT, OFFSET, REFS, SEGS, WORDS};
 use crate::mbuf_number::MbufNumber;
-use crate::never::never;
 use dp_model::Width;
 use dp_pool::Pool;
 use std::marker::Model;
@@ -52,10 +51,7 @@ fn pool_at(pools: &[Option<Pool>; MAX_POOLS], k: u16) -> &Pool
 {
     match &pools[usize::from(k)] {
         Some(pool) => pool,
-        None => {
-            never();
-            unreachable!()
-        }
+        None => unreachable!(),
     }
 }
 
@@ -68,8 +64,6 @@ fn write_in(slot: &mut Option<Pool>, index: u16, at: u32, bytes: &[u8])
 {
     if let Some(pool) = slot {
         pool.write(u32::from(index), at, bytes);
-    } else {
-        never();
     }
 }
 
@@ -81,8 +75,6 @@ fn write_words_in(slot: &mut Option<Pool>, index: u16, at: usize, x: u16, y: u16
 {
     if let Some(pool) = slot {
         write_words(pool.object_mut(u32::from(index)), at, x, y);
-    } else {
-        never();
     }
 }
 
@@ -95,8 +87,6 @@ fn write_segs_and_last_in(slot: &mut Option<Pool>, index: u16, segs: u16, last: 
 {
     if let Some(pool) = slot {
         write_segs_and_last(pool.object_mut(u32::from(index)), segs, last);
-    } else {
-        never();
     }
 }
 
@@ -110,8 +100,6 @@ fn write_both_in(slot: &mut Option<Pool>, index: u16, header: &[u8], at: usize, 
 {
     if let Some(pool) = slot {
         write_both(pool.object_mut(u32::from(index)), header, at, bytes);
-    } else {
-        never();
     }
 }
 
@@ -123,8 +111,6 @@ fn write_number_in(slot: &mut Option<Pool>, index: u16, at: usize, width: Width,
 {
     if let Some(pool) = slot {
         write_number(pool.object_mut(u32::from(index)), at, width, n);
-    } else {
-        never();
     }
 }
 
@@ -136,8 +122,6 @@ fn zero_in(slot: &mut Option<Pool>, index: u16, at: usize, len: usize)
 {
     if let Some(pool) = slot {
         pool.object_mut(u32::from(index))[at..at + len].fill(0);
-    } else {
-        never();
     }
 }
 
@@ -149,8 +133,6 @@ fn put_in(slot: &mut Option<Pool>, index: u16)
 {
     if let Some(pool) = slot {
         pool.put(u32::from(index));
-    } else {
-        never();
     }
 }
 
@@ -164,8 +146,6 @@ fn end_in(slot: &mut Option<Pool>, index: u16)
     if let Some(pool) = slot {
         pool.clear(u32::from(index), SEGS as u32, 2);
         pool.put(u32::from(index));
-    } else {
-        never();
     }
 }
 
@@ -214,10 +194,7 @@ fn get_in(slot: &mut Option<Pool>) -> Option<u16>
             let index = pool.get()?;
             Some(index as u16)
         }
-        None => {
-            never();
-            None
-        }
+        None => None,
     }
 }
 
