@@ -155,6 +155,9 @@ void dpv_begin(dpv_t *engine, const uint8_t *toml, size_t toml_length, const uin
 /* Passes in a frame; dpv_pass calls it. `filled` is set to what of the arrays was filled: nothing, if the call is refused. */
 uint32_t dpv_pass_into(dpv_t *engine, uint32_t port, uint64_t time, const uint8_t *frame, size_t length, struct dpv_record *records,
                        size_t max_records, uint8_t *bytes, size_t max_bytes, struct dpv_batch_size *filled);
+/* Passes in the frames of a burst; dpv_pass_burst calls it. `filled` is set to what of the arrays was filled by all of them. */
+void dpv_burst_into(dpv_t *engine, uint32_t port, struct dpv_frame *frames, size_t count, struct dpv_record *records, size_t max_records,
+                    uint8_t *bytes, size_t max_bytes, struct dpv_batch_size *filled);
 
 /* Gets the reason why the pipeline was not loaded; for an engine that is open or closed, cause is 0. DPV_OK. */
 uint32_t dpv_why(dpv_t *engine, struct dpv_reason *reason);
@@ -269,23 +272,8 @@ static inline uint32_t dpv_pass(dpv_t *engine, uint32_t port, const uint8_t *fra
    frame for which less room is left than dpv_batch_size says is refused as DPV_BATCH_TOO_SMALL, and can be passed in again. */
 static inline void dpv_pass_burst(dpv_t *engine, uint32_t port, struct dpv_frame *frames, size_t count, struct dpv_batch *batch)
 {
-    struct dpv_batch_size used = {0, 0};
-    size_t k;
-    for (k = 0; k < count; k++) {
-        struct dpv_record *records = batch->records + used.records;
-        struct dpv_batch_size part;
-        uint64_t j;
-        frames[k].first = used.records;
-        frames[k].answer = dpv_pass_into(engine, port, frames[k].time, frames[k].bytes, frames[k].length, records,
-                                         (size_t)(batch->room.records - used.records), batch->bytes + used.bytes,
-                                         (size_t)(batch->room.bytes - used.bytes), &part);
-        frames[k].records = part.records;
-        for (j = 0; j < part.records; j++)
-            records[j].offset += used.bytes;
-        used.records += part.records;
-        used.bytes += part.bytes;
-    }
-    batch->filled = used;
+    dpv_burst_into(engine, port, frames, count, batch->records, (size_t)batch->room.records, batch->bytes, (size_t)batch->room.bytes,
+                   &batch->filled);
 }
 
 #ifdef __cplusplus

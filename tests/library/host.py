@@ -377,15 +377,46 @@ def differs(case: Case, stream: BinaryIO) -> str | None:
     return numbers_differ(world, stream, pipeline)
 
 
+# Where dpv_pass_burst begins, and where it ends.
+BURST = "    dpv_burst_into(engine, port, frames, count, batch->records,"
+BURST_ENDS = "                   &batch->filled);\n"
 # What a wrong dpv.h does, and the text of the right one with that in its place: a run of the cases has to find each.
 WRONG_HEADERS = {
     "a burst that drops its last frame": (
-        "        uint64_t j;\n",
-        "        uint64_t j;\n        if (k > 0 && k + 1 == count) {\n            frames[k].first = frames[k].records = frames[k].answer = 0;\n            break;\n        }\n",
+        BURST,
+        f"""    if (count > 1) {{
+        count--;
+        frames[count].first = frames[count].records = frames[count].answer = 0;
+    }}
+{BURST}""",
     ),
-    "times of a burst exchanged": ("port, frames[k].time,", "port, frames[count - 1 - k].time,"),
-    "frames of a burst exchanged": ("frames[k].bytes, frames[k].length,", "frames[count - 1 - k].bytes, frames[count - 1 - k].length,"),
-    "records of a burst that begin where the first begin": ("records[j].offset += used.bytes;", ";"),
+    "times of a burst exchanged": (
+        BURST,
+        f"""    for (size_t k = 0; k < count / 2; k++) {{
+        uint64_t time = frames[k].time;
+        frames[k].time = frames[count - 1 - k].time;
+        frames[count - 1 - k].time = time;
+    }}
+{BURST}""",
+    ),
+    "frames of a burst exchanged": (
+        BURST,
+        f"""    for (size_t k = 0; k < count / 2; k++) {{
+        struct dpv_frame frame = frames[k], last = frames[count - 1 - k];
+        frames[k].bytes = last.bytes;
+        frames[k].length = last.length;
+        frames[count - 1 - k].bytes = frame.bytes;
+        frames[count - 1 - k].length = frame.length;
+    }}
+{BURST}""",
+    ),
+    "records of a burst that begin where the first begin": (
+        BURST_ENDS,
+        f"""{BURST_ENDS}    for (size_t k = 0; k < count; k++)
+        for (size_t j = frames[k].records; j-- > 0;)
+            batch->records[frames[k].first + j].offset -= batch->records[frames[k].first].offset;
+""",
+    ),
 }
 
 

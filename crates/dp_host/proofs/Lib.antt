@@ -4,3 +4,5 @@ pub mod Files
 pub mod Reported
 pub mod Explanations
 pub mod Depths
+pub mod Places
+pub mod SoFar

@@ -1,4 +1,6 @@
 pub mod Packing
 pub mod Calls
 pub mod Hosts
+pub mod Bursts
+pub mod Laws
 pub mod Costs

@@ -5,14 +5,15 @@
 //! call keeps a pointer to them.
 //!
 //! What to call: `dpv_cost` for what a program can cost, with no engine; `dpv_begin`, once; `dpv_why`, which has the reason if there is no
-//! engine; `dpv_pass_into` for each frame, with a batch of the size that `dpv_batch_size` returns; `dpv_route_add`, `dpv_route_delete` and
-//! `dpv_route_lookup` for routes, between two passes; `dpv_port`, `dpv_pool` and `dpv_ring` for counts; `dpv_close` at the end. The inline
-//! functions of `include/dpv.h` are C, and not in this crate.
+//! engine; `dpv_pass_into` for each frame, with a batch of the size that `dpv_batch_size` returns, or `dpv_burst_into` for some frames of one
+//! port; `dpv_route_add`, `dpv_route_delete` and `dpv_route_lookup` for routes, between two passes; `dpv_port`, `dpv_pool` and `dpv_ring` for
+//! counts; `dpv_close` at the end. The inline functions of `include/dpv.h` are C, and not in this crate.
 //!
 //! What not to do: the memory may not move or be freed between `dpv_begin` and `dpv_close`, two calls may not run at once, and a call must
 //! get memory that `dpv_begin` has filled. Everything else is tested, and a call that is refused changes nothing.
 #![tactic(auto)]
 
+mod bursts;
 mod costs;
 mod host;
 mod numbers;
@@ -28,13 +29,14 @@ ghost use Rattle.std.specs.Ptr.{lies_at, room_at};
 ghost use types.Logic.{sem};
 ghost use Rattle.dp_host.specs.contracts.host.Host.{the_row};
 ghost use Rattle.dp_host.specs.declared.refusal.Refusal.TheVariants as refusal;
+ghost use Rattle.dp_host.specs.Bursts.{BurstAnswers};
 ghost use Rattle.dp_host.specs.Hosts.{AddAnswers, DeleteAnswers, LookupAnswers, SetsOrRefuses, CloseAnswers, IsPoolStats, IsPortStats, IsRingStats};
 ghost use Rattle.dp_host.specs.Costs.{CostAnswers};
 ghost use Rattle.dp_host.specs.Hosts.{IsRoom, NoPool, NoPort, NoRing, Opens, PassAnswers};
 
 use crate::host::Host;
 use crate::numbers::{
-    CostStats, Explanation, Hop, PoolStats, PortStats, RingStats, Room, Route, Totals,
+    BurstFrame, CostStats, Explanation, Hop, PoolStats, PortStats, RingStats, Room, Route, Totals,
 };
 use dp_engine::SentRecord;
 use std::alloc::Global;
@@ -88,6 +90,33 @@ pub unsafe extern "C" fn dpv_pass_into(
         port,
         time,
         frame,
+        records,
+        bytes,
+        filled,
+    )
+}
+
+/// Passes in the frames of one port, in order: for each what `dpv_pass_into` does, with its time, into what those before it left of the
+/// arrays. Each frame gets its answer, and says which of the records are its; `filled` is that of all of them.
+#[unsafe(no_mangle)]
+pub unsafe extern "C" fn dpv_burst_into(
+    at: *mut u8,
+    port: u32,
+    frames: &mut [BurstFrame<'_>],
+    records: &mut [SentRecord],
+    bytes: &mut [u8],
+    filled: &mut Room,
+)
+    ghost h: { Host }
+    requires* { sem 𝓛 (lies_at the_row full_share at h) }
+    ensures* { ∃ₛ (λ (h' : Host). sem 𝓛 (lies_at the_row full_share at h') ∗ ⌜ BurstAnswers h.running h.missing h'.running port frames.old frames.new
+        (record { records = records.old; bytes = bytes.old }) (record { records = records.new; bytes = bytes.new }) filled.new
+        × (h'.missing ≡ h.missing) × (h'.explanation ≡ h.explanation) ⌝) }
+{
+    bursts::burst(
+        &mut *(at as *mut Host),
+        port,
+        frames,
         records,
         bytes,
         filled,

@@ -13,6 +13,22 @@ pub struct Room {
     pub bytes: u64,
 }
 
+/// A frame of a burst. The caller sets its bytes and its time, a burst the others.
+#[repr(C)]
+#[derive(Clone, Copy, Drop)]
+pub struct BurstFrame<'a> {
+    /// Its bytes.
+    pub bytes: &'a [u8],
+    /// When it was received, in the caller's unit.
+    pub time: u64,
+    /// Where its records begin in the batch.
+    pub first: u64,
+    /// How many records it has.
+    pub records: u64,
+    /// The number of its outcome, or of a refusal.
+    pub answer: u32,
+}
+
 /// Why a pipeline was not loaded.
 #[repr(C)]
 #[derive(Drop)]

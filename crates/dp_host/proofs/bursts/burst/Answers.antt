@@ -1,0 +1,52 @@
+-- Each frame is one more, and at the end all have passed.
+use Rattle.std.proofs.Common.{rules, ◌∙◌, refl, arith}
+use Rattle.dp_host.specs.Hosts.{Arrays}
+use Rattle.dp_host.proofs.SoFar.{Within, all_passed, lent_long, none_yet, one_more_lent}
+use Rattle.dp_host.proofs.bursts.burst.Goals as goal
+
+pub loop-k-init : goal.loop-k-init
+loop-k-init c = record {
+  so_far = none_yet c.args.host.now.running c.args.host.now.missing c.args.port c.args.frames.now
+      (record { records = c.args.records.now; bytes = c.args.bytes.now });
+  missing = refl;
+  explanation = refl;
+}
+
+pub offset_bounds-records-used : goal.offset_bounds-records-used
+offset_bounds-records-used c = let le = c.loop-k.invariant.so_far.within.records in search rules
+
+pub slice_bounds-passed_behind-count : goal.slice_bounds-passed_behind-count
+slice_bounds-passed_behind-count c = c.loop-k.invariant.so_far.within.records
+
+pub slice_bounds-passed_behind-count-in-loop-k : goal.slice_bounds-passed_behind-count-in-loop-k
+slice_bounds-passed_behind-count-in-loop-k c = c.loop-k.invariant.so_far.within.bytes
+
+pub passed_behind-part-requires : goal.passed_behind-part-requires
+passed_behind-part-requires c =
+    omega (arith, lent_long c.loop-k.used (record { records = c.loop-k.records; bytes = c.loop-k.bytes }) c.loop-k.invariant.so_far.within)
+
+pub loop-k-preserved : goal.loop-k-preserved
+loop-k-preserved c =
+    let part = c.passed_behind-part.result in
+    let made : Arrays = record { records = c.passed_behind-part.new.records; bytes = c.passed_behind-part.new.bytes } in
+    let within : Within part made = record {
+      records = omega (arith, c.passed_behind-part.ensures.records_fit, c.passed_behind-part.auto.records);
+      bytes = omega (arith, c.passed_behind-part.ensures.bytes_fit, c.passed_behind-part.auto.bytes);
+    } in
+    record {
+      so_far = one_more_lent c.args.host.now.running c.args.host.now.missing c.loop-k.host.missing c.args.port c.args.frames.now
+          (record { records = c.args.records.now; bytes = c.args.bytes.now }) c.loop-k.k c.loop-k.host.running c.loop-k.frames c.loop-k.used
+          (record { records = c.loop-k.records; bytes = c.loop-k.bytes }) _ c.passed_behind-part.new.frame c.passed_behind-part.new.host.running part made
+          c.loop-k.invariant.so_far (omega arith) c.loop-k.invariant.missing c.passed_behind-part.ensures.passed c.passed_behind-part.ensures.rest within;
+      missing = c.passed_behind-part.ensures.missing ∙ c.loop-k.invariant.missing;
+      explanation = c.passed_behind-part.ensures.explanation ∙ c.loop-k.invariant.explanation;
+    }
+
+pub returns : goal.returns
+returns c = (
+  all_passed c.args.host.now.running c.args.host.now.missing c.args.port c.args.frames.now
+      (record { records = c.args.records.now; bytes = c.args.bytes.now }) c.loop-k.k c.loop-k.host.running c.loop-k.frames c.loop-k.used
+      (record { records = c.loop-k.records; bytes = c.loop-k.bytes }) c.loop-k.invariant.so_far c.loop-k-test.false (omega arith),
+  c.loop-k.invariant.missing,
+  c.loop-k.invariant.explanation,
+)
