@@ -1,8 +1,9 @@
 -- The first ring with an entry, as rings change.
 use Rattle.std.proofs.Common.{◌≡◌, ◌≢◌, ℕ, suc, ◌+◌, ◌<◌, ◌≤◌, Bool, true, false, not, List, length, refl, sym, ◌∙◌, ap, arith, set, ltb}
-use Rattle.std.proofs.Common.{[], ◌∷◌, ◌++◌, length-append}
-use Rattle.std.specs.Prelude.{◌==◌, nat_lt, if◌then◌else◌}
-use Rattle.std.specs.List.{position_or_len}
+use Rattle.std.proofs.Common.{[], ◌∷◌, ◌++◌, length-append, Some, None, cond}
+use Rattle.std.specs.Prelude.{◌==◌, nat_lt, if◌then◌else◌, slice_get}
+use Rattle.std.specs.List.{position, position_or_len}
+use Rattle.std.proofs.lemmas.Option.{same_Some}
 use Rattle.std.proofs.lemmas.List.{length-set, get_or-set_other, get_or-set_same}
 use Rattle.std.proofs.lemmas.List.Sums.{passes_at_first, fails_before_first, position_or_len_is, prefix_len-le-length}
 use Rattle.std.proofs.lemmas.Bool.{ltb-true, ltb-false, eqb-true}
@@ -71,6 +72,26 @@ waits_is r some = go (length r.entries == 0) refl
     go : (b : Bool) → (length r.entries == 0) ≡ b → is_waiting r ≡ true
     go false e = ap not e
     go true e = absurd (some (eqb-true _ _ e))
+
+-- what a search for the first that waits returns
+pub first_is : (rings : List RingView) (k : ℕ) → position is_waiting rings ≡ Some k → (k ≡ first_slot rings) × (k < length rings)
+first_is rings k found = go (nat_lt (first_slot rings) (length rings)) refl found
+  where
+    go : (b : Bool) → nat_lt (first_slot rings) (length rings) ≡ b → cond b (Some (first_slot rings)) None ≡ Some k →
+        (k ≡ first_slot rings) × (k < length rings)
+    go true e s =
+        let same : k ≡ first_slot rings = sym (same_Some _ _ s) in
+        let lt : first_slot rings < length rings = ltb-true _ _ e in
+        (same, omega (arith, same, lt))
+    go false e s = cc
+
+-- one that waits has an entry
+pub has_entry : (r : RingView) → is_waiting r ≡ true → None ≡ slice_get r.entries 0 → ⊥
+has_entry r waits none = go r.entries waits none
+  where
+    go : (es : List ℕ) → not (length es == 0) ≡ true → None ≡ slice_get es 0 → ⊥
+    go [] waits none = cc
+    go (x ∷ es) waits none = cc
 
 -- ---- where one of them changes
 

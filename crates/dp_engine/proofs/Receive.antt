@@ -1,5 +1,6 @@
 -- A record that comes to a machine at rest.
-use Rattle.std.proofs.Common.{◌≡◌, ℕ, ◌+◌, ◌<◌, ◌≤◌, Bool, true, false, ◌||◌, List, [], ◌∷◌, length, replicate, Some, None, refl, sym, ◌∙◌, ap, subst}
+use Rattle.std.proofs.Common.{◌≡◌, ℕ, zero, suc, ◌+◌, ◌<◌, ◌≤◌, Bool, true, false, ◌||◌, List, [], ◌∷◌, length, map, replicate, Option, Some, None}
+use Rattle.std.proofs.Common.{refl, sym, ◌∙◌, ap, subst}
 use Rattle.std.proofs.Common.{arith, nat_eq, nat_lt}
 use Rattle.std.specs.Prelude.{slice_get, slice_set}
 use Rattle.std.specs.List.{list_any, AllByRecursion}
@@ -11,7 +12,7 @@ use Rattle.dp_model.specs.Machine.{Setting, State, live, is_denied}
 use Rattle.dp_model.specs.Runs.{first_state, between}
 use Rattle.dp_model.specs.Laws.Lists.{get_set_same}
 use Rattle.dp_model.specs.Stores.{Store, segments_of, ReceivesInto}
-use Rattle.dp_engine.specs.Handles.{held_of, packet_at, handles_held, occurs, in_slot, waiting, Core}
+use Rattle.dp_engine.specs.Handles.{held_of, packet_at, handles_held, occurs, in_slot, register_at, waiting, Core}
 use Rattle.dp_engine.specs.MachineParts.{MachineParts, core_of, OccurOnce}
 use Rattle.dp_engine.specs.Turns.{IsReceived}
 use Rattle.dp_engine.proofs.Handles.{not_waiting, slot_filled}
@@ -31,6 +32,31 @@ idle_of {m} is stand idle =
       empty = empty;
       each = λ h. (let none : occurs h (handles_held m.registers) ≡ 0 = ap (occurs h) empty in omega (arith, none, stand h));
     }
+
+-- each register is empty then
+none_held : (slots : List (Option Packet)) (registers : List (Option ℕ)) → AllByRecursion (λ o. o ≡ None) (map (register_at slots) registers)
+    → AllByRecursion (λ o. o ≡ None) registers
+none_held slots [] all = tt
+none_held slots (None ∷ registers) all = (refl, none_held slots registers all.1)
+none_held slots (Some h ∷ registers) all = cc
+
+pub empty_of : (m : MachineParts) (core : Core) → core_of m ≡ core → AllByRecursion (λ o. o ≡ None) core.state.packets
+    → AllByRecursion (λ o. o ≡ None) m.registers
+empty_of m core is idle =
+    none_held m.store.slots m.registers (subst (λ (c : Core). AllByRecursion (λ o. o ≡ None) c.state.packets) (sym is) idle)
+
+-- a list of eight without packets, and a packet in front
+pub with_first : (registers : List (Option ℕ)) (h : ℕ) → length registers ≡ 8 → AllByRecursion (λ o. o ≡ None) registers
+    → slice_set registers 0 (Some h) ≡ Some h ∷ replicate 7 None
+with_first [] h eight all = absurd (omega (arith, eight))
+with_first (o ∷ registers) h eight all = ap (λ rs. Some h ∷ rs) (none_listed registers 7 (omega (arith, eight)) all.1)
+  where
+    none_listed : (registers : List (Option ℕ)) (n : ℕ) → length registers ≡ n → AllByRecursion (λ o. o ≡ None) registers → registers ≡ replicate n None
+    none_listed [] zero many all = refl
+    none_listed [] (suc n) many all = absurd (omega (arith, many))
+    none_listed (o ∷ registers) zero many all = absurd (omega (arith, many))
+    none_listed (o ∷ registers) (suc n) many all =
+        ap (λ p. p ∷ registers) all.0 ∙ ap (λ rs. None ∷ rs) (none_listed registers n (omega (arith, many)) all.1)
 
 pub live_same : {m : MachineParts} {core : Core} → core_of m ≡ core → Idle m → CountSame (live (between core.state.world)) (segments_of m.store)
 live_same {m} is idle =

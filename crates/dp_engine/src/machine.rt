@@ -27,7 +27,7 @@ use dp_mbuf::Mbufs;
 use dp_model::{Env, PacketRegister};
 use dp_pcap::GhostCount;
 use packets::is_held_in;
-use register::{Register, no_packets, one_packet};
+use register::{Register, no_packets, set_first};
 use std::marker::Model;
 
 // The maximum number of backward jumps of a node run.
@@ -155,7 +155,7 @@ impl Machine {
         match self.mbufs.receive(pool, bytes) {
             Some(packet) => {
                 self.calls = call;
-                self.registers = one_packet(packet.number());
+                set_first(&mut self.registers, packet.number());
                 self.numbers = [u64::from(port), 0, 0, 0, 0, 0, 0, 0];
                 self.jumps = 0;
                 true

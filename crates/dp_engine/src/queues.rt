@@ -1,10 +1,10 @@
 //! The queues of a machine: its transmit lists, their counts, its rings, and the number of the lowest non-empty ring.
 
-ghost use Rattle.std.specs.Prelude.{◌≡◌, ◌<◌, ◌≤◌, ◌++◌, ◌∷◌, [], length, nat_lt, drop, slice_get, true, false, IsTrue, IfSome};
+ghost use Rattle.std.specs.Prelude.{◌≡◌, ◌<◌, ◌≤◌, ◌++◌, ◌∷◌, [], length, nat_lt, drop, slice_get, true, false, IsTrue, IfSome, Some};
 ghost use Rattle.std.specs.List.{position, position_or_len};
 ghost use Rattle.dp_ring.specs.Rings.{room_in};
 ghost use Rattle.dp_engine.specs.Queues.{rings_in, RingsFirst, ring_at, is_waiting, AreCounts};
-ghost use Rattle.dp_model.specs.declared.queue.Queue.TheVariants.{Tx};
+ghost use Rattle.dp_model.specs.declared.queue.Queue.TheVariants.{Tx, Ring as OfRing};
 ghost use Rattle.dp_engine.specs.HandleQueues.{IsQueue, ring_of_queue, Becomes};
 
 use crate::rings::Rings;
@@ -183,10 +183,29 @@ impl Queues {
         }
     }
 
+    /// Removes and returns the first handle of the lowest ring that has one. This must be that ring.
+    #[inline(always)]
+    pub fn pop_waiting(&mut self, ring: u8) -> u32
+        requires waits { position is_waiting self.old.rings ≡ Some ring }
+        requires few { ring < 8 }
+        ensures first { Some result ≡ slice_get (ring_at self.old.rings ring).entries 0 }
+        ensures rest { Becomes (OfRing ring) (drop 1 (ring_at self.old.rings ring).entries) self.old self.new }
+    {
+        let Some(handle) = self.rings.pop(ring) else {
+            unreachable!();
+        };
+        // Mostly it has no other entry then.
+        if self.rings.count(ring) == 0 {
+            self.first = first_from(&self.rings, ring + 1);
+        }
+        handle
+    }
+
     /// The lowest number of a ring that has an entry, if one has.
     pub fn first_waiting(&self) -> Option<u8>
         ensures value { result ≡ position is_waiting self.now.rings }
         ensures bound { IfSome result (λ k. k < length self.now.rings) }
+        ensures few { IfSome result (λ k. k < 8) }
         ensures waits { IfSome result (λ k. is_waiting (ring_at self.now.rings k) ≡ true) }
     {
         if usize::from(self.first) < self.rings.len() {

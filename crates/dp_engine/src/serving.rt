@@ -23,6 +23,7 @@ const MAX_RING_RUNS: u8 = 32;
 const NO_RUN: NodeRun = NodeRun { steps: 0, cuts: 0 };
 
 // Receives or drops a record at a port, and runs the port's node on it if it is received.
+#[inline(always)]
 pub(crate) fn arrive<K: CompiledPrograms, W: Watch>(
     context: &Context<K>,
     m: &mut Machine,
@@ -65,6 +66,7 @@ pub(crate) fn arrive<K: CompiledPrograms, W: Watch>(
 }
 
 // Runs the lowest non-empty ring's program on its front packet, if there is such a ring.
+#[inline(always)]
 fn serve_one<K: CompiledPrograms, W: Watch>(
     context: &Context<K>,
     m: &mut Machine,
@@ -100,6 +102,7 @@ pub(crate) struct Served {
 }
 
 // Runs the lowest non-empty ring's program on its front packet, up to 32 times.
+#[inline(always)]
 pub(crate) fn serve<K: CompiledPrograms, W: Watch>(
     context: &Context<K>,
     m: &mut Machine,

@@ -15,7 +15,7 @@ ghost use Rattle.dp_engine.specs.Drains.{record_of, AtPacket, Written, WrotePart
 
 use crate::machine::Machine;
 use crate::machine::packets::handle_in;
-use crate::machine::register::{Register, one_packet};
+use crate::machine::register::{Register, set_first};
 use crate::put::put_and_free;
 use dp_model::{Packet as Handle, PacketRegister, Queue};
 use dp_pcap::{PcapError, Sink, Time, Unit};
@@ -50,15 +50,11 @@ impl Machine {
             (λ w. (result ≡ Some w.ring) × (self.new ≡ moved (first_state w.packet w.ring (record self.old.state.world { rings = w.rings })) self.old)) }
     {
         let ring = self.queues.first_waiting()?;
-        match self.queues.pop(Queue::Ring(ring)) {
-            Some(packet) => {
-                self.registers = one_packet(packet);
-                self.numbers = [u64::from(ring), 0, 0, 0, 0, 0, 0, 0];
-                self.jumps = 0;
-                Some(ring)
-            }
-            None => unreachable!(),
-        }
+        let packet = self.queues.pop_waiting(ring);
+        set_first(&mut self.registers, packet);
+        self.numbers = [u64::from(ring), 0, 0, 0, 0, 0, 0, 0];
+        self.jumps = 0;
+        Some(ring)
     }
 
     // Frees the first packet of a queue, which must have one.

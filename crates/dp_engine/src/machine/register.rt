@@ -1,5 +1,6 @@
 //! A packet register: a handle, with a flag for whether it has a packet.
 ghost use Rattle.std.specs.Prelude.{◌≡◌, ◌∷◌, Some, None, IsSome, is_some, replicate};
+ghost use Rattle.std.specs.List.{AllByRecursion};
 
 use std::marker::Model;
 
@@ -73,11 +74,11 @@ pub(crate) fn no_packets() -> [Register; 8]
     ]
 }
 
-/// Eight registers, the first with a packet.
-pub(crate) fn one_packet(handle: u32) -> [Register; 8]
-    ensures { result ≡ Some handle ∷ replicate 7 None }
+/// Puts a packet into the first of eight empty registers. The others are not written.
+#[inline(always)]
+pub(crate) fn set_first(registers: &mut [Register; 8], handle: u32)
+    requires { AllByRecursion (λ o. o ≡ None) registers.old }
+    ensures { registers.new ≡ Some handle ∷ replicate 7 None }
 {
-    let mut registers = no_packets();
     registers[0] = Register::of(handle);
-    registers
 }

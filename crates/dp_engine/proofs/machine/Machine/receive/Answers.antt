@@ -2,7 +2,7 @@
 use Rattle.std.proofs.Common.{[], sym}
 use Rattle.dp_engine.specs.Steps.{setting_of}
 use Rattle.dp_engine.specs.MachineParts.{parts_of}
-use Rattle.dp_engine.proofs.Receive.{Given, given, refused}
+use Rattle.dp_engine.proofs.Receive.{Given, empty_of, given, refused}
 use Rattle.dp_engine.proofs.machine.Machine.receive.Goals as goal
 use Rattle.dp_engine.proofs.machine.Machine.receive.Goals.{In-Some}
 
@@ -11,16 +11,19 @@ taken : (c : In-Some) → Given (setting_of c.args.env.now [] c.args.pattern.now
     c.args.port c.in-Some.packet c.args.bytes.now
 taken c = given c.self.view_is c.self.invariant c.requires.idle c.requires.pools c.in-Some.ensures.packets
 
+pub set_first-requires : goal.set_first-requires
+set_first-requires c = empty_of (parts_of c.self.inside) c.args.self.now c.self.view_is c.requires.idle
+
 pub invariant_of-self-in-Some : goal.invariant_of-self-in-Some
 invariant_of-self-in-Some c =
-    rw (c.one_packet-self-inside.ensures, c.number.ensures) (taken (goal.at.invariant_of-self-in-Some c).In-Some).stand
+    rw (c.set_first.ensures, c.number.ensures) (taken (goal.at.invariant_of-self-in-Some c).In-Some).stand
 
 pub returns-in-Some-clause-denied : goal.returns-in-Some-clause-denied
 returns-in-Some-clause-denied c = sym ((taken (goal.at.returns-in-Some-clause-denied c).In-Some).allowed (sym c.if-is_listed.ensures))
 
 pub returns-in-Some-clause-received : goal.returns-in-Some-clause-received
 returns-in-Some-clause-received c _ =
-    rw (c.one_packet-self-inside.ensures, c.number.ensures, c.from.ensures) (taken (goal.at.returns-in-Some-clause-received c).In-Some).state
+    rw (c.set_first.ensures, c.number.ensures, c.from.ensures) (taken (goal.at.returns-in-Some-clause-received c).In-Some).state
 
 pub returns-in-None-clause-denied : goal.returns-in-None-clause-denied
 returns-in-None-clause-denied c =

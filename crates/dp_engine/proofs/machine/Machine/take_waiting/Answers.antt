@@ -5,7 +5,7 @@ use Rattle.dp_engine.specs.Handles.{Core}
 use Rattle.dp_engine.specs.MachineParts.{parts_of}
 use Rattle.dp_engine.proofs.Clearing.{stand_first, starts_none, starts_first}
 use Rattle.dp_engine.proofs.Pushing.{first_in}
-use Rattle.dp_engine.proofs.Receive.{idle_of}
+use Rattle.dp_engine.proofs.Receive.{idle_of, empty_of}
 use Rattle.dp_engine.proofs.RingLemmas.{first_of}
 use Rattle.dp_engine.proofs.Waits.{found, none_waits, in_rings}
 use Rattle.dp_engine.proofs.machine.Machine.take_waiting.Goals as goal
@@ -17,19 +17,22 @@ returns-in_err-ring c =
     (starts_none c.args.self.now (in_rings c.self.inside.mbufs.store.slots c.self.inside.queues.rings)
     (ap (λ (x : Core). x.state.world.rings) c.self.view_is) none)
 
+pub set_first-requires : goal.set_first-requires
+set_first-requires c = empty_of (parts_of c.self.inside) c.args.self.now c.self.view_is c.requires.idle
+
 pub invariant_of-self : goal.invariant_of-self
 invariant_of-self c =
     let idle = idle_of c.self.view_is c.self.invariant c.requires.idle in
-    let at = first_in (Ring c.in_ok-ring.ring) c.self.inside.queues.rings c.self.inside.queues.outboxes c.in-Some.packet c.in_ok-ring.ensures.bound
-    c.in-Some.ensures.first in
-    let rest = c.pop.ensures.rest in
-    rw (c.one_packet-self-inside.ensures, rest.rings_have, rest.outboxes_have)
-    (stand_first (parts_of c.self.inside) c.in_ok-ring.ring c.in-Some.packet _ idle at)
+    let at = first_in (Ring c.in_ok-ring.ring) c.self.inside.queues.rings c.self.inside.queues.outboxes c.pop_waiting-packet.result
+    c.in_ok-ring.ensures.bound c.pop_waiting-packet.ensures.first in
+    let rest = c.pop_waiting-packet.ensures.rest in
+    rw (c.set_first.ensures, rest.rings_have, rest.outboxes_have)
+    (stand_first (parts_of c.self.inside) c.in_ok-ring.ring c.pop_waiting-packet.result _ idle at)
 
 pub returns : goal.returns
 returns c =
-    let rest = c.pop.ensures.rest in
+    let rest = c.pop_waiting-packet.ensures.rest in
     let first = found c.self.inside.mbufs.store.slots c.self.inside.queues.rings c.in_ok-ring.ring (sym c.in_ok-ring.ensures.value) in
-    let at = first_of (ring_at c.self.inside.queues.rings c.in_ok-ring.ring).entries c.in-Some.packet c.in-Some.ensures.first in
-    rw (c.one_packet-self-inside.ensures, rest.rings_stay, rest.outboxes_stay, rest.rings_have, rest.outboxes_have, c.from.ensures)
-    (starts_first c.self.inside c.args.self.now c.in_ok-ring.ring c.in-Some.packet _ c.self.view_is first at)
+    let at = first_of (ring_at c.self.inside.queues.rings c.in_ok-ring.ring).entries c.pop_waiting-packet.result c.pop_waiting-packet.ensures.first in
+    rw (c.set_first.ensures, rest.rings_stay, rest.outboxes_stay, rest.rings_have, rest.outboxes_have, c.from.ensures)
+    (starts_first c.self.inside c.args.self.now c.in_ok-ring.ring c.pop_waiting-packet.result _ c.self.view_is first at)
