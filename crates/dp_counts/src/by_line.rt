@@ -2,7 +2,7 @@
 
 use crate::counts::{Counts, StepCounts};
 use crate::node_counts::NodeCounts;
-use crate::source::{NodeSource, words_of};
+use crate::source::{NodeSource, SourceLine, words_of};
 use dp_engine::Report;
 use dp_lang::arguments_of;
 use dp_model::{Entry, Instr};
@@ -139,24 +139,55 @@ fn push_place<'a>(
 
 /// Adds the lines of a program at which packets ended.
 fn push_freed<'a>(
-    node: Entry,
-    lines: &[LineCounts<'a>],
+    alloc: Global,
+    counts: &Counts,
+    source: &NodeSource<'a>,
     places: &mut Vec<DropPlace<'a>>,
 ) -> Result<(), AllocError> {
-    for line in lines {
-        push_place(places, node, DropCause::Freed(line.origin), line.dropped)?;
+    for line in lines_counted(alloc, counts, source)?.as_slice() {
+        push_place(
+            places,
+            source.node,
+            DropCause::Freed(line.origin),
+            line.dropped,
+        )?;
     }
     Ok(())
 }
 
-/// Adds the places of a report.
-fn push_reported(report: &Report, places: &mut Vec<DropPlace<'_>>) -> Result<(), AllocError> {
-    for (k, port) in (0..8u8).zip(report.ports.as_slice()) {
-        push_place(places, Entry::Port(k), DropCause::Oversize, port.oversize)?;
-        push_place(places, Entry::Port(k), DropCause::NoBuffers, port.nobuf)?;
+/// Adds the places at the ports of a report.
+fn push_ports(report: &Report, places: &mut Vec<DropPlace<'_>>) -> Result<(), AllocError> {
+    for k in 0..8u8 {
+        if let Some(port) = report.ports.as_slice().get(usize::from(k)) {
+            push_place(places, Entry::Port(k), DropCause::Oversize, port.oversize)?;
+            push_place(places, Entry::Port(k), DropCause::NoBuffers, port.nobuf)?;
+        }
     }
-    for (k, left) in (0..8u8).zip(report.rings.as_slice()) {
-        push_place(places, Entry::Ring(k), DropCause::Left, *left)?;
+    Ok(())
+}
+
+/// Adds the rings of a report.
+fn push_rings(report: &Report, places: &mut Vec<DropPlace<'_>>) -> Result<(), AllocError> {
+    for k in 0..8u8 {
+        if let Some(left) = report.rings.as_slice().get(usize::from(k)) {
+            push_place(places, Entry::Ring(k), DropCause::Left, *left)?;
+        }
+    }
+    Ok(())
+}
+
+/// Adds the places of a report, and those of these programs.
+fn push_all<'a>(
+    alloc: Global,
+    counts: &Counts,
+    sources: &[NodeSource<'a>],
+    report: &Report,
+    places: &mut Vec<DropPlace<'a>>,
+) -> Result<(), AllocError> {
+    push_ports(report, places)?;
+    push_rings(report, places)?;
+    for source in sources {
+        push_freed(alloc, counts, source, places)?;
     }
     Ok(())
 }
@@ -174,11 +205,7 @@ pub fn drop_places<'a>(
     report: &Report,
 ) -> Result<Vec<DropPlace<'a>>, AllocError> {
     let mut places = Vec::new(alloc);
-    push_reported(report, &mut places)?;
-    for source in sources {
-        let lines = lines_counted(alloc, counts, source)?;
-        push_freed(source.node, lines.as_slice(), &mut places)?;
-    }
+    push_all(alloc, counts, sources, report, &mut places)?;
     places.sort_by_key(|place| u64::MAX - place.packets)?;
     Ok(places)
 }
@@ -278,6 +305,52 @@ fn add_counts<'a>(lines: &mut Vec<LineCounts<'a>>, more: LineCounts<'a>) -> Resu
     Ok(())
 }
 
+/// The counts of the instruction in the line with this number, if it has one; `before` is the line of the instruction before it.
+fn counted_at<'a>(
+    reader: &mut NodeCounts<'_>,
+    source: &NodeSource<'a>,
+    number: usize,
+    line: SourceLine<'a>,
+    before: Option<Origin<'a>>,
+) -> Option<LineCounts<'a>> {
+    let step = line.step?;
+    let instrs = source.instrs.as_slice();
+    let instr = instrs.get(step.label)?;
+    let origin = origin_of(source, (number, line.text), before);
+    let dropped = dropped_at(&mut *reader, instrs, step.label, instr);
+    let counts = reader.step(step.label);
+    let came = if Some(origin) == before {
+        0
+    } else {
+        counts.ran
+    };
+    let sent = sent_at(counts, instr);
+    Some(LineCounts {
+        origin,
+        came,
+        sent,
+        dropped,
+    })
+}
+
+/// Adds the counts of a program to those of its lines.
+fn add_lines<'a>(
+    counts: &Counts,
+    source: &NodeSource<'a>,
+    lines: &mut Vec<LineCounts<'a>>,
+) -> Result<(), AllocError> {
+    let mut reader = counts.node(source.node);
+    let mut before = None;
+    for (k, line) in source.lines.as_slice().iter().enumerate() {
+        let number = k.saturating_add(1);
+        if let Some(more) = counted_at(&mut reader, source, number, *line, before) {
+            before = Some(more.origin);
+            add_counts(lines, more)?;
+        }
+    }
+    Ok(())
+}
+
 /// The counts of a program by the lines of its source, in their order; those of included files come last. Control came to a line as often as to the
 /// instructions in it that do not follow one of the same line.
 ///
@@ -289,35 +362,9 @@ pub fn lines_counted<'a>(
     counts: &Counts,
     source: &NodeSource<'a>,
 ) -> Result<Vec<LineCounts<'a>>, AllocError> {
-    let (name, instrs) = (source_name(source), source.instrs.as_slice());
-    let mut reader = counts.node(source.node);
+    let name = source_name(source);
     let mut lines = Vec::new(alloc);
-    let mut before = None;
-    for (k, line) in (1..usize::MAX).zip(source.lines.as_slice()) {
-        let Some(step) = line.step else {
-            continue;
-        };
-        let Some(instr) = instrs.get(step.label) else {
-            continue;
-        };
-        let origin = origin_of(source, (k, line.text), before);
-        let dropped = dropped_at(&mut reader, instrs, step.label, instr);
-        let counts = reader.step(step.label);
-        add_counts(
-            &mut lines,
-            LineCounts {
-                origin,
-                came: if Some(origin) == before {
-                    0
-                } else {
-                    counts.ran
-                },
-                sent: sent_at(counts, instr),
-                dropped,
-            },
-        )?;
-        before = Some(origin);
-    }
+    add_lines(counts, source, &mut lines)?;
     lines.sort_by_key(|line| (
         line.origin.file != name,
         line.origin.line.unwrap_or(usize::MAX),

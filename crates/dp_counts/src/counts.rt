@@ -93,7 +93,7 @@ fn count(numbers: &mut [u64], k: usize)
 }
 
 /// The counts of an instruction.
-#[derive(Clone, Copy, Debug, PartialEq, Eq)]
+#[derive(Clone, Copy)]
 pub struct StepCounts {
     /// How often it ran.
     pub ran: u64,

@@ -2,8 +2,7 @@
 
 use crate::by_line::{DropCause, DropPlace, LineCounts, NamedCount, Origin};
 use crate::counts::{Counts, StepCounts};
-use crate::node_counts::NodeCounts;
-use crate::source::{NodeSource, Role, SourceLine, Step, words_of};
+use crate::source::{NodeSource, Role, Step, words_of};
 use crate::sums::{Total, total_of};
 use dp_console::{Item, Members};
 use dp_model::{Entry, Env};
@@ -25,7 +24,10 @@ fn name_of(node: Entry) -> Item<'static> {
         Entry::Port(index) => PORTS.get(usize::from(index)),
         Entry::Ring(index) => RINGS.get(usize::from(index)),
     };
-    Item::Text(name.copied().unwrap_or(""))
+    match name {
+        Some(name) => Item::Text(name),
+        None => Item::Text(""),
+    }
 }
 
 /// The counts of a run: its programs, in UTF-8, with their counts, the sums for each table and each ring, and the least free buffers of each pool.
@@ -79,68 +81,96 @@ fn write_step<S: Serializer>(
 
 /// Writes the instructions in the lines of a program, with their counts.
 fn write_lines<S: Serializer>(
-    counts: &mut NodeCounts<'_>,
-    lines: &[SourceLine<'_>],
+    counts: &Counts,
+    source: &NodeSource<'_>,
     out: &mut S,
 ) -> Result<(), S::Error> {
-    for line in lines {
+    let mut reader = counts.node(source.node);
+    for line in source.lines.as_slice() {
         if let Some(step) = line.step {
-            write_step(step, counts.step(step.label), line.text, out)?;
+            write_step(step, reader.step(step.label), line.text, out)?;
         }
     }
     Ok(())
 }
 
+/// Writes a program with its counts.
+fn write_node<S: Serializer>(
+    counts: &Counts,
+    source: &NodeSource<'_>,
+    out: &mut S,
+) -> Result<(), S::Error> {
+    out.begin_map(None)?;
+    out.key("file")?;
+    out.str(source.name)?;
+    out.key("instructions")?;
+    out.begin_seq(None)?;
+    write_lines(counts, source, out)?;
+    out.end_seq()?;
+    out.key("node")?;
+    name_of(source.node).serialize(out)?;
+    out.end_map()
+}
+
 /// Writes the programs with their counts.
 fn write_nodes<S: Serializer>(all: CountsDocument<'_, '_>, out: &mut S) -> Result<(), S::Error> {
     for source in all.sources {
-        out.begin_map(None)?;
-        out.key("file")?;
-        out.str(source.name)?;
-        out.key("instructions")?;
-        out.begin_seq(None)?;
-        let mut reader = all.counts.node(source.node);
-        write_lines(&mut reader, source.lines.as_slice(), out)?;
-        out.end_seq()?;
-        out.key("node")?;
-        name_of(source.node).serialize(out)?;
-        out.end_map()?;
+        write_node(all.counts, source, out)?;
     }
     Ok(())
 }
 
-/// The members of a pool.
+/// Writes a pool of this many buffers, of which at least `free` were free.
+fn write_pool<S: Serializer>(k: u8, count: u32, free: u32, out: &mut S) -> Result<(), S::Error> {
+    let members = [
+        ("count", Item::Number(u64::from(count))),
+        ("least", Item::Number(u64::from(free.min(count)))),
+        ("pool", Item::Number(u64::from(k))),
+    ];
+    Members(&members).serialize(out)
+}
+
+/// Writes the pools.
 fn write_pools<S: Serializer>(all: CountsDocument<'_, '_>, out: &mut S) -> Result<(), S::Error> {
-    let levels = all.counts.levels();
-    for (k, (pool, free)) in all.env.pools().iter().zip(levels.free).enumerate() {
-        let members = [
-            ("count", Item::Number(u64::from(pool.count))),
-            ("least", Item::Number(u64::from(free.min(pool.count)))),
-            ("pool", Item::Number(k as u64)),
-        ];
-        Members(&members).serialize(out)?;
+    let free = all.counts.levels().free;
+    for k in 0..8u8 {
+        if let Some(pool) = all.env.pools().get(usize::from(k)) {
+            write_pool(k, pool.count, free[usize::from(k)], out)?;
+        }
     }
     Ok(())
 }
 
-/// The members of a ring.
+/// Writes a ring of this many slots, in which at most `waited` packets waited, and which was full this often.
+fn write_ring<S: Serializer>(
+    k: u8,
+    count: u32,
+    waited: u32,
+    full: u64,
+    out: &mut S,
+) -> Result<(), S::Error> {
+    let members = [
+        ("capacity", Item::Number(u64::from(count.saturating_sub(1)))),
+        ("full", Item::Number(full)),
+        ("most", Item::Number(u64::from(waited))),
+        ("ring", Item::Number(u64::from(k))),
+    ];
+    Members(&members).serialize(out)
+}
+
+/// Writes the rings.
 fn write_rings<S: Serializer>(all: CountsDocument<'_, '_>, out: &mut S) -> Result<(), S::Error> {
-    let levels = all.counts.levels();
-    for (k, (ring, waited)) in (0..8u8).zip(all.env.rings().iter().zip(levels.waited)) {
-        let full = total_of(all.counts, Total::Full(k), all.sources);
-        let capacity = u64::from(ring.count.saturating_sub(1));
-        let members = [
-            ("capacity", Item::Number(capacity)),
-            ("full", Item::Number(full)),
-            ("most", Item::Number(u64::from(waited))),
-            ("ring", Item::Number(u64::from(k))),
-        ];
-        Members(&members).serialize(out)?;
+    let waited = all.counts.levels().waited;
+    for k in 0..8u8 {
+        if let Some(ring) = all.env.rings().get(usize::from(k)) {
+            let full = total_of(all.counts, Total::Full(k), all.sources);
+            write_ring(k, ring.count, waited[usize::from(k)], full, out)?;
+        }
     }
     Ok(())
 }
 
-/// The members of a table.
+/// Writes the tables.
 fn write_tables<S: Serializer>(all: CountsDocument<'_, '_>, out: &mut S) -> Result<(), S::Error> {
     for table in 0..all.env.tables() {
         let hits = total_of(all.counts, Total::Hits(table), all.sources);
@@ -155,28 +185,34 @@ fn write_tables<S: Serializer>(all: CountsDocument<'_, '_>, out: &mut S) -> Resu
     Ok(())
 }
 
+/// The lists of the counts, sorted.
+static LISTS: [&str; 4] = ["nodes", "pools", "rings", "tables"];
+
+/// Writes the elements of the list with this name.
+fn write_elements<S: Serializer>(
+    all: CountsDocument<'_, '_>,
+    name: &str,
+    out: &mut S,
+) -> Result<(), S::Error> {
+    match name {
+        "nodes" => write_nodes(all, out),
+        "pools" => write_pools(all, out),
+        "rings" => write_rings(all, out),
+        _ => write_tables(all, out),
+    }
+}
+
 impl Described for CountsDocument<'_, '_> {}
 
 impl Serialize for CountsDocument<'_, '_> {
     fn serialize<S: Serializer>(&self, out: &mut S) -> Result<(), S::Error> {
-        let all = *self;
         out.begin_map(None)?;
-        out.key("nodes")?;
-        out.begin_seq(None)?;
-        write_nodes(all, out)?;
-        out.end_seq()?;
-        out.key("pools")?;
-        out.begin_seq(None)?;
-        write_pools(all, out)?;
-        out.end_seq()?;
-        out.key("rings")?;
-        out.begin_seq(None)?;
-        write_rings(all, out)?;
-        out.end_seq()?;
-        out.key("tables")?;
-        out.begin_seq(None)?;
-        write_tables(all, out)?;
-        out.end_seq()?;
+        for name in &LISTS {
+            out.key(name)?;
+            out.begin_seq(None)?;
+            write_elements(*self, name, out)?;
+            out.end_seq()?;
+        }
         out.end_map()
     }
 }

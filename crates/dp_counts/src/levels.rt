@@ -4,7 +4,7 @@ use dp_engine::View;
 use dp_model::Entry;
 
 /// How full rings were at the ends of node runs, and how many buffers were free after each allocation call.
-#[derive(Clone, Copy, Debug, PartialEq, Eq)]
+#[derive(Clone, Copy)]
 pub struct Levels {
     /// The greatest number of packets that waited in each ring; 0 if there is no such ring.
     pub waited: [u32; 8],

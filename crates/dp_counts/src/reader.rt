@@ -34,10 +34,24 @@ pub enum CountsError {
     NoNode,
 }
 
+/// The place of a node or of an instruction in a list, before the name of a member.
+#[derive(Clone, Copy)]
+struct Place(&'static str, Option<usize>);
+
+impl fmt::Display for Place {
+    fn fmt<W: fmt::Write>(&self, f: &mut fmt::Formatter<W>) -> fmt::Result {
+        let Place(list, index) = *self;
+        match index {
+            Some(index) => write!(f, "{list}[{index}]."),
+            None => Ok(()),
+        }
+    }
+}
+
 impl fmt::Display for CountsError {
     fn fmt<W: fmt::Write>(&self, f: &mut fmt::Formatter<W>) -> fmt::Result {
         match *self {
-            CountsError::Memory => write!(f, "memory"),
+            CountsError::Memory => f.write_str("memory"),
             CountsError::NotJson { line, column } => {
                 write!(f, "line {line} column {column}: the text is not JSON")
             }
@@ -47,15 +61,13 @@ impl fmt::Display for CountsError {
                 name,
                 wanted,
             } => {
-                if let Some(node) = node {
-                    write!(f, "counts.nodes[{node}].")?;
-                }
-                if let Some(instruction) = instruction {
-                    write!(f, "instructions[{instruction}].")?;
-                }
-                write!(f, "{name} is not {wanted}")
+                let (node, instruction) = (
+                    Place("counts.nodes", node),
+                    Place("instructions", instruction),
+                );
+                write!(f, "{node}{instruction}{name} is not {wanted}")
             }
-            CountsError::NoNode => write!(f, "it has no counts of this node"),
+            CountsError::NoNode => f.write_str("it has no counts of this node"),
         }
     }
 }
@@ -148,6 +160,21 @@ fn value_of(alloc: Global, text: &[u8]) -> Result<Value, CountsError> {
     }
 }
 
+/// The counts of each instruction of the node with this name in a document.
+fn counts_in(alloc: Global, document: &Value, name: &str) -> Result<Vec<ReadCount>, CountsError> {
+    let Some(counts) = document.get("counts") else {
+        return Err(bad(None, None, ("counts", "an object")));
+    };
+    let Some(nodes) = counts.get("nodes").and_then(Value::as_array) else {
+        return Err(bad(None, None, ("counts.nodes", "a list")));
+    };
+    let (k, found) = node_named(nodes.as_slice(), name)?;
+    match found.get("instructions").and_then(Value::as_array) {
+        Some(instructions) => steps_of(alloc, instructions.as_slice(), k),
+        None => Err(bad(Some(k), None, ("instructions", "a list"))),
+    }
+}
+
 /// Returns the counts of each instruction of a node, given by its name, as `port 0`, in a document of `dpv run FILE --counts --json`. They need not be
 /// of the program that the caller has, and there may be more or fewer of them than instructions; in each a jump was taken at most as often as it ran.
 /// Members that are not needed may be missing or have any value.
@@ -157,15 +184,5 @@ fn value_of(alloc: Global, text: &[u8]) -> Result<Value, CountsError> {
 /// Why there are none, as [`CountsError`] has it.
 pub fn counts_of(alloc: Global, text: &[u8], node: &str) -> Result<Vec<ReadCount>, CountsError> {
     let document = value_of(alloc, text)?;
-    let Some(counts) = document.get("counts") else {
-        return Err(bad(None, None, ("counts", "an object")));
-    };
-    let Some(nodes) = counts.get("nodes").and_then(Value::as_array) else {
-        return Err(bad(None, None, ("counts.nodes", "a list")));
-    };
-    let (k, found) = node_named(nodes.as_slice(), node)?;
-    let Some(instructions) = found.get("instructions").and_then(Value::as_array) else {
-        return Err(bad(Some(k), None, ("instructions", "a list")));
-    };
-    steps_of(alloc, instructions.as_slice(), k)
+    counts_in(alloc, &document, node)
 }

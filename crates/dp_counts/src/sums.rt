@@ -8,7 +8,7 @@ use crate::node_counts::NodeCounts;
 use crate::source::{NodeSource, Role, SourceLine};
 
 /// A sum over instructions of several programs.
-#[derive(Clone, Copy, Debug, PartialEq, Eq)]
+#[derive(Clone, Copy)]
 pub enum Total {
     /// The lookups for which this table had a hop.
     Hits(u8),
