@@ -33,16 +33,17 @@ pub enum CaptureReason {
 
 impl fmt::Display for CaptureReason {
     fn fmt<W: fmt::Write>(&self, f: &mut fmt::Formatter<W>) -> fmt::Result {
-        match self {
-            CaptureReason::System(error) => write!(f, "{error}"),
-            CaptureReason::Capture(error) => write!(f, "{error}"),
-            CaptureReason::Link(link) => write!(f, "{link}"),
-            CaptureReason::IsRead => write!(f, "the run reads this file, so it is not overwritten"),
-            CaptureReason::IsOutput => write!(f, "another port writes this file, too"),
-            CaptureReason::IsStdout => write!(f, "standard output goes to this file, too"),
-            CaptureReason::IsStderr => write!(f, "standard error goes to this file, too"),
-            CaptureReason::Other(format) => write!(f, "{format}"),
-        }
+        let words = match self {
+            CaptureReason::System(error) => return write!(f, "{error}"),
+            CaptureReason::Capture(error) => return write!(f, "{error}"),
+            CaptureReason::Link(link) => return write!(f, "{link}"),
+            CaptureReason::Other(format) => return write!(f, "{format}"),
+            CaptureReason::IsRead => "the run reads this file, so it is not overwritten",
+            CaptureReason::IsOutput => "another port writes this file, too",
+            CaptureReason::IsStdout => "standard output goes to this file, too",
+            CaptureReason::IsStderr => "standard error goes to this file, too",
+        };
+        f.write_str(words)
     }
 }
 

@@ -50,7 +50,6 @@ impl Format {
 
 impl fmt::Display for Format {
     fn fmt<W: fmt::Write>(&self, f: &mut fmt::Formatter<W>) -> fmt::Result {
-        let words = self.words();
-        write!(f, "{words}")
+        f.write_str(self.words())
     }
 }

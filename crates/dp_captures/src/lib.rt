@@ -23,7 +23,6 @@ mod output_file;
 mod progress;
 mod removing;
 mod running;
-mod truncated;
 mod watched;
 mod words;
 
@@ -42,7 +41,6 @@ pub use output_file::OutputFile;
 pub use progress::{Progress, Totals};
 pub use removing::remove_empty_outputs;
 pub use running::run_captures;
-pub use truncated::TruncatedNotes;
 pub use watched::{Seen, Watched};
 pub use words::{
     CaptureWords, Direction, Place, Replaced, Replacements, WordForm, WordProblem, captures_of,

@@ -217,7 +217,12 @@ fn keep_inputs<'a, F: Read>(
 
 /// Whether an output is standard output.
 fn take_stdout(names: &[CaptureNames]) -> bool {
-    names.iter().any(|port| port.output_place == Place::Stream)
+    for port in names {
+        if port.output_place == Place::Stream {
+            return true;
+        }
+    }
+    false
 }
 
 /// The files of a run that no output may be: those that it reads, its inputs, and those to which texts go.

@@ -10,7 +10,7 @@ use std::alloc::{AllocError, Global};
 use std::fmt;
 
 /// Where a capture is.
-#[derive(Clone, Copy, Debug, PartialEq, Eq)]
+#[derive(Clone, Copy, PartialEq, Eq)]
 pub enum Place {
     /// A file.
     File,
@@ -243,7 +243,7 @@ fn write_clash<W: fmt::Write>(
 impl fmt::Display for WordProblem<'_> {
     fn fmt<W: fmt::Write>(&self, f: &mut fmt::Formatter<W>) -> fmt::Result {
         match *self {
-            WordProblem::Memory => write!(f, "fault: memory"),
+            WordProblem::Memory => f.write_str("fault: memory"),
             WordProblem::Unread(word, WordForm::Named) => write!(
                 f,
                 "error: '{word}' is not PORT=NAME: PORT a digit from 0 to 7, NAME a capture, or - for the standard stream"
@@ -306,6 +306,15 @@ fn only<'a>(word: &'a str) -> Replaced<'a>
     }
 }
 
+/// That capture alone.
+fn only_in<'a>(alloc: Global, word: &'a str) -> Result<Vec<Replaced<'a>>, AllocError>
+    ensures { IfOk result (λ given. map row_of given.items ≡ spec.only word.now ∷ []) }
+{
+    let mut given = Vec::new(alloc);
+    given.push(only(word))?;
+    Ok(given)
+}
+
 /// The captures that words give the ports of a pipeline.
 #[derive(Drop)]
 pub struct Replacements<'a> {
@@ -360,10 +369,10 @@ impl<'a> Replacements<'a> {
         ensures inputs { IfOk result (λ given. map row_of given.inputs.items ≡ spec.only input.now ∷ []) }
         ensures outputs { IfOk result (λ given. map row_of given.outputs.items ≡ spec.only output.now ∷ []) }
     {
-        let mut given = Replacements::none(alloc);
-        given.inputs.push(only(input))?;
-        given.outputs.push(only(output))?;
-        Ok(given)
+        Ok(Replacements {
+            inputs: only_in(alloc, input)?,
+            outputs: only_in(alloc, output)?,
+        })
     }
 
     /// The first of these ports that a pipeline with this number of ports does not have.
