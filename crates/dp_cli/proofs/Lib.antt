@@ -1,3 +1,5 @@
 mod Endings
 mod Numbers
+mod Stops
+mod Tables
 mod Words

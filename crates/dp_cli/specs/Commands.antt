@@ -1,10 +1,8 @@
--- What a command did, by its words. A command that was not done ends with another status than 0.
-use Rattle.std.specs.Prelude.{◌≡◌, ◌⊎◌, ℕ, Bool, List, [], ◌∷◌, Option, Some, None, Result, IfOk, IfErr, MatchOption, codes, false, map, option_map}
+-- What a command did, by its words. A command that was not done ends with another status than 0, at its first fault.
+use Rattle.std.specs.Prelude.{◌≡◌, ◌⊎◌, ℕ, Bool, List, [], Option, Some, None, Result, IfOk, IfErr, MatchOption, codes}
 use Rattle.clap.specs.declared.parser.matches.Found.{Found}
-use Rattle.clap.specs.Matches.{first_value}
 use Rattle.dp_captures.specs.declared.file_id.ReadFile.{ReadFile}
 use Rattle.dp_captures.specs.declared.words.Replaced.{Replaced}
-use Rattle.dp_captures.specs.Words.{only, row_of}
 use Rattle.dp_cert.specs.Spelling.{Certificate}
 use Rattle.dp_check.specs.Faults.{IsWith}
 use Rattle.dp_console.specs.declared.reply.Reply.{Reply}
@@ -24,13 +22,10 @@ use Rattle.dp_sources.specs.declared.subject.TheConstants.{ONE_REGION}
 use Rattle.dp_sources.specs.Subjects.{one_port}
 use Rattle.dp_verdict.specs.Checks.{SaysChecked}
 use Rattle.dp_verdict.specs.Inferring.{SaysCert, SaysInferred, node_at}
-use Rattle.dp_cli.specs.Given.{RunsFile}
-use Rattle.dp_cli.specs.Operands.{IsFlag, operand, word_of}
+use Rattle.dp_cli.specs.Given.{AreNamed, IsFilterPort, ReadsAndWrites, RunsFile}
+use Rattle.dp_cli.specs.Operands.{operand, word_of}
 use Rattle.dp_cli.specs.Runs.{RunsOver}
-
--- the words, a file, a program or memory was refused
-abbrev pub IsUndone : Reply → Type 0
-IsUndone reply = reply.status ≡ 0 → ⊥
+use Rattle.dp_cli.specs.Stops.{IsUndone, StopsCheck, StopsFilter, StopsInfer, StopsOne, StopsRun}
 
 -- A program and its captures: a pipeline of one port in this environment is run over the two captures that the words name.
 pub record RunsSingle {F : Type 0} (remaining : F → Option (List ℕ)) (env : Environment) (region : ℕ) (files : SingleFiles) (reply : Reply) : Type 0 where
@@ -39,18 +34,10 @@ pub record RunsSingle {F : Type 0} (remaining : F → Option (List ℕ)) (env : 
   pub loaded : IsSinglePlan (Some texts) env region files p
   pub inputs : List Replaced
   pub outputs : List Replaced
-  pub reads_from : map row_of inputs ≡ only files.input.now ∷ []
-  pub writes_to : map row_of outputs ≡ only files.output.now ∷ []
+  pub given : ReadsAndWrites files inputs outputs
   pub is_json : Bool
   pub reads : List ReadFile
   pub runs : RunsOver remaining p [] inputs outputs is_json reads reply
-
--- the files that the words name for a program: with its certificate, or to be run with one that is inferred
-pub record AreNamed (found : Found) (program : List ℕ) (cert : Option (List ℕ)) (files : SingleFiles) : Type 0 where
-  pub program_is : files.program.now ≡ operand found program
-  pub cert_is : option_map (λ name. name.now) files.cert ≡ cert
-  pub input_is : files.input.now ≡ operand found (codes "IN")
-  pub output_is : files.output.now ≡ operand found (codes "OUT")
 
 -- `dpv one`: the program is run with its certificate, on the port of that command
 pub record RunsOne {F : Type 0} (remaining : F → Option (List ℕ)) (found : Found) (reply : Reply) : Type 0 where
@@ -58,11 +45,12 @@ pub record RunsOne {F : Type 0} (remaining : F → Option (List ℕ)) (found : F
   pub named : AreNamed found (codes "NODE") (Some (operand found (codes "CERT"))) files
   pub runs : RunsSingle remaining one_port ONE_REGION files reply
 
--- `dpv filter`: the program is run with a certificate that is inferred, on a port
+-- `dpv filter`: the program is run with a certificate that is inferred, on the port that the words give
 pub record RunsFilter {F : Type 0} (remaining : F → Option (List ℕ)) (found : Found) (reply : Reply) : Type 0 where
   pub files : SingleFiles
   pub named : AreNamed found (codes "PROGRAM") None files
   pub env : Environment
+  pub port : IsFilterPort found env
   pub region : ℕ
   pub runs : RunsSingle remaining env region files reply
 
@@ -98,14 +86,18 @@ pub record InfersOne (found : Found) (reply : Reply) : Type 0 where
   pub texts : FileMap
   pub says : SaysInferred (Some texts) one_port (record { entry = Port 0; program = operand found (codes "NODE"); cert = None }) reply
 
--- What the command with this name did, for those whose answer is promised: it was done, or its status is not 0.
+-- a command stopped so, and not with status 0
+abbrev pub Stopped : (Reply → Type 0) → Reply → Type 0
+Stopped Stops reply = Stops reply × IsUndone reply
+
+-- What the command with this name did, for those whose answer is promised: it was done, or it stopped where its first fault is.
 pub record Answers {F : Type 0} (remaining : F → Option (List ℕ)) (name : List ℕ) (found : Found) (reply : Reply) : Type 0 where
-  pub run : name ≡ codes "run" → RunsFile remaining found reply ⊎ IsUndone reply
-  pub one : name ≡ codes "one" → RunsOne remaining found reply ⊎ IsUndone reply
-  pub filter : name ≡ codes "filter" → RunsFilter remaining found reply ⊎ IsUndone reply
-  pub check : name ≡ codes "check" → ChecksFile found reply ⊎ IsUndone reply
-  pub infer : name ≡ codes "infer" → InfersNode found reply ⊎ IsUndone reply
-  pub infer_one : name ≡ codes "infer-one" → InfersOne found reply ⊎ IsUndone reply
+  pub run : name ≡ codes "run" → RunsFile remaining found reply ⊎ Stopped (StopsRun remaining found) reply
+  pub one : name ≡ codes "one" → RunsOne remaining found reply ⊎ Stopped (StopsOne remaining found) reply
+  pub filter : name ≡ codes "filter" → RunsFilter remaining found reply ⊎ Stopped (StopsFilter remaining found) reply
+  pub check : name ≡ codes "check" → ChecksFile found reply ⊎ Stopped (StopsCheck found) reply
+  pub infer : name ≡ codes "infer" → InfersNode found reply ⊎ Stopped (StopsInfer found) reply
+  pub infer_one : name ≡ codes "infer-one" → InfersOne found reply ⊎ (reply.status ≡ 4)
 
 -- the command was answered, its reply was printed, and the program ends with the status of the reply if that was written whole
 pub record EndsCommand {F : Type 0} (remaining : F → Option (List ℕ)) (name : List ℕ) (found : Found) (failed failed' : Bool)

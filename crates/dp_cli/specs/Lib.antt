@@ -3,3 +3,4 @@ pub mod Given
 pub mod Operands
 pub mod Program
 pub mod Runs
+pub mod Stops

@@ -1,5 +1,5 @@
 -- Words of the command line.
-use Rattle.std.specs.Prelude.{◌≡◌, ℕ, ◌+◌, ◌^◌, List, ◌∷◌, [], ◌++◌, Bool, true, false, ◌==◌, ◌&&◌, Option, Some, None, codes, length, nat_le, nat_lt}
+use Rattle.std.specs.Prelude.{◌≡◌, ℕ, ◌+◌, ◌^◌, List, ◌∷◌, [], ◌++◌, Bool, true, false, ◌==◌, ◌&&◌, ◌-◌, Option, Some, None, codes, length, nat_le, nat_lt}
 use Rattle.std.specs.Prelude.{option_map, option_and_then, if◌then◌else◌}
 use Rattle.std.specs.Char.{is_ascii_digit}
 use Rattle.std.specs.List.{list_all, slice_split}
@@ -7,6 +7,7 @@ use Rattle.std.specs.Option.{unwrap_or}
 use Rattle.std.specs.Str.Parse.{digits_value}
 use Rattle.clap.specs.declared.parser.matches.Found.{Found}
 use Rattle.clap.specs.Matches.{first_value, one_text}
+use Rattle.dp_captures.specs.Words.{parts_in}
 use Rattle.dp_model.specs.declared.env.Entry.{Entry}
 use Rattle.dp_model.specs.declared.env.Entry.TheVariants.{Port, Ring}
 use Rattle.dp_pipe.specs.declared.forwarding.TheConstants.{MAX_RUN_TURNS}
@@ -33,6 +34,15 @@ records_in word = option_and_then (λ n. if nat_lt 0 n && nat_le n MAX_RUN_TURNS
 -- a word as a port: below 8
 abbrev pub port_in : List ℕ → Option ℕ
 port_in word = option_and_then (λ n. if nat_lt n 8 then Some n else None) (number_in word)
+
+-- a word as a number in a range
+abbrev pub number_within : ℕ → ℕ → List ℕ → Option ℕ
+number_within least most word = option_and_then (λ n. if nat_le least n && nat_le n most then Some n else None) (number_in word)
+
+-- the number of an option, or its usual one
+abbrev pub option_within : Option (List ℕ) → ℕ → ℕ → ℕ → Option ℕ
+option_within None usual least most = Some usual
+option_within (Some word) usual least most = number_within least most word
 
 -- words as numbers, ascending
 abbrev pub ascending_in : ℕ → List (List ℕ) → Option (List ℕ)
@@ -61,3 +71,24 @@ operand found id = unwrap_or (first_value found id) []
 abbrev pub IsFlag : Found → List ℕ → Bool → Type 0
 IsFlag found id value = (one_text found id ≡ None → value ≡ false) × (one_text found id ≡ Some (codes "true") → value ≡ true)
     × (one_text found id ≡ Some (codes "false") → value ≡ false)
+
+-- a word as a table: one digit from 0 to 3
+abbrev pub table_digit : List ℕ → Option ℕ
+table_digit (digit ∷ []) = if nat_le 48 digit && nat_le digit 51 then Some (digit - 48) else None
+table_digit _ = None
+
+-- the table of a word TABLE=FILE, where FILE is not empty
+abbrev pub table_named : List ℕ → ℕ → Option ℕ
+table_named [] table = None
+table_named (byte ∷ bytes) table = Some table
+
+abbrev pub table_in : List ℕ → Option ℕ
+table_in word = option_and_then (λ (parts : List ℕ × List ℕ). option_and_then (table_named parts.1) (table_digit parts.0)) (parts_in word)
+
+-- the tables of words, after earlier ones; none if a word has not that form
+abbrev pub tables_from : List ℕ → List (List ℕ) → Option (List ℕ)
+tables_from earlier [] = Some earlier
+tables_from earlier (word ∷ words) = option_and_then (λ table. tables_from (earlier ++ table ∷ []) words) (table_in word)
+
+abbrev pub tables_in : List (List ℕ) → Option (List ℕ)
+tables_in words = tables_from [] words

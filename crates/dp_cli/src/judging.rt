@@ -1,9 +1,10 @@
 //! The commands that judge programs: `check`, `infer`, `explain`, `show`, `compile` and those on one program; and `mem`.
 
-ghost use Rattle.std.specs.Prelude.{◌≡◌, ◌⊎◌, IfErr, IfOk, codes};
+ghost use Rattle.std.specs.Prelude.{◌≡◌, ◌⊎◌, ◌&&◌, IfErr, IfOk, codes};
 ghost use Rattle.clap.specs.Matches.{found_of};
 ghost use Rattle.dp_sources.specs.Subjects.{env_of};
-ghost use Rattle.dp_cli.specs.Commands.{ChecksFile, InfersNode, InfersOne, IsLoaded, IsUndone};
+ghost use Rattle.dp_cli.specs.Commands.{ChecksFile, InfersNode, InfersOne, IsLoaded, Stopped};
+ghost use Rattle.dp_cli.specs.Stops.{IsNotLoaded, StopsCheck, StopsInfer};
 
 use crate::reading::{node_in, read_file, read_nodes, read_pipeline, which_in};
 use crate::request::{Request, wrong};
@@ -43,13 +44,20 @@ fn say_more<R>(
     }
 }
 
+/// Whether both are set.
+fn are_both(one: bool, other: bool) -> bool
+    ensures { result ≡ (one && other) }
+{
+    one && other
+}
+
 /// `dpv check FILE`.
 fn checked<R: Files>(request: &Request<'_, '_, R>) -> Result<Reply, Reply>
     ensures checks { IfOk result (ChecksFile (found_of request.now.words.now)) }
-    ensures undone { IfErr result IsUndone }
+    ensures stops { IfErr result (StopsCheck (found_of request.now.words.now)) }
 {
     let (is_json, with_sizes) = (request.flag("json"), request.flag("sizes"));
-    if is_json && with_sizes {
+    if are_both(is_json, with_sizes) {
         return Err(wrong(
             request.alloc,
             "error: --sizes is printed as text alone: leave out --json, or --sizes",
@@ -66,7 +74,7 @@ fn checked<R: Files>(request: &Request<'_, '_, R>) -> Result<Reply, Reply>
 /// A pipeline that is loaded with its named certificates, or with inferred ones.
 fn loaded<R: Files>(request: &Request<'_, '_, R>, how: How) -> Result<Pipeline, Reply>
     ensures loaded { IfOk result (IsLoaded how) }
-    ensures undone { IfErr result IsUndone }
+    ensures stops { IfErr result (IsNotLoaded (found_of request.now.words.now) how) }
 {
     let given = read_pipeline(request, false)?;
     let subject = given.subject();
@@ -80,7 +88,7 @@ fn loaded<R: Files>(request: &Request<'_, '_, R>, how: How) -> Result<Pipeline, 
 /// `dpv infer FILE WHICH`.
 fn inferred<R: Files>(request: &Request<'_, '_, R>) -> Result<Reply, Reply>
     ensures infers { IfOk result (InfersNode (found_of request.now.words.now)) }
-    ensures undone { IfErr result IsUndone }
+    ensures stops { IfErr result (StopsInfer (found_of request.now.words.now)) }
 {
     let node = node_in(request.alloc, request.word("WHICH"))?;
     let pipeline = loaded(request, How::Inferred)?;
@@ -133,7 +141,7 @@ fn alone<'a>(env: &'a Env, program: &'a str) -> Subject<'a>
 /// `dpv infer-one NODE`.
 fn inferred_one<R: Files>(request: &Request<'_, '_, R>) -> Result<Reply, Reply>
     ensures infers { IfOk result (InfersOne (found_of request.now.words.now)) }
-    ensures undone { IfErr result IsUndone }
+    ensures memory { IfErr result (λ reply. reply.status ≡ 4) }
 {
     let env = one_env();
     let program = request.word("NODE");
@@ -226,7 +234,9 @@ fn judge<R: Files>(request: &Request<'_, '_, R>, name: &str) -> Result<Reply, Re
     ensures check { name.now ≡ codes "check" → IfOk result (ChecksFile (found_of request.now.words.now)) }
     ensures infer { name.now ≡ codes "infer" → IfOk result (InfersNode (found_of request.now.words.now)) }
     ensures infer_one { name.now ≡ codes "infer-one" → IfOk result (InfersOne (found_of request.now.words.now)) }
-    ensures undone { name.now ≡ codes "check" ⊎ (name.now ≡ codes "infer" ⊎ name.now ≡ codes "infer-one") → IfErr result IsUndone }
+    ensures stops_check { name.now ≡ codes "check" → IfErr result (StopsCheck (found_of request.now.words.now)) }
+    ensures stops_infer { name.now ≡ codes "infer" → IfErr result (StopsInfer (found_of request.now.words.now)) }
+    ensures stops_infer_one { name.now ≡ codes "infer-one" → IfErr result (λ reply. reply.status ≡ 4) }
 {
     match name {
         "check" => checked(request),
@@ -243,10 +253,13 @@ fn judge<R: Files>(request: &Request<'_, '_, R>, name: &str) -> Result<Reply, Re
 }
 
 /// The reply to the command of this name.
+#[tactic(auto, using(crate::proofs::Stops::check, crate::proofs::Stops::infer))]
 pub fn answer<R: Files>(request: &Request<'_, '_, R>, name: &str) -> Reply
-    ensures check { name.now ≡ codes "check" → ChecksFile (found_of request.now.words.now) result ⊎ IsUndone result }
-    ensures infer { name.now ≡ codes "infer" → InfersNode (found_of request.now.words.now) result ⊎ IsUndone result }
-    ensures infer_one { name.now ≡ codes "infer-one" → InfersOne (found_of request.now.words.now) result ⊎ IsUndone result }
+    ensures check { name.now ≡ codes "check" → ChecksFile (found_of request.now.words.now) result
+        ⊎ Stopped (StopsCheck (found_of request.now.words.now)) result }
+    ensures infer { name.now ≡ codes "infer" → InfersNode (found_of request.now.words.now) result
+        ⊎ Stopped (StopsInfer (found_of request.now.words.now)) result }
+    ensures infer_one { name.now ≡ codes "infer-one" → InfersOne (found_of request.now.words.now) result ⊎ (result.status ≡ 4) }
 {
     match judge(request, name) {
         Ok(reply) | Err(reply) => reply,

@@ -54,7 +54,9 @@ pub fn records_in(word: &str) -> Option<u32>
 }
 
 /// Parses a word as a number in a range.
-pub fn number_within(word: &str, least: u32, most: u32) -> Option<u32> {
+pub fn number_within(word: &str, least: u32, most: u32) -> Option<u32>
+    ensures { result ≡ spec.number_within least most word.now }
+{
     match number_in(word) {
         Some(number) if number >= u64::from(least) && number <= u64::from(most) => {
             Some(number as u32)

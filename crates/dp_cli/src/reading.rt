@@ -1,13 +1,14 @@
 //! The files that a command reads before it decides.
 
-ghost use Rattle.std.specs.Prelude.{◌≡◌, IfErr, IfOk};
-ghost use Rattle.dp_cli.specs.Commands.{IsUndone};
+ghost use Rattle.std.specs.Prelude.{◌≡◌, IfErr, IfOk, map};
+ghost use Rattle.clap.specs.Matches.{found_of};
 ghost use Rattle.dp_cli.specs.Operands.{word_of};
+ghost use Rattle.dp_cli.specs.Stops.{HasNoConfig, IsFault, IsNotReady, NamesNone};
 
 use crate::operands::node_named;
 use crate::request::{Request, wrong};
-use crate::routes::{read_routes, routes_named, test_tables};
-use dp_console::{FAULT, MEMORY, Reply};
+use crate::routes::{lacked_table, read_routes, routes_named};
+use dp_console::{FAULT, MEMORY, Reply, USAGE};
 use dp_model::Entry;
 use dp_pipe::{How, Survey, survey_of};
 use dp_sources::{Fault, RouteFile, Source, Sources, Subject, joined, read, read_sources};
@@ -67,12 +68,13 @@ pub fn unwritten(alloc: Global) -> Reply
 /// # Errors
 ///
 /// The reply if it is not read.
+#[tactic(auto, using(crate::proofs::Stops::fault_status))]
 pub fn read_file<R: Files>(
     request: &Request<'_, '_, R>,
     name: &str,
     is_json: bool,
 ) -> Result<Source, Reply>
-    ensures { IfErr result IsUndone }
+    ensures { IfErr result IsFault }
 {
     let Ok(source) = read(request.rt, request.alloc, name) else {
         return Err(without_memory(request.alloc, is_json));
@@ -83,18 +85,31 @@ pub fn read_file<R: Files>(
     }
 }
 
-/// Reads the pipeline file of a command, and the files with more routes.
+/// The reply if a pipeline does not have a table that gets routes.
+fn no_table(alloc: Global, table: usize) -> Reply
+    ensures { result.status ≡ USAGE }
+{
+    wrong(
+        alloc,
+        format_args!(
+            "error: the pipeline has no table {table}: its tables are the [[table]] of its file, counted from 0"
+        ),
+    )
+}
+
+/// A pipeline file with these files of routes.
 ///
 /// # Errors
 ///
-/// The reply to wrong words; or if a file is not read, or they are not a pipeline.
-pub fn read_pipeline<R: Files>(request: &Request<'_, '_, R>, is_json: bool) -> Result<Given, Reply>
-    ensures { IfErr result IsUndone }
+/// The reply if they have no configuration, or not the tables of the routes, or memory is refused.
+fn given_of(
+    alloc: Global,
+    source: Source,
+    routes: Vec<RouteFile>,
+    is_json: bool,
+) -> Result<Given, Reply>
+    ensures { IfErr result (HasNoConfig (map (λ file. file.table) routes.items)) }
 {
-    let alloc = request.alloc;
-    let named = routes_named(request, is_json)?;
-    let source = read_file(request, request.word("FILE"), is_json)?;
-    let routes = read_routes(request, named.as_slice(), is_json)?;
     let (name, text) = (source.name.as_str(), source.bytes.as_slice());
     let Ok(joined) = joined(alloc, text, routes.as_slice()) else {
         return Err(without_memory(alloc, is_json));
@@ -105,13 +120,29 @@ pub fn read_pipeline<R: Files>(request: &Request<'_, '_, R>, is_json: bool) -> R
             return Err(misread(alloc, name, text, routes.as_slice(), error, is_json));
         }
     };
-    test_tables(alloc, routes.as_slice(), survey.env())?;
+    if let Some(table) = lacked_table(routes.as_slice(), survey.env()) {
+        return Err(no_table(alloc, table));
+    }
     Ok(Given {
         source,
         routes,
         joined,
         survey,
     })
+}
+
+/// Reads the pipeline file of a command, and the files with more routes.
+///
+/// # Errors
+///
+/// The reply to wrong words; or if a file is not read, or they are not a pipeline.
+pub fn read_pipeline<R: Files>(request: &Request<'_, '_, R>, is_json: bool) -> Result<Given, Reply>
+    ensures { IfErr result (IsNotReady (found_of request.now.words.now)) }
+{
+    let named = routes_named(request, is_json)?;
+    let source = read_file(request, request.word("FILE"), is_json)?;
+    let routes = read_routes(request, named.as_slice(), is_json)?;
+    given_of(request.alloc, source, routes, is_json)
 }
 
 /// Reads the programs and certificates of a command's nodes, or of one.
@@ -141,7 +172,7 @@ pub fn read_nodes<R: Files>(
 /// The reply if the word names no node.
 pub fn node_in(alloc: Global, word: &str) -> Result<Entry, Reply>
     ensures named { IfOk result (λ node. word.now ≡ word_of node) }
-    ensures wrong { IfErr result (λ reply. reply.status ≡ 2) }
+    ensures wrong { IfErr result (λ reply. (reply.status ≡ 2) × NamesNone word.now) }
 {
     match node_named(word) {
         Some(node) => Ok(node),

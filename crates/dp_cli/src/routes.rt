@@ -1,7 +1,12 @@
 //! The files with routes that the command line gives tables.
 
-ghost use Rattle.std.specs.Prelude.{IfErr, IfSome};
-ghost use Rattle.dp_cli.specs.Commands.{IsUndone};
+ghost use Rattle.std.specs.Prelude.{◌≡◌, ◌⊎◌, IfErr, IfOk, IfSome, None, Some, codes, find, map, nat_le, option_map};
+ghost use Rattle.clap.specs.Matches.{found_of};
+ghost use Rattle.dp_captures.specs.Words.{parts_in};
+ghost use Rattle.dp_sources.specs.Faults as faults;
+ghost use Rattle.dp_cli.specs.Given.{words_of};
+ghost use Rattle.dp_cli.specs.Operands as spec;
+ghost use Rattle.dp_cli.specs.Stops.{HasWrongRoutes, IsFault};
 
 use crate::reading::{read_file, without_memory};
 use crate::request::{Request, wrong};
@@ -19,19 +24,66 @@ pub struct RoutesNamed<'w> {
     file: &'w str,
 }
 
-/// Parses a word TABLE=FILE: the table is a digit from 0 to 3.
-fn named_in(word: &str) -> Option<RoutesNamed<'_>> {
-    let (table, file) = word.split_once('=')?;
-    match table.as_bytes() {
-        [digit @ b'0'..=b'3'] if !file.is_empty() => Some(RoutesNamed {
-            table: usize::from(*digit - b'0'),
-            file,
-        }),
+/// The parts of a word before and after its first `=`.
+fn parts_in(word: &str) -> Option<(&str, &str)>
+    ensures { option_map (λ parts. (parts.0.now, parts.1.now)) result ≡ parts_in word.now }
+{
+    word.split_once('=')
+}
+
+/// Parses a word as a table: one digit from 0 to 3.
+fn table_digit(word: &str) -> Option<u8>
+    ensures { result ≡ spec.table_digit word.now }
+{
+    match word.as_bytes() {
+        [digit @ b'0'..=b'3'] => Some(digit - b'0'),
         _ => None,
     }
 }
 
-/// The files that the words name.
+/// Parses a word TABLE=FILE.
+fn named_in(word: &str) -> Option<RoutesNamed<'_>>
+    ensures { option_map (λ named. named.table) result ≡ spec.table_in word.now }
+{
+    let (table, file) = parts_in(word)?;
+    let table = usize::from(table_digit(table)?);
+    if file.is_empty() {
+        return None;
+    }
+    Some(RoutesNamed { table, file })
+}
+
+/// The files that these words name.
+///
+/// # Errors
+///
+/// The reply to a word that names none, or if memory is refused.
+fn named_by<'w>(
+    alloc: Global,
+    words: &[&'w str],
+    is_json: bool,
+) -> Result<Vec<RoutesNamed<'w>>, Reply>
+    ensures named { IfOk result (λ named. Some (map (λ one. one.table) named.items) ≡ spec.tables_in (map (λ word. word.now) words.now)) }
+    ensures wrong { IfErr result (λ reply. ((reply.status ≡ 2) × (spec.tables_in (map (λ word. word.now) words.now) ≡ None)) ⊎ (reply.status ≡ 4)) }
+{
+    let mut named = Vec::new(alloc);
+    for word in words {
+        let Some(one) = named_in(word) else {
+            return Err(wrong(
+                alloc,
+                format_args!(
+                    "error: '{word}' is not TABLE=FILE: TABLE a digit from 0 to 3, FILE a file with a route on each line"
+                ),
+            ));
+        };
+        if named.push(one).is_err() {
+            return Err(without_memory(alloc, is_json));
+        }
+    }
+    Ok(named)
+}
+
+/// The files that the words of `--routes` name.
 ///
 /// # Errors
 ///
@@ -40,27 +92,20 @@ pub fn routes_named<'w, R>(
     request: &Request<'_, 'w, R>,
     is_json: bool,
 ) -> Result<Vec<RoutesNamed<'w>>, Reply>
-    ensures { IfErr result IsUndone }
+    ensures named { IfOk result (λ named. Some (map (λ one. one.table) named.items)
+        ≡ spec.tables_in (words_of (found_of request.now.words.now) (codes "routes"))) }
+    ensures wrong { IfErr result (HasWrongRoutes (found_of request.now.words.now)) }
 {
-    let mut named = Vec::new(request.alloc);
-    for word in request.words.get_strs("routes").unwrap_or(&[]) {
-        let Some(one) = named_in(word) else {
-            return Err(wrong(
-                request.alloc,
-                format_args!(
-                    "error: '{word}' is not TABLE=FILE: TABLE a digit from 0 to 3, FILE a file with a route on each line"
-                ),
-            ));
-        };
-        if named.push(one).is_err() {
-            return Err(without_memory(request.alloc, is_json));
-        }
+    match request.words.get_strs("routes") {
+        Some(words) => named_by(request.alloc, words, is_json),
+        None => Ok(Vec::new(request.alloc)),
     }
-    Ok(named)
 }
 
 /// The fault of a file with routes, with the words of its reason.
-fn fault_of<'a>(name: &'a str, words: &'a str) -> Fault<'a> {
+fn fault_of<'a>(name: &'a str, words: &'a str) -> Fault<'a>
+    ensures { faults.status_of result ≡ 3 }
+{
     Fault::File(
         name,
         Because {
@@ -73,7 +118,7 @@ fn fault_of<'a>(name: &'a str, words: &'a str) -> Fault<'a> {
 
 /// The reply to a file whose routes are not all printable, if they are not.
 fn strange(alloc: Global, file: &RouteFile, is_json: bool) -> Option<Reply>
-    ensures { IfSome result IsUndone }
+    ensures { IfSome result IsFault }
 {
     let name = file.source.name.as_str();
     if !file.is_text() {
@@ -86,6 +131,30 @@ fn strange(alloc: Global, file: &RouteFile, is_json: bool) -> Option<Reply>
     Some(failed(alloc, fault_of(name, words), is_json))
 }
 
+/// Reads one of the files.
+///
+/// # Errors
+///
+/// The reply if it is not read or is no text, or memory is refused.
+fn read_route_file<R: Files>(
+    request: &Request<'_, '_, R>,
+    named: RoutesNamed<'_>,
+    is_json: bool,
+) -> Result<RouteFile, Reply>
+    ensures table { IfOk result (λ file. file.table ≡ named.entry.table) }
+    ensures unread { IfErr result IsFault }
+{
+    let source = read_file(request, named.file, is_json)?;
+    let file = RouteFile {
+        table: named.table,
+        source,
+    };
+    match strange(request.alloc, &file, is_json) {
+        Some(reply) => Err(reply),
+        None => Ok(file),
+    }
+}
+
 /// Reads the files.
 ///
 /// # Errors
@@ -96,18 +165,12 @@ pub fn read_routes<R: Files>(
     named: &[RoutesNamed<'_>],
     is_json: bool,
 ) -> Result<Vec<RouteFile>, Reply>
-    ensures { IfErr result IsUndone }
+    ensures tables { IfOk result (λ files. map (λ file. file.table) files.items ≡ map (λ one. one.table) named.now) }
+    ensures unread { IfErr result IsFault }
 {
     let mut files = Vec::new(request.alloc);
     for one in named {
-        let source = read_file(request, one.file, is_json)?;
-        let file = RouteFile {
-            table: one.table,
-            source,
-        };
-        if let Some(reply) = strange(request.alloc, &file, is_json) {
-            return Err(reply);
-        }
+        let file = read_route_file(request, *one, is_json)?;
         if files.push(file).is_err() {
             return Err(without_memory(request.alloc, is_json));
         }
@@ -115,24 +178,27 @@ pub fn read_routes<R: Files>(
     Ok(files)
 }
 
-/// Tests that a pipeline has the tables that are given routes.
-///
-/// # Errors
-///
-/// The reply to the first that it does not have.
-pub fn test_tables(alloc: Global, files: &[RouteFile], env: &Env) -> Result<(), Reply>
-    ensures { IfErr result IsUndone }
+/// The first of these files whose table a pipeline with this number of tables does not have.
+fn first_beyond(files: &[RouteFile], tables: usize) -> Option<&RouteFile>
+    ensures { option_map (λ file. file.now) result ≡ find (λ file. nat_le tables file.table) files.now }
 {
-    for file in files {
-        let table = file.table;
-        if table >= usize::from(env.tables()) {
-            return Err(wrong(
-                alloc,
-                format_args!(
-                    "error: the pipeline has no table {table}: its tables are the [[table]] of its file, counted from 0"
-                ),
-            ));
-        }
+    files.iter().find(|file| tables <= file.table)
+}
+
+/// The first table with more routes that a pipeline with this number of tables does not have.
+#[tactic(auto, using(crate::proofs::Tables::found_first))]
+fn lacked_of(files: &[RouteFile], tables: usize) -> Option<usize>
+    ensures { result ≡ find (λ table. nat_le tables table) (map (λ file. file.table) files.now) }
+{
+    match first_beyond(files, tables) {
+        Some(file) => Some(file.table),
+        None => None,
     }
-    Ok(())
+}
+
+/// The first table with more routes that an environment does not have.
+pub fn lacked_table(files: &[RouteFile], env: &Env) -> Option<usize>
+    ensures { result ≡ find (λ table. nat_le env.now.tables table) (map (λ file. file.table) files.now) }
+{
+    lacked_of(files, usize::from(env.tables()))
 }

@@ -1,12 +1,14 @@
 //! `dpv run`, `dpv one` and `dpv filter` over the host's files.
 
-ghost use Rattle.std.specs.Prelude.{◌≡◌, ◌⊎◌, IfErr, IfOk, IfSome, None, Some, codes, length, map};
-ghost use Rattle.clap.specs.Matches.{found_of};
+ghost use Rattle.std.specs.Prelude.{◌≡◌, ◌⊎◌, IfErr, IfNone, IfOk, IfSome, None, Some, codes, length, map};
+ghost use Rattle.clap.specs.Matches.{first_value, found_of};
+ghost use Rattle.dp_captures.specs.Words.{row_of, rows_of};
 ghost use Rattle.dp_engine.specs.Engines.{IsAscending};
-ghost use Rattle.dp_cli.specs.Commands.{IsUndone, RunsFilter, RunsOne, RunsSingle};
-ghost use Rattle.dp_cli.specs.Given.{AreGiven, IsWrong, RunsFile, calls_in, words_of as given_words};
-ghost use Rattle.dp_cli.specs.Operands.{IsFlag};
+ghost use Rattle.dp_cli.specs.Commands.{RunsFilter, RunsOne, RunsSingle, Stopped};
+ghost use Rattle.dp_cli.specs.Given.{AreGiven, IsFilterPort, RunsFile, RunsNoted, calls_in, filter_port, status_worded, words_of as given_words};
+ghost use Rattle.dp_cli.specs.Operands.{IsFlag, option_within};
 ghost use Rattle.dp_cli.specs.Runs.{NeverRuns, RunsOver, SaysRun, status_unopened, takes_stream};
+ghost use Rattle.dp_cli.specs.Stops.{HasWrongNumber, IsNoEnv, NeverBegins, StopsAtWords, StopsFilter, StopsOne, StopsRun, StopsSingle};
 ghost use Rattle.dp_pipe.specs.Running.{answer_of};
 ghost use Rattle.dp_pipe.specs.Singles.{HasOnePort};
 ghost use Rattle.dp_region.specs.Region.{IsRegionSize};
@@ -18,9 +20,9 @@ use crate::reading::{Given, read_nodes, read_pipeline, without_memory};
 use crate::request::{Request, wrong};
 use clap::ArgMatches;
 use dp_captures::{
-    BUFFER, CaptureFault, CaptureNames, CaptureProblem, CaptureReason, CaptureWords, InputOf,
-    OutputOf, ReadFile, Replacements, UNBUFFERED, WordProblem, names_of, note_read, open_captures,
-    remove_empty_outputs,
+    BUFFER, CaptureFault, CaptureNames, CaptureProblem, CaptureReason, Direction, InputOf,
+    OutputOf, ReadFile, Replaced, Replacements, UNBUFFERED, WordProblem, captures_of, names_of,
+    note_read, open_captures, remove_empty_outputs,
 };
 use dp_console::{Reply, Text};
 use dp_engine::{CompiledPrograms, Nothing, need};
@@ -82,28 +84,44 @@ fn words_of<'w>(
     }
 }
 
-/// The words that give captures.
-#[derive(Drop)]
-struct CaptureLists<'w> {
-    inputs: Vec<&'w str>,
-    no_inputs: Vec<&'w str>,
-    outputs: Vec<&'w str>,
-    no_outputs: Vec<&'w str>,
+/// The reply to words that give no captures.
+fn misworded(alloc: Global, problem: WordProblem<'_>, is_json: bool) -> Reply
+    ensures { result.status ≡ status_worded problem.entry }
+{
+    match problem {
+        WordProblem::Memory => without_memory(alloc, is_json),
+        _ => wrong(alloc, problem),
+    }
 }
 
-/// The words that give captures.
-fn capture_lists<'w>(alloc: Global, words: &ArgMatches<'w>) -> Result<CaptureLists<'w>, AllocError>
-    ensures inputs { IfOk result (λ lists. map (λ word. word.now) lists.inputs.items ≡ given_words (found_of words.now) (codes "in")) }
-    ensures no_inputs { IfOk result (λ lists. map (λ word. word.now) lists.no_inputs.items ≡ given_words (found_of words.now) (codes "no-in")) }
-    ensures outputs { IfOk result (λ lists. map (λ word. word.now) lists.outputs.items ≡ given_words (found_of words.now) (codes "out")) }
-    ensures no_outputs { IfOk result (λ lists. map (λ word. word.now) lists.no_outputs.items ≡ given_words (found_of words.now) (codes "no-out")) }
+/// The captures that words of these two options give.
+///
+/// # Errors
+///
+/// The reply to words that give none, or that clash.
+#[tactic(auto, using(crate::proofs::Stops::worded))]
+fn captures_by<'w, R>(
+    request: &Request<'_, 'w, R>,
+    direction: Direction,
+    named: &str,
+    nowhere: &str,
+) -> Result<Vec<Replaced<'w>>, Reply>
+    ensures given { IfOk result (λ given. Some (map row_of given.items) ≡ rows_of (given_words (found_of request.now.words.now) named.now)
+        (given_words (found_of request.now.words.now) nowhere.now)) }
+    ensures wrong { IfErr result (λ reply. ((reply.status ≡ 2) × (rows_of (given_words (found_of request.now.words.now) named.now)
+        (given_words (found_of request.now.words.now) nowhere.now) ≡ None)) ⊎ (reply.status ≡ 4)) }
 {
-    Ok(CaptureLists {
-        inputs: words_of(alloc, words, "in")?,
-        no_inputs: words_of(alloc, words, "no-in")?,
-        outputs: words_of(alloc, words, "out")?,
-        no_outputs: words_of(alloc, words, "no-out")?,
-    })
+    let alloc = request.alloc;
+    let Ok(named) = words_of(alloc, request.words, named) else {
+        return Err(without_memory(alloc, request.flag("json")));
+    };
+    let Ok(nowhere) = words_of(alloc, request.words, nowhere) else {
+        return Err(without_memory(alloc, request.flag("json")));
+    };
+    match captures_of(alloc, direction, named.as_slice(), nowhere.as_slice()) {
+        Ok(given) => Ok(given),
+        Err(problem) => Err(misworded(alloc, problem, request.flag("json"))),
+    }
 }
 
 /// The captures that the words give.
@@ -113,22 +131,11 @@ fn capture_lists<'w>(alloc: Global, words: &ArgMatches<'w>) -> Result<CaptureLis
 /// The reply to words that give none, or that clash.
 fn captures_in<'w, R>(request: &Request<'_, 'w, R>) -> Result<Replacements<'w>, Reply>
     ensures given { IfOk result (λ given. AreGiven (found_of request.now.words.now) given.inputs.items given.outputs.items) }
-    ensures wrong { IfErr result IsWrong }
+    ensures wrong { IfErr result (StopsAtWords (found_of request.now.words.now)) }
 {
-    let Ok(lists) = capture_lists(request.alloc, request.words) else {
-        return Err(without_memory(request.alloc, request.flag("json")));
-    };
-    let words = CaptureWords {
-        inputs: lists.inputs.as_slice(),
-        no_inputs: lists.no_inputs.as_slice(),
-        outputs: lists.outputs.as_slice(),
-        no_outputs: lists.no_outputs.as_slice(),
-    };
-    match Replacements::of_words(request.alloc, words) {
-        Ok(given) => Ok(given),
-        Err(WordProblem::Memory) => Err(without_memory(request.alloc, request.flag("json"))),
-        Err(problem) => Err(wrong(request.alloc, problem)),
-    }
+    let inputs = captures_by(request, Direction::In, "in", "no-in")?;
+    let outputs = captures_by(request, Direction::Out, "out", "no-out")?;
+    Ok(Replacements { inputs, outputs })
 }
 
 /// The fault of a capture with this name, with the words of its reason and what helps.
@@ -372,6 +379,14 @@ fn run_opened<K: CompiledPrograms, R: Files>(
     )
 }
 
+/// What a pipeline was loaded from: its own file, and those of its nodes.
+#[derive(Clone, Copy)]
+struct Loaded<'a> {
+    subject: Subject<'a>,
+    sources: &'a Sources,
+    file: &'a Given,
+}
+
 /// A pipeline that is loaded, and the files that were read for it.
 #[derive(Drop)]
 struct Ready<'a> {
@@ -510,13 +525,52 @@ fn after(alloc: Global, notes: Text, reply: Reply) -> Reply
     }
 }
 
+/// Runs a pipeline that is loaded over its captures, if it has all ports that captures are given to. Programs that are interpreted may be reported.
+///
+/// # Errors
+///
+/// The reply to a port that it does not have; or if memory is refused, or a capture is not opened.
+fn run_loaded<K: CompiledPrograms, R: Files>(
+    request: &Request<'_, '_, R>,
+    pipeline: Pipeline,
+    loaded: Loaded<'_>,
+    given: &Replacements<'_>,
+    pattern: Vec<u64>,
+    options: Options,
+    reports_interpreted: bool,
+) -> Result<Reply, Reply>
+    requires pattern { IsAscending 0 pattern.items }
+    requires taken { options.is_stdout_taken ≡ takes_stream given.now.outputs.items }
+    ensures runs { IfOk result (RunsNoted R.File.remaining pipeline pattern.items given.now.inputs.items given.now.outputs.items options.is_json) }
+    ensures stops { IfErr result (NeverBegins R.File.remaining pipeline given.now.inputs.items given.now.outputs.items) }
+{
+    let alloc = request.alloc;
+    if let Some(port) = given.missing(pipeline.ports()) {
+        return Err(no_node(alloc, Entry::Port(port)));
+    }
+    let mut notes = Text::new(alloc);
+    if reports_interpreted {
+        note_interpreted::<K>(&pipeline, &mut notes);
+    }
+    let Loaded {
+        subject,
+        sources,
+        file,
+    } = loaded;
+    let ready = ready_of(request, pipeline, subject, sources, Some(file))?;
+    match run_ready::<K, R>(request, ready, given, pattern, options) {
+        Ok(reply) => Ok(after(alloc, notes, reply)),
+        Err(reply) => Err(after(alloc, notes, reply)),
+    }
+}
+
 /// `dpv run FILE`.
 fn ran<K: CompiledPrograms, R: Files>(
     request: &Request<'_, '_, R>,
     reports_interpreted: bool,
 ) -> Result<Reply, Reply>
     ensures runs { IfOk result (RunsFile R.File.remaining (found_of request.now.words.now)) }
-    ensures undone { IfErr result IsUndone }
+    ensures stops { IfErr result (StopsRun R.File.remaining (found_of request.now.words.now)) }
 {
     let alloc = request.alloc;
     let pattern = refused_in(request)?;
@@ -525,30 +579,33 @@ fn ran<K: CompiledPrograms, R: Files>(
     let file = read_pipeline(request, options.is_json)?;
     let subject = file.subject();
     let sources = read_nodes(request, subject, None, How::Given, options.is_json)?;
-    let pipeline = match load(alloc, file.text(), &mut Lent(&sources), How::Given) {
-        Ok(pipeline) => pipeline,
-        Err(error) => return Err(unloaded(alloc, error, subject, &sources, options.is_json)),
+    let loaded = Loaded {
+        subject,
+        sources: &sources,
+        file: &file,
     };
-    if let Some(port) = given.missing(pipeline.ports()) {
-        return Err(no_node(alloc, Entry::Port(port)));
-    }
-    let mut notes = Text::new(alloc);
-    if reports_interpreted {
-        note_interpreted::<K>(&pipeline, &mut notes);
-    }
-    let ready = ready_of(request, pipeline, subject, &sources, Some(&file))?;
-    match run_ready::<K, R>(request, ready, &given, pattern, options) {
-        Ok(reply) => Ok(after(alloc, notes, reply)),
-        Err(reply) => Err(after(alloc, notes, reply)),
+    match load(alloc, file.text(), &mut Lent(&sources), How::Given) {
+        Ok(pipeline) => run_loaded::<K, R>(
+            request,
+            pipeline,
+            loaded,
+            &given,
+            pattern,
+            options,
+            reports_interpreted,
+        ),
+        Err(error) => Err(unloaded(alloc, error, subject, &sources, options.is_json)),
     }
 }
 
 /// `dpv run FILE`.
+#[tactic(auto, using(crate::proofs::Stops::run))]
 pub fn run_file<K: CompiledPrograms, R: Files>(
     request: &Request<'_, '_, R>,
     reports_interpreted: bool,
 ) -> Reply
-    ensures { RunsFile R.File.remaining (found_of request.now.words.now) result ⊎ IsUndone result }
+    ensures { RunsFile R.File.remaining (found_of request.now.words.now) result
+        ⊎ Stopped (StopsRun R.File.remaining (found_of request.now.words.now)) result }
 {
     match ran::<K, R>(request, reports_interpreted) {
         Ok(reply) | Err(reply) => reply,
@@ -573,7 +630,7 @@ fn run_single<R: Files>(
     requires port { HasOnePort env.now }
     requires region { IsRegionSize region }
     ensures runs { IfOk result (RunsSingle R.File.remaining env.now region files.entry) }
-    ensures undone { IfErr result IsUndone }
+    ensures stops { IfErr result (StopsSingle R.File.remaining env.now region files.entry) }
 {
     let alloc = request.alloc;
     let Ok(given) = Replacements::of_one(alloc, files.input, files.output) else {
@@ -597,8 +654,10 @@ fn run_single<R: Files>(
 }
 
 /// `dpv one NODE CERT IN OUT`.
+#[tactic(auto, using(crate::proofs::Stops::one))]
 pub fn run_one<R: Files>(request: &Request<'_, '_, R>) -> Reply
-    ensures { RunsOne R.File.remaining (found_of request.now.words.now) result ⊎ IsUndone result }
+    ensures { RunsOne R.File.remaining (found_of request.now.words.now) result
+        ⊎ Stopped (StopsOne R.File.remaining (found_of request.now.words.now)) result }
 {
     let files = SingleFiles {
         program: request.word("NODE"),
@@ -622,7 +681,9 @@ const ROOM: u32 = 2_176;
 
 /// The environment of `dpv filter`: that of `dpv one`, with buffers of this room and packets of this many segments.
 fn filter_env(room: u32, segs: u32) -> Option<Env>
-    ensures { IfSome result HasOnePort }
+    ensures port { IfSome result HasOnePort }
+    ensures env { IfSome result (λ env. env ≡ filter_port room segs) }
+    ensures none { IfNone result (IsNoEnv (filter_port room segs)) }
 {
     let pool = PoolSpec {
         count: COUNT,
@@ -660,7 +721,9 @@ fn option_in<R>(
     least: u32,
     most: u32,
 ) -> Result<u32, Reply>
-    ensures { IfErr result (λ reply. reply.status ≡ 2) }
+    ensures number { IfOk result (λ number. option_within (first_value (found_of request.now.words.now) name.now) usual least most ≡ Some number) }
+    ensures wrong { IfErr result (λ reply. (reply.status ≡ 2)
+        × (option_within (first_value (found_of request.now.words.now) name.now) usual least most ≡ None)) }
 {
     let Some(word) = request.value(name) else {
         return Ok(usual);
@@ -674,19 +737,33 @@ fn option_in<R>(
     }
 }
 
-/// `dpv filter PROGRAM IN OUT`.
-fn filtered<R: Files>(request: &Request<'_, '_, R>) -> Result<Reply, Reply>
-    ensures runs { IfOk result (RunsFilter R.File.remaining (found_of request.now.words.now)) }
-    ensures undone { IfErr result IsUndone }
+/// The environment that the words of `dpv filter` give.
+///
+/// # Errors
+///
+/// The reply to wrong words.
+fn filter_env_in<R>(request: &Request<'_, '_, R>) -> Result<Env, Reply>
+    ensures one { IfOk result HasOnePort }
+    ensures port { IfOk result (IsFilterPort (found_of request.now.words.now)) }
+    ensures wrong { IfErr result (λ reply. (reply.status ≡ 2) × HasWrongNumber (found_of request.now.words.now)) }
 {
     let room = option_in(request, "room", ROOM, MIN_PORT_ROOM, MAX_ROOM)?;
     let segs = option_in(request, "segs", 1, 1, u32::from(MAX_SEGMENTS))?;
-    let Some(env) = filter_env(room, segs) else {
-        return Err(wrong(
+    match filter_env(room, segs) {
+        Some(env) => Ok(env),
+        None => Err(wrong(
             request.alloc,
             "error: no pipeline has such --room and --segs",
-        ));
-    };
+        )),
+    }
+}
+
+/// `dpv filter PROGRAM IN OUT`.
+fn filtered<R: Files>(request: &Request<'_, '_, R>) -> Result<Reply, Reply>
+    ensures runs { IfOk result (RunsFilter R.File.remaining (found_of request.now.words.now)) }
+    ensures stops { IfErr result (StopsFilter R.File.remaining (found_of request.now.words.now)) }
+{
+    let env = filter_env_in(request)?;
     let files = SingleFiles {
         program: request.word("PROGRAM"),
         cert: None,
@@ -698,8 +775,10 @@ fn filtered<R: Files>(request: &Request<'_, '_, R>) -> Result<Reply, Reply>
 }
 
 /// `dpv filter PROGRAM IN OUT`.
+#[tactic(auto, using(crate::proofs::Stops::filter))]
 pub fn run_filter<R: Files>(request: &Request<'_, '_, R>) -> Reply
-    ensures { RunsFilter R.File.remaining (found_of request.now.words.now) result ⊎ IsUndone result }
+    ensures { RunsFilter R.File.remaining (found_of request.now.words.now) result
+        ⊎ Stopped (StopsFilter R.File.remaining (found_of request.now.words.now)) result }
 {
     match filtered(request) {
         Ok(reply) | Err(reply) => reply,

@@ -1,0 +1,13 @@
+-- `given_of`: a table that gets routes is not there.
+use Rattle.std.proofs.Common.{inr, sym}
+use Rattle.dp_cli.proofs.reading.given_of.Goals as goal
+
+pub returns-in-Some : goal.returns-in-Some
+returns-in-Some c = inr (inr (record {
+  text = c.as_slice-2.result.now;
+  config = c.in-Ok-survey_of.survey.config;
+  reads = c.in-Ok-survey_of.ensures.ok;
+  table = c.in-Some.table;
+  lacked = rw (← c.env.ensures, ← c.as_slice-3.ensures.value) (sym c.in-Some.ensures);
+  status_is = c.no_table.ensures;
+}))

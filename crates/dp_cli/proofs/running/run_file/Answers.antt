@@ -1,0 +1,7 @@
+-- `run_file`: what stopped ends with another status than 0.
+use Rattle.std.proofs.Common.{inr}
+use Rattle.dp_cli.proofs.Stops.{run}
+use Rattle.dp_cli.proofs.running.run_file.Goals as goal
+
+pub returns-in-Ok-2 : goal.returns-in-Ok-2
+returns-in-Ok-2 g c = inr (c.in-Ok.ensures.stops, run g.R.File.Read.remaining _ c.in-Ok.reply c.in-Ok.ensures.stops)
