@@ -9,7 +9,7 @@ use Rattle.dp_engine.specs.Engines.{EngineState}
 use Rattle.dp_host.specs.Calls.{frames_by_port}
 use Rattle.dp_host.specs.declared.refusal.Refusal.{Refusal}
 use Rattle.dp_host.specs.Hosts.{Arrays, PassAnswers, batch_size_of, empty_room}
-use Rattle.dp_host.specs.Bursts.{behind}
+use Rattle.dp_host.specs.Bursts.{beyond}
 
 -- ---- lists
 
@@ -49,12 +49,12 @@ offsets_within time offset most (f ∷ frames) le =
 
 -- ---- what a pass fills
 
--- what a pass fills is within the arrays, its records lie in what it fills, and behind that nothing changes
+-- what a pass fills is within the arrays, its records lie in what it fills, and beyond that nothing changes
 pub record Fills (had has : Arrays) (filled : Room) : Type 0 where
   pub records : filled.records ≤ length has.records
   pub bytes : filled.bytes ≤ length has.bytes
   pub offsets : AllByRecursion (λ (r : SentRecord). r.offset ≤ filled.bytes) (take filled.records has.records)
-  pub rest : behind filled has ≡ behind filled had
+  pub rest : beyond filled has ≡ beyond filled had
 
 -- a front that has as many elements as it should is within the list
 front_within : {X : Type 0} (n : ℕ) (xs : List X) → length (take n xs) ≡ n → n ≤ length xs

@@ -7,15 +7,15 @@ use Rattle.dp_host.specs.declared.numbers.BurstFrame.{BurstFrame}
 use Rattle.dp_host.specs.declared.refusal.Refusal.{Refusal}
 use Rattle.dp_host.specs.Hosts.{Arrays, PassAnswers, empty_room}
 
--- a record whose bytes lie behind this many others
+-- a record whose bytes lie after this many others
 abbrev pub shifted : ℕ → SentRecord → SentRecord
 shifted before r = record r { offset = r.offset + before }
 
--- what of the arrays is left behind a part that is filled
-abbrev pub behind : Room → Arrays → Arrays
-behind part arrays = record { records = drop part.records arrays.records; bytes = drop part.bytes arrays.bytes }
+-- what of the arrays is left beyond a part that is filled
+abbrev pub beyond : Room → Arrays → Arrays
+beyond part arrays = record { records = drop part.records arrays.records; bytes = drop part.bytes arrays.bytes }
 
--- two parts of a batch, one behind the other
+-- two parts of a batch, one after the other
 abbrev pub joined : Room → Room → Room
 joined before part = record { records = before.records + part.records; bytes = before.bytes + part.bytes }
 
@@ -31,12 +31,12 @@ pub record FramePassed (old : Option EngineState) (missing : Refusal) (new : Opt
   pub bytes_are : take part.bytes has.bytes ≡ take part.bytes made.bytes
 
 -- The passes of frames, in order, each into what those before it left of the arrays. With this much of the batch before the first of them, `filled` is
--- what is filled at the end. Behind that nothing changes.
+-- what is filled at the end. Beyond that nothing changes.
 abbrev pub Bursts : Option EngineState → Refusal → Option EngineState → ℕ → List BurstFrame → List BurstFrame → Room → Arrays → Arrays → Room → Type 0
 Bursts old missing new port [] [] before had has filled = (new ≡ old) × (has ≡ had) × (filled ≡ before)
 Bursts old missing new port (f ∷ frames) (f' ∷ frames') before had has filled =
     (mid : Option EngineState) × (part : Room) × FramePassed old missing mid port f f' before part had has
-    × Bursts mid missing new port frames frames' (joined before part) (behind part had) (behind part has) filled
+    × Bursts mid missing new port frames frames' (joined before part) (beyond part had) (beyond part has) filled
 Bursts old missing new port [] (f' ∷ frames') before had has filled = ⊥
 Bursts old missing new port (f ∷ frames) [] before had has filled = ⊥
 

@@ -14,7 +14,7 @@ use Rattle.dp_host.specs.declared.refusal.Refusal.{Refusal}
 use Rattle.dp_host.specs.declared.refusal.Refusal.TheVariants as refusal
 use Rattle.dp_host.specs.Calls.{Call, Event, Passed, HasServedCalls, arrival_of}
 use Rattle.dp_host.specs.Hosts.{Arrays, outcome_number, refusal_number}
-use Rattle.dp_host.specs.Bursts.{Bursts, behind, joined}
+use Rattle.dp_host.specs.Bursts.{Bursts, beyond, joined}
 
 -- ---- what a burst serves
 
@@ -88,7 +88,7 @@ bursts_serve old missing new port (f ∷ frames) (f' ∷ frames') before had has
             answers = taken.answers;
             sent = taken.sent;
           } in
-          let more = bursts_serve mid missing new port frames frames' (joined before part) (behind part had) (behind part has) filled rest p
+          let more = bursts_serve mid missing new port frames frames' (joined before part) (beyond part had) (beyond part has) filled rest p
           (Passed c ∷ events) (taken.serves p events was) in
           let low : nat_lt f'.answer 16 ≡ true = ap (λ n. nat_lt n 16) taken.number ∙ outcomes_low taken.turn.outcome in
           record {
@@ -97,7 +97,7 @@ bursts_serve old missing new port (f ∷ frames) (f' ∷ frames') before had has
             served = more.served;
           }
       | inr (why, number, refused, same, same_arrays, empty) ↦
-          let more = bursts_serve mid missing new port frames frames' (joined before part) (behind part had) (behind part has) filled rest p events
+          let more = bursts_serve mid missing new port frames frames' (joined before part) (beyond part had) (beyond part has) filled rest p events
           (subst (λ e. HasServedCalls p events e) (sym same) was) in
           let high : nat_lt f'.answer 16 ≡ false = ap (λ n. nat_lt n 16) number ∙ refusals_high why in
           record {

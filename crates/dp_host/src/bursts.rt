@@ -2,7 +2,7 @@
 
 ghost use Rattle.std.specs.Prelude.{◌≡◌, ◌+◌, ◌<◌, ◌≤◌, length, map};
 ghost use Rattle.std.specs.List.{AllByRecursion};
-ghost use Rattle.dp_host.specs.Bursts.{BurstAnswers, FramePassed, behind, shifted};
+ghost use Rattle.dp_host.specs.Bursts.{BurstAnswers, FramePassed, beyond, shifted};
 
 use crate::host::{Host, passed};
 use crate::numbers::{BurstFrame, Room};
@@ -19,7 +19,7 @@ fn shift(records: &mut [SentRecord], before: u64)
 }
 
 // Passes in a frame of a burst, which has filled this much of a batch, into what is left of it; returns how much of that it fills.
-fn passed_behind(
+fn passed_beyond(
     host: &mut Host,
     port: u32,
     frame: &mut BurstFrame<'_>,
@@ -30,7 +30,7 @@ fn passed_behind(
     requires { before.bytes + length bytes.old < 18446744073709551616 }
     ensures passed { FramePassed host.old.running host.old.missing host.new.running port frame.old frame.new before result
         (record { records = records.old; bytes = bytes.old }) (record { records = records.new; bytes = bytes.new }) }
-    ensures rest { behind result (record { records = records.new; bytes = bytes.new }) ≡ behind result (record { records = records.old; bytes = bytes.old }) }
+    ensures rest { beyond result (record { records = records.new; bytes = bytes.new }) ≡ beyond result (record { records = records.old; bytes = bytes.old }) }
     ensures records_fit { result.records ≤ length records.old }
     ensures bytes_fit { result.bytes ≤ length bytes.old }
     ensures missing { host.new.missing ≡ host.old.missing }
@@ -73,7 +73,7 @@ pub(crate) fn burst(
         bytes: 0,
     };
     for k in 0..frames.len() {
-        let part = passed_behind(
+        let part = passed_beyond(
             host,
             port,
             &mut frames[k],

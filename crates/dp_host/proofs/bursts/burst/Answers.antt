@@ -15,31 +15,31 @@ loop-k-init c = record {
 pub offset_bounds-records-used : goal.offset_bounds-records-used
 offset_bounds-records-used c = let le = c.loop-k.invariant.so_far.within.records in search rules
 
-pub slice_bounds-passed_behind-count : goal.slice_bounds-passed_behind-count
-slice_bounds-passed_behind-count c = c.loop-k.invariant.so_far.within.records
+pub slice_bounds-passed_beyond-count : goal.slice_bounds-passed_beyond-count
+slice_bounds-passed_beyond-count c = c.loop-k.invariant.so_far.within.records
 
-pub slice_bounds-passed_behind-count-in-loop-k : goal.slice_bounds-passed_behind-count-in-loop-k
-slice_bounds-passed_behind-count-in-loop-k c = c.loop-k.invariant.so_far.within.bytes
+pub slice_bounds-passed_beyond-count-in-loop-k : goal.slice_bounds-passed_beyond-count-in-loop-k
+slice_bounds-passed_beyond-count-in-loop-k c = c.loop-k.invariant.so_far.within.bytes
 
-pub passed_behind-part-requires : goal.passed_behind-part-requires
-passed_behind-part-requires c =
+pub passed_beyond-part-requires : goal.passed_beyond-part-requires
+passed_beyond-part-requires c =
     omega (arith, lent_long c.loop-k.used (record { records = c.loop-k.records; bytes = c.loop-k.bytes }) c.loop-k.invariant.so_far.within)
 
 pub loop-k-preserved : goal.loop-k-preserved
 loop-k-preserved c =
-    let part = c.passed_behind-part.result in
-    let made : Arrays = record { records = c.passed_behind-part.new.records; bytes = c.passed_behind-part.new.bytes } in
+    let part = c.passed_beyond-part.result in
+    let made : Arrays = record { records = c.passed_beyond-part.new.records; bytes = c.passed_beyond-part.new.bytes } in
     let within : Within part made = record {
-      records = omega (arith, c.passed_behind-part.ensures.records_fit, c.passed_behind-part.auto.records);
-      bytes = omega (arith, c.passed_behind-part.ensures.bytes_fit, c.passed_behind-part.auto.bytes);
+      records = omega (arith, c.passed_beyond-part.ensures.records_fit, c.passed_beyond-part.auto.records);
+      bytes = omega (arith, c.passed_beyond-part.ensures.bytes_fit, c.passed_beyond-part.auto.bytes);
     } in
     record {
       so_far = one_more_lent c.args.host.now.running c.args.host.now.missing c.loop-k.host.missing c.args.port c.args.frames.now
           (record { records = c.args.records.now; bytes = c.args.bytes.now }) c.loop-k.k c.loop-k.host.running c.loop-k.frames c.loop-k.used
-          (record { records = c.loop-k.records; bytes = c.loop-k.bytes }) _ c.passed_behind-part.new.frame c.passed_behind-part.new.host.running part made
-          c.loop-k.invariant.so_far (omega arith) c.loop-k.invariant.missing c.passed_behind-part.ensures.passed c.passed_behind-part.ensures.rest within;
-      missing = c.passed_behind-part.ensures.missing ∙ c.loop-k.invariant.missing;
-      explanation = c.passed_behind-part.ensures.explanation ∙ c.loop-k.invariant.explanation;
+          (record { records = c.loop-k.records; bytes = c.loop-k.bytes }) _ c.passed_beyond-part.new.frame c.passed_beyond-part.new.host.running part made
+          c.loop-k.invariant.so_far (omega arith) c.loop-k.invariant.missing c.passed_beyond-part.ensures.passed c.passed_beyond-part.ensures.rest within;
+      missing = c.passed_beyond-part.ensures.missing ∙ c.loop-k.invariant.missing;
+      explanation = c.passed_beyond-part.ensures.explanation ∙ c.loop-k.invariant.explanation;
     }
 
 pub returns : goal.returns

@@ -3,7 +3,7 @@ use Rattle.std.proofs.Common.{◌≡◌, ap, ◌∙◌, sym, refl, arith, length
 use Rattle.std.proofs.lemmas.List.{drop_at, length-map, length-take-le, take_at}
 use Rattle.dp_engine.specs.declared.batch.SentRecord.{SentRecord}
 use Rattle.dp_host.proofs.Places.{Fills, all_within, pass_fills}
-use Rattle.dp_host.proofs.bursts.passed_behind.Goals as goal
+use Rattle.dp_host.proofs.bursts.passed_beyond.Goals as goal
 
 pub slice_bounds-shift-end : goal.slice_bounds-shift-end
 slice_bounds-shift-end c =
