@@ -9,8 +9,10 @@
 
 mod console;
 mod document;
+mod members;
 mod reply;
 
 pub use console::Console;
-pub use document::{Item, Members, Shown, document_of};
+pub use document::{Document, Item};
+pub use members::{Members, Shown, document_of};
 pub use reply::{DONE, FAULT, MEMORY, REFUSED, Reply, Text, USAGE};
