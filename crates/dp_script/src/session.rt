@@ -1,14 +1,13 @@
-//! A heap, and the blocks that a script holds of it.
+//! Runs a heap script: a heap, and the blocks that the script holds of it.
 
-ghost use Rattle.std.specs.Prelude.{◌≡◌, ◌+◌, [], All, IfOk, MatchResult, length};
+ghost use Rattle.std.specs.Prelude.{◌≡◌, ◌+◌, [], All, IfOk, IfSome, MatchResult, length};
 ghost use Rattle.dp_heap.specs.Elements.{count_of, is_busy};
+ghost use Rattle.dp_region.specs.Region.{IsRegionSize};
 
-use crate::command::Command;
-use dp_console::Text;
-use dp_heap::{Element, Heap, HeapError, State};
-use dp_region::{Block, Region};
+use dp_console::{FAULT, Reply, Text};
+use dp_heap::{Heap, HeapError, State};
+use dp_region::{Block, CACHE_LINE, MAX_REGION, MIN_REGION, Region};
 use std::alloc::Global;
-use std::fmt;
 
 /// A block that a script holds, by the number of its allocation.
 struct Held {
@@ -17,7 +16,7 @@ struct Held {
 }
 
 /// A heap and the blocks that a script holds of it, in the order of their numbers.
-pub struct Session {
+struct Session {
     heap: Heap,
     held: Vec<Held>,
     /// How many blocks were allocated.
@@ -26,39 +25,33 @@ pub struct Session {
     ghost counted: { count_of is_busy heap.elements ≡ length held.items },
 }
 
-/// An element, as `list` prints it.
-#[derive(Drop)]
-struct ElementLine(Element);
-
-impl fmt::Display for ElementLine {
-    fn fmt<W: fmt::Write>(&self, f: &mut fmt::Formatter<W>) -> fmt::Result {
-        let ElementLine(element) = self;
-        let (offset, size) = (element.offset, element.size);
-        match element.state {
-            State::Free => write!(f, "FREE {offset} + {size}"),
-            State::Busy => write!(f, "BUSY {offset} + {size} pad {}", element.pad),
-        }
+/// Parses a word as a number: decimal digits, at most 4,294,967,295.
+fn number(word: &str) -> Option<u32> {
+    if word.starts_with('+') {
+        None
+    } else {
+        word.parse().ok()
     }
 }
 
-/// The name of a refusal.
-fn name_of(error: HeapError) -> &'static str {
-    match error {
-        HeapError::ZeroSize => "ZeroSize",
-        HeapError::BadAlign => "BadAlign",
-        HeapError::NoRoom => "NoRoom",
+/// The size of the region that a line `region N` asks for, if a region may have it.
+fn region_size(line: &[u8]) -> Option<u32>
+    ensures { IfSome result IsRegionSize }
+{
+    let size = number(str::from_utf8(line).ok()?.strip_prefix("region ")?)?;
+    if size >= MIN_REGION && size <= MAX_REGION && size % CACHE_LINE == 0 {
+        Some(size)
+    } else {
+        None
     }
 }
 
 /// Says which block was allocated, and the element in which it lies.
 fn say_block(heap: &Heap, number: u32, offset: u32, out: &mut Text) {
     for element in heap.iter() {
-        if offset >= element.offset && offset - element.offset < element.size {
-            out.say(format_args!(
-                "{number} data {offset} element {} + {}\n",
-                element.offset, element.size
-            ));
-            return;
+        let (start, size) = (element.offset, element.size);
+        if offset >= start && offset - start < size {
+            return out.say(format_args!("{number} data {offset} element {start} + {size}\n"));
         }
     }
 }
@@ -78,19 +71,8 @@ fn request(heap: &mut Heap, size: u32, align: u32, zeros: bool) -> Result<Block,
 }
 
 impl Session {
-    /// Makes a heap over a region, with no block allocated.
-    pub fn over(alloc: Global, region: Region) -> Session
-        requires { region.lent ≡ [] }
-    {
-        Session {
-            heap: Heap::new(region),
-            held: Vec::new(alloc),
-            taken: 0,
-        }
-    }
-
     /// Frees the blocks in the order of their numbers, and closes the heap.
-    pub fn end(self) {
+    fn end(self) {
         let Session {
             heap,
             held,
@@ -122,51 +104,99 @@ impl Session {
                     }
                 }
             }
-            Err(error) => {
-                let (number, name) = (error.number(), name_of(error));
-                out.say(format_args!("refused {number} {name}\n"));
-            }
+            Err(HeapError::ZeroSize) => out.say("refused 1 ZeroSize\n"),
+            Err(HeapError::BadAlign) => out.say("refused 2 BadAlign\n"),
+            Err(HeapError::NoRoom) => out.say("refused 3 NoRoom\n"),
         }
     }
 
-    /// Frees the block of this number; returns whether it was held.
-    fn free(&mut self, number: u32, out: &mut Text) -> bool {
-        let Some(index) = self.held.iter().position(|held| held.number == number) else {
-            return false;
-        };
+    /// Frees the block of this number, if it is held.
+    fn free(&mut self, number: u32, out: &mut Text) -> Option<()> {
+        let index = self.held.iter().position(|held| held.number == number)?;
         let Held { number: _, block } = self.held.remove(index);
         self.heap.free(block);
         out.say(format_args!("freed {number}\n"));
-        true
+        Some(())
     }
 
     /// Says all elements.
     fn list(&self, out: &mut Text) {
         for element in self.heap.iter() {
-            let line = ElementLine(element);
-            out.say(format_args!("{line}\n"));
+            let (offset, size, pad) = (element.offset, element.size, element.pad);
+            match element.state {
+                State::Free => out.say(format_args!("FREE {offset} + {size}\n")),
+                State::Busy => out.say(format_args!("BUSY {offset} + {size} pad {pad}\n")),
+            }
         }
     }
 
     /// Says the sums over the elements.
     fn stats(&self, out: &mut Text) {
         let all = self.heap.stats();
-        out.say(format_args!(
-            "free {} bytes {} busy {} bytes {}\n",
-            all.free_count, all.free_bytes, all.busy_count, all.busy_bytes
-        ));
+        out.say(format_args!("free {} bytes {} ", all.free_count, all.free_bytes));
+        out.say(format_args!("busy {} bytes {}\n", all.busy_count, all.busy_bytes));
     }
 
-    /// Runs a command. Returns whether it may come here: it is no second region, and frees no block that is not held.
-    pub fn run(&mut self, command: Command, out: &mut Text) -> bool {
-        match command {
-            Command::Region(_) => return false,
-            Command::Free(number) => return self.free(number, out),
-            Command::Malloc { size, align } => self.take(size, align, false, out),
-            Command::Zmalloc { size, align } => self.take(size, align, true, out),
-            Command::List => self.list(out),
-            Command::Stats => self.stats(out),
+    /// Runs a line, if it is a command that may come here: no second region, and none that frees a block that is not held.
+    fn run(&mut self, line: &[u8], out: &mut Text) -> Option<()> {
+        let text = str::from_utf8(line).ok()?;
+        match text.split_once(' ') {
+            None if text == "list" => self.list(out),
+            None if text == "stats" => self.stats(out),
+            Some(("free", block)) => self.free(number(block)?, out)?,
+            Some((word, rest)) if word == "malloc" || word == "zmalloc" => {
+                let (size, align) = rest.split_once(' ')?;
+                self.take(number(size)?, number(align)?, word == "zmalloc", out);
+            }
+            _ => return None,
         }
-        true
+        Some(())
     }
+}
+
+/// Runs the lines of a script after the first, which has this index; returns the number of the one at fault, if one is.
+fn run_lines(session: &mut Session, script: &[u8], first: usize, out: &mut Text) -> Option<usize> {
+    for (k, line) in script.split(|b| *b == b'\n').enumerate() {
+        if k > first && !line.is_empty() && session.run(line, out).is_none() {
+            return Some(k.saturating_add(1));
+        }
+        if out.has_failed {
+            return None;
+        }
+    }
+    None
+}
+
+/// Runs the lines of a script that are not empty; returns the number of the one at fault, if one is.
+fn run_script(alloc: Global, script: &[u8], out: &mut Text) -> Option<usize> {
+    let mut lines = script.split(|b| *b == b'\n').enumerate();
+    let (first, line) = lines.find(|(_, line)| !line.is_empty())?;
+    let Some(size) = region_size(line) else {
+        return Some(first.saturating_add(1));
+    };
+    let Ok(region) = Region::new(alloc, size) else {
+        out.has_failed = true;
+        return None;
+    };
+    let mut session = Session {
+        heap: Heap::new(region),
+        held: Vec::new(alloc),
+        taken: 0,
+    };
+    let fault = run_lines(&mut session, script, first, out);
+    session.end();
+    fault
+}
+
+/// Runs a heap script. The status is 0; or 3 if a line is at fault, which is reported, after what the lines before it print. If memory is refused,
+/// the reply is not whole.
+pub fn mem_reply(alloc: Global, script: &[u8]) -> Reply {
+    let mut reply = Reply::new(alloc);
+    if let Some(number) = run_script(alloc, script, &mut reply.out) {
+        reply.status = FAULT;
+        reply
+            .err
+            .say(format_args!("fault: line {number} bad command\n"));
+    }
+    reply
 }
