@@ -33,11 +33,7 @@ map_err (Err b) more p = more b p
 pub fault_status : (f : Fault) (s : ℕ) → s ≡ status_of f → (s ≡ 3) ⊎ (s ≡ 4)
 fault_status fault.Memory s e = inr e
 fault_status (fault.File name because) s e = inl e
-fault_status fault.Region s e = inl e
 fault_status (fault.Pipeline error file) s e = inl e
-fault_status (fault.Input port cause because) s e = inl e
-fault_status (fault.Output port because) s e = inl e
-fault_status (fault.Line line) s e = inl e
 
 abbrev other : WordProblem → Type 0
 other problems.Memory = ⊥

@@ -1,7 +1,5 @@
 -- The lines of faults, and their exit statuses.
 use Rattle.std.specs.Prelude.{◌≡◌, ℕ, List, ◌++◌, codes, Option}
-use Rattle.std.specs.Fmt.{decimal}
-use Rattle.dp_pcap.specs.Causes.{number_of}
 use Rattle.dp_pipe.specs.Causes as pipe
 use Rattle.dp_pipe.specs.declared.error.PipeError.{PipeError}
 use Rattle.dp_pipe.specs.declared.error.PipeError.TheVariants as error
@@ -18,11 +16,7 @@ status_of _ = 3
 abbrev pub text_of : Fault → List ℕ
 text_of fault.Memory = codes "fault: memory"
 text_of (fault.File name because) = codes "fault: file " ++ name.now
-text_of fault.Region = codes "fault: region"
 text_of (fault.Pipeline error file) = codes "fault: pipeline " ++ pipe.text_of error
-text_of (fault.Input port cause because) = codes "fault: input " ++ (decimal port ++ (codes " cause " ++ decimal (number_of cause)))
-text_of (fault.Output port because) = codes "fault: output " ++ decimal port
-text_of (fault.Line line) = codes "fault: line " ++ (decimal line ++ codes " bad command")
 
 -- the fault of a pipeline that is not loaded: its cause, and for a file that was not read perhaps that file
 abbrev pub IsFaultOf : PipeError → Fault → Type 0

@@ -3,37 +3,20 @@
 ghost use Rattle.std.specs.Prelude.{◌≡◌};
 ghost use Rattle.dp_sources.specs.Faults.{IsFaultOf, status_of};
 
-use crate::cause_words::PipelineWords;
 use crate::source::{ReadError, Sources, Unread};
 use crate::subject::Subject;
 use dp_console::{FAULT, MEMORY, Text};
-use dp_model::Entry;
-use dp_pcap::PcapError;
-use dp_pipe::PipeError;
+use dp_lang::Cause;
+use dp_pipe::{PipeError, RouteError};
 use std::fmt;
 
-/// Why something is at fault.
+/// Why a file is at fault.
 #[derive(Clone, Copy)]
 pub enum FaultReason<'a> {
-    /// A file cannot be opened, made, read or written, or is too long.
+    /// It cannot be opened, made, read or written, or is too long.
     Read(ReadError),
-    /// What is wrong with a capture.
-    Capture(PcapError),
-    /// What is wrong with a pipeline.
-    Pipeline(PipeError),
     /// What is wrong, in words.
     Words(&'a str),
-}
-
-impl fmt::Display for FaultReason<'_> {
-    fn fmt<W: fmt::Write>(&self, f: &mut fmt::Formatter<W>) -> fmt::Result {
-        match *self {
-            FaultReason::Read(error) => write!(f, "{error}"),
-            FaultReason::Capture(error) => write!(f, "{error}"),
-            FaultReason::Pipeline(error) => write!(f, "{}", PipelineWords(error)),
-            FaultReason::Words(words) => write!(f, "{words}"),
-        }
-    }
 }
 
 /// What is reported after the line of a fault.
@@ -46,41 +29,15 @@ pub struct Because<'a> {
     pub help: Option<&'a str>,
 }
 
-impl<'a> Because<'a> {
-    /// A reason, and the file that it is about if the line does not name it.
-    pub fn in_file(file: Option<&'a str>, reason: FaultReason<'a>) -> Because<'a> {
-        Because {
-            file,
-            reason,
-            help: None,
-        }
-    }
-}
-
-/// What ended a command. Ports are given by number, and lines count from 1.
+/// What ended a command.
 #[derive(Clone, Copy)]
 pub enum Fault<'a> {
     /// Memory was refused.
     Memory,
     /// A file with this name cannot be opened, made or read, is too long, or may not be written.
     File(&'a str, Because<'a>),
-    /// The region of a pipeline is smaller than it needs.
-    Region,
     /// A pipeline is not loaded, with its cause, 1 to 7. The fifth is about a file that was not read.
     Pipeline(PipeError, Option<Unread<'a>>),
-    /// The input of a port is not a capture, or its reader failed.
-    Input {
-        port: u8,
-        cause: PcapError,
-        because: Because<'a>,
-    },
-    /// The writer of a port's output failed.
-    Output {
-        port: u8,
-        because: Because<'a>,
-    },
-    /// A line of a heap script is no command.
-    Line(u64),
 }
 
 impl fmt::Display for Fault<'_> {
@@ -93,24 +50,57 @@ impl fmt::Display for Fault<'_> {
         match self {
             Fault::Memory => write!(f, "fault: memory"),
             Fault::File(name, _) => write!(f, "fault: file {name}"),
-            Fault::Region => write!(f, "fault: region"),
             Fault::Pipeline(error, _) => write!(f, "fault: pipeline {error}"),
-            Fault::Input { port, cause, .. } => {
-                write!(f, "fault: input {port} cause {}", cause.number())
-            }
-            Fault::Output { port, .. } => write!(f, "fault: output {port}"),
-            Fault::Line(line) => write!(f, "fault: line {line} bad command"),
         }
     }
+}
+
+/// Adds what is wrong with a pipeline.
+fn say_cause(error: PipeError, err: &mut Text) {
+    let words = match error {
+        PipeError::BadEnv(error) => return err.say(error),
+        PipeError::BadTable {
+            cause: RouteError::Refused(error),
+            ..
+        } => return err.say(error),
+        PipeError::BadCert(_, fault) => return err.say(fault),
+        PipeError::NotToml => "the text is not TOML",
+        PipeError::BadKey { .. } =>
+            "a key is missing, unknown, of the wrong type or out of its range",
+        PipeError::BadTable { .. } => "the route is not written A.B.C.D/DEPTH HOP",
+        PipeError::NotInferred { .. } => "no certificate is inferred",
+        PipeError::Refused { .. } => "the program is refused",
+        PipeError::Memory | PipeError::File(_) => "the file cannot be fetched",
+        PipeError::Asm(_, fault) => {
+            if fault.line != 0 {
+                err.say(format_args!("line {}: ", fault.line));
+            }
+            match fault.cause {
+                Cause::BadByte => "there is a byte that no program has",
+                Cause::BadWord => "no instruction has this name",
+                Cause::BadOperands => "there are too few or too many operands",
+                Cause::BadRegister =>
+                    "an operand is not a register: p0 to p7 for a packet, r0 to r7 for a number",
+                Cause::BadNumber => "an operand is not a number, or is out of its range",
+                Cause::BadLabel => "a label is not a name",
+                Cause::LabelTwice => "the label was given before",
+                Cause::LabelUnknown => "the label is not given, or no instruction follows it",
+                Cause::Size => "there is no instruction, or there are more than 1024",
+            }
+        }
+    };
+    err.say(words);
 }
 
 impl<'a> Fault<'a> {
     /// The fault of a file that was not read.
     pub fn of_unread(file: Unread<'a>) -> Fault<'a> {
-        Fault::File(
-            file.name,
-            Because::in_file(None, FaultReason::Read(file.error)),
-        )
+        let because = Because {
+            file: None,
+            reason: FaultReason::Read(file.error),
+            help: None,
+        };
+        Fault::File(file.name, because)
     }
 
     /// The fault of a pipeline that is not loaded. A file that was not read is not named.
@@ -133,49 +123,32 @@ impl<'a> Fault<'a> {
         }
     }
 
-    /// What is reported after its line.
-    fn because(self) -> Option<Because<'a>> {
-        match self {
-            Fault::File(_, because)
-            | Fault::Input { because, .. }
-            | Fault::Output { because, .. } => Some(because),
-            Fault::Pipeline(_, Some(file)) => Some(Because::in_file(
-                Some(file.name),
-                FaultReason::Read(file.error),
-            )),
-            Fault::Pipeline(error, None) => Some(Because::in_file(
-                None,
-                FaultReason::Pipeline(error),
-            )),
-            Fault::Memory | Fault::Region | Fault::Line(_) => None,
-        }
-    }
-
     /// Adds its line, and the lines with the file, the reason and what helps.
     pub fn say(self, err: &mut Text) {
         err.say(format_args!("{self}\n"));
-        if let Some(Because { file, reason, help }) = self.because() {
-            if let Some(file) = file {
-                err.say(format_args!("  file: {file}\n"));
+        match self {
+            Fault::Memory => {}
+            Fault::File(_, Because { file, reason, help }) => {
+                if let Some(file) = file {
+                    err.say(format_args!("  file: {file}\n"));
+                }
+                match reason {
+                    FaultReason::Read(error) => err.say(format_args!("  because: {error}\n")),
+                    FaultReason::Words(words) => err.say(format_args!("  because: {words}\n")),
+                }
+                if let Some(help) = help {
+                    err.say(format_args!("  help: {help}\n"));
+                }
             }
-            err.say(format_args!("  because: {reason}\n"));
-            if let Some(help) = help {
-                err.say(format_args!("  help: {help}\n"));
+            Fault::Pipeline(_, Some(Unread { name, error })) => {
+                err.say(format_args!("  file: {name}\n  because: {error}\n"));
+            }
+            Fault::Pipeline(error, None) => {
+                err.say("  because: ");
+                say_cause(error, err);
+                err.say("\n");
             }
         }
-    }
-}
-
-/// The file of a node that was not read, if one was not.
-pub(crate) fn unread_of<'a>(
-    node: Entry,
-    subject: Subject<'a>,
-    sources: &'a Sources,
-) -> Option<Unread<'a>> {
-    let asked = subject.node(node)?;
-    match sources.find(asked.program)?.unread() {
-        Some(file) => Some(file),
-        None => sources.find(asked.cert?)?.unread(),
     }
 }
 
@@ -184,7 +157,7 @@ pub fn fault_of<'a>(error: PipeError, subject: Subject<'a>, sources: &'a Sources
     ensures { IsFaultOf error result }
 {
     match error {
-        PipeError::File(node) => Fault::Pipeline(error, unread_of(node, subject, sources)),
+        PipeError::File(node) => Fault::Pipeline(error, subject.unread(node, sources)),
         _ => Fault::of_pipeline(error),
     }
 }

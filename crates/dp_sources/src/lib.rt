@@ -7,23 +7,19 @@
 //! text is at fault, and what helps. They find the fault again in the text; no contract has their words.
 #![tactic(auto)]
 
-mod cause_words;
 mod fault;
-mod host;
-mod keys;
-mod nearest;
 mod pipeline_help;
 mod program_help;
 mod remedy;
 mod route_files;
-mod routes;
 mod source;
 mod subject;
 
 pub use fault::{Because, Fault, FaultReason, fault_of};
-pub use host::{MAX_NODES, entry_at, folder_with, read, read_sources};
 pub use pipeline_help::say_pipeline_help;
 pub use remedy::{program_of, say_remedy};
 pub use route_files::{RouteFile, joined};
 pub use source::{Lent, ReadError, Source, Sources, Unread};
-pub use subject::{Asked, ONE_REGION, Subject, load_one, one_env};
+pub use subject::{
+    Asked, MAX_NODES, ONE_REGION, Subject, entry_at, folder_with, one_env, read, read_sources,
+};

@@ -1,31 +1,93 @@
 //! Says which line of a pipeline file is at fault, and what helps.
 
-use crate::keys::key_fault;
+use crate::program_help::{Nearest, say_place};
 use crate::route_files::{RouteFile, route_in};
-use crate::routes::RouteHelp;
 use dp_console::Text;
 use dp_lang::{SourceLine, source_line};
+use dp_lpm::{LpmError, MAX_GROUPS, MAX_RULES};
 use dp_model::EnvError;
 use dp_pipe::{Part, PipeError, RouteError};
+use dp_region::{CACHE_LINE, MAX_REGION, MIN_REGION};
 use std::alloc::Global;
-use std::fmt::Display;
 use toml::{Table, Value};
 
-/// Says where in a file a fault is, by its line if that is known, and what helps.
-pub fn say_place<H: Display + Drop>(
-    err: &mut Text,
-    file: &str,
-    line: Option<SourceLine<'_>>,
-    help: H,
-) {
-    match line {
-        Some(SourceLine { number, text }) => {
-            err.say(format_args!("  at: {file}:{number}: {text}\n"));
-        }
-        None => err.say(format_args!("  at: {file}\n")),
-    }
-    err.say(format_args!("  help: {help}\n"));
+/// What the value of a key must be.
+#[derive(Clone, Copy)]
+enum Wanted {
+    /// A whole number from the first to the second.
+    Number(u32, u32),
+    Region,
+    PowerOfTwo,
+    Text,
+    Texts,
+    Tables,
 }
+
+impl Wanted {
+    /// Whether a value is what it must be.
+    fn is_met_by(self, value: &Value) -> bool {
+        let n = match value {
+            Value::Integer(n) => u32::try_from(*n).unwrap_or(u32::MAX),
+            _ => u32::MAX,
+        };
+        match (self, value) {
+            (Wanted::Number(least, most), _) => least <= n && n <= most,
+            (Wanted::Region, _) => MIN_REGION <= n && n <= MAX_REGION && n % CACHE_LINE == 0,
+            (Wanted::PowerOfTwo, _) => 2 <= n && n <= 65_536 && n.is_power_of_two(),
+            (Wanted::Text, Value::String(_)) => true,
+            (Wanted::Texts, Value::Array(all)) => all.iter().all(|one| one.is_str()),
+            (Wanted::Tables, Value::Array(all)) => all.iter().all(|one| one.is_table()),
+            _ => false,
+        }
+    }
+
+    /// Says what a value must be, and ends the line.
+    fn say(self, err: &mut Text) {
+        match self {
+            Wanted::Number(least, most) => {
+                err.say(format_args!("a whole number from {least} to {most}\n"));
+            }
+            Wanted::Region => err.say(format_args!(
+                "a multiple of {CACHE_LINE} from {MIN_REGION} to {MAX_REGION}\n"
+            )),
+            Wanted::PowerOfTwo => err.say("a power of two from 2 to 65536\n"),
+            Wanted::Text => err.say("a text in quotes\n"),
+            Wanted::Texts => err.say("an array of texts, as [\"10.0.0.0/8 1\"]\n"),
+            Wanted::Tables => err.say("given by tables in double brackets, as [[port]]\n"),
+        }
+    }
+}
+
+/// All keys: the part of each, its name, what its value must be, and whether it may be missing.
+static KEYS: [(Part, &'static str, Wanted, bool); 27] = [
+    (Part::Top, "region", Wanted::Region, false),
+    (Part::Top, "pool", Wanted::Tables, true),
+    (Part::Top, "table", Wanted::Tables, true),
+    (Part::Top, "ring", Wanted::Tables, true),
+    (Part::Top, "port", Wanted::Tables, true),
+    (Part::Pool, "count", Wanted::Number(1, 65_535), false),
+    (Part::Pool, "cache", Wanted::Number(0, 512), false),
+    (Part::Pool, "room", Wanted::Number(0, 4_096), false),
+    (Part::Table, "rules", Wanted::Number(1, MAX_RULES), false),
+    (Part::Table, "groups", Wanted::Number(0, MAX_GROUPS), false),
+    (Part::Table, "routes", Wanted::Texts, false),
+    (Part::Ring, "count", Wanted::PowerOfTwo, false),
+    (Part::Ring, "share", Wanted::Number(0, 2), false),
+    (Part::Ring, "head", Wanted::Number(0, 65_535), false),
+    (Part::Ring, "tail", Wanted::Number(0, 65_535), false),
+    (Part::Ring, "first", Wanted::Number(0, 65_535), false),
+    (Part::Ring, "last", Wanted::Number(0, 65_535), false),
+    (Part::Ring, "segs", Wanted::Number(1, 64), false),
+    (Part::Ring, "node", Wanted::Text, false),
+    (Part::Ring, "cert", Wanted::Text, true),
+    (Part::Port, "pool", Wanted::Number(0, 7), false),
+    (Part::Port, "segs", Wanted::Number(1, 64), false),
+    (Part::Port, "queue", Wanted::PowerOfTwo, false),
+    (Part::Port, "node", Wanted::Text, false),
+    (Part::Port, "cert", Wanted::Text, true),
+    (Part::Port, "in", Wanted::Text, false),
+    (Part::Port, "out", Wanted::Text, false),
+];
 
 /// The name of the array of a part.
 fn array_of(part: Part) -> &'static str {
@@ -50,6 +112,90 @@ fn key_in(line: &str) -> Option<&str> {
     Some(key.trim().trim_matches('"'))
 }
 
+/// The line that assigns a value to a key of a part, or else the header of the part. The part is the one with this index among its kind.
+fn line_of_key<'a>(text: &'a str, part: Part, index: usize, key: &str) -> Option<SourceLine<'a>> {
+    let (mut headers, mut is_inside, mut header) = (0usize, part == Part::Top, None);
+    for (k, line) in text.lines().enumerate() {
+        let (number, text) = (k.saturating_add(1), line.trim());
+        let array = array_header(text);
+        if text.starts_with('[') {
+            let is_one = array == Some(array_of(part));
+            is_inside = is_one && headers == index;
+            headers = headers.saturating_add(usize::from(is_one));
+            if is_inside {
+                header = Some(SourceLine { number, text });
+            }
+        }
+        if is_inside && key_in(text) == Some(key) || part == Part::Top && array == Some(key) {
+            return Some(SourceLine { number, text });
+        }
+    }
+    header
+}
+
+/// How often a line has a text in quotes.
+fn count_quoted(line: &str, text: &str) -> usize {
+    let pieces = line.split('"').chain(line.split('\''));
+    pieces.filter(|piece| *piece == text).count()
+}
+
+/// The values of an array at a key.
+fn array_at<'a>(table: &'a Table, key: &str) -> &'a [Value] {
+    match table.get(key) {
+        Some(Value::Array(elements)) => elements.as_slice(),
+        _ => &[],
+    }
+}
+
+/// Says what helps with a route that is not one.
+fn say_syntax(words: &str, err: &mut Text) {
+    let (_address, after) = words.split_once('/').unwrap_or(("", ""));
+    let (depth, hop) = after.split_once(' ').unwrap_or((after, ""));
+    let hop = hop.trim();
+    if depth == "0" {
+        err.say(format_args!(
+            "DEPTH is 1 to 32, and all addresses are two routes: \"0.0.0.0/1 {hop}\", \"128.0.0.0/1 {hop}\"\n"
+        ));
+    } else {
+        err.say(
+            "a route is A.B.C.D/DEPTH HOP, as 10.1.0.0/16 3: DEPTH 1 to 32, HOP at most 16777215\n",
+        );
+    }
+}
+
+/// Says what helps with a route of a table that was refused.
+fn say_route_help(table: &Table, words: &str, error: RouteError, err: &mut Text) {
+    let (key, most) = match error {
+        RouteError::Refused(LpmError::RulesFull) => ("rules", MAX_RULES),
+        RouteError::Refused(LpmError::GroupsFull) => ("groups", MAX_GROUPS),
+        _ => return say_syntax(words, err),
+    };
+    let number = match table.get(key) {
+        Some(Value::Integer(number)) => *number,
+        _ => 0,
+    };
+    err.say(format_args!("{key} = {number} is too small for it: "));
+    if number < i64::from(most) {
+        err.say(format_args!("raise {key}, to at most {most}\n"));
+    } else {
+        err.say(format_args!("no table may have more {key}\n"));
+    }
+}
+
+/// The search for the key that is meant by one that no part of this kind has, if it is one.
+fn unknown<'a>(part: Part, table: &Table, key: &'a str) -> Option<Nearest<'a>> {
+    let mut nearest = Nearest::to(key);
+    for (of, name, wanted, _) in &KEYS {
+        if *of == part && *name == key {
+            return None;
+        }
+        if *of == part && (table.get(*name).is_none() || matches!(wanted, Wanted::Tables)) {
+            nearest.offer(name);
+        }
+    }
+    Some(nearest)
+}
+
 /// A pipeline file: its name, its text, its table, and the files with more routes.
 #[derive(Clone, Copy)]
 struct PipelineFile<'a> {
@@ -59,144 +205,99 @@ struct PipelineFile<'a> {
     routes: &'a [RouteFile],
 }
 
-/// The line that assigns a value to a key of a part, or else the header of the part. The part is the one with this index among its kind.
-fn line_of_key<'a>(text: &'a str, part: Part, index: usize, key: &str) -> Option<SourceLine<'a>> {
-    let mut headers = 0;
-    let mut is_inside = part == Part::Top;
-    let mut header = None;
-    for (k, line) in text.lines().enumerate() {
-        let here = SourceLine {
-            number: k.saturating_add(1),
-            text: line.trim(),
-        };
-        if here.text.starts_with('[') {
-            let is_one = array_header(here.text) == Some(array_of(part));
-            is_inside = is_one && headers == index;
-            headers = if is_one {
-                headers.saturating_add(1)
-            } else {
-                headers
-            };
-            header = if is_inside { Some(here) } else { header };
-        }
-        if is_inside && key_in(here.text) == Some(key)
-            || part == Part::Top && array_header(here.text) == Some(key)
-        {
-            return Some(here);
-        }
-    }
-    header
-}
-
 impl<'a> PipelineFile<'a> {
-    /// Says where the line of a key is, and what helps.
-    fn say_at<H: Display + Drop>(
-        self,
-        err: &mut Text,
-        part: Part,
-        index: usize,
-        key: &str,
-        help: H,
-    ) {
-        say_place(
-            err,
-            self.name,
-            line_of_key(self.text, part, index, key),
-            help,
-        );
-    }
-
-    /// The tables of an array at the top.
-    fn tables(self, part: Part) -> &'a [Value] {
-        match self.top.get(array_of(part)) {
-            Some(Value::Array(elements)) => elements.as_slice(),
-            _ => &[],
-        }
-    }
-
     /// The table of a part.
     fn table(self, part: Part, index: usize) -> Option<&'a Table> {
         match part {
             Part::Top => Some(self.top),
-            _ => self.tables(part).get(index)?.as_table(),
+            _ => array_at(self.top, array_of(part)).get(index)?.as_table(),
         }
     }
 
-    /// Says which key of a part is at fault. Returns whether one is.
+    /// How many parts of a kind there are.
+    fn count(self, part: Part) -> usize {
+        array_at(self.top, array_of(part)).len()
+    }
+
+    /// Says which key of a part is at fault: the first that is not known, else one that is missing or has another value. Returns whether one is.
     fn say_key(self, err: &mut Text, part: Part, index: usize) -> bool {
         let Some(table) = self.table(part, index) else {
             return false;
         };
-        match key_fault(part, table) {
-            Some(fault) => {
-                self.say_at(err, part, index, fault.key, fault);
-                true
+        for key in table.keys() {
+            if let Some(nearest) = unknown(part, table, key.as_str()) {
+                say_place(
+                    err,
+                    self.name,
+                    line_of_key(self.text, part, index, key.as_str()),
+                );
+                err.say(format_args!("  help: there is no key '{key}' here"));
+                nearest.say(err);
+                return true;
             }
-            None => false,
         }
-    }
-
-    /// Says what is wrong with a part whose keys are each in range.
-    fn say_whole(self, err: &mut Text, part: Part, index: usize) {
-        let pools = self.tables(Part::Pool).len();
-        match part {
-            Part::Pool => self.say_at(err, part, index, "cache", "3 x cache is at most 2 x count"),
-            Part::Ring => self.say_at(
-                err,
-                part,
-                index,
-                "share",
-                "with one segment 'first' and 'last' are equal, and no packet is longer than the room of a buffer",
-            ),
-            _ => self.say_at(
-                err,
-                part,
-                index,
-                "pool",
-                format_args!(
-                    "there are {pools} pools, counted from 0, and a port needs one with a room of at least 129"
-                ),
-            ),
+        for (of, name, wanted, is_optional) in &KEYS {
+            let (is_met, missing) = match table.get(*name) {
+                Some(value) => (wanted.is_met_by(value), ["", ""]),
+                None => (*is_optional, ["the key ", " is missing: it"]),
+            };
+            if *of == part && !is_met {
+                say_place(err, self.name, line_of_key(self.text, part, index, name));
+                err.say(format_args!("  help: {}'{name}'{} has to be ", missing[0], missing[1]));
+                wanted.say(err);
+                return true;
+            }
         }
-    }
-
-    /// Says that there are too few or too many parts.
-    fn say_number(self, err: &mut Text) {
-        let (pools, tables) = (
-            self.tables(Part::Pool).len(),
-            self.tables(Part::Table).len(),
-        );
-        let (rings, ports) = (self.tables(Part::Ring).len(), self.tables(Part::Port).len());
-        let help = format_args!(
-            "pools are 1 to 8 (here {pools}), tables 0 to 4 ({tables}), rings 0 to 8 ({rings}), ports 1 to 8 ({ports})"
-        );
-        say_place(err, self.name, None, help);
+        false
     }
 
     /// Says why there is no environment.
     fn say_environment(self, err: &mut Text, error: EnvError) {
-        let (part, index) = match error {
-            EnvError::BadPool(k) => (Part::Pool, usize::from(k)),
-            EnvError::BadRing(k) => (Part::Ring, usize::from(k)),
-            EnvError::BadPort(k) => (Part::Port, usize::from(k)),
-            EnvError::BadNumber => return self.say_number(err),
-            EnvError::TooMany => {
-                let help = "the counts of all pools together are at most 65535";
-                return say_place(err, self.name, None, help);
-            }
+        let (part, place, key) = match error {
+            EnvError::BadPool(k) => (Part::Pool, k, "cache"),
+            EnvError::BadRing(k) => (Part::Ring, k, "share"),
+            EnvError::BadPort(k) => (Part::Port, k, "pool"),
+            EnvError::BadNumber | EnvError::TooMany => (Part::Top, 0, ""),
         };
-        if !self.say_key(err, part, index) {
-            self.say_whole(err, part, index);
+        let index = usize::from(place);
+        if part == Part::Top {
+            say_place(err, self.name, None);
+        } else if self.say_key(err, part, index) {
+            return;
+        } else {
+            say_place(err, self.name, line_of_key(self.text, part, index, key));
+        }
+        let (pools, tables) = (self.count(Part::Pool), self.count(Part::Table));
+        let (rings, ports) = (self.count(Part::Ring), self.count(Part::Port));
+        match error {
+            EnvError::BadPool(_) => err.say("  help: 3 x cache is at most 2 x count\n"),
+            EnvError::BadRing(_) => err.say(
+                "  help: with one segment 'first' and 'last' are equal, and no packet is longer than the room of a buffer\n",
+            ),
+            EnvError::BadPort(_) => err.say(format_args!(
+                "  help: there are {pools} pools, counted from 0, and a port needs one with a room of at least 129\n"
+            )),
+            EnvError::TooMany => {
+                err.say("  help: the counts of all pools together are at most 65535\n");
+            }
+            EnvError::BadNumber => err.say(format_args!(
+                "  help: pools are 1 to 8 (here {pools}), tables 0 to 4 ({tables}), rings 0 to 8 ({rings}), ports 1 to 8 ({ports})\n"
+            )),
         }
     }
 
-    /// The line of a route of a table, or else that of all its routes.
-    fn line_of_route(self, table: &Table, index: usize, route: usize) -> Option<SourceLine<'a>> {
+    /// The line on which a route of a table stands in quotes after this number of equal ones, or else that of all its routes.
+    fn line_of_route(self, index: usize, words: &str, equal: usize) -> Option<SourceLine<'a>> {
         let first = line_of_key(self.text, Part::Table, index, "routes")?;
-        match line_of_text(self.text, first.number, routes_of(table), route) {
-            Some(line) => Some(line),
-            None => Some(first),
+        let (before, mut left) = (first.number.saturating_sub(1), equal);
+        for (k, line) in self.text.lines().enumerate().skip(before) {
+            let count = count_quoted(line, words);
+            if left < count {
+                return source_line(self.text, k.saturating_add(1));
+            }
+            left = left.saturating_sub(count);
         }
+        Some(first)
     }
 
     /// Says which route of a table is refused: one of the pipeline file, or of a file with more routes.
@@ -204,102 +305,43 @@ impl<'a> PipelineFile<'a> {
         let Some(table) = self.table(Part::Table, index) else {
             return;
         };
-        let own = routes_of(table);
-        let given = match route.checked_sub(own.len()) {
-            Some(place) => route_in(self.routes, index, place),
-            None => None,
+        let own = array_at(table, "routes");
+        let words = match own.get(route) {
+            Some(Value::String(words)) => words.as_str(),
+            _ => "",
         };
-        let (file, line, words) = match given {
+        let equal = own
+            .iter()
+            .take(route)
+            .filter(|one| one.as_str() == Some(words));
+        let line = self.line_of_route(index, words, equal.count());
+        let place = route.checked_sub(own.len());
+        let (file, line, words) = match route_in(self.routes, index, place) {
             Some((file, line)) => (file, Some(line), line.text),
-            None => (
-                self.name,
-                self.line_of_route(table, index, route),
-                text_at(own, route),
-            ),
+            None => (self.name, line, words),
         };
-        let help = RouteHelp {
-            table,
-            route,
-            words,
-            error,
-        };
-        say_place(err, file, line, help);
+        say_place(err, file, line);
+        err.say(format_args!("  help: route {route} is '{words}'; "));
+        say_route_help(table, words, error, err);
     }
-}
-
-/// The routes of a table.
-fn routes_of(table: &Table) -> &[Value] {
-    match table.get("routes") {
-        Some(Value::Array(routes)) => routes.as_slice(),
-        _ => &[],
-    }
-}
-
-/// A text of an array, and nothing for another value.
-fn text_at(values: &[Value], index: usize) -> &str {
-    match values.get(index) {
-        Some(Value::String(text)) => text.as_str(),
-        _ => "",
-    }
-}
-
-/// How often a line has a text in quotes.
-fn count_quoted(line: &str, text: &str) -> usize {
-    let double = line.split('"').filter(|piece| *piece == text).count();
-    let single = line.split('\'').filter(|piece| *piece == text).count();
-    double.saturating_add(single)
-}
-
-/// How many texts of an array before this one equal it.
-fn count_before(values: &[Value], index: usize) -> usize {
-    let mut count = 0usize;
-    for k in 0..index {
-        if text_at(values, k) == text_at(values, index) {
-            count = count.saturating_add(1);
-        }
-    }
-    count
-}
-
-/// The line on which a text of an array stands in quotes, if the array begins on this line.
-fn line_of_text<'a>(
-    text: &'a str,
-    first: usize,
-    values: &[Value],
-    index: usize,
-) -> Option<SourceLine<'a>> {
-    let mut before = count_before(values, index);
-    for (k, line) in text.lines().enumerate() {
-        let number = k.saturating_add(1);
-        let count = if number < first {
-            0
-        } else {
-            count_quoted(line, text_at(values, index))
-        };
-        if before < count {
-            let text = line.trim();
-            return Some(SourceLine { number, text });
-        }
-        before = before.saturating_sub(count);
-    }
-    None
 }
 
 /// Says what helps if a program is given in place of a pipeline file. Returns whether it is one, by its name.
 fn say_program(err: &mut Text, file: &str) -> bool {
-    if let Some(name) = file.strip_suffix(".pkt") {
-        let help = format_args!(
-            "it is a program of the language pkt: dpv filter {file} IN OUT runs it, and dpv build {file} > {name}.dpv compiles it for a pipeline"
-        );
-        say_place(err, file, None, help);
-        return true;
+    let name = file.strip_suffix(".pkt");
+    if name.is_none() && !file.ends_with(".dpv") {
+        return false;
     }
-    if file.ends_with(".dpv") {
-        let help = format_args!("it is a program: dpv filter {file} IN OUT runs it");
-        say_place(err, file, None, help);
-        return true;
+    say_place(err, file, None);
+    match name {
+        Some(name) => err.say(format_args!(
+            "  help: it is a program of the language pkt: dpv filter {file} IN OUT runs it, and dpv build {file} > {name}.dpv compiles it for a pipeline\n"
+        )),
+        None => err.say(format_args!(
+            "  help: it is a program: dpv filter {file} IN OUT runs it\n"
+        )),
     }
-    false
+    true
 }
 
 /// The line with the byte at this offset.
@@ -319,14 +361,12 @@ pub fn say_pipeline_help(
     error: PipeError,
     err: &mut Text,
 ) {
-    if let PipeError::Memory = error {
-        return;
-    }
-    if say_program(err, file) {
+    if matches!(error, PipeError::Memory) || say_program(err, file) {
         return;
     }
     let Ok(text) = std::str::from_utf8(text) else {
-        return say_place(err, file, None, "a pipeline file is UTF-8");
+        say_place(err, file, None);
+        return err.say("  help: a pipeline file is UTF-8\n");
     };
     let top = match toml::table_from_str(alloc, text) {
         Ok(top) => top,
@@ -336,7 +376,8 @@ pub fn say_pipeline_help(
                 Some(span) => line_of_offset(text, span.start),
                 None => None,
             };
-            return say_place(err, file, line, error.message());
+            say_place(err, file, line);
+            return err.say(format_args!("  help: {}\n", error.message()));
         }
     };
     let file = PipelineFile {

@@ -5,11 +5,10 @@ ghost use Rattle.dp_pipe.specs.Nodes.{HasNoProgram, IsProgramOf};
 ghost use Rattle.dp_sources.specs.Sources.{files_of};
 ghost use Rattle.dp_sources.specs.Subjects.{asked_node};
 
-use crate::fault::unread_of;
-use crate::host::folder_of;
-use crate::program_help::{say_certificate_place, say_program_help};
-use crate::source::{Lent, ReadError, Sources, Unread};
-use crate::subject::{Asked, Subject};
+use crate::program_help::say_program_help;
+use crate::source::{Lent, ReadError, Sources};
+use crate::subject::{Asked, Subject, folder_of};
+use dp_cert::Cause;
 use dp_console::Text;
 use dp_infer::{InferError, infer};
 use dp_lang::{AsmError, Program, assemble};
@@ -49,119 +48,75 @@ pub fn program_of(alloc: Global, sources: &Sources, asked: Asked<'_>) -> Result<
     }
 }
 
-/// Whether a node's program is accepted with an inferred certificate, if there is memory to tell.
-fn is_inferred(alloc: Global, sources: &Sources, env: &Env, asked: Asked<'_>) -> Option<bool> {
-    let program = program_of(alloc, sources, asked).ok()?;
-    match infer(alloc, &program, env, asked.node) {
-        Ok(_) => Some(true),
-        Err(InferError::NoCert { .. }) => Some(false),
-        Err(InferError::Memory) => None,
-    }
+/// The number of instructions of a node's program, and whether it is accepted with an inferred certificate, if there is memory to tell.
+fn inferred(alloc: Global, sources: &Sources, env: &Env, of: Asked<'_>) -> Option<(usize, bool)> {
+    let program = program_of(alloc, sources, of).ok()?;
+    let is_accepted = match infer(alloc, &program, env, of.node) {
+        Ok(_) => true,
+        Err(InferError::NoCert { .. }) => false,
+        Err(InferError::Memory) => return None,
+    };
+    Some((program.instrs().len(), is_accepted))
 }
 
-/// Says how to write another certificate for a program, or who says why none is inferred.
-fn say_new_certificate(
-    subject: Subject<'_>,
-    asked: Asked<'_>,
-    cert: &str,
-    is_inferred: bool,
-    err: &mut Text,
-) {
-    let (program, which) = (asked.program, Which(asked.node));
-    match (subject, is_inferred) {
-        (Subject::Pipeline { file, .. }, true) => err.say(format_args!(
-            "  help: leave out the key cert, or dpv infer {file} {which} > {cert}\n"
+/// Says how to write another certificate than one that is not read or does not fit, or who says why none is inferred.
+fn say_cure(of: Subject<'_>, asked: Asked<'_>, is_inferred: bool, is_read: bool, err: &mut Text) {
+    let (program, cert, which) = (asked.program, asked.cert.unwrap_or(""), Which(asked.node));
+    let (accepted, none) = if is_read {
+        (
+            "the program itself is accepted with an inferred certificate: ",
+            "",
+        )
+    } else {
+        ("", "none is inferred: leave out the key cert, and ")
+    };
+    match of {
+        Subject::Pipeline { file, .. } if is_inferred => err.say(format_args!(
+            "  help: {accepted}leave out the key cert, or dpv infer {file} {which} > {cert}\n"
         )),
-        (Subject::Pipeline { file, .. }, false) => err.say(format_args!(
-            "  help: none is inferred: leave out the key cert, and dpv explain {file} {which} explains why\n"
-        )),
-        (Subject::Single { .. }, true) => {
-            err.say(format_args!("  help: dpv infer-one {program} > {cert}\n"));
+        Subject::Pipeline { file, .. } => {
+            err.say(format_args!("  help: {none}dpv explain {file} {which} explains why\n"));
         }
-        (Subject::Single { .. }, false) => err.say(format_args!(
+        Subject::Single { .. } if is_inferred => {
+            err.say(format_args!("  help: {accepted}dpv infer-one {program} > {cert}\n"));
+        }
+        Subject::Single { .. } if is_read => {
+            err.say(format_args!("  help: dpv explain-one {program} {cert} explains why\n"));
+        }
+        Subject::Single { .. } => err.say(format_args!(
             "  help: none is inferred: dpv explain-one {program} explains why\n"
         )),
     }
 }
 
-/// Says what is wrong with a node's certificate, and what helps.
+/// Says which line of a node's certificate is at fault, or that it does not fit the program, and what helps.
 fn say_certificate(
     alloc: Global,
     subject: Subject<'_>,
     sources: &Sources,
     asked: Asked<'_>,
-    fault: dp_cert::Fault,
+    error: PipeError,
     err: &mut Text,
-) {
-    let Some(name) = asked.cert else { return };
-    let Some(text) = sources.get(name) else {
-        return
-    };
-    let Ok(program) = program_of(alloc, sources, asked) else {
-        return
-    };
-    let count = program.instrs().len();
-    say_certificate_place(name, text, fault, asked.program, count, err);
-    if let Some(is_inferred) = is_inferred(alloc, sources, subject.env(), asked) {
-        say_new_certificate(subject, asked, name, is_inferred, err);
-    }
-}
-
-/// Says where a file is that was not found, if it is in the folder of the pipeline file.
-fn say_folder(subject: Subject<'_>, sources: &Sources, node: Entry, err: &mut Text) {
-    let Some(
-        Unread {
-            error: ReadError::IsBeside(_),
-            ..
-        },
-    ) = unread_of(node, subject, sources)
-    else {
-        return;
-    };
-    if let Subject::Pipeline { file, .. } = subject
-        && let Some(folder) = folder_of(file)
-    {
-        err.say(format_args!("  help: run dpv in {folder}\n"));
-    }
-}
-
-/// Says who explains why a node of a pipeline has no certificate.
-fn say_explain(subject: Subject<'_>, asked: Asked<'_>, err: &mut Text) {
-    let which = Which(asked.node);
-    let Subject::Pipeline { file, .. } = subject else {
-        return
-    };
-    let begins = match asked.cert {
-        Some(_) => "leave out the key cert, and ",
-        None => "",
-    };
-    err.say(format_args!("  help: {begins}dpv explain {file} {which} explains why\n"));
-}
-
-/// Says that the given certificate of a refused program does not fit it, and what helps.
-fn say_unfit(
-    subject: Subject<'_>,
-    asked: Asked<'_>,
-    cert: &str,
-    is_inferred: bool,
-    err: &mut Text,
-) {
-    let (program, which) = (asked.program, Which(asked.node));
-    err.say(format_args!("  because: the certificate {cert} does not fit the program {program}\n"));
-    match (subject, is_inferred) {
-        (Subject::Pipeline { file, .. }, true) => err.say(format_args!(
-            "  help: the program itself is accepted with an inferred certificate: leave out the key cert, or dpv infer {file} {which} > {cert}\n"
-        )),
-        (Subject::Pipeline { file, .. }, false) => {
-            err.say(format_args!("  help: dpv explain {file} {which} explains why\n"));
+) -> Option<()> {
+    let (program, cert) = (asked.program, asked.cert?);
+    let text = sources.get(cert)?;
+    let (count, is_inferred) = inferred(alloc, sources, subject.env(), asked)?;
+    match error {
+        PipeError::BadCert(_, fault) if fault.cause == Cause::BadCount => {
+            let lines = text.iter().filter(|byte| **byte == b'\n').count();
+            let rows = lines.saturating_sub(1);
+            err.say(format_args!(
+                "  at: {cert}: it has {rows} rows, and {program} has {count} instructions\n"
+            ));
         }
-        (Subject::Single { .. }, true) => err.say(format_args!(
-            "  help: the program itself is accepted with an inferred certificate: dpv infer-one {program} > {cert}\n"
+        PipeError::BadCert(_, fault) => err.say(format_args!("  at: {cert}:{}\n", fault.line)),
+        _ => err.say(format_args!(
+            "  because: the certificate {cert} does not fit the program {program}\n"
         )),
-        (Subject::Single { .. }, false) => {
-            err.say(format_args!("  help: dpv explain-one {program} {cert} explains why\n"));
-        }
     }
+    let is_read = !matches!(error, PipeError::BadCert(_, _));
+    say_cure(subject, asked, is_inferred, is_read, err);
+    Some(())
 }
 
 /// Says what helps, after it was said why a node is not loaded or has no verdict: the line of its program or certificate that is at fault and a cure;
@@ -184,21 +139,30 @@ pub fn say_remedy(
     let Some(asked) = subject.node(node) else {
         return
     };
-    match (error, asked.cert) {
-        (PipeError::File(_), _) => say_folder(subject, sources, node, err),
-        (PipeError::NotInferred { .. }, _) => say_explain(subject, asked, err),
+    match (error, subject) {
+        (PipeError::File(_), Subject::Pipeline { file, .. }) => {
+            if let Some(unread) = subject.unread(node, sources)
+                && let ReadError::IsBeside(_) = unread.error
+                && let Some(folder) = folder_of(file)
+            {
+                err.say(format_args!("  help: run dpv in {folder}\n"));
+            }
+        }
         (PipeError::Asm(_, fault), _) => {
             if let Some(text) = sources.get(asked.program) {
                 say_program_help(asked.program, text, fault, err);
             }
         }
-        (PipeError::BadCert(_, fault), _) => {
-            say_certificate(alloc, subject, sources, asked, fault, err);
+        (PipeError::NotInferred { .. }, Subject::Pipeline { file, .. }) => {
+            let begins = match asked.cert {
+                Some(_) => "leave out the key cert, and ",
+                None => "",
+            };
+            let which = Which(node);
+            err.say(format_args!("  help: {begins}dpv explain {file} {which} explains why\n"));
         }
-        (_, Some(cert)) => {
-            if let Some(is_inferred) = is_inferred(alloc, sources, subject.env(), asked) {
-                say_unfit(subject, asked, cert, is_inferred, err);
-            }
+        (PipeError::BadCert(_, _) | PipeError::Refused { .. }, _) => {
+            say_certificate(alloc, subject, sources, asked, error, err);
         }
         _ => {}
     }

@@ -24,13 +24,6 @@ fn has_route(line: &str) -> bool {
     !line.is_empty() && !line.starts_with('#')
 }
 
-/// Whether all characters of a line are printable ASCII.
-fn is_printable(line: &str) -> bool {
-    line.as_bytes()
-        .iter()
-        .all(|byte| matches!(*byte, b' '..=b'~'))
-}
-
 impl RouteFile {
     /// Its text. It is empty if the file is not UTF-8.
     fn text(&self) -> &str {
@@ -44,45 +37,43 @@ impl RouteFile {
 
     /// The number of its first line that has a route with a character that is not printable ASCII.
     pub fn strange_line(&self) -> Option<usize> {
-        let mut number = 0usize;
-        for line in self.text().lines() {
-            number = number.saturating_add(1);
-            if has_route(line) && !is_printable(line) {
-                return Some(number);
+        for (k, line) in self.text().lines().enumerate() {
+            let is_printable = line
+                .as_bytes()
+                .iter()
+                .all(|byte| matches!(*byte, b' '..=b'~'));
+            if has_route(line) && !is_printable {
+                return Some(k.saturating_add(1));
             }
         }
         None
     }
 
-    /// The line of a route of the file, by its place from 0; or the number of routes, if there are no more.
-    fn route(&self, place: usize) -> Result<SourceLine<'_>, usize> {
-        let (mut number, mut routes) = (0usize, 0usize);
-        for text in self.text().lines() {
-            number = number.saturating_add(1);
-            if has_route(text) {
-                if routes == place {
-                    return Ok(SourceLine { number, text });
-                }
-                routes = routes.saturating_add(1);
+    /// The line of a route of the file, if that many are left before it; else as many fewer are left.
+    fn route(&self, left: &mut usize) -> Option<SourceLine<'_>> {
+        for (k, text) in self.text().lines().enumerate() {
+            if has_route(text) && *left == 0 {
+                let number = k.saturating_add(1);
+                return Some(SourceLine { number, text });
             }
+            *left = left.saturating_sub(usize::from(has_route(text)));
         }
-        Err(routes)
+        None
     }
 }
 
-/// The file and the line of a route that files give a table, by its place from 0 among those.
-pub(crate) fn route_in(
+/// The file and the line of a route that files give a table, by its place from 0 among those, if it has one.
+pub fn route_in(
     files: &[RouteFile],
     table: usize,
-    place: usize,
+    place: Option<usize>,
 ) -> Option<(&str, SourceLine<'_>)> {
-    let mut left = place;
+    let mut left = place?;
     for file in files {
-        if file.table == table {
-            match file.route(left) {
-                Ok(line) => return Some((file.source.name.as_str(), line)),
-                Err(routes) => left = left.saturating_sub(routes),
-            }
+        if file.table == table
+            && let Some(line) = file.route(&mut left)
+        {
+            return Some((file.source.name.as_str(), line));
         }
     }
     None
@@ -97,7 +88,7 @@ fn routes_of(top: &mut Table, table: usize) -> Option<&mut Vec<Value>> {
 }
 
 /// Adds the routes of a file to those of its table, if the pipeline has it.
-fn add_file(alloc: Global, file: &RouteFile, top: &mut Table) -> Result<(), AllocError> {
+fn add_routes(alloc: Global, file: &RouteFile, top: &mut Table) -> Result<(), AllocError> {
     let Some(routes) = routes_of(top, file.table) else {
         return Ok(());
     };
@@ -112,7 +103,7 @@ fn add_file(alloc: Global, file: &RouteFile, top: &mut Table) -> Result<(), Allo
 /// A pipeline's text with the routes of files.
 fn printed(alloc: Global, top: &mut Table, files: &[RouteFile]) -> Result<String, Error> {
     for file in files {
-        add_file(alloc, file, &mut *top)?;
+        add_routes(alloc, file, &mut *top)?;
     }
     toml::table_to_string(alloc, top)
 }

@@ -2,7 +2,7 @@
 
 ghost use Rattle.std.specs.Prelude.{◌≡◌, IfErr, IfOk, Some, find, option_map, string_bytes};
 ghost use Rattle.std.specs.Str.{bytes_eq};
-ghost use Rattle.dp_sources.specs.Sources.{bytes_of, files_of};
+ghost use Rattle.dp_sources.specs.Sources.{files_of};
 
 use dp_pipe::{FetchFault, Files};
 use std::alloc::Global;
@@ -44,42 +44,26 @@ pub struct Source {
     pub error: Option<ReadError>,
 }
 
+impl Source {
+    /// Why it was not read, if it was not.
+    pub fn unread(&self) -> Option<Unread<'_>> {
+        let error = self.error?;
+        let name = self.name.as_str();
+        Some(Unread { name, error })
+    }
+}
+
 /// The programs and certificates of a command, each file once.
 #[derive(Drop)]
 pub struct Sources {
     pub files: Vec<Source>,
 }
 
-impl Source {
-    /// Its bytes, if it was read.
-    fn bytes(&self) -> Option<&[u8]>
-        ensures { option_map (λ bytes. bytes.now) result ≡ bytes_of self.now }
-    {
-        if self.error.is_none() {
-            Some(self.bytes.as_slice())
-        } else {
-            None
-        }
-    }
-
-    /// Why it was not read, if it was not.
-    pub fn unread(&self) -> Option<Unread<'_>> {
-        match self.error {
-            Some(error) => Some(Unread {
-                name: self.name.as_str(),
-                error,
-            }),
-            None => None,
-        }
-    }
-}
-
 impl Sources {
     /// No files.
     pub fn new(alloc: Global) -> Sources {
-        Sources {
-            files: Vec::new(alloc),
-        }
+        let files = Vec::new(alloc);
+        Sources { files }
     }
 
     /// The file of this name.
@@ -94,8 +78,8 @@ impl Sources {
         ensures { option_map (λ bytes. bytes.now) result ≡ files_of self.now name.now }
     {
         match self.find(name) {
-            Some(file) => file.bytes(),
-            None => None,
+            Some(file) if file.error.is_none() => Some(file.bytes.as_slice()),
+            _ => None,
         }
     }
 }
@@ -111,12 +95,12 @@ impl Files for Lent<'_> {
     ghost contents = { λ lent. Some (files_of lent.0.now) };
 
     fn fetch(&mut self, alloc: Global, name: &str) -> Result<Vec<u8>, FetchFault> {
-        match self.0.get(name) {
-            Some(bytes) => match bytes.to_vec(alloc) {
-                Ok(bytes) => Ok(bytes),
-                Err(_) => Err(FetchFault::Memory),
-            },
-            None => Err(FetchFault::Missing),
+        let Some(bytes) = self.0.get(name) else {
+            return Err(FetchFault::Missing);
+        };
+        match bytes.to_vec(alloc) {
+            Ok(bytes) => Ok(bytes),
+            Err(_) => Err(FetchFault::Memory),
         }
     }
 }

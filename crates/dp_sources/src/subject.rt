@@ -1,18 +1,33 @@
-//! What a command is about: the nodes of a pipeline, or one program.
+//! What a command is about: the nodes of a pipeline, or one program; and how its files are read.
 
-ghost use Rattle.std.specs.Prelude.{◌≡◌, IfErr, IfOk, Some, option_map};
-ghost use Rattle.dp_pipe.specs.Nodes.{Fails};
-ghost use Rattle.dp_pipe.specs.Singles.{IsSinglePlan, single_node};
-ghost use Rattle.dp_sources.specs.Sources.{files_of};
-ghost use Rattle.dp_sources.specs.Subjects.{asked_node, env_of, node_in, node_of, one_port};
+ghost use Rattle.std.specs.Prelude.{◌≡◌, option_map};
+ghost use Rattle.dp_sources.specs.Subjects.{asked_node, entry_at, env_of, node_of, one_port};
 
-use crate::source::{Lent, Sources};
+use crate::source::{ReadError, Source, Sources, Unread};
+use dp_console::Text;
 use dp_model::{Entry, Env, PoolSpec, PortSpec};
-use dp_pipe::{PipeError, Pipeline, SingleFiles, Survey, load_single};
-use std::alloc::Global;
+use dp_pipe::{How, MAX_FILE, Survey};
+use std::alloc::{AllocError, Global};
+use std::fs;
+use std::io::{ErrorKind, Read};
+use std::rt::Files;
 
 /// The number of bytes of the region of `dpv one`.
 pub const ONE_REGION: u32 = 262_144;
+
+/// The number of nodes that a pipeline can have.
+pub const MAX_NODES: u8 = 16;
+
+/// The node with this index: eight ports, then eight rings.
+pub fn entry_at(index: u8) -> Entry
+    ensures { result ≡ entry_at index }
+{
+    if index < 8 {
+        Entry::Port(index)
+    } else {
+        Entry::Ring(index - 8)
+    }
+}
 
 /// The environment of `dpv one`: a pool of 64 buffers with room for 2,176 bytes and no cache, and a port that takes packets of one segment.
 pub fn one_env() -> Env
@@ -32,22 +47,6 @@ pub fn one_env() -> Env
         Ok(env) => env,
         Err(_) => unreachable!(),
     }
-}
-
-/// Loads the pipeline of `dpv one` from the files that were read.
-///
-/// # Errors
-///
-/// Those of the node's program and certificate.
-pub fn load_one(
-    alloc: Global,
-    names: SingleFiles<'_>,
-    sources: &Sources,
-) -> Result<Pipeline, PipeError>
-    ensures loaded { IfOk result (IsSinglePlan (Some (files_of sources.now)) one_port 262144 names.entry) }
-    ensures fails { IfErr result (Fails (Some (files_of sources.now)) one_port (single_node names.entry)) }
-{
-    load_single(alloc, one_env(), ONE_REGION, names, &mut Lent(sources))
 }
 
 /// A node with the names of its files.
@@ -76,19 +75,6 @@ pub enum Subject<'a> {
     },
 }
 
-/// The node of a pipeline with this entry.
-fn asked_in<'a>(survey: &'a Survey, node: Entry) -> Option<Asked<'a>>
-    ensures { option_map asked_node result ≡ node_in survey.now.config node }
-{
-    let program = survey.program(node)?;
-    let cert = survey.cert(node);
-    Some(Asked {
-        node,
-        program,
-        cert,
-    })
-}
-
 impl<'a> Subject<'a> {
     /// The environment of its programs.
     pub fn env(self) -> &'a Env
@@ -104,14 +90,126 @@ impl<'a> Subject<'a> {
     pub fn node(self, node: Entry) -> Option<Asked<'a>>
         ensures { option_map asked_node result ≡ node_of self.entry node }
     {
-        match self {
-            Subject::Pipeline { survey, .. } => asked_in(survey, node),
-            Subject::Single { program, cert, .. } if node == Entry::Port(0) => Some(Asked {
-                node,
-                program,
-                cert,
-            }),
-            Subject::Single { .. } => None,
+        let (program, cert) = match self {
+            Subject::Pipeline { survey, .. } => (survey.program(node)?, survey.cert(node)),
+            Subject::Single { program, cert, .. } if node == Entry::Port(0) => (program, cert),
+            Subject::Single { .. } => return None,
+        };
+        Some(Asked {
+            node,
+            program,
+            cert,
+        })
+    }
+
+    /// The file of a node that was not read, if one was not.
+    pub(crate) fn unread(self, node: Entry, sources: &'a Sources) -> Option<Unread<'a>> {
+        let asked = self.node(node)?;
+        match sources.find(asked.program)?.unread() {
+            Some(file) => Some(file),
+            None => sources.find(asked.cert?)?.unread(),
         }
     }
+}
+
+/// The folder of a file, as its name has it.
+pub(crate) fn folder_of(file: &str) -> Option<&str> {
+    let (folder, _name) = file.rsplit_once('/')?;
+    Some(if folder.is_empty() { "/" } else { folder })
+}
+
+/// The folder of a pipeline file, if that has a file of this name.
+pub fn folder_with<'a, R: Files>(
+    rt: &R,
+    alloc: Global,
+    file: &'a str,
+    name: &str,
+) -> Option<&'a str> {
+    let folder = folder_of(file)?;
+    if name.starts_with('/') {
+        return None;
+    }
+    let mut path_text = Text::new(alloc);
+    path_text.say(format_args!("{folder}/{name}"));
+    let path = str::from_utf8(path_text.bytes.as_slice()).unwrap_or("");
+    match fs::metadata(rt, path) {
+        Ok(metadata) if !metadata.is_dir() && !path_text.has_failed => Some(folder),
+        _ => None,
+    }
+}
+
+/// Reads the file of this name, or says why it is not read.
+///
+/// # Errors
+///
+/// `AllocError` if memory is refused.
+pub fn read<R: Files>(rt: &R, alloc: Global, name: &str) -> Result<Source, AllocError> {
+    let (name_kept, mut bytes) = (String::from_str(alloc, name)?, Vec::new(alloc));
+    let read = match fs::open(rt, name) {
+        Ok(file) => file.take(MAX_FILE as u64 + 1).read_to_end(&mut bytes),
+        Err(error) => Err(error),
+    };
+    let error = match read {
+        Ok(_) if bytes.len() <= MAX_FILE => None,
+        Ok(_) => Some(ReadError::TooLong),
+        Err(error) if error.kind() == ErrorKind::OutOfMemory => return Err(AllocError),
+        Err(error) => Some(ReadError::System(error)),
+    };
+    Ok(Source {
+        name: name_kept,
+        bytes,
+        error,
+    })
+}
+
+/// Reads a file of a subject, which may be in the folder of the pipeline file, unless it is among the sources.
+fn add_file<R: Files>(
+    rt: &R,
+    alloc: Global,
+    subject: Subject<'_>,
+    name: &str,
+    sources: &mut Sources,
+) -> Result<(), AllocError> {
+    if sources.find(name).is_some() {
+        return Ok(());
+    }
+    let mut source = read(rt, alloc, name)?;
+    if let Subject::Pipeline { file, .. } = subject
+        && let Some(ReadError::System(error)) = source.error
+        && error.kind() == ErrorKind::NotFound
+        && folder_with(rt, alloc, file, name).is_some()
+    {
+        source.error = Some(ReadError::IsBeside(error));
+    }
+    sources.files.push(source)?;
+    Ok(())
+}
+
+/// Reads the programs of a subject's nodes, or that of one node; and the certificates that are given, unless all are inferred.
+///
+/// # Errors
+///
+/// `AllocError` if memory is refused.
+pub fn read_sources<R: Files>(
+    rt: &R,
+    alloc: Global,
+    subject: Subject<'_>,
+    which: Option<Entry>,
+    how: How,
+) -> Result<Sources, AllocError> {
+    let mut sources = Sources::new(alloc);
+    for index in 0..MAX_NODES {
+        let node = entry_at(index);
+        if (which.is_none() || which == Some(node))
+            && let Some(asked) = subject.node(node)
+        {
+            add_file(rt, alloc, subject, asked.program, &mut sources)?;
+            if how == How::Given
+                && let Some(cert) = asked.cert
+            {
+                add_file(rt, alloc, subject, cert, &mut sources)?;
+            }
+        }
+    }
+    Ok(sources)
 }

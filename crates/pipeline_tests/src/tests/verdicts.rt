@@ -6,8 +6,8 @@ use Asked::{Alone, Check, Explain, Infer, InferAlone};
 use Content::{Rows, Text};
 use dp_console::Reply;
 use dp_model::{Entry, Env};
-use dp_pipe::{How, SingleFiles, load, survey_of};
-use dp_sources::{Lent, Sources, Subject, load_one, one_env};
+use dp_pipe::{How, SingleFiles, load, load_single, survey_of};
+use dp_sources::{Lent, ONE_REGION, Sources, Subject, one_env};
 use dp_verdict::{check_text, explain, infer, infer_one};
 use std::alloc::Global;
 use std::test::Fail;
@@ -426,7 +426,8 @@ fn the_pipeline_of_one_port(rt: HostRuntime) -> Result<(), Fail> {
         output: "b",
     };
     let sources = sources_of(rt.alloc(), PROGRAMS)?;
-    let Ok(pipeline) = load_one(rt.alloc(), names, &sources) else {
+    let loaded = load_single(rt.alloc(), one_env(), ONE_REGION, names, &mut Lent(&sources));
+    let Ok(pipeline) = loaded else {
         return Err(Fail::from("it is not loaded"));
     };
     assert!(&rt;
