@@ -47,9 +47,7 @@ impl Wanted {
             Wanted::Number(least, most) => {
                 err.say(format_args!("a whole number from {least} to {most}\n"));
             }
-            Wanted::Region => err.say(format_args!(
-                "a multiple of {CACHE_LINE} from {MIN_REGION} to {MAX_REGION}\n"
-            )),
+            Wanted::Region => err.say("a multiple of 64 from 4096 to 1073741824\n"),
             Wanted::PowerOfTwo => err.say("a power of two from 2 to 65536\n"),
             Wanted::Text => err.say("a text in quotes\n"),
             Wanted::Texts => err.say("an array of texts, as [\"10.0.0.0/8 1\"]\n"),
@@ -135,8 +133,9 @@ fn line_of_key<'a>(text: &'a str, part: Part, index: usize, key: &str) -> Option
 
 /// How often a line has a text in quotes.
 fn count_quoted(line: &str, text: &str) -> usize {
-    let pieces = line.split('"').chain(line.split('\''));
-    pieces.filter(|piece| *piece == text).count()
+    let double = line.split('"').filter(|piece| *piece == text).count();
+    let single = line.split('\'').filter(|piece| *piece == text).count();
+    double.saturating_add(single)
 }
 
 /// The values of an array at a key.

@@ -15,18 +15,12 @@ use dp_lang::{AsmError, Program, assemble};
 use dp_model::{Entry, Env};
 use dp_pipe::{PipeError, bytes_of};
 use std::alloc::Global;
-use std::fmt;
 
-/// A node, as a command names it.
-#[derive(Clone, Copy)]
-struct Which(Entry);
-
-impl fmt::Display for Which {
-    fn fmt<W: fmt::Write>(&self, f: &mut fmt::Formatter<W>) -> fmt::Result {
-        match self.0 {
-            Entry::Port(port) => write!(f, "port{port}"),
-            Entry::Ring(ring) => write!(f, "ring{ring}"),
-        }
+/// The two parts of a node's name in a command.
+fn which(node: Entry) -> (&'static str, u8) {
+    match node {
+        Entry::Port(port) => ("port", port),
+        Entry::Ring(ring) => ("ring", ring),
     }
 }
 
@@ -61,7 +55,8 @@ fn inferred(alloc: Global, sources: &Sources, env: &Env, of: Asked<'_>) -> Optio
 
 /// Says how to write another certificate than one that is not read or does not fit, or who says why none is inferred.
 fn say_cure(of: Subject<'_>, asked: Asked<'_>, is_inferred: bool, is_read: bool, err: &mut Text) {
-    let (program, cert, which) = (asked.program, asked.cert.unwrap_or(""), Which(asked.node));
+    let (program, cert) = (asked.program, asked.cert.unwrap_or(""));
+    let (kind, index) = which(asked.node);
     let (accepted, none) = if is_read {
         (
             "the program itself is accepted with an inferred certificate: ",
@@ -72,10 +67,10 @@ fn say_cure(of: Subject<'_>, asked: Asked<'_>, is_inferred: bool, is_read: bool,
     };
     match of {
         Subject::Pipeline { file, .. } if is_inferred => err.say(format_args!(
-            "  help: {accepted}leave out the key cert, or dpv infer {file} {which} > {cert}\n"
+            "  help: {accepted}leave out the key cert, or dpv infer {file} {kind}{index} > {cert}\n"
         )),
         Subject::Pipeline { file, .. } => {
-            err.say(format_args!("  help: {none}dpv explain {file} {which} explains why\n"));
+            err.say(format_args!("  help: {none}dpv explain {file} {kind}{index} explains why\n"));
         }
         Subject::Single { .. } if is_inferred => {
             err.say(format_args!("  help: {accepted}dpv infer-one {program} > {cert}\n"));
@@ -158,8 +153,10 @@ pub fn say_remedy(
                 Some(_) => "leave out the key cert, and ",
                 None => "",
             };
-            let which = Which(node);
-            err.say(format_args!("  help: {begins}dpv explain {file} {which} explains why\n"));
+            let (kind, index) = which(node);
+            err.say(format_args!(
+                "  help: {begins}dpv explain {file} {kind}{index} explains why\n"
+            ));
         }
         (PipeError::BadCert(_, _) | PipeError::Refused { .. }, _) => {
             say_certificate(alloc, subject, sources, asked, error, err);

@@ -48,18 +48,6 @@ impl RouteFile {
         }
         None
     }
-
-    /// The line of a route of the file, if that many are left before it; else as many fewer are left.
-    fn route(&self, left: &mut usize) -> Option<SourceLine<'_>> {
-        for (k, text) in self.text().lines().enumerate() {
-            if has_route(text) && *left == 0 {
-                let number = k.saturating_add(1);
-                return Some(SourceLine { number, text });
-            }
-            *left = left.saturating_sub(usize::from(has_route(text)));
-        }
-        None
-    }
 }
 
 /// The file and the line of a route that files give a table, by its place from 0 among those, if it has one.
@@ -70,10 +58,14 @@ pub fn route_in(
 ) -> Option<(&str, SourceLine<'_>)> {
     let mut left = place?;
     for file in files {
-        if file.table == table
-            && let Some(line) = file.route(&mut left)
-        {
-            return Some((file.source.name.as_str(), line));
+        for (k, text) in file.text().lines().enumerate() {
+            if file.table == table && has_route(text) {
+                let number = k.saturating_add(1);
+                if left == 0 {
+                    return Some((file.source.name.as_str(), SourceLine { number, text }));
+                }
+                left = left.saturating_sub(1);
+            }
         }
     }
     None
@@ -87,23 +79,16 @@ fn routes_of(top: &mut Table, table: usize) -> Option<&mut Vec<Value>> {
         .as_array_mut()
 }
 
-/// Adds the routes of a file to those of its table, if the pipeline has it.
-fn add_routes(alloc: Global, file: &RouteFile, top: &mut Table) -> Result<(), AllocError> {
-    let Some(routes) = routes_of(top, file.table) else {
-        return Ok(());
-    };
-    for line in file.text().lines() {
-        if has_route(line) {
-            routes.push(Value::string(alloc, line)?)?;
-        }
-    }
-    Ok(())
-}
-
 /// A pipeline's text with the routes of files.
 fn printed(alloc: Global, top: &mut Table, files: &[RouteFile]) -> Result<String, Error> {
     for file in files {
-        add_routes(alloc, file, &mut *top)?;
+        if let Some(routes) = routes_of(&mut *top, file.table) {
+            for line in file.text().lines() {
+                if has_route(line) && routes.push(Value::string(alloc, line)?).is_err() {
+                    return Err(Error::OutOfMemory);
+                }
+            }
+        }
     }
     toml::table_to_string(alloc, top)
 }
