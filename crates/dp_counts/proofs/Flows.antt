@@ -96,16 +96,16 @@ ran_sums t place (suc label) is few =
     let taken = slice_index t.taken k in
     let ended = slice_index t.ended k in
     let cut = slice_index t.cut k in
-    let (a1, b1, one) = less_same r taken (is.taken k (omega (arith, few, is.room.taken_all))) in
-    let (a2, b2, two) = less_same (minus_wrapped r taken) ended (is.ended k (omega (arith, few, is.room.ended_all))) in
-    let (a3, b3, three) = less_same (minus_wrapped (minus_wrapped r taken) ended) cut (is.cut k (omega (arith, few, is.room.cut_all))) in
+    let (a1, b1, one) = less_same r taken (is.taken.small k (omega (arith, few))) in
+    let (a2, b2, two) = less_same (minus_wrapped r taken) ended (is.ended.small k (omega (arith, few))) in
+    let (a3, b3, three) = less_same (minus_wrapped (minus_wrapped r taken) ended) cut (is.cut.small k (omega (arith, few))) in
     let (a4, b4, four) = same_wrapped (on_from t k r + slice_index t.came (k + 1)) in
     let here : slice_index t.came (k + 1) ≡ slice_index t.came (place + suc label) = ap (slice_index t.came) (omega arith) in
     (a + a1 + a2 + a3 + a4, b + b1 + b2 + b3 + b4, omega (arith, before, one, two, three, four, here))
 
 -- it is a number of 64 bits
 pub ran_small : (t : Tally) (place label : ℕ) → IsTally t → place + label < 16384 → ran_at t place label < 2 ^ 64
-ran_small t place zero is few = is.came place (omega (arith, few, is.room.came_all))
+ran_small t place zero is few = is.came.small place (omega (arith, few))
 ran_small t place (suc label) is few = mod-lt (on_from t (place + label) (ran_at t place label) + slice_index t.came (place + label + 1)) (omega arith)
 
 -- one label more
@@ -119,11 +119,4 @@ pub ran_none : (t : Tally) (place label : ℕ) → HasNone t → ran_at t place 
 ran_none t place zero none = none.came place
 ran_none t place (suc label) none =
     let k = place + label in
-    ap (λ n. wrapped (minus_wrapped (minus_wrapped (minus_wrapped n (slice_index t.taken k)) (slice_index t.ended k))
-    (slice_index t.cut k) + slice_index t.came (k + 1)))
-    (ran_none t place label none)
-    ∙ ap (λ n. wrapped (minus_wrapped (minus_wrapped (minus_wrapped 0 n) (slice_index t.ended k)) (slice_index t.cut k) + slice_index t.came (k + 1)))
-    (none.taken k)
-    ∙ ap (λ n. wrapped (minus_wrapped (minus_wrapped (minus_wrapped 0 0) n) (slice_index t.cut k) + slice_index t.came (k + 1))) (none.ended k)
-    ∙ ap (λ n. wrapped (minus_wrapped (minus_wrapped (minus_wrapped 0 0) 0) n + slice_index t.came (k + 1))) (none.cut k)
-    ∙ ap (λ n. wrapped (minus_wrapped (minus_wrapped (minus_wrapped 0 0) 0) 0 + n)) (none.came (k + 1))
+    rw (ran_none t place label none, none.taken k, none.ended k, none.cut k, none.came (k + 1)) refl

@@ -71,14 +71,14 @@ step_moves label (To to) t k n is (a, place) (b, own) room few there =
     let j = t.place + label in
     let same_to : to % 1024 ≡ to = mod-eq_of_lt there in
     let here : hits k (suc n) (t.place + to % 1024) ≡ hits k (suc n) (t.place + to) = ap (λ m. hits k (suc n) (t.place + m)) same_to in
-    let (c, d, came) = sum_more t.came (t.place + to % 1024) k (suc n) (omega (arith, room, few, is.room.came_all)) in
-    let (e, f, left) = sum_more t.taken j k n (omega (arith, room, few, is.room.taken_all)) in
+    let (c, d, came) = sum_more t.came (t.place + to % 1024) k (suc n) (omega (arith, room, few, is.came.all)) in
+    let (e, f, left) = sum_more t.taken j k n (omega (arith, room, few, is.taken.all)) in
     (c + f, d + e, omega (arith, here, came, left))
 step_moves label Out t k n is (a, place) (b, own) room few there =
-    let (e, f, left) = sum_more t.ended (t.place + label) k n (omega (arith, room, few, is.room.ended_all)) in
+    let (e, f, left) = sum_more t.ended (t.place + label) k n (omega (arith, room, few, is.ended.all)) in
     (f, e, omega (arith, left))
 step_moves label Cut t k n is (a, place) (b, own) room few there =
-    let (e, f, left) = sum_more t.cut (t.place + label) k n (omega (arith, room, few, is.room.cut_all)) in
+    let (e, f, left) = sum_more t.cut (t.place + label) k n (omega (arith, room, few, is.cut.all)) in
     (f, e, omega (arith, left))
 
 -- a beginning: control comes to label 0
@@ -86,7 +86,7 @@ begin_moves : (node : Entry) (t : Tally) (k n : ℕ) → IsTally t → k + 1024 
     → Same (sum_from (one_more (place_of node) t.came) k (suc n)) (come t k n + hits k (suc n) (place_of node + 0))
 begin_moves node t k n is room few =
     let here : hits k (suc n) (place_of node + 0) ≡ hits k (suc n) (place_of node) = ap (hits k (suc n)) (add-zero (place_of node)) in
-    let (a, b, came) = sum_more t.came (place_of node) k (suc n) (omega (arith, room, few, is.room.came_all)) in
+    let (a, b, came) = sum_more t.came (place_of node) k (suc n) (omega (arith, room, few, is.came.all)) in
     (a, b, omega (arith, here, came))
 
 stands_after : (label : ℕ) (way : Way) (place : ℕ) → IsPlace place → Stands (after_step label way) place
@@ -176,9 +176,9 @@ counts_steps t t' events all follows seen = (
       record {
         ran = ap (λ (s : StepCounts). s.ran) after ∙ ran_grew t t' events k label all all' (place_is node) room less follows seen
             ∙ ap (λ (s : StepCounts). wrapped (s.ran + steps_at any_way (k + label) t.place events)) (sym before);
-        taken = ap (λ (s : StepCounts). s.taken) after ∙ taken_grew t t' events seen all.taken (k + label) (omega (arith, within, all.room.taken_all))
+        taken = ap (λ (s : StepCounts). s.taken) after ∙ taken_grew t t' events seen all.taken (k + label) within
             ∙ ap (λ (s : StepCounts). wrapped (s.taken + steps_at is_jump (k + label) t.place events)) (sym before);
-        cut = ap (λ (s : StepCounts). s.cut) after ∙ cut_grew t t' events seen all.cut (k + label) (omega (arith, within, all.room.cut_all))
+        cut = ap (λ (s : StepCounts). s.cut) after ∙ cut_grew t t' events seen all.cut (k + label) within
             ∙ ap (λ (s : StepCounts). wrapped (s.cut + steps_at is_cut (k + label) t.place events)) (sym before);
       },
 )
@@ -188,10 +188,7 @@ pub begins_at_zero : BeginsAtZero
 begins_at_zero t none node label = go (nat_lt label 1024 && is_one_of_eight node)
   where
     zeros : counts_at t node label ≡ record { ran = 0; taken = 0; cut = 0 }
-    zeros = ap (λ n. record { ran = n; taken = slice_index t.taken (place_of node + label); cut = slice_index t.cut (place_of node + label) })
-        (ran_none t (place_of node) label none)
-        ∙ ap (λ n. record { ran = 0; taken = n; cut = slice_index t.cut (place_of node + label) }) (none.taken (place_of node + label))
-        ∙ ap (λ n. record { ran = 0; taken = 0; cut = n }) (none.cut (place_of node + label))
+    zeros = rw (ran_none t (place_of node) label none, none.taken (place_of node + label), none.cut (place_of node + label)) refl
 
     go : (b : Bool) → (if b then counts_at t node label else record { ran = 0; taken = 0; cut = 0 }) ≡ record { ran = 0; taken = 0; cut = 0 }
     go true = zeros

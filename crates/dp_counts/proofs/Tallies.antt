@@ -13,7 +13,7 @@ use Rattle.dp_model.specs.Laws.Lists.{get_replicate}
 use Rattle.dp_engine.specs.declared.watch.Way.{Way}
 use Rattle.dp_engine.specs.declared.watch.Way.TheVariants.{On, To, Out, Cut}
 use Rattle.dp_engine.specs.Watching.{Event, Began, Ran, IsOneOfEight, SeesAll}
-use Rattle.dp_counts.specs.Counting.{Tally, place_of, one_more, counted, with_way, counts_see, is_jump, is_cut, steps_at, AreNumbers, AreZero}
+use Rattle.dp_counts.specs.Counting.{Tally, place_of, one_more, counted, with_way, counts_see, is_jump, is_cut, steps_at, AreCounts, AreZero}
 use Rattle.dp_counts.specs.Counting.{IsTally}
 
 -- ---- one number of a list
@@ -47,11 +47,13 @@ grown_at false true j k numbers e less within =
 grown_at true false j k numbers e less within = small (slice_index numbers k) within
 grown_at false false j k numbers e less within = small (slice_index numbers k) within
 
-grown_numbers : (d : Bool) (j : ℕ) (numbers : List ℕ) → AreNumbers numbers → AreNumbers (grown d j numbers)
-grown_numbers d j numbers are k less =
-    let less' : k < length numbers = omega (arith, less, grown_length d j numbers) in
-    subst (λ n. n < 2 ^ 64) (sym (grown_at (j == k) d j k numbers refl less' (are k less')))
-    (mod-lt (slice_index numbers k + cond ((j == k) && d) 1 0) (omega arith))
+grown_counts : (d : Bool) (j : ℕ) (numbers : List ℕ) → AreCounts numbers → AreCounts (grown d j numbers)
+grown_counts d j numbers are = record {
+  all = grown_length d j numbers ∙ are.all;
+  small = λ k less.
+      subst (λ n. n < 2 ^ 64) (sym (grown_at (j == k) d j k numbers refl (omega (arith, less, are.all)) (are.small k less)))
+      (mod-lt (slice_index numbers k + cond ((j == k) && d) 1 0) (omega arith));
+}
 
 -- ---- taken jumps and cuts
 
@@ -66,14 +68,14 @@ stays label Cut s t = refl
 grew : (numbers_of : Tally → List ℕ) (test : Way → Bool)
     → ((label : ℕ) (way : Way) (s : State) (t : Tally) → numbers_of (counted (Ran label way s) t) ≡ grown (test way) (t.place + label) (numbers_of t))
     → ((node : Entry) (s : State) (t : Tally) → numbers_of (counted (Began node s) t) ≡ numbers_of t)
-    → (t t' : Tally) (events : List Event) → SeesAll counts_see t events t' → AreNumbers (numbers_of t) → (k : ℕ) → k < length (numbers_of t)
+    → (t t' : Tally) (events : List Event) → SeesAll counts_see t events t' → AreCounts (numbers_of t) → (k : ℕ) → k < 16384
     → slice_index (numbers_of t') k ≡ wrapped (slice_index (numbers_of t) k + steps_at test k t.place events)
 grew numbers_of test step begin t t' [] is are k less =
-    ap (λ (x : Tally). slice_index (numbers_of x) k) is ∙ small (slice_index (numbers_of t) k) (are k less)
+    ap (λ (x : Tally). slice_index (numbers_of x) k) is ∙ small (slice_index (numbers_of t) k) (are.small k less)
 grew numbers_of test step begin t t' (Began node s ∷ events) (mid, (within, is), rest) are k less =
     let same : numbers_of mid ≡ numbers_of t = ap numbers_of is ∙ begin node s t in
     let place : mid.place ≡ place_of node = ap (λ (x : Tally). x.place) is in
-    let all = grew numbers_of test step begin mid t' events rest (subst AreNumbers (sym same) are) k (subst (λ l. k < length l) (sym same) less) in
+    let all = grew numbers_of test step begin mid t' events rest (subst AreCounts (sym same) are) k less in
     all ∙ ap (λ l. wrapped (slice_index l k + steps_at test k mid.place events)) same
     ∙ ap (λ p. wrapped (slice_index (numbers_of t) k + steps_at test k p events)) place
 grew numbers_of test step begin t t' (Ran label way s ∷ events) (mid, (within, is), rest) are k less =
@@ -81,18 +83,14 @@ grew numbers_of test step begin t t' (Ran label way s ∷ events) (mid, (within,
     let j = t.place + label in
     let place : mid.place ≡ t.place = ap (λ (x : Tally). x.place) is ∙ stays label way s t in
     let same : numbers_of mid ≡ grown (test way) j old = ap numbers_of is ∙ step label way s t in
-    let less' : k < length (grown (test way) j old) = omega (arith, less, grown_length (test way) j old) in
-    let all = grew numbers_of test step begin mid t' events rest (subst AreNumbers (sym same) (grown_numbers (test way) j old are)) k
-    (subst (λ l. k < length l) (sym same) less') in
+    let all = grew numbers_of test step begin mid t' events rest (subst AreCounts (sym same) (grown_counts (test way) j old are)) k less in
     let one = cond ((j == k) && test way) 1 0 in
     let more = steps_at test k t.place events in
+    let assoc : slice_index old k + one + more ≡ slice_index old k + (one + more) = omega arith in
     all ∙ ap (λ l. wrapped (slice_index l k + steps_at test k mid.place events)) same
     ∙ ap (λ p. wrapped (slice_index (grown (test way) j old) k + steps_at test k p events)) place
-    ∙ ap (λ n. wrapped (n + more)) (grown_at (j == k) (test way) j k old refl less (are k less))
-    ∙ (mod-add-mod (slice_index old k + one) (2 ^ 64) more ∙ ap (λ n. n % 2 ^ 64) (assoc (slice_index old k) one more))
-  where
-    assoc : (a b c : ℕ) → a + b + c ≡ a + (b + c)
-    assoc a b c = omega arith
+    ∙ ap (λ n. wrapped (n + more)) (grown_at (j == k) (test way) j k old refl (omega (arith, less, are.all)) (are.small k less))
+    ∙ (mod-add-mod (slice_index old k + one) (2 ^ 64) more ∙ ap (λ n. n % 2 ^ 64) assoc)
 
 taken_step : (label : ℕ) (way : Way) (s : State) (t : Tally) → (counted (Ran label way s) t).taken ≡ grown (is_jump way) (t.place + label) t.taken
 taken_step label On s t = refl
@@ -106,21 +104,18 @@ cut_step label (To to) s t = refl
 cut_step label Out s t = refl
 cut_step label Cut s t = refl
 
-pub taken_grew : (t t' : Tally) (events : List Event) → SeesAll counts_see t events t' → AreNumbers t.taken → (k : ℕ) → k < length t.taken
+pub taken_grew : (t t' : Tally) (events : List Event) → SeesAll counts_see t events t' → AreCounts t.taken → (k : ℕ) → k < 16384
     → slice_index t'.taken k ≡ wrapped (slice_index t.taken k + steps_at is_jump k t.place events)
 taken_grew = grew (λ (x : Tally). x.taken) is_jump taken_step (λ node s t. refl)
 
-pub cut_grew : (t t' : Tally) (events : List Event) → SeesAll counts_see t events t' → AreNumbers t.cut → (k : ℕ) → k < length t.cut
+pub cut_grew : (t t' : Tally) (events : List Event) → SeesAll counts_see t events t' → AreCounts t.cut → (k : ℕ) → k < 16384
     → slice_index t'.cut k ≡ wrapped (slice_index t.cut k + steps_at is_cut k t.place events)
 cut_grew = grew (λ (x : Tally). x.cut) is_cut cut_step (λ node s t. refl)
 
 -- ---- counts stay counts
 
-more_numbers : (k : ℕ) (numbers : List ℕ) → AreNumbers numbers → AreNumbers (one_more k numbers)
-more_numbers k numbers are = grown_numbers true k numbers are
-
-more_length : (k n : ℕ) (numbers : List ℕ) → length numbers ≡ n → length (one_more k numbers) ≡ n
-more_length k n numbers is = length-set numbers k (wrapped (slice_index numbers k + 1)) ∙ is
+one_counts : (k : ℕ) (numbers : List ℕ) → AreCounts numbers → AreCounts (one_more k numbers)
+one_counts = grown_counts true
 
 pub place_within : (node : Entry) → IsOneOfEight node → place_of node + 1024 ≤ 16384
 place_within (Port port) few = omega (arith, few)
@@ -128,59 +123,35 @@ place_within (Ring ring) few = omega (arith, few)
 
 tally_begins : (node : Entry) (s : State) (t : Tally) → IsOneOfEight node → IsTally t → IsTally (counted (Began node s) t)
 tally_begins node s t few is = record {
-  room = record {
-    came_all = more_length (place_of node) 16384 t.came is.room.came_all;
-    taken_all = is.room.taken_all;
-    ended_all = is.room.ended_all;
-    cut_all = is.room.cut_all;
-    within = place_within node few;
-  };
-  came = more_numbers (place_of node) t.came is.came;
+  came = one_counts (place_of node) t.came is.came;
   taken = is.taken;
   ended = is.ended;
   cut = is.cut;
+  within = place_within node few;
 }
 
 tally_steps : (label : ℕ) (way : Way) (t : Tally) → IsTally t → IsTally (with_way way label t)
 tally_steps label On t is = is
 tally_steps label (To to) t is = record {
-  room = record {
-    came_all = more_length (t.place + to % 1024) 16384 t.came is.room.came_all;
-    taken_all = more_length (t.place + label) 16384 t.taken is.room.taken_all;
-    ended_all = is.room.ended_all;
-    cut_all = is.room.cut_all;
-    within = is.room.within;
-  };
-  came = more_numbers (t.place + to % 1024) t.came is.came;
-  taken = more_numbers (t.place + label) t.taken is.taken;
+  came = one_counts (t.place + to % 1024) t.came is.came;
+  taken = one_counts (t.place + label) t.taken is.taken;
   ended = is.ended;
   cut = is.cut;
+  within = is.within;
 }
 tally_steps label Out t is = record {
-  room = record {
-    came_all = is.room.came_all;
-    taken_all = is.room.taken_all;
-    ended_all = more_length (t.place + label) 16384 t.ended is.room.ended_all;
-    cut_all = is.room.cut_all;
-    within = is.room.within;
-  };
   came = is.came;
   taken = is.taken;
-  ended = more_numbers (t.place + label) t.ended is.ended;
+  ended = one_counts (t.place + label) t.ended is.ended;
   cut = is.cut;
+  within = is.within;
 }
 tally_steps label Cut t is = record {
-  room = record {
-    came_all = is.room.came_all;
-    taken_all = is.room.taken_all;
-    ended_all = is.room.ended_all;
-    cut_all = more_length (t.place + label) 16384 t.cut is.room.cut_all;
-    within = is.room.within;
-  };
   came = is.came;
   taken = is.taken;
   ended = is.ended;
-  cut = more_numbers (t.place + label) t.cut is.cut;
+  cut = one_counts (t.place + label) t.cut is.cut;
+  within = is.within;
 }
 
 -- an event leaves counts

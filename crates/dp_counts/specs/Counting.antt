@@ -77,17 +77,6 @@ step_counts t node label =
     }
     else record { ran = 0; taken = 0; cut = 0 }
 
--- a node and all counts
-pub record NodeTally : Type 0 where
-  pub tally : Tally
-  pub node : Entry
-
--- a node whose counts begin at this place was read up to a label, whose instruction ran `ran` times
-pub record IsReading (t : Tally) (node : Entry) (place label ran : ℕ) : Type 0 where
-  pub own : IsOneOfEight node → place ≡ place_of node
-  pub within : place + 1024 ≤ 16384
-  pub ran_is : ran ≡ ran_at t place label
-
 -- ---- the effect of an event
 
 abbrev pub one_more : ℕ → List ℕ → List ℕ
@@ -167,17 +156,18 @@ AreRuns events = FollowFrom None events
 
 -- ---- laws
 
--- numbers of 64 bits
-abbrev pub AreNumbers : List ℕ → Type 0
-AreNumbers numbers = (k : ℕ) → k < length numbers → slice_index numbers k < 2 ^ 64
+-- a number of 64 bits for each label
+pub record AreCounts (numbers : List ℕ) : Type 0 where
+  pub all : length numbers ≡ 16384
+  pub small : (k : ℕ) → k < 16384 → slice_index numbers k < 2 ^ 64
 
--- counts of 64 bits, one for each label
+-- counts, and a place of the running node that is among them
 pub record IsTally (t : Tally) : Type 0 where
-  pub room : HasRoom t.came t.taken t.ended t.cut t.place
-  pub came : AreNumbers t.came
-  pub taken : AreNumbers t.taken
-  pub ended : AreNumbers t.ended
-  pub cut : AreNumbers t.cut
+  pub came : AreCounts t.came
+  pub taken : AreCounts t.taken
+  pub ended : AreCounts t.ended
+  pub cut : AreCounts t.cut
+  pub within : t.place + 1024 ≤ 16384
 
 -- all counts of all nodes grew by the steps that they count
 abbrev pub AllGrew : List Event → Tally → Tally → Type 0

@@ -1,4 +1,4 @@
--- Internal: one more element of a list that is numbered, joined or printed.
+-- Internal: one more element of a list that is joined or printed.
 use Rattle.std.proofs.Common.{◌≡◌, ℕ, zero, suc, ◌+◌, ◌<◌, List, [], ◌∷◌, ◌++◌, length, take, Option, Some, sym, ◌∙◌, ap, subst, arith}
 use Rattle.std.proofs.Common.{append_assoc, append-nil, add-one, get_or}
 use Rattle.std.specs.Prelude.{slice_get}
@@ -6,19 +6,7 @@ use Rattle.std.specs.List.{flat_map}
 use Rattle.std.specs.Io.KnownBytes.{Appends}
 use Rattle.std.proofs.KnownBytes.{Appends-trans}
 use Rattle.std.proofs.lemmas.Option.{same_Some, slice_get-get_or}
-use Rattle.dp_counts.specs.Sources.{each_from}
 use Rattle.dp_counts.specs.Totals.{lines_from}
-
--- numbered
-pub each_more : {A B : Type 0} (f : ℕ → A → B) (k : ℕ) (xs : List A) (i : ℕ) (x : A) → slice_get xs i ≡ Some x
-    → each_from f k (take (suc i) xs) ≡ each_from f k (take i xs) ++ f (k + i) x ∷ []
-each_more f k [] i x e = cc
-each_more f k (y ∷ xs) zero x e =
-    let here : k ≡ k + 0 = omega arith in
-    ap (λ z. f k z ∷ []) (same_Some y x e) ∙ ap (λ n. f n x ∷ []) here
-each_more f k (y ∷ xs) (suc i) x e =
-    let here : suc k + i ≡ k + suc i = omega arith in
-    ap (λ l. f k y ∷ l) (each_more f (suc k) xs i x e) ∙ ap (λ n. f k y ∷ (each_from f (suc k) (take i xs) ++ f n x ∷ [])) here
 
 -- joined
 pub flat_more : {A B : Type 0} (f : A → List B) (xs : List A) (i : ℕ) (x : A) → slice_get xs i ≡ Some x

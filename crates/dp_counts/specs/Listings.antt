@@ -1,5 +1,5 @@
 -- The lines of programs with their counts.
-use Rattle.std.specs.Prelude.{ℕ, ◌-◌, ◌^◌, false, List, [], ◌∷◌, ◌++◌, ◌==◌, codes, if◌then◌else◌}
+use Rattle.std.specs.Prelude.{ℕ, ◌-◌, ◌^◌, false, List, [], ◌∷◌, ◌++◌, ◌==◌, codes, nat_lt, if◌then◌else◌}
 use Rattle.std.specs.Option.{option_map_or}
 use Rattle.std.specs.List.{flat_map}
 use Rattle.std.specs.Fmt.{decimal, padded_integral, format_spec}
@@ -7,68 +7,48 @@ use Rattle.dp_model.specs.declared.env.Entry.{Entry}
 use Rattle.dp_model.specs.declared.env.Entry.TheVariants.{Port, Ring}
 use Rattle.dp_counts.specs.declared.counts.StepCounts.{StepCounts}
 use Rattle.dp_counts.specs.declared.source.Role.{Role}
-use Rattle.dp_counts.specs.declared.source.Role.TheVariants.{Plain, Branch, Lookup, Enqueue, Frees, Ends}
+use Rattle.dp_counts.specs.declared.source.Role.TheVariants.{Plain, Frees, Ends}
 use Rattle.dp_counts.specs.declared.source.Step.{Step}
 use Rattle.dp_counts.specs.declared.source.SourceLine.{SourceLine}
 use Rattle.dp_counts.specs.declared.source.NodeSource.{NodeSource}
 use Rattle.dp_counts.specs.Counting.{Tally, step_counts}
-use Rattle.dp_counts.specs.Sources.{Line, view_line}
 
 -- a number at the right of ten columns, as `{:>10}` writes it
 abbrev pub column : ℕ → List ℕ
 column n = padded_integral (format_spec 32 3 0 10 (2 ^ 64 - 1)) false [] (decimal n)
 
--- ten blanks
-abbrev pub blanks : List ℕ
-blanks = codes "          "
+-- how often it ran, and that packets ended there, if it ever ran
+abbrev pub with_word : StepCounts → List ℕ → List ℕ
+with_word s word = column s.ran ++ (if nat_lt 0 s.ran then word else codes "            ")
 
--- at `free` and `exit`, that packets ended there
-abbrev pub ending : Role → List ℕ
-ending Frees = codes "     freed"
-ending Ends = codes "     ended"
-ending Plain = blanks
-ending Branch = blanks
-ending (Lookup table) = blanks
-ending (Enqueue ring) = blanks
+-- the columns of an instruction: how often it ran; and how often its jump was taken, or that packets ended there
+abbrev pub columns_of : Role → StepCounts → List ℕ
+columns_of Plain s = column s.ran ++ codes "            "
+columns_of Frees s = with_word s (codes "     freed  ")
+columns_of Ends s = with_word s (codes "     ended  ")
+columns_of role s = column s.ran ++ (column s.taken ++ codes "  ")
 
--- nothing if the instruction never ran
-abbrev pub word_of : Role → ℕ → List ℕ
-word_of role ran = if ran == 0 then blanks else ending role
-
--- the second column: how often a jump was taken, or that packets ended there
-abbrev pub beside : Role → StepCounts → List ℕ
-beside Branch s = column s.taken
-beside (Lookup table) s = column s.taken
-beside (Enqueue ring) s = column s.taken
-beside Plain s = word_of Plain s.ran
-beside Frees s = word_of Frees s.ran
-beside Ends s = word_of Ends s.ran
-
--- the words of the source
-abbrev pub text_of : List ℕ → List ℕ
-text_of text = codes "  " ++ (text ++ 10 ∷ [])
-
--- how many node runs were cut there, if any
-abbrev pub cut_line : ℕ → List ℕ
-cut_line cut = if cut == 0 then [] else column cut ++ (codes "       cut" ++ 10 ∷ [])
+-- the end of the line, and how many node runs were cut there, if any
+abbrev pub cut_text : ℕ → List ℕ
+cut_text cut = if cut == 0 then 10 ∷ [] else 10 ∷ column cut ++ (codes "       cut" ++ 10 ∷ [])
 
 abbrev pub step_line : Role → StepCounts → List ℕ → List ℕ
-step_line role s text = column s.ran ++ (beside role s ++ (text_of text ++ cut_line s.cut))
+step_line role s text = columns_of role s ++ (text ++ cut_text s.cut)
 
 -- a text after two empty columns
-abbrev pub beside_nothing : List ℕ → List ℕ
-beside_nothing text = blanks ++ (blanks ++ text_of text)
+abbrev pub indented : List ℕ → List ℕ
+indented text = codes "                      " ++ (text ++ 10 ∷ [])
 
 -- a line without an instruction
 abbrev pub other_line : List ℕ → List ℕ
 other_line [] = 10 ∷ []
-other_line (b ∷ text) = beside_nothing (b ∷ text)
+other_line (b ∷ text) = indented (b ∷ text)
 
-abbrev pub line_text : Tally → Entry → Line → List ℕ
-line_text t node l = option_map_or (λ (s : Step). step_line s.role (step_counts t node s.label) l.text) l.step (other_line l.text)
+abbrev pub line_text : Tally → Entry → SourceLine → List ℕ
+line_text t node l = option_map_or (λ (s : Step). step_line s.role (step_counts t node s.label) l.text.now) l.step (other_line l.text.now)
 
 abbrev pub lines_text : Tally → Entry → List SourceLine → List ℕ
-lines_text t node lines = flat_map (λ l. line_text t node (view_line l)) lines
+lines_text t node lines = flat_map (line_text t node) lines
 
 -- the names of the columns
 abbrev pub columns : List ℕ

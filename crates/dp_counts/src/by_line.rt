@@ -1,8 +1,7 @@
 //! The counts of a program by the lines of its source, the places where packets end without being sent, and the counts that have names.
 
 use crate::counts::{Counts, StepCounts};
-use crate::node_counts::NodeCounts;
-use crate::source::{NodeSource, SourceLine, words_of};
+use crate::source::{NodeSource, words_of};
 use dp_engine::Report;
 use dp_lang::arguments_of;
 use dp_model::{Entry, Instr};
@@ -37,9 +36,7 @@ pub enum DropCause<'a> {
 /// A place where packets ended without being sent.
 #[derive(Clone, Copy)]
 pub struct DropPlace<'a> {
-    /// The node.
     pub node: Entry,
-    /// Why.
     pub cause: DropCause<'a>,
     /// How many.
     pub packets: u64,
@@ -48,7 +45,6 @@ pub struct DropPlace<'a> {
 /// A line of a source with its counts.
 #[derive(Clone, Copy)]
 pub struct LineCounts<'a> {
-    /// The line.
     pub origin: Origin<'a>,
     /// How often control came to it.
     pub came: u64,
@@ -61,9 +57,7 @@ pub struct LineCounts<'a> {
 /// How often control came to the instructions of a program whose comments begin with `count NAME:`.
 #[derive(Clone, Copy)]
 pub struct NamedCount<'a> {
-    /// The node.
     pub node: Entry,
-    /// The name.
     pub name: &'a str,
     /// How often, over all instructions with this name.
     pub packets: u64,
@@ -81,54 +75,44 @@ fn frees_from(instrs: &[Instr], label: usize) -> u64 {
     frees
 }
 
-/// How often the jump at a label was taken to the label `to`.
-fn jumps_to(counts: &mut NodeCounts<'_>, instrs: &[Instr], to: usize) -> u64 {
-    let mut jumps = 0u64;
-    for (label, instr) in instrs.iter().enumerate() {
-        if arguments_of(instr).label().map(usize::from) == Some(to) {
-            jumps = jumps.wrapping_add(counts.step(label).taken);
+/// How often control came to a label other than by a jump.
+fn came_on(counts: &Counts, source: &NodeSource<'_>, label: usize) -> u64 {
+    let mut came = counts.step(source.node, label).ran;
+    for (from, instr) in source.instrs.as_slice().iter().enumerate() {
+        if arguments_of(instr).label().map(usize::from) == Some(label) {
+            came = came.wrapping_sub(counts.step(source.node, from).taken);
         }
     }
-    jumps
-}
-
-/// How often control came to a label other than by a jump.
-fn came_on(counts: &mut NodeCounts<'_>, instrs: &[Instr], label: usize) -> u64 {
-    let jumps = jumps_to(counts, instrs, label);
-    counts.step(label).ran.wrapping_sub(jumps)
+    came
 }
 
 /// How many packets were freed since control went on from the instruction at a label to a `free`: by its jump, or, at the first of several `free`s,
 /// because control came there without one.
-fn dropped_at(counts: &mut NodeCounts<'_>, instrs: &[Instr], label: usize, instr: &Instr) -> u64 {
+fn dropped_at(counts: &Counts, source: &NodeSource<'_>, label: usize, instr: &Instr) -> u64 {
+    let instrs = source.instrs.as_slice();
     let by_jump = match arguments_of(instr).label() {
         Some(to) => {
-            let frees = frees_from(instrs, usize::from(to));
-            counts.step(label).taken.wrapping_mul(frees)
+            let StepCounts { taken, .. } = counts.step(source.node, label);
+            taken.wrapping_mul(frees_from(instrs, usize::from(to)))
         }
         None => 0,
     };
-    let is_first = match label.checked_sub(1) {
-        Some(before) => frees_from(instrs, before) == 0,
-        None => true,
-    };
-    if is_first && matches!(*instr, Instr::Free { .. }) {
-        let frees = frees_from(instrs, label);
-        by_jump.wrapping_add(came_on(counts, instrs, label).wrapping_mul(frees))
-    } else {
-        by_jump
+    let frees = frees_from(instrs, label);
+    if frees == 0 || (label > 0 && frees_from(instrs, label - 1) > 0) {
+        return by_jump;
     }
+    by_jump.wrapping_add(came_on(counts, source, label).wrapping_mul(frees))
 }
 
 /// Adds a place, if packets ended there.
 fn push_place<'a>(
-    places: &mut Vec<DropPlace<'a>>,
+    all: &mut Vec<DropPlace<'a>>,
     node: Entry,
     cause: DropCause<'a>,
     packets: u64,
 ) -> Result<(), AllocError> {
     if packets > 0 {
-        places.push(DropPlace {
+        all.push(DropPlace {
             node,
             cause,
             packets,
@@ -137,57 +121,28 @@ fn push_place<'a>(
     Ok(())
 }
 
-/// Adds the lines of a program at which packets ended.
+/// Adds the places of a report.
+fn push_reported(places: &mut Vec<DropPlace<'_>>, report: &Report) -> Result<(), AllocError> {
+    for (k, port) in (0..8u8).zip(report.ports.as_slice()) {
+        let node = Entry::Port(k);
+        push_place(places, node, DropCause::Oversize, port.oversize)?;
+        push_place(places, node, DropCause::NoBuffers, port.nobuf)?;
+    }
+    for (k, left) in (0..8u8).zip(report.rings.as_slice()) {
+        push_place(places, Entry::Ring(k), DropCause::Left, *left)?;
+    }
+    Ok(())
+}
+
+/// Adds the lines of a node's program at which packets ended.
 fn push_freed<'a>(
-    alloc: Global,
-    counts: &Counts,
-    source: &NodeSource<'a>,
     places: &mut Vec<DropPlace<'a>>,
+    node: Entry,
+    lines: &[LineCounts<'a>],
 ) -> Result<(), AllocError> {
-    for line in lines_counted(alloc, counts, source)?.as_slice() {
-        push_place(
-            places,
-            source.node,
-            DropCause::Freed(line.origin),
-            line.dropped,
-        )?;
-    }
-    Ok(())
-}
-
-/// Adds the places at the ports of a report.
-fn push_ports(report: &Report, places: &mut Vec<DropPlace<'_>>) -> Result<(), AllocError> {
-    for k in 0..8u8 {
-        if let Some(port) = report.ports.as_slice().get(usize::from(k)) {
-            push_place(places, Entry::Port(k), DropCause::Oversize, port.oversize)?;
-            push_place(places, Entry::Port(k), DropCause::NoBuffers, port.nobuf)?;
-        }
-    }
-    Ok(())
-}
-
-/// Adds the rings of a report.
-fn push_rings(report: &Report, places: &mut Vec<DropPlace<'_>>) -> Result<(), AllocError> {
-    for k in 0..8u8 {
-        if let Some(left) = report.rings.as_slice().get(usize::from(k)) {
-            push_place(places, Entry::Ring(k), DropCause::Left, *left)?;
-        }
-    }
-    Ok(())
-}
-
-/// Adds the places of a report, and those of these programs.
-fn push_all<'a>(
-    alloc: Global,
-    counts: &Counts,
-    sources: &[NodeSource<'a>],
-    report: &Report,
-    places: &mut Vec<DropPlace<'a>>,
-) -> Result<(), AllocError> {
-    push_ports(report, places)?;
-    push_rings(report, places)?;
-    for source in sources {
-        push_freed(alloc, counts, source, places)?;
+    for line in lines {
+        let cause = DropCause::Freed(line.origin);
+        push_place(places, node, cause, line.dropped)?;
     }
     Ok(())
 }
@@ -205,7 +160,11 @@ pub fn drop_places<'a>(
     report: &Report,
 ) -> Result<Vec<DropPlace<'a>>, AllocError> {
     let mut places = Vec::new(alloc);
-    push_all(alloc, counts, sources, report, &mut places)?;
+    push_reported(&mut places, report)?;
+    for source in sources {
+        let lines = lines_counted(alloc, counts, source)?;
+        push_freed(&mut places, source.node, lines.as_slice())?;
+    }
     places.sort_by_key(|place| u64::MAX - place.packets)?;
     Ok(places)
 }
@@ -219,21 +178,13 @@ fn counter_in(comment: &str) -> Option<(&str, &str)> {
     Some((name, rest.trim_start()))
 }
 
-/// The line in which a comment of `dpv build` has what an instruction was built from, as `4: send port`, or `net.pkt:4: send port` for a line of a file that
-/// the one with this name includes.
-fn built_from<'a>(comment: &'a str, name: &'a str) -> Option<Origin<'a>> {
-    let line = match counter_in(comment) {
-        Some((_counter, line)) => line,
-        None => comment,
-    };
+/// What a comment of `dpv build` says of the line that an instruction was built from, its file, its number and its text: `4: send port`, or
+/// `net.pkt:4: send port` for a line of a file that the one with this name includes.
+fn built_from<'a>(comment: &'a str, name: &'a str) -> Option<(&'a str, usize, &'a str)> {
+    let (_counter, line) = counter_in(comment).unwrap_or(("", comment));
     let (place, text) = line.split_once(": ")?;
     let (file, digits) = place.rsplit_once(':').unwrap_or((name, place));
-    Some(Origin {
-        file,
-        line: Some(digits.parse::<usize>().ok()?),
-        text,
-        is_built: true,
-    })
+    Some((file, digits.parse::<usize>().ok()?, text))
 }
 
 /// The name of the file that a program was built from, if `dpv build` wrote it.
@@ -259,35 +210,20 @@ fn origin_of<'a>(
     before: Option<Origin<'a>>,
 ) -> Origin<'a> {
     let words = words_of(text, number);
-    let own = Origin {
-        file: source.name,
-        line: Some(number),
-        text: words.text,
-        is_built: false,
-    };
-    let Some(name) = built_name(source) else {
-        return own;
-    };
     let comment = words.comment().unwrap_or(words.code());
-    match built_from(comment, name).or(before) {
-        Some(origin) => origin,
-        None => Origin {
-            file: name,
-            line: None,
-            text: comment,
-            is_built: true,
+    let (file, line, text, is_built) = match built_name(source) {
+        None => (source.name, Some(number), words.text, false),
+        Some(name) => match (built_from(comment, name), before) {
+            (Some((file, line, text)), _) => (file, Some(line), text, true),
+            (None, Some(before)) => return before,
+            (None, None) => (name, None, comment, true),
         },
-    }
-}
-
-/// How many packets an instruction sent.
-fn sent_at(counts: StepCounts, instr: &Instr) -> u64 {
-    match instr {
-        Instr::Tx { .. } | Instr::Enq { .. } => {
-            let StepCounts { ran, taken, cut } = counts;
-            ran.wrapping_sub(taken).wrapping_sub(cut)
-        }
-        _ => 0,
+    };
+    Origin {
+        file,
+        line,
+        text,
+        is_built,
     }
 }
 
@@ -305,52 +241,6 @@ fn add_counts<'a>(lines: &mut Vec<LineCounts<'a>>, more: LineCounts<'a>) -> Resu
     Ok(())
 }
 
-/// The counts of the instruction in the line with this number, if it has one; `before` is the line of the instruction before it.
-fn counted_at<'a>(
-    reader: &mut NodeCounts<'_>,
-    source: &NodeSource<'a>,
-    number: usize,
-    line: SourceLine<'a>,
-    before: Option<Origin<'a>>,
-) -> Option<LineCounts<'a>> {
-    let step = line.step?;
-    let instrs = source.instrs.as_slice();
-    let instr = instrs.get(step.label)?;
-    let origin = origin_of(source, (number, line.text), before);
-    let dropped = dropped_at(&mut *reader, instrs, step.label, instr);
-    let counts = reader.step(step.label);
-    let came = if Some(origin) == before {
-        0
-    } else {
-        counts.ran
-    };
-    let sent = sent_at(counts, instr);
-    Some(LineCounts {
-        origin,
-        came,
-        sent,
-        dropped,
-    })
-}
-
-/// Adds the counts of a program to those of its lines.
-fn add_lines<'a>(
-    counts: &Counts,
-    source: &NodeSource<'a>,
-    lines: &mut Vec<LineCounts<'a>>,
-) -> Result<(), AllocError> {
-    let mut reader = counts.node(source.node);
-    let mut before = None;
-    for (k, line) in source.lines.as_slice().iter().enumerate() {
-        let number = k.saturating_add(1);
-        if let Some(more) = counted_at(&mut reader, source, number, *line, before) {
-            before = Some(more.origin);
-            add_counts(lines, more)?;
-        }
-    }
-    Ok(())
-}
-
 /// The counts of a program by the lines of its source, in their order; those of included files come last. Control came to a line as often as to the
 /// instructions in it that do not follow one of the same line.
 ///
@@ -362,9 +252,27 @@ pub fn lines_counted<'a>(
     counts: &Counts,
     source: &NodeSource<'a>,
 ) -> Result<Vec<LineCounts<'a>>, AllocError> {
-    let name = source_name(source);
     let mut lines = Vec::new(alloc);
-    add_lines(counts, source, &mut lines)?;
+    let mut before = None;
+    for (k, line) in source.lines.as_slice().iter().enumerate() {
+        if let Some(step) = line.step
+            && let Some(instr) = source.instrs.as_slice().get(step.label)
+        {
+            let origin = origin_of(source, (k.saturating_add(1), line.text), before);
+            let StepCounts { ran, taken, cut } = counts.step(source.node, step.label);
+            let passed = ran.wrapping_sub(taken).wrapping_sub(cut);
+            let is_sent = matches!(*instr, Instr::Tx { .. } | Instr::Enq { .. });
+            let more = LineCounts {
+                origin,
+                came: if Some(origin) == before { 0 } else { ran },
+                sent: if is_sent { passed } else { 0 },
+                dropped: dropped_at(counts, source, step.label, instr),
+            };
+            add_counts(&mut lines, more)?;
+            before = Some(origin);
+        }
+    }
+    let name = source_name(source);
     lines.sort_by_key(|line| (
         line.origin.file != name,
         line.origin.line.unwrap_or(usize::MAX),
@@ -373,41 +281,14 @@ pub fn lines_counted<'a>(
 }
 
 /// Adds to the count of a name of a node.
-fn add_named<'a>(
-    all: &mut Vec<NamedCount<'a>>,
-    node: Entry,
-    name: &'a str,
-    packets: u64,
-) -> Result<(), AllocError> {
+fn add_named<'a>(all: &mut Vec<NamedCount<'a>>, more: NamedCount<'a>) -> Result<(), AllocError> {
     for own in all.as_mut_slice() {
-        if own.node == node && own.name == name {
-            own.packets = own.packets.wrapping_add(packets);
+        if own.node == more.node && own.name == more.name {
+            own.packets = own.packets.wrapping_add(more.packets);
             return Ok(());
         }
     }
-    all.push(NamedCount {
-        node,
-        name,
-        packets,
-    })?;
-    Ok(())
-}
-
-/// Adds the counts of a program that have names.
-fn push_named<'a>(
-    counts: &Counts,
-    source: &NodeSource<'a>,
-    all: &mut Vec<NamedCount<'a>>,
-) -> Result<(), AllocError> {
-    let mut reader = counts.node(source.node);
-    for line in source.lines.as_slice() {
-        if let Some(step) = line.step
-            && let Some(comment) = words_of(line.text, 0).comment()
-            && let Some((name, _rest)) = counter_in(comment)
-        {
-            add_named(all, source.node, name, reader.step(step.label).ran)?;
-        }
-    }
+    all.push(more)?;
     Ok(())
 }
 
@@ -424,7 +305,21 @@ pub fn named_counts<'a>(
 ) -> Result<Vec<NamedCount<'a>>, AllocError> {
     let mut all = Vec::new(alloc);
     for source in sources {
-        push_named(counts, source, &mut all)?;
+        let node = source.node;
+        for line in source.lines.as_slice() {
+            if let Some(step) = line.step
+                && let Some(comment) = words_of(line.text, 0).comment()
+                && let Some((name, _rest)) = counter_in(comment)
+            {
+                let packets = counts.step(node, step.label).ran;
+                let more = NamedCount {
+                    node,
+                    name,
+                    packets,
+                };
+                add_named(&mut all, more)?;
+            }
+        }
     }
     Ok(all)
 }

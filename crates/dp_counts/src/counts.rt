@@ -1,12 +1,11 @@
 //! A watcher that counts how often each instruction ran.
-ghost use Rattle.std.specs.Prelude.{◌≡◌, ◌+◌, ◌*◌, ◌<◌, ◌≤◌, ◌↔◌, length, slice_index, IfOk, IsTrue};
+ghost use Rattle.std.specs.Prelude.{◌≡◌, ◌+◌, ◌*◌, ◌<◌, ◌≤◌, ◌↔◌, length, IfOk, IsTrue};
 ghost use Rattle.dp_lang.specs.declared.program.TheConstants.{MAX_INSTRS};
 ghost use Rattle.dp_engine.specs.Watching.{IsOneOfEight};
-ghost use Rattle.dp_counts.specs.Counting.{place_of, one_more, on_from, ran_at, step_counts, AreZero, HasNone};
+ghost use Rattle.dp_counts.specs.Counting.{place_of, one_more, step_counts, AreZero, HasNone};
 
 use crate::levels::{Gauge, Levels};
 use crate::losses::{Losses, Refusals};
-use crate::node_counts::NodeCounts;
 use dp_engine::{View, Watch, Way};
 use dp_lang::{MAX_INSTRS, Program};
 use dp_model::Entry;
@@ -16,15 +15,8 @@ use std::marker::Model;
 /// The maximum number of ports, and of rings.
 const MAX_OF_A_KIND: usize = 8;
 
-/// A number for each label that a program of a node may have, for all nodes.
-const ALL_LABELS: usize = 2 * MAX_OF_A_KIND * MAX_INSTRS;
-
-/// Counts node runs: for each instruction of each node how often it ran, how often its jump was taken, and how often a node run was
-/// cut there. The numbers have 64 bits and wrap at 2^64, which no run of captures reaches.
-///
-/// A step to the next instruction costs nothing: how often an instruction ran is a sum over the labels up to its own, computed when it is
-/// read. A taken jump updates two numbers; the beginning of a node run, its end and a cut update one each. Only [`Counts::new`]
-/// allocates.
+/// Counts node runs: for each instruction of each node how often it ran, its jump was taken, and a node run was cut there. The numbers have 64 bits and wrap.
+/// A step to the next instruction costs nothing; a taken jump updates two numbers; the beginning of a node run, its end and a cut update one each.
 #[derive(Drop)]
 pub struct Counts {
     // How often control came to each label, at the beginning of a node run or by a jump.
@@ -64,22 +56,21 @@ pub(crate) fn place_of(node: Entry) -> usize
     }
 }
 
-// Where the counts of a node begin; a place that there is not, if there is no such node.
-#[inline(always)]
-pub(crate) fn place_of_any(node: Entry) -> usize {
-    if is_one_of_eight(node) {
-        place_of(node)
-    } else {
-        ALL_LABELS
+// Whether its number is below eight, the most ports and rings.
+pub(crate) fn is_one_of_eight(node: Entry) -> bool
+    ensures { IsTrue result ↔ IsOneOfEight node }
+{
+    match node {
+        Entry::Port(index) | Entry::Ring(index) => usize::from(index) < MAX_OF_A_KIND,
     }
 }
 
-// Makes a list of this many zeros.
-fn zeros(alloc: Global, count: usize) -> Result<Vec<u64>, AllocError>
+// Makes a zero for each label.
+fn zeros(alloc: Global) -> Result<Vec<u64>, AllocError>
     ensures zero { IfOk result (λ v. AreZero v.items) }
-    ensures len { IfOk result (λ v. length v.items ≡ count) }
+    ensures len { IfOk result (λ v. length v.items ≡ 16 * MAX_INSTRS) }
 {
-    let numbers = Vec::from_elem(alloc, 0u64, count)?;
+    let numbers = Vec::from_elem(alloc, 0u64, 2 * MAX_OF_A_KIND * MAX_INSTRS)?;
     Ok(numbers)
 }
 
@@ -103,15 +94,6 @@ pub struct StepCounts {
     pub cut: u64,
 }
 
-// Whether its number is below eight, the most ports and rings.
-pub(crate) fn is_one_of_eight(node: Entry) -> bool
-    ensures { IsTrue result ↔ IsOneOfEight node }
-{
-    match node {
-        Entry::Port(index) | Entry::Ring(index) => usize::from(index) < MAX_OF_A_KIND,
-    }
-}
-
 impl Counts {
     /// Makes counts that are all zero.
     ///
@@ -122,10 +104,10 @@ impl Counts {
         ensures { IfOk result HasNone }
     {
         Ok(Counts {
-            came: zeros(alloc, ALL_LABELS)?,
-            taken: zeros(alloc, ALL_LABELS)?,
-            ended: zeros(alloc, ALL_LABELS)?,
-            cut: zeros(alloc, ALL_LABELS)?,
+            came: zeros(alloc)?,
+            taken: zeros(alloc)?,
+            ended: zeros(alloc)?,
+            cut: zeros(alloc)?,
             place: 0,
             gauge: Gauge::NEW,
             losses: Losses::new(alloc)?,
@@ -144,71 +126,37 @@ impl Counts {
         self.losses.refusals()
     }
 
-    /// The counts of a node, to be read label by label.
-    pub fn node(&self, node: Entry) -> NodeCounts<'_>
-        ensures { result ≡ record { tally = self.now; node = node } }
-    {
-        NodeCounts::of(self, node)
+    /// How full the rings were, and how few buffers were free. This is tested, not proved.
+    pub fn levels(&self) -> Levels {
+        self.gauge.levels
     }
 
-    /// The counts at a label of a node: zeros if there is no such node or label. It takes a sum over the labels up to this one; [`Counts::node`] is
-    /// faster for many labels of a node.
+    /// The counts at a label of a node: zeros if there is no such node or label. It takes a sum over the labels up to this one.
     pub fn step(&self, node: Entry, label: usize) -> StepCounts
         ensures { result ≡ step_counts self.now node label }
     {
-        let mut reader = self.node(node);
-        reader.step(label)
-    }
-
-    /// How full the rings were, and how few buffers were free. This is tested, not proved.
-    pub fn levels(&self) -> Levels {
-        self.gauge.levels()
-    }
-
-    // How often control came to the label with this index.
-    pub(crate) fn came(&self, k: usize) -> u64
-        requires { k < 16 * MAX_INSTRS }
-        ensures { result ≡ slice_index self.now.came k }
-    {
-        self.came[k]
-    }
-
-    // The counts at the label with this index, given that its instruction ran `ran` times.
-    pub(crate) fn step_at(&self, k: usize, ran: u64) -> StepCounts
-        requires { k < 16 * MAX_INSTRS }
-        ensures { result ≡ record { ran = ran; taken = slice_index self.now.taken k; cut = slice_index self.now.cut k } }
-    {
+        if label >= MAX_INSTRS || !is_one_of_eight(node) {
+            return StepCounts {
+                ran: 0,
+                taken: 0,
+                cut: 0,
+            };
+        }
+        let place = place_of(node);
+        let mut ran = self.came[place];
+        for before in 0..label {
+            let k = place + before;
+            ran = ran
+                .wrapping_sub(self.taken[k])
+                .wrapping_sub(self.ended[k])
+                .wrapping_sub(self.cut[k])
+                .wrapping_add(self.came[k + 1]);
+        }
         StepCounts {
             ran,
-            taken: self.taken[k],
-            cut: self.cut[k],
+            taken: self.taken[place + label],
+            cut: self.cut[place + label],
         }
-    }
-
-    // How often control went from the instruction with this index, which ran `ran` times, to the next one.
-    fn on_from(&self, k: usize, ran: u64) -> u64
-        requires { k < 16 * MAX_INSTRS }
-        ensures { result ≡ on_from self.now k ran }
-    {
-        ran.wrapping_sub(self.taken[k])
-            .wrapping_sub(self.ended[k])
-            .wrapping_sub(self.cut[k])
-    }
-
-    // How often the instruction at the label `to` ran, given that the one at `from` ran `ran` times. The node's counts begin at `place`.
-    pub(crate) fn ran_from(&self, place: usize, from: usize, to: usize, ran: u64) -> u64
-        requires place { place + MAX_INSTRS ≤ 16 * MAX_INSTRS }
-        requires order { from ≤ to }
-        requires label { to < MAX_INSTRS }
-        requires ran { ran ≡ ran_at self.now place from }
-        ensures { result ≡ ran_at self.now place to }
-    {
-        let mut now = ran;
-        for label in from..to {
-            let k = place + label;
-            now = self.on_from(k, now).wrapping_add(self.came[k + 1]);
-        }
-        now
     }
 }
 
@@ -222,7 +170,7 @@ impl Watch for Counts {
         let place = place_of(node);
         self.place = place;
         count(&mut self.came, place);
-        self.losses.note_begin(node);
+        self.losses.note_begin(place);
         self.gauge.note_begin(node, &view);
     }
 

@@ -1,12 +1,12 @@
 //! The counts of a run as parts of a document.
 
 use crate::by_line::{DropCause, DropPlace, LineCounts, NamedCount, Origin};
-use crate::counts::{Counts, StepCounts};
-use crate::source::{NodeSource, Role, Step, words_of};
-use crate::sums::{Total, total_of};
-use dp_console::{Item, Members};
+use crate::counts::Counts;
+use crate::levels::Levels;
+use crate::listing::{Total, total_of};
+use crate::source::{NodeSource, Role, words_of};
+use dp_console::{Document, Item};
 use dp_model::{Entry, Env};
-use serde::{Described, Serialize, Serializer};
 
 /// The names of ports.
 const PORTS: [&str; 8] = [
@@ -24,18 +24,7 @@ fn name_of(node: Entry) -> Item<'static> {
         Entry::Port(index) => PORTS.get(usize::from(index)),
         Entry::Ring(index) => RINGS.get(usize::from(index)),
     };
-    match name {
-        Some(name) => Item::Text(name),
-        None => Item::Text(""),
-    }
-}
-
-/// The counts of a run: its programs, in UTF-8, with their counts, the sums for each table and each ring, and the least free buffers of each pool.
-#[derive(Clone, Copy)]
-pub struct CountsDocument<'p, 'a> {
-    pub counts: &'p Counts,
-    pub env: &'p Env,
-    pub sources: &'p [NodeSource<'a>],
+    Item::Text(name.unwrap_or(&""))
 }
 
 /// The comment of a line of a program, or `null`, and its code.
@@ -47,209 +36,136 @@ fn parts_of(line: &[u8]) -> (Item<'_>, Item<'_>) {
     }
 }
 
-/// How often the jump of an instruction was taken, if it has a condition; and what ends at it.
-fn items_of(role: Role, counts: StepCounts) -> (Item<'static>, Item<'static>) {
-    match role {
-        Role::Branch | Role::Lookup(_) | Role::Enqueue(_) => {
-            (Item::Number(counts.taken), Item::Null)
-        }
-        Role::Frees => (Item::Null, Item::Text("freed")),
-        Role::Ends => (Item::Null, Item::Text("ended")),
-        Role::Plain => (Item::Null, Item::Null),
-    }
-}
-
-/// Writes an instruction in its line, with its counts.
-fn write_step<S: Serializer>(
-    step: Step,
-    counts: StepCounts,
-    line: &[u8],
-    out: &mut S,
-) -> Result<(), S::Error> {
-    let ((taken, ends), (comment, text)) = (items_of(step.role, counts), parts_of(line));
-    let members = [
-        ("comment", comment),
-        ("cut", Item::Number(counts.cut)),
-        ("ends", ends),
-        ("label", Item::Number(step.label as u64)),
-        ("ran", Item::Number(counts.ran)),
-        ("taken", taken),
-        ("text", text),
-    ];
-    Members(&members).serialize(out)
-}
-
-/// Writes the instructions in the lines of a program, with their counts.
-fn write_lines<S: Serializer>(
-    counts: &Counts,
-    source: &NodeSource<'_>,
-    out: &mut S,
-) -> Result<(), S::Error> {
-    let mut reader = counts.node(source.node);
-    for line in source.lines.as_slice() {
-        if let Some(step) = line.step {
-            write_step(step, reader.step(step.label), line.text, out)?;
-        }
-    }
-    Ok(())
-}
-
-/// Writes a program with its counts.
-fn write_node<S: Serializer>(
-    counts: &Counts,
-    source: &NodeSource<'_>,
-    out: &mut S,
-) -> Result<(), S::Error> {
-    out.begin_map(None)?;
-    out.key("file")?;
-    out.str(source.name)?;
-    out.key("instructions")?;
-    out.begin_seq(None)?;
-    write_lines(counts, source, out)?;
-    out.end_seq()?;
-    out.key("node")?;
-    name_of(source.node).serialize(out)?;
-    out.end_map()
-}
-
-/// Writes the programs with their counts.
-fn write_nodes<S: Serializer>(all: CountsDocument<'_, '_>, out: &mut S) -> Result<(), S::Error> {
-    for source in all.sources {
-        write_node(all.counts, source, out)?;
-    }
-    Ok(())
-}
-
-/// Writes a pool of this many buffers, of which at least `free` were free.
-fn write_pool<S: Serializer>(k: u8, count: u32, free: u32, out: &mut S) -> Result<(), S::Error> {
-    let members = [
-        ("count", Item::Number(u64::from(count))),
-        ("least", Item::Number(u64::from(free.min(count)))),
-        ("pool", Item::Number(u64::from(k))),
-    ];
-    Members(&members).serialize(out)
-}
-
-/// Writes the pools.
-fn write_pools<S: Serializer>(all: CountsDocument<'_, '_>, out: &mut S) -> Result<(), S::Error> {
-    let free = all.counts.levels().free;
-    for k in 0..8u8 {
-        if let Some(pool) = all.env.pools().get(usize::from(k)) {
-            write_pool(k, pool.count, free[usize::from(k)], out)?;
-        }
-    }
-    Ok(())
-}
-
-/// Writes a ring of this many slots, in which at most `waited` packets waited, and which was full this often.
-fn write_ring<S: Serializer>(
-    k: u8,
-    count: u32,
-    waited: u32,
-    full: u64,
-    out: &mut S,
-) -> Result<(), S::Error> {
-    let members = [
-        ("capacity", Item::Number(u64::from(count.saturating_sub(1)))),
-        ("full", Item::Number(full)),
-        ("most", Item::Number(u64::from(waited))),
-        ("ring", Item::Number(u64::from(k))),
-    ];
-    Members(&members).serialize(out)
-}
-
-/// Writes the rings.
-fn write_rings<S: Serializer>(all: CountsDocument<'_, '_>, out: &mut S) -> Result<(), S::Error> {
-    let waited = all.counts.levels().waited;
-    for k in 0..8u8 {
-        if let Some(ring) = all.env.rings().get(usize::from(k)) {
-            let full = total_of(all.counts, Total::Full(k), all.sources);
-            write_ring(k, ring.count, waited[usize::from(k)], full, out)?;
-        }
-    }
-    Ok(())
-}
-
-/// Writes the tables.
-fn write_tables<S: Serializer>(all: CountsDocument<'_, '_>, out: &mut S) -> Result<(), S::Error> {
-    for table in 0..all.env.tables() {
-        let hits = total_of(all.counts, Total::Hits(table), all.sources);
-        let misses = total_of(all.counts, Total::Misses(table), all.sources);
-        let members = [
-            ("hits", Item::Number(hits)),
-            ("misses", Item::Number(misses)),
-            ("table", Item::Number(u64::from(table))),
-        ];
-        Members(&members).serialize(out)?;
-    }
-    Ok(())
-}
-
-/// The lists of the counts, sorted.
-static LISTS: [&str; 4] = ["nodes", "pools", "rings", "tables"];
-
-/// Writes the elements of the list with this name.
-fn write_elements<S: Serializer>(
-    all: CountsDocument<'_, '_>,
-    name: &str,
-    out: &mut S,
-) -> Result<(), S::Error> {
-    match name {
-        "nodes" => write_nodes(all, out),
-        "pools" => write_pools(all, out),
-        "rings" => write_rings(all, out),
-        _ => write_tables(all, out),
-    }
-}
-
-impl Described for CountsDocument<'_, '_> {}
-
-impl Serialize for CountsDocument<'_, '_> {
-    fn serialize<S: Serializer>(&self, out: &mut S) -> Result<(), S::Error> {
-        out.begin_map(None)?;
-        for name in &LISTS {
-            out.key(name)?;
-            out.begin_seq(None)?;
-            write_elements(*self, name, out)?;
-            out.end_seq()?;
-        }
-        out.end_map()
-    }
-}
-
-/// The word for why packets ended.
-fn cause_word(cause: DropCause<'_>) -> &'static str {
-    match cause {
-        DropCause::Oversize => "oversize",
-        DropCause::NoBuffers => "nobuf",
-        DropCause::Left => "left",
-        DropCause::Freed(_) => "freed",
-    }
-}
-
 /// The number of a line, or `null`.
-fn number_of(origin: Origin<'_>) -> Item<'static> {
-    match origin.line {
-        Some(line) => Item::Number(line as u64),
-        None => Item::Null,
+fn number_of(line: Option<usize>) -> Item<'static> {
+    line.map_or(Item::Null, |line| Item::Number(line as u64))
+}
+
+/// The counts of a run: its programs, in UTF-8, with their counts, the sums for each table and each ring, and the least free buffers of each pool.
+#[derive(Clone, Copy)]
+pub struct CountsDocument<'p, 'a> {
+    pub counts: &'p Counts,
+    pub env: &'p Env,
+    pub sources: &'p [NodeSource<'a>],
+}
+
+/// Writes an object of numbers.
+fn write_numbers(to: &mut Document, numbers: &[(&str, u64)]) {
+    to.begin_object("");
+    for (name, number) in numbers {
+        to.item(name, Item::Number(*number));
+    }
+    to.end_object();
+}
+
+impl CountsDocument<'_, '_> {
+    /// Writes the instructions of a program with their counts.
+    fn write_steps(self, source: &NodeSource<'_>, to: &mut Document) {
+        for line in source.lines.as_slice() {
+            if let Some(step) = line.step {
+                let counts = self.counts.step(source.node, step.label);
+                let (taken, ends) = match step.role {
+                    Role::Plain => (Item::Null, Item::Null),
+                    Role::Frees => (Item::Null, Item::Text("freed")),
+                    Role::Ends => (Item::Null, Item::Text("ended")),
+                    _ => (Item::Number(counts.taken), Item::Null),
+                };
+                let (comment, text) = parts_of(line.text);
+                let members = [
+                    ("comment", comment),
+                    ("cut", Item::Number(counts.cut)),
+                    ("ends", ends),
+                    ("label", Item::Number(step.label as u64)),
+                    ("ran", Item::Number(counts.ran)),
+                    ("taken", taken),
+                    ("text", text),
+                ];
+                to.object("", &members);
+            }
+        }
+    }
+
+    /// Writes the programs with their counts.
+    fn write_nodes(self, to: &mut Document) {
+        for source in self.sources {
+            to.begin_object("");
+            to.item("file", Item::Text(source.name));
+            to.begin_list("instructions");
+            self.write_steps(source, to);
+            to.end_list();
+            to.item("node", name_of(source.node));
+            to.end_object();
+        }
+    }
+
+    /// Adds the counts to a document, as a member of this name.
+    pub fn write(self, name: &str, to: &mut Document) {
+        let Levels { waited, free } = self.counts.levels();
+        to.begin_object(name);
+        to.begin_list("nodes");
+        self.write_nodes(to);
+        to.end_list();
+        to.begin_list("pools");
+        for (k, (pool, free)) in (0..8u64).zip(self.env.pools().iter().zip(free)) {
+            let (count, least) = (u64::from(pool.count), u64::from(free.min(pool.count)));
+            write_numbers(to, &[("count", count), ("least", least), ("pool", k)]);
+        }
+        to.end_list();
+        to.begin_list("rings");
+        for (k, (ring, waited)) in (0..8u8).zip(self.env.rings().iter().zip(waited)) {
+            let full = total_of(self.counts, Total::Full(k), self.sources);
+            let (most, k) = (u64::from(waited), u64::from(k));
+            let capacity = u64::from(ring.count.saturating_sub(1));
+            write_numbers(
+                to,
+                &[
+                    ("capacity", capacity),
+                    ("full", full),
+                    ("most", most),
+                    ("ring", k),
+                ],
+            );
+        }
+        to.end_list();
+        to.begin_list("tables");
+        for table in 0..self.env.tables() {
+            let hits = total_of(self.counts, Total::Hits(table), self.sources);
+            let misses = total_of(self.counts, Total::Misses(table), self.sources);
+            let table = u64::from(table);
+            write_numbers(to, &[("hits", hits), ("misses", misses), ("table", table)]);
+        }
+        to.end_list();
+        to.end_object();
     }
 }
 
-impl Described for DropPlace<'_> {}
-
-impl Serialize for DropPlace<'_> {
-    fn serialize<S: Serializer>(&self, out: &mut S) -> Result<(), S::Error> {
-        let (file, line, (comment, text)) = match self.cause {
-            DropCause::Freed(origin) => (
-                Item::Text(origin.file),
-                number_of(origin),
-                if origin.is_built {
-                    (Item::Null, Item::Text(origin.text))
-                } else {
-                    parts_of(origin.text.as_bytes())
+impl DropPlace<'_> {
+    /// Adds the place to a document, as a member of this name.
+    pub fn write(self, name: &str, to: &mut Document) {
+        let (why, origin) = match self.cause {
+            DropCause::Oversize => ("oversize", None),
+            DropCause::NoBuffers => ("nobuf", None),
+            DropCause::Left => ("left", None),
+            DropCause::Freed(origin) => ("freed", Some(origin)),
+        };
+        let (file, line, (comment, text)) = match origin {
+            None => (Item::Null, Item::Null, (Item::Null, Item::Null)),
+            Some(
+                Origin {
+                    file,
+                    line,
+                    text,
+                    is_built,
                 },
-            ),
-            _ => (Item::Null, Item::Null, (Item::Null, Item::Null)),
+            ) => {
+                let built = (Item::Null, Item::Text(text));
+                let parts = if is_built {
+                    built
+                } else {
+                    parts_of(text.as_bytes())
+                };
+                (Item::Text(file), number_of(line), parts)
+            }
         };
         let members = [
             ("comment", comment),
@@ -258,37 +174,35 @@ impl Serialize for DropPlace<'_> {
             ("node", name_of(self.node)),
             ("packets", Item::Number(self.packets)),
             ("text", text),
-            ("why", Item::Text(cause_word(self.cause))),
+            ("why", Item::Text(why)),
         ];
-        Members(&members).serialize(out)
+        to.object(name, &members);
     }
 }
 
-impl Described for LineCounts<'_> {}
-
-impl Serialize for LineCounts<'_> {
-    fn serialize<S: Serializer>(&self, out: &mut S) -> Result<(), S::Error> {
+impl LineCounts<'_> {
+    /// Adds the counts of the line to a document, as a member of this name.
+    pub fn write(self, name: &str, to: &mut Document) {
         let members = [
             ("came", Item::Number(self.came)),
             ("dropped", Item::Number(self.dropped)),
             ("file", Item::Text(self.origin.file)),
-            ("line", number_of(self.origin)),
+            ("line", number_of(self.origin.line)),
             ("sent", Item::Number(self.sent)),
             ("text", Item::Text(self.origin.text)),
         ];
-        Members(&members).serialize(out)
+        to.object(name, &members);
     }
 }
 
-impl Described for NamedCount<'_> {}
-
-impl Serialize for NamedCount<'_> {
-    fn serialize<S: Serializer>(&self, out: &mut S) -> Result<(), S::Error> {
+impl NamedCount<'_> {
+    /// Adds the count to a document, as a member of this name.
+    pub fn write(self, name: &str, to: &mut Document) {
         let members = [
             ("name", Item::Text(self.name)),
             ("node", name_of(self.node)),
             ("packets", Item::Number(self.packets)),
         ];
-        Members(&members).serialize(out)
+        to.object(name, &members);
     }
 }

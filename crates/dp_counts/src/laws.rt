@@ -1,23 +1,22 @@
-//! The laws of counts.
+//! The laws of counts: functions that do nothing.
 ghost use Rattle.dp_counts.specs.Counting.{BeginsAtZero, CountsSteps, CountsTurns, TurnsAreRuns};
 
-/// A law, which does nothing: after events that are a sequence of whole node runs, each count is its old value plus one for each step that it
-/// counts, modulo 2^64.
+/// A law: after events that are a sequence of whole node runs, each count is its old value plus one for each step that it counts, modulo 2^64.
 pub fn counts_are_of_steps()
     ensures { CountsSteps }
 {}
 
-/// A law, which does nothing: counts that begin are 0 at each label of each node.
+/// A law: counts that begin are 0 at each label of each node.
 pub fn counts_begin_at_zero()
     ensures { BeginsAtZero }
 {}
 
-/// A law, which does nothing: the events that a watcher is shown of a turn are a sequence of whole node runs.
+/// A law: the events that a watcher is shown of a turn are a sequence of whole node runs.
 pub fn turns_are_runs()
     ensures { TurnsAreRuns }
 {}
 
-/// A law, which does nothing: over a turn that is shown to `Counts`, each count grows by the steps of that turn that it counts.
+/// A law: over a turn that is shown to `Counts`, each count grows by the steps of that turn that it counts.
 pub fn counts_are_of_turns()
     ensures { CountsTurns }
 {}

@@ -12,65 +12,36 @@ pub struct Levels {
     pub free: [u32; 8],
 }
 
-impl Levels {
-    /// Nothing was seen yet.
-    pub const NONE: Levels = Levels {
-        waited: [0; 8],
-        free: [u32::MAX; 8],
-    };
-
-    // Reads how many buffers of each pool are free.
-    fn note_pools(&mut self, view: &View<'_>) {
-        for k in 0..8u8 {
-            let Some(free) = view.free(u32::from(k)) else {
-                return;
-            };
-            let least = &mut self.free[usize::from(k)];
-            *least = free.min(*least);
-        }
-    }
-
-    // Reads how full each ring is.
-    fn note_rings(&mut self, view: &View<'_>) {
-        for k in 0..8u8 {
-            let Some(waiting) = view.waiting(k) else {
-                return;
-            };
-            let most = &mut self.waited[usize::from(k)];
-            *most = waiting.max(*most);
-        }
-    }
-}
-
-/// A value that no number of allocation calls has.
-const NEVER: u64 = u64::MAX;
-
 /// Tracks levels, and looks only when they can have changed: a pool has fewer free buffers only after an allocation call, and no packet leaves
 /// a ring within a node run, so it is fullest at the end.
 #[derive(Clone, Copy)]
 pub(crate) struct Gauge {
-    levels: Levels,
-    // How many allocation calls there were when the pools were last looked at.
+    pub(crate) levels: Levels,
+    /// How many allocation calls there were when the pools were last looked at; first a number that there never is.
     calls: u64,
 }
 
 impl Gauge {
     /// Nothing was seen yet.
     pub(crate) const NEW: Gauge = Gauge {
-        levels: Levels::NONE,
-        calls: NEVER,
+        levels: Levels {
+            waited: [0; 8],
+            free: [u32::MAX; 8],
+        },
+        calls: u64::MAX,
     };
 
-    /// The levels so far.
-    pub(crate) fn levels(&self) -> Levels {
-        self.levels
-    }
-
-    // Reads how many buffers are free.
+    // Reads how many buffers of each pool are free.
     #[inline(never)]
     fn note_pools(&mut self, view: &View<'_>) {
         self.calls = view.calls();
-        self.levels.note_pools(view);
+        for k in 0..8u8 {
+            let Some(free) = view.free(u32::from(k)) else {
+                return;
+            };
+            let least = &mut self.levels.free[usize::from(k)];
+            *least = free.min(*least);
+        }
     }
 
     /// Looks after an instruction: if it was an allocation call, at the pools.
@@ -90,10 +61,16 @@ impl Gauge {
         }
     }
 
-    /// Looks at the end of a node run.
+    /// Looks at the end of a node run, also at how full each ring is.
     #[inline(always)]
     pub(crate) fn note_end(&mut self, view: &View<'_>) {
         self.note_step(view);
-        self.levels.note_rings(view);
+        for k in 0..8u8 {
+            let Some(waiting) = view.waiting(k) else {
+                return;
+            };
+            let most = &mut self.levels.waited[usize::from(k)];
+            *most = waiting.max(*most);
+        }
     }
 }

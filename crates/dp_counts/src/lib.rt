@@ -8,11 +8,10 @@
 //! source, of the language pkt where `dpv build` wrote the program; `drop_places` is where packets ended, and `named_counts` what has a name.
 //! `Losses` is a watcher that counts only what was refused.
 //!
-//! Who owns what: the caller owns the `Counts` and lends them to the run; `NodeCounts` borrows them. Only `new` takes memory, 560 kB.
+//! Who owns what: the caller owns the `Counts` and lends them to the run. Only `new` takes memory, 560 kB.
 //!
-//! What not to assume: a number wraps at 2^64, which no run of captures reaches. `step` adds up from label 0 each time: use `Counts::node` to read
-//! many labels of a node. A step that was cut counts as one that ran and not as a jump. `levels`, refusals, sums by lines, names and documents are
-//! tested, not proved.
+//! What not to assume: a number wraps at 2^64, which no run of captures reaches. `step` adds up from label 0 each time. A step that was cut counts as one
+//! that ran and not as a jump. `levels`, refusals, which line has which instruction, sums by lines, names and documents are tested, not proved.
 #![tactic(auto)]
 
 mod by_line;
@@ -22,11 +21,8 @@ mod laws;
 mod levels;
 mod listing;
 mod losses;
-mod node_counts;
 mod reader;
 mod source;
-mod sums;
-mod totals;
 
 pub use by_line::{
     DropCause, DropPlace, LineCounts, NamedCount, Origin, drop_places, lines_counted, named_counts,
@@ -36,10 +32,7 @@ pub use counts::{Counts, StepCounts};
 pub use document::CountsDocument;
 pub use laws::{counts_are_of_steps, counts_are_of_turns, counts_begin_at_zero, turns_are_runs};
 pub use levels::Levels;
-pub use listing::print_programs;
+pub use listing::{Total, print_pools, print_programs, print_rings, print_tables, total_of};
 pub use losses::{Losses, Refusals};
-pub use node_counts::NodeCounts;
 pub use reader::{CountsError, ReadCount, counts_of};
 pub use source::{NodeSource, Role, SourceLine, Step, lines_of};
-pub use sums::{Total, total_of};
-pub use totals::{print_pools, print_rings, print_tables};

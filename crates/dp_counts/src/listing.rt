@@ -1,78 +1,47 @@
-//! Prints the programs of a pipeline with their counts.
-ghost use Rattle.std.specs.Prelude.{◌≡◌, OnOk};
+//! Prints the programs of a pipeline with their counts, the sums for each table and each ring, and how few buffers of each pool were free.
+ghost use Rattle.std.specs.Prelude.{◌≡◌, ◌≤◌, OnOk, length, take};
 ghost use Rattle.std.specs.Io.KnownBytes.{Appends};
-ghost use Rattle.dp_counts.specs.Sources.{view_line};
 ghost use Rattle.dp_counts.specs.Listings as spec;
+ghost use Rattle.dp_counts.specs.Totals as totals;
 
 use crate::counts::{Counts, StepCounts};
-use crate::node_counts::NodeCounts;
+use crate::levels::Levels;
 use crate::source::{NodeSource, Role, SourceLine};
-use dp_model::Entry;
+use dp_model::{Entry, PoolSpec, RingSpec};
 use std::io::{self, Write};
 
-/// An empty column.
-const NOTHING: &str = "          ";
-
-// The word for packets that ended at an instruction, if there were any.
-fn word_of(role: Role, ran: u64) -> &'static str
-    ensures { result.now ≡ spec.word_of role ran }
+// Prints the columns of an instruction: how often it ran, and how often its jump was taken, or the word for packets that ended there.
+fn print_columns<O: Write>(role: Role, counts: StepCounts, out: &mut O) -> io::Result<()>
+    ensures { OnOk result (Appends (O.contents out.old) (O.contents out.new) (spec.columns_of role counts)) }
 {
-    if ran == 0 {
-        return NOTHING;
-    }
+    let StepCounts { ran, taken, .. } = counts;
     match role {
-        Role::Frees => "     freed",
-        Role::Ends => "     ended",
-        Role::Plain | Role::Branch | Role::Lookup(_) | Role::Enqueue(_) => NOTHING,
+        Role::Frees if ran > 0 => write!(out, "{ran:>10}     freed  "),
+        Role::Ends if ran > 0 => write!(out, "{ran:>10}     ended  "),
+        Role::Plain | Role::Frees | Role::Ends => write!(out, "{ran:>10}            "),
+        _ => write!(out, "{ran:>10}{taken:>10}  "),
     }
 }
 
-// Prints the second column of an instruction: how often its jump was taken, or the word for packets that ended there.
-fn print_beside<O: Write>(role: Role, counts: StepCounts, out: &mut O) -> io::Result<()>
-    ensures { OnOk result (Appends (O.contents out.old) (O.contents out.new) (spec.beside role counts)) }
-{
-    match role {
-        Role::Branch | Role::Lookup(_) | Role::Enqueue(_) => write!(out, "{:>10}", counts.taken),
-        Role::Plain | Role::Frees | Role::Ends => write!(out, "{}", word_of(role, counts.ran)),
-    }
-}
-
-// Prints the rest of a line: its text after two blanks.
-fn print_text<O: Write>(text: &[u8], out: &mut O) -> io::Result<()>
-    ensures { OnOk result (Appends (O.contents out.old) (O.contents out.new) (spec.text_of text.now)) }
-{
-    write!(out, "  ")?;
-    out.write_all(text)?;
-    writeln!(out)
-}
-
-// Prints how many node runs were cut at an instruction, if there were any.
-fn print_cut<O: Write>(cut: u64, out: &mut O) -> io::Result<()>
-    ensures { OnOk result (Appends (O.contents out.old) (O.contents out.new) (spec.cut_line cut)) }
-{
-    if cut == 0 {
-        return Ok(());
-    }
-    writeln!(out, "{cut:>10}       cut")
-}
-
-// Prints the line of an instruction.
+// Prints the line of an instruction, and how many node runs were cut there, if there were any.
 fn print_step<O: Write>(role: Role, counts: StepCounts, text: &[u8], out: &mut O) -> io::Result<()>
     ensures { OnOk result (Appends (O.contents out.old) (O.contents out.new) (spec.step_line role counts text.now)) }
 {
-    write!(out, "{:>10}", counts.ran)?;
-    print_beside(role, counts, out)?;
-    print_text(text, out)?;
-    print_cut(counts.cut, out)
+    print_columns(role, counts, out)?;
+    out.write_all(text)?;
+    if counts.cut == 0 {
+        return writeln!(out);
+    }
+    writeln!(out, "\n{:>10}       cut", counts.cut)
 }
 
 // Prints a text after two empty columns.
-fn print_beside_nothing<O: Write>(text: &[u8], out: &mut O) -> io::Result<()>
-    ensures { OnOk result (Appends (O.contents out.old) (O.contents out.new) (spec.beside_nothing text.now)) }
+fn print_indented<O: Write>(text: &[u8], out: &mut O) -> io::Result<()>
+    ensures { OnOk result (Appends (O.contents out.old) (O.contents out.new) (spec.indented text.now)) }
 {
-    write!(out, "{NOTHING}")?;
-    write!(out, "{NOTHING}")?;
-    print_text(text, out)
+    write!(out, "                      ")?;
+    out.write_all(text)?;
+    writeln!(out)
 }
 
 // Prints a line without an instruction.
@@ -81,38 +50,31 @@ fn print_other<O: Write>(text: &[u8], out: &mut O) -> io::Result<()>
 {
     match text {
         [] => writeln!(out),
-        _ => print_beside_nothing(text, out),
+        _ => print_indented(text, out),
     }
 }
 
 // Prints a line of a program.
 fn print_line<O: Write>(
-    counts: &mut NodeCounts<'_>,
-    line: SourceLine<'_>,
+    counts: &Counts,
+    node: Entry,
+    line: &SourceLine<'_>,
     out: &mut O,
 ) -> io::Result<()>
-    ensures printed { OnOk result (Appends (O.contents out.old) (O.contents out.new)
-        (spec.line_text counts.old.tally counts.old.node (view_line line.entry))) }
-    ensures same { counts.new ≡ counts.old }
+    ensures { OnOk result (Appends (O.contents out.old) (O.contents out.new) (spec.line_text counts.now node line.now)) }
 {
     match line.step {
-        Some(step) => print_step(step.role, counts.step(step.label), line.text, out),
+        Some(step) => print_step(step.role, counts.step(node, step.label), line.text, out),
         None => print_other(line.text, out),
     }
 }
 
 // Prints the lines of a program.
-fn print_lines<O: Write>(
-    counts: &Counts,
-    node: Entry,
-    lines: &[SourceLine<'_>],
-    out: &mut O,
-) -> io::Result<()>
-    ensures { OnOk result (Appends (O.contents out.old) (O.contents out.new) (spec.lines_text counts.now node lines.now)) }
+fn print_lines<O: Write>(counts: &Counts, source: &NodeSource<'_>, out: &mut O) -> io::Result<()>
+    ensures { OnOk result (Appends (O.contents out.old) (O.contents out.new) (spec.lines_text counts.now source.now.node source.now.lines.items)) }
 {
-    let mut reader = counts.node(node);
-    for line in lines {
-        print_line(&mut reader, *line, out)?;
+    for line in source.lines.as_slice() {
+        print_line(counts, source.node, line, out)?;
     }
     Ok(())
 }
@@ -125,14 +87,6 @@ fn print_heading<O: Write>(node: Entry, name: &str, out: &mut O) -> io::Result<(
         Entry::Port(port) => writeln!(out, "port {port} {name}\n       ran     taken"),
         Entry::Ring(ring) => writeln!(out, "ring {ring} {name}\n       ran     taken"),
     }
-}
-
-// Prints a program with its counts.
-fn print_node<O: Write>(counts: &Counts, source: &NodeSource<'_>, out: &mut O) -> io::Result<()>
-    ensures { OnOk result (Appends (O.contents out.old) (O.contents out.new) (spec.node_text counts.now source.now)) }
-{
-    print_heading(source.node, source.name, out)?;
-    print_lines(counts, source.node, source.lines.as_slice(), out)
 }
 
 /// Prints the programs of a pipeline with their counts.
@@ -148,7 +102,135 @@ pub fn print_programs<O: Write>(
     ensures { OnOk result (Appends (O.contents out.old) (O.contents out.new) (spec.programs_text counts.now sources.now)) }
 {
     for source in sources {
-        print_node(counts, source, out)?;
+        print_heading(source.node, source.name, out)?;
+        print_lines(counts, source, out)?;
+    }
+    Ok(())
+}
+
+/// A sum over instructions of several programs.
+#[derive(Clone, Copy)]
+pub enum Total {
+    /// The lookups for which this table had a hop.
+    Hits(u8),
+    /// The lookups for which this table had none.
+    Misses(u8),
+    /// How often a packet was to be put into this ring while it was full.
+    Full(u8),
+}
+
+// What a line adds: how often the jump of its instruction was not taken, or how often it was taken or cut.
+fn share_of_line(counts: &Counts, total: Total, node: Entry, line: &SourceLine<'_>) -> u64
+    ensures { result ≡ totals.share_of_line counts.now total node line.now }
+{
+    match line.step {
+        Some(step) => share(counts.step(node, step.label), total, step.role),
+        None => 0,
+    }
+}
+
+// What an instruction adds.
+fn share(counts: StepCounts, total: Total, role: Role) -> u64
+    ensures { result ≡ totals.share total role counts }
+{
+    let StepCounts { ran, taken, cut } = counts;
+    match (total, role) {
+        (Total::Hits(table), Role::Lookup(own)) if own == table => {
+            ran.saturating_sub(taken).saturating_sub(cut)
+        }
+        (Total::Misses(wanted), Role::Lookup(own)) | (Total::Full(wanted), Role::Enqueue(own))
+            if own == wanted => { taken.wrapping_add(cut) }
+        _ => 0,
+    }
+}
+
+// What a program adds.
+fn share_of_node(counts: &Counts, total: Total, source: &NodeSource<'_>) -> u64
+    ensures { result ≡ totals.share_of_node counts.now total source.now }
+{
+    let mut sum = 0u64;
+    for line in source.lines.as_slice() {
+        sum = sum.wrapping_add(share_of_line(counts, total, source.node, line));
+    }
+    sum
+}
+
+/// The sum over all programs, modulo 2^64.
+pub fn total_of(counts: &Counts, total: Total, sources: &[NodeSource<'_>]) -> u64
+    ensures { result ≡ totals.total_of counts.now total sources.now }
+{
+    let mut sum = 0u64;
+    for source in sources {
+        sum = sum.wrapping_add(share_of_node(counts, total, source));
+    }
+    sum
+}
+
+/// Prints for each table how many lookups in it found a hop, and how many found none.
+///
+/// # Errors
+///
+/// The error of the first write that failed.
+pub fn print_tables<O: Write>(
+    counts: &Counts,
+    tables: u8,
+    sources: &[NodeSource<'_>],
+    out: &mut O,
+) -> io::Result<()>
+    ensures { OnOk result (Appends (O.contents out.old) (O.contents out.new) (totals.table_lines counts.now sources.now tables)) }
+{
+    for table in 0..tables {
+        let hits = total_of(counts, Total::Hits(table), sources);
+        let misses = total_of(counts, Total::Misses(table), sources);
+        writeln!(out, "table {table} hits {hits} misses {misses}")?;
+    }
+    Ok(())
+}
+
+// The rings or pools that a pipeline can have: the first eight.
+fn first_eight<T>(parts: &[T]) -> &[T]
+    ensures same { result.now ≡ take 8 parts.now }
+    ensures few { length result.now ≤ 8 }
+{
+    if parts.len() > 8 { &parts[..8] } else { parts }
+}
+
+/// Prints for each ring, eight at most, the most packets that waited in it, its capacity, and how often it was full.
+///
+/// # Errors
+///
+/// The error of the first write that failed.
+pub fn print_rings<O: Write>(
+    counts: &Counts,
+    levels: &Levels,
+    rings: &[RingSpec],
+    sources: &[NodeSource<'_>],
+    out: &mut O,
+) -> io::Result<()>
+    ensures { OnOk result (Appends (O.contents out.old) (O.contents out.new) (totals.ring_lines counts.now levels.now sources.now (take 8 rings.now))) }
+{
+    let rings = first_eight(rings);
+    for k in 0..rings.len() {
+        let (waited, most) = (levels.waited[k], rings[k].count.saturating_sub(1));
+        let full = total_of(counts, Total::Full(k as u8), sources);
+        writeln!(out, "ring {k} waited {waited} of {most} full {full}")?;
+    }
+    Ok(())
+}
+
+/// Prints for each pool, eight at most, the least number of its buffers that were free, and how many it has.
+///
+/// # Errors
+///
+/// The error of the first write that failed.
+pub fn print_pools<O: Write>(levels: &Levels, pools: &[PoolSpec], out: &mut O) -> io::Result<()>
+    ensures { OnOk result (Appends (O.contents out.old) (O.contents out.new) (totals.pool_lines levels.now (take 8 pools.now))) }
+{
+    let pools = first_eight(pools);
+    for k in 0..pools.len() {
+        let count = pools[k].count;
+        let least = levels.free[k].min(count);
+        writeln!(out, "pool {k} least {least} of {count}")?;
     }
     Ok(())
 }

@@ -1,6 +1,6 @@
 //! Counts what was refused: packets by full transmit lists and full rings, and buffers by pools.
 
-use crate::counts::place_of_any;
+use crate::counts::{is_one_of_eight, place_of};
 use dp_engine::{View, Watch, Way};
 use dp_lang::{MAX_INSTRS, Program};
 use dp_model::{Entry, Instr, NumberRegister};
@@ -9,7 +9,6 @@ use std::alloc::{AllocError, Global};
 /// What an instruction asks for that may be refused. Then it jumps.
 #[derive(Clone, Copy)]
 enum Request {
-    /// Nothing.
     None,
     /// A place in the transmit list of the port in this register.
     Send(NumberRegister),
@@ -84,9 +83,9 @@ impl Losses {
 
     /// Adds the program of a node.
     pub fn add(&mut self, node: Entry, program: &Program) {
-        let place = place_of_any(node);
-        for (label, instr) in program.instrs().iter().enumerate() {
-            if let Some(request) = self.requests.get_mut(place.saturating_add(label)) {
+        if is_one_of_eight(node) {
+            let requests = self.requests.as_mut_slice().iter_mut().skip(place_of(node));
+            for (request, instr) in requests.zip(program.instrs()) {
                 *request = Request::of(instr);
             }
         }
@@ -97,10 +96,10 @@ impl Losses {
         self.refusals
     }
 
-    /// A node run of a node begins.
+    /// A node run begins, of the node whose instructions begin at this place.
     #[inline(always)]
-    pub(crate) fn note_begin(&mut self, node: Entry) {
-        self.place = place_of_any(node);
+    pub(crate) fn note_begin(&mut self, place: usize) {
+        self.place = place;
     }
 
     /// The jump of the instruction at this label was taken, or cut.
@@ -126,7 +125,7 @@ impl Watch for Losses {
 
     #[inline(always)]
     fn begin(&mut self, node: Entry, _view: View<'_>) {
-        self.note_begin(node);
+        self.note_begin(place_of(node));
     }
 
     #[inline(always)]

@@ -34,20 +34,6 @@ pub enum CountsError {
     NoNode,
 }
 
-/// The place of a node or of an instruction in a list, before the name of a member.
-#[derive(Clone, Copy)]
-struct Place(&'static str, Option<usize>);
-
-impl fmt::Display for Place {
-    fn fmt<W: fmt::Write>(&self, f: &mut fmt::Formatter<W>) -> fmt::Result {
-        let Place(list, index) = *self;
-        match index {
-            Some(index) => write!(f, "{list}[{index}]."),
-            None => Ok(()),
-        }
-    }
-}
-
 impl fmt::Display for CountsError {
     fn fmt<W: fmt::Write>(&self, f: &mut fmt::Formatter<W>) -> fmt::Result {
         match *self {
@@ -61,23 +47,25 @@ impl fmt::Display for CountsError {
                 name,
                 wanted,
             } => {
-                let (node, instruction) = (
-                    Place("counts.nodes", node),
-                    Place("instructions", instruction),
-                );
-                write!(f, "{node}{instruction}{name} is not {wanted}")
+                if let Some(node) = node {
+                    write!(f, "counts.nodes[{node}].")?;
+                }
+                if let Some(instruction) = instruction {
+                    write!(f, "instructions[{instruction}].")?;
+                }
+                write!(f, "{name} is not {wanted}")
             }
             CountsError::NoNode => f.write_str("it has no counts of this node"),
         }
     }
 }
 
+/// The name of a member that is not what it must be, and what that is.
+type Member = (&'static str, &'static str);
+
 /// The error for a member.
-fn bad(
-    node: Option<usize>,
-    instruction: Option<usize>,
-    (name, wanted): (&'static str, &'static str),
-) -> CountsError {
+fn bad(node: Option<usize>, instruction: Option<usize>, member: Member) -> CountsError {
+    let (name, wanted) = member;
     CountsError::BadMember {
         node,
         instruction,
@@ -94,8 +82,8 @@ fn number_of(value: &Value) -> Option<u64> {
     }
 }
 
-/// The counts of an instruction with this number; or the name of the first member that is not what it must be, and what that is.
-fn step_of(value: &Value, number: usize) -> Result<ReadCount, (&'static str, &'static str)> {
+/// The counts of an instruction with this number; or its first member that is not what it must be.
+fn step_of(value: &Value, number: usize) -> Result<ReadCount, Member> {
     if value.get("label").and_then(Value::as_u64) != Some(number as u64) {
         return Err(("label", "the number of the instruction, from 0"));
     }
@@ -115,49 +103,21 @@ fn step_of(value: &Value, number: usize) -> Result<ReadCount, (&'static str, &'s
 }
 
 /// The counts of the instructions of the node with this index.
-fn steps_of(
-    alloc: Global,
-    instructions: &[Value],
-    node: usize,
-) -> Result<Vec<ReadCount>, CountsError> {
+fn steps_of(alloc: Global, node: &Value, k: usize) -> Result<Vec<ReadCount>, CountsError> {
+    let Some(instructions) = node.get("instructions").and_then(Value::as_array) else {
+        return Err(bad(Some(k), None, ("instructions", "a list")));
+    };
     let mut steps = Vec::new(alloc);
-    for (number, value) in instructions.iter().enumerate() {
+    for (number, value) in instructions.as_slice().iter().enumerate() {
         let step = match step_of(value, number) {
             Ok(step) => step,
-            Err(member) => return Err(bad(Some(node), Some(number), member)),
+            Err(member) => return Err(bad(Some(k), Some(number), member)),
         };
         if steps.push(step).is_err() {
             return Err(CountsError::Memory);
         }
     }
     Ok(steps)
-}
-
-/// The index of the node with this name, and its value.
-fn node_named<'a>(nodes: &'a [Value], name: &str) -> Result<(usize, &'a Value), CountsError> {
-    for (k, node) in nodes.iter().enumerate() {
-        match node.get("node").and_then(Value::as_str) {
-            None => return Err(bad(Some(k), None, ("node", "a text"))),
-            Some(found) if found == name => return Ok((k, node)),
-            Some(_) => {}
-        }
-    }
-    Err(CountsError::NoNode)
-}
-
-/// The value of a text.
-fn value_of(alloc: Global, text: &[u8]) -> Result<Value, CountsError> {
-    let Ok(text) = std::str::from_utf8(text) else {
-        return Err(CountsError::NotJson { line: 0, column: 0 });
-    };
-    match Value::from_str(alloc, text) {
-        Ok(value) => Ok(value),
-        Err(error) if error.is_memory() => Err(CountsError::Memory),
-        Err(error) => Err(CountsError::NotJson {
-            line: error.line(),
-            column: error.column(),
-        }),
-    }
 }
 
 /// The counts of each instruction of the node with this name in a document.
@@ -168,11 +128,14 @@ fn counts_in(alloc: Global, document: &Value, name: &str) -> Result<Vec<ReadCoun
     let Some(nodes) = counts.get("nodes").and_then(Value::as_array) else {
         return Err(bad(None, None, ("counts.nodes", "a list")));
     };
-    let (k, found) = node_named(nodes.as_slice(), name)?;
-    match found.get("instructions").and_then(Value::as_array) {
-        Some(instructions) => steps_of(alloc, instructions.as_slice(), k),
-        None => Err(bad(Some(k), None, ("instructions", "a list"))),
+    for (k, node) in nodes.as_slice().iter().enumerate() {
+        match node.get("node").and_then(Value::as_str) {
+            None => return Err(bad(Some(k), None, ("node", "a text"))),
+            Some(found) if found == name => return steps_of(alloc, node, k),
+            Some(_) => {}
+        }
     }
+    Err(CountsError::NoNode)
 }
 
 /// Returns the counts of each instruction of a node, given by its name, as `port 0`, in a document of `dpv run FILE --counts --json`. They need not be
@@ -183,6 +146,15 @@ fn counts_in(alloc: Global, document: &Value, name: &str) -> Result<Vec<ReadCoun
 ///
 /// Why there are none, as [`CountsError`] has it.
 pub fn counts_of(alloc: Global, text: &[u8], node: &str) -> Result<Vec<ReadCount>, CountsError> {
-    let document = value_of(alloc, text)?;
-    counts_in(alloc, &document, node)
+    let Ok(text) = std::str::from_utf8(text) else {
+        return Err(CountsError::NotJson { line: 0, column: 0 });
+    };
+    match Value::from_str(alloc, text) {
+        Ok(document) => counts_in(alloc, &document, node),
+        Err(error) if error.is_memory() => Err(CountsError::Memory),
+        Err(error) => Err(CountsError::NotJson {
+            line: error.line(),
+            column: error.column(),
+        }),
+    }
 }

@@ -25,15 +25,6 @@ ring_line k left = codes "ring " ++ (decimal k ++ (codes " left " ++ (decimal le
 abbrev pub pool_line : ℕ → PoolReport → List ℕ
 pool_line k p = codes "pool " ++ (decimal k ++ (codes " free " ++ (decimal p.free ++ (codes " of " ++ (decimal p.count ++ 10 ∷ [])))))
 
-abbrev pub port_lines : List PortReport → List ℕ
-port_lines ports = lines_from port_line 0 ports
-
-abbrev pub ring_lines : List ℕ → List ℕ
-ring_lines rings = lines_from ring_line 0 rings
-
-abbrev pub pool_lines : List PoolReport → List ℕ
-pool_lines pools = lines_from pool_line 0 pools
-
 -- the allocation calls
 abbrev pub calls_line : ℕ → ℕ → List ℕ
 calls_line calls refused = codes "calls " ++ (decimal calls ++ (codes " refused " ++ (decimal refused ++ 10 ∷ [])))
@@ -44,4 +35,5 @@ cut_line cut = if nat_lt 0 cut then codes "cut " ++ (decimal cut ++ 10 ∷ []) e
 
 -- a report
 abbrev pub report_text : Report → List ℕ
-report_text r = port_lines r.ports.items ++ (ring_lines r.rings.items ++ (pool_lines r.pools.items ++ (calls_line r.calls r.refused ++ cut_line r.cut)))
+report_text r = lines_from port_line 0 r.ports.items ++ (lines_from ring_line 0 r.rings.items ++ (lines_from pool_line 0 r.pools.items
+    ++ (calls_line r.calls r.refused ++ cut_line r.cut)))

@@ -1,11 +1,12 @@
 //! What a run lost, with what helps.
 
+use dp_console::Text;
 use dp_counts::Refusals;
 use dp_engine::{InputState, PortReport, Report};
-use dp_model::{Entry, Env, MAX_BUFFERS, MAX_RING, MAX_ROOM, MAX_SEGMENTS, PoolSpec, PortSpec};
+use dp_model::{Entry, Env, MAX_BUFFERS, MAX_RING, MAX_ROOM, MAX_SEGMENTS, PortSpec};
 use dp_pipe::NodeName;
 use dp_region::{CACHE_LINE, MIN_REGION};
-use std::fmt;
+use std::fmt::Display;
 
 /// Where the numbers of a run's pipeline are given, which may be too small.
 #[derive(Clone, Copy)]
@@ -30,251 +31,161 @@ pub struct Notes {
     pub origin: Origin,
 }
 
-/// The notes on a run.
+/// A run whose losses are said.
 #[derive(Clone, Copy)]
-pub(crate) struct NoteText<'a> {
-    /// The report of the run, even of one that stopped.
-    pub report: &'a Report,
-    /// What was refused.
-    pub refusals: Refusals,
-    pub env: &'a Env,
-    pub notes: Notes,
+struct Noted<'a> {
+    report: &'a Report,
+    refusals: Refusals,
+    env: &'a Env,
+    origin: Origin,
 }
 
-/// What helps.
-#[derive(Clone, Copy)]
-enum Cure {
-    /// A number of the pipeline file, or an option, may be raised.
-    Raise(&'static str),
-    /// A number of this pool may be raised.
-    RaiseCount(u32),
-    /// There is no pipeline file yet.
-    WriteFile,
-    /// The numbers are at their limits.
-    AtLimit,
-    /// The command line asked for it, this many times.
-    Refuse(u64),
+/// The word for one, or that for any other number.
+fn word(number: u64, one: &'static str, others: &'static str) -> &'static str {
+    if number == 1 { one } else { others }
 }
 
-impl fmt::Display for Cure {
-    fn fmt<W: fmt::Write>(&self, f: &mut fmt::Formatter<W>) -> fmt::Result {
-        match self {
-            Cure::Raise(what) => write!(f, "raise {what}"),
-            Cure::RaiseCount(pool) => write!(f, "raise the count of pool {pool}"),
-            Cure::WriteFile => write!(f, "a pipeline file may give more"),
-            Cure::AtLimit => write!(f, "no pipeline may have more"),
-            Cure::Refuse(calls) => {
-                write!(f, "--refuse refused {}", Number(*calls, "call", "calls"))
-            }
-        }
-    }
-}
-
-/// The longest record that a port takes, in bytes, which fills all its segments; and whether no port takes longer ones.
-fn longest_record(port: &PortSpec, pools: &[PoolSpec]) -> (u64, bool) {
-    match pools.get(port.pool as usize) {
-        Some(pool) => {
-            let longest = u64::from(port.segs) * u64::from(pool.room.saturating_sub(128));
-            (
-                longest,
-                port.segs == u32::from(MAX_SEGMENTS) && pool.room == MAX_ROOM,
-            )
-        }
-        None => (0, true),
-    }
-}
-
-/// A number, with the words for one, and those for any other number.
-#[derive(Clone, Copy)]
-struct Number(u64, &'static str, &'static str);
-
-impl fmt::Display for Number {
-    fn fmt<W: fmt::Write>(&self, f: &mut fmt::Formatter<W>) -> fmt::Result {
-        let Number(number, one, others) = *self;
-        let words = if number == 1 { one } else { others };
-        write!(f, "{number} {words}")
-    }
-}
-
-impl NoteText<'_> {
-    /// What helps where a number of the pipeline is too small that a file has, and no option.
-    fn cure(&self, is_at_limit: bool, cure: Cure) -> Cure {
-        match self.notes.origin {
-            _ if is_at_limit => Cure::AtLimit,
-            Origin::File => cure,
-            Origin::Options | Origin::Fixed => Cure::WriteFile,
+impl Noted<'_> {
+    /// Ends a note with what helps where a number of a pipeline file is too small; these options, if there are any, stand for it.
+    fn end<T: Display + Drop>(self, is_most: bool, number: T, options: &str, out: &mut Text) {
+        match self.origin {
+            _ if is_most => out.say(": no pipeline may have more\n"),
+            Origin::File => out.say(format_args!(": raise {number}\n")),
+            Origin::Options if options != "" => out.say(format_args!(": raise {options}\n")),
+            Origin::Options | Origin::Fixed => out.say(": a pipeline file may give more\n"),
         }
     }
 
-    /// What helps where records are longer than a port takes.
-    fn cure_of_length(&self, is_at_limit: bool) -> Cure {
-        match self.notes.origin {
-            Origin::Options if !is_at_limit => Cure::Raise("--segs or --room"),
-            _ => self.cure(is_at_limit, Cure::Raise("segs or room")),
+    /// Ends a note with what helps where a pool has too few buffers.
+    fn end_of_pool(self, pool: u32, out: &mut Text) {
+        let calls = self.report.refused;
+        if calls > 0 {
+            let word = word(calls, "call", "calls");
+            return out.say(format_args!(": --refuse refused {calls} {word}\n"));
         }
-    }
-
-    /// What helps where a pool has too few buffers.
-    fn cure_of_pool(&self, pool: u32) -> Cure {
-        let is_at_limit = match self.env.pools().get(pool as usize) {
+        let is_most = match self.env.pools().get(pool as usize) {
             Some(own) => own.count >= MAX_BUFFERS,
             None => true,
         };
-        match self.report.refused {
-            0 => self.cure(is_at_limit, Cure::RaiseCount(pool)),
-            calls => Cure::Refuse(calls),
-        }
+        self.end(is_most, format_args!("the count of pool {pool}"), "", out);
     }
 
-    /// Writes which records of a port were not received.
-    fn write_records<W: fmt::Write>(
-        &self,
-        f: &mut fmt::Formatter<W>,
-        k: u8,
-        numbers: PortReport,
-    ) -> fmt::Result {
-        let Some(port) = self.env.ports().get(usize::from(k)) else {
-            return Ok(());
-        };
-        let PortReport {
-            oversize,
-            nobuf,
-            ..
-        } = numbers;
-        if oversize > 0 {
-            let (longest, is_at_limit) = longest_record(port, self.env.pools());
-            let cure = self.cure_of_length(is_at_limit);
-            let records = Number(oversize, "record is", "records are");
-            writeln!(
-                f,
-                "port {k}: {records} longer than it takes ({longest} bytes): {cure}"
-            )?;
+    /// Says which records of a port were not received.
+    fn say_records(self, k: u8, port: &PortSpec, numbers: &PortReport, out: &mut Text) {
+        let (long, few) = (numbers.oversize, numbers.nobuf);
+        if long > 0
+            && let Some(pool) = self.env.pools().get(port.pool as usize)
+        {
+            let most = u64::from(port.segs) * u64::from(pool.room.saturating_sub(128));
+            let is_most = port.segs == u32::from(MAX_SEGMENTS) && pool.room == MAX_ROOM;
+            let are = word(long, "record is", "records are");
+            out.say(format_args!("port {k}: {long} {are} longer than it takes ({most} bytes)"));
+            self.end(is_most, "segs or room", "--segs or --room", out);
         }
-        if nobuf > 0 {
-            let cure = self.cure_of_pool(port.pool);
-            let records = Number(nobuf, "record", "records");
-            let found = if self.report.refused > 0 {
-                "got no buffers"
-            } else {
-                "found too few free buffers"
+        if few > 0 {
+            let found = match self.report.refused {
+                0 => "found too few free buffers",
+                _ => "got no buffers",
             };
-            writeln!(f, "port {k}: {records} {found}: {cure}")?;
+            let records = word(few, "record", "records");
+            out.say(format_args!("port {k}: {few} {records} {found}"));
+            self.end_of_pool(port.pool, out);
         }
-        Ok(())
     }
 
-    /// Writes how often a list or a ring of this number of places was full.
-    fn write_full<W: fmt::Write>(
-        &self,
-        f: &mut fmt::Formatter<W>,
-        node: Entry,
-        full: u64,
-        places: Option<u32>,
-    ) -> fmt::Result {
+    /// Says how often a list or a ring of this number of places was full, if it was.
+    fn say_full(self, node: Entry, full: u64, places: u32, out: &mut Text) {
         let (what, number) = match node {
-            Entry::Port(_) => ("its transmit list", Cure::Raise("its queue")),
-            Entry::Ring(_) => ("it", Cure::Raise("its count")),
+            Entry::Port(_) => ("its transmit list", "its queue"),
+            Entry::Ring(_) => ("it", "its count"),
         };
-        let cure = self.cure(places.unwrap_or(MAX_RING) >= MAX_RING, number);
-        let (name, times) = (NodeName(node), Number(full, "time", "times"));
-        writeln!(
-            f,
-            "{name}: {what} was full {times} when a packet came: {cure}"
-        )
+        if full > 0 {
+            let (name, times) = (NodeName(node), word(full, "time", "times"));
+            out.say(format_args!("{name}: {what} was full {full} {times} when a packet came"));
+            self.end(places >= MAX_RING, number, "", out);
+        }
     }
 
-    /// Writes what ports lost.
-    fn write_ports<W: fmt::Write>(&self, f: &mut fmt::Formatter<W>) -> fmt::Result {
-        let ports = self.report.ports.as_slice().iter();
-        for (k, (numbers, full)) in (0..8u8).zip(ports.zip(self.refusals.lists)) {
-            self.write_records(f, k, *numbers)?;
-            if full > 0 {
-                let port = self.env.ports().get(usize::from(k));
-                self.write_full(f, Entry::Port(k), full, port.map(|port| port.queue))?;
-            }
+    /// Says what ports lost.
+    fn say_ports(self, out: &mut Text) {
+        let ports = self.report.ports.as_slice().iter().zip(self.env.ports());
+        for (k, ((numbers, port), full)) in (0..8u8).zip(ports.zip(self.refusals.lists)) {
+            self.say_records(k, port, numbers, out);
+            self.say_full(Entry::Port(k), full, port.queue, out);
             if let InputState::Cut(byte) = numbers.state {
-                writeln!(
-                    f,
-                    "port {k}: its input ends within the record at byte {byte}, which is not read"
-                )?;
+                let ends = "its input ends within the record at byte";
+                out.say(format_args!("port {k}: {ends} {byte}, which is not read\n"));
             }
         }
-        Ok(())
     }
 
-    /// Writes what rings lost.
-    fn write_rings<W: fmt::Write>(&self, f: &mut fmt::Formatter<W>) -> fmt::Result {
-        let rings = self.report.rings.as_slice().iter();
-        for (k, (left, full)) in (0..8u8).zip(rings.zip(self.refusals.rings)) {
-            if full > 0 {
-                let ring = self.env.rings().get(usize::from(k));
-                self.write_full(f, Entry::Ring(k), full, ring.map(|ring| ring.count))?;
-            }
+    /// Says what rings lost.
+    fn say_rings(self, out: &mut Text) {
+        let rings = self.report.rings.as_slice().iter().zip(self.env.rings());
+        for (k, ((left, ring), full)) in (0..8u8).zip(rings.zip(self.refusals.rings)) {
+            self.say_full(Entry::Ring(k), full, ring.count, out);
             if *left > 0 {
-                let packets = Number(*left, "packet was", "packets were");
-                writeln!(
-                    f,
-                    "ring {k}: {packets} left at the end: a turn runs 32 packets from rings at most; let programs put fewer into rings for each record"
-                )?;
+                let were = word(*left, "packet was", "packets were");
+                out.say(format_args!("ring {k}: {left} {were} left at the end: "));
+                out.say(
+                    "a turn runs 32 packets from rings at most; let programs put fewer into rings for each record\n",
+                );
             }
         }
-        Ok(())
     }
 
-    /// Writes which buffers programs did not get, and which node runs were cut.
-    fn write_programs<W: fmt::Write>(&self, f: &mut fmt::Formatter<W>) -> fmt::Result {
-        for (k, refused) in (0..8u32).zip(self.refusals.pools) {
-            if refused > 0 {
-                let cure = self.cure_of_pool(k);
-                let times = Number(refused, "time", "times");
-                writeln!(f, "pool {k}: alloc or clone got no buffers {times}: {cure}")?;
+    /// Says which buffers programs did not get, and which node runs were cut.
+    fn say_programs(self, out: &mut Text) {
+        for (k, number) in (0..8u32).zip(self.refusals.pools) {
+            if number > 0 {
+                let times = word(number, "time", "times");
+                out.say(format_args!("pool {k}: alloc or clone got no buffers {number} {times}"));
+                self.end_of_pool(k, out);
             }
         }
-        if self.report.cut == 0 {
-            return Ok(());
+        let cut = self.report.cut;
+        if cut > 0 {
+            let runs = word(cut, "node run was cut: it", "node runs were cut: each");
+            out.say(format_args!("{cut} {runs} took more than 256 backward jumps, "));
+            out.say("and its packets were freed; --counts shows which loop\n");
         }
-        let runs = Number(
-            self.report.cut,
-            "node run was cut: it",
-            "node runs were cut: each",
-        );
-        writeln!(
-            f,
-            "{runs} took more than 256 backward jumps, and its packets were freed; --counts shows which loop"
-        )
-    }
-
-    /// Writes the size of a region that is large enough.
-    fn write_region<W: fmt::Write>(&self, f: &mut fmt::Formatter<W>) -> fmt::Result {
-        let needed = self.notes.needed;
-        let line = u64::from(CACHE_LINE);
-        let least = needed.max(u64::from(MIN_REGION));
-        writeln!(
-            f,
-            "  help: the pools, rings and ports need {needed} bytes (dpv check FILE --sizes shows the parts): region = {}",
-            least.div_ceil(line).saturating_mul(line)
-        )
     }
 }
 
-impl fmt::Display for NoteText<'_> {
-    fn fmt<W: fmt::Write>(&self, f: &mut fmt::Formatter<W>) -> fmt::Result {
-        if self.notes.region < self.notes.needed {
-            self.write_region(f)?;
+impl Notes {
+    /// Says the size of a region that is large enough.
+    fn say_region(self, out: &mut Text) {
+        let (needed, line) = (self.needed, u64::from(CACHE_LINE));
+        let lines = needed.max(u64::from(MIN_REGION)).div_ceil(line);
+        let region = lines.saturating_mul(line);
+        out.say(format_args!("  help: the pools, rings and ports need {needed} bytes "));
+        out.say(format_args!("(dpv check FILE --sizes shows the parts): region = {region}\n"));
+    }
+
+    /// Says what the run with this report lost.
+    pub(crate) fn say(self, report: &Report, refusals: Refusals, env: &Env, out: &mut Text) {
+        if self.region < self.needed {
+            self.say_region(out);
         } else {
-            self.write_ports(f)?;
-            self.write_rings(f)?;
-            self.write_programs(f)?;
+            let origin = self.origin;
+            let noted = Noted {
+                report,
+                refusals,
+                env,
+                origin,
+            };
+            noted.say_ports(out);
+            noted.say_rings(out);
+            noted.say_programs(out);
         }
-        for (port, records) in self.notes.truncated.into_iter().enumerate() {
+        for (port, records) in self.truncated.into_iter().enumerate() {
             if records > 0 {
-                let records = Number(records, "record was", "records were");
-                writeln!(
-                    f,
-                    "port {port}: {records} cut by the capture's snap length: capture with a larger -s"
-                )?;
+                let were = word(records, "record was", "records were");
+                out.say(format_args!(
+                    "port {port}: {records} {were} cut by the capture's snap length: "
+                ));
+                out.say("capture with a larger -s\n");
             }
         }
-        Ok(())
     }
 }

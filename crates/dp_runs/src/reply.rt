@@ -1,21 +1,20 @@
 //! What is said of a run.
 
-ghost use Rattle.std.specs.Prelude.{◌≡◌, ◌++◌, ◌∷◌, [], ℕ, List, option_map, false};
+ghost use Rattle.std.specs.Prelude.{◌≡◌, option_map, false};
 ghost use Rattle.dp_pipe.specs.Running.{answer_of};
 ghost use Rattle.dp_runs.specs.Replies as spec;
 ghost use Rattle.dp_runs.specs.Replies.{Reads};
 
-use crate::counting::{Counting, Wanted, text_of};
-use crate::document::document_text;
-use crate::notes::{NoteText, Notes};
+use crate::counting::{Counting, Wanted, say_lines, say_place, say_refusals, write_listing};
+use crate::notes::Notes;
 use crate::report::print_report;
 use crate::run::Ran;
 use dp_captures::{CaptureProblem, Totals};
 use dp_console::{DONE, FAULT, MEMORY, Reply, Text};
 use dp_engine::Report;
 use dp_model::Env;
-use dp_pipe::{RunCause, RunFault};
-use std::alloc::Global;
+use dp_pipe::{NodeName, RunCause, RunFault};
+use std::alloc::{AllocError, Global};
 use std::fmt;
 
 /// What is said of a run.
@@ -87,16 +86,8 @@ pub(crate) fn printed_of(answer: &Result<Report, RunFault>) -> Option<&Report>
     }
 }
 
-/// The report of a run, even of one that stopped.
-fn report_in(answer: &Result<Report, RunFault>) -> &Report {
-    match answer {
-        Ok(report) => report,
-        Err(fault) => &fault.report,
-    }
-}
-
 /// One text after the other.
-pub(crate) fn both(first: Text, more: &Text) -> Text
+fn both(first: Text, more: &Text) -> Text
     ensures { spec.IsBoth first more.now result }
 {
     let mut text = first;
@@ -106,67 +97,15 @@ pub(crate) fn both(first: Text, more: &Text) -> Text
     text
 }
 
-/// The report of a run, as text.
-fn report_of(alloc: Global, answer: &Result<Report, RunFault>) -> Text
-    ensures { Reads result (spec.printed_text answer.now) }
-{
-    let mut text = Text::new(alloc);
-    if let Some(report) = printed_of(answer) {
-        text.has_failed = print_report(report, &mut text.bytes).is_err();
+/// Says what is wrong with the capture at which a run stopped.
+fn say_problem(problem: CaptureProblem<'_>, out: &mut Text) {
+    let CaptureProblem { file, reason } = problem;
+    if let Some(file) = file {
+        out.say(format_args!("  file: {file}\n"));
     }
-    text
-}
-
-/// The lines after that of a run that stopped.
-#[derive(Clone, Copy)]
-struct ProblemText<'a>(CaptureProblem<'a>);
-
-impl fmt::Display for ProblemText<'_> {
-    fn fmt<W: fmt::Write>(&self, f: &mut fmt::Formatter<W>) -> fmt::Result {
-        let CaptureProblem { file, reason } = self.0;
-        if let Some(file) = file {
-            writeln!(f, "  file: {file}")?;
-        }
-        writeln!(f, "  because: {reason}")?;
-        match reason.cure() {
-            Some(cure) => writeln!(f, "  help: {cure}"),
-            None => Ok(()),
-        }
-    }
-}
-
-/// What is displayed, as a text.
-fn shown<T: fmt::Display + Drop>(alloc: Global, what: T) -> Text {
-    let mut text = Text::new(alloc);
-    text.say(what);
-    text
-}
-
-/// The line of a run that stopped.
-fn stop_line(alloc: Global, cause: RunCause) -> Text
-    ensures { Reads result (spec.stop_text cause ++ 10 ∷ []) }
-{
-    let mut text = Text::new(alloc);
-    text.say(StopText(cause));
-    text.say("\n");
-    text
-}
-
-/// The lines after that of a run that stopped, if a capture is at fault.
-fn problem_lines(alloc: Global, problem: Option<CaptureProblem<'_>>) -> Text {
-    match problem {
-        Some(problem) => shown(alloc, ProblemText(problem)),
-        None => Text::new(alloc),
-    }
-}
-
-/// Why a run stopped, if it did.
-fn stop_of(alloc: Global, answer: &Result<Report, RunFault>, problem: &Text) -> Text
-    ensures { Reads result (spec.stop_lines (answer_of answer.now) problem.now.bytes.items) }
-{
-    match answer {
-        Ok(_) => Text::new(alloc),
-        Err(fault) => both(stop_line(alloc, fault.cause), problem),
+    out.say(format_args!("  because: {reason}\n"));
+    if let Some(cure) = reason.cure() {
+        out.say(format_args!("  help: {cure}\n"));
     }
 }
 
@@ -175,52 +114,90 @@ pub fn say_stop(cause: RunCause, problem: Option<CaptureProblem<'_>>, err: &mut 
     err.say(StopText(cause));
     err.say("\n");
     if let Some(problem) = problem {
-        err.say(ProblemText(problem));
+        say_problem(problem, err);
     }
 }
 
-/// How many records of each port the run processed, if that is said.
-fn totals_of(alloc: Global, answer: &Result<Report, RunFault>, is_said: bool) -> Text {
-    if is_said {
-        shown(alloc, Totals(report_in(answer).ports.as_slice()))
-    } else {
-        Text::new(alloc)
-    }
-}
-
-/// The report of a run as text, or its document.
-fn main_of(alloc: Global, ran: &Ran, printing: &Printing<'_, '_>) -> Text
-    ensures { printing.now.is_json ≡ false → Reads result (spec.printed_text ran.now.flushed.answer) }
+/// Why a run stopped, if it did.
+fn stop_of(alloc: Global, ran: &Ran, problem: &Text) -> Text
+    ensures { Reads result (spec.stop_lines (answer_of ran.now.flushed.answer) problem.now.bytes.items) }
 {
-    if printing.is_json {
-        document_text(alloc, ran, printing)
-    } else {
-        report_of(alloc, &ran.flushed.answer)
-    }
-}
-
-/// The counts of a run as text: those that are wanted, if there is a report. A document has them itself.
-fn counts_of(alloc: Global, ran: &Ran, printing: &Printing<'_, '_>) -> Text {
-    match (printing.counting, printed_of(&ran.flushed.answer)) {
-        (Some(counting), Some(report)) if !printing.is_json => {
-            text_of(alloc, counting, printing.env, report, printing.wanted)
+    let mut text = Text::new(alloc);
+    match &ran.flushed.answer {
+        Ok(_) => text,
+        Err(fault) => {
+            text.say(StopText(fault.cause));
+            text.say("\n");
+            both(text, problem)
         }
-        _ => Text::new(alloc),
     }
 }
 
-/// What a run lost, and what helps.
-fn notes_of(alloc: Global, ran: &Ran, printing: &Printing<'_, '_>) -> Text {
-    let Some(notes) = printing.notes else {
-        return Text::new(alloc);
-    };
-    let note = NoteText {
-        report: report_in(&ran.flushed.answer),
-        refusals: ran.refusals,
-        env: printing.env,
-        notes,
-    };
-    shown(alloc, note)
+impl Printing<'_, '_> {
+    /// The report of a run as text, or its document.
+    fn main_of(&self, alloc: Global, ran: &Ran) -> Text
+        ensures { self.now.is_json ≡ false → Reads result (spec.printed_text ran.now.flushed.answer) }
+    {
+        if self.is_json {
+            return self.document_of(alloc, ran);
+        }
+        let mut text = Text::new(alloc);
+        if let Some(report) = printed_of(&ran.flushed.answer) {
+            text.has_failed = print_report(report, &mut text.bytes).is_err();
+        }
+        text
+    }
+
+    /// Says the counts of a run that are wanted, if there is a report.
+    fn say_counts(&self, alloc: Global, ran: &Ran, out: &mut Text) -> Result<(), AllocError> {
+        let (wanted, report) = (self.wanted, printed_of(&ran.flushed.answer));
+        let (Some(counting), Some(report)) = (self.counting, report) else {
+            return Ok(());
+        };
+        if wanted.counts {
+            out.has_failed = write_listing(counting, self.env, &mut out.bytes).is_err();
+            say_refusals("port", "full", ran.refusals.lists, out);
+            say_refusals("pool", "refused", ran.refusals.pools, out);
+        }
+        if wanted.lines {
+            say_lines(alloc, counting, out)?;
+        }
+        if wanted.counts || wanted.lines {
+            for own in counting.named(alloc)?.as_slice() {
+                let (node, name, packets) = (NodeName(own.node), own.name, own.packets);
+                out.say(format_args!("{node} count {name} {packets}\n"));
+            }
+        }
+        if wanted.drops {
+            for place in counting.drops(alloc, report)?.as_slice() {
+                say_place(place, out);
+            }
+        }
+        Ok(())
+    }
+
+    /// How many records of each port a run processed, what is wrong with a capture, the counts, and what was lost, as far as that is said as text.
+    fn others_of(&self, alloc: Global, ran: &Ran) -> (Text, Text, Text, Text) {
+        let (mut totals, mut problem) = (Text::new(alloc), Text::new(alloc));
+        let (mut counts, mut notes) = (Text::new(alloc), Text::new(alloc));
+        let report = match &ran.flushed.answer {
+            Ok(report) => report,
+            Err(fault) => &fault.report,
+        };
+        if self.totals {
+            totals.say(Totals(report.ports.as_slice()));
+        }
+        if let Some(found) = self.problem {
+            say_problem(found, &mut problem);
+        }
+        if !self.is_json && self.say_counts(alloc, ran, &mut counts).is_err() {
+            counts.has_failed = true;
+        }
+        if let Some(known) = self.notes {
+            known.say(report, ran.refusals, self.env, &mut notes);
+        }
+        (totals, problem, counts, notes)
+    }
 }
 
 /// What is said of a run: on standard output its report, or its document, and its counts; on standard error why it stopped, and what it lost. If a
@@ -229,20 +206,15 @@ pub fn reply_of(alloc: Global, ran: &Ran, printing: &Printing<'_, '_>) -> Reply
     ensures status { result.status ≡ spec.status_of (answer_of ran.now.flushed.answer) }
     ensures parts { spec.IsReplied printing.now.is_json printing.now.is_stdout_taken ran.now.flushed.answer result }
 {
-    let answer = &ran.flushed.answer;
-    let (status, is_json) = (status_of(answer), printing.is_json);
-    let main = main_of(alloc, ran, printing);
-    let problem = problem_lines(alloc, printing.problem);
-    let stop = stop_of(alloc, answer, &problem);
-    let counts = counts_of(alloc, ran, printing);
-    let notes = notes_of(alloc, ran, printing);
-    let totals = totals_of(alloc, answer, printing.totals);
+    let (status, is_json) = (status_of(&ran.flushed.answer), printing.is_json);
+    let main = printing.main_of(alloc, ran);
+    let (totals, problem, counts, notes) = printing.others_of(alloc, ran);
+    let stop = stop_of(alloc, ran, &problem);
     if printing.is_stdout_taken {
         let reported = both(totals, &main);
         let stopped = both(reported, &stop);
         let counted = both(stopped, &counts);
-        let err = both(counted, &notes);
-        let out = Text::new(alloc);
+        let (out, err) = (Text::new(alloc), both(counted, &notes));
         return Reply {
             status,
             out,

@@ -2,6 +2,7 @@
 
 ghost use Rattle.std.specs.Prelude.{◌≡◌, OnOk};
 ghost use Rattle.std.specs.Io.KnownBytes.{Appends};
+ghost use Rattle.dp_counts.specs.Totals.{lines_from};
 ghost use Rattle.dp_runs.specs.Report as spec;
 
 use dp_engine::{InputState, PoolReport, PortReport, Report};
@@ -29,27 +30,20 @@ impl fmt::Display for StateText {
 
 /// Prints a line for each port.
 fn print_ports<O: Write>(ports: &[PortReport], out: &mut O) -> io::Result<()>
-    ensures { OnOk result (Appends (O.contents out.old) (O.contents out.new) (spec.port_lines ports.now)) }
+    ensures { OnOk result (Appends (O.contents out.old) (O.contents out.new) (lines_from spec.port_line 0 ports.now)) }
 {
     for (k, port) in ports.iter().enumerate() {
-        write!(
-            out,
-            "port {k} received {} nobuf {}",
-            port.received, port.nobuf
-        )?;
-        let state = StateText(port.state);
-        writeln!(
-            out,
-            " oversize {} sent {} input {state}",
-            port.oversize, port.sent
-        )?;
+        let (received, nobuf) = (port.received, port.nobuf);
+        write!(out, "port {k} received {received} nobuf {nobuf}")?;
+        let (oversize, sent, state) = (port.oversize, port.sent, StateText(port.state));
+        writeln!(out, " oversize {oversize} sent {sent} input {state}")?;
     }
     Ok(())
 }
 
 /// Prints how many packets were left in each ring.
 fn print_rings<O: Write>(rings: &[u64], out: &mut O) -> io::Result<()>
-    ensures { OnOk result (Appends (O.contents out.old) (O.contents out.new) (spec.ring_lines rings.now)) }
+    ensures { OnOk result (Appends (O.contents out.old) (O.contents out.new) (lines_from spec.ring_line 0 rings.now)) }
 {
     for (k, left) in rings.iter().enumerate() {
         writeln!(out, "ring {k} left {left}")?;
@@ -59,7 +53,7 @@ fn print_rings<O: Write>(rings: &[u64], out: &mut O) -> io::Result<()>
 
 /// Prints how many buffers of each pool are free.
 fn print_pools<O: Write>(pools: &[PoolReport], out: &mut O) -> io::Result<()>
-    ensures { OnOk result (Appends (O.contents out.old) (O.contents out.new) (spec.pool_lines pools.now)) }
+    ensures { OnOk result (Appends (O.contents out.old) (O.contents out.new) (lines_from spec.pool_line 0 pools.now)) }
 {
     for (k, pool) in pools.iter().enumerate() {
         writeln!(out, "pool {k} free {} of {}", pool.free, pool.count)?;

@@ -11,9 +11,8 @@ use crate::counting::{Counting, Wanted};
 use crate::reply::{Printing, reply_of};
 use dp_captures::{CaptureNames, CaptureProblem, Flushed, Inlet, Outlet, problem_of, run_captures};
 use dp_console::{FAULT, MEMORY, Reply};
-use dp_counts::{Counts, Losses, Refusals};
+use dp_counts::{Losses, Refusals};
 use dp_engine::{CompiledPrograms, Nothing, Silent};
-use dp_model::Env;
 use dp_pipe::Pipeline;
 use std::alloc::{AllocError, Global};
 use std::io::Write;
@@ -44,20 +43,20 @@ impl<'a> Watcher<'a> {
         Ok(Watcher::Losses(losses))
     }
 
+    /// The counts, if instructions were counted.
+    pub fn counting(&self) -> Option<&Counting<'a>> {
+        match self {
+            Watcher::Counting(counting) => Some(counting),
+            _ => None,
+        }
+    }
+
     /// How often each was refused.
     fn refusals(&self) -> Refusals {
         match self {
             Watcher::Silent(_) => Refusals::NONE,
             Watcher::Losses(losses) => losses.refusals(),
             Watcher::Counting(counting) => counting.counts.refusals(),
-        }
-    }
-
-    /// The counts, if instructions were counted.
-    pub fn counting(&self) -> Option<&Counting<'a>> {
-        match self {
-            Watcher::Counting(counting) => Some(counting),
-            Watcher::Silent(_) | Watcher::Losses(_) => None,
         }
     }
 }
@@ -69,35 +68,6 @@ pub struct Ran {
     pub flushed: Flushed,
     /// What was refused, if that was counted.
     pub refusals: Refusals,
-}
-
-/// Runs a pipeline under a watcher.
-fn run_watching<K: CompiledPrograms, I: Inlet, O: Outlet>(
-    alloc: Global,
-    pipeline: Pipeline,
-    ins: &mut [I],
-    outs: &mut [O],
-    pattern: Vec<u64>,
-    watcher: &mut Watcher<'_>,
-) -> Flushed
-    requires readers { length ins.old ≡ length pipeline.env.ports }
-    requires writers { length outs.old ≡ length pipeline.env.ports }
-    requires pattern { IsAscending 0 pattern.items }
-    ensures { IsRunUnder watcher.old watcher.new pipeline pattern.items (feed I.remaining I.calls I.is_broken I.failures) ins.old ins.new
-        (sink O.contents O.calls O.is_broken O.failures) O.taken outs.old outs.new result }
-{
-    match watcher {
-        Watcher::Silent(silent) => {
-            run_captures::<K, Silent, I, O>(alloc, pipeline, ins, outs, pattern, silent)
-        }
-        Watcher::Losses(losses) => {
-            run_captures::<K, Losses, I, O>(alloc, pipeline, ins, outs, pattern, losses)
-        }
-        Watcher::Counting(counting) => {
-            let counts = &mut counting.counts;
-            run_captures::<K, Counts, I, O>(alloc, pipeline, ins, outs, pattern, counts)
-        }
-    }
 }
 
 /// Runs a pipeline from captures to captures, one input and one output for each port, with these allocation calls refused, under a watcher, and writes
@@ -116,11 +86,16 @@ pub fn run_over<K: CompiledPrograms, I: Inlet, O: Outlet>(
     ensures { IsRunUnder watcher.old watcher.new pipeline pattern.items (feed I.remaining I.calls I.is_broken I.failures) ins.old ins.new
         (sink O.contents O.calls O.is_broken O.failures) O.taken outs.old outs.new result.flushed }
 {
-    let flushed = run_watching::<K, I, O>(alloc, pipeline, ins, outs, pattern, watcher);
-    Ran {
-        flushed,
-        refusals: watcher.refusals(),
-    }
+    let flushed = match watcher {
+        Watcher::Silent(it) => run_captures::<K, _, I, O>(alloc, pipeline, ins, outs, pattern, it),
+        Watcher::Losses(it) => run_captures::<K, _, I, O>(alloc, pipeline, ins, outs, pattern, it),
+        Watcher::Counting(it) => {
+            let it = &mut it.counts;
+            run_captures::<K, _, I, O>(alloc, pipeline, ins, outs, pattern, it)
+        }
+    };
+    let refusals = watcher.refusals();
+    Ran { flushed, refusals }
 }
 
 /// What is wrong with the capture at which a run stopped, if it stopped at one.
@@ -132,23 +107,6 @@ pub fn problem_of_run<'a, I: Inlet>(
     match &ran.flushed.answer {
         Ok(_) => None,
         Err(fault) => problem_of(names, ins, fault.cause, ran.flushed.failure),
-    }
-}
-
-/// What is printed of a run: its report, and why it stopped.
-fn report_alone<'p>(env: &'p Env, problem: Option<CaptureProblem<'p>>) -> Printing<'p, 'static>
-    ensures text { result.is_json ≡ false }
-    ensures streams { result.is_stdout_taken ≡ false }
-{
-    Printing {
-        env,
-        counting: None,
-        wanted: Wanted::NONE,
-        totals: false,
-        is_json: false,
-        is_stdout_taken: false,
-        problem,
-        notes: None,
     }
 }
 
@@ -191,21 +149,20 @@ pub fn run_line<I: Inlet, O: Outlet, P: Write, E: Write>(
         (sink O.contents O.calls O.is_broken O.failures) O.taken outs.old outs.new (P.contents out.old) (P.contents out.new) (E.contents err.old)
         (E.contents err.new) result }
 {
-    let env = pipeline.env().copy();
-    let mut nobody = Silent;
-    let flushed = run_captures::<Nothing, Silent, I, O>(
-        alloc,
-        pipeline,
-        ins,
-        outs,
-        pattern,
-        &mut nobody,
-    );
-    let ran = Ran {
-        flushed,
-        refusals: Refusals::NONE,
+    let (env, silent) = (pipeline.env().copy(), &mut Silent);
+    let flushed = run_captures::<Nothing, _, I, O>(alloc, pipeline, ins, outs, pattern, silent);
+    let refusals = Refusals::NONE;
+    let ran = Ran { flushed, refusals };
+    let printing = Printing {
+        env: &env,
+        counting: None,
+        wanted: Wanted::NONE,
+        totals: false,
+        is_json: false,
+        is_stdout_taken: false,
+        problem: problem_of_run(&[], ins, &ran),
+        notes: None,
     };
-    let problem = problem_of_run(&[], ins, &ran);
-    let reply = reply_of(alloc, &ran, &report_alone(&env, problem));
+    let reply = reply_of(alloc, &ran, &printing);
     print_reply(&reply, out, err)
 }

@@ -5,6 +5,7 @@ use super::plans::{FULL_RING, Watch, loaded, ran, watcher_of};
 use Answer::{Counted, Missing, NoNode};
 use Content::Text;
 use arrayvec::ArrayVec;
+use dp_console::{Document, Text as Said};
 use dp_counts::{
     Counts, CountsDocument, CountsError, DropCause, DropPlace, LineCounts, NodeSource, Origin,
     ReadCount, Total, counts_of, lines_counted, lines_of, total_of,
@@ -173,14 +174,16 @@ fn first_total(counting: &Counting<'static>) -> Option<usize> {
 
 // Whether the counts have that document.
 fn has_document(alloc: Global, env: &Env, counting: &Counting<'static>) -> Result<bool, Fail> {
-    let document = CountsDocument {
+    let counts = CountsDocument {
         counts: &counting.counts,
         env,
         sources: counting.sources.as_slice(),
     };
-    let text = serde_json::to_string(alloc, &document)?;
+    let (mut document, mut text) = (Document::new(alloc), Said::new(alloc));
+    counts.write("", &mut document);
+    document.say_to(&mut text);
     let want = text_of(alloc, &Text(DOCUMENT))?;
-    Ok(text.as_str() == want.as_str())
+    Ok(text.bytes.as_slice().strip_suffix(b"\n") == Some(want.as_bytes()))
 }
 
 // Whether these counts of instructions are among those that are read.

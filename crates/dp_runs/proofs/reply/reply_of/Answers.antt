@@ -1,5 +1,5 @@
 -- `reply_of`: each text is made of its parts, in their order.
-use Rattle.std.proofs.Common.{ℕ, List, ◌++◌, ◌∙◌, ap}
+use Rattle.std.proofs.Common.{List, ℕ, ◌++◌, ◌∙◌, ap}
 use Rattle.dp_runs.proofs.reply.reply_of.Goals as goal
 
 pub returns-then-printing-clause-parts : goal.returns-then-printing-clause-parts
@@ -8,21 +8,22 @@ returns-then-printing-clause-parts c whole =
     let (stopped, counts, counted_is) = c.both-counted.ensures counted in
     let (reported, stop, stopped_is) = c.both-stopped.ensures stopped in
     let (totals, main, reported_is) = c.both-reported.ensures reported in
+    let (totals_text, problem_text, counts_text, notes_text) = c.others_of-totals.result in
     let stop_is = c.stop_of-stop.ensures stop in
     record {
       parts = record {
-        totals = c.totals_of-totals.result.bytes.items;
+        totals = totals_text.bytes.items;
         report = c.main_of-main.result.bytes.items;
-        more = c.problem_lines-problem.result.bytes.items;
-        counts = c.counts_of-counts.result.bytes.items;
-        notes = c.notes_of-notes.result.bytes.items;
+        more = problem_text.bytes.items;
+        counts = counts_text.bytes.items;
+        notes = notes_text.bytes.items;
       };
       report = λ text. c.main_of-main.ensures text main;
       out = rw c.if-printing.true c.new-out.ensures.empty;
-      err = rw c.if-printing.true (err_is ∙ ap (λ (l : List ℕ). l ++ c.notes_of-notes.result.bytes.items) (counted_is
-          ∙ ap (λ (l : List ℕ). l ++ c.counts_of-counts.result.bytes.items) (stopped_is
+      err = rw c.if-printing.true (err_is ∙ ap (λ (l : List ℕ). l ++ notes_text.bytes.items) (counted_is
+          ∙ ap (λ (l : List ℕ). l ++ counts_text.bytes.items) (stopped_is
           ∙ ap (λ (l : List ℕ). l ++ c.stop_of-stop.result.bytes.items) reported_is
-          ∙ ap (λ (l : List ℕ). (c.totals_of-totals.result.bytes.items ++ c.main_of-main.result.bytes.items) ++ l) stop_is)));
+          ∙ ap (λ (l : List ℕ). (totals_text.bytes.items ++ c.main_of-main.result.bytes.items) ++ l) stop_is)));
     }
 
 pub returns-clause-parts : goal.returns-clause-parts
@@ -30,17 +31,18 @@ returns-clause-parts c whole =
     let (main, counts, out_is) = c.both-out.ensures whole.0 in
     let (stopped, notes, err_is) = c.both-err-2.ensures whole.1 in
     let (totals, stop, stopped_is) = c.both-stopped-2.ensures stopped in
+    let (totals_text, problem_text, counts_text, notes_text) = c.others_of-totals.result in
     let stop_is = c.stop_of-stop.ensures stop in
     record {
       parts = record {
-        totals = c.totals_of-totals.result.bytes.items;
+        totals = totals_text.bytes.items;
         report = c.main_of-main.result.bytes.items;
-        more = c.problem_lines-problem.result.bytes.items;
-        counts = c.counts_of-counts.result.bytes.items;
-        notes = c.notes_of-notes.result.bytes.items;
+        more = problem_text.bytes.items;
+        counts = counts_text.bytes.items;
+        notes = notes_text.bytes.items;
       };
       report = λ text. c.main_of-main.ensures text main;
       out = rw c.if-printing.false out_is;
-      err = rw c.if-printing.false (err_is ∙ ap (λ (l : List ℕ). l ++ c.notes_of-notes.result.bytes.items) (stopped_is
-          ∙ ap (λ (l : List ℕ). c.totals_of-totals.result.bytes.items ++ l) stop_is));
+      err = rw c.if-printing.false (err_is ∙ ap (λ (l : List ℕ). l ++ notes_text.bytes.items) (stopped_is
+          ∙ ap (λ (l : List ℕ). totals_text.bytes.items ++ l) stop_is));
     }
