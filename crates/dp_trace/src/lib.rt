@@ -7,18 +7,11 @@
 #![tactic(auto)]
 
 mod changes;
-mod document;
-mod listing;
-mod matching;
-mod outcome;
+mod picked;
+mod record;
 mod run;
-mod snapshot;
 mod summary;
-mod tracer;
-mod written;
 
-pub use document::say_end;
-pub use listing::{NamedLabel, NodeTexts};
-pub use matching::{Pattern, pattern_in};
-pub use outcome::{Only, Picked, only_in};
-pub use run::{Printed, Shown, TracedRun, trace_records};
+pub use picked::{Only, Pattern, Picked, only_in, pattern_in};
+pub use record::say_end;
+pub use run::{NamedLabel, NodeTexts, Printed, Shown, TracedRun, trace_records};

@@ -1,29 +1,80 @@
 //! A traced run over readers.
 
-ghost use Rattle.std.specs.Prelude.{◌≡◌, ◌≤◌, length, map, Err, IsErr, IfOk};
+ghost use Rattle.std.specs.Prelude.{◌≡◌, ◌≤◌, length, map};
 ghost use Rattle.dp_engine.specs.Engines.{IsAscending};
 ghost use Rattle.dp_pipe.specs.Devices.{seen};
 ghost use Rattle.dp_trace.specs.Traces.{IsTraced};
 
-use crate::listing::{Listing, NodeTexts, ProgramTexts};
-use crate::outcome::Picked;
-pub use crate::tracer::Printed;
-use crate::tracer::Printing;
-use dp_engine::{CompiledPrograms, need};
-use dp_pcap::Feed;
-use dp_pipe::{MAX_RUN_TURNS, Pipeline, RunCause, Traced, trace};
-use std::alloc::{AllocError, Global};
+use crate::picked::Picked;
+use crate::record::Record;
+use dp_engine::{CompiledPrograms, Turn, View, Watch, Way, need};
+use dp_model::Entry;
+use dp_pcap::{Feed, Time};
+use dp_pipe::{MAX_RUN_TURNS, Pipeline, RunCause, Traced, Tracer, trace};
+use std::alloc::Global;
 use std::io::Write;
+use std::marker::Model;
+
+/// A label of a program's source, and the number of the instruction after it.
+#[derive(Clone, Copy)]
+pub struct NamedLabel<'a> {
+    pub name: &'a str,
+    pub label: u16,
+}
+
+/// A program as in its source: the texts of its instructions, in order, and its labels.
+#[derive(Drop)]
+pub struct NodeTexts<'a> {
+    pub texts: Vec<&'a str>,
+    pub labels: Vec<NamedLabel<'a>>,
+}
+
+impl NodeTexts<'_> {
+    /// The number of the instruction that a word names: by a label, or by the number itself.
+    pub fn label(&self, word: &str) -> Option<u16> {
+        if let Ok(number) = word.parse() {
+            return Some(number);
+        }
+        for named in self.labels.as_slice() {
+            if named.name == word {
+                return Some(named.label);
+            }
+        }
+        None
+    }
+}
 
 /// How a trace is printed.
 #[derive(Clone, Copy)]
 pub struct Shown<'a> {
-    /// The programs as in their sources, in the order of the nodes; none if instructions are shown as dp_lang's `print` writes them.
+    /// The programs as in their sources, in the order of the nodes: ports come first, and then rings. An instruction of a program that is not here
+    /// has no text.
     pub sources: &'a [NodeTexts<'a>],
     /// Which records are printed.
     pub picked: Picked<'a>,
     /// Whether each record is printed as a JSON document.
     pub is_json: bool,
+}
+
+impl<'a> Shown<'a> {
+    /// The text of an instruction.
+    pub(crate) fn text(self, node: usize, label: u16) -> &'a str {
+        match self.sources.get(node) {
+            Some(source) => source.texts.get(usize::from(label)).copied().unwrap_or(""),
+            None => "",
+        }
+    }
+}
+
+/// What became of the text of a trace.
+#[derive(Clone, Copy)]
+pub enum Printed {
+    /// It was written.
+    Whole,
+    /// Memory was refused for it.
+    NoMemory,
+    /// A write failed.
+    Failed,
 }
 
 /// The result of a traced run.
@@ -37,52 +88,64 @@ pub struct TracedRun {
     pub shown: u32,
 }
 
-impl TracedRun {
-    /// A run that did not begin.
-    fn unbegun(cause: RunCause) -> TracedRun
-        ensures { result.answer ≡ Err cause }
-    {
-        TracedRun {
-            answer: Err(cause),
-            printed: Printed::Whole,
-            shown: 0,
-        }
+/// Prints the selected records of a traced run. After its first failure the writer is not called again.
+///
+/// Contracts see it as the number of the record.
+#[derive(Drop)]
+struct Printing<'a, W> {
+    out: W,
+    /// The number of the record, from 1.
+    records: u32,
+    record: Record<'a>,
+    run: TracedRun,
+}
+
+impl<'a, W> Model for Printing<'a, W> {
+    ghost use Rattle.std.specs.Prelude.{ℕ};
+
+    ghost Value = { ℕ };
+
+    ghost view = { λ p. p.records };
+}
+
+impl<'a, W: Write + Drop> Watch for Printing<'a, W> {
+    ghost use Rattle.dp_trace.specs.Traces.{numbers_event};
+
+    // What it prints is tested, not proved; that it counts the records is.
+    ghost sees = { numbers_event };
+
+    fn begin(&mut self, node: Entry, view: View<'_>) {
+        self.record.begin(node, &view);
+    }
+
+    fn see(&mut self, label: u16, way: Way, view: View<'_>) {
+        self.record.see(label, way, &view);
     }
 }
 
-/// Traces the first records of a pipeline's captures, one reader for each port, with these allocation calls refused, and prints what each
-/// instruction did. No capture is written.
-fn trace_begun<K: CompiledPrograms, R: Feed, O: Write>(
-    alloc: Global,
-    pipeline: Pipeline,
-    ins: &mut [R],
-    pattern: Vec<u64>,
-    which: Traced,
-    shown: Shown<'_>,
-    out: &mut O,
-) -> Result<TracedRun, AllocError>
-    requires readers { length ins.old ≡ length pipeline.env.ports }
-    requires pattern { IsAscending 0 pattern.items }
-    requires limit { which.records ≤ MAX_RUN_TURNS }
-    ensures traced { IfOk result (λ run. IsTraced pipeline pattern.items which.port which.records (map (seen R.remaining R.calls) ins.old)
-        (map (seen R.remaining R.calls) ins.new) run.answer) }
-    ensures untouched { IsErr result → ins.new ≡ ins.old }
-{
-    let ports = pipeline.ports();
-    let programs = ProgramTexts::of(alloc, &pipeline)?;
-    let nodes = programs.listings(alloc, &pipeline, shown.sources)?;
-    let listing = Listing {
-        ports,
-        nodes: nodes.as_slice(),
-    };
-    let mut printing = Printing::new(alloc, out, listing, shown.picked, shown.is_json);
-    let answer = trace::<K, _, _>(alloc, pipeline, ins, pattern, which, &mut printing);
-    let (printed, shown) = printing.ended();
-    Ok(TracedRun {
-        answer,
-        printed,
-        shown,
-    })
+impl<'a, W: Write + Drop> Tracer for Printing<'a, W> {
+    ghost use Rattle.dp_trace.specs.Traces.{numbers_note};
+
+    ghost noted = { numbers_note };
+
+    fn record(&mut self, port: u8, time: Time, len: usize) {
+        self.records = self.records.saturating_add(1);
+        self.record.come(self.records, port, time, len);
+    }
+
+    fn turned(&mut self, turn: Turn, view: View<'_>) {
+        if self.record.end(turn, &view) && matches!(self.run.printed, Printed::Whole) {
+            self.run.shown = self.run.shown.saturating_add(1);
+            let text = &self.record.text;
+            self.run.printed = if text.has_failed {
+                Printed::NoMemory
+            } else if self.out.write_all(text.bytes.as_slice()).is_err() {
+                Printed::Failed
+            } else {
+                Printed::Whole
+            };
+        }
+    }
 }
 
 /// Traces the first records of a pipeline's captures, one reader for each port, with these allocation calls refused, and prints the selected ones as
@@ -102,11 +165,26 @@ pub fn trace_records<K: CompiledPrograms, R: Feed, O: Write>(
     ensures { IsTraced pipeline pattern.items which.port which.records (map (seen R.remaining R.calls) ins.old)
         (map (seen R.remaining R.calls) ins.new) result.answer }
 {
+    let mut run = TracedRun {
+        answer: Err(RunCause::NoRoom),
+        printed: Printed::Whole,
+        shown: 0,
+    };
     if u64::from(pipeline.region()) < need(pipeline.env()) {
-        return TracedRun::unbegun(RunCause::NoRoom);
+        return run;
     }
-    match trace_begun::<K, R, O>(alloc, pipeline, ins, pattern, which, shown, out) {
-        Ok(run) => run,
-        Err(AllocError) => TracedRun::unbegun(RunCause::Memory),
-    }
+    run.answer = Err(RunCause::Memory);
+    let Ok(record) = Record::new(alloc, &pipeline, shown) else {
+        return run;
+    };
+    let mut printing = Printing {
+        out,
+        records: 0,
+        record,
+        run,
+    };
+    let answer = trace::<K, _, _>(alloc, pipeline, ins, pattern, which, &mut printing);
+    run = printing.run;
+    run.answer = answer;
+    run
 }
