@@ -4,13 +4,13 @@ use dp_check::Measure;
 use dp_model::Fact;
 use std::fmt;
 
-/// The word for what is measured of a packet.
-pub fn measure_word(part: Measure) -> &'static str {
+/// The word for what is measured of a packet, with a blank, and the instruction that tests it.
+pub fn measure_words(part: Measure) -> (&'static str, &'static str) {
     match part {
-        Measure::Headroom => "headroom",
-        Measure::Tailroom => "tailroom",
-        Measure::First => "first",
-        Measure::Last => "last",
+        Measure::Headroom => ("headroom ", "ifhead"),
+        Measure::Tailroom => ("tailroom ", "iftail"),
+        Measure::First => ("first ", "iflen"),
+        Measure::Last => ("last ", "iflast"),
     }
 }
 
@@ -24,15 +24,16 @@ pub enum Part {
 
 impl fmt::Display for Part {
     fn fmt<W: fmt::Write>(&self, f: &mut fmt::Formatter<W>) -> fmt::Result {
-        match *self {
-            Part::Share(0) => write!(f, "loose"),
-            Part::Share(1) => write!(f, "head sole"),
-            Part::Share(2) => write!(f, "sole"),
-            Part::Share(share) => write!(f, "in group p{}", share.saturating_sub(8)),
-            Part::Bytes(measure, bytes) => write!(f, "{} {bytes}", measure_word(measure)),
-            Part::Segments(1) => write!(f, "at most 1 segment"),
-            Part::Segments(segs) => write!(f, "at most {segs} segments"),
-        }
+        let (before, number, after) = match *self {
+            Part::Share(0) => return f.write_str("loose"),
+            Part::Share(1) => return f.write_str("head sole"),
+            Part::Share(2) => return f.write_str("sole"),
+            Part::Share(share) => ("in group p", u16::from(share.saturating_sub(8)), ""),
+            Part::Bytes(measure, bytes) => (measure_words(measure).0, bytes, ""),
+            Part::Segments(1) => ("at most ", 1, " segment"),
+            Part::Segments(segs) => ("at most ", u16::from(segs), " segments"),
+        };
+        write!(f, "{before}{number}{after}")
     }
 }
 
