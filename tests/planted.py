@@ -16,18 +16,19 @@ Where nothing says which, all are tried.
   --most N     of what CRATE and --since ask for beyond the part no more than N, beginning with the part after it; the others
                are left for another time, and counted
   --must-fail  those of must-fail/ as well, which `rt ci` tries each time
-  --gate       what the gate tries at this commit, at most 70: all of planted/always; then edits that are new since the commit 8
-               changes back, then those of functions whose text has changed since, then part N of 24, where N is the number of
-               changes so far by 24, or the day where there is no such history
+  --gate       what the gate tries at this commit, at most 68: all of planted/always; then part N of 96, where N is the number of
+               changes so far by 96, or the day where there is no such history; then edits that are new since the commit 8
+               changes back, then those of functions whose text has changed since
   --count      tries none: writes how many each crate has into the table of docs/developing/notes/wrong_bodies.md
-  --alone      each in a check of its own
+  --alone      each in a check of its own, with all functions as they are
   --jobs N     N checks side by side (by default as many as there are processors and memory)
 
-Edits of different functions share a check, which proves those functions and what they call: the prover uses the contracts of the callees.
-An edit is refused if the check reports that a function it changes has no proof for its own cause; if only a callee has none, it is tried
-again, at last beside few and then alone. The checks that edits share reuse what the ones before them in the run proved; one alone starts
-from nothing. An edit that cannot be tried (a text of it has several lines; its old text occurs twice, or not at all, or outside of a
-function) counts as not refused.
+Edits of different functions share a check, which proves those functions alone. A proof uses only the contracts of what its function calls,
+so all other functions are left out of the copy that is checked: they have other bodies, and a hole for a proof. An edit is refused if the
+check reports that a function it changes has no proof for its own cause; if only a callee has none, it is tried again, at last beside few
+and then alone, with all functions as they are. The checks that edits share reuse what the ones before them in the run proved; one alone
+starts from nothing. A check ends with the lines of these functions. An edit that cannot be tried (a text of it has several lines; its old
+text occurs twice, or not at all, or outside of a function) counts as not refused.
 
 It reads the libraries below a crate as `rt ci` left them in crates/*/out/rlib; `rt all check` makes them too.
 Prints a line for each check and each edit, a table by crate, and last 'planted: N refused, M not'; exits with 1 where M is not 0."""
@@ -51,7 +52,7 @@ from collections.abc import Iterable
 
 TOP = pathlib.Path(__file__).resolve().parent.parent
 # How many parts take turns in the gate, how many changes back the gate looks, and how many edits it tries at most.
-PARTS, BACK, MOST = 24, 8, 70
+PARTS, BACK, MOST = 96, 8, 68
 # The folders of wrong bodies: those that `rt ci` tries, those that the gate tries each time, and those that have a turn.
 MUST_FAIL, ALWAYS, PLANTED = FOLDERS = ("must-fail", "planted/always", "planted")
 # How many edits share a check at first, and again if something else hid the result of one.
@@ -66,10 +67,20 @@ OVER = re.compile(r".* for &?(?:'\w+ )?(?:mut )?\w+<(\w+)<")
 CONVERSION = re.compile(r"impl\b(?:<(?:[^<>]|<[^<>]*>)*>)? *From<&?(?:'\w+ )?(?:\w+::)*(\w+)[^ ]* for (?:\w+::)*(\w+)")
 # An impl of a type at other types, which a check prints after a plus.
 IMPL_AT = re.compile(r"(?:unsafe )?impl (\w+)<(\w+)>(?! for)")
+TYPE = re.compile(r"^(?:pub(?:\([^)]*\))? )?(?:struct|enum) (\w+)", re.M)
 TRAIT = re.compile(r"(?:pub )?(?:unsafe )?trait (\w+)")
+# An impl, and functions of a file and of an impl: the head, to the brace before the body, and the body.
+IMPLS = re.compile(r"^(?:unsafe )?impl\b.*?^\}$", re.M | re.S)
+WHOLE = r"^%s(?:pub(?:\([^)]*\))? )?(?:unsafe )?fn \w(?:[^\n]*\{\}$|.*?^%s\}$)"
+OF_FILE, OF_IMPL = (re.compile(WHOLE % (indent, indent), re.M | re.S) for indent in ("", "    "))
+# Impls whose functions a check prints by other names, or not at all: they stay.
+OTHERWISE_NAMED = re.compile(r"[^\n]*(?:\bDrop|>) for ")
+# A proof that is left out.
+LEFT_OUT = "use Rattle.{module}.Statement.{{statement}}\npub {name}_spec : {{M : Type 1}} → statement M\n{name}_spec = ?\n"
 CALL = re.compile(r"(?:\.|\b[A-Z]\w*::|\b)[a-z_]\w*(?=\()")
-# What a check prints for a function that has no proof for its own cause, and not only for that of a callee.
-UNPROVED = re.compile(r"^fn (\S+): (?:not proved|no proof)(?!(?:; it stands on [^;\n]*)?(?:; |: )it calls).*$", re.M)
+# What a check prints for a function that has no proof, and where that names one that has none either.
+UNPROVED = re.compile(r"^fn (\S+): (?:not proved|no proof).*$", re.M)
+NAMES_OTHERS = re.compile(r"it calls|it passes|a call of")
 PRINTING = threading.Lock()
 
 
@@ -159,6 +170,17 @@ def function_at(text: str, at: int) -> tuple[str, ...] | None:
     return None
 
 
+def end_of(path: str, text: str, at: int) -> str | None:
+    """The same, after the module of a function that is in no type; `path` is the file's, from the crate's folder."""
+    found = function_at(text, at)
+    return "::".join(found if len(found) == 2 else [*modules_of(path)[-1:], *found]) if found else None
+
+
+def modules_of(path: str) -> list[str]:
+    """The modules that a file of src stands for."""
+    return [it for it in path.removeprefix("src/").removesuffix(".rt").split("/") if it not in ("lib", "main", "mod")]
+
+
 @functools.cache
 def calls_of(crate: Crate) -> dict[str, set[str]]:
     """The calls in each function, by the ends of the functions' names: `name`, `Type::name`, or `.name` of any type."""
@@ -246,11 +268,10 @@ class Edit:
         found, texts = set(), {}
         for path, old, new in self.pairs:
             text = texts.get(path) or self.text_of(path)
-            at = function_at(text, text.index(old))
-            if not at:
+            end = end_of(path, text, text.index(old))
+            if not end:
                 raise Unfit("it changes what is in no function, so no check of functions judges it")
-            modules = [it for it in path.removeprefix("src/").removesuffix(".rt").split("/") if it not in ("lib", "main", "mod")]
-            found.add("::".join(at if len(at) == 2 else [*modules[-1:], *at]))
+            found.add(end)
             texts[path] = text.replace(old, new)
         return found
 
@@ -282,14 +303,29 @@ class Tally:
     seconds: float = 0.0
 
 
-def run(words: list[str], folder: str) -> tuple[int, str, float]:
-    """Runs a command: its status, its output, and the seconds of processor time that it took."""
-    how = {"stdin": subprocess.DEVNULL, "stdout": subprocess.PIPE, "stderr": subprocess.STDOUT}
-    with subprocess.Popen(words, cwd=folder, text=True, errors="replace", **how) as started:
-        said = started.stdout.read()
-        _, status, used = os.wait4(started.pid, 0)
-        started.returncode = os.waitstatus_to_exitcode(status)
-    return started.returncode, said, used.ru_utime + used.ru_stime
+def judged(words: list[str], room: str, names: list[str]) -> tuple[bool, str, float]:
+    """Runs a check in a folder, up to the lines of these functions, since what comes after them is advice: whether it judges them, its output,
+    and the seconds of processor time that it took."""
+    said, stages = pathlib.Path(room, "said"), pathlib.Path(room, "stages")
+
+    def has_judged() -> bool:
+        if not (stages.exists() and "\nstage lines " in stages.read_text()):
+            return False
+        text = said.read_text(errors="replace")
+        return all(re.search(rf"^fn \S+::{re.escape(it)}: ", text, re.M) for it in names)
+
+    with said.open("w") as out:
+        whole = [f"{toolchain()}/bin/rattle", "check", *words, "--stage-times", str(stages)]
+        started, is_over = subprocess.Popen(whole, cwd=room, stdin=subprocess.DEVNULL, stdout=out, stderr=subprocess.STDOUT), False
+        while not (ended := os.wait4(started.pid, os.WNOHANG))[0]:
+            time.sleep(0.1)
+            if not is_over and has_judged():
+                is_over = True
+                started.terminate()
+    started.returncode = os.waitstatus_to_exitcode(ended[1])
+    text = said.read_text(errors="replace")
+    is_whole = started.returncode in (0, 1) and text.rstrip("\n").rpartition("\n")[2].startswith("only=")
+    return is_whole or is_over, text, ended[2].ru_utime + ended[2].ru_stime
 
 
 def refused_of(crate: Crate, edits: list[Edit], tally: Tally, kept: str | None) -> dict[Edit, str] | None:
@@ -301,14 +337,14 @@ def refused_of(crate: Crate, edits: list[Edit], tally: Tally, kept: str | None) 
             shutil.copytree(crate.folder / part, f"{room}/{part}")
         for path, text in texts.items():
             pathlib.Path(room, path).write_text(text)
+        if kept:
+            leave_out(crate, pathlib.Path(room), set(names))
         only = [word for name in names for word in ("--only", name)]
-        over = ["--incremental", kept] if kept else []
-        status, said, seconds = run([f"{toolchain()}/bin/rattle", "check", *crate.words(), *over, *only], room)
+        over = ["--incremental", kept, "--allow-holes"] if kept else []
+        is_judged, said, seconds = judged([*crate.words(), *over, *only], room, names)
     tally.checks, tally.seconds = tally.checks + 1, tally.seconds + seconds
+    found = {it: why for it in edits for name, why in own_causes(said).items() if any(name.endswith(f"::{end}") for end in it.functions)}
     last = said.rstrip("\n").rpartition("\n")[2]
-    causes = {it[1]: it[0] for it in UNPROVED.finditer(said)}
-    found = {it: why for it in edits for name, why in causes.items() if any(name.endswith(f"::{end}") for end in it.functions)}
-    is_judged = status in (0, 1) and last.startswith("only=")
     shown = f"{len(edits)} tried, {len(found)} refused" if is_judged else f"{len(edits)} tried, nothing judged: {last[:200]}"
     say(f"{crate.name}: check {tally.checks}: {shown}, {seconds:.0f} s", *(f"{it.name}: refused: {why[:160]}" for it, why in found.items() if is_judged))
     return found if is_judged else None
@@ -329,6 +365,62 @@ def together(edits: list[Edit], most: int) -> list[Edit]:
             continue
         chosen.append(it)
     return chosen
+
+
+def own_causes(said: str) -> dict[str, str]:
+    """What a check prints for each function that has no proof for its own cause: a goal of its own is open, or all that it calls have one."""
+    unproved = {it[1]: it[0] for it in UNPROVED.finditer(said)}
+
+    def is_own(name: str, row: str) -> bool:
+        crate, _, path = name.partition("::")
+        if not NAMES_OTHERS.search(row) or "did not prove" in row or f"`Rattle.{crate}.proofs.{path.replace('::', '.')}." in row:
+            return True
+        return not any(f"`{other}`" in row for other in unproved if other != name)
+
+    return {name: row for name, row in unproved.items() if is_own(name, row)}
+
+
+def leave_out(crate: Crate, room: pathlib.Path, kept: set[str]) -> None:
+    """Leaves out, in a copy of a crate, the bodies of all functions but these, and the proofs of the others: a check proves none of them."""
+    for file in sorted((room / "src").rglob("*.rt")):
+        path, text = str(file.relative_to(room)), file.read_text()
+        impls = [it for it in IMPLS.finditer(text) if CONVERSION.match(it[0]) or not OTHERWISE_NAMED.match(it[0])]
+        places = [it.span() for it in OF_FILE.finditer(text)]
+        places += [(found.start() + it.start(), found.start() + it.end()) for found in impls for it in OF_IMPL.finditer(found[0])]
+        for start, end in sorted(places, reverse=True):
+            if end_of(path, text, start) in kept:
+                continue
+            name = proof_of(crate, path, text, start)
+            proof = room.joinpath("proofs", *name)
+            for part in ("Answers", "Invariants"):
+                (proof / f"{part}.antt").unlink(missing_ok=True)
+            proof.mkdir(parents=True, exist_ok=True)
+            (proof / "Proof.antt").write_text(LEFT_OUT.format(module=".".join([crate.name, "proofs", *name]), name=name[-1]))
+            if not text[start:end].endswith("{}"):
+                text = text[:start] + without_body(text[start:end]) + text[end:]
+        file.write_text(text)
+
+
+@functools.cache
+def types_in(crate: Crate) -> dict[str, list[str]]:
+    """The modules of each type of a crate."""
+    files = [(it, str(it.relative_to(crate.folder))) for it in sorted((crate.folder / "src").rglob("*.rt"))]
+    return {found[1]: modules_of(path) for file, path in files for found in TYPE.finditer(file.read_text())}
+
+
+def proof_of(crate: Crate, path: str, text: str, at: int) -> list[str]:
+    """The folder of proofs for the function here: by its type's module, or by its own where it is of no type, or of a trait's impl."""
+    name = function_at(text, at)
+    return [*types_in(crate).get(name[0], modules_of(path)), *name] if len(name) == 2 else [*modules_of(path), *name]
+
+
+def without_body(text: str) -> str:
+    """A function with a body that only has to compile."""
+    rows = text.split("\n")
+    indent = rows[-1][:-1]
+    opens = next((k for k, row in enumerate(rows) if row == indent + "{"), None)
+    opens = next(k for k, row in enumerate(rows) if row.endswith("{")) if opens is None else opens
+    return "\n".join([*rows[: opens + 1], f"{indent}    loop {{}}", rows[-1]])
 
 
 def fit(edits: list[Edit], tally: Tally) -> list[Edit]:
@@ -410,19 +502,18 @@ def changed_functions(commit: str) -> dict[str, set[str]]:
     """For each crate the ends of the names of the functions whose text differs from a commit."""
     said = git("diff", "-U0", "--no-renames", commit, "--", "crates/*/src/*.rt") or ""
     found: dict[str, set[str]] = collections.defaultdict(set)
-    crate, text = "", ""
+    crate, path, text = "", "", ""
     for row in said.splitlines():
         if row.startswith("+++ "):
             at = row[4:].removeprefix("b/").split("/")
             is_there = row[4:] != "/dev/null" and at[1] in CRATES
-            crate, text = (at[1], (TOP / "/".join(at)).read_text()) if is_there else ("", "")
-            modules = [it for it in "/".join(at[3:]).removesuffix(".rt").split("/") if it not in ("lib", "main", "mod")] if crate else []
+            crate, path, text = (at[1], "/".join(at[2:]), (TOP / "/".join(at)).read_text()) if is_there else ("", "", "")
         hunk = re.match(r"@@ -\S+ \+(\d+)(?:,(\d+))? @@", row)
         if hunk and crate:
             starts = [0, *itertools.accumulate(len(it) + 1 for it in text.split("\n"))]
             for line in range(int(hunk[1]) - 1, int(hunk[1]) - 1 + max(1, int(hunk[2] or 1))):
-                name = function_at(text, starts[max(0, line)]) if line < len(starts) else None
-                found[crate] |= {"::".join(name if len(name) == 2 else [*modules[-1:], *name])} if name else set()
+                end = end_of(path, text, starts[max(0, line)]) if line < len(starts) else None
+                found[crate] |= {end} if end else set()
     return found
 
 
@@ -469,9 +560,9 @@ def of_the_gate(edits: list[Edit]) -> tuple[list[Edit], int]:
     news, changed = (changed_since(since)[1], changed_functions(since)) if since else (set(), {})
     ranks = (
         lambda it: it.is_always,
+        lambda it: it.turn(PARTS) == turn,
         lambda it: it.name in news,
         lambda it: bool(ends_of(it) & changed.get(it.crate.name, set())),
-        lambda it: it.turn(PARTS) == turn,
     )
     ranked = [(next((k for k, is_so in enumerate(ranks) if is_so(it)), len(ranks)), it) for it in edits]
     asked = [it for rank, it in sorted(ranked, key=lambda pair: pair[0]) if rank < len(ranks)]
