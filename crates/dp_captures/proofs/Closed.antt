@@ -1,7 +1,7 @@
 -- One more output is written out, and the counts of one more port are lowered.
 use Rattle.std.proofs.Common.{◌≡◌, ℕ, zero, suc, ◌+◌, ◌<◌, List, [], ◌∷◌, ◌++◌, length, take, drop, map, Option, ap, sym, subst, arith}
 use Rattle.std.specs.Prelude.{slice_index_or, slice_set}
-use Rattle.dp_captures.specs.declared.outlet.Incomplete.{Incomplete}
+use Rattle.dp_captures.specs.declared.closing.Incomplete.{Incomplete}
 use Rattle.dp_engine.specs.declared.report.PortReport.{PortReport}
 use Rattle.dp_captures.specs.Closing.{IsClosed, AreClosed, lowered, lowered_from, loss_at}
 

@@ -1,25 +1,24 @@
 -- One capture more that is open.
 use Rattle.std.proofs.Common.{◌≡◌, ℕ, zero, suc, Ok, Err, Result, ◌+◌, ◌<◌, ◌≤◌, List, [], ◌∷◌, ◌++◌, Some}
-use Rattle.std.proofs.Common.{length, map, take, refl, ap, sym, ◌∙◌, subst, inl, inr, add-one, append_assoc, arith}
+use Rattle.std.proofs.Common.{length, map, take, refl, ap, sym, ◌∙◌, subst, add-one, append_assoc, arith}
+use Rattle.dp_pcap.specs.declared.of_buf_reader.OfBufReader.{OfBufReader}
+use Rattle.dp_pcap.specs.declared.of_buf_writer.OfBufWriter.{OfBufWriter}
 use Rattle.std.proofs.Math.Seq.{take-length}
 use Rattle.std.specs.Prelude.{IfErr, OnOk, option_map, slice_get, slice_index_or}
 use Rattle.dp_captures.specs.declared.faults.CaptureFault.{CaptureFault}
 use Rattle.dp_captures.specs.declared.faults.CaptureFault.TheVariants as fault
-use Rattle.dp_captures.specs.declared.names.CaptureNames.{CaptureNames}
-use Rattle.dp_captures.specs.declared.words.Place.{Place}
-use Rattle.dp_captures.specs.Files.{AreOpened}
-use Rattle.dp_captures.specs.Names.{input_capture, output_capture}
 use Rattle.dp_captures.specs.declared.file_id.ReadFile.{ReadFile}
+use Rattle.dp_captures.specs.declared.guard.Kept.{Kept}
 use Rattle.dp_captures.specs.declared.guarded.Guarded.{Guarded}
 use Rattle.dp_captures.specs.declared.input_file.InputFile.{InputFile}
+use Rattle.dp_captures.specs.declared.names.CaptureNames.{CaptureNames}
 use Rattle.dp_captures.specs.declared.output_file.OutputFile.{OutputFile}
 use Rattle.dp_captures.specs.declared.watched.Watched.{Watched}
-use Rattle.dp_pcap.specs.declared.of_buf_reader.OfBufReader.{OfBufReader}
-use Rattle.dp_pcap.specs.declared.of_buf_writer.OfBufWriter.{OfBufWriter}
-use Rattle.dp_captures.specs.Guarding.{AreApart, AreFilesOf, AreGuarded, IsFirstClash, output_target}
-use Rattle.dp_captures.specs.Opening.{IsInput, IsOf, IsOutput}
-use Rattle.dp_captures.specs.declared.guard.Kept.{Kept}
-use Rattle.dp_captures.specs.declared.guard.Target.{Target}
+use Rattle.dp_captures.specs.declared.words.Place.{Place}
+use Rattle.dp_captures.specs.Files.{AreOpened}
+use Rattle.dp_captures.specs.Guarding.{AreApart, AreFilesOf, AreGuarded, output_target, targets}
+use Rattle.dp_captures.specs.Names.{output_capture}
+use Rattle.dp_captures.specs.Opening.{IsOf, IsOutput}
 
 -- one element more of a list
 pub index_more : {B C : Type 0} (g : B → C) (bs : List B) (k : ℕ) (d : B) → k < length bs
@@ -55,25 +54,11 @@ named_at : (capture_of : CaptureNames → Place × List ℕ) (names : List Captu
     → name ≡ slice_index_or names k default → named ≡ (capture_of name).1 → option_map (λ (n : CaptureNames). (capture_of n).1) (slice_get names k) ≡ Some named
 named_at capture_of names k name default named within at is = rw (at_index names k default within, ← at, is) refl
 
-pub input_named : (names : List CaptureNames) (k : ℕ) (name default : CaptureNames) (f : CaptureFault) → k < length names
-    → name ≡ slice_index_or names k default → IsOf (input_capture name).1 f → IsInput names k f
-input_named names k name default fault.Memory within at is = tt
-input_named names k name default (fault.File named problem) within at is = named_at input_capture names k name default named.now within at is
-
 pub output_named : (names : List CaptureNames) (k : ℕ) (name default : CaptureNames) (f : CaptureFault) → k < length names
     → name ≡ slice_index_or names k default → IsOf (output_capture name).1 f → IsOutput names f
 output_named names k name default fault.Memory within at is = tt
 output_named names k name default (fault.File named problem) within at is =
     (k, named_at output_capture names k name default named.now within at is)
-
--- a fault of an output that is a file of the run
-pub clash_named : (kept : List Kept) (names : List CaptureNames) (targets : List Target) (f : CaptureFault) → IsFirstClash kept names targets f
-    → IsOutput names f
-clash_named kept names targets fault.Memory h = tt
-clash_named kept names targets (fault.File named problem) h = elim h.2.2 [
-  | inl one ↦ (h.0, sym one.2.0)
-  | inr other ↦ (h.0, sym other.2.0)
-]
 
 -- all captures are open
 pub all_opened : {D : Type 0} (IsOpened : Place × List ℕ → D → Type 0) (capture_of : CaptureNames → Place × List ℕ) (names : List CaptureNames) (ds : List D)
@@ -123,12 +108,11 @@ if_err (Err e) P Q f h = f e h
 
 -- the outputs are apart, as they are open
 pub guarded : {A F : Type 0} (reads : List ReadFile) (inputs inputs' : List (OfBufReader (Watched (InputFile F))))
-    (outputs outputs' : List (OfBufWriter (Guarded (OutputFile F)))) (kept kept' : List Kept) (targets targets' : List Target) (r : Result A CaptureFault)
-    → AreFilesOf reads inputs' kept → inputs' ≡ inputs → kept' ≡ kept → targets' ≡ targets → targets ≡ map output_target outputs' → outputs' ≡ outputs
-    → OnOk r (AreApart kept' targets') → OnOk r (AreGuarded reads inputs outputs)
-guarded reads inputs inputs' outputs outputs' kept kept' targets targets' (Err e) files i k t m o apart = tt
-guarded {A} {F} reads inputs inputs' outputs outputs' kept kept' targets targets' (Ok done) files i k t m o apart = record {
+    (outputs outputs' : List (OfBufWriter (Guarded (OutputFile F)))) (kept : List Kept) (r : Result A CaptureFault) → AreFilesOf reads inputs' kept
+    → inputs' ≡ inputs → outputs' ≡ outputs → OnOk r (AreApart (targets kept) (map output_target outputs')) → OnOk r (AreGuarded reads inputs outputs)
+guarded reads inputs inputs' outputs outputs' kept (Err e) files i o apart = tt
+guarded {A} {F} reads inputs inputs' outputs outputs' kept (Ok done) files i o apart = record {
   kept = kept;
   files = subst (λ (l : List (OfBufReader (Watched (InputFile F)))). AreFilesOf reads l kept) i files;
-  apart = subst (λ (l : List Target). AreApart kept l) (t ∙ m ∙ ap (map output_target) o) (subst (λ (l : List Kept). AreApart l targets') k apart);
+  apart = subst (λ (l : List (OfBufWriter (Guarded (OutputFile F)))). AreApart (targets kept) (map output_target l)) o apart;
 }

@@ -10,7 +10,7 @@ use Rattle.dp_pipe.specs.declared.forwarding.RunCause.{RunCause}
 use Rattle.dp_pipe.specs.declared.forwarding.RunCause.TheVariants.{Out}
 use Rattle.dp_pipe.specs.declared.running.RunFault.{RunFault}
 use Rattle.dp_pipe.specs.Running.{report_of, answer_of}
-use Rattle.dp_captures.specs.declared.outlet.Incomplete.{Incomplete}
+use Rattle.dp_captures.specs.declared.closing.Incomplete.{Incomplete}
 use Rattle.dp_captures.specs.declared.closing.Flushed.{Flushed}
 use Rattle.dp_captures.specs.Outlets.{HasWhole, TookFront}
 

@@ -1,14 +1,65 @@
-//! Flushes the outputs of a run before the run is reported.
+//! The outputs of a run: what each file took, writing out what is held back, and the run of a pipeline to that end.
 
-ghost use Rattle.std.specs.Prelude.{◌≡◌, ◌<◌, ◌≤◌, Ok, Err, IfSome, length, map, option_map};
+ghost use Rattle.std.specs.Prelude.{◌≡◌, ◌<◌, ◌≤◌, ◌^◌, List, ℕ, Option, Ok, Err, IfErr, IfSome, OnOk, length, map, option_map};
+ghost use Rattle.std.specs.Io.KnownBytes.{Keeps};
+ghost use Rattle.dp_engine.specs.Engines.{IsAscending};
 ghost use Rattle.dp_pipe.specs.Running.{report_of, answer_of};
 ghost use Rattle.dp_captures.specs.Closing as spec;
+ghost use Rattle.dp_captures.specs.Outlets.{HasWhole, TookFront};
+ghost use Rattle.dp_captures.specs.Runs.{IsRun, feed, sink};
 
-use crate::outlet::{Incomplete, Outlet};
+use crate::guarded::Guarded;
+use crate::watched::Inlet;
 use arrayvec::ArrayVec;
-use dp_engine::{PortReport, Report};
-use dp_pipe::{RunCause, RunFault};
-use std::io::Error;
+use dp_engine::{CompiledPrograms, PortReport, Report, Watch};
+use dp_pcap::{OfBufWriter, Sink};
+use dp_pipe::{Pipeline, RunCause, RunFault, run_watched};
+use std::alloc::Global;
+use std::io::{Error, Write};
+
+/// An output that was not flushed: the number of records that its file took whole, and the error.
+#[derive(Clone, Copy)]
+pub struct Incomplete {
+    pub whole: u64,
+    pub failure: Error,
+}
+
+/// A capture that is written: a sink that may buffer bytes, and the file that takes them.
+pub trait Outlet: Sink {
+    // The bytes that its file took, if they are known.
+    ghost taken: { Self → Option (List ℕ) };
+
+    /// Flushes: writes the buffered bytes to its file.
+    ///
+    /// # Errors
+    ///
+    /// [`Incomplete`] if the file does not take all of them.
+    fn close(&mut self) -> Result<(), Incomplete>
+        ensures all { OnOk result (Keeps (Self.contents self.old) (taken self.new)) }
+        ensures front { IfErr result (λ _. TookFront (Self.contents self.old) (taken self.new)) }
+        ensures whole { IfErr result (λ incomplete. HasWhole incomplete.whole (taken self.new)) }
+        ensures health { (Self.is_broken self.new ≡ Self.is_broken self.old) × (Self.failures self.new ≡ Self.failures self.old)
+            × (Self.calls self.new ≡ Self.calls self.old) };
+}
+
+impl<W: Write + Drop> Outlet for OfBufWriter<Guarded<W>> {
+    ghost use Rattle.std.specs.Prelude.{Some};
+    ghost use Rattle.dp_pcap.specs.OfStd.{buffered_writer};
+    ghost use Rattle.dp_captures.specs.Outputs.{file_took};
+
+    ghost taken = { λ d. Some (file_took (buffered_writer d)) };
+
+    fn close(&mut self) -> Result<(), Incomplete> {
+        let Err(error) = self.flush() else {
+            return Ok(());
+        };
+        let file = self.get_ref().get_ref();
+        Err(Incomplete {
+            whole: file.records(),
+            failure: file.failure().unwrap_or(error),
+        })
+    }
+}
 
 /// Flushes an output. Returns how it is incomplete, if it is.
 fn loss_of<O: Outlet>(out: &mut O) -> Option<Incomplete>
@@ -38,10 +89,7 @@ fn close_all<O: Outlet>(outs: &mut [O]) -> ArrayVec<Option<Incomplete>, 8>
 fn loss_at(lost: &[Option<Incomplete>], port: usize) -> Option<Incomplete>
     ensures { result ≡ spec.loss_at lost.now port }
 {
-    match lost.get(port) {
-        Some(loss) => *loss,
-        None => None,
-    }
+    *lost.get(port)?
 }
 
 /// The counts of a port, with `sent` lowered to the records that are whole in its file.
@@ -57,7 +105,7 @@ fn lowered(port: PortReport, loss: Option<Incomplete>) -> PortReport
     }
 }
 
-/// The counts of all ports, each with `sent` lowered to the records that are whole in its file.
+/// The counts of all ports, lowered.
 fn lowered_ports(ports: &[PortReport], lost: &[Option<Incomplete>]) -> ArrayVec<PortReport, 8>
     requires { length ports.now ≤ 8 }
     ensures { result.items ≡ spec.lowered_from 0 ports.now lost.now }
@@ -92,10 +140,8 @@ fn first_lost(lost: &[Option<Incomplete>]) -> Option<u8>
     requires { length lost.now ≤ 8 }
     ensures { result ≡ spec.first_lost lost.now }
 {
-    match first_index(lost) {
-        Some(index) => Some(index as u8),
-        None => None,
-    }
+    let index = first_index(lost)?;
+    Some(index as u8)
 }
 
 /// The result of a run after its outputs are written out, and the error of the output at which it stopped.
@@ -109,10 +155,7 @@ pub struct Flushed {
 fn failure_at(lost: &[Option<Incomplete>], port: u8) -> Option<Error>
     ensures { result ≡ option_map (λ incomplete. incomplete.failure) (spec.loss_at lost.now port) }
 {
-    match loss_at(lost, usize::from(port)) {
-        Some(incomplete) => Some(incomplete.failure),
-        None => None,
-    }
+    Some(loss_at(lost, usize::from(port))?.failure)
 }
 
 /// The result of a run that stopped for this cause.
@@ -154,16 +197,43 @@ pub fn flush_outputs<O: Outlet>(outs: &mut [O], answer: Result<Report, RunFault>
     ensures flushed { spec.IsFlushed (map O.contents outs.old) (map O.taken outs.new) answer result }
     ensures health { map (spec.health O.is_broken O.failures O.calls) outs.new ≡ map (spec.health O.is_broken O.failures O.calls) outs.old }
 {
-    let lost = close_all(outs);
+    let all = close_all(outs);
+    let lost = all.as_slice();
     match answer {
-        Ok(report) => ended(lowered_report(report, lost.as_slice()), lost.as_slice()),
+        Ok(report) => ended(lowered_report(report, lost), lost),
         Err(fault) => {
             let RunFault { cause, report } = fault;
-            stopped(
-                cause,
-                lowered_report(report, lost.as_slice()),
-                lost.as_slice(),
-            )
+            stopped(cause, lowered_report(report, lost), lost)
         }
     }
+}
+
+/// The number of ports of a pipeline, at most eight.
+fn count_ports(pipeline: &Pipeline) -> usize
+    ensures count { result ≡ length pipeline.now.env.ports }
+    ensures few { result ≤ 8 }
+{
+    pipeline.env().ports().len()
+}
+
+/// Runs a pipeline from captures to captures under a watcher, one input and one output for each port, and then writes out the bytes that its outputs
+/// hold back. Programs that are among `K` run as machine code; nothing else depends on `K`.
+pub fn run_captures<K: CompiledPrograms, V: Watch, I: Inlet, O: Outlet>(
+    alloc: Global,
+    pipeline: Pipeline,
+    ins: &mut [I],
+    outs: &mut [O],
+    pattern: Vec<u64>,
+    watch: &mut V,
+) -> Flushed
+    requires readers { length ins.old ≡ length pipeline.env.ports }
+    requires writers { length outs.old ≡ length pipeline.env.ports }
+    requires pattern { IsAscending 0 pattern.items }
+    ensures { IsRun V.sees watch.old watch.new pipeline pattern.items (feed I.remaining I.calls I.is_broken I.failures) ins.old ins.new
+        (sink O.contents O.calls O.is_broken O.failures) O.taken outs.old outs.new result }
+{
+    // This shows that `flush_outputs` gets at most eight outputs.
+    let _ports = count_ports(&pipeline);
+    let answer = run_watched::<K, I, O, V>(alloc, pipeline, ins, outs, pattern, watch);
+    flush_outputs(outs, answer)
 }

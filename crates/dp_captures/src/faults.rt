@@ -1,14 +1,101 @@
-//! Why a capture is at fault.
+//! Why a capture is at fault: the words of it, and what helps.
 
-use crate::format::Format;
-use crate::inlet::Inlet;
-use crate::link_type::LinkType;
+ghost use Rattle.std.specs.Prelude.{◌≡◌};
+ghost use Rattle.dp_captures.specs.Opening.{IsOf};
+
 use crate::names::CaptureNames;
-use crate::watched::Seen;
+use crate::watched::{Inlet, Seen};
 use dp_pcap::PcapError;
 use dp_pipe::RunCause;
 use std::fmt;
 use std::io::Error;
+
+/// The format of a file that is no capture, but of which a command makes captures.
+#[derive(Clone, Copy, PartialEq, Eq)]
+pub enum Format {
+    Pcapng,
+    Gzip,
+    Bzip2,
+    Xz,
+    Zstd,
+    Lz4,
+}
+
+/// How files of these formats begin.
+static BEGINNINGS: [(&[u8], Format); 6] = [
+    (b"\x0a\x0d\x0d\x0a", Format::Pcapng),
+    (b"\x1f\x8b", Format::Gzip),
+    (b"BZh", Format::Bzip2),
+    (b"\xfd7zXZ\0", Format::Xz),
+    (b"\x28\xb5\x2f\xfd", Format::Zstd),
+    (b"\x04\x22\x4d\x18", Format::Lz4),
+];
+
+impl Format {
+    /// The format of a file that begins with these bytes, if it is one of these.
+    pub fn of(bytes: &[u8]) -> Option<Format> {
+        for (beginning, format) in &BEGINNINGS {
+            if bytes.starts_with(beginning) {
+                return Some(*format);
+            }
+        }
+        None
+    }
+}
+
+impl fmt::Display for Format {
+    /// What it is, and the command that makes a capture of it.
+    fn fmt<W: fmt::Write>(&self, f: &mut fmt::Formatter<W>) -> fmt::Result {
+        let tool = match self {
+            Format::Pcapng => return f.write_str(PCAPNG),
+            Format::Gzip => "gzip",
+            Format::Bzip2 => "bzip2",
+            Format::Xz => "xz",
+            Format::Zstd => "zstd",
+            Format::Lz4 => "lz4",
+        };
+        write!(
+            f,
+            "it is compressed by {tool}; {tool} -dc IN > OUT unpacks it"
+        )
+    }
+}
+
+const PCAPNG: &str = "it is a pcapng file; editcap -F pcap IN OUT converts it to a capture";
+
+/// The field of the link type in a capture's header: the type in its lower half, and in its upper half whether frames end with a checksum.
+#[derive(Clone, Copy, PartialEq, Eq)]
+pub struct LinkType(pub u32);
+
+impl fmt::Display for LinkType {
+    fn fmt<W: fmt::Write>(&self, f: &mut fmt::Formatter<W>) -> fmt::Result {
+        let (number, upper) = (self.0 % 65_536, self.0 / 65_536);
+        // The name in the registry of link types, after a blank; nothing for other types.
+        let name = match number {
+            0 => " NULL",
+            1 => " ETHERNET",
+            9 => " PPP",
+            101 => " RAW",
+            105 => " IEEE802_11",
+            108 => " LOOP",
+            113 => " LINUX_SLL",
+            127 => " IEEE802_11_RADIOTAP",
+            147..=162 => " USER",
+            228 => " IPV4",
+            229 => " IPV6",
+            276 => " LINUX_SLL2",
+            _ => "",
+        };
+        write!(f, "the link type is {number}{name}")?;
+        if upper == 0 {
+            return f.write_str(", and not 1 ETHERNET");
+        }
+        write!(
+            f,
+            " with {upper} in the upper 16 bits, and not 1 ETHERNET alone"
+        )
+    }
+}
 
 /// Why a capture is at fault.
 #[derive(Clone, Copy)]
@@ -50,19 +137,30 @@ impl fmt::Display for CaptureReason {
 impl CaptureReason {
     /// What helps, if there is a line for it.
     pub fn cure(self) -> Option<&'static str> {
-        match self {
-            CaptureReason::Link(link) => Some(link.cure()),
-            _ => None,
-        }
+        let CaptureReason::Link(link) = self else {
+            return None;
+        };
+        let cure = match link.0 % 65_536 {
+            1 =>
+                "remove the checksums at the ends of the frames: editcap -F pcap -T ether -L -C -4 IN OUT",
+            113 =>
+                "capture on one Ethernet interface in place of any, or make Ethernet headers of these: editcap -F pcap -T ether -L -C 2 IN OUT",
+            276 => "capture on one Ethernet interface in place of any",
+            105 | 127 =>
+                "capture on an Ethernet interface, or on a wireless one that is not in monitor mode",
+            0 | 9 | 101 | 108 | 228 | 229 =>
+                "capture on an Ethernet interface: these records have no Ethernet headers",
+            _ =>
+                "if each record really is an Ethernet frame: editcap -F pcap -T ether IN OUT; else capture on an Ethernet interface",
+        };
+        Some(cure)
     }
 }
 
-/// A reason, and the file it concerns.
+/// A reason, and the name of the file it concerns, if that is to be reported.
 #[derive(Clone, Copy)]
 pub struct CaptureProblem<'a> {
-    /// The file's name, if it is to be reported.
     pub file: Option<&'a str>,
-    /// Why.
     pub reason: CaptureReason,
 }
 
@@ -78,13 +176,12 @@ pub enum CaptureFault<'a> {
     },
 }
 
-/// The name of the file at which a run stopped, if it stopped at one.
-fn file_of(names: &[CaptureNames], cause: RunCause) -> Option<&str> {
-    match cause {
-        RunCause::In(port, _) => Some(names.get(usize::from(port))?.input.as_str()),
-        RunCause::Out(port) => Some(names.get(usize::from(port))?.output.as_str()),
-        RunCause::Memory | RunCause::NoRoom => None,
-    }
+/// The fault of the capture with this name, and the other file that it concerns.
+pub fn fault_at<'a>(name: &'a str, file: Option<&'a str>, reason: CaptureReason) -> CaptureFault<'a>
+    ensures { IsOf name.now result }
+{
+    let problem = CaptureProblem { file, reason };
+    CaptureFault::File { name, problem }
 }
 
 /// The reason for a fault of an input: the system's error if its reader failed, otherwise the fault of the capture.
@@ -100,34 +197,26 @@ fn reason_of_input(cause: PcapError, seen: Option<Seen>) -> CaptureReason {
     }
 }
 
-/// The reason why a run stopped at a capture, if it stopped at one. `failure` is the error of an output's file.
-fn reason_for<I: Inlet>(
-    ins: &[I],
-    cause: RunCause,
-    failure: Option<Error>,
-) -> Option<CaptureReason> {
-    match (cause, failure) {
-        (RunCause::In(port, error), _) => {
-            let seen = match ins.get(usize::from(port)) {
-                Some(input) => input.seen(),
-                None => None,
-            };
-            Some(reason_of_input(error, seen))
-        }
-        (RunCause::Out(_), Some(error)) => Some(CaptureReason::System(error)),
-        (RunCause::Out(_), None) => Some(CaptureReason::Capture(PcapError::Write)),
-        (RunCause::Memory | RunCause::NoRoom, _) => None,
-    }
-}
-
-/// What is wrong with the capture at which a run stopped, if it stopped at one.
+/// What is wrong with the capture at which a run stopped, if it stopped at one. `failure` is the error of an output's file.
 pub fn problem_of<'a, I: Inlet>(
     names: &'a [CaptureNames],
     ins: &[I],
     cause: RunCause,
     failure: Option<Error>,
 ) -> Option<CaptureProblem<'a>> {
-    let reason = reason_for(ins, cause, failure)?;
-    let file = file_of(names, cause);
+    let (port, reason) = match (cause, failure) {
+        (RunCause::In(port, error), _) => match ins.get(usize::from(port)) {
+            Some(input) => (port, reason_of_input(error, input.seen())),
+            None => (port, CaptureReason::Capture(error)),
+        },
+        (RunCause::Out(port), Some(error)) => (port, CaptureReason::System(error)),
+        (RunCause::Out(port), None) => (port, CaptureReason::Capture(PcapError::Write)),
+        (RunCause::Memory | RunCause::NoRoom, _) => return None,
+    };
+    let file = match (names.get(usize::from(port)), cause) {
+        (Some(names), RunCause::In(..)) => Some(names.input.as_str()),
+        (Some(names), _) => Some(names.output.as_str()),
+        (None, _) => None,
+    };
     Some(CaptureProblem { file, reason })
 }

@@ -1,18 +1,22 @@
 //! Keeps the outputs of a run apart from its other files.
 
-ghost use Rattle.std.specs.Prelude.{◌≡◌, ◌<◌, ◌≤◌, find, length, option_map, position, IfErr, IfOk, IfSome, OnOk};
+ghost use Rattle.std.specs.Prelude.{◌≡◌, ◌≤◌, ◌++◌, ◌∷◌, [], None, find, length, map, option_map, IfErr, IfOk, OnOk};
 ghost use Rattle.dp_captures.specs.Guarding as spec;
+ghost use Rattle.dp_captures.specs.Guarding.{input_target, output_target, read_target, targets};
+ghost use Rattle.dp_captures.specs.Names.{output_capture};
+ghost use Rattle.dp_captures.specs.Opening.{IsOf, IsOutput};
 
-use crate::faults::{CaptureFault, CaptureProblem, CaptureReason};
-use crate::file_id::{FileId, plain_file};
+use crate::faults::{CaptureFault, CaptureReason, fault_at};
+use crate::file_id::{FileId, ReadFile, plain_file};
 use crate::names::CaptureNames;
+use crate::opening::{InputOf, OutputOf};
 use crate::words::Place;
-use std::alloc::AllocError;
-use std::fs;
-use std::io::ErrorKind;
+use std::alloc::{AllocError, Global};
+use std::fs::{self, OpenFile};
+use std::io::{ErrorKind, Read, Write};
 use std::rt::Files;
 
-/// What an output is.
+/// What a file of a run is.
 #[derive(Clone, Copy)]
 pub enum Target<'a> {
     /// A plain file that exists.
@@ -23,122 +27,16 @@ pub enum Target<'a> {
     Other,
 }
 
-impl Default for Target<'_> {
-    fn default() -> Self {
-        Target::Other
-    }
-}
-
-/// A file of a run that no output may be, if it is a plain file.
+/// A file of a run that no output may be, the name to report, and why.
 #[derive(Clone, Copy)]
 pub struct Kept<'a> {
-    pub id: Option<FileId>,
-    /// The name to report.
-    pub name: Option<&'a str>,
-    /// Why it may not be written.
-    pub why: CaptureReason,
+    target: Target<'a>,
+    name: Option<&'a str>,
+    why: CaptureReason,
 }
 
-/// Whether two files or folders are the same.
-pub(crate) fn is_same_file(left: FileId, right: FileId) -> bool
-    ensures { result ≡ spec.is_same_file left right }
-{
-    left.device == right.device && left.number == right.number
-}
-
-/// Whether an output is this file.
-fn is_file(target: Target<'_>, id: Option<FileId>) -> bool
-    ensures { result ≡ spec.is_file target.entry id }
-{
-    match (target, id) {
-        (Target::There(one), Some(other)) => is_same_file(one, other),
-        _ => false,
-    }
-}
-
-/// Whether two outputs are the same file.
-fn is_same_target(left: Target<'_>, right: Target<'_>) -> bool
-    ensures { result ≡ spec.is_same_target left.entry right.entry }
-{
-    match (left, right) {
-        (Target::There(one), Target::There(other)) => is_same_file(one, other),
-        (Target::New(folder, name), Target::New(other, its)) => {
-            is_same_file(folder, other) && name == its
-        }
-        _ => false,
-    }
-}
-
-/// The first of these files that an output is.
-fn first_kept<'b, 'a>(target: Target<'_>, kept: &'b [Kept<'a>]) -> Option<&'b Kept<'a>>
-    ensures { option_map (λ one. one.now) result ≡ find (λ one. spec.is_file target.entry one.id) kept.now }
-{
-    kept.iter().find(|one| is_file(target, one.id))
-}
-
-/// The first of these outputs that is the same file.
-fn first_same(target: Target<'_>, earlier: &[Target<'_>]) -> Option<usize>
-    ensures index { result ≡ position (spec.is_same_target target.entry) earlier.now }
-    ensures within { IfSome result (λ index. index < length earlier.now) }
-{
-    earlier
-        .iter()
-        .position(|other| is_same_target(target, *other))
-}
-
-/// Refuses the output of a port if it is a file of the run, or the output of an earlier port.
-fn refuse_clash<'a>(
-    kept: &[Kept<'a>],
-    names: &'a [CaptureNames],
-    targets: &[Target<'_>],
-    port: usize,
-) -> Result<(), CaptureFault<'a>>
-    requires named { length targets.now ≤ length names.now }
-    requires within { port < length targets.now }
-    ensures apart { OnOk result (spec.IsApartAt kept.now targets.now port) }
-    ensures clash { IfErr result (spec.IsClashAt kept.now names.now targets.now port) }
-{
-    let name = names[port].output.as_str();
-    let target = targets[port];
-    if let Some(one) = first_kept(target, kept) {
-        let problem = CaptureProblem {
-            file: one.name,
-            reason: one.why,
-        };
-        return Err(CaptureFault::File { name, problem });
-    }
-    match first_same(target, &targets[..port]) {
-        Some(other) => {
-            let problem = CaptureProblem {
-                file: Some(names[other].output.as_str()),
-                reason: CaptureReason::IsOutput,
-            };
-            Err(CaptureFault::File { name, problem })
-        }
-        None => Ok(()),
-    }
-}
-
-/// Refuses the first output that is a file of the run, or the output of an earlier port.
-pub fn keep_apart<'a>(
-    kept: &[Kept<'a>],
-    names: &'a [CaptureNames],
-    targets: &[Target<'_>],
-) -> Result<(), CaptureFault<'a>>
-    requires { length targets.now ≤ length names.now }
-    ensures apart { OnOk result (spec.AreApart kept.now targets.now) }
-    ensures clash { IfErr result (spec.IsFirstClash kept.now names.now targets.now) }
-{
-    for port in 0..targets.len() {
-        if let Err(fault) = refuse_clash(kept, names, targets, port) {
-            return Err(fault);
-        }
-    }
-    Ok(())
-}
-
-/// The file that an open output is.
-pub fn target_of(id: Option<FileId>) -> Target<'static>
+/// What an open file is.
+fn target_of(id: Option<FileId>) -> Target<'static>
     ensures { result ≡ spec.target_of id }
 {
     match id {
@@ -147,18 +45,136 @@ pub fn target_of(id: Option<FileId>) -> Target<'static>
     }
 }
 
-/// Splits a name into the folder and the file's name there.
-fn split_name(name: &str) -> (&str, &str) {
-    match name.rsplit_once('/') {
-        Some(("", file)) => ("/", file),
-        Some((folder, file)) => (folder, file),
-        None => (".", name),
+/// Whether two files are the same.
+fn is_same_target(left: Target<'_>, right: Target<'_>) -> bool
+    ensures { result ≡ spec.is_same_target left.entry right.entry }
+{
+    match (left, right) {
+        (Target::There(one), Target::There(other)) => one.is_same(other),
+        (Target::New(one, name), Target::New(other, its)) => one.is_same(other) && name == its,
+        _ => false,
     }
 }
 
-/// The file that an output would be made as, if none has its name.
+/// The first of these files that is this one.
+fn first_same<'b, 'a>(target: Target<'_>, kept: &'b [Kept<'a>]) -> Option<&'b Kept<'a>>
+    ensures { option_map (λ one. one.now) result ≡ find (λ one. spec.is_same_target target.entry one.target) kept.now }
+{
+    kept.iter().find(|one| is_same_target(target, one.target))
+}
+
+/// Adds a file that no output may be.
+fn keep<'a>(
+    kept: &mut Vec<Kept<'a>>,
+    target: Target<'a>,
+    name: Option<&'a str>,
+    why: CaptureReason,
+) -> Result<(), AllocError>
+    ensures { OnOk result (targets kept.new.items ≡ targets kept.old.items ++ target.entry ∷ []) }
+{
+    kept.push(Kept { target, name, why })?;
+    Ok(())
+}
+
+/// Adds the files that a run reads besides its captures.
+fn keep_reads<'a>(kept: &mut Vec<Kept<'a>>, reads: &'a [ReadFile]) -> Result<(), AllocError>
+    requires { kept.old.items ≡ [] }
+    ensures { OnOk result (targets kept.new.items ≡ map read_target reads.now) }
+{
+    for read in reads {
+        let (target, name) = (target_of(read.id), read.name.as_str());
+        keep(kept, target, Some(name), CaptureReason::IsRead)?;
+    }
+    Ok(())
+}
+
+/// What an input is, as it is open.
+fn target_of_input<F: Read>(input: &InputOf<F>) -> Target<'static>
+    ensures { result ≡ input_target input.now }
+{
+    target_of(input.get_ref().get_ref().get_ref().id)
+}
+
+/// Adds the inputs of a run, as they are open.
+fn keep_inputs<'a, F: Read>(
+    kept: &mut Vec<Kept<'a>>,
+    names: &'a [CaptureNames],
+    inputs: &[InputOf<F>],
+) -> Result<(), AllocError>
+    requires { length inputs.now ≤ length names.now }
+    ensures { OnOk result (targets kept.new.items ≡ targets kept.old.items ++ map input_target inputs.now) }
+{
+    for port in 0..inputs.len() {
+        let target = target_of_input(&inputs[port]);
+        let name = names[port].input.as_str();
+        keep(kept, target, Some(name), CaptureReason::IsRead)?;
+    }
+    Ok(())
+}
+
+/// Whether an output is standard output.
+fn take_stdout(names: &[CaptureNames]) -> bool {
+    for port in names {
+        if port.output_place == Place::Stream {
+            return true;
+        }
+    }
+    false
+}
+
+/// The files of a run that no output may be: those that it reads, its inputs, and those to which texts go.
+pub fn files_of_run<'a, R: Files>(
+    rt: &R,
+    alloc: Global,
+    reads: &'a [ReadFile],
+    names: &'a [CaptureNames],
+    inputs: &[InputOf<R::File>],
+) -> Result<Vec<Kept<'a>>, AllocError>
+    requires { length inputs.now ≤ length names.now }
+    ensures { IfOk result (λ kept. spec.AreFilesOf reads.now inputs.now kept.items) }
+{
+    let mut kept = Vec::new(alloc);
+    keep_reads(&mut kept, reads)?;
+    keep_inputs(&mut kept, names, inputs)?;
+    let target = target_of(plain_file(rt, "/dev/stderr")?);
+    keep(&mut kept, target, None, CaptureReason::IsStderr)?;
+    // If an output is standard output, texts go to standard error.
+    let target = if take_stdout(names) {
+        Target::Other
+    } else {
+        target_of(plain_file(rt, "/dev/stdout")?)
+    };
+    keep(&mut kept, target, None, CaptureReason::IsStdout)?;
+    Ok(kept)
+}
+
+/// Adds an output, unless it is one of these files.
+fn add_output<'a>(
+    kept: &mut Vec<Kept<'a>>,
+    target: Target<'a>,
+    port: &'a CaptureNames,
+) -> Result<(), CaptureFault<'a>>
+    ensures apart { OnOk result (find (λ one. spec.is_same_target target.entry one.target) kept.old.items ≡ None) }
+    ensures added { OnOk result (targets kept.new.items ≡ targets kept.old.items ++ target.entry ∷ []) }
+    ensures named { IfErr result (IsOf (output_capture port.now).1) }
+{
+    let name = port.output.as_str();
+    if let Some(one) = first_same(target, kept.as_slice()) {
+        return Err(fault_at(name, one.name, one.why));
+    }
+    if keep(kept, target, Some(name), CaptureReason::IsOutput).is_err() {
+        return Err(CaptureFault::Memory);
+    }
+    Ok(())
+}
+
+/// The file that an output would be made as, if no file has its name.
 fn new_file<'a, R: Files>(rt: &R, name: &'a str) -> Result<Target<'a>, AllocError> {
-    let (parent, file) = split_name(name);
+    let (parent, file) = match name.rsplit_once('/') {
+        Some(("", file)) => ("/", file),
+        Some(parts) => parts,
+        None => (".", name),
+    };
     match fs::metadata(rt, parent) {
         Ok(metadata) if metadata.is_dir() => Ok(Target::New(FileId::of(&metadata), file)),
         Err(error) if error.kind() == ErrorKind::OutOfMemory => Err(AllocError),
@@ -166,34 +182,64 @@ fn new_file<'a, R: Files>(rt: &R, name: &'a str) -> Result<Target<'a>, AllocErro
     }
 }
 
-/// The file that the name of an output means.
-fn file_named<'a, R: Files>(rt: &R, name: &'a str) -> Result<Target<'a>, AllocError> {
-    match fs::metadata(rt, name) {
-        Ok(metadata) if metadata.is_file() => Ok(Target::There(FileId::of(&metadata))),
-        Ok(_) => Ok(Target::Other),
-        Err(error) => match error.kind() {
-            ErrorKind::OutOfMemory => Err(AllocError),
-            ErrorKind::NotFound => new_file(rt, name),
-            _ => Ok(Target::Other),
+/// What an output means by its name, before it is open.
+fn target_named<'a, R: Files>(rt: &R, port: &'a CaptureNames) -> Result<Target<'a>, AllocError> {
+    let name = port.output.as_str();
+    match port.output_place {
+        Place::File => match fs::metadata(rt, name) {
+            Ok(metadata) => Ok(target_of(FileId::plain(&metadata))),
+            Err(error) => match error.kind() {
+                ErrorKind::OutOfMemory => Err(AllocError),
+                ErrorKind::NotFound => new_file(rt, name),
+                _ => Ok(Target::Other),
+            },
         },
-    }
-}
-
-/// What an output in this place and with this name means.
-///
-/// # Errors
-///
-/// `AllocError` if there is no memory for the name.
-pub fn target_named<'a, R: Files>(
-    rt: &R,
-    place: Place,
-    name: &'a str,
-) -> Result<Target<'a>, AllocError>
-    ensures { IfOk result (λ target. place ≡ Place.Nowhere → target ≡ Target.Other) }
-{
-    match place {
-        Place::File => file_named(rt, name),
         Place::Stream => Ok(target_of(plain_file(rt, "/dev/stdout")?)),
         Place::Nowhere => Ok(Target::Other),
     }
+}
+
+/// Refuses the first output that is one of these files by its name, or an earlier output.
+pub fn refuse_named<'a, R: Files>(
+    rt: &R,
+    mut kept: Vec<Kept<'a>>,
+    names: &'a [CaptureNames],
+) -> Result<(), CaptureFault<'a>>
+    ensures { IfErr result (IsOutput names.now) }
+{
+    for port in names {
+        let Ok(target) = target_named(rt, port) else {
+            return Err(CaptureFault::Memory);
+        };
+        if let Err(fault) = add_output(&mut kept, target, port) {
+            return Err(fault);
+        }
+    }
+    Ok(())
+}
+
+/// What an output is, as it is open.
+fn target_of_output<F: Write + OpenFile + Drop>(output: &OutputOf<F>) -> Target<'static>
+    ensures { result ≡ output_target output.now }
+{
+    target_of(output.get_ref().get_ref().get_ref().id)
+}
+
+/// Refuses the first output that is one of these files as it is open, or an earlier output.
+pub fn refuse_open<'a, F: Write + OpenFile + Drop>(
+    mut kept: Vec<Kept<'a>>,
+    names: &'a [CaptureNames],
+    outputs: &[OutputOf<F>],
+) -> Result<(), CaptureFault<'a>>
+    requires { length outputs.now ≤ length names.now }
+    ensures apart { OnOk result (spec.AreApart (targets kept.entry.items) (map output_target outputs.now)) }
+    ensures named { IfErr result (IsOutput names.now) }
+{
+    for port in 0..outputs.len() {
+        let target = target_of_output(&outputs[port]);
+        if let Err(fault) = add_output(&mut kept, target, &names[port]) {
+            return Err(fault);
+        }
+    }
+    Ok(())
 }

@@ -1,14 +1,13 @@
 //! Where inputs are read: files, standard input, or a capture without records.
 
 ghost use Rattle.std.specs.Prelude.{◌≡◌, IfOk};
-ghost use Rattle.dp_captures.specs.Files.{IsUnread, empty_capture, source_place};
+ghost use Rattle.dp_captures.specs.Files.{IsUnread, source_place};
 
-use crate::file_id::{FileId, id_of_open, plain_file};
+use crate::file_id::{FileId, plain_file};
 use crate::words::Place;
 use dp_pcap::GhostCount;
-use std::alloc::AllocError;
-use std::fs;
-use std::io::{Error, ErrorKind, Read, Result, Stdin};
+use std::fs::{self, OpenFile};
+use std::io::{Read, Result, Stdin};
 use std::rt::Files;
 
 /// What an input is read from.
@@ -26,23 +25,15 @@ pub enum Source<F> {
 #[derive(Drop)]
 pub struct InputFile<F> {
     source: Source<F>,
-    // The plain file that it is, if it is one.
-    id: Option<FileId>,
+    /// The plain file that it is, if it is one.
+    pub id: Option<FileId>,
     // How many calls of `read` were made, which only clauses read.
     reads: GhostCount,
-}
-
-/// The bytes of a capture without records: its header, with times in microseconds.
-fn empty() -> &'static [u8]
-    ensures { result.now ≡ empty_capture }
-{
-    b"\xd4\xc3\xb2\xa1\x02\0\x04\0\0\0\0\0\0\0\0\0\0\0\x04\0\x01\0\0\0"
 }
 
 /// An input that was not read yet.
 fn unread<F>(source: Source<F>, id: Option<FileId>) -> InputFile<F>
     ensures source { result.source ≡ source }
-    ensures id { result.id ≡ id }
     ensures unread { result.reads.count ≡ 0 }
 {
     InputFile {
@@ -53,31 +44,19 @@ fn unread<F>(source: Source<F>, id: Option<FileId>) -> InputFile<F>
 }
 
 /// A file as an input.
-fn of_file<F: fs::OpenFile + Drop>(file: F) -> Result<InputFile<F>>
+fn of_file<F: OpenFile + Drop>(file: F) -> Result<InputFile<F>>
     ensures { IfOk result (λ input. (input.source ≡ Source.File file) × (input.reads.count ≡ 0)) }
 {
-    let id = id_of_open(&file)?;
+    let id = FileId::plain(&file.metadata()?);
     Ok(unread(Source::File(file), id))
 }
 
-/// The identity of a standard stream.
-///
-/// # Errors
-///
-/// Only `OutOfMemory`.
-pub(crate) fn stream_id<R: Files>(rt: &R, name: &str) -> Result<Option<FileId>> {
-    match plain_file(rt, name) {
-        Ok(id) => Ok(id),
-        Err(AllocError) => Err(Error::from(ErrorKind::OutOfMemory)),
-    }
-}
-
-/// Opens an input.
+/// Opens an input. A capture without records is its header alone, with times in microseconds.
 ///
 /// # Errors
 ///
 /// Those of the system.
-pub(crate) fn open_input_file<R: Files>(
+pub fn open_input_file<R: Files>(
     rt: &R,
     stdin: Stdin,
     place: Place,
@@ -88,17 +67,11 @@ pub(crate) fn open_input_file<R: Files>(
 {
     match place {
         Place::File => of_file(fs::open(rt, name)?),
-        Place::Stream => Ok(unread(Source::Stream(stdin), stream_id(rt, "/dev/stdin")?)),
-        Place::Nowhere => Ok(unread(Source::Nowhere(empty()), None)),
-    }
-}
-
-impl<F> InputFile<F> {
-    /// The plain file that it is, if it is one.
-    pub(crate) fn id(&self) -> Option<FileId>
-        ensures { result ≡ self.now.id }
-    {
-        self.id
+        Place::Stream => Ok(unread(Source::Stream(stdin), plain_file(rt, "/dev/stdin")?)),
+        Place::Nowhere => {
+            let header = b"\xd4\xc3\xb2\xa1\x02\0\x04\0\0\0\0\0\0\0\0\0\0\0\x04\0\x01\0\0\0";
+            Ok(unread(Source::Nowhere(header), None))
+        }
     }
 }
 

@@ -10,39 +10,28 @@
 mod closing;
 mod faults;
 mod file_id;
-mod format;
 mod guard;
 mod guarded;
-mod inlet;
 mod input_file;
-mod link_type;
 mod names;
 mod opening;
-mod outlet;
 mod output_file;
-mod progress;
-mod removing;
-mod running;
 mod watched;
 mod words;
 
-pub use closing::{Flushed, flush_outputs};
-pub use faults::{CaptureFault, CaptureProblem, CaptureReason, problem_of};
-pub use file_id::{FileId, ReadFile, add_read, id_of_open, note_read, plain_file};
-pub use format::Format;
+pub use closing::{Flushed, Incomplete, Outlet, flush_outputs, run_captures};
+pub use faults::{CaptureFault, CaptureProblem, CaptureReason, Format, LinkType, problem_of};
+pub use file_id::{FileId, ReadFile, note_read};
 pub use guarded::Guarded;
-pub use inlet::Inlet;
 pub use input_file::InputFile;
-pub use link_type::LinkType;
 pub use names::{CaptureNames, names_of};
-pub use opening::{BUFFER, InputOf, OutputOf, Streams, UNBUFFERED, open_captures, open_inputs};
-pub use outlet::{Incomplete, Outlet};
+pub use opening::{
+    BUFFER, InputOf, OutputOf, Streams, UNBUFFERED, open_captures, open_inputs,
+    remove_empty_outputs,
+};
 pub use output_file::OutputFile;
-pub use progress::{Progress, Totals};
-pub use removing::remove_empty_outputs;
-pub use running::run_captures;
-pub use watched::{Seen, Watched};
+pub use watched::{Inlet, Progress, Seen, Totals, Watched};
 pub use words::{
-    CaptureWords, Direction, Place, Replaced, Replacements, WordForm, WordProblem, captures_of,
-    nowhere_in, place_named, replaced_in,
+    Direction, Place, Replaced, Replacements, WordForm, WordProblem, captures_of, nowhere_in,
+    replaced_in,
 };

@@ -1,26 +1,23 @@
-//! Opens the captures of a run: the inputs in port order, then the outputs.
+//! Opens the captures of a run: the inputs in port order, then the outputs. Removes the outputs that it made and that stayed empty.
 
-ghost use Rattle.std.specs.Prelude.{◌≡◌, ◌≤◌, ◌++◌, ◌∷◌, [], length, map, take, IfErr, IfOk, OnOk};
-ghost use Rattle.dp_captures.specs.Files.{AreInputs, AreOutputs, IsOpenedInput, IsOpenedOutput, input_file};
-ghost use Rattle.dp_captures.specs.Guarding.{AreFilesOf, AreGuarded, output_target};
+ghost use Rattle.std.specs.Prelude.{◌≡◌, ◌≤◌, [], length, take, IfErr, IfOk, OnOk};
+ghost use Rattle.dp_captures.specs.Files.{AreInputs, AreOutputs, IsOpenedInput, IsOpenedOutput};
+ghost use Rattle.dp_captures.specs.Guarding.{AreGuarded};
 ghost use Rattle.dp_captures.specs.Names.{input_capture, output_capture};
 ghost use Rattle.dp_captures.specs.Opening as spec;
 
-use crate::faults::{CaptureFault, CaptureProblem, CaptureReason};
-use crate::file_id::{FileId, ReadFile, plain_file};
-use crate::guard::{Kept, Target, keep_apart, target_named, target_of};
+use crate::faults::{CaptureFault, CaptureReason, fault_at};
+use crate::file_id::{FileId, ReadFile};
+use crate::guard::{files_of_run, refuse_named, refuse_open};
 use crate::guarded::Guarded;
 use crate::input_file::{InputFile, open_input_file};
 use crate::names::CaptureNames;
 use crate::output_file::{OutputFile, open_output_file};
-use crate::progress::Progress;
-use crate::watched::Watched;
-use crate::words::Place;
-use arrayvec::ArrayVec;
+use crate::watched::{Progress, Watched};
 use dp_pcap::{Buffered, OfBufReader, OfBufWriter};
-use std::alloc::{AllocError, Global};
-use std::fs::OpenFile;
-use std::io::{BufReader, Error, ErrorKind, Read, Stderr, Stdin, Stdout, Write};
+use std::alloc::Global;
+use std::fs::{self, OpenFile};
+use std::io::{BufReader, Error, ErrorKind, Stderr, Stdin, Stdout, Write};
 use std::rt::Files;
 
 /// The size of a capture's buffer, in bytes.
@@ -47,14 +44,10 @@ pub type OutputOf<F> = OfBufWriter<Guarded<OutputFile<F>>>;
 fn unopened<'a>(name: &'a str, error: Error) -> CaptureFault<'a>
     ensures { spec.IsOf name.now result }
 {
-    if error.kind() == ErrorKind::OutOfMemory {
-        return CaptureFault::Memory;
+    match error.kind() {
+        ErrorKind::OutOfMemory => CaptureFault::Memory,
+        _ => fault_at(name, None, CaptureReason::System(error)),
     }
-    let problem = CaptureProblem {
-        file: None,
-        reason: CaptureReason::System(error),
-    };
-    CaptureFault::File { name, problem }
 }
 
 /// Opens the capture that a port reads, or says why it cannot be opened.
@@ -99,10 +92,7 @@ pub fn open_inputs<'a, R: Files>(
 {
     for (port, files) in names.iter().enumerate() {
         let progress = Progress::new(streams.error, port, is_progress);
-        let input = match open_input(rt, alloc, streams, files, progress) {
-            Ok(input) => input,
-            Err(fault) => return Err(fault),
-        };
+        let input = open_input(rt, alloc, streams, files, progress)?;
         if inputs.push(input).is_err() {
             return Err(CaptureFault::Memory);
         }
@@ -158,133 +148,6 @@ fn open_outputs<'a, R: Files>(
     Ok(())
 }
 
-/// Adds a file that no output may be.
-fn keep<'a>(
-    kept: &mut Vec<Kept<'a>>,
-    id: Option<FileId>,
-    name: Option<&'a str>,
-    why: CaptureReason,
-) -> Result<(), AllocError>
-    ensures { OnOk result (map (λ one. one.id) kept.new.items ≡ map (λ one. one.id) kept.old.items ++ id ∷ []) }
-{
-    kept.push(Kept { id, name, why })?;
-    Ok(())
-}
-
-/// Adds the files that a run reads besides its captures.
-fn keep_reads<'a>(kept: &mut Vec<Kept<'a>>, reads: &'a [ReadFile]) -> Result<(), AllocError>
-    requires { kept.old.items ≡ [] }
-    ensures { OnOk result (map (λ one. one.id) kept.new.items ≡ map (λ read. read.id) reads.now) }
-{
-    for read in reads {
-        keep(
-            kept,
-            read.id,
-            Some(read.name.as_str()),
-            CaptureReason::IsRead,
-        )?;
-    }
-    Ok(())
-}
-
-/// The plain file that an input is, as it is open.
-fn input_id<F: Read>(input: &InputOf<F>) -> Option<FileId>
-    ensures { result ≡ (input_file input.now).id }
-{
-    input.get_ref().get_ref().get_ref().id()
-}
-
-/// Adds the inputs of a run, as they are open.
-fn keep_inputs<'a, F: Read>(
-    kept: &mut Vec<Kept<'a>>,
-    names: &'a [CaptureNames],
-    inputs: &[InputOf<F>],
-) -> Result<(), AllocError>
-    requires { length inputs.now ≤ length names.now }
-    ensures { OnOk result (map (λ one. one.id) kept.new.items ≡ map (λ one. one.id) kept.old.items ++ map (λ input. (input_file input).id) inputs.now) }
-{
-    for port in 0..inputs.len() {
-        let id = input_id(&inputs[port]);
-        keep(
-            kept,
-            id,
-            Some(names[port].input.as_str()),
-            CaptureReason::IsRead,
-        )?;
-    }
-    Ok(())
-}
-
-/// Whether an output is standard output.
-fn take_stdout(names: &[CaptureNames]) -> bool {
-    for port in names {
-        if port.output_place == Place::Stream {
-            return true;
-        }
-    }
-    false
-}
-
-/// The files of a run that no output may be: those that it reads, its inputs, and those to which texts go.
-fn files_of_run<'a, R: Files>(
-    rt: &R,
-    alloc: Global,
-    reads: &'a [ReadFile],
-    names: &'a [CaptureNames],
-    inputs: &[InputOf<R::File>],
-) -> Result<Vec<Kept<'a>>, AllocError>
-    requires { length inputs.now ≤ length names.now }
-    ensures { IfOk result (λ kept. AreFilesOf reads.now inputs.now kept.items) }
-{
-    let mut kept = Vec::new(alloc);
-    keep_reads(&mut kept, reads)?;
-    keep_inputs(&mut kept, names, inputs)?;
-    let id = plain_file(rt, "/dev/stderr")?;
-    keep(&mut kept, id, None, CaptureReason::IsStderr)?;
-    // If an output is standard output, texts go to standard error.
-    let id = if take_stdout(names) {
-        None
-    } else {
-        plain_file(rt, "/dev/stdout")?
-    };
-    keep(&mut kept, id, None, CaptureReason::IsStdout)?;
-    Ok(kept)
-}
-
-/// What the outputs mean by their names.
-fn named_targets<'a, R: Files>(
-    rt: &R,
-    names: &'a [CaptureNames],
-) -> Result<ArrayVec<Target<'a>, 8>, AllocError>
-    requires { length names.now ≤ 8 }
-    ensures { IfOk result (λ targets. length targets.items ≡ length names.now) }
-{
-    let mut targets = ArrayVec::new();
-    for port in names {
-        targets.push(target_named(rt, port.output_place, port.output.as_str())?);
-    }
-    Ok(targets)
-}
-
-/// What an output is, as it is open.
-fn target_of_output<F: Write + OpenFile + Drop>(output: &OutputOf<F>) -> Target<'static>
-    ensures { result ≡ output_target output.now }
-{
-    target_of(output.get_ref().get_ref().get_ref().id())
-}
-
-/// The files that the outputs are, as they are open.
-fn open_targets<F: Write + OpenFile + Drop>(outputs: &[OutputOf<F>]) -> ArrayVec<Target<'static>, 8>
-    requires { length outputs.now ≤ 8 }
-    ensures { result.items ≡ map output_target outputs.now }
-{
-    let mut targets = ArrayVec::new();
-    for output in outputs {
-        targets.push(target_of_output(output));
-    }
-    targets
-}
-
 /// Opens the captures of a run: the inputs in port order, then the outputs, with buffers of this size. Refuses an output that is a file of the run: by
 /// its name before an output is made, and by its identity once all are open, before a byte is written.
 ///
@@ -316,15 +179,53 @@ pub fn open_captures<'a, R: Files>(
     let Ok(kept) = files_of_run(rt, alloc, reads, names, inputs.as_slice()) else {
         return Err(CaptureFault::Memory);
     };
-    let Ok(targets) = named_targets(rt, names) else {
-        return Err(CaptureFault::Memory);
-    };
-    if let Err(fault) = keep_apart(kept.as_slice(), names, targets.as_slice()) {
+    if let Err(fault) = refuse_named(rt, kept, names) {
         return Err(fault);
     }
     if let Err(fault) = open_outputs(rt, alloc, streams, names, buffer, outputs) {
         return Err(fault);
     }
-    let targets = open_targets(outputs.as_slice());
-    keep_apart(kept.as_slice(), names, targets.as_slice())
+    let Ok(kept) = files_of_run(rt, alloc, reads, names, inputs.as_slice()) else {
+        return Err(CaptureFault::Memory);
+    };
+    refuse_open(kept, names, outputs.as_slice())
+}
+
+/// Removes this file if it is empty. Its name may be that of a link to it, which stays.
+fn remove_if_empty<R: Files>(rt: &R, alloc: Global, name: &str, id: FileId) {
+    let Ok(path) = rt.canonicalize(alloc, name) else {
+        return;
+    };
+    if let Ok(metadata) = fs::metadata(rt, &path)
+        && metadata.len() == 0
+        && FileId::of(&metadata).is_same(id)
+    {
+        let _removed = fs::remove_file(rt, &path);
+    }
+}
+
+/// The file of an output, if the run made it and wrote no byte of it, or could not.
+fn made_in_vain<F: Write + OpenFile + Drop>(output: &OutputOf<F>) -> Option<FileId> {
+    let guarded = output.get_ref().get_ref();
+    let file = guarded.get_ref();
+    if file.is_new && (!file.is_emptied || guarded.failure().is_some()) {
+        file.id
+    } else {
+        None
+    }
+}
+
+/// Removes the outputs that were made when they were opened and are still empty, as those of a run that ended before its headers were written. Files
+/// that existed before stay.
+pub fn remove_empty_outputs<R: Files>(
+    rt: &R,
+    alloc: Global,
+    names: &[CaptureNames],
+    outputs: &[OutputOf<R::File>],
+) {
+    for (port, output) in names.iter().zip(outputs) {
+        if let Some(id) = made_in_vain(output) {
+            remove_if_empty(rt, alloc, port.output.as_str(), id);
+        }
+    }
 }

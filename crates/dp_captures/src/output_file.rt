@@ -3,8 +3,7 @@
 ghost use Rattle.std.specs.Prelude.{◌≡◌, IfOk, IsOk, OnOk, false, true};
 ghost use Rattle.dp_captures.specs.Files.{IsUnwritten, destination_place};
 
-use crate::file_id::{FileId, id_of_open};
-use crate::input_file::stream_id;
+use crate::file_id::{FileId, plain_file};
 use crate::words::Place;
 use dp_pcap::GhostCount;
 use std::fs::{self, OpenFile, OpenOptions};
@@ -27,12 +26,12 @@ pub enum Destination<F> {
 #[derive(Drop)]
 pub struct OutputFile<F> {
     destination: Destination<F>,
-    // The plain file that it is, if it is one.
-    id: Option<FileId>,
-    // Whether this run made it.
-    is_new: bool,
-    // Whether the old content of a plain file is gone.
-    is_emptied: bool,
+    /// The plain file that it is, if it is one.
+    pub id: Option<FileId>,
+    /// Whether this run made it.
+    pub is_new: bool,
+    /// Whether the old content of a plain file is gone, as it is before a byte is written.
+    pub is_emptied: bool,
     // How many calls of `write` were made, which only clauses read.
     writes: GhostCount,
 }
@@ -40,9 +39,7 @@ pub struct OutputFile<F> {
 /// An output that was not written yet.
 fn unwritten<F>(destination: Destination<F>, id: Option<FileId>, is_new: bool) -> OutputFile<F>
     ensures destination { result.destination ≡ destination }
-    ensures id { result.id ≡ id }
-    ensures kept { result.is_emptied ≡ false }
-    ensures unwritten { result.writes.count ≡ 0 }
+    ensures unwritten { IsUnwritten result }
 {
     OutputFile {
         destination,
@@ -58,16 +55,8 @@ fn of_file<F: OpenFile + Drop>(file: F, is_new: bool) -> Result<OutputFile<F>>
     ensures file { IfOk result (λ output. output.destination ≡ Destination.File file) }
     ensures unwritten { IfOk result IsUnwritten }
 {
-    let id = id_of_open(&file)?;
+    let id = FileId::plain(&file.metadata()?);
     Ok(unwritten(Destination::File(file), id, is_new))
-}
-
-/// Whether no file has this name.
-fn is_missing<R: Files>(rt: &R, name: &str) -> bool {
-    match fs::metadata(rt, name) {
-        Ok(_) => false,
-        Err(error) => error.kind() == ErrorKind::NotFound,
-    }
 }
 
 /// Opens a file to be written, and makes it if it does not exist. Returns whether it was made.
@@ -80,7 +69,10 @@ fn open_or_make<R: Files>(rt: &R, name: &str) -> Result<(R::File, bool)> {
         return Ok((file, true));
     }
     // The name may be that of a link to a file that does not exist. Opening it makes that file.
-    let is_new = is_missing(rt, name);
+    let is_new = match fs::metadata(rt, name) {
+        Ok(_) => false,
+        Err(error) => error.kind() == ErrorKind::NotFound,
+    };
     let file = OpenOptions::new().write(true).create(true).open(rt, name)?;
     Ok((file, is_new))
 }
@@ -90,7 +82,7 @@ fn open_or_make<R: Files>(rt: &R, name: &str) -> Result<(R::File, bool)> {
 /// # Errors
 ///
 /// Those of the system.
-pub(crate) fn open_output_file<R: Files>(
+pub fn open_output_file<R: Files>(
     rt: &R,
     stdout: Stdout,
     place: Place,
@@ -105,29 +97,10 @@ pub(crate) fn open_output_file<R: Files>(
             of_file(file, is_new)
         }
         Place::Stream => {
-            let id = stream_id(rt, "/dev/stdout")?;
+            let id = plain_file(rt, "/dev/stdout")?;
             Ok(unwritten(Destination::Stream(stdout), id, false))
         }
         Place::Nowhere => Ok(unwritten(Destination::Nowhere, None, false)),
-    }
-}
-
-impl<F> OutputFile<F> {
-    /// The plain file that it is, if it is one.
-    pub(crate) fn id(&self) -> Option<FileId>
-        ensures { result ≡ self.now.id }
-    {
-        self.id
-    }
-
-    /// The plain file that it is, if this run made it.
-    pub(crate) fn made(&self) -> Option<FileId> {
-        if self.is_new { self.id } else { None }
-    }
-
-    /// Whether no byte was given to it.
-    pub(crate) fn is_unwritten(&self) -> bool {
-        !self.is_emptied
     }
 }
 

@@ -2,11 +2,69 @@
 
 ghost use Rattle.std.specs.Prelude.{◌≡◌, ◌∷◌, []};
 
-use crate::format::Format;
-use crate::link_type::LinkType;
-use crate::progress::Progress;
-use dp_pcap::{Offers, link_type};
-use std::io::{Error, ErrorKind, Read, Result};
+use crate::faults::{Format, LinkType};
+use dp_engine::PortReport;
+use dp_pcap::{Feed, OfBufReader, Offers, WholeRecords, link_type};
+use std::fmt;
+use std::io::{Error, ErrorKind, Read, Result, Stderr, Write};
+
+/// A line is written after each further `STEP` records of a port.
+const STEP: u64 = 1_000_000;
+
+/// Counts the records of a port's capture as its bytes are read, and reports each step on standard error if asked to.
+#[derive(Drop)]
+pub struct Progress {
+    to: Stderr,
+    port: usize,
+    // Whether steps are reported; no more once a line could not be written.
+    is_on: bool,
+    records: WholeRecords,
+}
+
+impl Progress {
+    /// The progress of a port before its capture is read.
+    pub fn new(to: Stderr, port: usize, is_on: bool) -> Progress {
+        Progress {
+            to,
+            port,
+            is_on,
+            records: WholeRecords::new(),
+        }
+    }
+
+    /// Counts more of its bytes. Reports the step that its records then reached, if any.
+    fn pass(&mut self, bytes: &[u8]) {
+        if !self.is_on {
+            return;
+        }
+        let before = self.records.count();
+        self.records.pass(bytes);
+        let after = self.records.count();
+        if before / STEP < after / STEP {
+            let (mut to, port, records) = (self.to, self.port, after - after % STEP);
+            self.is_on = writeln!(to, "progress: port {port}: {records} records read").is_ok();
+        }
+    }
+}
+
+/// The records of a port that a run processed: those received, and those dropped before.
+fn records_done(port: &PortReport) -> u128 {
+    u128::from(port.received) + u128::from(port.nobuf) + u128::from(port.oversize)
+}
+
+/// For each port, a line with the number of records that a run processed.
+#[derive(Clone, Copy)]
+pub struct Totals<'a>(pub &'a [PortReport]);
+
+impl fmt::Display for Totals<'_> {
+    fn fmt<W: fmt::Write>(&self, f: &mut fmt::Formatter<W>) -> fmt::Result {
+        for (port, numbers) in self.0.iter().enumerate() {
+            let records = records_done(numbers);
+            writeln!(f, "progress: port {port}: {records} records read in all")?;
+        }
+        Ok(())
+    }
+}
 
 /// What was seen of a file that is read as a capture, besides its bytes.
 #[derive(Clone, Copy)]
@@ -64,16 +122,14 @@ impl<R: Read> Watched<R> {
     /// Notes bytes that were read.
     fn note(&mut self, bytes: &[u8])
         ensures inner { self.new.inner ≡ self.old.inner }
-        ensures name { self.new.of.pieces ≡ self.old.of.pieces }
     {
         if !self.is_begun {
             self.is_begun = true;
             self.seen.format = Format::of(bytes);
-            self.seen.link = match link_type(bytes) {
-                Some(field) => Some(LinkType(field)),
-                None => None,
-            };
-            self.progress.begin(bytes);
+            if let Some(field) = link_type(bytes) {
+                self.seen.link = Some(LinkType(field));
+            }
+            self.progress.records = WholeRecords::of_capture(bytes);
         }
         self.progress.pass(bytes);
     }
@@ -102,5 +158,17 @@ impl<R: Read> Read for Watched<R> {
                 Err(error)
             }
         }
+    }
+}
+
+/// A capture that is read: a feed, which also says what was seen of its file besides the bytes.
+pub trait Inlet: Feed {
+    /// What was seen of its file besides its bytes, if it is watched.
+    fn seen(&self) -> Option<Seen>;
+}
+
+impl<R: Read> Inlet for OfBufReader<Watched<R>> {
+    fn seen(&self) -> Option<Seen> {
+        Some(self.get_ref().get_ref().seen())
     }
 }

@@ -9,14 +9,11 @@ ghost use Rattle.dp_captures.specs.Words.{row_of};
 use std::alloc::{AllocError, Global};
 use std::fmt;
 
-/// Where a capture is.
+/// Where a capture is: in a file, at standard input or output, or nowhere: no records come in, or what is sent is dropped.
 #[derive(Clone, Copy, PartialEq, Eq)]
 pub enum Place {
-    /// A file.
     File,
-    /// Standard input, or standard output.
     Stream,
-    /// Nowhere: no records come in, or what is sent is dropped.
     Nowhere,
 }
 
@@ -36,18 +33,14 @@ pub struct Replaced<'a> {
 /// Whether captures are read or written.
 #[derive(Clone, Copy)]
 pub enum Direction {
-    /// They are read.
     In,
-    /// They are written.
     Out,
 }
 
-/// The syntax of a word.
+/// The syntax of a word: PORT=NAME, or PORT, whose capture is nowhere.
 #[derive(Clone, Copy)]
 pub enum WordForm {
-    /// As PORT=NAME.
     Named,
-    /// As PORT, whose capture is nowhere.
     Bare,
 }
 
@@ -73,7 +66,7 @@ fn port_digit(word: &str) -> Option<u8>
 }
 
 /// Where the capture of this name is: `-` names a standard stream, anything else a file.
-pub fn place_named(name: &str) -> Place
+fn place_named(name: &str) -> Place
     ensures { result ≡ spec.place_named name.now }
 {
     if name == "-" {
@@ -135,10 +128,7 @@ fn given_by<'a>(form: WordForm, word: &'a str) -> Option<Replaced<'a>>
 fn is_stream(place: Place) -> bool
     ensures { result ≡ spec.is_stream place }
 {
-    match place {
-        Place::Stream => true,
-        Place::File | Place::Nowhere => false,
-    }
+    matches!(place, Place::Stream)
 }
 
 /// Whether two captures cannot be given together.
@@ -214,59 +204,36 @@ pub fn captures_of<'a>(
     Ok(given)
 }
 
-/// Writes which other word gives the same port a capture, or the same stream.
-fn write_clash<W: fmt::Write>(
-    f: &mut fmt::Formatter<W>,
-    direction: Direction,
-    one: Replaced<'_>,
-    other: Replaced<'_>,
-) -> fmt::Result {
-    let (word, earlier, port) = (one.word, other.word, one.port);
-    let (capture, option, stream) = match direction {
-        Direction::In => ("input", "in", "read standard input"),
-        Direction::Out => ("output", "out", "write standard output"),
-    };
-    if other.port == port {
+impl fmt::Display for WordProblem<'_> {
+    fn fmt<W: fmt::Write>(&self, f: &mut fmt::Formatter<W>) -> fmt::Result {
+        let (direction, one, other) = match *self {
+            WordProblem::Memory => return f.write_str("fault: memory"),
+            WordProblem::Unread(word, WordForm::Named) => return write!(
+                f,
+                "error: '{word}' is not PORT=NAME: PORT a digit from 0 to 7, NAME a capture, or - for the standard stream"
+            ),
+            WordProblem::Unread(word, WordForm::Bare) => {
+                return write!(f, "error: '{word}' is not a port: a digit from 0 to 7");
+            }
+            WordProblem::Clash(direction, one, other) => (direction, one, other),
+        };
+        let (word, earlier, port) = (one.word, other.word, one.port);
+        let (capture, option, stream) = match direction {
+            Direction::In => ("input", "in", "read standard input"),
+            Direction::Out => ("output", "out", "write standard output"),
+        };
+        if other.port != port {
+            return write!(
+                f,
+                "error: '{earlier}' and '{word}' both {stream}: one port alone can"
+            );
+        }
         write!(
             f,
             "error: '{word}' gives port {port} another {capture} than '{earlier}': "
         )?;
         write!(f, "one --{option} or --no-{option} for each port")
-    } else {
-        write!(
-            f,
-            "error: '{earlier}' and '{word}' both {stream}: one port alone can"
-        )
     }
-}
-
-impl fmt::Display for WordProblem<'_> {
-    fn fmt<W: fmt::Write>(&self, f: &mut fmt::Formatter<W>) -> fmt::Result {
-        match *self {
-            WordProblem::Memory => f.write_str("fault: memory"),
-            WordProblem::Unread(word, WordForm::Named) => write!(
-                f,
-                "error: '{word}' is not PORT=NAME: PORT a digit from 0 to 7, NAME a capture, or - for the standard stream"
-            ),
-            WordProblem::Unread(word, WordForm::Bare) => {
-                write!(f, "error: '{word}' is not a port: a digit from 0 to 7")
-            }
-            WordProblem::Clash(direction, one, other) => write_clash(f, direction, one, other),
-        }
-    }
-}
-
-/// The words that give ports captures.
-#[derive(Clone, Copy)]
-pub struct CaptureWords<'b, 'a> {
-    /// Words PORT=NAME for inputs.
-    pub inputs: &'b [&'a str],
-    /// Words PORT for inputs without records.
-    pub no_inputs: &'b [&'a str],
-    /// Words PORT=NAME for outputs.
-    pub outputs: &'b [&'a str],
-    /// Words PORT for outputs that are dropped.
-    pub no_outputs: &'b [&'a str],
 }
 
 /// The capture that is given to a port.
@@ -277,7 +244,7 @@ fn first_of_port<'b, 'a>(port: usize, given: &'b [Replaced<'a>]) -> Option<&'b R
 }
 
 /// The capture of a port: the one that is given, or else the file of this name.
-pub(crate) fn capture_at<'a>(given: &[Replaced<'a>], port: usize, name: &'a str) -> (Place, &'a str)
+pub fn capture_at<'a>(given: &[Replaced<'a>], port: usize, name: &'a str) -> (Place, &'a str)
     ensures { (result.0, result.1.now) ≡ spec.capture_at given.now port name.now }
 {
     match first_of_port(port, given) {
@@ -294,33 +261,24 @@ fn missing_in(given: &[Replaced<'_>], ports: usize) -> Option<u8>
     Some(one.port)
 }
 
-/// The capture that a word gives the only port of a pipeline.
-fn only<'a>(word: &'a str) -> Replaced<'a>
-    ensures { row_of result ≡ spec.only word.now }
-{
-    Replaced {
-        word,
-        port: 0,
-        place: place_named(word),
-        name: word,
-    }
-}
-
-/// That capture alone.
+/// The capture that a word gives the only port of a pipeline, alone.
 fn only_in<'a>(alloc: Global, word: &'a str) -> Result<Vec<Replaced<'a>>, AllocError>
     ensures { IfOk result (λ given. map row_of given.items ≡ spec.only word.now ∷ []) }
 {
     let mut given = Vec::new(alloc);
-    given.push(only(word))?;
+    given.push(Replaced {
+        word,
+        port: 0,
+        place: place_named(word),
+        name: word,
+    })?;
     Ok(given)
 }
 
-/// The captures that words give the ports of a pipeline.
+/// The captures that words give the ports of a pipeline: those that are read, and those that are written.
 #[derive(Drop)]
 pub struct Replacements<'a> {
-    /// Those that are read.
     pub inputs: Vec<Replaced<'a>>,
-    /// Those that are written.
     pub outputs: Vec<Replaced<'a>>,
 }
 
@@ -334,26 +292,6 @@ impl<'a> Replacements<'a> {
             inputs: Vec::new(alloc),
             outputs: Vec::new(alloc),
         }
-    }
-
-    /// The captures that words give.
-    ///
-    /// # Errors
-    ///
-    /// As [`captures_of`], for the inputs and then for the outputs.
-    pub fn of_words(
-        alloc: Global,
-        words: CaptureWords<'_, 'a>,
-    ) -> Result<Replacements<'a>, WordProblem<'a>>
-        ensures inputs { IfOk result (λ given. Some (map row_of given.inputs.items) ≡ spec.rows_of (map (λ word. word.now) words.entry.inputs.now)
-            (map (λ word. word.now) words.entry.no_inputs.now)) }
-        ensures outputs { IfOk result (λ given. Some (map row_of given.outputs.items) ≡ spec.rows_of (map (λ word. word.now) words.entry.outputs.now)
-            (map (λ word. word.now) words.entry.no_outputs.now)) }
-    {
-        Ok(Replacements {
-            inputs: captures_of(alloc, Direction::In, words.inputs, words.no_inputs)?,
-            outputs: captures_of(alloc, Direction::Out, words.outputs, words.no_outputs)?,
-        })
     }
 
     /// The captures of a pipeline with one port: what these two words name.

@@ -7,8 +7,8 @@ use super::plans::{BACK, FULL_RING, Plan, TWICE, Watch, loaded, ran, run_plainly
 use Content::Text;
 use Watch::{Losses, Silent};
 use dp_captures::{
-    BUFFER, CaptureNames, CaptureWords, Flushed, Replacements, Streams, names_of, open_captures,
-    run_captures,
+    BUFFER, CaptureNames, Direction, Flushed, Replacements, Streams, captures_of, names_of,
+    open_captures, run_captures,
 };
 use dp_console::Reply;
 use dp_counts::Refusals;
@@ -401,15 +401,13 @@ fn nowhere(alloc: Global, pipeline: &Pipeline) -> Result<Vec<CaptureNames>, Fail
     ensures many { IfOk result (λ names. length names.items ≡ length pipeline.now.env.ports) }
     ensures few { IfOk result (λ names. length names.items ≤ 8) }
 {
-    let words = CaptureWords {
-        inputs: &[],
-        no_inputs: &["0"],
-        outputs: &[],
-        no_outputs: &["0"],
+    let Ok(inputs) = captures_of(alloc, Direction::In, &[], &["0"]) else {
+        return Err(Fail::from("inputs"));
     };
-    let Ok(given) = Replacements::of_words(alloc, words) else {
-        return Err(Fail::from("words"));
+    let Ok(outputs) = captures_of(alloc, Direction::Out, &[], &["0"]) else {
+        return Err(Fail::from("outputs"));
     };
+    let given = Replacements { inputs, outputs };
     if given.missing(pipeline.ports()) != None {
         return Err(Fail::from("missing"));
     }

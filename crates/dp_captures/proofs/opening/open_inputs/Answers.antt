@@ -7,10 +7,10 @@ use Rattle.dp_captures.proofs.opening.open_inputs.Goals as goal
 
 pub loop-port-preserved : goal.loop-port-preserved
 loop-port-preserved g c =
-    let items : c.push.new.self.items ≡ c.loop-port.inputs.items ++ c.in-Ok.input ∷ [] = search rules in
+    let items : c.push.new.self.items ≡ c.loop-port.inputs.items ++ c.in_ok-input.input ∷ [] = search rules in
     let within : c.loop-port.port < length c.args.names.now = omega (arith, c.loop-port-test.true) in
     record {
       many = rw (items, length-append) (omega (arith, c.loop-port.invariant.many));
       opened = rw items (captures_opened IsOpenedInput input_capture c.args.names.now c.loop-port.inputs.items c.loop-port.port c.index-names-port.result _
-          c.in-Ok.input within c.index-names-port.is c.loop-port.invariant.opened c.in-Ok.ensures.opened);
+          c.in_ok-input.input within c.index-names-port.is c.loop-port.invariant.opened c.in_ok-input.ensures.opened);
     }
