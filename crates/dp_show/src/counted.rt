@@ -21,36 +21,11 @@ pub struct Counted<'a> {
 /// What helps if a file has no counts of a node.
 const NO_COUNTS: &str = "give the document that dpv run FILE --counts --json prints";
 
-/// What helps if the counts are of a program that has changed since.
-const COUNT_AGAIN: &str = "count again with the program as it is now: dpv run FILE --counts --json";
-
 /// Says the fault of a file of counts, the reason and what helps.
-fn say_fault<T: Display + Drop>(err: &mut Text, file: &str, because: T, help: &str) {
+pub fn say_fault<T: Display + Drop>(err: &mut Text, file: &str, because: T, help: &str) {
     err.say(format_args!("fault: file {file}\n  because: "));
     err.say(because);
     err.say(format_args!("\n  help: {help}\n"));
-}
-
-/// Says that counts are of a program with another number of instructions.
-pub fn say_misfit(err: &mut Text, counted: Counted<'_>, node: Entry, count: usize) {
-    let (file, known, name) = (counted.file, counted.steps.len(), NodeName(node));
-    let because = format_args!(
-        "it has counts of {known} instructions for {name}, whose program has {count}"
-    );
-    say_fault(err, file, because, COUNT_AGAIN);
-}
-
-/// Says why a file has no counts of a node.
-fn say_missing(err: &mut Text, file: &str, node: Entry, error: CountsError) {
-    match error {
-        CountsError::Memory => err.has_failed = true,
-        CountsError::NoNode => {
-            let name = NodeName(node);
-            let because = format_args!("it has no counts of {name}");
-            say_fault(err, file, because, NO_COUNTS);
-        }
-        _ => say_fault(err, file, error, NO_COUNTS),
-    }
 }
 
 /// The counts of a node in a file.
@@ -65,14 +40,22 @@ pub fn counts_in(alloc: Global, source: &Source, node: Entry) -> Result<Vec<Read
         Fault::of_unread(file).say(&mut reply.err);
         return Err(reply);
     }
-    let mut name = Text::new(alloc);
-    name.say(NodeName(node));
-    reply.err.has_failed = name.has_failed;
-    match counts_of(alloc, source.bytes.as_slice(), words_of(&name)) {
-        Ok(steps) => Ok(steps),
-        Err(error) => {
-            say_missing(&mut reply.err, source.name.as_str(), node, error);
-            Err(reply)
+    let (mut text, name) = (Text::new(alloc), NodeName(node));
+    text.say(name);
+    reply.err.has_failed = text.has_failed;
+    let (err, file) = (&mut reply.err, source.name.as_str());
+    match counts_of(alloc, source.bytes.as_slice(), words_of(&text)) {
+        Ok(steps) => return Ok(steps),
+        Err(CountsError::Memory) => err.has_failed = true,
+        Err(CountsError::NoNode) => {
+            say_fault(
+                err,
+                file,
+                format_args!("it has no counts of {name}"),
+                NO_COUNTS,
+            );
         }
+        Err(error) => say_fault(err, file, error, NO_COUNTS),
     }
+    Err(reply)
 }

@@ -5,13 +5,11 @@
 //! takes; its contract says that they add up to what `need` of dp_engine returns. Tables and programs lie outside the region and are not counted.
 #![tactic(auto)]
 
-mod boxes;
 mod compile;
 mod counted;
 mod listing;
+mod picture;
 mod pipeline;
-mod program;
-mod rows;
 mod showing;
 mod size_table;
 mod sizes;

@@ -1,82 +1,162 @@
 //! Lists a program: each instruction, and what is known before it.
 
-use crate::rows::say_row_after;
-use crate::texts::{Repeated, digits, is_refused_in};
+use crate::texts::{digits, is_refused_in, say_blanks, words_of};
 use dp_console::Text;
 use dp_lang::Listed;
+use dp_model::{Fact, Row};
 use dp_verdict::Judged;
+use dp_words::{FactText, parts_of};
 use std::alloc::Global;
 
-/// The widths of a listing's columns: numbers, labels and instructions.
-#[derive(Clone, Copy)]
-struct Widths {
-    number: usize,
-    labels: usize,
-    text: usize,
+/// The row that says nothing.
+const UNKNOWN: Row = Row {
+    live: true,
+    facts: [Fact::Empty; 8],
+    bounds: [u64::MAX; 8],
+};
+
+/// Says what is known of a register after its name; only what changed, if it held a packet before and does now.
+fn say_fact(out: &mut Text, now: Fact, before: Fact) {
+    let (Some(parts), Some(before)) = (parts_of(now), parts_of(before)) else {
+        let fact = FactText(now);
+        return out.say(format_args!(" {fact}"));
+    };
+    let mut mark = " ";
+    for k in 0..6 {
+        if parts[k] != before[k] {
+            let part = parts[k];
+            out.say(format_args!("{mark}{part}"));
+            mark = ", ";
+        }
+    }
 }
 
-/// The width of an instruction's labels: a colon after each, and a blank between two.
-fn labels_width(labels: &[&str]) -> usize {
+/// The greatest value of a number register, if it changed.
+fn changed(row: &Row, before: &Row, k: usize) -> Option<u64> {
+    match (row.bounds.get(k), before.bounds.get(k)) {
+        (Some(now), Some(then)) if now != then => Some(*now),
+        _ => None,
+    }
+}
+
+/// Says which registers have this greatest value: those from one to another.
+fn say_greatest(out: &mut Text, first: usize, last: usize, greatest: u64) {
+    out.say(format_args!("r{first}"));
+    if first < last {
+        out.say(format_args!("-r{last}"));
+    }
+    match greatest {
+        u64::MAX => out.say(" any"),
+        _ => out.say(format_args!(" <= {greatest}")),
+    }
+}
+
+/// Says what a row says that another one does not, with marks before the first phrase and between two. Registers of which equal greatest values are
+/// known stand together, as in `r0 <= 5`, `r1-r7 <= 0` or `r2 any`.
+fn changes(alloc: Global, row: &Row, before: &Row, first: &str, next: &str) -> Text {
+    let mut out = Text::new(alloc);
+    let mut mark = first;
+    for k in 0..8 {
+        if row.facts[k] != before.facts[k] {
+            out.say(format_args!("{mark}p{k}"));
+            say_fact(&mut out, row.facts[k], before.facts[k]);
+            mark = next;
+        }
+    }
+    let mut begin = 0;
+    for k in 0..8 {
+        let greatest = changed(row, before, k);
+        if greatest.is_some() && changed(row, before, k + 1) == greatest {
+            continue;
+        }
+        if let Some(greatest) = greatest {
+            out.say(mark);
+            say_greatest(&mut out, begin, k, greatest);
+            mark = next;
+        }
+        begin = k + 1;
+    }
+    out
+}
+
+/// All that a row says, with a mark between two registers: `p0 sole, headroom 128, at most 1 segment; r0-r7 <= 0`. Registers of which nothing is
+/// known are left out.
+pub fn row_text(alloc: Global, row: &Row, mark: &str) -> Text {
+    let mut out = Text::new(alloc);
+    if !row.live {
+        out.say("never reached");
+        return out;
+    }
+    out = changes(alloc, row, &UNKNOWN, "", mark);
+    if out.bytes.is_empty() {
+        out.say("nothing known");
+    }
+    out
+}
+
+/// Says a row: its difference from the row before, after a `+`, if that is not longer; else all of it.
+pub fn say_row_after(alloc: Global, out: &mut Text, row: &Row, before: Option<&Row>) {
+    let mut text = row_text(alloc, row, "; ");
+    out.has_failed |= text.has_failed;
+    if let Some(before) = before
+        && before.live
+        && row.live
+    {
+        let mut change = changes(alloc, row, before, "+ ", "; ");
+        if change.bytes.is_empty() {
+            change.say("as before");
+        }
+        out.has_failed |= change.has_failed;
+        if change.bytes.len() <= text.bytes.len() {
+            text = change;
+        }
+    }
+    out.say(words_of(&text));
+}
+
+/// The width of an instruction's labels: a colon and a blank after each.
+fn labels_width(written: &Listed<'_>) -> usize {
     let mut width = 0usize;
-    for label in labels {
+    for label in written.labels.as_slice() {
         width = width.saturating_add(label.len()).saturating_add(2);
     }
-    width.saturating_sub(1)
-}
-
-/// The widths of the columns for these instructions.
-fn widths_of(source: &[Listed<'_>]) -> Widths {
-    let mut widths = Widths {
-        number: digits(source.len().saturating_sub(1)),
-        labels: 0,
-        text: 0,
-    };
-    for written in source {
-        widths.labels = widths.labels.max(labels_width(written.labels.as_slice()));
-        widths.text = widths.text.max(written.text.len());
-    }
-    widths
-}
-
-/// Blanks that fill a column of this width after a word of this length.
-fn blanks(width: usize, length: usize) -> Repeated {
-    Repeated {
-        piece: " ",
-        times: width.saturating_sub(length),
-    }
-}
-
-/// Says the labels of an instruction, in a column if there is one.
-fn say_labels(out: &mut Text, labels: &[&str], width: usize) {
-    let mut mark = "";
-    for label in labels {
-        out.say(format_args!("{mark}{label}:"));
-        mark = " ";
-    }
-    if width > 0 {
-        out.say(blanks(width.saturating_add(2), labels_width(labels)));
-    }
-}
-
-/// Says the number, the labels and the text of an instruction, each in its column.
-fn say_instruction(out: &mut Text, widths: Widths, number: usize, written: &Listed<'_>) {
-    let before = blanks(widths.number, digits(number));
-    out.say(format_args!("{before}{number}  "));
-    say_labels(out, written.labels.as_slice(), widths.labels);
-    let (text, after) = (written.text, blanks(widths.text, written.text.len()));
-    out.say(format_args!("{text}{after}  "));
+    width
 }
 
 /// Says the verdict on a program and a line for each instruction: its number, its labels and its text as the source has them, and what is known
 /// before it. The line of a refused one begins with `>`.
 pub fn say_listing(alloc: Global, out: &mut Text, judged: &Judged<'_>, source: &[Listed<'_>]) {
-    let (verdict, widths) = (judged.verdict, widths_of(source));
+    let verdict = judged.verdict;
     out.say(format_args!("{verdict}\n"));
+    let (mut label_width, mut text_width) = (0, 0);
+    for written in source {
+        label_width = labels_width(written).max(label_width);
+        text_width = written.text.len().max(text_width);
+    }
     let mut before = None;
     for (number, (written, row)) in source.iter().zip(judged.cert.rows()).enumerate() {
         let is_refused = is_refused_in(verdict, number, number.saturating_add(1));
         out.say(if is_refused { "> " } else { "  " });
-        say_instruction(out, widths, number, written);
+        say_blanks(
+            out,
+            " ",
+            digits(number),
+            digits(source.len().saturating_sub(1)),
+        );
+        out.say(format_args!("{number}  "));
+        for label in written.labels.as_slice() {
+            out.say(format_args!("{label}: "));
+        }
+        if label_width > 0 {
+            say_blanks(
+                out,
+                " ",
+                labels_width(written),
+                label_width.saturating_add(1),
+            );
+        }
+        out.say(written.text);
+        say_blanks(out, " ", written.text.len(), text_width.saturating_add(2));
         say_row_after(alloc, out, row, before);
         out.say("\n");
         before = Some(row);

@@ -1,18 +1,17 @@
 //! `dpv show` and `dpv show-one`: a program, or the picture of a pipeline.
 
-use crate::boxes::Boxed;
-use crate::counted::{Counted, say_misfit};
+use crate::counted::{Counted, say_fault};
 use crate::listing::say_listing;
+use crate::picture::Picture;
 use crate::pipeline::say_pipeline;
-use crate::program::{Drawing, say_picture};
 use dp_console::{FAULT, REFUSED, Reply};
 use dp_counts::ReadCount;
 use dp_lang::listing_of;
 use dp_model::Entry;
-use dp_pipe::PipeError;
-use dp_sources::{Asked, MAX_NODES, Sources, Subject, entry_at};
+use dp_pipe::{NodeName, PipeError};
+use dp_sources::{MAX_NODES, Sources, Subject, entry_at};
 use dp_verdict::{Judged, judge, no_node, unloaded};
-use std::alloc::{AllocError, Global};
+use std::alloc::Global;
 
 /// How a program is shown.
 #[derive(Clone, Copy)]
@@ -26,84 +25,60 @@ pub enum Form<'a> {
     },
 }
 
-/// Says the picture of a program. The status is 3 if its counts are of a program with another number of instructions, which is reported.
-fn say_boxes(
-    alloc: Global,
-    judged: &Judged<'_>,
-    all: bool,
-    counts: Option<Counted<'_>>,
-    reply: &mut Reply,
-) -> Result<(), AllocError> {
-    let instrs = judged.program.instrs();
+/// What helps if counts are of a program that has changed since.
+const COUNT_AGAIN: &str = "count again with the program as it is now: dpv run FILE --counts --json";
+
+/// Says a program in this form. The status is 3 if its counts are of a program with another number of instructions, which is reported.
+fn say_program<'a>(alloc: Global, judged: &'a Judged<'a>, form: Form<'a>, reply: &mut Reply) {
+    let Ok(listing) = listing_of(alloc, judged.text) else {
+        reply.out.has_failed = true;
+        return;
+    };
+    let source = listing.as_slice();
+    let Form::Picture { all, counts } = form else {
+        return say_listing(alloc, &mut reply.out, judged, source);
+    };
+    let count = judged.program.instrs().len();
     let steps: &[ReadCount] = match counts {
-        Some(counted) if counted.steps.len() != instrs.len() => {
-            say_misfit(&mut reply.err, counted, judged.verdict.node, instrs.len());
+        Some(Counted { file, steps }) if steps.len() != count => {
+            let (known, name) = (steps.len(), NodeName(judged.verdict.node));
+            let because = format_args!(
+                "it has counts of {known} instructions for {name}, whose program has {count}"
+            );
+            say_fault(&mut reply.err, file, because, COUNT_AGAIN);
             reply.status = FAULT;
-            return Ok(());
+            return;
         }
         Some(counted) => counted.steps,
         None => &[],
     };
-    let source = listing_of(alloc, judged.text)?;
-    let drawing = Drawing {
-        verdict: judged.verdict,
-        source: source.as_slice(),
-        boxed: Boxed {
-            instrs,
-            rows: judged.cert.rows(),
-            counts: steps,
-            all,
-        },
+    let picture = Picture {
+        alloc,
+        judged,
+        source,
+        counts: steps,
+        all,
     };
-    say_picture(alloc, &mut reply.out, drawing);
-    Ok(())
+    picture.say(&mut reply.out);
 }
 
-/// Sets the status if a program is refused.
-fn set_status(judged: &Judged<'_>, reply: &mut Reply) {
-    if judged.verdict.refused.is_some() {
-        reply.status = REFUSED;
-    }
-}
-
-/// Says the program of a node in this form.
-fn say_node(
+/// The nodes of a subject, or one of them, judged.
+fn judged<'a>(
     alloc: Global,
-    subject: Subject<'_>,
-    sources: &Sources,
-    asked: Asked<'_>,
-    form: Form<'_>,
-    reply: &mut Reply,
-) -> Result<(), PipeError> {
-    let judged = judge(alloc, sources, subject.env(), asked)?;
-    set_status(&judged, reply);
-    match form {
-        Form::Picture { all, counts } => say_boxes(alloc, &judged, all, counts, reply)?,
-        Form::Listing => {
-            let source = listing_of(alloc, judged.text)?;
-            say_listing(alloc, &mut reply.out, &judged, source.as_slice());
-        }
-    }
-    Ok(())
-}
-
-/// Says the picture of the whole pipeline.
-fn say_all(
-    alloc: Global,
-    subject: Subject<'_>,
-    sources: &Sources,
-    reply: &mut Reply,
-) -> Result<(), PipeError> {
+    subject: Subject<'a>,
+    sources: &'a Sources,
+    which: Option<Entry>,
+) -> Result<Vec<Judged<'a>>, PipeError> {
     let mut nodes = Vec::new(alloc);
     for index in 0..MAX_NODES {
-        if let Some(asked) = subject.node(entry_at(index)) {
-            let judged = judge(alloc, sources, subject.env(), asked)?;
-            set_status(&judged, reply);
-            nodes.push(judged)?;
+        let node = entry_at(index);
+        if (which.is_none() || which == Some(node))
+            && let Some(asked) = subject.node(node)
+        {
+            nodes.push(judge(alloc, sources, subject.env(), asked)?)?;
         }
     }
-    say_pipeline(&mut reply.out, subject.env(), nodes.as_slice());
-    Ok(())
+    Ok(nodes)
 }
 
 /// Shows the program of a node in this form; without a node, the picture of the pipeline. The status is 0; 1 if a program is refused; 2 if there
@@ -115,16 +90,26 @@ pub fn show(
     which: Option<Entry>,
     form: Form<'_>,
 ) -> Reply {
-    let mut reply = Reply::new(alloc);
-    let shown = match which {
-        None => say_all(alloc, subject, sources, &mut reply),
-        Some(node) => match subject.node(node) {
-            Some(asked) => say_node(alloc, subject, sources, asked, form, &mut reply),
-            None => return no_node(alloc, node),
-        },
-    };
-    match shown {
-        Ok(()) => reply,
-        Err(error) => unloaded(alloc, error, subject, sources, false),
+    if let Some(node) = which
+        && subject.node(node).is_none()
+    {
+        return no_node(alloc, node);
     }
+    let nodes = match judged(alloc, subject, sources, which) {
+        Ok(nodes) => nodes,
+        Err(error) => return unloaded(alloc, error, subject, sources, false),
+    };
+    let mut reply = Reply::new(alloc);
+    for node in nodes.as_slice() {
+        if node.verdict.refused.is_some() {
+            reply.status = REFUSED;
+        }
+        if which.is_some() {
+            say_program(alloc, node, form, &mut reply);
+        }
+    }
+    if which.is_none() {
+        say_pipeline(&mut reply.out, subject.env(), nodes.as_slice());
+    }
+    reply
 }

@@ -9,11 +9,6 @@ pub fn words_of(text: &Text) -> &str {
     std::str::from_utf8(text.bytes.as_slice()).unwrap_or("")
 }
 
-/// Whether a text has no words yet.
-pub fn is_empty(text: &Text) -> bool {
-    text.bytes.is_empty()
-}
-
 /// Whether a program is refused at one of these labels.
 pub fn is_refused_in(verdict: Verdict, first: usize, end: usize) -> bool {
     match verdict.refused {
@@ -22,46 +17,29 @@ pub fn is_refused_in(verdict: Verdict, first: usize, end: usize) -> bool {
     }
 }
 
-/// The text of a character inside an HTML-like label: a newline ends a line, with what is before it to the left.
-fn escape_of(c: char) -> Option<&'static str> {
-    match c {
-        '<' => Some("&lt;"),
-        '>' => Some("&gt;"),
-        '&' => Some("&amp;"),
-        '"' => Some("&quot;"),
-        '\t' => Some(" "),
-        '\n' => Some("<BR ALIGN=\"LEFT\"/>"),
-        _ => None,
+/// Fills a column: says a blank for each unit that a width has more than what is there.
+pub fn say_blanks(out: &mut Text, blank: &str, there: usize, width: usize) {
+    for _ in there..width {
+        out.say(blank);
     }
 }
 
-/// A text inside an HTML-like label.
+/// A text inside an HTML-like label: a newline ends a line, with what is before it to the left.
 #[derive(Clone, Copy)]
 pub struct Escaped<'a>(pub &'a str);
 
 impl fmt::Display for Escaped<'_> {
     fn fmt<W: fmt::Write>(&self, f: &mut fmt::Formatter<W>) -> fmt::Result {
         for c in self.0.chars() {
-            match escape_of(c) {
-                Some(text) => f.write_str(text)?,
-                None => f.write_char(c)?,
+            match c {
+                '<' => f.write_str("&lt;")?,
+                '>' => f.write_str("&gt;")?,
+                '&' => f.write_str("&amp;")?,
+                '"' => f.write_str("&quot;")?,
+                '\t' => f.write_str(" ")?,
+                '\n' => f.write_str("<BR ALIGN=\"LEFT\"/>")?,
+                _ => f.write_char(c)?,
             }
-        }
-        Ok(())
-    }
-}
-
-/// A piece that is said again and again.
-#[derive(Clone, Copy)]
-pub struct Repeated {
-    pub piece: &'static str,
-    pub times: usize,
-}
-
-impl fmt::Display for Repeated {
-    fn fmt<W: fmt::Write>(&self, f: &mut fmt::Formatter<W>) -> fmt::Result {
-        for _ in 0..self.times {
-            f.write_str(self.piece)?;
         }
         Ok(())
     }

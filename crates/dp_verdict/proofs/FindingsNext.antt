@@ -3,7 +3,7 @@ use Rattle.std.proofs.Common.{◌≡◌, ℕ, suc, ◌+◌, List, Option, sym, s
 use Rattle.dp_sources.specs.declared.subject.Subject.{Subject}
 use Rattle.dp_sources.specs.Subjects.{entry_at}
 use Rattle.dp_pipe.specs.Files.{FileMap}
-use Rattle.dp_verdict.specs.declared.finding.Finding.{Finding}
+use Rattle.dp_verdict.specs.declared.report.Finding.{Finding}
 use Rattle.dp_verdict.specs.Judging.{AreFindings, IsNext}
 
 pub findings_next : (contents : Option FileMap) (subject : Subject) (index : ℕ) (old new : List Finding) → AreFindings contents subject index old

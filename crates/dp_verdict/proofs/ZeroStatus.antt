@@ -1,13 +1,13 @@
 -- A check ends with status 0 only if the pipeline was loaded.
-use Rattle.std.proofs.Common.{◌≡◌, ℕ, List, [], ◌∷◌, Option, Some, None, Result, Ok, Err, Bool, true, false, refl, sym, ◌∙◌, subst, inl, inr, arith}
+use Rattle.std.proofs.Common.{◌≡◌, ℕ, List, [], ◌∷◌, Option, Some, None, Result, Ok, Err, Bool, true, false, sym, ◌∙◌, ap, subst, inl, inr, arith}
 use Rattle.std.specs.Prelude.{IfErr, MatchOption}
 use Rattle.dp_pipe.specs.declared.error.PipeError.{PipeError}
 use Rattle.dp_pipe.specs.Pipelines.{Plan}
 use Rattle.dp_model.specs.declared.env.Entry.{Entry}
 use Rattle.dp_sources.specs.declared.fault.Fault.{Fault}
 use Rattle.dp_sources.specs.declared.fault.Fault.TheVariants as fault
-use Rattle.dp_verdict.specs.declared.finding.RefusedAt.{RefusedAt}
-use Rattle.dp_verdict.specs.declared.finding.Finding.{Finding}
+use Rattle.dp_verdict.specs.declared.report.RefusedAt.{RefusedAt}
+use Rattle.dp_verdict.specs.declared.report.Finding.{Finding}
 use Rattle.dp_verdict.specs.declared.report.Report.{Report}
 use Rattle.dp_console.specs.declared.reply.Reply.{Reply}
 use Rattle.dp_verdict.specs.Checks.{HasOnly, IsChecked, SaysRefused, refusal_of, refused_at}
@@ -23,15 +23,11 @@ fault_not_zero (fault.Pipeline error file) zero = absurd (omega (arith, zero))
 faulted : (f : Option Fault) (fs : List Finding) (it : Fault) → f ≡ Some it → status_with f fs ≡ 0 → ⊥
 faulted f fs it is zero = fault_not_zero it (subst (λ (o : Option Fault). status_with o fs ≡ 0) is zero)
 
-one : (n : ℕ) → n ≡ 1 → n ≡ 0 → ⊥
-one n is zero = absurd (omega (arith, is, zero))
-
-alone_not_zero : (f : Option Fault) (fs : List Finding) (node : Entry) (at : RefusedAt) → fs ≡ refused_at node at ∷ [] → f ≡ None → status_with f fs ≡ 0 → ⊥
-alone_not_zero f fs node at only none zero =
-    one 1 refl (subst (λ (l : List Finding). status_with None l ≡ 0) only (subst (λ (o : Option Fault). status_with o fs ≡ 0) none zero))
-
 only_refused : (report : Report) (node : Entry) (at : RefusedAt) → HasOnly (refused_at node at ∷ []) report → status_of report ≡ 0 → ⊥
-only_refused report node at (inl has) zero = alone_not_zero report.fault (findings_of report) node at has.0 has.1 zero
+only_refused report node at (inl has) zero =
+    let one : status_of report ≡ 1 = ap (λ (o : Option Fault). status_with o (findings_of report)) has.1
+    ∙ ap (λ (l : List Finding). status_with None l) has.0 in
+    absurd (omega (arith, one, zero))
 only_refused report node at (inr memory) zero = faulted report.fault (findings_of report) fault.Memory memory zero
 
 not_loaded : (e : PipeError) (o : Option (Entry × RefusedAt)) (report : Report)

@@ -11,8 +11,8 @@ use Rattle.dp_console.specs.declared.reply.Reply.{Reply}
 use Rattle.dp_sources.specs.declared.fault.Fault.{Fault}
 use Rattle.dp_sources.specs.declared.fault.Fault.TheVariants.{Memory}
 use Rattle.dp_sources.specs.Faults.{IsFaultOf}
-use Rattle.dp_verdict.specs.declared.finding.RefusedAt.{RefusedAt}
-use Rattle.dp_verdict.specs.declared.finding.Finding.{Finding}
+use Rattle.dp_verdict.specs.declared.report.RefusedAt.{RefusedAt}
+use Rattle.dp_verdict.specs.declared.report.Finding.{Finding}
 use Rattle.dp_verdict.specs.declared.report.Report.{Report}
 use Rattle.dp_verdict.specs.Reports.{findings_of, status_of, texts_of}
 use Rattle.dp_verdict.specs.Verdicts.{alone}
@@ -29,10 +29,6 @@ refused_at node at = alone (record { node = node; refused = Some at })
 -- these findings, and no fault; or only that memory was refused
 abbrev pub HasOnly : List Finding → Report → Type 0
 HasOnly findings report = ((findings_of report ≡ findings) × (report.fault ≡ None)) ⊎ (report.fault ≡ Some Memory)
-
-abbrev pub IsReportOf : Result (Vec Finding) AllocError → Report → Type 0
-IsReportOf (Ok nodes) report = (findings_of report ≡ nodes.items) × (report.fault ≡ None)
-IsReportOf (Err e) report = report.fault ≡ Some Memory
 
 -- the node whose program is refused or has no certificate, and where
 abbrev pub refusal_of : PipeError → Option (Entry × RefusedAt)

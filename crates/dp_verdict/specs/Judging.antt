@@ -16,9 +16,9 @@ use Rattle.dp_pipe.specs.Nodes.{Node, IsCertOf, IsMissing, IsBadCert, IsProgramO
 use Rattle.dp_console.specs.declared.reply.Reply.{Reply}
 use Rattle.dp_sources.specs.declared.subject.Subject.{Subject}
 use Rattle.dp_sources.specs.Subjects.{entry_at, env_of, node_of}
-use Rattle.dp_verdict.specs.declared.finding.Finding.{Finding}
-use Rattle.dp_verdict.specs.declared.finding.RefusedAt.{RefusedAt}
-use Rattle.dp_verdict.specs.declared.finding.Verdict.{Verdict}
+use Rattle.dp_verdict.specs.declared.report.Finding.{Finding}
+use Rattle.dp_verdict.specs.declared.report.RefusedAt.{RefusedAt}
+use Rattle.dp_verdict.specs.declared.report.Verdict.{Verdict}
 use Rattle.dp_verdict.specs.declared.report.Report.{Report}
 use Rattle.dp_verdict.specs.Reports.{findings_of, status_of}
 

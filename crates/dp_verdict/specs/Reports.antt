@@ -4,7 +4,7 @@ use Rattle.std.specs.List.{list_any}
 use Rattle.std.specs.Global.{Vec}
 use Rattle.dp_sources.specs.declared.fault.Fault.{Fault}
 use Rattle.dp_sources.specs.Faults as faults
-use Rattle.dp_verdict.specs.declared.finding.Finding.{Finding}
+use Rattle.dp_verdict.specs.declared.report.Finding.{Finding}
 use Rattle.dp_verdict.specs.declared.report.Report.{Report}
 use Rattle.dp_verdict.specs.Verdicts.{finding_text}
 

@@ -3,10 +3,10 @@ use Rattle.std.specs.Prelude.{ℕ, List, [], ◌∷◌, ◌++◌, Bool, Option, 
 use Rattle.std.specs.Fmt.{decimal}
 use Rattle.dp_model.specs.declared.env.Entry.{Entry}
 use Rattle.dp_pipe.specs.Causes.{node_text}
-use Rattle.dp_verdict.specs.declared.finding.RefusedAt.{RefusedAt}
-use Rattle.dp_verdict.specs.declared.finding.Verdict.{Verdict}
-use Rattle.dp_verdict.specs.declared.finding.Why.{Why}
-use Rattle.dp_verdict.specs.declared.finding.Finding.{Finding}
+use Rattle.dp_verdict.specs.declared.report.RefusedAt.{RefusedAt}
+use Rattle.dp_verdict.specs.declared.report.Verdict.{Verdict}
+use Rattle.dp_verdict.specs.declared.report.Why.{Why}
+use Rattle.dp_verdict.specs.declared.report.Finding.{Finding}
 
 abbrev pub verdict_word : Bool → List ℕ
 verdict_word given = if given then codes "refused" else codes "not inferred"

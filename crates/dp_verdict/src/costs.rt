@@ -1,74 +1,27 @@
 //! `dpv check --cost`: how many instructions the programs of a pipeline can take, and the turn of a record with them.
 
-ghost use Rattle.std.specs.Prelude.{◌≡◌, ◌+◌, ◌<◌, List, Some, length, slice_get};
-ghost use Rattle.dp_model.specs.Rules.{Question};
-ghost use Rattle.dp_cost.specs.Costs.{IsCost};
+ghost use Rattle.std.specs.Prelude.{◌≡◌};
 
-use dp_console::{Reply, Text, document_of};
+use dp_console::{Document, Item, Reply, Text};
 use dp_cost::{Cost, cost_of, turn_cost};
-use dp_model::{Entry, Instr};
+use dp_model::Instr;
 use dp_pipe::{NodeName, Pipeline};
-use serde::{Described, Serialize, Serializer};
 use std::alloc::Global;
 
 /// The maximum number of rings.
 const RINGS: usize = 8;
 
-/// The cost of a ring that a pipeline does not have.
-const NOTHING: Cost = Cost {
-    steps: 0,
-    back: None,
-};
-
-/// The cost of a node's program.
-fn cost_at(pipeline: &Pipeline, k: usize) -> Cost
-    requires { k < length pipeline.now.env.ports + length pipeline.now.env.rings }
-    ensures { (node : Question) → slice_get pipeline.now.nodes k ≡ Some node → IsCost node.program result }
-{
-    cost_of(pipeline.node(k).program())
-}
-
-/// The costs of the programs of rings.
-fn ring_costs(pipeline: &Pipeline) -> [Cost; RINGS] {
-    let ports = pipeline.ports();
-    let rings = pipeline.nodes() - ports;
-    let mut costs = [NOTHING; RINGS];
-    for ring in 0..RINGS {
-        if ring < rings {
-            costs[ring] = cost_at(pipeline, ports + ring);
-        }
-    }
-    costs
-}
-
 /// The greatest number of instructions that the turn of a record can take.
 #[derive(Clone, Copy)]
-struct TurnCost {
+struct Turn {
     /// The port at which that record comes in.
     port: usize,
     /// The instructions on that port.
     steps: u64,
     /// These, and those on packets in rings.
     all: u64,
-}
-
-/// The greatest number of instructions that the turn of a record can take.
-fn turn_of(pipeline: &Pipeline) -> TurnCost {
-    let rings = ring_costs(pipeline);
-    let mut greatest = TurnCost {
-        port: 0,
-        steps: 0,
-        all: 0,
-    };
-    for port in 0..pipeline.ports() {
-        let cost = cost_at(pipeline, port);
-        let all = turn_cost(cost, &rings);
-        if all > greatest.all {
-            let steps = u64::from(cost.steps);
-            greatest = TurnCost { port, steps, all };
-        }
-    }
-    greatest
+    /// For each ring, the rings to which its packets can come.
+    ways: [[bool; RINGS]; RINGS],
 }
 
 /// The rings into which a program puts packets.
@@ -84,63 +37,62 @@ fn rings_of(instrs: &[Instr]) -> [bool; RINGS] {
     rings
 }
 
-/// For each ring, the rings into which its program puts packets.
-type Ways = [[bool; RINGS]; RINGS];
+/// Adds the ways that go over other rings.
+fn close(ways: &mut [[bool; RINGS]; RINGS]) {
+    for over in 0..RINGS {
+        for from in 0..RINGS {
+            for to in 0..RINGS {
+                if ways[from][over] && ways[over][to] {
+                    ways[from][to] = true;
+                }
+            }
+        }
+    }
+}
 
-/// The ways from ring to ring.
-fn ways_of(pipeline: &Pipeline) -> Ways {
-    let ports = pipeline.ports();
-    let rings = pipeline.nodes() - ports;
+/// The greatest cost of a turn.
+fn turn_of(pipeline: &Pipeline) -> Turn {
+    let (ports, mut port) = (pipeline.ports(), 0);
+    let (steps, back) = (0, None);
+    let mut of_port = Cost { steps, back };
+    let mut of_ring = of_port;
     let mut ways = [[false; RINGS]; RINGS];
-    for ring in 0..RINGS {
-        if ring < rings {
-            ways[ring] = rings_of(pipeline.node(ports + ring).program().instrs());
+    for k in 0..pipeline.nodes() {
+        let program = pipeline.node(k).program();
+        let cost = cost_of(program);
+        if k < ports && cost.steps > of_port.steps {
+            (port, of_port) = (k, cost);
+        } else if k >= ports && cost.steps > of_ring.steps {
+            of_ring = cost;
+        }
+        if let Some(ring) = k.checked_sub(ports)
+            && let Some(to) = ways.get_mut(ring)
+        {
+            *to = rings_of(program.instrs());
         }
     }
-    ways
-}
-
-/// Adds rings to a set.
-fn add_rings(to: &mut [bool; RINGS], more: &[bool; RINGS]) {
-    for ring in 0..RINGS {
-        to[ring] = to[ring] || more[ring];
+    close(&mut ways);
+    Turn {
+        port,
+        steps: u64::from(of_port.steps),
+        all: turn_cost(of_port, &[of_ring]),
+        ways,
     }
 }
 
-/// Adds to a set of rings those to which they lead by one program.
-fn add_next(ways: &Ways, reached: &mut [bool; RINGS]) {
-    let before = *reached;
-    for ring in 0..RINGS {
-        if before[ring] {
-            add_rings(&mut *reached, &ways[ring]);
+/// Says the costs of a pipeline.
+fn say_text(pipeline: &Pipeline, turn: &Turn, out: &mut Text) {
+    for k in 0..pipeline.nodes() {
+        let node = pipeline.node(k);
+        let (name, cost) = (NodeName(node.entry()), cost_of(node.program()));
+        let steps = cost.steps;
+        out.say(format_args!("{name} takes at most {steps} instructions"));
+        match cost.back {
+            Some(label) => out.say(format_args!(": it can jump back at {label}\n")),
+            None => out.say("\n"),
         }
     }
-}
-
-/// Whether a packet of a ring can come to the ring again.
-fn comes_again(ways: &Ways, ring: usize) -> bool
-    requires { ring < 8 }
-{
-    let mut reached = ways[ring];
-    for _ in 0..RINGS {
-        add_next(ways, &mut reached);
-    }
-    reached[ring]
-}
-
-/// Says the cost of a node's program.
-fn say_node(out: &mut Text, node: Entry, cost: Cost) {
-    let (name, steps) = (NodeName(node), cost.steps);
-    out.say(format_args!("{name} takes at most {steps} instructions"));
-    match cost.back {
-        Some(label) => out.say(format_args!(": it can jump back at {label}\n")),
-        None => out.say("\n"),
-    }
-}
-
-/// Says the greatest cost of the turn of a record.
-fn say_turn(out: &mut Text, cost: TurnCost) {
-    let TurnCost { port, steps, all } = cost;
+    let (port, steps, all) = (turn.port, turn.steps, turn.all);
     out.say(format_args!(
         "the turn of a record takes at most {all} instructions: {steps} on port {port}"
     ));
@@ -149,100 +101,59 @@ fn say_turn(out: &mut Text, cost: TurnCost) {
         out.say(format_args!(", {waiting} on packets in rings"));
     }
     out.say("\n");
-}
-
-/// Says which rings lead to themselves.
-fn say_loops(out: &mut Text, ways: &Ways) {
     for ring in 0..RINGS {
-        if comes_again(ways, ring) {
-            out.say(format_args!(
-                "ring {ring} leads to itself: there is no bound for all turns in which a packet runs\n"
-            ));
+        if turn.ways[ring][ring] {
+            out.say(format_args!("ring {ring} leads to itself: "));
+            out.say("there is no bound for all turns in which a packet runs\n");
         }
     }
 }
 
-/// Says the costs of a pipeline.
-fn say_text(pipeline: &Pipeline, out: &mut Text) {
+/// Writes the document of a pipeline whose programs are accepted, with their costs.
+fn write(pipeline: &Pipeline, turn: &Turn, to: &mut Document) {
+    to.begin_object("");
+    to.item("fault", Item::Null);
+    to.begin_list("nodes");
     for k in 0..pipeline.nodes() {
-        say_node(out, pipeline.node(k).entry(), cost_at(pipeline, k));
+        let node = pipeline.node(k);
+        let cost = cost_of(node.program());
+        to.begin_object("");
+        to.item(
+            "back",
+            cost.back
+                .map_or(Item::Null, |label| Item::Number(u64::from(label))),
+        );
+        to.item("cost", Item::Number(u64::from(cost.steps)));
+        to.shown("node", NodeName(node.entry()));
+        to.item("verdict", Item::Text("accepted"));
+        to.end_object();
     }
-    say_turn(out, turn_of(pipeline));
-    say_loops(out, &ways_of(pipeline));
-}
-
-/// The document of a pipeline whose programs are accepted, with their costs.
-#[derive(Clone, Copy)]
-struct CostDocument<'p>(&'p Pipeline);
-
-/// Writes the node of a document.
-fn write_node<S: Serializer>(node: Entry, cost: Cost, out: &mut S) -> Result<(), S::Error> {
-    out.begin_map(None)?;
-    out.key("back")?;
-    match cost.back {
-        Some(label) => out.u64(u64::from(label))?,
-        None => out.unit()?,
-    }
-    out.key("cost")?;
-    out.u64(u64::from(cost.steps))?;
-    out.key("node")?;
-    out.collect_str(&NodeName(node))?;
-    out.key("verdict")?;
-    out.str("accepted")?;
-    out.end_map()
-}
-
-/// Writes the nodes of a document.
-fn write_nodes<S: Serializer>(pipeline: &Pipeline, out: &mut S) -> Result<(), S::Error> {
-    out.begin_seq(None)?;
-    for k in 0..pipeline.nodes() {
-        write_node(pipeline.node(k).entry(), cost_at(pipeline, k), out)?;
-    }
-    out.end_seq()
-}
-
-/// Writes the rings that lead to themselves.
-fn write_loops<S: Serializer>(ways: &Ways, out: &mut S) -> Result<(), S::Error> {
-    out.begin_seq(None)?;
+    to.end_list();
+    to.begin_object("turn");
+    to.item("cost", Item::Number(turn.all));
+    to.begin_list("loops");
     for ring in 0..RINGS {
-        if comes_again(ways, ring) {
-            out.u64(ring as u64)?;
+        if turn.ways[ring][ring] {
+            to.item("", Item::Number(ring as u64));
         }
     }
-    out.end_seq()
-}
-
-impl Described for CostDocument<'_> {}
-
-impl Serialize for CostDocument<'_> {
-    fn serialize<S: Serializer>(&self, out: &mut S) -> Result<(), S::Error> {
-        let turn = turn_of(self.0);
-        out.begin_map(None)?;
-        out.key("fault")?;
-        out.unit()?;
-        out.key("nodes")?;
-        write_nodes(self.0, out)?;
-        out.key("turn")?;
-        out.begin_map(None)?;
-        out.key("cost")?;
-        out.u64(turn.all)?;
-        out.key("loops")?;
-        write_loops(&ways_of(self.0), out)?;
-        out.key("port")?;
-        out.u64(turn.port as u64)?;
-        out.end_map()?;
-        out.end_map()
-    }
+    to.end_list();
+    to.item("port", Item::Number(turn.port as u64));
+    to.end_object();
+    to.end_object();
 }
 
 /// Adds what the programs of an accepted pipeline can cost. A document gets these as members.
 pub fn say_costs(alloc: Global, pipeline: &Pipeline, reply: &mut Reply)
     ensures { reply.new.status ≡ reply.old.status }
 {
+    let turn = turn_of(pipeline);
     if reply.is_json {
+        let mut document = Document::new(alloc);
+        write(pipeline, &turn, &mut document);
         reply.out.bytes.clear();
-        document_of(alloc, &CostDocument(pipeline), &mut reply.out);
+        document.say_to(&mut reply.out);
     } else {
-        say_text(pipeline, &mut reply.out);
+        say_text(pipeline, &turn, &mut reply.out);
     }
 }

@@ -8,11 +8,11 @@ ghost use Rattle.dp_sources.specs.Sources.{files_of};
 ghost use Rattle.dp_sources.specs.Subjects.{asked_node, env_of};
 ghost use Rattle.dp_verdict.specs.Inferring.{IsInferred, SaysCert, SaysInferred, by_itself, node_at};
 
-use crate::checks::unloaded;
+use crate::judging::unloaded;
 use crate::report::{failed, no_node};
 use dp_cert::{Cert, encode};
 use dp_check::Checked;
-use dp_console::{DONE, Reply, Text};
+use dp_console::Reply;
 use dp_infer::InferError;
 use dp_model::{Entry, Env};
 use dp_pipe::{PipeError, Pipeline};
@@ -23,18 +23,12 @@ use std::alloc::{AllocError, Global};
 fn said_cert(alloc: Global, cert: &Cert) -> Reply
     ensures { SaysCert cert.now result }
 {
+    let mut reply = Reply::new(alloc);
     match encode(alloc, cert) {
-        Ok(bytes) => Reply {
-            status: DONE,
-            out: Text {
-                bytes,
-                has_failed: false,
-            },
-            err: Text::new(alloc),
-            is_json: false,
-        },
-        Err(AllocError) => failed(alloc, Fault::Memory, false),
+        Ok(bytes) => reply.out.bytes = bytes,
+        Err(AllocError) => return failed(alloc, Fault::Memory, false),
     }
+    reply
 }
 
 /// The node of a pipeline with this entry, if it has one.

@@ -1,26 +1,28 @@
-//! The verdict on each node by itself, with the reason if its program is refused.
+//! The verdict on each node by itself, and on a whole pipeline: `dpv explain`, `dpv check`, and what is said of a pipeline that is not loaded.
 
-ghost use Rattle.std.specs.Prelude.{◌≡◌, ◌⊎◌, [], IfErr, IfOk, None, Some, option_map};
+ghost use Rattle.std.specs.Prelude.{◌≡◌, ◌⊎◌, ◌∷◌, [], IfErr, IfOk, IfSome, None, Some, false, map, option_map};
+ghost use Rattle.dp_pipe.specs.Loads.{IsLoadedFrom, IsUnloaded};
 ghost use Rattle.dp_sources.specs.Sources.{files_of};
-ghost use Rattle.dp_sources.specs.Subjects.{asked_node};
-ghost use Rattle.dp_verdict.specs.Judging.{AreFindings, Explains, HasNoRows, IsCertFor, IsFinding, IsNext, IsUnjudged};
+ghost use Rattle.dp_sources.specs.Subjects.{asked_node, env_of};
+ghost use Rattle.dp_verdict.specs.Checks.{HasOnly, IsChecked, IsRefused, SaysChecked, SaysRefused, accepted, refusal_of};
+ghost use Rattle.dp_verdict.specs.Judging.{Explains, HasNoRows, IsCertFor, IsFinding, IsNext, IsUnjudged};
 ghost use Rattle.dp_verdict.specs.Judging.{SaysExplained, SaysFindings, refused_for};
-ghost use Rattle.dp_verdict.specs.Reports.{findings_of};
+ghost use Rattle.dp_verdict.specs.Reports.{findings_of, status_of, texts_of};
 
-use crate::finding::{Finding, RefusedAt, Verdict, Why};
-use crate::report::{Report, no_node, reply_of};
+use crate::report::{Finding, RefusedAt, Report, Verdict, Why, failed, no_node, reply_of};
 use dp_cert::Cert;
 use dp_check::{Diagnosis, Reason, diagnose};
 use dp_console::{MEMORY, Reply};
 use dp_infer::attempt;
 use dp_lang::{Program, SourceLine, listing_of};
 use dp_model::{Entry, Env};
-use dp_pipe::{PipeError, cert_of};
+use dp_pipe::{How, PipeError, Pipeline, cert_of, load};
 use dp_sources::{
-    Asked, Lent, MAX_NODES, Sources, Subject, entry_at, fault_of, program_of, say_remedy,
+    Asked, Fault, Lent, MAX_NODES, RouteFile, Sources, Subject, entry_at, fault_of, program_of,
+    say_pipeline_help, say_remedy,
 };
-use dp_words::BuiltFor;
-use std::alloc::{AllocError, Global};
+use dp_words::{BuiltFor, HintText};
+use std::alloc::Global;
 
 /// The certificate by which a program is judged.
 fn cert_for(
@@ -34,16 +36,25 @@ fn cert_for(
     ensures fails { IfErr result (λ e. (e ≡ PipeError.Memory)
         ⊎ HasNoRows (Some (files_of sources.now)) asked.entry.node (asked_node asked.entry).cert program.now e) }
 {
+    let count = program.instrs().len();
     match asked.cert {
-        Some(name) => cert_of(
-            alloc,
-            &mut Lent(sources),
-            asked.node,
-            name,
-            program.instrs().len(),
-        ),
+        Some(name) => cert_of(alloc, &mut Lent(sources), asked.node, name, count),
         None => Ok(attempt(alloc, program, env, asked.node)?),
     }
+}
+
+/// Where, by which rule and why a program is refused, if it is.
+fn refused_for(
+    asked: Asked<'_>,
+    diagnosis: Option<Diagnosis>,
+) -> (Option<RefusedAt>, Option<Reason>)
+    ensures { result.0 ≡ option_map (refused_for (asked_node asked.entry).cert) diagnosis }
+{
+    let Some(Diagnosis { label, reason }) = diagnosis else {
+        return (None, None);
+    };
+    let (given, rule) = (asked.cert.is_some(), reason.rule().number());
+    (Some(RefusedAt { given, label, rule }), Some(reason))
 }
 
 /// A node's program, judged.
@@ -59,26 +70,6 @@ pub struct Judged<'a> {
     pub verdict: Verdict,
     /// Why it is refused, if it is.
     pub reason: Option<Reason>,
-}
-
-/// Where and why a program is refused, if it is.
-fn refused_for(
-    asked: Asked<'_>,
-    diagnosis: Option<Diagnosis>,
-) -> (Option<RefusedAt>, Option<Reason>)
-    ensures { result.0 ≡ option_map (refused_for (asked_node asked.entry).cert) diagnosis }
-{
-    match diagnosis {
-        Some(Diagnosis { label, reason }) => {
-            let at = RefusedAt {
-                given: asked.cert.is_some(),
-                label,
-                rule: reason.rule().number(),
-            };
-            (Some(at), Some(reason))
-        }
-        None => (None, None),
-    }
 }
 
 /// Judges a node's program.
@@ -99,26 +90,21 @@ pub fn judge<'a>(
     let cert = cert_for(alloc, sources, env, asked, &program)?;
     let diagnosis = diagnose(&program, &cert, env, asked.node);
     let (refused, reason) = refused_for(asked, diagnosis);
+    let node = asked.node;
     Ok(Judged {
         file: asked.program,
         text: sources.get(asked.program).unwrap_or(&[]),
         program,
         cert,
-        verdict: Verdict {
-            node: asked.node,
-            refused,
-        },
+        verdict: Verdict { node, refused },
         reason,
     })
 }
 
-/// How the text of a program begins that `dpv build` compiled.
-const BUILT: &[u8] = b"# Built from ";
-
-/// The node for which a program was built, if it is one of the language pkt.
+/// The node for which a program was built, if it is one of the language pkt: then its text begins so.
 fn built_for(env: &Env, node: Entry, text: &[u8]) -> Option<BuiltFor> {
     match node {
-        _ if !text.starts_with(BUILT) => None,
+        _ if !text.starts_with(b"# Built from ") => None,
         Entry::Port(port) => {
             let port = env.ports().get(usize::from(port))?;
             Some(BuiltFor::Port(port.segs))
@@ -127,144 +113,177 @@ fn built_for(env: &Env, node: Entry, text: &[u8]) -> Option<BuiltFor> {
     }
 }
 
-/// What a program is refused for, with the line of its text; nothing if it is accepted.
-fn why_of<'a>(
-    alloc: Global,
-    env: &Env,
-    judged: &Judged<'a>,
-) -> Result<Option<Why<'a>>, AllocError> {
-    let (Some(at), Some(reason)) = (judged.verdict.refused, judged.reason) else {
-        return Ok(None);
-    };
-    let listing = listing_of(alloc, judged.text)?;
-    let line = match listing.get(usize::from(at.label)) {
-        Some(listed) => listed.line,
-        None => SourceLine {
-            number: 0,
-            text: "",
-        },
-    };
-    Ok(Some(Why {
-        file: judged.file,
-        line,
-        listing,
-        reason,
-        inferred: !at.given,
-        built_for: built_for(env, judged.verdict.node, judged.text),
-    }))
-}
-
-/// The verdict on a node.
-pub(crate) fn finding_of<'a>(
-    alloc: Global,
-    sources: &'a Sources,
-    env: &Env,
-    asked: Asked<'a>,
-) -> Result<Finding<'a>, PipeError>
-    ensures judged { IfOk result (λ finding. IsFinding (Some (files_of sources.now)) env.now (asked_node asked.entry) finding.verdict) }
-    ensures fails { IfErr result (IsUnjudged (Some (files_of sources.now)) (asked_node asked.entry)) }
+/// The report that all nodes of a pipeline are accepted.
+fn accepted_in<'a>(alloc: Global, pipeline: &Pipeline) -> Report<'a>
+    ensures { HasOnly (map accepted pipeline.now.nodes) result }
 {
-    let judged = judge(alloc, sources, env, asked)?;
-    let why = why_of(alloc, env, &judged)?;
-    Ok(Finding {
-        verdict: judged.verdict,
-        why,
-    })
-}
-
-/// Adds the verdict on the node with this entry, if there is one.
-fn find_at<'a>(
-    alloc: Global,
-    subject: Subject<'a>,
-    sources: &'a Sources,
-    node: Entry,
-    findings: &mut Vec<Finding<'a>>,
-) -> Result<(), PipeError>
-    ensures { IfOk result (λ _. IsNext (Some (files_of sources.now)) subject.entry node findings.old.items findings.new.items) }
-{
-    match subject.node(node) {
-        Some(asked) => {
-            let finding = finding_of(alloc, sources, subject.env(), asked)?;
-            findings.push(finding)?;
-            Ok(())
-        }
-        None => Ok(()),
+    let (mut nodes, fault) = (Vec::new(alloc), None);
+    for k in 0..pipeline.nodes() {
+        let node = pipeline.node(k).entry();
+        let Ok(()) = nodes.push(Finding::plain(node, None)) else {
+            return Report::of_fault(Fault::Memory);
+        };
     }
+    let nodes = Some(nodes);
+    Report { nodes, fault }
 }
 
-/// Adds the verdicts on all nodes, up to the first fault.
-#[tactic(auto, using(crate::proofs::FindingsNext::findings_next))]
-fn find_all<'a>(
-    alloc: Global,
-    subject: Subject<'a>,
-    sources: &'a Sources,
-    findings: &mut Vec<Finding<'a>>,
-) -> Result<(), PipeError>
-    requires { findings.old.items ≡ [] }
-    ensures { IfOk result (λ _. AreFindings (Some (files_of sources.now)) subject.entry 16 findings.new.items) }
+/// The node whose program is refused or has no certificate, and where; none for another cause.
+fn refusal_of(error: PipeError) -> Option<(Entry, RefusedAt)>
+    ensures { result ≡ refusal_of error }
 {
-    for index in 0..MAX_NODES {
-        find_at(alloc, subject, sources, entry_at(index), findings)?;
-    }
-    Ok(())
-}
-
-/// Adds the verdicts on all nodes, or on one of them, up to the first fault.
-fn find_which<'a>(
-    alloc: Global,
-    subject: Subject<'a>,
-    sources: &'a Sources,
-    which: Option<Entry>,
-    findings: &mut Vec<Finding<'a>>,
-) -> Result<(), PipeError>
-    requires { findings.old.items ≡ [] }
-    ensures { IfOk result (λ _. Explains (Some (files_of sources.now)) subject.entry which findings.new.items) }
-{
-    match which {
-        Some(node) => find_at(alloc, subject, sources, node, findings),
-        None => find_all(alloc, subject, sources, findings),
-    }
-}
-
-/// The report of the verdicts on all nodes, or on one of them, up to the first fault; and what ended it.
-fn explained<'a>(
-    alloc: Global,
-    subject: Subject<'a>,
-    sources: &'a Sources,
-    which: Option<Entry>,
-) -> (Report<'a>, Option<PipeError>)
-    ensures { result.0.fault ≡ None → Explains (Some (files_of sources.now)) subject.entry which (findings_of result.0) }
-{
-    let mut findings = Vec::new(alloc);
-    let (fault, error) = match find_which(alloc, subject, sources, which, &mut findings) {
-        Ok(()) => (None, None),
-        Err(error) => (Some(fault_of(error, subject, sources)), Some(error)),
+    let (node, given, label, rule) = match error {
+        PipeError::Refused { node, label, rule } => (node, true, label, rule),
+        PipeError::NotInferred { node, label, rule } => (node, false, label, rule),
+        _ => return None,
     };
-    let report = Report {
-        nodes: Some(findings),
-        fault,
-    };
-    (report, error)
+    Some((node, RefusedAt { given, label, rule }))
 }
 
-/// The verdicts on all nodes, or on one of them, with the reason for each that is refused; or the fault, and what helps.
-fn said_findings(
+/// A subject, and the files that were read for it.
+#[derive(Clone, Copy)]
+struct Case<'a> {
     alloc: Global,
-    subject: Subject<'_>,
-    sources: &Sources,
-    which: Option<Entry>,
-    is_json: bool,
-) -> Reply
-    ensures { SaysFindings (Some (files_of sources.now)) subject.entry which result }
-{
-    let (report, error) = explained(alloc, subject, sources, which);
-    let mut reply = reply_of(alloc, &report, is_json);
-    if let Some(error) = error
-        && reply.status != MEMORY
+    subject: Subject<'a>,
+    sources: &'a Sources,
+}
+
+impl<'a> Case<'a> {
+    /// The verdict on a node, with the reason if its program is refused.
+    fn finding(self, asked: Asked<'a>) -> Result<Finding<'a>, PipeError>
+        ensures { IfOk result (λ finding. IsFinding (Some (files_of self.entry.sources.now))
+            (env_of self.entry.subject) (asked_node asked.entry) finding.verdict) }
     {
-        say_remedy(alloc, subject, sources, error, &mut reply.err);
+        let env = self.subject.env();
+        let judged = judge(self.alloc, self.sources, env, asked)?;
+        let (verdict, file, text) = (judged.verdict, judged.file, judged.text);
+        let (Some(at), Some(reason)) = (verdict.refused, judged.reason) else {
+            return Ok(Finding { verdict, why: None });
+        };
+        let listing = listing_of(self.alloc, text)?;
+        let line = match listing.get(usize::from(at.label)) {
+            Some(listed) => listed.line,
+            None => SourceLine {
+                number: 0,
+                text: "",
+            },
+        };
+        let hint = HintText {
+            reason,
+            inferred: !at.given,
+            built_for: built_for(env, asked.node, text),
+        };
+        let why = Some(Why {
+            file,
+            line,
+            listing,
+            hint,
+        });
+        Ok(Finding { verdict, why })
     }
-    reply
+
+    /// Adds the verdict on the node with this entry, if there is one.
+    fn find_at(self, node: Entry, findings: &mut Vec<Finding<'a>>) -> Result<(), PipeError>
+        ensures { IfOk result (λ _. IsNext (Some (files_of self.entry.sources.now)) self.entry.subject node findings.old.items findings.new.items) }
+    {
+        if let Some(asked) = self.subject.node(node) {
+            let finding = self.finding(asked)?;
+            findings.push(finding)?;
+        }
+        Ok(())
+    }
+
+    /// Adds the verdicts on all nodes, or on one of them, up to the first fault.
+    #[tactic(auto, using(crate::proofs::FindingsNext::findings_next))]
+    fn find(self, which: Option<Entry>, findings: &mut Vec<Finding<'a>>) -> Result<(), PipeError>
+        requires { findings.old.items ≡ [] }
+        ensures { IfOk result (λ _. Explains (Some (files_of self.entry.sources.now)) self.entry.subject which findings.new.items) }
+    {
+        if let Some(node) = which {
+            return self.find_at(node, findings);
+        }
+        for index in 0..MAX_NODES {
+            self.find_at(entry_at(index), findings)?;
+        }
+        Ok(())
+    }
+
+    /// The report of the verdicts on all nodes, or on one of them, up to the first fault; and what ended it.
+    fn found(self, which: Option<Entry>) -> (Report<'a>, Option<PipeError>)
+        ensures { result.0.fault ≡ None → Explains (Some (files_of self.entry.sources.now)) self.entry.subject which (findings_of result.0) }
+    {
+        let mut findings = Vec::new(self.alloc);
+        let (fault, error) = match self.find(which, &mut findings) {
+            Ok(()) => (None, None),
+            Err(error) => (
+                Some(fault_of(error, self.subject, self.sources)),
+                Some(error),
+            ),
+        };
+        let nodes = Some(findings);
+        (Report { nodes, fault }, error)
+    }
+
+    /// The verdicts on all nodes, or on one of them, with the reason for each that is refused; or the fault, and what helps.
+    fn explained(self, which: Option<Entry>, is_json: bool) -> Reply
+        ensures { SaysFindings (Some (files_of self.entry.sources.now)) self.entry.subject which result }
+    {
+        let (report, error) = self.found(which);
+        self.said(&report, error, is_json)
+    }
+
+    /// The first program that is refused or has no certificate; or a fault.
+    fn refused(self, error: PipeError) -> Report<'a>
+        ensures { IsRefused error result }
+    {
+        let Some((node, at)) = refusal_of(error) else {
+            return Report::of_fault(fault_of(error, self.subject, self.sources));
+        };
+        let (mut nodes, fault) = (Vec::new(self.alloc), None);
+        if nodes.push(Finding::plain(node, Some(at))).is_err() {
+            return Report::of_fault(Fault::Memory);
+        }
+        let nodes = Some(nodes);
+        Report { nodes, fault }
+    }
+
+    /// The verdicts by which a pipeline was loaded or not: all nodes as accepted; or the first that is refused or has no certificate; or a fault.
+    fn check(self, loaded: &Result<Pipeline, PipeError>) -> Report<'a>
+        ensures { IsChecked loaded.now result }
+    {
+        match *loaded {
+            Ok(ref pipeline) => accepted_in(self.alloc, pipeline),
+            Err(error) => self.refused(error),
+        }
+    }
+
+    /// What a report says; then what helps against this error, and why a program by itself has no certificate.
+    fn said(self, report: &Report<'_>, error: Option<PipeError>, is_json: bool) -> Reply
+        ensures status { result.status ≡ status_of report.now }
+        ensures text { is_json ≡ false → result.out.has_failed ≡ false → IfSome (texts_of (findings_of report.now)) (λ text. result.out.bytes.items ≡ text) }
+    {
+        let mut reply = reply_of(self.alloc, report, is_json);
+        let Some(error) = error else { return reply };
+        if reply.status == MEMORY {
+            return reply;
+        }
+        say_remedy(
+            self.alloc,
+            self.subject,
+            self.sources,
+            error,
+            &mut reply.err,
+        );
+        if let (Subject::Single { .. }, PipeError::NotInferred { node, .. }) = (self.subject, error)
+            && let Some(asked) = self.subject.node(node)
+            && let Ok(finding) = self.finding(asked)
+            && let Some(why) = finding.why
+        {
+            reply.err.say("  at: ");
+            reply.err.say(why);
+        }
+        reply
+    }
 }
 
 /// `dpv explain` and `dpv explain-one`: the verdicts on all nodes, or on one of them, with the reason for each that is refused. The status is 1 if one
@@ -278,8 +297,76 @@ pub fn explain(
 ) -> Reply
     ensures { SaysExplained (Some (files_of sources.now)) subject.entry which result }
 {
+    let case = Case {
+        alloc,
+        subject,
+        sources,
+    };
     match which {
         Some(node) if subject.node(node).is_none() => no_node(alloc, node),
-        _ => said_findings(alloc, subject, sources, which, is_json),
+        _ => case.explained(which, is_json),
     }
+}
+
+/// What is said of a pipeline that is not loaded, or of a program without a certificate; then what helps.
+#[tactic(auto, using(crate::proofs::ZeroStatus::refused_not_zero))]
+pub fn unloaded(
+    alloc: Global,
+    error: PipeError,
+    subject: Subject<'_>,
+    sources: &Sources,
+    is_json: bool,
+) -> Reply
+    ensures says { SaysRefused error is_json result }
+    ensures not_done { result.status ≡ 0 → ⊥ }
+{
+    let case = Case {
+        alloc,
+        subject,
+        sources,
+    };
+    case.said(&case.refused(error), Some(error), is_json)
+}
+
+/// `dpv check` of a pipeline's text and the files that it names: what it says, and the pipeline or why there is none.
+#[tactic(auto, using(crate::proofs::ZeroStatus::zero_is_loaded))]
+pub fn check_text(
+    alloc: Global,
+    text: &[u8],
+    subject: Subject<'_>,
+    sources: &Sources,
+    is_json: bool,
+) -> (Reply, Result<Pipeline, PipeError>)
+    ensures loaded { IfOk result.1 (IsLoadedFrom (Some (files_of sources.now)) How.Given text.now) }
+    ensures unloaded { IfErr result.1 (IsUnloaded (Some (files_of sources.now)) How.Given text.now) }
+    ensures said { SaysChecked result.1 is_json result.0 }
+    ensures accepted { result.0.status ≡ 0 → IfErr result.1 (λ _. ⊥) }
+{
+    let loaded = load(alloc, text, &mut Lent(sources), How::Given);
+    let case = Case {
+        alloc,
+        subject,
+        sources,
+    };
+    let error = match loaded {
+        Ok(_) => None,
+        Err(error) => Some(error),
+    };
+    (case.said(&case.check(&loaded), error, is_json), loaded)
+}
+
+/// What is said of a text that, with the routes of these files, is not read as a pipeline.
+pub fn misread(
+    alloc: Global,
+    file: &str,
+    text: &[u8],
+    routes: &[RouteFile],
+    error: PipeError,
+    is_json: bool,
+) -> Reply
+    ensures { result.status ≡ 0 → ⊥ }
+{
+    let mut reply = failed(alloc, Fault::of_pipeline(error), is_json);
+    say_pipeline_help(alloc, file, text, routes, error, &mut reply.err);
+    reply
 }

@@ -6,16 +6,12 @@
 //! [`Sources`](dp_sources::Sources), and a reply is printed by its caller.
 #![tactic(auto)]
 
-mod checks;
 mod costs;
-mod finding;
 mod inferring;
 mod judging;
 mod report;
 
-pub use checks::{check, check_text, misread, unloaded};
 pub use costs::say_costs;
-pub use finding::{Finding, RefusedAt, Verdict, Why};
 pub use inferring::{infer, infer_one};
-pub use judging::{Judged, explain, judge};
-pub use report::{Report, failed, no_node, reply_of};
+pub use judging::{Judged, check_text, explain, judge, misread, unloaded};
+pub use report::{Finding, RefusedAt, Report, Verdict, Why, failed, no_node, reply_of};
