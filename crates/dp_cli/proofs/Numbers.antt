@@ -1,18 +1,17 @@
 -- Numbers of the command line.
-use Rattle.std.proofs.Common.{Bor, ◌≡◌, ℕ, zero, suc, ◌+◌, ◌^◌, ◌<◌, ◌≤◌, Bool, true, false, List, [], ◌∷◌, ◌++◌, length, map, get_or, drop, Option, Some}
-use Rattle.std.proofs.Common.{None, Result, Ok, Err, refl, sym, ◌∙◌, ap, subst, arith, append_assoc, append-nil, add-one}
-use Rattle.std.specs.Prelude.{option_map, option_and_then, nat_lt, ◌&&◌, if◌then◌else◌}
+use Rattle.std.proofs.Common.{Bor, ◌≡◌, ℕ, ◌+◌, ◌^◌, ◌<◌, Bool, true, false, List, [], ◌∷◌, ◌++◌, length, map, get_or, drop, Option, Some, None, Result, Ok}
+use Rattle.std.proofs.Common.{Err, refl, sym, ◌∙◌, ap, subst, arith, add-one}
+use Rattle.std.specs.Prelude.{nat_lt, ◌&&◌, if◌then◌else◌}
 use Rattle.std.specs.Char.{is_ascii_digit}
 use Rattle.std.specs.List.{list_all}
 use Rattle.std.specs.Result.{OkIff, result_ok}
 use Rattle.std.specs.Str.{all_ascii_digits}
 use Rattle.std.specs.Str.Parse.{ParsesUnsigned, digits_value}
 use Rattle.std.proofs.Math.Seq.{drop-cons}
-use Rattle.std.proofs.lemmas.Bool.{and_from, and_parts, lt-ltb, le-ltb, ltb-true}
-use Rattle.std.proofs.lemmas.Option.{same_Some}
+use Rattle.std.proofs.lemmas.Bool.{and_from, and_parts, lt-ltb, ltb-true}
 use Rattle.std.proofs.lemmas.Str.Parse.{numerals_by_value, tells_all_ascii_digits, parse_digits}
 use Rattle.dp_engine.specs.Engines.{IsAscending}
-use Rattle.dp_cli.specs.Operands.{number_in, ascending_in}
+use Rattle.dp_cli.specs.Operands.{ascending_from, number_in}
 
 -- ---- one number
 
@@ -51,72 +50,24 @@ unread word e = rw e refl
 
 -- ---- several numbers
 
--- those so far, then the others
-abbrev pub continued : List ℕ → Option (List ℕ) → Option (List ℕ)
-continued front rest = option_map (λ ns. front ++ ns) rest
-
--- the numbers of the words from one on
-abbrev pub left : ℕ → ℕ → List (Bor (List ℕ)) → Option (List ℕ)
-left last i words = ascending_in last (map (λ word. word.now) (drop i words))
-
-abbrev and_more : ℕ → Option (List ℕ) → ℕ → Option (List ℕ)
-and_more last rest n = if nat_lt last n then option_map (λ ns. n ∷ ns) rest else None
-
-step : (words : List (Bor (List ℕ))) (i : ℕ) (w : Bor (List ℕ)) (last : ℕ) (r : Option ℕ) → i < length words → number_in (get_or words i w).now ≡ r
-    → left last i words ≡ option_and_then (λ n. and_more last (left n (i + 1) words) n) r
-step words i w last r lt e =
-    let a : drop i words ≡ get_or words i w ∷ drop (i + 1) words = rw add-one (drop-cons words i w lt) in
-    rw (a, e) refl
-
-onto : (front : List ℕ) (n : ℕ) (rest : Option (List ℕ)) → continued (front ++ n ∷ []) rest ≡ continued front (option_map (λ ns. n ∷ ns) rest)
-onto front n None = refl
-onto front n (Some ns) = ap (λ (all : List ℕ). Some all) (append_assoc front (n ∷ []) ns)
-
 -- a number that is above the one before
-pub number_more : (words : List (Bor (List ℕ))) (i : ℕ) (w : Bor (List ℕ)) (last n : ℕ) (front : List ℕ) (all : Option (List ℕ)) → i < length words
-    → number_in (get_or words i w).now ≡ Some n → last < n → continued front (left last i words) ≡ all → continued (front ++ n ∷ []) (left n (i + 1) words)
-    ≡ all
-number_more words i w last n front all lt e above so_far =
-    let own : left last i words ≡ option_map (λ ns. n ∷ ns) (left n (i + 1) words) = step words i w last (Some n) lt e ∙ (rw (lt-ltb last n above) refl) in
-    onto front n (left n (i + 1) words) ∙ ap (continued front) (sym own) ∙ so_far
+pub one_more : (words : List (Bor (List ℕ))) (i : ℕ) (w : Bor (List ℕ)) (last n : ℕ) (earlier : List ℕ) (all : Option (List ℕ)) → i < length words
+    → number_in (get_or words i w).now ≡ Some n → last < n → ascending_from last earlier (map (λ word. word.now) (drop i words)) ≡ all
+    → ascending_from n (earlier ++ n ∷ []) (map (λ word. word.now) (drop (i + 1) words)) ≡ all
+one_more words i w last n earlier all lt e above so_far =
+    let a : drop i words ≡ get_or words i w ∷ drop (i + 1) words = rw add-one (drop-cons words i w lt) in
+    rw (a, e, lt-ltb last n above) at so_far
 
--- a word that is no number, or not above the one before
-pub number_missing : (words : List (Bor (List ℕ))) (i : ℕ) (w : Bor (List ℕ)) (last : ℕ) (front : List ℕ) (all : Option (List ℕ)) → i < length words
-    → number_in (get_or words i w).now ≡ None → continued front (left last i words) ≡ all → None ≡ all
-number_missing words i w last front all lt e so_far = ap (continued front) (sym (step words i w last None lt e)) ∙ so_far
+-- numbers above this one, each above the one before, of which the last is that one
+abbrev pub Ascends : ℕ → ℕ → List ℕ → Type 0
+Ascends least last [] = least ≡ last
+Ascends least last (n ∷ ns) = (least < n) × Ascends n last ns
 
-pub number_low : (words : List (Bor (List ℕ))) (i : ℕ) (w : Bor (List ℕ)) (last n : ℕ) (front : List ℕ) (all : Option (List ℕ)) → i < length words
-    → number_in (get_or words i w).now ≡ Some n → n ≤ last → continued front (left last i words) ≡ all → None ≡ all
-number_low words i w last n front all lt e low so_far =
-    let own : left last i words ≡ None = step words i w last (Some n) lt e ∙ (rw (le-ltb last n low) refl) in
-    ap (continued front) (sym own) ∙ so_far
+-- one more
+pub ascends_more : (least last n : ℕ) (ns : List ℕ) → Ascends least last ns → last < n → Ascends least n (ns ++ n ∷ [])
+ascends_more least last n [] e above = (subst (λ m. m < n) (sym e) above, refl)
+ascends_more least last n (m ∷ ns) (first, rest) above = (first, ascends_more m last n ns rest above)
 
-pub drop_all : {A : Type 0} (xs : List A) (i : ℕ) → length xs ≤ i → drop i xs ≡ []
-drop_all [] zero le = refl
-drop_all [] (suc i) le = refl
-drop_all (x ∷ xs) zero le = absurd (omega arith)
-drop_all (x ∷ xs) (suc i) le = drop_all xs i (omega arith)
-
--- no word is left
-pub numbers_end : (words : List (Bor (List ℕ))) (i last : ℕ) (front : List ℕ) (all : Option (List ℕ)) → length words ≤ i → continued front (left last i words)
-    ≡ all → Some front ≡ all
-numbers_end words i last front all le so_far =
-    ap (λ (ns : List ℕ). Some ns) (sym (append-nil front)) ∙ ap (λ (rest : List (Bor (List ℕ))).
-    continued front (ascending_in last (map (λ word. word.now) rest))) (sym (drop_all words i le)) ∙ so_far
-
--- ---- each is above the one before
-
-above : (last n : ℕ) (rest : Option (List ℕ)) (ns : List ℕ) (b : Bool) → nat_lt last n ≡ b → ((ms : List ℕ) → rest ≡ Some ms → IsAscending n ms)
-    → (if b then option_map (λ ms. n ∷ ms) rest else None) ≡ Some ns → IsAscending last ns
-above last n rest ns false b h e = cc
-above last n None ns true b h e = cc
-above last n (Some ms) ns true b h e = subst (IsAscending last) (same_Some (n ∷ ms) ns e) ((omega (arith, ltb-true last n b)), h ms refl)
-
-at_number : (last : ℕ) (words : List (List ℕ)) (ns : List ℕ) (r : Option ℕ) → ((n : ℕ) (ms : List ℕ) → ascending_in n words ≡ Some ms → IsAscending n ms)
-    → option_and_then (λ n. and_more last (ascending_in n words) n) r ≡ Some ns → IsAscending last ns
-at_number last words ns None h e = cc
-at_number last words ns (Some n) h e = above last n (ascending_in n words) ns (nat_lt last n) refl (h n) e
-
-pub ascending : (words : List (List ℕ)) (last : ℕ) (ns : List ℕ) → ascending_in last words ≡ Some ns → IsAscending last ns
-ascending [] last ns e = subst (IsAscending last) (same_Some [] ns e) tt
-ascending (word ∷ words) last ns e = at_number last words ns (number_in word) (ascending words) e
+pub ascending : (least last : ℕ) (ns : List ℕ) → Ascends least last ns → IsAscending least ns
+ascending least last [] e = tt
+ascending least last (n ∷ ns) (first, rest) = (omega (arith, first), ascending n last ns rest)

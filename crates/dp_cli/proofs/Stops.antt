@@ -12,9 +12,6 @@ use Rattle.dp_pipe.specs.Pipelines.{Plan}
 use Rattle.dp_sources.specs.declared.fault.Fault.{Fault}
 use Rattle.dp_sources.specs.declared.fault.Fault.TheVariants as fault
 use Rattle.dp_sources.specs.Faults.{status_of}
-use Rattle.dp_captures.specs.declared.words.WordProblem.{WordProblem}
-use Rattle.dp_captures.specs.declared.words.WordProblem.TheVariants as problems
-use Rattle.dp_cli.specs.Given.{status_worded}
 use Rattle.dp_cli.specs.Runs.{NeverRuns, status_unopened}
 use Rattle.dp_cli.specs.Stops.{HasNoConfig, IsFault, IsNotLoaded, IsNotReady, IsUndone, NeverBegins}
 use Rattle.dp_cli.specs.Stops.{StopsCheck, StopsFilter, StopsInfer, StopsOne, StopsRun, StopsSingle}
@@ -34,17 +31,6 @@ pub fault_status : (f : Fault) (s : ℕ) → s ≡ status_of f → (s ≡ 3) ⊎
 fault_status fault.Memory s e = inr e
 fault_status (fault.File name because) s e = inl e
 fault_status (fault.Pipeline error file) s e = inl e
-
-abbrev other : WordProblem → Type 0
-other problems.Memory = ⊥
-other _ = Unit {0}
-
--- words are wrong, or memory was refused for them
-pub worded : (problem : WordProblem) (Wrong : Type 0) (s : ℕ) → s ≡ status_worded problem → ((problem ≡ problems.Memory → ⊥) → Wrong)
-    → ((s ≡ 2) × Wrong) ⊎ (s ≡ 4)
-worded problems.Memory Wrong s e none = inr e
-worded (problems.Unread word form) Wrong s e none = inl (e, none (λ same. subst other same tt))
-worded (problems.Clash direction one two) Wrong s e none = inl (e, none (λ same. subst other same tt))
 
 status : (reply : Reply) (n : ℕ) → reply.status ≡ suc n → IsUndone reply
 status reply n e zero = omega (arith, e, zero)

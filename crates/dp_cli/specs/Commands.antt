@@ -1,7 +1,8 @@
 -- What a command did, by its words. A command that was not done ends with another status than 0, at its first fault.
 use Rattle.std.specs.Prelude.{◌≡◌, ◌⊎◌, ℕ, Bool, List, [], Option, Some, None, Result, IfOk, IfErr, MatchOption, codes}
+use Rattle.clap.specs.declared.error.ErrorKind.{ErrorKind}
+use Rattle.clap.specs.declared.error.ErrorKind.TheVariants.{DisplayHelp, DisplayVersion}
 use Rattle.clap.specs.declared.parser.matches.Found.{Found}
-use Rattle.dp_captures.specs.declared.file_id.ReadFile.{ReadFile}
 use Rattle.dp_captures.specs.declared.words.Replaced.{Replaced}
 use Rattle.dp_cert.specs.Spelling.{Certificate}
 use Rattle.dp_check.specs.Faults.{IsWith}
@@ -11,7 +12,6 @@ use Rattle.dp_model.specs.declared.env.Entry.{Entry}
 use Rattle.dp_model.specs.declared.env.Entry.TheVariants.{Port}
 use Rattle.dp_model.specs.Environments.{Environment}
 use Rattle.dp_pipe.specs.declared.error.PipeError.{PipeError}
-use Rattle.dp_pipe.specs.declared.nodes.How.{How}
 use Rattle.dp_pipe.specs.declared.nodes.How.TheVariants as how
 use Rattle.dp_pipe.specs.Files.{FileMap}
 use Rattle.dp_pipe.specs.Loads.{IsLoadedFrom, IsUnloaded}
@@ -22,28 +22,26 @@ use Rattle.dp_sources.specs.declared.subject.TheConstants.{ONE_REGION}
 use Rattle.dp_sources.specs.Subjects.{one_port}
 use Rattle.dp_verdict.specs.Checks.{SaysChecked}
 use Rattle.dp_verdict.specs.Inferring.{SaysCert, SaysInferred, node_at}
-use Rattle.dp_cli.specs.Given.{AreNamed, IsFilterPort, ReadsAndWrites, RunsFile}
 use Rattle.dp_cli.specs.Operands.{operand, word_of}
-use Rattle.dp_cli.specs.Runs.{RunsOver}
+use Rattle.dp_cli.specs.Runs.{AreNamed, IsFilterPort, IsLoaded, ReadsAndWrites, RunsFile, RunsOver}
 use Rattle.dp_cli.specs.Stops.{IsUndone, StopsCheck, StopsFilter, StopsInfer, StopsOne, StopsRun}
 
 -- A program and its captures: a pipeline of one port in this environment is run over the two captures that the words name.
-pub record RunsSingle {F : Type 0} (remaining : F → Option (List ℕ)) (env : Environment) (region : ℕ) (files : SingleFiles) (reply : Reply) : Type 0 where
+pub record RunsSingle {F : Type 0} (remaining : F → Option (List ℕ)) (found : Found) (env : Environment) (region : ℕ) (files : SingleFiles) (reply : Reply) :
+    Type 0 where
   pub texts : FileMap
   pub p : Plan
   pub loaded : IsSinglePlan (Some texts) env region files p
   pub inputs : List Replaced
   pub outputs : List Replaced
   pub given : ReadsAndWrites files inputs outputs
-  pub is_json : Bool
-  pub reads : List ReadFile
-  pub runs : RunsOver remaining p [] inputs outputs is_json reads reply
+  pub runs : RunsOver remaining found p [] inputs outputs reply
 
 -- `dpv one`: the program is run with its certificate, on the port of that command
 pub record RunsOne {F : Type 0} (remaining : F → Option (List ℕ)) (found : Found) (reply : Reply) : Type 0 where
   pub files : SingleFiles
   pub named : AreNamed found (codes "NODE") (Some (operand found (codes "CERT"))) files
-  pub runs : RunsSingle remaining one_port ONE_REGION files reply
+  pub runs : RunsSingle remaining found one_port ONE_REGION files reply
 
 -- `dpv filter`: the program is run with a certificate that is inferred, on the port that the words give
 pub record RunsFilter {F : Type 0} (remaining : F → Option (List ℕ)) (found : Found) (reply : Reply) : Type 0 where
@@ -52,7 +50,7 @@ pub record RunsFilter {F : Type 0} (remaining : F → Option (List ℕ)) (found 
   pub env : Environment
   pub port : IsFilterPort found env
   pub region : ℕ
-  pub runs : RunsSingle remaining env region files reply
+  pub runs : RunsSingle remaining found env region files reply
 
 -- `dpv check`: the verdict on a pipeline's text and the files that it names
 pub record ChecksFile (found : Found) (reply : Reply) : Type 0 where
@@ -67,12 +65,6 @@ pub record ChecksFile (found : Found) (reply : Reply) : Type 0 where
   pub status_is : reply.status ≡ said.status
   pub accepted : reply.status ≡ 0 → IfErr answer (λ e. ⊥)
 
--- a pipeline is that of a text and the files that it names, with named certificates or with inferred ones
-pub record IsLoaded (how : How) (p : Plan) : Type 0 where
-  pub text : List ℕ
-  pub files : FileMap
-  pub loaded : IsLoadedFrom (Some files) how text p
-
 -- `dpv infer`: the certificate of the node that the words name, inferred with those of all others; 2 if there is no such node
 pub record InfersNode (found : Found) (reply : Reply) : Type 0 where
   pub p : Plan
@@ -85,6 +77,19 @@ pub record InfersNode (found : Found) (reply : Reply) : Type 0 where
 pub record InfersOne (found : Found) (reply : Reply) : Type 0 where
   pub texts : FileMap
   pub says : SaysInferred (Some texts) one_port (record { entry = Port 0; program = operand found (codes "NODE"); cert = None }) reply
+
+-- what a command replied: it was done, or it stopped so
+abbrev pub Replies : (Reply → Type 0) → (Reply → Type 0) → Result Reply Reply → Type 0
+Replies Does Stops reply = IfOk reply Does × IfErr reply Stops
+
+-- what the command with this name replied
+pub record HasReplied {F : Type 0} (remaining : F → Option (List ℕ)) (name : List ℕ) (found : Found) (reply : Result Reply Reply) : Type 0 where
+  pub run : name ≡ codes "run" → Replies (RunsFile remaining found) (StopsRun remaining found) reply
+  pub one : name ≡ codes "one" → Replies (RunsOne remaining found) (StopsOne remaining found) reply
+  pub filter : name ≡ codes "filter" → Replies (RunsFilter remaining found) (StopsFilter remaining found) reply
+  pub check : name ≡ codes "check" → Replies (ChecksFile found) (StopsCheck found) reply
+  pub infer : name ≡ codes "infer" → Replies (InfersNode found) (StopsInfer found) reply
+  pub infer_one : name ≡ codes "infer-one" → Replies (InfersOne found) (λ r. r.status ≡ 4) reply
 
 -- a command stopped so, and not with status 0
 abbrev pub Stopped : (Reply → Type 0) → Reply → Type 0
@@ -105,3 +110,9 @@ pub record EndsCommand {F : Type 0} (remaining : F → Option (List ℕ)) (name 
   pub reply : Reply
   pub answers : Answers remaining name found reply
   pub ends : EndsWith reply failed failed' out out' err err' status
+
+-- How the program ends at words that are no command's: with 0 for help or the version that was asked for, and else with 2.
+abbrev pub EndsHelped : ErrorKind → ℕ → Type 0
+EndsHelped DisplayHelp status = status ≡ 0
+EndsHelped DisplayVersion status = status ≡ 0
+EndsHelped kind status = status ≡ 2

@@ -1,13 +1,12 @@
 -- Words of the command line.
 use Rattle.std.specs.Prelude.{◌≡◌, ℕ, ◌+◌, ◌^◌, List, ◌∷◌, [], ◌++◌, Bool, true, false, ◌==◌, ◌&&◌, ◌-◌, Option, Some, None, codes, length, nat_le, nat_lt}
-use Rattle.std.specs.Prelude.{option_map, option_and_then, if◌then◌else◌}
+use Rattle.std.specs.Prelude.{option_and_then, if◌then◌else◌}
 use Rattle.std.specs.Char.{is_ascii_digit}
 use Rattle.std.specs.List.{list_all, slice_split}
 use Rattle.std.specs.Option.{unwrap_or}
 use Rattle.std.specs.Str.Parse.{digits_value}
 use Rattle.clap.specs.declared.parser.matches.Found.{Found}
 use Rattle.clap.specs.Matches.{first_value, one_text}
-use Rattle.dp_captures.specs.Words.{parts_in}
 use Rattle.dp_model.specs.declared.env.Entry.{Entry}
 use Rattle.dp_model.specs.declared.env.Entry.TheVariants.{Port, Ring}
 use Rattle.dp_pipe.specs.declared.forwarding.TheConstants.{MAX_RUN_TURNS}
@@ -35,20 +34,16 @@ records_in word = option_and_then (λ n. if nat_lt 0 n && nat_le n MAX_RUN_TURNS
 abbrev pub port_in : List ℕ → Option ℕ
 port_in word = option_and_then (λ n. if nat_lt n 8 then Some n else None) (number_in word)
 
--- a word as a number in a range
-abbrev pub number_within : ℕ → ℕ → List ℕ → Option ℕ
-number_within least most word = option_and_then (λ n. if nat_le least n && nat_le n most then Some n else None) (number_in word)
-
--- the number of an option, or its usual one
+-- the number of an option, which is in a range, or its usual one
 abbrev pub option_within : Option (List ℕ) → ℕ → ℕ → ℕ → Option ℕ
 option_within None usual least most = Some usual
-option_within (Some word) usual least most = number_within least most word
+option_within (Some word) usual least most = option_and_then (λ n. if nat_le least n && nat_le n most then Some n else None) (number_in word)
 
--- words as numbers, ascending
-abbrev pub ascending_in : ℕ → List (List ℕ) → Option (List ℕ)
-ascending_in last [] = Some []
-ascending_in last (word ∷ words) =
-    option_and_then (λ n. if nat_lt last n then option_map (λ ns. n ∷ ns) (ascending_in n words) else None) (number_in word)
+-- the numbers of words, after earlier ones of which this is the last; none if a word is not a number above the one before it
+abbrev pub ascending_from : ℕ → List ℕ → List (List ℕ) → Option (List ℕ)
+ascending_from last earlier [] = Some earlier
+ascending_from last earlier (word ∷ words) =
+    option_and_then (λ n. if nat_lt last n then ascending_from n (earlier ++ n ∷ []) words else None) (number_in word)
 
 -- the words between commas
 abbrev pub words_in : List ℕ → List (List ℕ)
@@ -56,7 +51,7 @@ words_in list = slice_split (λ b. b == 44) list
 
 -- the numbers of a list, at least 1, ascending
 abbrev pub numbers_in : List ℕ → Option (List ℕ)
-numbers_in list = ascending_in 0 (words_in list)
+numbers_in list = ascending_from 0 [] (words_in list)
 
 -- the calls that a run refuses: those of the list that is given, if there is one
 abbrev pub calls_refused : Option (List ℕ) → Option (List ℕ)
@@ -72,18 +67,10 @@ abbrev pub IsFlag : Found → List ℕ → Bool → Type 0
 IsFlag found id value = (one_text found id ≡ None → value ≡ false) × (one_text found id ≡ Some (codes "true") → value ≡ true)
     × (one_text found id ≡ Some (codes "false") → value ≡ false)
 
--- a word as a table: one digit from 0 to 3
-abbrev pub table_digit : List ℕ → Option ℕ
-table_digit (digit ∷ []) = if nat_le 48 digit && nat_le digit 51 then Some (digit - 48) else None
-table_digit _ = None
-
--- the table of a word TABLE=FILE, where FILE is not empty
-abbrev pub table_named : List ℕ → ℕ → Option ℕ
-table_named [] table = None
-table_named (byte ∷ bytes) table = Some table
-
+-- the table of a word TABLE=FILE: TABLE is one digit from 0 to 3, and FILE is not empty
 abbrev pub table_in : List ℕ → Option ℕ
-table_in word = option_and_then (λ (parts : List ℕ × List ℕ). option_and_then (table_named parts.1) (table_digit parts.0)) (parts_in word)
+table_in (digit ∷ sign ∷ byte ∷ bytes) = if nat_le 48 digit && nat_le digit 51 && (sign == 61) then Some (digit - 48) else None
+table_in _ = None
 
 -- the tables of words, after earlier ones; none if a word has not that form
 abbrev pub tables_from : List ℕ → List (List ℕ) → Option (List ℕ)

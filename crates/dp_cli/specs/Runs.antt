@@ -1,8 +1,10 @@
--- Runs of `dpv run`, `dpv one` and `dpv filter`: the captures that are opened for a pipeline, the run over them, and what is said of it.
-use Rattle.std.specs.Prelude.{◌≡◌, ℕ, ◌⊎◌, List, Bool, Option, Some, map}
+-- What the words of `dpv run`, `dpv one` and `dpv filter` give, and their runs: the captures that are opened for a pipeline, the run over them, and what is
+-- said of it.
+use Rattle.std.specs.Prelude.{◌≡◌, ℕ, ◌⊎◌, List, Bool, Option, Some, codes, map, [], ◌∷◌, None, length, option_map}
 use Rattle.std.specs.Io.Buffered.{reader_remaining}
 use Rattle.dp_pcap.specs.Buffers.{writer_contents}
 use Rattle.std.specs.List.{list_any}
+use Rattle.clap.specs.declared.parser.matches.Found.{Found}
 use Rattle.dp_pcap.specs.declared.of_buf_reader.OfBufReader.{OfBufReader}
 use Rattle.dp_pcap.specs.declared.of_buf_writer.OfBufWriter.{OfBufWriter}
 use Rattle.dp_pcap.specs.OfStd.{buffered_feed_health, buffered_reader, buffered_sink_health, buffered_writer}
@@ -25,11 +27,20 @@ use Rattle.dp_captures.specs.Opening.{IsFirstFault}
 use Rattle.dp_captures.specs.Outlets.{joined}
 use Rattle.dp_captures.specs.Outputs.{file_took}
 use Rattle.dp_captures.specs.Runs.{Kind, feed, sink}
-use Rattle.dp_captures.specs.Words.{is_stream}
+use Rattle.dp_captures.specs.Words.{is_stream, missing, only, row_of, rows_of}
 use Rattle.dp_console.specs.declared.reply.Reply.{Reply}
 use Rattle.dp_runs.specs.declared.run.Watcher.{Watcher}
 use Rattle.dp_runs.specs.Replies.{IsReplied, status_of}
 use Rattle.dp_runs.specs.Watching.{IsRunUnder}
+use Rattle.dp_cli.specs.Operands.{IsFlag, calls_refused, operand, option_within}
+use Rattle.std.specs.Option.{unwrap_or}
+use Rattle.clap.specs.Matches.{first_value, matched_of, raw_values}
+use Rattle.dp_model.specs.Environments.{Environment}
+use Rattle.dp_pipe.specs.declared.nodes.How.{How}
+use Rattle.dp_pipe.specs.declared.nodes.How.TheVariants as how
+use Rattle.dp_pipe.specs.declared.single.SingleFiles.{SingleFiles}
+use Rattle.dp_pipe.specs.Files.{FileMap}
+use Rattle.dp_pipe.specs.Loads.{IsLoadedFrom}
 
 -- what contracts see of an input: the bytes that are left of it, if they are known
 abbrev pub inputs_kind : {F : Type 0} → (F → Option (List ℕ)) → Kind (OfBufReader (Watched (InputFile F)))
@@ -46,13 +57,15 @@ outputs_kind {F} = sink (λ output. writer_contents {W = Guarded (OutputFile F)}
 abbrev pub file_taken : {F : Type 0} → OfBufWriter (Guarded (OutputFile F)) → Option (List ℕ)
 file_taken output = Some (file_took (buffered_writer output))
 
--- A run of a pipeline with these calls refused over captures that are open, and what is said of it.
-pub record SaysRun {F : Type 0} (remaining : F → Option (List ℕ)) (p : Plan) (pattern : List ℕ) (is_json is_taken : Bool)
+-- A run of a pipeline with these calls refused over captures that are open, and what is said of it: with `--json` a document.
+pub record SaysRun {F : Type 0} (remaining : F → Option (List ℕ)) (found : Found) (p : Plan) (pattern : List ℕ) (is_taken : Bool)
     (ins ins' : List (OfBufReader (Watched (InputFile F)))) (outs outs' : List (OfBufWriter (Guarded (OutputFile F)))) (reply : Reply) : Type 0 where
   pub before : Watcher
   pub after : Watcher
   pub flushed : Flushed
   pub run : IsRunUnder before after p pattern (inputs_kind remaining) ins ins' outputs_kind file_taken outs outs' flushed
+  pub is_json : Bool
+  pub json : IsFlag found (codes "json") is_json
   pub said : IsReplied is_json is_taken flushed.answer reply
   pub status_is : reply.status ≡ status_of (answer_of flushed.answer)
 
@@ -66,8 +79,8 @@ pub record AreCaptures (p : Plan) (inputs outputs : List Replaced) (names : List
   pub written : map output_capture names ≡ captures_from outputs 0 p.outputs
 
 -- A run of a pipeline over its captures. They are open, unread and unwritten; no output is a file that the run reads, nor another output.
-pub record RunsOver {F : Type 0} (remaining : F → Option (List ℕ)) (p : Plan) (pattern : List ℕ) (inputs outputs : List Replaced) (is_json : Bool)
-    (reads : List ReadFile) (reply : Reply) : Type 0 where
+pub record RunsOver {F : Type 0} (remaining : F → Option (List ℕ)) (found : Found) (p : Plan) (pattern : List ℕ) (inputs outputs : List Replaced)
+    (reply : Reply) : Type 0 where
   pub names : List CaptureNames
   pub named : AreCaptures p inputs outputs names
   -- the captures, before the run and after it
@@ -77,8 +90,9 @@ pub record RunsOver {F : Type 0} (remaining : F → Option (List ℕ)) (p : Plan
   pub outs' : List (OfBufWriter (Guarded (OutputFile F)))
   pub opened : AreInputs names ins
   pub made : AreOutputs names outs
+  pub reads : List ReadFile
   pub guarded : AreGuarded reads ins outs
-  pub says : SaysRun remaining p pattern is_json (takes_stream outputs) ins ins' outs outs' reply
+  pub says : SaysRun remaining found p pattern (takes_stream outputs) ins ins' outs outs' reply
 
 -- the status of captures that are not opened: 4 for lack of memory, else 3
 abbrev pub status_unopened : CaptureFault → ℕ
@@ -98,3 +112,85 @@ pub record HasUnopened {F : Type 0} (remaining : F → Option (List ℕ)) (p : P
 -- a run that did not begin: memory was refused, or the captures were not opened
 abbrev pub NeverRuns : {F : Type 0} → (F → Option (List ℕ)) → Plan → List Replaced → List Replaced → Reply → Type 0
 NeverRuns remaining p inputs outputs reply = (reply.status ≡ 4) ⊎ HasUnopened remaining p inputs outputs reply
+
+-- ---- what the words give
+
+-- the calls that the words refuse
+abbrev pub calls_in : Found → Option (List ℕ)
+calls_in found = calls_refused (first_value found (codes "refuse"))
+
+-- the words of an option that may be given several times
+abbrev pub words_of : Found → List ℕ → List (List ℕ)
+words_of found id = unwrap_or (option_map raw_values (matched_of found id)) []
+
+-- the captures that the words give ports in place of those that the pipeline names
+pub record AreGiven (found : Found) (inputs outputs : List Replaced) : Type 0 where
+  pub read : Some (map row_of inputs) ≡ rows_of (words_of found (codes "in")) (words_of found (codes "no-in"))
+  pub written : Some (map row_of outputs) ≡ rows_of (words_of found (codes "out")) (words_of found (codes "no-out"))
+
+-- the files that the words name for a program: with its certificate, or to be run with one that is inferred
+pub record AreNamed (found : Found) (program : List ℕ) (cert : Option (List ℕ)) (files : SingleFiles) : Type 0 where
+  pub program_is : files.program.now ≡ operand found program
+  pub cert_is : option_map (λ name. name.now) files.cert ≡ cert
+  pub input_is : files.input.now ≡ operand found (codes "IN")
+  pub output_is : files.output.now ≡ operand found (codes "OUT")
+
+-- the captures that the words name for a program: one to read, and one to write
+pub record ReadsAndWrites (files : SingleFiles) (inputs outputs : List Replaced) : Type 0 where
+  pub reads_from : map row_of inputs ≡ only files.input.now ∷ []
+  pub writes_to : map row_of outputs ≡ only files.output.now ∷ []
+
+-- the environment of `dpv filter`: that of `dpv one`, with buffers of this room and packets of this many segments
+abbrev pub filter_port : ℕ → ℕ → Environment
+filter_port room segs = record {
+  pools = record { count = 64; cache = 0; room = room } ∷ [];
+  tables = 0;
+  rings = [];
+  ports = record { pool = 0; segs = segs; queue = 32 } ∷ [];
+}
+
+-- the room of a buffer, and the number of segments of a packet, that the words of `dpv filter` give
+abbrev pub room_in : Found → Option ℕ
+room_in found = option_within (first_value found (codes "room")) 2176 129 4096
+
+abbrev pub segs_in : Found → Option ℕ
+segs_in found = option_within (first_value found (codes "segs")) 1 1 64
+
+-- the environment that they give
+pub record IsFilterPort (found : Found) (env : Environment) : Type 0 where
+  pub room : ℕ
+  pub room_is : room_in found ≡ Some room
+  pub segs : ℕ
+  pub segs_is : segs_in found ≡ Some segs
+  pub env_is : env ≡ filter_port room segs
+
+-- the words of `dpv run` are right: these calls are refused, and these captures are given
+pub record RunWords (found : Found) : Type 0 where
+  pub pattern : List ℕ
+  pub refused : Some pattern ≡ calls_in found
+  pub inputs : List Replaced
+  pub outputs : List Replaced
+  pub given : AreGiven found inputs outputs
+
+-- A pipeline with all the ports that captures are given to is run over them, and else over those that it names. What is said before of programs that
+-- are interpreted is on standard error.
+pub record RunsNoted {F : Type 0} (remaining : F → Option (List ℕ)) (found : Found) (p : Plan) (pattern : List ℕ) (inputs outputs : List Replaced)
+    (reply : Reply) : Type 0 where
+  pub there : missing (length p.env.ports) inputs outputs ≡ None
+  pub said : Reply
+  pub runs : RunsOver remaining found p pattern inputs outputs said
+  pub status_is : reply.status ≡ said.status
+  pub out_is : reply.out ≡ said.out
+
+-- a pipeline is that of a text and the files that it names, with named certificates or with inferred ones
+pub record IsLoaded (how : How) (p : Plan) : Type 0 where
+  pub text : List ℕ
+  pub files : FileMap
+  pub loaded : IsLoadedFrom (Some files) how text p
+
+-- `dpv run`: a pipeline is loaded, and run with the calls refused and over the captures that the words give
+pub record RunsFile {F : Type 0} (remaining : F → Option (List ℕ)) (found : Found) (reply : Reply) : Type 0 where
+  pub words : RunWords found
+  pub p : Plan
+  pub loaded : IsLoaded how.Given p
+  pub runs : RunsNoted remaining found p words.pattern words.inputs words.outputs reply

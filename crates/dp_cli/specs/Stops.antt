@@ -15,16 +15,15 @@ use Rattle.dp_pipe.specs.declared.nodes.How.TheVariants as how
 use Rattle.dp_pipe.specs.declared.single.SingleFiles.{SingleFiles}
 use Rattle.dp_pipe.specs.Config.{IsConfigOf, IsFaultOf}
 use Rattle.dp_pipe.specs.Files.{FileMap}
-use Rattle.dp_pipe.specs.Loads.{IsLoadedFrom, IsUnloaded}
+use Rattle.dp_pipe.specs.Loads.{IsUnloaded}
 use Rattle.dp_pipe.specs.Nodes.{Fails}
 use Rattle.dp_pipe.specs.Pipelines.{Plan}
 use Rattle.dp_pipe.specs.Singles.{IsSinglePlan, single_node}
 use Rattle.dp_verdict.specs.Checks.{SaysRefused}
 use Rattle.dp_sources.specs.declared.subject.TheConstants.{ONE_REGION}
 use Rattle.dp_sources.specs.Subjects.{one_port}
-use Rattle.dp_cli.specs.Given.{AreNamed, IsFilterPort, ReadsAndWrites, RunWords, calls_in, room_in, segs_in, words_of}
 use Rattle.dp_cli.specs.Operands.{IsFlag, number_of, operand, tables_in, word_of}
-use Rattle.dp_cli.specs.Runs.{NeverRuns}
+use Rattle.dp_cli.specs.Runs.{AreNamed, IsFilterPort, IsLoaded, NeverRuns, ReadsAndWrites, RunWords, calls_in, room_in, segs_in, words_of}
 
 -- a command that was not done ends with another status than 0
 abbrev pub IsUndone : Reply → Type 0
@@ -116,10 +115,8 @@ NeverBegins remaining p inputs outputs reply = LacksPort p inputs outputs reply 
 -- its words are right, its pipeline is loaded, and it stopped at a port or at the captures
 pub record StopsAtCaptures {F : Type 0} (remaining : F → Option (List ℕ)) (found : Found) (reply : Reply) : Type 0 where
   pub words : RunWords found
-  pub text : List ℕ
-  pub files : FileMap
   pub p : Plan
-  pub loaded : IsLoadedFrom (Some files) how.Given text p
+  pub loaded : IsLoaded how.Given p
   pub stopped : NeverBegins remaining p words.inputs words.outputs reply
 
 abbrev pub StopsRun : {F : Type 0} → (F → Option (List ℕ)) → Found → Reply → Type 0

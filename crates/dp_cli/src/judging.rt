@@ -1,20 +1,20 @@
-//! The commands that judge programs: `check`, `infer`, `explain`, `show`, `compile` and those on one program; and `mem`.
+//! The commands that judge programs: `check`, `infer`, `explain` and `show`, and those on one program.
 
-ghost use Rattle.std.specs.Prelude.{◌≡◌, ◌⊎◌, ◌&&◌, IfErr, IfOk, codes};
+ghost use Rattle.std.specs.Prelude.{◌≡◌, IfErr, IfOk};
 ghost use Rattle.clap.specs.Matches.{found_of};
 ghost use Rattle.dp_sources.specs.Subjects.{env_of};
-ghost use Rattle.dp_cli.specs.Commands.{ChecksFile, InfersNode, InfersOne, IsLoaded, Stopped};
-ghost use Rattle.dp_cli.specs.Stops.{IsNotLoaded, StopsCheck, StopsInfer};
+ghost use Rattle.dp_cli.specs.Commands.{ChecksFile, InfersNode, InfersOne};
+ghost use Rattle.dp_cli.specs.Stops.{StopsCheck, StopsInfer};
 
-use crate::reading::{node_in, read_file, read_nodes, read_pipeline, which_in};
-use crate::request::{Request, wrong};
+use crate::reading::{
+    Request, load_pipeline, node_in, read_about, read_file, read_nodes, read_pipeline,
+};
 use dp_console::{DONE, Reply};
 use dp_model::{Entry, Env};
-use dp_pipe::{How, PipeError, Pipeline, load};
-use dp_script::mem_reply;
-use dp_show::{Counted, Form, compile_reply, counts_in, say_sizes, show};
-use dp_sources::{Asked, Lent, Subject, one_env};
-use dp_verdict::{check_text, explain, infer, infer_one, say_costs, unloaded};
+use dp_pipe::{How, PipeError, Pipeline};
+use dp_show::{Counted, Form, counts_in, say_sizes, show};
+use dp_sources::{Asked, Subject, one_env};
+use dp_verdict::{check_text, explain, infer, infer_one, say_costs};
 use std::rt::Files;
 
 /// Adds what the words ask for of a pipeline whose programs are accepted.
@@ -25,128 +25,65 @@ fn say_more<R>(
 )
     ensures { reply.new.status ≡ reply.old.status }
 {
-    let Ok(pipeline) = loaded else {
-        return;
-    };
-    if reply.status != DONE {
-        return;
+    let alloc = request.alloc;
+    if let Ok(pipeline) = loaded
+        && reply.status == DONE
+    {
+        if request.flag("cost") {
+            say_costs(alloc, pipeline, &mut *reply);
+        }
+        if request.flag("sizes") {
+            say_sizes(alloc, pipeline.env(), pipeline.region(), &mut reply.out);
+        }
     }
-    if request.flag("cost") {
-        say_costs(request.alloc, pipeline, &mut *reply);
-    }
-    if request.flag("sizes") {
-        say_sizes(
-            request.alloc,
-            pipeline.env(),
-            pipeline.region(),
-            &mut reply.out,
-        );
-    }
-}
-
-/// Whether both are set.
-fn are_both(one: bool, other: bool) -> bool
-    ensures { result ≡ (one && other) }
-{
-    one && other
 }
 
 /// `dpv check FILE`.
-fn checked<R: Files>(request: &Request<'_, '_, R>) -> Result<Reply, Reply>
+pub fn checked<R: Files>(request: &Request<'_, '_, R>) -> Result<Reply, Reply>
     ensures checks { IfOk result (ChecksFile (found_of request.now.words.now)) }
     ensures stops { IfErr result (StopsCheck (found_of request.now.words.now)) }
 {
     let (is_json, with_sizes) = (request.flag("json"), request.flag("sizes"));
-    if are_both(is_json, with_sizes) {
-        return Err(wrong(
-            request.alloc,
+    if is_json & with_sizes {
+        return Err(request.wrong(
             "error: --sizes is printed as text alone: leave out --json, or --sizes",
         ));
     }
-    let given = read_pipeline(request, is_json)?;
+    let given = read_pipeline(request)?;
     let subject = given.subject();
-    let sources = read_nodes(request, subject, None, How::Given, is_json)?;
+    let sources = read_nodes(request, subject, None, How::Given)?;
     let (mut reply, loaded) = check_text(request.alloc, given.text(), subject, &sources, is_json);
     say_more(request, &loaded, &mut reply);
     Ok(reply)
 }
 
-/// A pipeline that is loaded with its named certificates, or with inferred ones.
-fn loaded<R: Files>(request: &Request<'_, '_, R>, how: How) -> Result<Pipeline, Reply>
-    ensures loaded { IfOk result (IsLoaded how) }
-    ensures stops { IfErr result (IsNotLoaded (found_of request.now.words.now) how) }
-{
-    let given = read_pipeline(request, false)?;
-    let subject = given.subject();
-    let sources = read_nodes(request, subject, None, how, false)?;
-    match load(request.alloc, given.text(), &mut Lent(&sources), how) {
-        Ok(pipeline) => Ok(pipeline),
-        Err(error) => Err(unloaded(request.alloc, error, subject, &sources, false)),
-    }
-}
-
 /// `dpv infer FILE WHICH`.
-fn inferred<R: Files>(request: &Request<'_, '_, R>) -> Result<Reply, Reply>
+pub fn inferred<R: Files>(request: &Request<'_, '_, R>) -> Result<Reply, Reply>
     ensures infers { IfOk result (InfersNode (found_of request.now.words.now)) }
     ensures stops { IfErr result (StopsInfer (found_of request.now.words.now)) }
 {
-    let node = node_in(request.alloc, request.word("WHICH"))?;
-    let pipeline = loaded(request, How::Inferred)?;
-    Ok(infer(request.alloc, &pipeline, node))
-}
-
-/// `dpv compile FILE`.
-fn compiled<R: Files>(request: &Request<'_, '_, R>) -> Result<Reply, Reply> {
-    let pipeline = loaded(request, How::Given)?;
-    Ok(compile_reply(request.alloc, &pipeline))
-}
-
-/// `dpv explain FILE [WHICH]`.
-fn explained<R: Files>(request: &Request<'_, '_, R>) -> Result<Reply, Reply> {
-    let (is_json, which) = (request.flag("json"), which_in(request)?);
-    let given = read_pipeline(request, is_json)?;
-    let subject = given.subject();
-    let sources = read_nodes(request, subject, which, How::Given, is_json)?;
-    Ok(explain(request.alloc, subject, &sources, which, is_json))
-}
-
-/// The program of a command on one program, for the port of `dpv one`.
-fn single<'a, 'w: 'a, R>(request: &Request<'_, 'w, R>, env: &'a Env) -> Subject<'a> {
-    Subject::Single {
-        env,
-        program: request.word("NODE"),
-        cert: request.value("CERT"),
-    }
-}
-
-/// `dpv explain-one NODE [CERT]`.
-fn explained_one<R: Files>(request: &Request<'_, '_, R>) -> Result<Reply, Reply> {
-    let (env, is_json) = (one_env(), request.flag("json"));
-    let subject = single(request, &env);
-    let sources = read_nodes(request, subject, None, How::Given, is_json)?;
-    Ok(explain(request.alloc, subject, &sources, None, is_json))
+    let node = node_in(request, request.word("WHICH"))?;
+    let loaded = load_pipeline(request, How::Inferred)?;
+    Ok(infer(request.alloc, &loaded.pipeline, node))
 }
 
 /// A program without a certificate, for the port of `dpv one`.
 fn alone<'a>(env: &'a Env, program: &'a str) -> Subject<'a>
     ensures { env_of result ≡ env.now }
 {
-    Subject::Single {
-        env,
-        program,
-        cert: None,
-    }
+    let cert = None;
+    Subject::Single { env, program, cert }
 }
 
 /// `dpv infer-one NODE`.
-fn inferred_one<R: Files>(request: &Request<'_, '_, R>) -> Result<Reply, Reply>
+pub fn inferred_one<R: Files>(request: &Request<'_, '_, R>) -> Result<Reply, Reply>
     ensures infers { IfOk result (InfersOne (found_of request.now.words.now)) }
     ensures memory { IfErr result (λ reply. reply.status ≡ 4) }
 {
     let env = one_env();
     let program = request.word("NODE");
     let subject = alone(&env, program);
-    let sources = read_nodes(request, subject, None, How::Inferred, false)?;
+    let sources = read_nodes(request, subject, None, How::Inferred)?;
     let asked = Asked {
         node: Entry::Port(0),
         program,
@@ -155,31 +92,44 @@ fn inferred_one<R: Files>(request: &Request<'_, '_, R>) -> Result<Reply, Reply>
     Ok(infer_one(request.alloc, subject, &sources, asked))
 }
 
-/// The form of a picture, or of a listing without `--dot`.
-fn form_of<'a, R>(request: &Request<'_, '_, R>, counts: Option<Counted<'a>>) -> Form<'a> {
-    if request.flag("dot") {
-        Form::Picture {
-            all: request.flag("calls"),
-            counts,
-        }
-    } else {
-        Form::Listing
+/// The node that WHICH names, if it is given.
+fn which_in<R>(request: &Request<'_, '_, R>) -> Result<Option<Entry>, Reply> {
+    match request.words.get_str("WHICH") {
+        Some(word) => Ok(Some(node_in(request, word)?)),
+        None => Ok(None),
     }
 }
 
+/// `dpv explain FILE [WHICH]` and `dpv explain-one NODE [CERT]`.
+pub fn explained<R: Files>(request: &Request<'_, '_, R>) -> Result<Reply, Reply> {
+    let which = which_in(request)?;
+    let about = read_about(request)?;
+    let sources = read_nodes(request, about.subject(), which, How::Given)?;
+    let (subject, is_json) = (about.subject(), request.flag("json"));
+    Ok(explain(request.alloc, subject, &sources, which, is_json))
+}
+
 /// What is wrong with the words of `show`, if anything is.
-fn show_problem<R>(request: &Request<'_, '_, R>, which: Option<Entry>) -> Option<&'static str> {
-    match (which, request.value("counts"), request.flag("dot")) {
-        (None, Some(_), _) => Some(
+fn show_problem(is_node: bool, is_counted: bool, is_dot: bool) -> Option<&'static str> {
+    match (is_node, is_counted, is_dot) {
+        (false, true, _) => Some(
             "error: --counts is for the picture of one program: WHICH is missing, such as port0",
         ),
-        (None, None, false) => Some(
+        (false, false, false) => Some(
             "error: WHICH is missing, the node to be shown, such as port0; or --dot, for a picture of the whole pipeline",
         ),
-        (Some(_), Some(_), false) => {
-            Some("error: --counts is for a picture: add --dot, or leave it out")
-        }
+        (true, true, false) => Some("error: --counts is for a picture: add --dot, or leave it out"),
         _ => None,
+    }
+}
+
+/// The form of a picture, or of a listing without `--dot`.
+fn form_of<'a, R>(request: &Request<'_, '_, R>, counts: Option<Counted<'a>>) -> Form<'a> {
+    let all = request.flag("calls");
+    if request.flag("dot") {
+        Form::Picture { all, counts }
+    } else {
+        Form::Listing
     }
 }
 
@@ -189,79 +139,30 @@ fn shown_in<R: Files>(
     which: Option<Entry>,
     counts: Option<Counted<'_>>,
 ) -> Result<Reply, Reply> {
-    let given = read_pipeline(request, false)?;
-    let subject = given.subject();
-    let sources = read_nodes(request, subject, which, How::Given, false)?;
+    let about = read_about(request)?;
+    let sources = read_nodes(request, about.subject(), which, How::Given)?;
     let form = form_of(request, counts);
-    Ok(show(request.alloc, subject, &sources, which, form))
+    Ok(show(request.alloc, about.subject(), &sources, which, form))
 }
 
-/// `dpv show FILE [WHICH]`.
-fn shown<R: Files>(request: &Request<'_, '_, R>) -> Result<Reply, Reply> {
-    let which = which_in(request)?;
-    if let Some(problem) = show_problem(request, which) {
-        return Err(wrong(request.alloc, problem));
+/// `dpv show FILE [WHICH]` and `dpv show-one NODE [CERT]`.
+pub fn shown<R: Files>(request: &Request<'_, '_, R>) -> Result<Reply, Reply> {
+    let (counts, is_dot) = (request.words.get_str("counts"), request.flag("dot"));
+    if request.words.get_str("NODE").is_some() {
+        return shown_in(request, Some(Entry::Port(0)), None);
     }
-    let (Some(node), Some(name)) = (which, request.value("counts")) else {
+    let which = which_in(request)?;
+    if let Some(problem) = show_problem(which.is_some(), counts.is_some(), is_dot) {
+        return Err(request.wrong(problem));
+    }
+    let (Some(node), Some(file)) = (which, counts) else {
         return shown_in(request, which, None);
     };
-    let source = read_file(request, name, false)?;
+    let source = read_file(request, file)?;
     let steps = counts_in(request.alloc, &source, node)?;
     let counted = Counted {
-        file: name,
+        file,
         steps: steps.as_slice(),
     };
     shown_in(request, which, Some(counted))
-}
-
-/// `dpv show-one NODE [CERT]`.
-fn shown_one<R: Files>(request: &Request<'_, '_, R>) -> Result<Reply, Reply> {
-    let env = one_env();
-    let subject = single(request, &env);
-    let sources = read_nodes(request, subject, None, How::Given, false)?;
-    let (form, node) = (form_of(request, None), Some(Entry::Port(0)));
-    Ok(show(request.alloc, subject, &sources, node, form))
-}
-
-/// `dpv mem FILE`.
-fn played<R: Files>(request: &Request<'_, '_, R>) -> Result<Reply, Reply> {
-    let script = read_file(request, request.word("FILE"), false)?;
-    Ok(mem_reply(request.alloc, script.bytes.as_slice()))
-}
-
-/// The reply to the command of this name, or the reply to what is wrong with its words or its files.
-fn judge<R: Files>(request: &Request<'_, '_, R>, name: &str) -> Result<Reply, Reply>
-    ensures check { name.now ≡ codes "check" → IfOk result (ChecksFile (found_of request.now.words.now)) }
-    ensures infer { name.now ≡ codes "infer" → IfOk result (InfersNode (found_of request.now.words.now)) }
-    ensures infer_one { name.now ≡ codes "infer-one" → IfOk result (InfersOne (found_of request.now.words.now)) }
-    ensures stops_check { name.now ≡ codes "check" → IfErr result (StopsCheck (found_of request.now.words.now)) }
-    ensures stops_infer { name.now ≡ codes "infer" → IfErr result (StopsInfer (found_of request.now.words.now)) }
-    ensures stops_infer_one { name.now ≡ codes "infer-one" → IfErr result (λ reply. reply.status ≡ 4) }
-{
-    match name {
-        "check" => checked(request),
-        "infer" => inferred(request),
-        "infer-one" => inferred_one(request),
-        "explain" => explained(request),
-        "explain-one" => explained_one(request),
-        "show" => shown(request),
-        "show-one" => shown_one(request),
-        "compile" => compiled(request),
-        "mem" => played(request),
-        _ => Err(wrong(request.alloc, "error: there is no such command")),
-    }
-}
-
-/// The reply to the command of this name.
-#[tactic(auto, using(crate::proofs::Stops::check, crate::proofs::Stops::infer))]
-pub fn answer<R: Files>(request: &Request<'_, '_, R>, name: &str) -> Reply
-    ensures check { name.now ≡ codes "check" → ChecksFile (found_of request.now.words.now) result
-        ⊎ Stopped (StopsCheck (found_of request.now.words.now)) result }
-    ensures infer { name.now ≡ codes "infer" → InfersNode (found_of request.now.words.now) result
-        ⊎ Stopped (StopsInfer (found_of request.now.words.now)) result }
-    ensures infer_one { name.now ≡ codes "infer-one" → InfersOne (found_of request.now.words.now) result ⊎ (result.status ≡ 4) }
-{
-    match judge(request, name) {
-        Ok(reply) | Err(reply) => reply,
-    }
 }

@@ -8,13 +8,10 @@
 #![tactic(auto)]
 
 mod command_line;
-mod host;
 mod judging;
 mod operands;
 mod program;
 mod reading;
-mod request;
-mod routes;
 mod running;
 mod tracing;
 

@@ -25,14 +25,14 @@ pub fn node_named(word: &str) -> Option<Entry>
 }
 
 /// Whether a word has only decimal digits.
-pub fn are_digits(word: &str) -> bool
+fn are_digits(word: &str) -> bool
     ensures { result ≡ list_all is_ascii_digit word.now }
 {
     word.as_bytes().iter().all(|b| b.is_ascii_digit())
 }
 
 /// Parses a word as a number: decimal digits, at most 18,446,744,073,709,551,615.
-fn number_in(word: &str) -> Option<u64>
+pub fn number_in(word: &str) -> Option<u64>
     ensures { result ≡ spec.number_in word.now }
 {
     if are_digits(word) {
@@ -49,18 +49,6 @@ pub fn records_in(word: &str) -> Option<u32>
 {
     match number_in(word) {
         Some(number @ 1..=MAX_RUN_TURNS) => Some(number as u32),
-        _ => None,
-    }
-}
-
-/// Parses a word as a number in a range.
-pub fn number_within(word: &str, least: u32, most: u32) -> Option<u32>
-    ensures { result ≡ spec.number_within least most word.now }
-{
-    match number_in(word) {
-        Some(number) if number >= u64::from(least) && number <= u64::from(most) => {
-            Some(number as u32)
-        }
         _ => None,
     }
 }

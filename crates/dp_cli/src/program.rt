@@ -4,22 +4,24 @@ ghost use Rattle.std.specs.Prelude.{◌≡◌, ◌⊎◌, codes};
 ghost use Rattle.clap.specs.Matches.{found_of};
 ghost use Rattle.clap.specs.Words.{kind_of};
 ghost use Rattle.dp_console.specs.Replies.{EndsWith};
-ghost use Rattle.dp_cli.specs.Commands.{Answers, EndsCommand};
-ghost use Rattle.dp_cli.specs.Program.{EndsHelped};
+ghost use Rattle.dp_cli.specs.Commands.{Answers, EndsCommand, EndsHelped, HasReplied};
 
 use crate::command_line::command;
-use crate::host::fill_streams;
-use crate::judging::answer;
-use crate::reading::{UNWRITTEN, without_memory};
-use crate::request::{Request, wrong};
+use crate::judging::{checked, explained, inferred, inferred_one, shown};
+use crate::reading::{Request, load_pipeline, read_file};
 use crate::running::{run_file, run_filter, run_one};
-use crate::tracing::{trace_file, trace_one};
-use clap::ArgMatches;
+use crate::tracing::{UNWRITTEN, traced};
 use clap::error::ErrorKind;
 use dp_captures::Streams;
 use dp_console::{Console, DONE, FAULT, Reply, USAGE};
 use dp_engine::{CompiledPrograms, Nothing};
+use dp_pipe::How;
+use dp_script::mem_reply;
+use dp_show::compile_reply;
+use dp_sources::Fault;
+use dp_verdict::failed;
 use std::alloc::{AllocError, Global};
+use std::fs;
 use std::io::{self, Write};
 use std::rt::{Env, Files};
 
@@ -36,13 +38,6 @@ fn end<O: Write, E: Write>(console: &mut Console<O, E>, reply: &Reply) -> u8
     status
 }
 
-/// The status for an error of the command line, which may be a request for help.
-fn status_for(error: &clap::Error) -> u8
-    ensures { EndsHelped (kind_of error.now) result }
-{
-    if error.exit_code() == 0 { DONE } else { USAGE }
-}
-
 /// Reports an error of the command line, or prints the requested help, and returns the status.
 #[tactic(auto, using(crate::proofs::Endings::without_memory))]
 fn wrong_words<R: Print + Eprint, O: Write, E: Write>(
@@ -54,10 +49,11 @@ fn wrong_words<R: Print + Eprint, O: Write, E: Write>(
     ensures { EndsHelped (kind_of error.now) result ⊎ (result ≡ FAULT) ⊎ (result ≡ 4) }
 {
     if error.kind() == ErrorKind::OutOfMemory {
-        return end(console, &without_memory(alloc, false));
+        return end(console, &failed(alloc, Fault::Memory, false));
     }
     match error.print(rt) {
-        Ok(()) => status_for(error),
+        Ok(()) if error.exit_code() == 0 => DONE,
+        Ok(()) => USAGE,
         Err(_) => {
             let _reported = console.report_line(UNWRITTEN);
             FAULT
@@ -65,113 +61,88 @@ fn wrong_words<R: Print + Eprint, O: Write, E: Write>(
     }
 }
 
-/// The reply to a command that runs a pipeline, or to one that judges programs.
-fn reply_to<K: CompiledPrograms, R: Files>(
-    request: &Request<'_, '_, R>,
-    name: &str,
-    reports_interpreted: bool,
-) -> Reply
-    ensures { Answers R.File.remaining name.now (found_of request.now.words.now) result }
+/// What a command other than a trace replied.
+fn replied<K: CompiledPrograms, R: Files>(request: &Request<'_, '_, R>) -> Result<Reply, Reply>
+    ensures { HasReplied R.File.remaining request.now.name.now (found_of request.now.words.now) result }
 {
-    match name {
-        "run" => run_file::<K, R>(request, reports_interpreted),
+    match request.name {
+        "run" => run_file::<K, R>(request),
         "one" => run_one(request),
         "filter" => run_filter(request),
-        _ => answer(request, name),
+        "check" => checked(request),
+        "infer" => inferred(request),
+        "infer-one" => inferred_one(request),
+        "explain" => explained(request),
+        "explain-one" => explained(request),
+        "show" => shown(request),
+        "show-one" => shown(request),
+        "compile" => {
+            let loaded = load_pipeline(request, How::Given)?;
+            Ok(compile_reply(request.alloc, &loaded.pipeline))
+        }
+        "mem" => {
+            let script = read_file(request, request.word("FILE"))?;
+            Ok(mem_reply(request.alloc, script.bytes.as_slice()))
+        }
+        _ => Err(request.wrong("error: there is no such command")),
     }
 }
 
-/// Prints the reply to a command that prints nothing else, and returns the status.
-fn answer_command<K: CompiledPrograms, R: Files, O: Write, E: Write>(
-    request: &Request<'_, '_, R>,
-    name: &str,
-    reports_interpreted: bool,
-    console: &mut Console<O, E>,
-) -> u8
-    ensures { EndsCommand R.File.remaining name.now (found_of request.now.words.now) console.old.has_failed console.new.has_failed
-        (O.contents console.old.out) (O.contents console.new.out) (E.contents console.old.err) (E.contents console.new.err) result }
+/// The reply to a command other than a trace.
+fn reply_to<K: CompiledPrograms, R: Files>(request: &Request<'_, '_, R>) -> Reply
+    ensures { Answers R.File.remaining request.now.name.now (found_of request.now.words.now) result }
 {
-    let reply = reply_to::<K, R>(request, name, reports_interpreted);
-    end(console, &reply)
+    match replied::<K, R>(request) {
+        Ok(reply) | Err(reply) => reply,
+    }
 }
 
-/// Runs the command of this name, prints its reply, and returns the status. A trace prints its records as they end.
+/// Runs a command, prints its reply, and returns the status. A trace prints its records as they end.
 fn run_command<K: CompiledPrograms, R: Files, O: Write, E: Write>(
     request: &Request<'_, '_, R>,
-    name: &str,
-    reports_interpreted: bool,
     console: &mut Console<O, E>,
 ) -> u8
-    ensures { (name.now ≡ codes "trace" → ⊥) → (name.now ≡ codes "trace-one" → ⊥) → EndsCommand R.File.remaining name.now
-        (found_of request.now.words.now) console.old.has_failed console.new.has_failed (O.contents console.old.out) (O.contents console.new.out)
-        (E.contents console.old.err) (E.contents console.new.err) result }
+    ensures { (request.now.name.now ≡ codes "trace" → ⊥) → (request.now.name.now ≡ codes "trace-one" → ⊥) → EndsCommand R.File.remaining
+        request.now.name.now (found_of request.now.words.now) console.old.has_failed console.new.has_failed (O.contents console.old.out)
+        (O.contents console.new.out) (E.contents console.old.err) (E.contents console.new.err) result }
 {
-    match name {
-        "trace" => {
-            let reply = trace_file(request, &mut console.out);
+    match request.name {
+        "trace" | "trace-one" => match traced(request, &mut console.out) {
+            Ok(reply) | Err(reply) => end(console, &reply),
+        },
+        _ => {
+            let reply = reply_to::<K, R>(request);
             end(console, &reply)
         }
-        "trace-one" => {
-            let reply = trace_one(request, &mut console.out);
-            end(console, &reply)
-        }
-        _ => answer_command::<K, R, O, E>(request, name, reports_interpreted, console),
     }
-}
-
-/// Runs the command of the command line, and returns the status.
-fn run_matches<'a, K: CompiledPrograms, R: Files, O: Write, E: Write>(
-    rt: &'a R,
-    alloc: Global,
-    matches: &'a ArgMatches<'_>,
-    streams: Streams,
-    reports_interpreted: bool,
-    console: &mut Console<O, E>,
-) -> u8 {
-    let Some((name, words)) = matches.subcommand() else {
-        return end(console, &wrong(alloc, "error: there is no command"));
-    };
-    let request = Request {
-        rt,
-        alloc,
-        words,
-        streams,
-    };
-    run_command::<K, R, O, E>(&request, name, reports_interpreted, console)
 }
 
 /// Runs the command that these words name, of which the first is the name of the program, and returns the status.
-///
-/// # Errors
-///
-/// `AllocError` if there is no memory for the commands that the words are compared with.
-fn run_given<'a, K: CompiledPrograms, R: AllocGlobal + Files + Print + Eprint, O: Write, E: Write>(
-    rt: &'a R,
-    words: &'a [String],
+fn run_given<K: CompiledPrograms, R: AllocGlobal + Files + Print + Eprint, O: Write, E: Write>(
+    rt: &R,
+    words: &[String],
     streams: Streams,
     reports_interpreted: bool,
     console: &mut Console<O, E>,
 ) -> Result<u8, AllocError> {
     let alloc = rt.alloc();
-    let command = command(alloc)?;
-    match command.try_get_matches_from(words) {
-        Ok(matches) => Ok(run_matches::<K, R, O, E>(
-            rt,
-            alloc,
-            &matches,
-            streams,
-            reports_interpreted,
-            console,
-        )),
-        Err(error) => Ok(wrong_words(rt, alloc, &error, console)),
-    }
+    let matches = match command(alloc)?.try_get_matches_from(words) {
+        Ok(matches) => matches,
+        Err(error) => return Ok(wrong_words(rt, alloc, &error, console)),
+    };
+    let (name, words) = matches.subcommand().unwrap_or(("", &matches));
+    let request = Request {
+        rt,
+        alloc,
+        streams,
+        reports_interpreted,
+        name,
+        words,
+    };
+    Ok(run_command::<K, R, O, E>(&request, console))
 }
 
 /// Runs the command that the words of the command line name, and returns the status.
-///
-/// # Errors
-///
-/// `AllocError` if there is no memory for the words or for the commands that they are compared with.
 fn run_words<
     K: CompiledPrograms,
     R: Env + AllocGlobal + Files + Print + Eprint,
@@ -187,13 +158,37 @@ fn run_words<
     let given = match std::env::args(rt) {
         Ok(given) => given,
         Err(error) if error.kind() == io::ErrorKind::OutOfMemory => return Err(AllocError),
-        Err(_) => return Ok(end(console, &wrong(alloc, "error: an argument is not UTF-8"))),
+        Err(_) => {
+            let mut reply = Reply::new(alloc);
+            reply.status = USAGE;
+            reply.err.say("error: an argument is not UTF-8\n");
+            return Ok(end(console, &reply));
+        }
     };
     // Usage texts use this name, whatever the program's file is called.
     let mut words = Vec::new(alloc);
     words.push(String::from_str(alloc, "dpv")?)?;
     words.extend(given.skip(1))?;
     run_given::<K, R, O, E>(rt, words.as_slice(), streams, reports_interpreted, console)
+}
+
+/// Opens the null device for reading, if there is one: a write to it fails.
+fn open_nothing<R: Files>(rt: &R) -> Result<Option<R::File>, AllocError> {
+    match fs::open(rt, "/dev/null") {
+        Ok(file) => Ok(Some(file)),
+        Err(error) if error.kind() == io::ErrorKind::OutOfMemory => Err(AllocError),
+        Err(_) => Ok(None),
+    }
+}
+
+/// Files that stay open until the program ends, one for each standard stream.
+#[derive(Drop)]
+struct Held<F>(Option<F>, Option<F>, Option<F>);
+
+/// Opens the null device once for each standard stream. An opened file gets the lowest free number, so these files take the numbers of closed
+/// streams, and no capture receives what is printed or reported.
+fn fill_streams<R: Files>(rt: &R) -> Result<Held<R::File>, AllocError> {
+    Ok(Held(open_nothing(rt)?, open_nothing(rt)?, open_nothing(rt)?))
 }
 
 /// Runs the command of the host's command line over the host's files, with these programs compiled, and returns the status.
@@ -204,11 +199,11 @@ fn run_with<K: CompiledPrograms, R: Env + AllocGlobal + Files + Print + Eprint>(
 ) -> u8 {
     let mut console = Console::new(io::writer(rt), io::writer(&streams.error));
     let Ok(_streams) = fill_streams(rt) else {
-        return end(&mut console, &without_memory(rt.alloc(), false));
+        return end(&mut console, &failed(rt.alloc(), Fault::Memory, false));
     };
     match run_words::<K, R, _, _>(rt, streams, reports_interpreted, &mut console) {
         Ok(status) => status,
-        Err(AllocError) => end(&mut console, &without_memory(rt.alloc(), false)),
+        Err(AllocError) => end(&mut console, &failed(rt.alloc(), Fault::Memory, false)),
     }
 }
 

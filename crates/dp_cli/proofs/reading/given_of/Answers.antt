@@ -3,11 +3,11 @@ use Rattle.std.proofs.Common.{inr, sym}
 use Rattle.dp_cli.proofs.reading.given_of.Goals as goal
 
 pub returns-in-Some : goal.returns-in-Some
-returns-in-Some c = inr (inr (record {
+returns-in-Some g c = inr (inr (record {
   text = c.as_slice-2.result.now;
-  config = c.in-Ok-survey_of.survey.config;
-  reads = c.in-Ok-survey_of.ensures.ok;
+  config = c.in-Ok.survey.config;
+  reads = c.in-Ok.ensures.ok;
   table = c.in-Some.table;
   lacked = rw (← c.env.ensures, ← c.as_slice-3.ensures.value) (sym c.in-Some.ensures);
-  status_is = c.no_table.ensures;
+  status_is = c.wrong.ensures;
 }))

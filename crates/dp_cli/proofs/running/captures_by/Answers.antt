@@ -1,7 +1,13 @@
--- `captures_by`: the words are wrong, or memory was refused for them.
-use Rattle.dp_cli.proofs.Stops.{worded}
+-- `captures_by`: the words are wrong.
+use Rattle.std.proofs.Common.{inl}
 use Rattle.dp_cli.proofs.running.captures_by.Goals as goal
 
-pub returns-clause-wrong : goal.returns-clause-wrong
-returns-clause-wrong g c = worded c.in-Err.problem _ _ c.misworded.ensures
-    (rw (c.as_slice.ensures.value, c.as_slice-2.ensures.value, c.in-Ok.ensures, c.in-Ok-words_of.ensures) at c.in-Err.ensures.none)
+pub returns : goal.returns
+returns g c = record {
+  given = tt;
+  wrong = inl (
+    c.wrong.ensures,
+    rw (c.as_slice.ensures.value, c.as_slice-2.ensures.value, c.in-Ok.ensures, c.in-Ok-all.ensures) at
+        (c.in-Err.ensures.none c.in_default-problem.not-Memory),
+  );
+}

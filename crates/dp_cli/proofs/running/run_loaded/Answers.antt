@@ -5,9 +5,8 @@ use Rattle.dp_cli.proofs.running.run_loaded.Goals as goal
 pub returns-in-Ok-clause-runs : goal.returns-in-Ok-clause-runs
 returns-in-Ok-clause-runs g c = record {
   there = search rules;
-  reads = c.in_ok-ready.ready.reads.items;
   said = c.in-Ok.reply;
-  runs = rw (← c.in_ok-ready.ensures.ready) c.in-Ok.ensures.runs;
+  runs = c.in-Ok.ensures.runs;
   status_is = c.after.ensures.0;
   out_is = c.after.ensures.1;
 }

@@ -1,14 +1,18 @@
--- `run_one`: what stopped ends with another status than 0.
-use Rattle.std.proofs.Common.{inr, rules}
-use Rattle.dp_cli.proofs.Stops.{single}
+-- `run_one`: the program is run with its certificate, on the port of that command.
+use Rattle.std.proofs.Common.{rules}
+use Rattle.dp_cli.proofs.Stops.{map_err, map_ok}
 use Rattle.dp_cli.proofs.running.run_one.Goals as goal
 
-pub returns-in-Ok-2 : goal.returns-in-Ok-2
-returns-in-Ok-2 g c = inr (
-  record {
-    files = _;
-    named = search rules;
-    stopped = rw (c.one_env-env.ensures) at c.in-Ok.ensures.stops;
-  },
-  single g.R.File.Read.remaining _ _ _ c.in-Ok.reply c.in-Ok.ensures.stops,
-)
+pub returns-clause-runs : goal.returns-clause-runs
+returns-clause-runs g c = map_ok c.run_single.result (λ reply runs. record {
+  files = _;
+  named = search rules;
+  runs = rw (c.one_env.ensures) at runs;
+}) c.run_single.ensures.runs
+
+pub returns-clause-stops : goal.returns-clause-stops
+returns-clause-stops g c = map_err c.run_single.result (λ reply stops. record {
+  files = _;
+  named = search rules;
+  stopped = rw (c.one_env.ensures) at stops;
+}) c.run_single.ensures.stops

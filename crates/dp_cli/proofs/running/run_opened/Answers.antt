@@ -7,6 +7,8 @@ returns g c = record {
   after = _;
   flushed = c.run_over-ran.result.flushed;
   run = c.run_over-ran.ensures;
+  is_json = c.flag-is_json.result;
+  json = c.flag-is_json.ensures;
   said = c.said_of.ensures.said;
   status_is = c.said_of.ensures.status;
 }

@@ -6,21 +6,21 @@ use Rattle.dp_cli.proofs.running.run_ready.Goals as goal
 -- as many captures as ports are open
 pub run_opened-requires-clause-inputs : goal.run_opened-requires-clause-inputs
 run_opened-requires-clause-inputs g c =
-    ap (λ xs. length xs) c.as_mut_slice.ensures.value ∙ c.in_default-opened.ensures.many.0 ∙ ap (λ xs. length xs) c.as_slice-3.ensures.value
+    ap (λ xs. length xs) c.as_mut_slice.ensures.value ∙ c.in_default-opened.ensures.many.0 ∙ ap (λ xs. length xs) c.as_slice-2.ensures.value
     ∙ c.in-Ok.ensures.many
 
 pub run_opened-requires-clause-outputs : goal.run_opened-requires-clause-outputs
 run_opened-requires-clause-outputs g c =
-    ap (λ xs. length xs) c.as_mut_slice-2.ensures.value ∙ c.in_default-opened.ensures.many.1 ∙ ap (λ xs. length xs) c.as_slice-3.ensures.value
+    ap (λ xs. length xs) c.as_mut_slice-2.ensures.value ∙ c.in_default-opened.ensures.many.1 ∙ ap (λ xs. length xs) c.as_slice-2.ensures.value
     ∙ c.in-Ok.ensures.many
 
 -- the run is over the captures that were opened
 pub returns-clause-runs : goal.returns-clause-runs
 returns-clause-runs g c = record {
-  names = c.as_slice-3.result.now;
+  names = c.as_slice-2.result.now;
   named = record {
-    read = ap (λ names. map input_capture names) c.as_slice-3.ensures.value ∙ c.in-Ok.ensures.inputs;
-    written = ap (λ names. map output_capture names) c.as_slice-3.ensures.value ∙ c.in-Ok.ensures.outputs;
+    read = ap (λ names. map input_capture names) c.as_slice-2.ensures.value ∙ c.in-Ok.ensures.inputs;
+    written = ap (λ names. map output_capture names) c.as_slice-2.ensures.value ∙ c.in-Ok.ensures.outputs;
   };
   ins = c.as_mut_slice.result.now;
   ins' = c.run_opened.new.inputs;
@@ -28,17 +28,18 @@ returns-clause-runs g c = record {
   outs' = c.run_opened.new.outputs;
   opened = rw (sym c.as_mut_slice.ensures.value) at c.in_default-opened.ensures.inputs;
   made = rw (sym c.as_mut_slice-2.ensures.value) at c.in_default-opened.ensures.outputs;
-  guarded = rw (sym c.as_mut_slice.ensures.value, sym c.as_mut_slice-2.ensures.value, c.as_slice-2.ensures.value) at c.in_default-opened.ensures.guarded;
-  says = rw (c.requires.taken) at c.run_opened.ensures;
+  reads = c.as_slice.result.now;
+  guarded = rw (sym c.as_mut_slice.ensures.value, sym c.as_mut_slice-2.ensures.value) at c.in_default-opened.ensures.guarded;
+  says = rw (c.take_stdout.ensures) at c.run_opened.ensures;
 }
 
 -- no run is over captures that were not opened
 pub returns-in-Err-clause-never : goal.returns-in-Err-clause-never
 returns-in-Err-clause-never g c = inr (record {
-  names = c.as_slice-3.result.now;
+  names = c.as_slice-2.result.now;
   named = record {
-    read = ap (λ names. map input_capture names) c.as_slice-3.ensures.value ∙ c.in-Ok.ensures.inputs;
-    written = ap (λ names. map output_capture names) c.as_slice-3.ensures.value ∙ c.in-Ok.ensures.outputs;
+    read = ap (λ names. map input_capture names) c.as_slice-2.ensures.value ∙ c.in-Ok.ensures.inputs;
+    written = ap (λ names. map output_capture names) c.as_slice-2.ensures.value ∙ c.in-Ok.ensures.outputs;
   };
   ins = c.open_captures-opened.new.inputs.items;
   outs = c.open_captures-opened.new.outputs.items;

@@ -6,13 +6,11 @@ use Rattle.dp_cli.proofs.running.run_single.Goals as goal
 pub returns-clause-runs : goal.returns-clause-runs
 returns-clause-runs g c = record {
   texts = files_of c.in_ok-sources.sources;
-  p = c.in_ok-ready.ready.pipeline;
-  loaded = rw (c.in_ok-ready.ensures.ready, ← c.copy.ensures.same) c.in-Ok-load_single.ensures.loaded;
+  p = c.in-Ok-load_single.pipeline;
+  loaded = rw (← c.copy.ensures.same) c.in-Ok-load_single.ensures.loaded;
   inputs = c.in-Ok.given.inputs.items;
   outputs = c.in-Ok.given.outputs.items;
   given = record { reads_from = c.in-Ok.ensures.inputs; writes_to = c.in-Ok.ensures.outputs };
-  is_json = c.options_in-options.result.is_json;
-  reads = c.in_ok-ready.ready.reads.items;
   runs = rw (c.new-pattern.ensures.items) at c.in_ok-reply.ensures.runs;
 }
 
@@ -22,7 +20,7 @@ returns-in-Err-clause-stops g c = inr (inl (record {
   texts = files_of c.in_ok-sources.sources;
   error = c.in-Err.error;
   fails = rw (← c.copy.ensures.same) c.in-Err.ensures.fails;
-  is_json = c.options_in-options.result.is_json;
+  is_json = c.flag.result;
   says = c.unloaded.ensures.says;
   undone = c.unloaded.ensures.not_done;
 }))

@@ -1,6 +1,6 @@
 -- The tables of the files so far, and those of the words that are left, are those of all words.
 use Rattle.std.proofs.Common.{◌≡◌, ◌++◌, drop, map}
-use Rattle.dp_cli.proofs.routes.read_routes.Given as goal
+use Rattle.dp_cli.proofs.reading.read_all_routes.Given as goal
 
 abbrev pub invariant-loop-one : goal.invariant-loop-one
 invariant-loop-one g l =
