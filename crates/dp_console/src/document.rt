@@ -5,7 +5,7 @@ use std::alloc::Global;
 use std::fmt::Display;
 
 /// The largest number that is printed as one, 2^53: a float of 64 bits holds each number up to it.
-pub(crate) const MAX_NUMBER: u64 = 9_007_199_254_740_992;
+const MAX_NUMBER: u64 = 9_007_199_254_740_992;
 
 /// A value of a member.
 #[derive(Clone, Copy)]
