@@ -426,7 +426,13 @@ fn the_pipeline_of_one_port(rt: HostRuntime) -> Result<(), Fail> {
         output: "b",
     };
     let sources = sources_of(rt.alloc(), PROGRAMS)?;
-    let loaded = load_single(rt.alloc(), one_env(), ONE_REGION, names, &mut Lent(&sources));
+    let loaded = load_single(
+        rt.alloc(),
+        one_env(),
+        ONE_REGION,
+        names,
+        &mut Lent(&sources),
+    );
     let Ok(pipeline) = loaded else {
         return Err(Fail::from("it is not loaded"));
     };
