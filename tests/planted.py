@@ -42,6 +42,7 @@ import os
 import pathlib
 import re
 import shutil
+import signal
 import subprocess
 import sys
 import tempfile
@@ -321,7 +322,8 @@ def judged(words: list[str], room: str, names: list[str]) -> tuple[bool, str, fl
             time.sleep(0.1)
             if not is_over and has_judged():
                 is_over = True
-                started.terminate()
+                # (Popen's own call would reap a check that has just ended)
+                os.kill(started.pid, signal.SIGTERM)
     started.returncode = os.waitstatus_to_exitcode(ended[1])
     text = said.read_text(errors="replace")
     is_whole = started.returncode in (0, 1) and text.rstrip("\n").rpartition("\n")[2].startswith("only=")
