@@ -5,45 +5,21 @@ use mathlib.Core.Logic.{⊎_elim}
 use Rattle.dp_region.specs.Spans.{IsUnlent}
 use Rattle.dp_region.specs.Region.{RegionView, number_at}
 use Rattle.dp_heap.specs.declared.elements.Element.{Element}
-use Rattle.dp_heap.specs.Elements.{end_of}
-use Rattle.dp_heap.specs.Laid.{elements_in, Laid, Kept, IsLaid}
+use Rattle.dp_heap.specs.Laid.{elements_in, Laid, IsLaid}
 use Rattle.dp_heap.specs.Lists.{none, times, belong, Listed}
-use Rattle.dp_heap.proofs.Laid.{first_offset, laid_bound, all_decoded, laid_as}
-use Rattle.dp_heap.proofs.Headers.{element-number}
+use Rattle.dp_heap.proofs.Laid.{all_decoded, laid_as}
+use Rattle.dp_heap.proofs.Kept.{stay}
 use Rattle.dp_heap.proofs.Cut.{kept_here, e_bound}
 use Rattle.dp_heap.proofs.Found.{e_header}
 use Rattle.dp_heap.proofs.Belong.{Member, member, single, once}
 use Rattle.dp_heap.proofs.Links.{head_in}
 
 -- writes elsewhere keep the lists and the elements
-module _ (xs ys : List ℕ) (same : (k : ℕ) → k + 4 ≤ length xs → k % 64 ≤ 12 → number_at ys k 4 ≡ number_at xs k 4) where
-  words : (es : List Element) (low high w : ℕ) → Laid xs low high es → Kept xs w es → high ≤ length xs → Laid ys low high es × Kept ys w es
-  words [] low high w l k room = (l, tt)
-  words (e ∷ es) low high w l k room =
-      let at = first_offset xs e low l.read in let some = l.large in let bound = laid_bound xs es (end_of e) high l.rest in let fit = k.shape.room in
-      let s0 = k.shape.offset_step in let s2 = k.shape.pad_step in
-      let rest = words es (end_of e) high e.size l.rest k.rest room in (
-        record {
-          read = l.read ∙ sym (element-number xs ys low (same low (omega arith) (omega arith)) (same (low + 4) (omega arith) (omega arith))
-              (same (low + 8) (omega arith) (omega arith)));
-          large = l.large;
-          rest = rest.0;
-        },
-        record {
-          words = record {
-            below = same (e.offset + 12) (omega arith) (omega arith) ∙ k.words.below;
-            back = same (e.offset + e.pad + 8) (omega arith) (omega arith) ∙ k.words.back;
-          };
-          shape = k.shape;
-          rest = rest.1;
-        },
-      )
-
 pub relinked : (r : RegionView) → IsLaid r → (ys : List ℕ) → length ys ≡ length r.bytes →
     ((k : ℕ) → k + 4 ≤ length r.bytes → k % 64 ≤ 12 → number_at ys k 4 ≡ number_at r.bytes k 4)
     → IsLaid (record r { bytes = ys }) × (elements_in ys ≡ elements_in r.bytes)
 relinked r laid ys long same =
-    let most = laid.size.1 in let w = words r.bytes ys same (elements_in r.bytes) 0 (length r.bytes) 0 laid.laid laid.kept (omega arith) in
+    let most = laid.size.1 in let w = stay r.bytes ys (elements_in r.bytes) 0 (length r.bytes) 0 laid.laid laid.kept (λ q _ room low. same q room low) in
     let l : Laid ys 0 (length ys) (elements_in r.bytes) = rw long w.0 in (
       laid_as ys r.home (elements_in r.bytes) r.lent (rw long laid.size) l laid.lends w.1,
       all_decoded ys (elements_in r.bytes) l,

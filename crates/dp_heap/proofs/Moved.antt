@@ -6,9 +6,10 @@ use Rattle.dp_region.specs.Region.{RegionView, number_at}
 use Rattle.dp_region.specs.Laws.{by_test}
 use Rattle.dp_heap.specs.declared.elements.Element.{Element}
 use Rattle.dp_heap.specs.Elements.{is_free, end_of, data_of, freed, both, joined}
-use Rattle.dp_heap.specs.Edits.{onto, lower, upper, Emptied}
+use Rattle.dp_heap.specs.declared.elements.State.TheVariants.{Free}
+use Rattle.dp_heap.specs.Edits.{onto, lower, upper, Emptied, Replaces}
 use Rattle.dp_heap.specs.Laid.{element_at, elements_in, Laid, IsLaid}
-use Rattle.dp_heap.specs.Lists.{none, class_of, belong, Listed, Outside}
+use Rattle.dp_heap.specs.Lists.{none, class_of, belong, IsOff, Listed, Outside}
 use Rattle.dp_heap.proofs.Laid.{first_offset, laid_bound, laid_split}
 use Rattle.dp_heap.proofs.Cut.{front, here, e_bound}
 use Rattle.dp_heap.proofs.Found.{below_last, below_bound, below_split, below_read}
@@ -63,31 +64,33 @@ swapped r laid before e after split ys ps new same heads off next was is w =
 pub busy_none : (e : Element) → is_free e ≡ false → (c p : ℕ) → belong c p (e ∷ []) ≡ belong c p []
 busy_none e busy c p = let no = belongs_off c p e (λ all. true≢false (sym all.free ∙ busy)) in omega arith
 
+-- one element is in no list: z, which is x
+pub off_at : (r : RegionView) (heads : List ℕ) (before after : List Element) {x z : Element} → IsLaid r → elements_in r.bytes ≡ before ++ x ∷ after → z ≡ x
+    → x.state ≡ Free → Listed r.bytes heads (elements_in r.bytes) (x ∷ []) → IsOff r heads z
+off_at r heads before after laid split is free listed =
+    rw is (record { laid = laid; inside = record { before = before; after = after; split = split }; free = free; listed = listed })
+
 -- e is split in two
-pub after_cut : (r : RegionView) → IsLaid r → (before : List Element) (e : Element) (after : List Element) → elements_in r.bytes ≡ before ++ e ∷ after →
-    (mid : ℕ) (ys : List ℕ) → elements_in ys ≡ before ++ (lower e mid ∷ upper e mid ∷ after)
-    → Outside e.offset (end_of e) r.bytes ys → (heads : List ℕ) → Listed r.bytes heads (elements_in r.bytes) (e ∷ []) → (parts : Element × Element) →
-    parts ≡ (lower e mid, upper e mid)
-    → Listed ys heads (elements_in ys) (parts.0 ∷ parts.1 ∷ []) × Listed ys heads (elements_in ys) (parts.1 ∷ parts.0 ∷ [])
-after_cut r laid before e after split mid ys new same heads w parts is =
-    subst (λ (ps : Element × Element). Listed ys heads (elements_in ys) (ps.0 ∷ ps.1 ∷ []) × Listed ys heads (elements_in ys) (ps.1 ∷ ps.0 ∷ [])) (sym is) (
-      swapped r laid before e after split ys (lower e mid ∷ upper e mid ∷ []) new same heads (e ∷ []) (lower e mid ∷ upper e mid ∷ []) (λ c p. refl)
-          (λ c p. refl) w,
-      swapped r laid before e after split ys (lower e mid ∷ upper e mid ∷ []) new same heads (e ∷ []) (upper e mid ∷ lower e mid ∷ []) (λ c p. refl)
-          (λ c p. omega arith) w,
-    )
+pub after_cut : (r : RegionView) (heads : List ℕ) (e : Element) → IsOff r heads e → (mid : ℕ) (ys : List ℕ)
+    → Replaces e (lower e mid ∷ upper e mid ∷ []) (elements_in r.bytes) (elements_in ys) → Outside e.offset (end_of e) r.bytes ys
+    → Listed ys heads (elements_in ys) (lower e mid ∷ upper e mid ∷ []) × Listed ys heads (elements_in ys) (upper e mid ∷ lower e mid ∷ [])
+after_cut r heads e off mid ys pieces same =
+    let l = off.inside in let low = lower e mid in let high = upper e mid in let new = pieces l.before l.after l.split in
+    let now = swapped r off.laid l.before e l.after l.split ys (low ∷ high ∷ []) new same heads (e ∷ []) in
+    (now (low ∷ high ∷ []) (λ c p. refl) (λ c p. refl) off.listed, now (high ∷ low ∷ []) (λ c p. refl) (λ c p. omega arith) off.listed)
 
 -- two neighbours become one
 pub after_join : (r : RegionView) → IsLaid r → (before : List Element) (x y : Element) (after : List Element) → elements_in r.bytes ≡ before
-    ++ x ∷ y ∷ after → (ys : List ℕ) → elements_in ys ≡ before ++ both x y ∷ after
-    → (z : Element) → z ≡ both x y → Outside x.offset (end_of z) r.bytes ys → (heads : List ℕ) (off : List Element) →
+    ++ x ∷ y ∷ after → (new : RegionView) → IsLaid new → elements_in new.bytes ≡ before ++ both x y ∷ after
+    → (z : Element) → z ≡ both x y → Outside x.offset (end_of z) r.bytes new.bytes → (heads : List ℕ) (off : List Element) →
     ((c p : ℕ) → belong c p (x ∷ y ∷ []) ≡ belong c p off) → Listed r.bytes heads (elements_in r.bytes) off
-    → Listed ys heads (elements_in ys) (z ∷ [])
-after_join r laid before x y after split ys new z is same heads off was w =
+    → IsOff new heads z
+after_join r laid before x y after split new fit now z is same heads off was w =
     let h = here r laid before x (y ∷ after) split in let at = first_offset r.bytes y (end_of x) h.rest.read in
     let ends : end_of y ≡ end_of (both x y) = omega arith in let some = h.large in
-    rw is (rw new (moved r.bytes ys before (x ∷ y ∷ []) after (both x y ∷ []) x.offset (end_of (both x y)) (omega arith)
-    (front r laid before x (y ∷ after) split) (rw ends at h.rest.rest) (rw is at same) heads off (both x y ∷ []) was (λ c p. refl) (rw split at w)))
+    let listed = moved r.bytes new.bytes before (x ∷ y ∷ []) after (both x y ∷ []) x.offset (end_of (both x y)) (omega arith)
+    (front r laid before x (y ∷ after) split) (rw ends at h.rest.rest) (rw is at same) heads off (both x y ∷ []) was (λ c p. refl) (rw split at w) in
+    off_at new heads before after fit now is refl (rw now listed)
 
 -- x begins at another offset
 pub elsewhere : (e x : Element) → (e.offset ≡ x.offset → ⊥) → belong (class_of x.size) x.offset (e ∷ []) ≡ 0

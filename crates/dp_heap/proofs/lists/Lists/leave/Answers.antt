@@ -1,5 +1,5 @@
 -- The neighbours in the list link to each other.
-use Rattle.std.proofs.Common.{sym, ◌∙◌, arith}
+use Rattle.std.proofs.Common.{refl, sym, ◌∙◌, arith}
 use Rattle.dp_heap.proofs.Lent.{free_is}
 use Rattle.dp_heap.proofs.Listing.{Header, header_of}
 use Rattle.dp_heap.proofs.Leave.{u_header, v_header, long1, left_laid, left_first, left_later}
@@ -42,39 +42,21 @@ write_link-requires-2 c =
       omega arith,
     )
 
-pub returns-then-before-clause-laid : goal.returns-then-before-clause-laid
-returns-then-before-clause-laid c =
-    let (laid, here) = c.requires.laid in let (off, listed, among) = c.requires.listed in
-    rw (c.write_link-2.ensures, c.write_link.ensures, c.load_u32-before.ensures, c.load_u32-next.ensures)
-    (left_laid c.args.region.now laid c.args.e.now here (free_is c.args.e.now c.requires.free) c.args.self.now.heads off listed among).0
-
-pub returns-then-before-clause-same : goal.returns-then-before-clause-same
-returns-then-before-clause-same c =
-    let (laid, here) = c.requires.laid in let (off, listed, among) = c.requires.listed in
-    rw (c.write_link-2.ensures, c.write_link.ensures, c.load_u32-before.ensures, c.load_u32-next.ensures)
-    (left_laid c.args.region.now laid c.args.e.now here (free_is c.args.e.now c.requires.free) c.args.self.now.heads off listed among).1
-
-pub returns-then-before-clause-off : goal.returns-then-before-clause-off
-returns-then-before-clause-off c off w none =
-    let (laid, here) = c.requires.laid in let is = sym c.load_u32-before.ensures ∙ c.if-before.true in
+pub returns-then-before : goal.returns-then-before
+returns-then-before c =
+    let (laid, here) = c.requires.laid in let (off, listed, among) = c.requires.listed in let free = free_is c.args.e.now c.requires.free in
+    let r = c.args.region.now in let e = c.args.e.now in let heads = c.args.self.now.heads in
+    let first = sym c.load_u32-before.ensures ∙ c.if-before.true in let left = left_laid r laid e here free heads off listed among in
     rw (c.write_link-2.ensures, c.write_link.ensures, c.load_u32-before.ensures, c.load_u32-next.ensures, c.class_of.ensures, c.from.ensures)
-    (left_first c.args.region.now laid c.args.e.now here (free_is c.args.e.now c.requires.free) c.args.self.now.heads off w none is)
+    (record { laid = left.0; home = refl; same = left.1; off = λ off w none. left_first r laid e here free heads off w none first })
 
-pub returns-else-before-clause-laid : goal.returns-else-before-clause-laid
-returns-else-before-clause-laid c =
-    let (laid, here) = c.requires.laid in let (off, listed, among) = c.requires.listed in
-    rw (c.write_link-2.ensures, c.write_link.ensures, c.load_u32-before.ensures, c.load_u32-next.ensures)
-    (left_laid c.args.region.now laid c.args.e.now here (free_is c.args.e.now c.requires.free) c.args.self.now.heads off listed among).0
-
-pub returns-else-before-clause-same : goal.returns-else-before-clause-same
-returns-else-before-clause-same c =
-    let (laid, here) = c.requires.laid in let (off, listed, among) = c.requires.listed in
-    rw (c.write_link-2.ensures, c.write_link.ensures, c.load_u32-before.ensures, c.load_u32-next.ensures)
-    (left_laid c.args.region.now laid c.args.e.now here (free_is c.args.e.now c.requires.free) c.args.self.now.heads off listed among).1
-
-pub returns-else-before-clause-off : goal.returns-else-before-clause-off
-returns-else-before-clause-off c off w none =
-    let (laid, here) = c.requires.laid in
-    rw (c.write_link-2.ensures, c.write_link.ensures, c.load_u32-before.ensures, c.load_u32-next.ensures)
-    (left_later c.args.region.now laid c.args.e.now here (free_is c.args.e.now c.requires.free) c.args.self.now.heads off w none
-    (λ is. c.if-before.false (c.load_u32-before.ensures ∙ is)))
+pub returns-else-before : goal.returns-else-before
+returns-else-before c =
+    let (laid, here) = c.requires.laid in let (off, listed, among) = c.requires.listed in let free = free_is c.args.e.now c.requires.free in
+    let r = c.args.region.now in let e = c.args.e.now in let heads = c.args.self.now.heads in let left = left_laid r laid e here free heads off listed among in
+    rw (c.write_link-2.ensures, c.write_link.ensures, c.load_u32-before.ensures, c.load_u32-next.ensures) (record {
+      laid = left.0;
+      home = refl;
+      same = left.1;
+      off = λ off w none. left_later r laid e here free heads off w none (λ is. c.if-before.false (c.load_u32-before.ensures ∙ is));
+    })
