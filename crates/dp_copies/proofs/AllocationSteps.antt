@@ -12,7 +12,7 @@ use Rattle.dp_model.specs.Copies.{copy_of}
 use Rattle.dp_model.specs.declared.instr.Instr.{Instr}
 use Rattle.dp_model.specs.Laws.References.{live_parts}
 use Rattle.dp_model.specs.Laws.Cases.{matched}
-use Rattle.dp_copies.proofs.States.{copied}
+use Rattle.dp_copies.proofs.States.{copied, same_lists}
 use Rattle.dp_copies.proofs.Unchanged.{Same, held_same, listed_same}
 use Rattle.dp_copies.proofs.Taking.{alloc_copy, cloned_copy, fresh_same}
 use Rattle.dp_copies.proofs.Moves.{Does, by, held_step, empty_step}
@@ -29,7 +29,7 @@ set_copies pools st p k c buffers answers same is =
     ∙ ap (λ xs. slice_set xs p (Some c)) (held_same pools old buffers st.packets (λ b one. same b (omega (arith, one, live_parts st b)))) in
     let rings = listed_same pools old buffers st.world.rings (λ b one. same b (omega (arith, one, live_parts st b))) in
     let outboxes = listed_same pools old buffers st.world.outboxes (λ b one. same b (omega (arith, one, live_parts st b))) in
-    λ i. record { packets = held i; numbers = st.numbers; jumps = st.jumps; rings = rings i; outboxes = outboxes i; to_answer = answers; cuts = st.world.cuts }
+    same_lists (copied pools (with_packet p k (with_buffers buffers st)) answers) held rings outboxes
 
 -- the instruction asks for a packet with this copy, for an empty register
 abbrev Asks : Setting → ℕ → State → Instr → ℕ → ℕ → Copy → Type 0

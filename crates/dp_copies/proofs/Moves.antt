@@ -1,5 +1,5 @@
 -- What the steps of the two machines share.
-use Rattle.std.proofs.Common.{◌≡◌, ℕ, Bool, false, List, ◌++◌, map, Option, Some, None, refl, ◌∙◌, ap, subst, true, cond, sym}
+use Rattle.std.proofs.Common.{◌≡◌, ℕ, Bool, false, List, ◌++◌, Option, Some, None, refl, ◌∙◌, ap, subst, true, cond, sym}
 use Rattle.std.specs.Prelude.{slice_set, option_map, option_and_then}
 use Rattle.std.proofs.lemmas.Option.{slice_get-map}
 use Rattle.std.specs.Option.{option_map_or}
@@ -10,7 +10,7 @@ use Rattle.dp_model.specs.Machine.{State, Holds, IsEmpty, Setting, Move}
 use Rattle.dp_model.specs.CopyMachine.{Copy, CopyMove, with_held, copy_put, copy_step, with_empty, is_gone}
 use Rattle.dp_model.specs.Copies.{copy_of}
 use Rattle.dp_model.specs.declared.instr.Instr.{Instr}
-use Rattle.dp_copies.proofs.States.{copied}
+use Rattle.dp_copies.proofs.States.{copied, same_lists}
 
 -- the move is that of the copies
 abbrev pub Does : Setting → ℕ → State → Instr → List Bool → Move → Type 0
@@ -45,13 +45,5 @@ pub put_copies : (pools : List PoolSpec) (st : State) (p : ℕ) (o : Option Pack
     copied pools (record st { packets = slice_set st.packets p o }) answers ≡ copy_put p (option_map (copy_of pools st.world.buffers) o)
     (copied pools st answers)
 put_copies pools st p o answers =
-    let e = map-set (option_map (copy_of pools st.world.buffers)) st.packets p o in
-    λ i. record {
-      packets = e i;
-      numbers = st.numbers;
-      jumps = st.jumps;
-      rings = map (map (copy_of pools st.world.buffers)) st.world.rings;
-      outboxes = map (map (copy_of pools st.world.buffers)) st.world.outboxes;
-      to_answer = answers;
-      cuts = st.world.cuts;
-    }
+    same_lists (copied pools (record st { packets = slice_set st.packets p o }) answers) (map-set (option_map (copy_of pools st.world.buffers)) st.packets p o)
+    refl refl

@@ -15,7 +15,7 @@ use Rattle.dp_model.specs.Laws.Lists.{all_left}
 use Rattle.dp_model.specs.Laws.Within.{all_held}
 use Rattle.dp_model.specs.Laws.Stored.{bytes_other, bytes_same, range_overwritten}
 use Rattle.dp_model.specs.Laws.StepsWithin.{length_big_endian}
-use Rattle.dp_copies.proofs.States.{copied}
+use Rattle.dp_copies.proofs.States.{copied, same_lists}
 use Rattle.dp_copies.proofs.Unchanged.{Same, copy_same, listed_same}
 use Rattle.dp_copies.proofs.Lists.{map_one}
 use Rattle.dp_copies.proofs.Lengths.{there}
@@ -69,17 +69,7 @@ store_copies pools st p (s ∷ rest) off w n answers holds some short sole well 
     (λ b. omega (arith, mine b, live_parts st b, refs_held st.packets p (Some k) b holds))) in
     let outboxes = listed_same pools old new st.world.outboxes (others (segments_listed st.world.outboxes)
     (λ b. omega (arith, mine b, live_parts st b, refs_held st.packets p (Some k) b holds))) in
-    λ i.
-    record {
-      packets = packets i;
-      numbers = st.numbers;
-      jumps = st.jumps;
-      rings = rings i;
-      outboxes = outboxes i;
-      to_answer = answers;
-      cuts =
-          st.world.cuts;
-    }
+    same_lists (copied pools (with_buffers new st) answers) packets rings outboxes
   where
     other_register : (i : ℕ) (u : Option Packet) → i ≢ p → slice_get st.packets i ≡ Some u →
         ((j : Packet) → ((b : Number) → one_if (same_number s.buffer b) ≤ refs (s ∷ rest) b → one_if (same_number s.buffer b) + refs j b ≤ refs (live st) b) →

@@ -10,7 +10,7 @@ use Rattle.dp_model.specs.Starts.{IsStart}
 use Rattle.dp_model.specs.CopyMachine.{Captures}
 use Rattle.dp_model.specs.Laws.Stored.{write_changes}
 use Rattle.dp_copies.specs.TwoClones.{one_port, setting, program, nodes, arrivals, before, answers, captures}
-use Rattle.dp_copies.proofs.TwoClonesStates.{number, whole, filled, m11}
+use Rattle.dp_copies.proofs.TwoClonesStates.{alone, number, filled, m11}
 use Rattle.dp_copies.proofs.TwoClonesSteps.{steps}
 
 -- the record is received, and the program runs on it
@@ -21,7 +21,7 @@ receives = record {
     given = refl;
     numbers = number 2 ∷ [];
     buffers = filled;
-    fresh = record { count = refl; distinct = (tt, tt); each = (record { of_pool = refl; exists = omega arith; free = refl }, tt) };
+    fresh = alone (record { of_pool = refl; exists = omega arith; free = refl });
     filled = record { spells = refl; others = write_changes before.buffers (number 2) 128 (7 ∷ 8 ∷ []) (omega arith) (omega arith, (omega arith, tt)) };
   };
   later = true ∷ true ∷ true ∷ [];

@@ -1,9 +1,11 @@
 -- The states of the run by hand, each as the step before makes it.
-use Rattle.std.proofs.Common.{ℕ, ◌+◌, [], ◌∷◌, ◌++◌}
+use Rattle.std.proofs.Common.{ℕ, ◌+◌, List, [], ◌∷◌, ◌++◌, refl}
 use Rattle.std.specs.Prelude.{slice_set}
+use Rattle.dp_model.specs.declared.env.PoolSpec.{PoolSpec}
 use Rattle.dp_model.specs.declared.queue.Queue.TheVariants.{Tx}
 use Rattle.dp_model.specs.Buffers.{Number, Buffers, written}
-use Rattle.dp_model.specs.Packets.{Packet, received, allocated, cloned, at_front, at_end, less_before, more_after, zeroed_after, stored}
+use Rattle.dp_model.specs.Packets.{Segment, Packet, IsFresh, AreFresh, received, allocated, cloned, at_front, at_end, less_before, more_after, zeroed_after}
+use Rattle.dp_model.specs.Packets.{stored}
 use Rattle.dp_model.specs.Machine.{State, Move, Ended, with_step, goes_on, moves_to, is_given, with_packet, without_packet, with_buffers, with_queue}
 use Rattle.dp_model.specs.Runs.{first_state}
 use Rattle.dp_copies.specs.TwoClones.{one_port, before}
@@ -11,6 +13,10 @@ use Rattle.dp_copies.specs.TwoClones.{one_port, before}
 -- the buffers that were taken, in this order
 abbrev pub number : ℕ → Number
 number index = record { pool = 0; index = index }
+
+-- one buffer is asked for
+pub alone : {pools : List PoolSpec} {live : List Segment} {n : Number} → IsFresh pools live 0 n → AreFresh pools live 0 1 (n ∷ [])
+alone fresh = record { count = refl; distinct = (tt, tt); each = (fresh, tt) }
 
 -- ---- packets
 

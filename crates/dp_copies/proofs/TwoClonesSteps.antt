@@ -5,7 +5,8 @@ use Rattle.dp_model.specs.declared.registers.Width.TheVariants.{One}
 use Rattle.dp_model.specs.Machine.{Ended, Step}
 use Rattle.dp_model.specs.Runs.{StepsTo}
 use Rattle.dp_copies.specs.TwoClones.{setting, program}
-use Rattle.dp_copies.proofs.TwoClonesStates.{number, whole, cut, clone, joined, fresh, longer, filled, s0, m0, m1, m2, m3, m4, m5, m6, m7, m8, m9, m10, m11}
+use Rattle.dp_copies.proofs.TwoClonesStates.{alone, number, whole, cut, clone, joined, fresh, longer, filled, s0, m0, m1, m2, m3, m4, m5, m6, m7, m8, m9, m10}
+use Rattle.dp_copies.proofs.TwoClonesStates.{m11}
 
 exits : Step setting program 11 m10.state m11
 exits = record {
@@ -71,11 +72,7 @@ clones_other = record {
     omega arith,
     (
       number 0 ∷ [],
-      record {
-        count = refl;
-        distinct = (tt, tt);
-        each = (record { of_pool = refl; exists = omega arith; free = refl }, tt);
-      },
+      alone (record { of_pool = refl; exists = omega arith; free = refl }),
       refl,
     ),
   );
@@ -95,11 +92,7 @@ clones = record {
     omega arith,
     (
       number 3 ∷ [],
-      record {
-        count = refl;
-        distinct = (tt, tt);
-        each = (record { of_pool = refl; exists = omega arith; free = refl }, tt);
-      },
+      alone (record { of_pool = refl; exists = omega arith; free = refl }),
       refl,
     ),
   );
@@ -121,11 +114,7 @@ allocates = record {
     (
       number 1 ∷ [],
       filled,
-      record {
-        count = refl;
-        distinct = (tt, tt);
-        each = (record { of_pool = refl; exists = omega arith; free = refl }, tt);
-      },
+      alone (record { of_pool = refl; exists = omega arith; free = refl }),
       record { others = λ b other. refl; lengths = λ b. refl; bytes = λ are. are },
       refl,
     ),

@@ -12,7 +12,7 @@ use Rattle.dp_model.specs.Copies.{copy_of}
 use Rattle.dp_model.specs.Laws.Cases.{one_if}
 use Rattle.dp_model.specs.Laws.References.{refs_held, refs_two, live_parts}
 use Rattle.dp_model.specs.Laws.Stored.{same_is}
-use Rattle.dp_copies.proofs.States.{copied}
+use Rattle.dp_copies.proofs.States.{copied, same_lists}
 use Rattle.dp_copies.proofs.Unchanged.{Same, copy_same, listed_same}
 use Rattle.dp_copies.proofs.Lists.{set_one}
 use Rattle.dp_copies.proofs.Lengths.{there}
@@ -51,17 +51,7 @@ wrote pools st p k k' n new c answers holds changes sole one is =
     (λ b. omega (arith, live_parts st b, refs_held st.packets p (Some k) b holds))) in
     let outboxes = listed_same pools old new st.world.outboxes (others (segments_listed st.world.outboxes)
     (λ b. omega (arith, live_parts st b, refs_held st.packets p (Some k) b holds))) in
-    λ i.
-    record {
-      packets = packets i;
-      numbers = st.numbers;
-      jumps = st.jumps;
-      rings = rings i;
-      outboxes = outboxes i;
-      to_answer = answers;
-      cuts =
-          st.world.cuts;
-    }
+    same_lists (copied pools (with_packet p k' (with_buffers new st)) answers) packets rings outboxes
   where
     other_register : ((segments : List Segment) → ((b : Number) → refs k b + refs segments b ≤ refs (live st) b) → Same pools st.world.buffers new segments) →
         (i : ℕ) (u : Option Packet) → i ≢ p → slice_get st.packets i ≡ Some u → option_map (copy_of pools new) u
