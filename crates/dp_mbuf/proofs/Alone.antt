@@ -53,16 +53,26 @@ module _ (ps : List PoolView) (v : Store) (h : ℕ) (e : shown ps ≡ v) (sound 
   one_there k has =
       let q = first_part k has (opened ps v h k e sound has).stands.some in (q.buffer, q.fits, q.small)
 
+  -- it lies in its own object
+  pub own_there : (k : Packet) → Has v h k → OneObject first_header (numbered h)
+      → (first_header.offset + first_header.len ≤ room_at (specs_of ps) (numbered h).pool) × (first_header.len ≤ 4096)
+  own_there k has (one, counted, own) =
+      let (object, fits, small) = one_there k has in
+      let room = ap (λ (b : Number). room_at (specs_of ps) b.pool) (same_is first_header.buffer (numbered h) own) in
+      (omega (arith, fits, room), small)
+
   -- its bytes
   pub one_bytes : (k : Packet) (bytes : List ℕ) → Has v h k → OneObject first_header (numbered h)
-      → bytes ≡ slice_range (bytes_of (buffers_of ps) first_header.buffer) first_header.offset (first_header.offset + first_header.len)
+      → bytes ≡ slice_range (bytes_of (buffers_of ps) (numbered h)) first_header.offset (first_header.offset + first_header.len)
       → bytes ≡ packet_bytes v.buffers k
   one_bytes [] bytes has (one, counted, own) is = absurd (omega (arith, one, (many_of ps v h e sound [] has).0))
   one_bytes (s ∷ []) bytes has (one, counted, own) is =
       let q = first_part (s ∷ []) has (omega arith) in
       let seg : q.seg ≡ s = cc q.is in
       is
-      ∙ (ap (λ (t : Segment). segment_bytes (buffers_of ps) t) (q.segment ∙ seg)
+      ∙ (ap (λ (b : Number). slice_range (bytes_of (buffers_of ps) b) first_header.offset (first_header.offset + first_header.len))
+      (sym (same_is first_header.buffer (numbered h) own))
+      ∙ ap (λ (t : Segment). segment_bytes (buffers_of ps) t) (q.segment ∙ seg)
       ∙ (ap (λ w. segment_bytes w.buffers s) e ∙ sym (append-nil (segment_bytes v.buffers s))))
   one_bytes (s ∷ t ∷ rest) bytes has (one, counted, own) is =
       absurd (omega (arith, one, (many_of ps v h e sound (s ∷ t ∷ rest) has).0))

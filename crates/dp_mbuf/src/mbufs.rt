@@ -126,16 +126,16 @@ fn is_alone(header: Header, n: MbufNumber) -> bool
     header.refs == 1 && header.segs == 1 && header.buffer.is(n)
 }
 
-// The bytes of a header's segment.
+// The bytes of a header's segment, whose buffer is `b`.
 #[inline(always)]
-fn bytes_in_segment(objects: &Objects, header: Header) -> &[u8]
-    requires object { HasObject objects.now header.buffer }
-    requires fits { header.offset + header.len ≤ room_at (specs_of objects.now) header.buffer.pool }
-    ensures value { result.now ≡ slice_range (bytes_of (buffers_of objects.now) header.buffer) header.offset (header.offset + header.len) }
+fn bytes_in_segment(objects: &Objects, b: MbufNumber, header: Header) -> &[u8]
+    requires object { HasObject objects.now b }
+    requires fits { header.offset + header.len ≤ room_at (specs_of objects.now) b.pool }
+    ensures value { result.now ≡ slice_range (bytes_of (buffers_of objects.now) b) header.offset (header.offset + header.len) }
     ensures many { length result.now ≡ header.len }
 {
     let from = usize::from(header.offset);
-    &objects.bytes(header.buffer)[from..from + usize::from(header.len)]
+    &objects.bytes(b)[from..from + usize::from(header.len)]
 }
 
 // The big-endian number at offset `from + more` of the data room of buffer `b`.
@@ -354,7 +354,8 @@ impl Mbufs {
         let first = first_number(packet);
         if is_alone(self.objects.header(first), first) {
             let segment = self.objects.header(first);
-            Some(bytes_in_segment(&self.objects, segment))
+            // Its buffer is its own object, which is at hand.
+            Some(bytes_in_segment(&self.objects, first, segment))
         } else {
             None
         }
@@ -538,7 +539,8 @@ impl Mbufs {
         let segment = self
             .objects
             .header(mbuf_at(&self.objects, first_number(packet), k));
-        bytes_in_segment(&self.objects, segment)
+        let buffer = segment.buffer;
+        bytes_in_segment(&self.objects, buffer, segment)
     }
 
     /// Whether the buffer of each segment has one reference.
