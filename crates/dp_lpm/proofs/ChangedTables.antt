@@ -1,5 +1,5 @@
 -- One of several tables changes.
-use Rattle.std.proofs.Common.{◌≡◌, ℕ, zero, suc, ◌<◌, List, [], ◌∷◌, length, map, Option, Some, None, refl, sym, ◌∙◌, ap, subst, arith}
+use Rattle.std.proofs.Common.{◌≡◌, ℕ, zero, suc, ◌<◌, List, [], ◌∷◌, length, map, Some, refl, sym, ◌∙◌, ap, subst, arith}
 use Rattle.std.specs.Prelude.{Result, Ok, Err, OnOk, IfErr, slice_get, slice_set, slice_index_or}
 use Rattle.std.specs.List.{AllByRecursion, refill}
 use Rattle.std.proofs.lemmas.Option.{get_or_from_slice_get}
@@ -68,20 +68,32 @@ module _ (items read : List RuledTable) (tables : List RouteTable) (k at : ℕ) 
   written_is : written ≡ slice_set tables k (shown new)
   written_is = ap (map shown) filled ∙ (map-set shown items k new ∙ ap (λ l. slice_set l k (shown new)) view)
 
-  pub changed : {A : Type 0} (result : Result A LpmError) (P : RouteTable → RouteTable → Type 0) → OnOk result (P (shown old) (shown new))
+  changed : {A : Type 0} (result : Result A LpmError) (P : RouteTable → RouteTable → Type 0) → OnOk result (P (shown old) (shown new))
       → OnOk result (ChangesTable k tables written P)
   changed result P = on_ok_map result
       (λ changes. record { was = shown old; there = shown_there; now = shown new; changes = changes; new_is = written_is })
 
-  pub refused : {A : Type 0} (result : Result A LpmError) (P : RouteTable → LpmError → Type 0)
+  refused : {A : Type 0} (result : Result A LpmError) (P : RouteTable → LpmError → Type 0)
       → IfErr result (λ e. P (shown old) e × (new ≡ old)) → IfErr result (λ e. HasTable k tables (λ t. P t e) × (written ≡ tables))
   refused result P = if_err_map result (λ e (is, same). (
     record { table = shown old; there = shown_there; is = is },
     written_is ∙ (ap (λ (t : RuledTable). slice_set tables k (shown t)) same ∙ set_itself tables k (shown old) shown_there),
   ))
 
-  pub low : AllByRecursion IsKept items → IsKept new → AllByRecursion HasSmallHops written
+  low : AllByRecursion IsKept items → IsKept new → AllByRecursion HasSmallHops written
   low all kept = subst (λ l. AllByRecursion HasSmallHops (map shown l)) (sym filled) (small_hops (slice_set items k new) (all_set IsKept items k new kept all))
 
-  pub many : length written ≡ length tables
-  many = ap length written_is ∙ long_set tables k (shown new)
+  -- what a call of the table, of which this is known, does to the tables
+  pub called : {A : Type 0} (result : Result A LpmError) (P : RouteTable → RouteTable → Type 0) (Q : RouteTable → LpmError → Type 0)
+      → OnOk result (P (shown old) (shown new)) → IfErr result (λ e. Q (shown old) e × (new ≡ old)) → AllByRecursion IsKept items → IsKept new → record {
+        ok : OnOk result (ChangesTable k tables written P);
+        err : IfErr result (λ e. HasTable k tables (λ t. Q t e) × (written ≡ tables));
+        hops : AllByRecursion HasSmallHops written;
+        many : length written ≡ length tables;
+      }
+  called result P Q ok err all kept = record {
+    ok = changed result P ok;
+    err = refused result Q err;
+    hops = low all kept;
+    many = ap length written_is ∙ long_set tables k (shown new);
+  }
