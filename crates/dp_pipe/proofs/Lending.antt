@@ -1,5 +1,5 @@
 -- A record that was read, and the turn with its bytes.
-use Rattle.std.proofs.Common.{◌≡◌, ◌≤◌, ℕ, Bool, true, false, List, length, take, drop, Option, sym, ap, ◌∙◌, subst, arith, length-drop}
+use Rattle.std.proofs.Common.{◌≡◌, ◌≤◌, ℕ, Bool, true, false, List, length, take, drop, Option, sym, ◌∙◌, subst, arith, length-drop}
 use Rattle.std.proofs.Common.{length-take-le, take_all}
 use Rattle.std.specs.Prelude.{Ok, Result}
 use Rattle.dp_pcap.specs.declared.time.Time.{Time}
@@ -39,29 +39,10 @@ has_room s answer time len room is within large =
     let (nano, short, few) = subst (IsInRange s) is within in omega (arith, short, large)
 
 -- from the buffer into which it was read
-pub copied : {V : Type 0} {sees : V → Event → V → Type 0} {v v' : V} {port : ℕ} {e e' : EngineState} (s : SourceState)
-    {s1 s' : SourceState} (a : Option (List ℕ)) {b1 b : Option (List ℕ)} {buf1 buf bytes : List ℕ}
-    {x : Time × ℕ × Bool} {time : Time} {len : ℕ} {answer : Result Next PcapError} → answer ≡ Ok (Record time len) → s' ≡ s1 → b ≡ b1 → buf ≡ buf1
-    → x ≡ (time, len, false) → WhereKnown a b1 (λ left rest. Continues s s1 left rest buf1 answer) → len ≤ length buf1 → bytes ≡ take x.1 buf
-    → HasTurn port e e' bytes → TracesAt sees v v' port time e e' bytes
-    → ShowsNext sees v v' port e e' s s' a b (Ok (Record x.0 x.1))
-copied {sees = sees} {v = v} {v' = v'} {port = port} {e = e} {e' = e'} s a {buf1 = buf1} {buf = buf} {bytes = bytes} {time = time} {len = len} is p q r t
-    more fits those took shown =
-    let used : bytes ≡ take len buf1 = those ∙ ap (λ (y : Time × ℕ × Bool). take y.1 buf) t ∙ ap (take len) r in
-    let (turn, bytes_are) = subst (TracesAt sees v v' port time e e') used shown in
-    rw (p, q, t) ((buf1, rw is at more, (fits, subst (HasTurn port e e') used took)), (fits, turn, bytes_are))
-
--- what was found is what is used
-pub found : {s s' : SourceState} {held held' : List ℕ} {x : Time × ℕ × Bool} {time : Time} {len : ℕ} → s' ≡ s → held' ≡ held → x ≡ (time, len, true) →
-    IsHeld s held time len → IsHeld s' held' x.0 x.1
-found a b c is = rw (a, b, c) is
-
--- the source and the reader are still where the record was found
-pub read_from : {V : Type 0} (sees : V → Event → V → Type 0) (v v' : V) (port : ℕ) (e e' : EngineState) {s0 s : SourceState}
-    (s' : SourceState) {a0 a : Option (List ℕ)} (b : Option (List ℕ))
-    (answer : Result Next PcapError) → s ≡ s0 → a ≡ a0 →
-    ShowsNext sees v v' port e e' s s' a b answer → ShowsNext sees v v' port e e' s0 s' a0 b answer
-read_from sees v v' port e e' s' b answer p q reads = rw (← p, ← q) reads
+pub copied : {V : Type 0} (sees : V → Event → V → Type 0) (v v' : V) (port : ℕ) (e e' : EngineState) (s s' : SourceState) (a b : Option (List ℕ))
+    (buf : List ℕ) (time : Time) (len : ℕ) → WhereKnown a b (λ left rest. Continues s s' left rest buf (Ok (Record time len))) → len ≤ length buf
+    → HasTurn port e e' (take len buf) → TracesAt sees v v' port time e e' (take len buf) → ShowsNext sees v v' port e e' s s' a b (Ok (Record time len))
+copied sees v v' port e e' s s' a b buf time len more fits took (turn, bytes_are) = ((buf, more, (fits, took)), (fits, turn, bytes_are))
 
 -- a record is buffered or was copied
 pub not_both : (b : Bool) → b ≡ false → b ≡ true → ⊥

@@ -1,21 +1,24 @@
 -- Rounds of a run: each input is read in its turn.
-use Rattle.std.proofs.Common.{suc, ◌≡◌, ℕ, ◌+◌, ◌<◌, ◌≤◌, true, List, [], ◌∷◌, length, map, Some, Result, Ok, Err, refl}
+use Rattle.std.proofs.Common.{zero, suc, ◌≡◌, ◌≢◌, ℕ, ◌+◌, ◌<◌, ◌≤◌, true, List, [], ◌∷◌, length, map, Some, Result, Ok, Err, refl}
 use Rattle.std.proofs.Common.{sym, ◌∙◌, ap, subst, arith, ◌⊎◌, inl, inr}
 use Rattle.std.specs.Prelude.{slice_get, slice_set, ⊤}
 use Rattle.std.proofs.lemmas.Bool.{le-ltb}
 use Rattle.std.proofs.lemmas.List.{length-map, map-set}
-use Rattle.std.proofs.lemmas.Option.{slice_get_within}
-use Rattle.dp_model.specs.Laws.Lists.{get_within, set_itself, map_get}
+use Rattle.std.proofs.lemmas.Option.{same_Some, slice_get_within}
+use Rattle.dp_model.specs.Laws.Lists.{get_set_other, get_set_same, get_within, set_itself, map_get}
 use Rattle.dp_pcap.specs.declared.time.Unit.{Unit as TimeUnit}
 use Rattle.dp_engine.specs.declared.report.InputState.{InputState}
 use Rattle.dp_engine.specs.declared.report.InputState.TheVariants.{Open, Whole, Cut}
 use Rattle.dp_engine.specs.Engines.{EngineState}
 use Rattle.dp_pipe.specs.declared.forwarding.InputProgress.{InputProgress}
 use Rattle.dp_pipe.specs.Devices.{Device, Transfer, transfer}
+use Rattle.dp_pipe.specs.declared.forwarding.OpenInputs.{OpenInputs}
+use Rattle.dp_pipe.specs.declared.forwarding.OpenInputs.TheVariants.{Zero, One, Several}
 use Rattle.dp_pipe.specs.declared.forwarding.RunCause.{RunCause}
-use Rattle.dp_pipe.specs.Forwarding.{Input, IsProgressOf, RunUntil, AskedUntil, Advances, StopsRun, AreRounds, NoneIsOpen, AreOver}
+use Rattle.dp_pipe.specs.Forwarding.{Input, IsProgressOf, RunUntil, AskedUntil, Advances, StopsRun, AreRounds, NoneIsOpen, OnlyIsOpen, AreOver}
 use Rattle.dp_pipe.proofs.Advancing.{order_ended, order_round}
 use Rattle.dp_pipe.proofs.Stepping.{input_at, open_going}
+use Rattle.dp_pipe.proofs.Forwarded.{split}
 use Rattle.dp_pipe.proofs.GoingOn.{goes_on, many_least}
 use Rattle.dp_pipe.proofs.Stopping.{stops_at, states_same, are_read}
 
@@ -77,6 +80,56 @@ module _ {unit : TimeUnit} {e0 e : EngineState} {t : Transfer} {progress : List 
   -- after all ports the next round begins
   pub round_over : length progress ≤ port → RunUntil unit e0 e t progress inputs (round + 1) 0
   round_over most = comes_to (round + 1) 0 (order_round inputs round port (omega (arith, along.progress_is.many, most)) along.order)
+
+-- every input from one port up to another has ended
+abbrev pub AreClosed : ℕ → ℕ → List InputProgress → Type 0
+AreClosed port to progress = (q : ℕ) (p : InputProgress) → port ≤ q → q < to → slice_get progress q ≡ Some p → p.state ≡ Open → ⊥
+
+-- which of the first n inputs have not ended
+abbrev pub AreOpenBelow : ℕ → OpenInputs → List InputProgress → Type 0
+AreOpenBelow n Zero progress = AreClosed 0 n progress
+AreOpenBelow n (One port) progress =
+    (port < length progress) × ((q : ℕ) (p : InputProgress) → q < n → slice_get progress q ≡ Some p → p.state ≡ Open → q ≡ port)
+AreOpenBelow n Several progress = ⊤
+
+-- inputs that have ended are skipped
+pub all_over : {unit : TimeUnit} {e0 e : EngineState} {t : Transfer} {progress : List InputProgress} {inputs : List Input} {round : ℕ} (n port to : ℕ)
+    → to ≡ port + n → to ≤ length progress → AreClosed port to progress → RunUntil unit e0 e t progress inputs round port →
+    RunUntil unit e0 e t progress inputs round to
+all_over zero port to is most closed along = let same : to ≡ port = omega (arith, is) in rw same along
+all_over {progress = progress} (suc n) port to is most closed along =
+    let (p, here) = get_within progress port (omega (arith, is, most)) in
+    all_over n (port + 1) to (omega (arith, is)) most (λ q x from below at. closed q x (omega (arith, from)) below at)
+    (over_on along here (closed port p (omega arith) (omega (arith, is)) here))
+
+-- where only one input is open, those before it and after it have ended
+pub before_alone : (progress : List InputProgress) (port : ℕ) → OnlyIsOpen port progress → AreClosed 0 port progress
+before_alone progress port alone q p from below at open_p = let same = alone q p at open_p in omega (arith, below, same)
+
+pub after_alone : (progress : List InputProgress) (port to : ℕ) → OnlyIsOpen port progress → AreClosed (port + 1) to progress
+after_alone progress port to alone q p from below at open_p = let same = alone q p at open_p in omega (arith, from, same)
+
+-- the input may change
+pub still_alone : (progress : List InputProgress) (port : ℕ) (p' : InputProgress) → OnlyIsOpen port progress → OnlyIsOpen port (slice_set progress port p')
+still_alone progress port p' alone q p at open_p = go (split q port)
+  where
+    go : (q ≡ port) ⊎ (q ≢ port) → q ≡ port
+    go (inl same) = same
+    go (inr other) = alone q p (sym (get_set_other progress port q p' other) ∙ at) open_p
+
+-- once it has ended, none is open
+pub none_alone : (progress : List InputProgress) (port : ℕ) (p p' : InputProgress) → slice_get progress port ≡ Some p → OnlyIsOpen port progress
+    → (p'.state ≡ Open → ⊥) → NoneIsOpen (slice_set progress port p')
+none_alone progress port p p' here alone closed q x at open_x =
+    let same = still_alone progress port p' alone q x at open_x in
+    let is : x ≡ p' = same_Some x p' (sym (rw same at at) ∙ get_set_same progress port p' p here) in
+    closed (rw is at open_x)
+
+-- how far it is from a number to one that is not below it
+pub gap : (a b : ℕ) → a ≤ b → (n : ℕ) × (b ≡ a + n)
+gap zero b le = (b, omega arith)
+gap (suc a) zero le = absurd (omega (arith, le))
+gap (suc a) (suc b) le = let (n, is) = gap a b (omega (arith, le)) in (n, omega (arith, is))
 
 -- A round has reached the input `p` of a port and its reader `r`.
 pub record Comes {R W : Type 0} (remaining : R → Device) (contents : W → Device) (unit : TimeUnit) (e0 e : EngineState)
@@ -153,6 +206,19 @@ module _ {R W : Type 0} {remaining : R → Device} {contents : W → Device} {un
           rw (map-set remaining ins port r') (stops_at c.along (length-map outs contents ∙ c.many) p' c.input open_p (remaining r')
           (map_get remaining ins port r c.reader) cause (answers (Err cause) err open_p))
       go (inr closed) = let bad : Err cause ≡ Ok tt = sym err ∙ (over closed).0 in cc
+
+-- a round in which only one input is open: it comes to that input, and ends after it
+pub comes_alone : {unit : TimeUnit} {e0 e : EngineState} {t : Transfer} {progress : List InputProgress} {inputs : List Input} {round : ℕ} (port : ℕ)
+    → port ≤ length progress → OnlyIsOpen port progress → RunUntil unit e0 e t progress inputs round 0 → RunUntil unit e0 e t progress inputs round port
+comes_alone {progress = progress} port there alone along =
+    all_over port 0 port (omega arith) there (before_alone progress port alone) along
+
+pub ends_alone : {unit : TimeUnit} {e0 e : EngineState} {t : Transfer} {progress : List InputProgress} {inputs : List Input} {round : ℕ} (port : ℕ)
+    → port < length progress → OnlyIsOpen port progress → RunUntil unit e0 e t progress inputs round (port + 1)
+    → RunUntil unit e0 e t progress inputs (round + 1) 0
+ends_alone {progress = progress} port there alone along =
+    let (n, is) = gap (port + 1) (length progress) (omega (arith, there)) in
+    round_over (all_over n (port + 1) (length progress) is (omega arith) (after_alone progress port (length progress) alone) along) (omega arith)
 
 all_closed : (progress : List InputProgress) (inputs : List Input) → length progress ≡ length inputs →
     ((q : ℕ) (p : InputProgress) (j : Input) → slice_get progress q ≡ Some p → slice_get inputs q ≡ Some j → p.state ≡ j.state) → NoneIsOpen progress

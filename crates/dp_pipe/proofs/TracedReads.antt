@@ -168,7 +168,7 @@ module _ {V : Type 0} {sees : V → Event → V → Type 0} {noted : V → Note 
   count_now of open_p some = wanted round port (length i.records) i.state (i_open open_p) ((order_now some port i i_here).0 of)
 
   -- it is not asked
-  skipped : IsNotAsked only port p need → TracesUntil sees noted v0 v only most e0 e had left progress round (port + 1) need
+  pub skipped : IsNotAsked only port p need → TracesUntil sees noted v0 v only most e0 e had left progress round (port + 1) need
   skipped why = go why until.now
     where
       of_input : (p.state ≢ Open) ⊎ (IsTraced only port → ⊥) → (i.state ≢ Open) ⊎ (IsTraced only port → ⊥)

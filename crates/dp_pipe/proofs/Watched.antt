@@ -1,5 +1,5 @@
 -- What a watcher is shown of a run, turn by turn: the same as a tracer to which nothing is reported between turns.
-use Rattle.std.proofs.Common.{◌≡◌, ℕ, ◌+◌, ◌≤◌, List, length, map, None, Some, Result, Ok, Err, refl, sym, ◌∙◌, ap, subst, arith, ◌⊎◌, inl, inr}
+use Rattle.std.proofs.Common.{zero, suc, ◌≡◌, ℕ, ◌+◌, ◌<◌, ◌≤◌, List, length, map, None, Some, Result, Ok, Err, refl, sym, ◌∙◌, ap, subst, arith, ◌⊎◌, inl, inr}
 use Rattle.std.specs.Prelude.{slice_get, slice_set, ⊤}
 use Rattle.std.specs.List.{AllByRecursion}
 use Rattle.std.proofs.lemmas.Option.{slice_get_within}
@@ -20,14 +20,14 @@ use Rattle.dp_pipe.specs.declared.forwarding.InputProgress.{InputProgress}
 use Rattle.dp_pipe.specs.declared.forwarding.RunCause.{RunCause}
 use Rattle.dp_pipe.specs.declared.forwarding.RunCause.TheVariants.{Memory, NoRoom, In, Out}
 use Rattle.dp_pipe.specs.Devices.{Device}
-use Rattle.dp_pipe.specs.Forwarding.{AreProgressOf, DrainedAll, DrainsStopped, Follows, NoneIsOpen, TurnsOn, arrivals_of, first_emptied}
+use Rattle.dp_pipe.specs.Forwarding.{AreProgressOf, DrainedAll, DrainsStopped, Follows, NoneIsOpen, OnlyIsOpen, TurnsOn, arrivals_of, first_emptied}
 use Rattle.dp_pipe.specs.Running.{IsBegun, IsHeaderCause, IsWriteCause, all_begun}
-use Rattle.dp_pipe.specs.Tracing.{Traces, TracesInput, TracesRecords, TracesStep, TracesUntil}
+use Rattle.dp_pipe.specs.Tracing.{Traces, TracesInput, TracesRecords, TracesUntil}
 use Rattle.dp_pipe.specs.Watched.{unnoted, DiffersInLists, ShowsInput, ShowsTurns, ShowsUntil}
 use Rattle.dp_pipe.proofs.Forwarded.{emptied_all}
-use Rattle.dp_pipe.proofs.Rounding.{decide}
+use Rattle.dp_pipe.proofs.Rounding.{AreClosed, after_alone, before_alone, decide, gap}
 use Rattle.dp_pipe.proofs.Stopping.{are_read}
-use Rattle.dp_pipe.proofs.TracedReads.{header_fault, round_over, step_on, step_stops, until_none}
+use Rattle.dp_pipe.proofs.TracedReads.{header_fault, round_over, skipped, step_on, step_stops, until_none}
 
 -- ---- engines
 
@@ -300,6 +300,21 @@ module _ {V R : Type 0} {sees : V → Event → V → Type 0} {v0 v v' : V} {por
 
 -- ---- rounds
 
+-- inputs that have ended are skipped
+pub shown_over : {V : Type 0} {sees : V → Event → V → Type 0} {v0 v : V} {e0 e : EngineState} {had left : List Device} {progress : List InputProgress}
+    {round : ℕ} (n port to : ℕ) → to ≡ port + n → to ≤ length progress → length left ≡ length progress → AreClosed port to progress
+    → ShowsUntil sees v0 v e0 e had left progress round port → ShowsUntil sees v0 v e0 e had left progress round to
+shown_over zero port to is most many closed until = let same : to ≡ port = omega (arith, is) in rw same until
+shown_over {left = left} {progress = progress} (suc n) port to is most many closed (most', more, some, was) =
+    let (p, here) = get_within progress port (omega (arith, is, most)) in
+    let (d, device) = get_within left port (omega (arith, is, most, many)) in
+    shown_over n (port + 1) to (omega (arith, is)) most many (λ q x from below at. closed q x (omega (arith, from)) below at) (
+      most',
+      more,
+      some,
+      skipped was here device (inr (inl (closed port p (omega arith) (omega (arith, is)) here))),
+    )
+
 module _ {V : Type 0} {sees : V → Event → V → Type 0} {v0 v : V} {e0 e : EngineState} {had left : List Device} {progress : List InputProgress}
     {round port : ℕ} (until : ShowsUntil sees v0 v e0 e had left progress round port) where
   -- after all ports the next round begins
@@ -316,6 +331,20 @@ module _ {V : Type 0} {sees : V → Event → V → Type 0} {v0 v : V} {e0 e : E
             let (p, here) = get_within progress q (omega (arith, slice_get_within was.inputs q i at, was.progress_is.many)) in
             none q p here ((was.progress_is.each q p i here at).state ∙ open_i),
       )
+
+-- a round in which only one input is open
+pub shown_comes : {V : Type 0} {sees : V → Event → V → Type 0} {v0 v : V} {e0 e : EngineState} {had left : List Device} {progress : List InputProgress}
+    {round : ℕ} (port : ℕ) → port ≤ length progress → length left ≡ length progress → OnlyIsOpen port progress
+    → ShowsUntil sees v0 v e0 e had left progress round 0 → ShowsUntil sees v0 v e0 e had left progress round port
+shown_comes {progress = progress} port there many alone until =
+    shown_over port 0 port (omega arith) there many (before_alone progress port alone) until
+
+pub shown_ends : {V : Type 0} {sees : V → Event → V → Type 0} {v0 v : V} {e0 e : EngineState} {had left : List Device} {progress : List InputProgress}
+    {round : ℕ} (port : ℕ) → port < length progress → length left ≡ length progress → OnlyIsOpen port progress
+    → ShowsUntil sees v0 v e0 e had left progress round (port + 1) → ShowsUntil sees v0 v e0 e had left progress (round + 1) 0
+shown_ends {progress = progress} port there many alone until =
+    let (n, is) = gap (port + 1) (length progress) (omega (arith, there)) in
+    shown_round (shown_over n (port + 1) (length progress) is (omega arith) many (after_alone progress port (length progress) alone) until) (omega arith)
 
 -- ---- headers
 

@@ -30,6 +30,8 @@ use Rattle.dp_pipe.specs.Devices.{Device, Transfer, IsGiven, At, transfer}
 use Rattle.dp_pipe.specs.declared.forwarding.RunCause.{RunCause}
 use Rattle.dp_pipe.specs.declared.forwarding.RunCause.TheVariants.{In, Out}
 use Rattle.dp_pipe.specs.declared.forwarding.InputProgress.{InputProgress}
+use Rattle.dp_pipe.specs.declared.forwarding.OpenInputs.{OpenInputs}
+use Rattle.dp_pipe.specs.declared.forwarding.OpenInputs.TheVariants.{Zero, One, Several}
 
 -- ---- inputs
 
@@ -383,6 +385,19 @@ AreRounds unit before after t progress (Err cause) = StopsRun unit before after 
 abbrev pub NoneIsOpen : List InputProgress → Type 0
 NoneIsOpen progress = (q : ℕ) (p : InputProgress) → slice_get progress q ≡ Some p → p.state ≡ Open → ⊥
 
--- an input has not ended
-abbrev pub SomeIsOpen : List InputProgress → Type 0
-SomeIsOpen progress = (q : ℕ) × (p : InputProgress) × (slice_get progress q ≡ Some p) × (p.state ≡ Open)
+-- every input but that of this port has ended
+abbrev pub OnlyIsOpen : ℕ → List InputProgress → Type 0
+OnlyIsOpen port progress = (q : ℕ) (p : InputProgress) → slice_get progress q ≡ Some p → p.state ≡ Open → q ≡ port
+
+-- no input, only that of this port, or several have not ended
+abbrev pub AreOpen : OpenInputs → List InputProgress → Type 0
+AreOpen Zero progress = NoneIsOpen progress
+AreOpen (One port) progress = (port < length progress) × OnlyIsOpen port progress
+AreOpen Several progress = ⊤
+
+-- Internal: the input of this port and its reader, where every other input has ended
+pub record IsAlone {R : Type 0} (port : ℕ) (p : InputProgress) (r : R) (progress : List InputProgress) (ins : List R) : Type 0 where
+  pub many : length ins ≡ length progress
+  pub input : slice_get progress port ≡ Some p
+  pub reader : slice_get ins port ≡ Some r
+  pub alone : OnlyIsOpen port progress

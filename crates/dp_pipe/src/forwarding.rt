@@ -1,10 +1,11 @@
 //! Runs an open engine from captures to captures: headers, then record by record, round by round.
-ghost use Rattle.std.specs.Prelude.{◌≡◌, ℕ, ◌+◌, ◌<◌, ◌≤◌, ◌↔◌, true, false, [], List, Ok, Err, length, map, take, slice_get, Some, OnOk, OnErr};
+ghost use Rattle.std.specs.Prelude.{◌≡◌, ℕ, ◌+◌, ◌<◌, ◌≤◌, ◌↔◌, true, false, [], List, Ok, Err, length, map, slice_get, slice_set, Some, OnOk, OnErr};
 ghost use Rattle.std.specs.Prelude.{IfOk, IfErr, IsOk, IsErr, IsErrOf, IsTrue};
-ghost use Rattle.dp_pcap.specs.Source.{body_in, IsInRange, Moves, max_pulls, failed_pulls};
+ghost use Rattle.dp_pcap.specs.Source.{body_in, IsHeld, IsInRange, Moves, advanced, max_pulls, failed_pulls};
 ghost use Rattle.dp_pipe.specs.Devices.{Device, seen, transfer, AllSound, AllFared, FaredAlone, failed_reader, failed_writer, failed_drain};
 ghost use Rattle.dp_pipe.specs.Forwarding.{Input, ReadsTurn, DrainedAll, DrainsStopped, DrainedFirst, Advances, RunUntil, IsUnderway, IsRound, AreRounds};
-ghost use Rattle.dp_pipe.specs.Forwarding.{LastPulls, NoneIsOpen, SomeIsOpen};
+ghost use Rattle.dp_pipe.specs.Forwarding.{LastPulls, AreOpen, IsAlone};
+ghost use Rattle.dp_pipe.specs.declared.forwarding.InputProgress.{InputProgress as InputOf};
 ghost use Rattle.dp_pipe.specs.Watched.{ShowsNext, ShowsInput, ShowsUntil, ShowsRound, ShowsTurns};
 ghost use Rattle.dp_engine.specs.Engines.{EngineState};
 ghost use Rattle.dp_pcap.specs.declared.format.TheConstants.{NANOS_A_SECOND};
@@ -43,25 +44,46 @@ pub(crate) struct InputProgress {
     pub state: InputState,
 }
 
-// The bytes of a record: in the reader's own buffer, or in the run's.
+// The bytes of the record that the reader has buffered.
 #[inline(always)]
-fn bytes_of<'a, R: Feed>(r: &'a R, buf: &'a [u8], is_held: bool, len: usize) -> &'a [u8]
-    requires held { IsTrue is_held → HEAD_SIZE + len ≤ length (R.at_hand r.now) }
-    requires copied { is_held ≡ false → len ≤ length buf.now }
-    ensures held { IsTrue is_held → (result.now ≡ body_in (R.at_hand r.now) len) × (R.is_broken r.now ≡ false) }
-    ensures copied { is_held ≡ false → result.now ≡ take len buf.now }
+fn body_of<R: Feed>(r: &R, len: usize) -> &[u8]
+    requires { HEAD_SIZE + len ≤ length (R.at_hand r.now) }
+    ensures value { result.now ≡ body_in (R.at_hand r.now) len }
+    ensures sound { R.is_broken r.now ≡ false }
 {
-    if is_held {
-        &r.held()[HEAD_SIZE..HEAD_SIZE + len]
-    } else {
-        &buf[..len]
-    }
+    &r.held()[HEAD_SIZE..HEAD_SIZE + len]
 }
 
-// Reads what comes next in an input and, if it is a record, takes a watched turn with it. Usually the reader has buffered the record: then the
-// bytes are copied once, into the mbuf.
+// Takes a watched turn with the record that the reader has buffered, whose bytes are copied once, into the mbuf.
 #[inline(always)]
-fn next_turn<K: CompiledPrograms, R: Feed, V: Watch>(
+fn held_turn<K: CompiledPrograms, R: Feed, V: Watch>(
+    engine: &mut Engine<K>,
+    port: u8,
+    r: &mut R,
+    source: &mut Source,
+    len: usize,
+    watch: &mut V,
+)
+    requires exists { port < length engine.old.setting.env.ports }
+    requires limit { engine.old.turns + MAX_RECORDS ≤ MAX_RUN_TURNS + source.old.given }
+    requires open { source.old.is_open ≡ true }
+    requires held { (time : InSeconds) × IsHeld source.old (R.at_hand r.old) time len }
+    requires fits { len ≤ MAX_RECORD }
+    ensures turn { (time : InSeconds) → IsHeld source.old (R.at_hand r.old) time len →
+        ShowsNext V.sees watch.old watch.new port engine.old engine.new source.old source.new (R.remaining r.old) (R.remaining r.new)
+        (Ok (Next.Record time len)) }
+    ensures source { source.new ≡ advanced source.old len }
+    ensures sound { (R.is_broken r.old ≡ false) × (R.is_broken r.new ≡ false) }
+    ensures calls { R.calls r.new ≡ R.calls r.old }
+    ensures failures { R.failures r.new ≡ R.failures r.old }
+{
+    let _turn = engine.watched_turn(port, body_of(r, len), watch);
+    pass_record(r, source, len);
+}
+
+// Reads what comes next into the run's buffer and, if it is a record, takes a watched turn with it.
+#[inline(always)]
+fn copied_turn<K: CompiledPrograms, R: Feed, V: Watch>(
     engine: &mut Engine<K>,
     port: u8,
     r: &mut R,
@@ -83,18 +105,13 @@ fn next_turn<K: CompiledPrograms, R: Feed, V: Watch>(
     ensures pulls { LastPulls result (seen R.remaining R.calls r.old) (seen R.remaining R.calls r.new) }
     ensures failures { R.failures r.new ≡ R.failures r.old + failed_pulls result }
 {
-    let (time, len, is_held) = match record_at_hand(r, source) {
-        Some((time, len)) => (time, len, true),
-        None => match next_record(r, source, buf) {
-            Ok(Next::Record(time, len)) => (time, len, false),
-            other => return other,
-        },
-    };
-    let _turn = engine.watched_turn(port, bytes_of(r, buf, is_held, len), watch);
-    if is_held {
-        pass_record(r, source, len);
+    match next_record(r, source, buf) {
+        Ok(Next::Record(time, len)) => {
+            let _turn = engine.watched_turn(port, &buf[..len], watch);
+            Ok(Next::Record(time, len))
+        }
+        other => other,
     }
-    Ok(Next::Record(time, len))
 }
 
 // Drains the transmit lists of all ports, in port order, with one time. Returns the port whose writer failed, if one did.
@@ -134,7 +151,56 @@ pub(crate) fn is_open(input: &InputProgress) -> bool
     input.state == InputState::Open
 }
 
+// Reads what comes next in an open input of which the reader has no whole record buffered. After a record it takes a watched turn, and drains all
+// ports.
+#[cold]
+#[inline(never)]
+fn ask_copied<K: CompiledPrograms, R: Feed, W: Sink, V: Watch>(
+    engine: &mut Engine<K>,
+    port: u8,
+    input: &mut InputProgress,
+    r: &mut R,
+    outs: &mut [W],
+    unit: Unit,
+    buf: &mut [u8],
+    watch: &mut V,
+) -> Result<(), RunCause>
+    requires exists { port < length engine.old.setting.env.ports }
+    requires many { length outs.old ≡ length engine.old.setting.env.ports }
+    requires few { length outs.old ≤ 8 }
+    requires counted { length engine.old.tallies ≡ 8 }
+    requires buf { MAX_RECORD ≤ length buf.old }
+    requires is_open { input.old.state ≡ InputState.Open }
+    requires open { input.old.source.is_open ≡ true }
+    requires limit { engine.old.turns + MAX_RECORDS ≤ MAX_RUN_TURNS + input.old.source.given }
+    ensures step { ShowsInput V.sees watch.old watch.new port unit engine.old engine.new input.old input.new
+        (seen R.remaining R.calls r.old) (seen R.remaining R.calls r.new)
+        (map (seen W.contents W.calls) outs.old) (map (seen W.contents W.calls) outs.new) result }
+    ensures many { length outs.new ≡ length outs.old }
+    ensures buf { length buf.new ≡ length buf.old }
+    ensures reader { IsTrue (R.is_broken r.new) → result ≡ Err (RunCause.In port PcapError.Read) }
+    ensures fared_reader { FaredAlone R.is_broken R.failures (failed_reader result) port r.old r.new }
+    ensures fared_writers { AllSound W.is_broken outs.old → AllFared W.is_broken W.failures (failed_writer result) outs.old outs.new }
+{
+    match copied_turn(engine, port, r, &mut input.source, buf, watch) {
+        Ok(Next::Record(time, _)) => match drain_all(engine, time, unit, outs) {
+            Ok(()) => Ok(()),
+            Err(failed) => Err(RunCause::Out(failed)),
+        },
+        Ok(Next::End) => {
+            input.state = InputState::Whole;
+            Ok(())
+        }
+        Ok(Next::Cut(byte)) => {
+            input.state = InputState::Cut(byte);
+            Ok(())
+        }
+        Err(error) => Err(RunCause::In(port, error)),
+    }
+}
+
 // Reads what comes next in an input, if it is open. After a record it takes a watched turn, and drains all ports.
+#[inline(always)]
 fn ask<K: CompiledPrograms, R: Feed, W: Sink, V: Watch>(
     engine: &mut Engine<K>,
     port: u8,
@@ -166,20 +232,13 @@ fn ask<K: CompiledPrograms, R: Feed, W: Sink, V: Watch>(
     if !is_open(input) {
         return Ok(());
     }
-    match next_turn(engine, port, r, &mut input.source, buf, watch) {
-        Ok(Next::Record(time, _)) => match drain_all(engine, time, unit, outs) {
-            Ok(()) => Ok(()),
-            Err(failed) => Err(RunCause::Out(failed)),
-        },
-        Ok(Next::End) => {
-            input.state = InputState::Whole;
-            Ok(())
-        }
-        Ok(Next::Cut(byte)) => {
-            input.state = InputState::Cut(byte);
-            Ok(())
-        }
-        Err(error) => Err(RunCause::In(port, error)),
+    let Some((time, len)) = record_at_hand(r, &input.source) else {
+        return ask_copied(engine, port, input, r, outs, unit, buf, watch);
+    };
+    held_turn(engine, port, r, &mut input.source, len, watch);
+    match drain_all(engine, time, unit, outs) {
+        Ok(()) => Ok(()),
+        Err(failed) => Err(RunCause::Out(failed)),
     }
 }
 
@@ -228,17 +287,68 @@ fn round<K: CompiledPrograms, R: Feed, W: Sink, V: Watch>(
     Ok(())
 }
 
-// Whether any input is open.
-fn is_any_open(inputs: &[InputProgress]) -> bool
-    ensures none { result ≡ false → NoneIsOpen inputs.now }
-    ensures some { IsTrue result → SomeIsOpen inputs.now }
+/// The inputs that have not ended.
+#[derive(Clone, Copy)]
+enum OpenInputs {
+    Zero,
+    One(u8),
+    Several,
+}
+
+// Which inputs have not ended.
+fn open_inputs(inputs: &[InputProgress]) -> OpenInputs
+    requires few { length inputs.now ≤ 8 }
+    ensures { AreOpen result inputs.now }
 {
-    for input in inputs {
-        if is_open(input) {
-            return true;
+    let mut open = OpenInputs::Zero;
+    for port in 0..inputs.len() as u8 {
+        if is_open(&inputs[usize::from(port)]) {
+            match open {
+                OpenInputs::Zero => open = OpenInputs::One(port),
+                _ => return OpenInputs::Several,
+            }
         }
     }
-    false
+    open
+}
+
+// Takes the rounds in which only the input of this port is open, so that no other is asked: a record costs nothing for them.
+#[inline(never)]
+fn rounds_alone<K: CompiledPrograms, R: Feed, W: Sink, V: Watch>(
+    engine: &mut Engine<K>,
+    port: u8,
+    input: &mut InputProgress,
+    r: &mut R,
+    outs: &mut [W],
+    unit: Unit,
+    buf: &mut [u8],
+    watch: &mut V,
+) -> Result<(), RunCause>
+    requires outs { length outs.old ≡ length engine.old.setting.env.ports }
+    requires few { length outs.old ≤ 8 }
+    requires counted { length engine.old.tallies ≡ 8 }
+    requires buf { MAX_RECORD ≤ length buf.old }
+    requires underway { (inputs : List InputOf) × (ins : List R) × (k : ℕ) × IsAlone port input.old r.old inputs ins
+        × IsUnderway unit engine.old (map (seen R.remaining R.calls) ins) (map (seen W.contents W.calls) outs.old) inputs k 0 }
+    ensures goes { (inputs : List InputOf) (ins : List R) (e0 : EngineState) (had held : List Device) (read : List Input) (k : ℕ) →
+        IsAlone port input.old r.old inputs ins →
+        RunUntil unit e0 engine.old (transfer had (map (seen R.remaining R.calls) ins) held (map (seen W.contents W.calls) outs.old)) inputs read k 0
+        → AreRounds unit e0 engine.new (transfer had (map (seen R.remaining R.calls) (slice_set ins port r.new)) held
+        (map (seen W.contents W.calls) outs.new)) (slice_set inputs port input.new) result }
+    ensures fared_reader { FaredAlone R.is_broken R.failures (failed_reader result) port r.old r.new }
+    ensures fared_writers { AllSound W.is_broken outs.old → AllFared W.is_broken W.failures (failed_writer result) outs.old outs.new }
+    ensures shown { (inputs : List InputOf) (ins : List R) (v0 : V) (e0 : EngineState) (had : List Device) (k : ℕ) →
+        IsAlone port input.old r.old inputs ins →
+        ShowsUntil V.sees v0 watch.old e0 engine.old had (map (seen R.remaining R.calls) ins) inputs k 0
+        → ShowsTurns V.sees v0 watch.new e0 engine.new had (map (seen R.remaining R.calls) (slice_set ins port r.new)) result }
+{
+    for k in 0..ROUNDS {
+        if !is_open(input) {
+            return Ok(());
+        }
+        ask(engine, port, input, r, outs, unit, buf, watch)?;
+    }
+    Ok(())
 }
 
 // Takes rounds until every input has ended.
@@ -270,8 +380,22 @@ pub(crate) fn rounds<K: CompiledPrograms, R: Feed, W: Sink, V: Watch>(
         → ShowsTurns V.sees v0 watch.new e0 engine.new had (map (seen R.remaining R.calls) ins.new) result }
 {
     for k in 0..ROUNDS {
-        if !is_any_open(inputs) {
-            return Ok(());
+        match open_inputs(inputs) {
+            OpenInputs::Zero => return Ok(()),
+            OpenInputs::One(port) => {
+                let k = port as usize;
+                return rounds_alone(
+                    engine,
+                    port,
+                    &mut inputs[k],
+                    &mut ins[k],
+                    outs,
+                    unit,
+                    buf,
+                    watch,
+                );
+            }
+            OpenInputs::Several => {}
         }
         round(engine, inputs, ins, outs, unit, buf, watch)?;
     }

@@ -8,7 +8,6 @@ use Rattle.dp_engine.specs.Engines.{EngineState}
 use Rattle.dp_pipe.specs.declared.forwarding.RunCause.{RunCause}
 use Rattle.dp_pipe.specs.Devices.{Device, seen, transfer, AllFared, AllSound, failed_reader, failed_writer}
 use Rattle.dp_pipe.specs.Forwarding.{Input, RunUntil}
-use Rattle.dp_pipe.specs.Watched.{ShowsUntil}
 use Rattle.dp_pipe.proofs.Watched.{shown_on, shown_round, shown_stops}
 use Rattle.dp_pipe.proofs.Faring.{reader_then, writers_then}
 use Rattle.dp_pipe.proofs.Rounding.{Comes, there_now, many_now, counted_now, open_now, limit_now, asked_on, asked_stops, round_over}

@@ -1,17 +1,18 @@
 -- `rounds`: one more round, the end of all inputs, and a stop. The run and each call of `round` are derived once.
 use Rattle.std.proofs.Common.{rules, ◌≡◌, ◌≤◌, List, Result, Ok, Err, length, map, refl, sym, ap, ◌∙◌, arith}
-use Rattle.std.specs.Prelude.{⊤}
+use Rattle.std.specs.Prelude.{slice_index_or, ⊤}
+use Rattle.std.proofs.lemmas.Option.{slice_get-get_or}
 use Rattle.dp_pcap.specs.declared.format.TheConstants.{MAX_RECORD}
 use Rattle.dp_engine.specs.Engines.{EngineState}
 use Rattle.dp_pipe.specs.declared.forwarding.RunCause.{RunCause}
 use Rattle.dp_pipe.specs.Devices.{Device, seen, transfer, AllFared, AllSound, failed_reader, failed_writer}
-use Rattle.dp_pipe.specs.Forwarding.{Input, RunUntil, IsRound}
+use Rattle.dp_pipe.specs.Forwarding.{Input, RunUntil, IsAlone, IsRound}
 use Rattle.dp_pipe.specs.Watched.{ShowsRound, ShowsUntil}
 use Rattle.dp_pipe.proofs.Watched.{shown_all}
-use Rattle.dp_pipe.proofs.Faring.{readers_then, writers_then}
+use Rattle.dp_pipe.proofs.Faring.{reader_then, readers_then, writers_then}
 use Rattle.dp_pipe.proofs.Rounding.{went_all, none_left}
 use Rattle.dp_pipe.proofs.forwarding.rounds.Goals as goal
-use Rattle.dp_pipe.proofs.forwarding.rounds.Goals.{In-loop-k, After-round}
+use Rattle.dp_pipe.proofs.forwarding.rounds.Goals.{In-loop-k, After-index-ins-k, After-round}
 
 -- the run continues, in the round that comes next
 along : (g : _) (c : In-loop-k g) → (now : List Input) × RunUntil c.args.unit c.requires.underway.before c.loop-k.engine
@@ -94,6 +95,76 @@ round-requires g c =
       ),
     )
 
+-- the only open input, and its reader
+alone : (g : _) (c : After-index-ins-k g) → IsAlone c.in-One.port (slice_index_or c.loop-k.inputs c.in-One.port c.index-inputs-k.result)
+    (slice_index_or c.loop-k.ins c.in-One.port c.index-ins-k.result) c.loop-k.inputs c.loop-k.ins
+alone g c =
+    let inv = c.loop-k.invariant in
+    let (there, only) = rw c.in-One.is at c.open_inputs.ensures in
+    let many = inv.ins ∙ c.requires.ins ∙ sym c.requires.inputs ∙ sym inv.inputs in
+    record {
+      many = many;
+      input = slice_get-get_or c.loop-k.inputs c.in-One.port c.index-inputs-k.result there;
+      reader = slice_get-get_or c.loop-k.ins c.in-One.port c.index-ins-k.result (omega (arith, there, many));
+      alone = only;
+    }
+
+pub rounds_alone-requires : goal.rounds_alone-requires
+rounds_alone-requires g c =
+    let inv = c.loop-k.invariant in
+    let start = c.requires.underway in
+    let same = ports g (goal.at.rounds_alone-requires g c).In-loop-k in
+    let (now, going) = along g (goal.at.rounds_alone-requires g c).In-loop-k in
+    let counted = going.run.each ∙ sym c.requires.underway.run.run.each ∙ c.requires.counted in
+    let few : length c.loop-k.outs ≤ 8 = omega (arith, inv.outs, c.requires.few) in
+    let buf : MAX_RECORD ≤ length c.loop-k.buf = rw inv.buf c.requires.buf in
+    let here = alone g (goal.at.rounds_alone-requires g c).After-index-ins-k in (
+      omega arith,
+      (
+        inv.outs ∙ c.requires.outs ∙ same,
+        (
+          few,
+          (
+            counted,
+            (
+              buf,
+              (
+                c.loop-k.inputs,
+                c.loop-k.ins,
+                c.loop-k.k,
+                here,
+                record { before = start.before; had = start.had; held = start.held; inputs = now; run = going },
+              ),
+            ),
+          ),
+        ),
+      ),
+    )
+
+pub returns-in-One-clause-goes : goal.returns-in-One-clause-goes
+returns-in-One-clause-goes g c e0 olds held read start =
+    let (now, going) = c.loop-k.invariant.goes e0 olds held read start in
+    c.rounds_alone.ensures.goes c.loop-k.inputs c.loop-k.ins e0 olds held now c.loop-k.k
+    (alone g (goal.at.returns-in-One-clause-goes g c).After-index-ins-k) going
+
+pub returns-in-One-clause-fared_readers : goal.returns-in-One-clause-fared_readers
+returns-in-One-clause-fared_readers g c =
+    let inv = c.loop-k.invariant in
+    reader_then g.R.Feed.is_broken g.R.Feed.failures c.rounds_alone.result c.rounds_alone.result c.in-One.port c.args.ins.now c.loop-k.ins _
+    c.rounds_alone.new.r inv.ins inv.readers (alone g (goal.at.returns-in-One-clause-fared_readers g c).After-index-ins-k).reader
+    c.rounds_alone.ensures.fared_reader refl
+
+pub returns-in-One-clause-fared_writers : goal.returns-in-One-clause-fared_writers
+returns-in-One-clause-fared_writers g c =
+    let inv = c.loop-k.invariant in
+    writers_then g.W.Sink.is_broken g.W.Sink.failures c.rounds_alone.result c.rounds_alone.result c.args.outs.now c.loop-k.outs c.rounds_alone.new.outs
+    inv.outs inv.writers c.rounds_alone.ensures.fared_writers refl
+
+pub returns-in-One-clause-shown : goal.returns-in-One-clause-shown
+returns-in-One-clause-shown g c v0 e0 olds until =
+    c.rounds_alone.ensures.shown c.loop-k.inputs c.loop-k.ins v0 e0 olds c.loop-k.k
+    (alone g (goal.at.returns-in-One-clause-shown g c).After-index-ins-k) (c.loop-k.invariant.shown v0 e0 olds until)
+
 pub loop-k-preserved : goal.loop-k-preserved
 loop-k-preserved g c =
     let inv = c.loop-k.invariant in
@@ -110,16 +181,16 @@ loop-k-preserved g c =
       shown = λ v0 e0 olds until. rw c.in_ok-round.was at (shown g (goal.at.loop-k-preserved g c).After-round v0 e0 olds until);
     }
 
-pub returns-then-not-is_any_open-clause-goes : goal.returns-then-not-is_any_open-clause-goes
-returns-then-not-is_any_open-clause-goes g c e0 olds held read start =
+pub returns-in-Zero-clause-goes : goal.returns-in-Zero-clause-goes
+returns-in-Zero-clause-goes g c e0 olds held read start =
     let (now, along) = c.loop-k.invariant.goes e0 olds held read start in
-    went_all along (c.if-not-is_any_open.ensures.none refl)
+    went_all along (rw c.in-Zero.is at c.open_inputs.ensures)
 
-pub returns-then-not-is_any_open-clause-fared_readers : goal.returns-then-not-is_any_open-clause-fared_readers
-returns-then-not-is_any_open-clause-fared_readers g c = c.loop-k.invariant.readers
+pub returns-in-Zero-clause-fared_readers : goal.returns-in-Zero-clause-fared_readers
+returns-in-Zero-clause-fared_readers g c = c.loop-k.invariant.readers
 
-pub returns-then-not-is_any_open-clause-fared_writers : goal.returns-then-not-is_any_open-clause-fared_writers
-returns-then-not-is_any_open-clause-fared_writers g c = c.loop-k.invariant.writers
+pub returns-in-Zero-clause-fared_writers : goal.returns-in-Zero-clause-fared_writers
+returns-in-Zero-clause-fared_writers g c = c.loop-k.invariant.writers
 
 pub returns-in_err-round-clause-goes : goal.returns-in_err-round-clause-goes
 returns-in_err-round-clause-goes g c e0 olds held read start =
@@ -144,9 +215,9 @@ returns-clause-fared_readers g c = c.loop-k.invariant.readers
 pub returns-clause-fared_writers : goal.returns-clause-fared_writers
 returns-clause-fared_writers g c = c.loop-k.invariant.writers
 
-pub returns-then-not-is_any_open-clause-shown : goal.returns-then-not-is_any_open-clause-shown
-returns-then-not-is_any_open-clause-shown g c v0 e0 olds until =
-    shown_all (c.loop-k.invariant.shown v0 e0 olds until) (c.if-not-is_any_open.ensures.none refl)
+pub returns-in-Zero-clause-shown : goal.returns-in-Zero-clause-shown
+returns-in-Zero-clause-shown g c v0 e0 olds until =
+    shown_all (c.loop-k.invariant.shown v0 e0 olds until) (rw c.in-Zero.is at c.open_inputs.ensures)
 
 pub returns-in_err-round-clause-shown : goal.returns-in_err-round-clause-shown
 returns-in_err-round-clause-shown g c v0 e0 olds until =
