@@ -6,3 +6,4 @@ pub mod Explanations
 pub mod Depths
 pub mod Places
 pub mod SoFar
+pub mod Lent

@@ -4,15 +4,15 @@ use Rattle.dp_host.specs.Hosts.{Opens}
 use Rattle.std.proofs.raw_atomic.Walks.{proved}
 use seplogic.Ra.Ura.{Ura}
 use base.Fraction.{full_share}
-use base.Logic.{ent, sep, emp, ex, ex_i, id⊢}
+use base.Logic.{ent, sep, id⊢}
 use base.Fml.{ftrue, flft, fsep}
 use mir.Syntax.{named}
 use mir.Val.{Val, vunit}
 use prog.Wp.{WpFn}
-use contract.Monad.{fact, fact_i}
+use contract.Monad.{fact}
 use contract.Running.{tables}
 use types.Logic.{Logic, sem}
-use types.Kit.{‵, raw, ◌⊛◌, some, later, prop, ◌$◌, ◌∵◌, !, qed, done, move, keep, use0, use1, use2, split, join, fjoin, fpack, feq_i, pick, await, regoal}
+use types.Kit.{‵, raw, ◌⊛◌, some, later, prop, ◌$◌, ◌∵◌, !, qed, done, move, keep, use1, use2, split, join, fjoin, fpack, feq_i, pick, await, regoal}
 use types.Kit.{suffices, group}
 use types.Run.{enter, of_opd, unit_lit, stop, init, no_more, and_then, assigns, returns}
 use types.ByLocal.{alloc_all, pass_all, free_all, look_at, get, through, sets, lands_as}
@@ -39,6 +39,7 @@ use Rattle.dp_host.specs.contracts.host.opened as g
 use Rattle.dp_host.proofs.host.opened.Met.{met}
 use Rattle.dp_host.specs.contracts.host.Host.{the_row as R}
 use Rattle.dp_host.proofs.host.Host.TheLaws as laws
+use Rattle.dp_host.proofs.Lent.{told}
 
 abbrev stayed : Stays f.ended.signature.params f.ended.kept
 stayed = (stay_dropped _ yes, (stay_dropped _ yes, (stay_dropped _ yes, (stay_dropped _ yes, tt))))
@@ -129,8 +130,6 @@ dpv_begin_spec 𝓤 𝓛 𝓜 𝓡 wired =
     use1 𝓛 (‵ (cell_at full_share R.mir (v ∷ []) b o)) (𝓛.laws.at_raw full_share (lone R.mir) b o v) $
     use2 𝓛 (‵ (lies_at R full_share (block_ptr b o) r)) (lies 𝓛 r v b o) $
     suffices ! _ (ends_at 𝓛 f.ended stayed c (y (block_ptr b o)) vunit tt (tt, (tt, (tt, (tt, tt)))) (tt, (tt, (tt, (tt, tt))))) $
-    use0 𝓛 (raw (fact 𝓤 (Says s.now t.now r))) (fact_i 𝓤 _ (emp 𝓤) said) $ move ! (1 ∷ 0 ∷ []) $ join ! $
-    use1 𝓛 (raw (ex 𝓤 (λ (h : R.Denot). sep 𝓤 (sem 𝓛 (lies_at R full_share (block_ptr b o) h)) (fact 𝓤 (Says s.now t.now h)))))
-    (ex_i 𝓤 (λ (h : R.Denot). sep 𝓤 (sem 𝓛 (lies_at R full_share (block_ptr b o) h)) (fact 𝓤 (Says s.now t.now h))) r) $
+    told 𝓛 ! (Says s.now t.now) (block_ptr b o) r said $
     feq_i ! _ (vunit ∷ []) _ refl $ nothing ! $ nothing ! $ join ! $ nothing ! $ join ! $ nothing ! $ join ! $ nothing ! $ join ! $
     move ! (3 ∷ 0 ∷ 1 ∷ 2 ∷ []) $ group ! 3 $ done !))))))))

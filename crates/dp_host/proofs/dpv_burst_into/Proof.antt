@@ -1,29 +1,25 @@
 -- The engine's value is lent for the call; the frames, the arrays and the struct are passed on.
-use Rattle.std.proofs.Common.{◌≡◌, ℕ, List, [], ◌∷◌, length, refl, sym, subst, w32, MutBor}
+use Rattle.std.proofs.Common.{◌≡◌, ℕ, List, [], ◌∷◌, length, refl, sym, subst, w32}
 use Rattle.dp_host.specs.Bursts.{BurstAnswers}
 use Rattle.std.proofs.raw_atomic.Walks.{proved}
 use base.Fraction.{full_share}
-use base.Logic.{sep, emp, ex, ex_i, id⊢}
-use base.Fml.{ftrue, flft, flent}
+use base.Logic.{id⊢}
+use base.Fml.{ftrue, flft}
 use mir.Syntax.{named, ty_unit}
 use mir.Val.{Val, vint, vptr, vunit}
 use prog.Wp.{WpFn}
-use contract.Monad.{fact, fact_i}
+use contract.Monad.{fact}
 use contract.Lifetimes.{Lfts}
 use contract.Running.{tables}
-use types.Logic.{sem}
-use types.SemTy.{Body}
-use types.Kit.{‵, raw, ◌⊛◌, some, later, prop, ◌$◌, ◌∵◌, !, qed, done, move, keep, use0, use1, use2, use3, split, join}
+use types.Kit.{‵, raw, ◌⊛◌, some, later, prop, ◌$◌, ◌∵◌, !, qed, done, move, keep, use1, use2, split, join}
 use types.Kit.{fsplit, fjoin, feq_i, feq_l, pick, await, regoal, suffices, group}
 use types.Part.{whole, sub, agg}
 use types.Run.{enter, of_opd, unit_lit, addr, fld, from, hop, stop, no_more, and_then, returns}
 use types.ByLocal.{alloc_all, pass_all, free_all, look_at, get, get_in, look_in_at, through, sets, lands_as}
-use types.Tokens.{lft_new, lft_end}
 use denote.Builtin.{u8, u32, unit}
 use denote.Exit.{yes}
 use denote.Laws.{Is, Typed}
-use denote.Lend.{lends_ref, ref_back}
-use denote.Memory.{mem}
+use Rattle.dp_host.proofs.Lent.{memory_lent, memory_back, told}
 use denote.Plain.{uint_vals, uint_Tells, uint_Makes}
 use denote.RawPtr.{Ptr, RawPtr, block_ptr, lies_at, in_a_block, ptr_val, rawptr_vals, rawptr_Tells}
 use denote.Ref.{MutRef, mut_vals, mut_Tells}
@@ -153,20 +149,15 @@ dpv_burst_into_spec 𝓤 𝓛 𝓜 𝓡 wired =
     sets ! (agg ! (and_then ! (get ! refl) (and_then ! (get_in ! (fld ! refl (stop !)) (sub ! 1 refl (whole !))) (no_more !)))) refl
     (tt, (tt, (record { fits = bs_room.0 }, tt))) $
     sets ! (addr ! (through ! refl (stop !))) refl (tt, tt) $
-    -- a lifetime for the loan
-    lft_new ! tt (λ α. move ! (1 ∷ []) $
-    use1 𝓛 (later (some (λ (γ : ℕ). ‵ ((MutRef (named 0) (α ∷ []) R).own_val (record { ref_ptr = (b, o); ghost_name = γ; now = h }) (vptr b o ∷ [])) ⊛ ‵
-    (flent (α ∷ []) (Body (mem R) b o γ)))))
-    (lends_ref 𝓛 R (named 0) (α ∷ []) h b o) $ await ! tt $ pick ! (λ γ. split ! $
+    memory_lent h b o ! tt (λ α γ.
     -- [the loan; the lender's part; the token of α; the frames; the records; the bytes; the struct; the tokens]
     let G = triple_of 𝓛 g.signature (g.spec 𝓛 𝓜.mem 𝓡.returns) in
-    let of_h : MutBor R.Denot = record { ref_ptr = (b, o); ghost_name = γ; now = h } in
     let z : G.Ghost = (
       (
         (α ∷ [], κs),
         (full_share, qs),
         bounds,
-        (of_h, (port, (fs, (rs, (bs, (r, tt)))))),
+        (record { ref_ptr = (b, o); ghost_name = γ; now = h }, (port, (fs, (rs, (bs, (r, tt)))))),
         (vptr b o ∷ [], (uint_vals w32 port, (mut_slice_vals fs, (mut_slice_vals rs, (mut_slice_vals bs, (mut_vals r, tt)))))),
       ),
       tt,
@@ -182,16 +173,15 @@ dpv_burst_into_spec 𝓤 𝓛 𝓜 𝓡 wired =
     some (λ (ws : R.Denot × (Unit {0} × (List BurstFrame × (List E.Denot × (List ℕ × (F.Denot × Unit {0})))))).
     ‵ (lasts g.ended z.0.0 z.0.3 ws) ⊛ raw (fact 𝓤 (let (h', (_, (frames, (records, (bytes, (filled, _)))))) = ws in
     Says h port fs.now rs.now bs.now h' frames records bytes filled)))))) (id⊢ 𝓤 _) $
-    await ! tt $ pick ! (λ n. split ! $ split ! $ split ! $ lft_end ! tt $
+    await ! tt $ pick ! (λ n. split ! $ split ! $ split ! $
     move ! (3 ∷ []) $ pick ! (λ ws. let (now, (_, (frames, (records, (bytes, (filled, _)))))) = ws in split ! $ move ! (1 ∷ []) $ heard ! _ (λ said.
-    -- [what the loan was at last, and the rest; α is over; the tokens; the result; the lender's part]
-    fsplit ! $ fsplit ! $ move ! (3 ∷ 6 ∷ 0 ∷ []) $
-    use3 𝓛 (later (‵ ((mem R).own_at now b o))) (ref_back 𝓛 R (α ∷ []) γ now b o) $ await ! tt $
-    move ! (4 ∷ []) $ feq_l ! (λ is. lands_as ! refl refl (subst (λ (us : List Val). Typed (ty_unit ∷ []) us) (sym is) ((tt, tt), tt)).0 $
+    -- [what the loan was at last, and the rest; the token of α; the tokens; the result; the lender's part]
+    fsplit ! $ move ! (0 ∷ 2 ∷ 5 ∷ []) $ memory_back h b o ! tt α γ now $
+    move ! (3 ∷ []) $ feq_l ! (λ is. lands_as ! refl refl (subst (λ (us : List Val). Typed (ty_unit ∷ []) us) (sym is) ((tt, tt), tt)).0 $
     sets ! (of_opd ! (unit_lit !)) refl (tt, tt) $
     returns ! (look_at ! 0 refl) $ free_all ! refl $
     -- [what the other parameters were at last; the tokens; the memory]
-    keep ! (2 ∷ 3 ∷ 0 ∷ []) $
+    keep ! (1 ∷ 2 ∷ 0 ∷ []) $
     fsplit ! $ move ! (1 ∷ []) $ fsplit ! $ move ! (1 ∷ []) $ fsplit ! $ move ! (1 ∷ []) $ fsplit ! $ move ! (1 ∷ []) $ fsplit ! $
     -- [the struct; nothing; the bytes; the records; the frames; nothing; the tokens; the memory]
     keep ! (4 ∷ 3 ∷ 2 ∷ 0 ∷ 6 ∷ 7 ∷ []) $
@@ -201,13 +191,8 @@ dpv_burst_into_spec 𝓤 𝓛 𝓜 𝓡 wired =
     -- [the bytes; the records; the frames; the struct; the tokens; the memory]
     suffices ! _ (ends_at 𝓛 f.ended stayed c (y (block_ptr b o)) vunit tt
     (tt, (tt, (frames, (records, (bytes, (filled, tt)))))) (tt, (tt, (same_frames, (same_records, (same_bytes, (tt, tt))))))) $
-    use0 𝓛 (raw (fact 𝓤 (Says h port fs.now rs.now bs.now now frames records bytes filled))) (fact_i 𝓤 _ (emp 𝓤) said) $
-    move ! (6 ∷ 0 ∷ []) $ join ! $
-    use1 𝓛 (raw (ex 𝓤 (λ (h' : R.Denot). sep 𝓤 (sem 𝓛 (lies_at R full_share (block_ptr b o) h'))
-    (fact 𝓤 (Says h port fs.now rs.now bs.now h' frames records bytes filled)))))
-    (ex_i 𝓤 (λ (h' : R.Denot). sep 𝓤 (sem 𝓛 (lies_at R full_share (block_ptr b o) h'))
-    (fact 𝓤 (Says h port fs.now rs.now bs.now h' frames records bytes filled))) now) $
+    move ! (5 ∷ []) $ told 𝓛 ! (λ h'. Says h port fs.now rs.now bs.now h' frames records bytes filled) (block_ptr b o) now said $
     -- [the memory; the bytes; the records; the frames; the struct; the tokens]
     nothing ! $ move ! (5 ∷ 0 ∷ []) $ join ! $ move ! (2 ∷ 0 ∷ []) $ join ! $ move ! (2 ∷ 0 ∷ []) $ join ! $ move ! (2 ∷ 0 ∷ []) $ join ! $
     nothing ! $ join ! $ nothing ! $ join ! $
-    feq_i ! _ (vunit ∷ []) _ refl $ move ! (3 ∷ 1 ∷ 0 ∷ 2 ∷ []) $ group ! 3 $ done !)))))))))))))
+    feq_i ! _ (vunit ∷ []) _ refl $ move ! (3 ∷ 1 ∷ 0 ∷ 2 ∷ []) $ group ! 3 $ done !))))))))))))

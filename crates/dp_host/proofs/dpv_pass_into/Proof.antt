@@ -1,28 +1,24 @@
 -- The engine's value is lent for the call; the frame, the arrays and the struct are passed on.
-use Rattle.std.proofs.Common.{◌≡◌, ℕ, List, [], ◌∷◌, length, refl, w32, w64, MutBor}
+use Rattle.std.proofs.Common.{◌≡◌, ℕ, List, [], ◌∷◌, length, refl, w32, w64}
 use Rattle.dp_host.specs.Hosts.{PassAnswers}
 use Rattle.std.proofs.raw_atomic.Walks.{proved}
 use base.Fraction.{full_share}
-use base.Logic.{sep, emp, ex, ex_i, id⊢}
-use base.Fml.{ftrue, flft, flent}
+use base.Logic.{id⊢}
+use base.Fml.{ftrue, flft}
 use mir.Syntax.{named}
 use mir.Val.{vint, vptr}
 use prog.Wp.{WpFn}
-use contract.Monad.{fact, fact_i}
+use contract.Monad.{fact}
 use contract.Running.{tables}
-use types.Logic.{sem}
-use types.SemTy.{Body}
-use types.Kit.{‵, raw, ◌⊛◌, some, later, prop, ◌$◌, ◌∵◌, !, qed, done, move, keep, use0, use1, use2, use3, split, join, fsplit, fjoin, feq_l, pick, await}
+use types.Kit.{‵, raw, ◌⊛◌, some, later, prop, ◌$◌, ◌∵◌, !, qed, done, move, keep, use1, use2, split, join, fsplit, fjoin, feq_l, pick, await}
 use types.Kit.{regoal, suffices, group}
 use types.Part.{whole, sub, agg}
 use types.Run.{enter, of_opd, addr, fld, from, hop, stop, no_more, and_then, returns}
 use types.ByLocal.{alloc_all, pass_all, free_all, look_at, get, get_in, look_in_at, through, sets, lands_as}
-use types.Tokens.{lft_new, lft_end}
 use denote.Builtin.{u8, u32, u64, SliceRefOf}
 use denote.Exit.{yes}
 use denote.Laws.{Is, shows}
-use denote.Lend.{lends_ref, ref_back}
-use denote.Memory.{mem}
+use Rattle.dp_host.proofs.Lent.{memory_lent, memory_back, told}
 use denote.Plain.{uint_vals, uint_Tells, uint_Makes, uint_Lawful}
 use denote.RawPtr.{Ptr, RawPtr, block_ptr, lies_at, in_a_block, ptr_val, rawptr_vals, rawptr_Tells}
 use denote.Ref.{MutRef, mut_vals, mut_Tells}
@@ -152,20 +148,15 @@ dpv_pass_into_spec 𝓤 𝓛 𝓜 𝓡 wired =
     sets ! (agg ! (and_then ! (get ! refl) (and_then ! (get_in ! (fld ! refl (stop !)) (sub ! 1 refl (whole !))) (no_more !)))) refl
     (tt, (tt, (record { fits = bs_room.0 }, tt))) $
     sets ! (addr ! (through ! refl (stop !))) refl (tt, tt) $
-    -- a lifetime for the loan
-    lft_new ! tt (λ α. move ! (1 ∷ []) $
-    use1 𝓛 (later (some (λ (γ : ℕ). ‵ ((MutRef (named 0) (α ∷ []) R).own_val (record { ref_ptr = (b, o); ghost_name = γ; now = h }) (vptr b o ∷ [])) ⊛ ‵
-    (flent (α ∷ []) (Body (mem R) b o γ)))))
-    (lends_ref 𝓛 R (named 0) (α ∷ []) h b o) $ await ! tt $ pick ! (λ γ. split ! $
+    memory_lent h b o ! tt (λ α γ.
     -- [the loan; the lender's part; the token of α; the frame; the records; the bytes; the struct; the tokens]
     let G = triple_of 𝓛 g.signature (g.spec 𝓛 𝓜.mem 𝓡.returns) in
-    let of_h : MutBor R.Denot = record { ref_ptr = (b, o); ghost_name = γ; now = h } in
     let z : G.Ghost = (
       (
         (α ∷ [], κs),
         (full_share, qs),
         tt,
-        (of_h, (port, (time, (s, (rs, (bs, (r, tt))))))),
+        (record { ref_ptr = (b, o); ghost_name = γ; now = h }, (port, (time, (s, (rs, (bs, (r, tt))))))),
         (vptr b o ∷ [], (uint_vals w32 port, (uint_vals w64 time, (shr_slice_vals s, (mut_slice_vals rs, (mut_slice_vals bs, (mut_vals r, tt))))))),
       ),
       tt,
@@ -182,15 +173,14 @@ dpv_pass_into_spec 𝓤 𝓛 𝓜 𝓡 wired =
     some (λ (ws : R.Denot × (Unit {0} × (Unit {0} × (Unit {0} × (List E.Denot × (List ℕ × (F.Denot × Unit {0}))))))).
     ‵ (lasts g.ended z.0.0 z.0.3 ws) ⊛ raw (fact 𝓤 (let (h', (_, (_, (_, (records, (bytes, (filled, _))))))) = ws in
     Says h port time s.now rs.now bs.now n h' records bytes filled)))))) (id⊢ 𝓤 _) $
-    await ! tt $ pick ! (λ n. split ! $ split ! $ split ! $ lft_end ! tt $
+    await ! tt $ pick ! (λ n. split ! $ split ! $ split ! $
     move ! (3 ∷ []) $ pick ! (λ ws. let (now, (_, (_, (_, (records, (bytes, (filled, _))))))) = ws in split ! $ move ! (1 ∷ []) $ heard ! _ (λ said.
-    -- [what the loan was at last, and the rest; α is over; the tokens; the result; the lender's part]
-    fsplit ! $ fsplit ! $ move ! (3 ∷ 6 ∷ 0 ∷ []) $
-    use3 𝓛 (later (‵ ((mem R).own_at now b o))) (ref_back 𝓛 R (α ∷ []) γ now b o) $ await ! tt $
-    move ! (4 ∷ []) $ peeks ! u32 (Is u32) (shows 𝓛 u32) n (v ∷ []) (λ is. lands_as ! refl refl ((uint_Lawful 𝓛 w32).typed n _ is).0 $
+    -- [what the loan was at last, and the rest; the token of α; the tokens; the result; the lender's part]
+    fsplit ! $ move ! (0 ∷ 2 ∷ 5 ∷ []) $ memory_back h b o ! tt α γ now $
+    move ! (3 ∷ []) $ peeks ! u32 (Is u32) (shows 𝓛 u32) n (v ∷ []) (λ is. lands_as ! refl refl ((uint_Lawful 𝓛 w32).typed n _ is).0 $
     returns ! (look_at ! 0 refl) $ free_all ! refl $
     -- [what the other parameters were at last; the tokens; the result; the memory]
-    keep ! (3 ∷ 4 ∷ 0 ∷ 1 ∷ []) $
+    keep ! (2 ∷ 3 ∷ 0 ∷ 1 ∷ []) $
     fsplit ! $ move ! (1 ∷ []) $ fsplit ! $ move ! (1 ∷ []) $ fsplit ! $ move ! (1 ∷ []) $ fsplit ! $ move ! (1 ∷ []) $ fsplit ! $ move ! (1 ∷ []) $ fsplit ! $
     -- [the struct; nothing; the bytes; the records; nothing, three times; the tokens; the result; the memory]
     keep ! (3 ∷ 2 ∷ 0 ∷ 7 ∷ 8 ∷ 9 ∷ []) $
@@ -199,13 +189,8 @@ dpv_pass_into_spec 𝓤 𝓛 𝓜 𝓡 wired =
     -- [the bytes; the records; the struct; the tokens; the result; the memory]
     suffices ! _ (ends_at 𝓛 f.ended stayed c (y (block_ptr b o)) v n
     (tt, (tt, (tt, (tt, (records, (bytes, (filled, tt))))))) (tt, (tt, (tt, (tt, (same_records, (same_bytes, (tt, tt)))))))) $
-    use0 𝓛 (raw (fact 𝓤 (Says h port time s.now rs.now bs.now n now records bytes filled))) (fact_i 𝓤 _ (emp 𝓤) said) $
-    move ! (6 ∷ 0 ∷ []) $ join ! $
-    use1 𝓛 (raw (ex 𝓤 (λ (h' : R.Denot). sep 𝓤 (sem 𝓛 (lies_at R full_share (block_ptr b o) h'))
-    (fact 𝓤 (Says h port time s.now rs.now bs.now n h' records bytes filled)))))
-    (ex_i 𝓤 (λ (h' : R.Denot). sep 𝓤 (sem 𝓛 (lies_at R full_share (block_ptr b o) h'))
-    (fact 𝓤 (Says h port time s.now rs.now bs.now n h' records bytes filled))) now) $
+    move ! (5 ∷ []) $ told 𝓛 ! (λ h'. Says h port time s.now rs.now bs.now n h' records bytes filled) (block_ptr b o) now said $
     -- [the memory; the bytes; the records; the struct; the tokens; the result]
     nothing ! $ move ! (4 ∷ 0 ∷ []) $ join ! $ move ! (2 ∷ 0 ∷ []) $ join ! $ move ! (2 ∷ 0 ∷ []) $ join ! $
     nothing ! $ join ! $ nothing ! $ join ! $ nothing ! $ join ! $ nothing ! $ join ! $
-    move ! (2 ∷ 0 ∷ 3 ∷ 1 ∷ []) $ group ! 3 $ done !))))))))))))
+    move ! (2 ∷ 0 ∷ 3 ∷ 1 ∷ []) $ group ! 3 $ done !)))))))))))

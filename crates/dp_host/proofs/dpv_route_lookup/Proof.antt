@@ -3,25 +3,21 @@ use Rattle.std.proofs.Common.{◌≡◌, ℕ, List, [], ◌∷◌, refl, w32, Mu
 use Rattle.dp_host.specs.Hosts.{LookupAnswers}
 use Rattle.std.proofs.raw_atomic.Walks.{proved}
 use base.Fraction.{full_share}
-use base.Logic.{sep, emp, ex, ex_i, id⊢}
-use base.Fml.{ftrue, flft, flent}
+use base.Logic.{id⊢}
+use base.Fml.{ftrue, flft}
 use mir.Syntax.{named}
 use mir.Val.{vint, vptr}
 use prog.Wp.{WpFn}
-use contract.Monad.{fact, fact_i}
+use contract.Monad.{fact}
 use contract.Running.{tables}
-use types.Logic.{sem}
-use types.SemTy.{Body}
-use types.Kit.{‵, raw, ◌⊛◌, some, later, prop, ◌$◌, ◌∵◌, !, qed, done, move, keep, use0, use1, use2, use3, split, join, fsplit, pick, await, regoal, suffices}
+use types.Kit.{‵, raw, ◌⊛◌, some, later, prop, ◌$◌, ◌∵◌, !, qed, done, move, keep, use1, use2, split, join, fsplit, pick, await, regoal, suffices}
 use types.Kit.{group}
 use types.Run.{enter, of_opd, addr, stop, no_more, and_then, returns}
 use types.ByLocal.{alloc_all, pass_all, free_all, look_at, get, through, sets, lands_as}
-use types.Tokens.{lft_new, lft_end}
 use denote.Builtin.{u32}
 use denote.Exit.{yes}
 use denote.Laws.{Is, shows}
-use denote.Lend.{lends_ref, ref_back, lends_again, comes_back, LentAgain}
-use denote.Memory.{mem}
+use Rattle.dp_host.proofs.Lent.{both_lent, both_back, told}
 use denote.Plain.{uint_vals, uint_Tells, uint_Makes, uint_Lawful}
 use denote.RawPtr.{Ptr, RawPtr, block_ptr, lies_at, in_a_block, ptr_val, rawptr_vals, rawptr_Tells}
 use denote.Ref.{MutRef, mut_vals, mut_Tells}
@@ -82,25 +78,15 @@ dpv_route_lookup_spec 𝓤 𝓛 𝓜 𝓡 wired =
     sets ! (of_opd ! (get ! refl)) refl (tt, tt) $
     sets ! (addr ! (through ! refl (stop !))) refl (tt, tt) $
     sets ! (addr ! (through ! refl (stop !))) refl (tt, tt) $
-    -- [the memory; the frame; the token of κ], and a lifetime for each loan
-    lft_new ! tt (λ α. lft_new ! tt (λ β. move ! (2 ∷ []) $
-    use1 𝓛 (later (some (λ (γ : ℕ). ‵ ((MutRef (named 0) (α ∷ []) R).own_val (record { ref_ptr = (b, o); ghost_name = γ; now = h }) (vptr b o ∷ [])) ⊛ ‵
-    (flent (α ∷ []) (Body (mem R) b o γ)))))
-    (lends_ref 𝓛 R (named 0) (α ∷ []) h b o) $ await ! tt $ pick ! (λ γ. split ! $
-    -- [the loan of the memory; its lender's part; the token of β; that of α; the frame; the token of κ]
-    move ! (4 ∷ 5 ∷ []) $
-    use2 𝓛 (later (some (λ (δ : ℕ). ‵ (Ref (β ∷ []) (record r { ghost_name = δ })) ⊛ ‵ (LentAgain F κ (β ∷ []) q r.ghost_name rb ro δ r.now))))
-    (lends_again 𝓛 F (named 0) κ (β ∷ []) q r.ghost_name rb ro (named 0) r.now) $ await ! tt $ pick ! (λ δ. split ! $
+    both_lent F h b o κ q r ! tt (λ α β γ δ.
     -- [the loan of the frame; what its holder keeps; the loan of the memory; its lender's part; the token of β; that of α]
     let G = triple_of 𝓛 g.signature (g.spec 𝓛 𝓜.mem 𝓡.returns) in
-    let of_h : MutBor R.Denot = record { ref_ptr = (b, o); ghost_name = γ; now = h } in
-    let of_f : MutBor F.Denot = record r { ghost_name = δ } in
     let z : G.Ghost = (
       (
         (α ∷ [], (β ∷ [], tt)),
         (full_share, (full_share, tt)),
         tt,
-        (of_h, (table, (ip, (of_f, tt)))),
+        (record { ref_ptr = (b, o); ghost_name = γ; now = h }, (table, (ip, (record r { ghost_name = δ }, tt)))),
         (vptr b o ∷ [], (uint_vals w32 table, (uint_vals w32 ip, (vs, tt)))),
       ),
       tt,
@@ -117,24 +103,16 @@ dpv_route_lookup_spec 𝓤 𝓛 𝓜 𝓡 wired =
     use1 𝓛 (later (some (λ (n : ℕ). ((‵ (flft (α ∷ []) full_share) ⊛ (‵ (flft (β ∷ []) full_share) ⊛ ‵ ftrue)) ⊛ ‵ (u32.own_val n (v ∷ []))) ⊛
     some (λ (ws : R.Denot × (Unit {0} × (Unit {0} × (F.Denot × Unit {0})))). ‵ (lasts g.ended z.0.0 z.0.3 ws) ⊛
     raw (fact 𝓤 (let (h', (_, (_, (out, _)))) = ws in Says h table ip n r.now h' out)))))) (id⊢ 𝓤 _) $
-    await ! tt $ pick ! (λ n. split ! $ split ! $ split ! $ lft_end ! tt $ move ! (1 ∷ []) $ split ! $ lft_end ! tt $
-    -- [β is over; nothing; α is over; the result; what the call says; what the frame's holder keeps; the lender's part]
+    await ! tt $ pick ! (λ n. split ! $ split ! $ split ! $ move ! (1 ∷ []) $ split ! $
+    -- [the token of β; nothing; that of α; the result; what the call says; what the frame's holder keeps; the lender's part]
     move ! (4 ∷ []) $ pick ! (λ ws. let (now, (_, (_, (out, _)))) = ws in split ! $ move ! (1 ∷ []) $ heard ! _ (λ said.
     fsplit ! $ move ! (1 ∷ []) $ fsplit ! $ move ! (1 ∷ []) $ fsplit ! $ move ! (1 ∷ []) $ fsplit ! $
-    -- [what the frame's loan was at last; nothing, three times; the memory's; β is over; nothing; α is over; the result; what the frame's holder keeps;
-    -- the lender's part]
-    fsplit ! $ move ! (6 ∷ 10 ∷ 0 ∷ []) $
-    use3 𝓛 (later (‵ (Ref κ (record r { now = out })) ⊛ ‵ (flft κ q)))
-    (comes_back 𝓛 F (named 0) κ (β ∷ []) q r.ghost_name rb ro δ r.now out) $ await ! tt $ split ! $
-    move ! (6 ∷ []) $ fsplit ! $ move ! (9 ∷ 11 ∷ 0 ∷ []) $
-    use3 𝓛 (later (‵ ((mem R).own_at now b o))) (ref_back 𝓛 R (α ∷ []) γ now b o) $ await ! tt $
-    -- [the memory; ..; the frame; the token of κ; ..; the result]
-    move ! (9 ∷ []) $ peeks ! u32 (Is u32) (shows 𝓛 u32) n (v ∷ []) (λ is. lands_as ! refl refl ((uint_Lawful 𝓛 w32).typed n _ is).0 $
-    returns ! (look_at ! 0 refl) $ free_all ! refl $ keep ! (4 ∷ 3 ∷ 0 ∷ 1 ∷ []) $
+    -- [what the struct's loan was at last; nothing, three times; the memory's; the token of β; nothing; that of α; the result; ..]
+    move ! (4 ∷ 0 ∷ 7 ∷ 5 ∷ 9 ∷ 10 ∷ []) $ both_back F h b o κ q r ! tt α β γ δ now out $
+    move ! (7 ∷ []) $ peeks ! u32 (Is u32) (shows 𝓛 u32) n (v ∷ []) (λ is. lands_as ! refl refl ((uint_Lawful 𝓛 w32).typed n _ is).0 $
+    returns ! (look_at ! 0 refl) $ free_all ! refl $ keep ! (3 ∷ 2 ∷ 0 ∷ 1 ∷ []) $
     suffices ! _ (ends_at 𝓛 f.ended stayed c (y (block_ptr b o)) v n (tt, (tt, (tt, (out, tt)))) (tt, (tt, (tt, (tt, tt))))) $
     -- [the token of κ; the frame; the result; the memory]
-    use0 𝓛 (raw (fact 𝓤 (Says h table ip n r.now now out))) (fact_i 𝓤 _ (emp 𝓤) said) $ move ! (4 ∷ 0 ∷ []) $ join ! $
-    use1 𝓛 (raw (ex 𝓤 (λ (h' : R.Denot). sep 𝓤 (sem 𝓛 (lies_at R full_share (block_ptr b o) h')) (fact 𝓤 (Says h table ip n r.now h' out)))))
-    (ex_i 𝓤 (λ (h' : R.Denot). sep 𝓤 (sem 𝓛 (lies_at R full_share (block_ptr b o) h')) (fact 𝓤 (Says h table ip n r.now h' out))) now) $
+    move ! (3 ∷ []) $ told 𝓛 ! (λ h'. Says h table ip n r.now h' out) (block_ptr b o) now said $
     nothing ! $ move ! (3 ∷ 0 ∷ []) $ join ! $ nothing ! $ join ! $ nothing ! $ join ! $ nothing ! $ join ! $
-    nothing ! $ move ! (3 ∷ 0 ∷ []) $ join ! $ move ! (0 ∷ 1 ∷ 3 ∷ 2 ∷ []) $ group ! 3 $ done !))))))))))))
+    nothing ! $ move ! (3 ∷ 0 ∷ []) $ join ! $ move ! (0 ∷ 1 ∷ 3 ∷ 2 ∷ []) $ group ! 3 $ done !)))))))))
