@@ -1,9 +1,10 @@
 -- How often an instruction ran is a sum over the labels up to its own.
 use Rattle.std.proofs.Common.{◌≡◌, ℕ, zero, suc, ◌+◌, ◌*◌, ◌%◌, ◌/◌, ◌^◌, ◌<◌, Bool, true, false, cond}
-use Rattle.std.proofs.Common.{List, length, refl, sym, ◌∙◌, ap, subst, arith, add-zero, add-one}
+use Rattle.std.proofs.Common.{List, length, refl, sym, ◌∙◌, ap, subst, arith, add-zero}
 use Rattle.std.specs.Prelude.{◌==◌, ◌≤◌, ◌-◌, slice_index}
-use Rattle.std.proofs.lemmas.Bool.{eqb-true, eqb-false}
-use Rattle.std.proofs.Math.Nat.{mod-lt, mod-add-div, add-mul-mod_self_left}
+use Rattle.std.proofs.lemmas.Bool.{eqb-true, eqb-false, ne_eqb}
+use Rattle.std.proofs.Math.Dec.{eqb-suc-suc}
+use Rattle.std.proofs.Math.Nat.{add-suc, mod-lt, mod-add-div, add-mul-mod_self_left}
 use Rattle.std.proofs.lemmas.List.{get_or-set_same}
 use Rattle.dp_model.specs.Arithmetic.{wrapped}
 use Rattle.dp_counts.specs.Counting.{Tally, one_more, minus_wrapped, on_from, ran_at, HasNone, IsTally}
@@ -66,19 +67,10 @@ sum_more numbers j k (suc n) few =
 
 -- the index after is among those after
 pub hits_next : (j k n : ℕ) → (suc j ≡ k → ⊥) → hits k (suc n) (suc j) ≡ hits k n j
-hits_next j k zero other = first (suc j == k + 0) refl
-  where
-    first : (b : Bool) → (suc j == k + 0) ≡ b → 0 + one_if b ≡ 0
-    first true e = absurd (other (eqb-true (suc j) (k + 0) e ∙ add-zero k))
-    first false e = refl
+hits_next j k zero other = ap (λ b. 0 + one_if b) (ne_eqb (suc j) (k + 0) (λ e. other (e ∙ add-zero k)))
 hits_next j k (suc n) other =
-    ap (λ m. m + one_if (suc j == k + suc n)) (hits_next j k n other) ∙ ap (λ b. hits k n j + one_if b) (go (suc j == k + suc n) (j == k + n) refl refl)
-  where
-    go : (b d : Bool) → (suc j == k + suc n) ≡ b → (j == k + n) ≡ d → b ≡ d
-    go true true e f = refl
-    go false false e f = refl
-    go true false e f = let is = eqb-true (suc j) (k + suc n) e in absurd (eqb-false j (k + n) f (omega (arith, is)))
-    go false true e f = let is = eqb-true j (k + n) f in absurd (eqb-false (suc j) (k + suc n) e (omega (arith, is)))
+    ap (λ m. m + one_if (suc j == k + suc n)) (hits_next j k n other)
+    ∙ ap (λ b. hits k n j + one_if b) (ap (λ m. suc j == m) (add-suc k n) ∙ eqb-suc-suc j (k + n))
 
 -- ---- how often an instruction ran
 
@@ -107,11 +99,6 @@ ran_sums t place (suc label) is few =
 pub ran_small : (t : Tally) (place label : ℕ) → IsTally t → place + label < 16384 → ran_at t place label < 2 ^ 64
 ran_small t place zero is few = is.came.small place (omega (arith, few))
 ran_small t place (suc label) is few = mod-lt (on_from t (place + label) (ran_at t place label) + slice_index t.came (place + label + 1)) (omega arith)
-
--- one label more
-pub ran_next : (t : Tally) (place label : ℕ)
-    → wrapped (on_from t (place + label) (ran_at t place label) + slice_index t.came (place + label + 1)) ≡ ran_at t place (label + 1)
-ran_next t place label = ap (ran_at t place) (sym (add-one label))
 
 -- ---- counts that begin
 

@@ -1,4 +1,3 @@
-pub mod Lists
 pub mod Tallies
 pub mod Flows
 pub mod Runs

@@ -1,10 +1,10 @@
 -- Counts grow by the steps that they count.
-use Rattle.std.proofs.Common.{◌≡◌, ℕ, zero, suc, ◌+◌, ◌%◌, ◌^◌, ◌<◌, Bool, true, false, cond}
+use Rattle.std.proofs.Common.{◌≡◌, ℕ, ◌+◌, ◌%◌, ◌^◌, ◌<◌, Bool, true, false, cond}
 use Rattle.std.proofs.Common.{◌&&◌, List, [], ◌∷◌, length, refl, sym, ◌∙◌, ap, subst, arith, add-zero}
 use Rattle.std.specs.Prelude.{◌==◌, ◌≤◌, replicate, slice_index, slice_set}
 use Rattle.std.proofs.lemmas.Bool.{eqb-true, eqb-false}
 use Rattle.std.proofs.Math.Nat.{mod-eq_of_lt, mod-add-mod, mod-lt}
-use Rattle.std.proofs.lemmas.List.{get_or-set_same, length-set}
+use Rattle.std.proofs.lemmas.List.{get_or-set_other, get_or-set_same, length-set}
 use Rattle.dp_model.specs.Arithmetic.{wrapped}
 use Rattle.dp_model.specs.Machine.{State}
 use Rattle.dp_model.specs.declared.env.Entry.{Entry}
@@ -19,11 +19,7 @@ use Rattle.dp_counts.specs.Counting.{IsTally}
 -- ---- one number of a list
 
 pub index_other : (numbers : List ℕ) (j k n : ℕ) → (j ≡ k → ⊥) → slice_index (slice_set numbers j n) k ≡ slice_index numbers k
-index_other [] j k n other = refl
-index_other (x ∷ numbers) zero zero n other = absurd (other refl)
-index_other (x ∷ numbers) zero (suc k) n other = refl
-index_other (x ∷ numbers) (suc j) zero n other = refl
-index_other (x ∷ numbers) (suc j) (suc k) n other = index_other numbers j k n (λ e. other (ap suc e))
+index_other numbers j k n other = get_or-set_other numbers j k n 0 (λ e. other (sym e))
 
 small : (n : ℕ) → n < 2 ^ 64 → n ≡ wrapped (n + 0)
 small n less = sym (ap (λ m. m % 2 ^ 64) (add-zero n) ∙ mod-eq_of_lt less)
@@ -122,37 +118,18 @@ place_within (Port port) few = omega (arith, few)
 place_within (Ring ring) few = omega (arith, few)
 
 tally_begins : (node : Entry) (s : State) (t : Tally) → IsOneOfEight node → IsTally t → IsTally (counted (Began node s) t)
-tally_begins node s t few is = record {
-  came = one_counts (place_of node) t.came is.came;
-  taken = is.taken;
-  ended = is.ended;
-  cut = is.cut;
-  within = place_within node few;
-}
+tally_begins node s t few is =
+    record { came = one_counts (place_of node) t.came is.came; taken = is.taken; ended = is.ended; cut = is.cut; within = place_within node few }
 
 tally_steps : (label : ℕ) (way : Way) (t : Tally) → IsTally t → IsTally (with_way way label t)
 tally_steps label On t is = is
-tally_steps label (To to) t is = record {
-  came = one_counts (t.place + to % 1024) t.came is.came;
-  taken = one_counts (t.place + label) t.taken is.taken;
-  ended = is.ended;
-  cut = is.cut;
-  within = is.within;
-}
-tally_steps label Out t is = record {
-  came = is.came;
-  taken = is.taken;
-  ended = one_counts (t.place + label) t.ended is.ended;
-  cut = is.cut;
-  within = is.within;
-}
-tally_steps label Cut t is = record {
-  came = is.came;
-  taken = is.taken;
-  ended = is.ended;
-  cut = one_counts (t.place + label) t.cut is.cut;
-  within = is.within;
-}
+tally_steps label (To to) t is =
+    let came = one_counts (t.place + to % 1024) t.came is.came in
+    record { came = came; taken = one_counts (t.place + label) t.taken is.taken; ended = is.ended; cut = is.cut; within = is.within }
+tally_steps label Out t is =
+    record { came = is.came; taken = is.taken; ended = one_counts (t.place + label) t.ended is.ended; cut = is.cut; within = is.within }
+tally_steps label Cut t is =
+    record { came = is.came; taken = is.taken; ended = is.ended; cut = one_counts (t.place + label) t.cut is.cut; within = is.within }
 
 -- an event leaves counts
 pub tally_counted : (e : Event) (t mid : Tally) → counts_see t e mid → IsTally t → IsTally mid
