@@ -2,7 +2,6 @@
 
 use crate::by_line::{DropCause, DropPlace, LineCounts, NamedCount, Origin};
 use crate::counts::Counts;
-use crate::levels::Levels;
 use crate::listing::{Total, total_of};
 use crate::source::{NodeSource, Role, words_of};
 use dp_console::{Document, Item};
@@ -98,42 +97,58 @@ impl CountsDocument<'_, '_> {
         }
     }
 
-    /// Adds the counts to a document, as a member of this name.
-    pub fn write(self, name: &str, to: &mut Document) {
-        let Levels { waited, free } = self.counts.levels();
-        to.begin_object(name);
-        to.begin_list("nodes");
-        self.write_nodes(to);
-        to.end_list();
-        to.begin_list("pools");
-        for (k, (pool, free)) in (0..8u64).zip(self.env.pools().iter().zip(free)) {
-            let (count, least) = (u64::from(pool.count), u64::from(free.min(pool.count)));
-            write_numbers(to, &[("count", count), ("least", least), ("pool", k)]);
+    /// Writes how few buffers of each pool were free.
+    fn write_pools(self, to: &mut Document) {
+        let levels = self.counts.levels();
+        for (k, pool) in self.env.pools().iter().enumerate() {
+            if let Some(free) = levels.free.get(k) {
+                let (count, least) = (u64::from(pool.count), u64::from((*free).min(pool.count)));
+                write_numbers(
+                    to,
+                    &[("count", count), ("least", least), ("pool", k as u64)],
+                );
+            }
         }
-        to.end_list();
-        to.begin_list("rings");
-        for (k, (ring, waited)) in (0..8u8).zip(self.env.rings().iter().zip(waited)) {
-            let full = total_of(self.counts, Total::Full(k), self.sources);
-            let (most, k) = (u64::from(waited), u64::from(k));
-            let capacity = u64::from(ring.count.saturating_sub(1));
-            write_numbers(
-                to,
-                &[
-                    ("capacity", capacity),
-                    ("full", full),
-                    ("most", most),
-                    ("ring", k),
-                ],
-            );
+    }
+
+    /// Writes how full each ring was.
+    fn write_rings(self, to: &mut Document) {
+        let levels = self.counts.levels();
+        for (k, ring) in self.env.rings().iter().enumerate() {
+            if let Some(waited) = levels.waited.get(k) {
+                let full = total_of(self.counts, Total::Full(k as u8), self.sources);
+                let capacity = u64::from(ring.count.saturating_sub(1));
+                let most = ("most", u64::from(*waited));
+                let ring = ("ring", k as u64);
+                write_numbers(to, &[("capacity", capacity), ("full", full), most, ring]);
+            }
         }
-        to.end_list();
-        to.begin_list("tables");
+    }
+
+    /// Writes the lookups in each table.
+    fn write_tables(self, to: &mut Document) {
         for table in 0..self.env.tables() {
             let hits = total_of(self.counts, Total::Hits(table), self.sources);
             let misses = total_of(self.counts, Total::Misses(table), self.sources);
             let table = u64::from(table);
             write_numbers(to, &[("hits", hits), ("misses", misses), ("table", table)]);
         }
+    }
+
+    /// Adds the counts to a document, as a member of this name.
+    pub fn write(self, name: &str, to: &mut Document) {
+        to.begin_object(name);
+        to.begin_list("nodes");
+        self.write_nodes(to);
+        to.end_list();
+        to.begin_list("pools");
+        self.write_pools(to);
+        to.end_list();
+        to.begin_list("rings");
+        self.write_rings(to);
+        to.end_list();
+        to.begin_list("tables");
+        self.write_tables(to);
         to.end_list();
         to.end_object();
     }
