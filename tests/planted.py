@@ -133,6 +133,8 @@ class Crate:
             words += ["-L", f"dependency={folder}"]
         words += ["--antt-project", f"{kit}/rattle/logic/antt-project.json", "--logic-built", f"{kit}/logic_built"]
         words += ["--crate-type", "staticlib"] if self.is_static else []
+        # All of a crate of tests is read with its tests only.
+        words += ["--test"] if self.name.endswith("_tests") else []
         return [*words, "--jobs", "1", "--links", f"{self.name}="]
 
 

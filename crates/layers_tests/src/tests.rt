@@ -1,6 +1,7 @@
 //! Calls with their answers, by the layer that they are of, and the words of all errors.
 
 mod captures;
+mod cases;
 mod causes;
 mod environments;
 mod heaps;

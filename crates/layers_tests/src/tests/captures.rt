@@ -5,7 +5,8 @@ mod reading;
 mod whole_records;
 mod writing;
 
-use crate::copy;
+use super::cases;
+use crate::copies::copy;
 use dp_pcap::{Feed, Next, PcapError, Sink, Source, next_record};
 
 /// A header: little endian, microseconds.
@@ -69,10 +70,7 @@ fn next<R: Feed>(r: &mut R, source: &mut Source, buf: &mut Buffer) -> Result<Nex
 }
 
 // Copies a capture.
-fn copied<R: Feed, W: Sink>(
-    r: &mut R,
-    w: &mut W,
-    buf: &mut Buffer,
-) -> Result<Option<u64>, PcapError> {
+fn copied<R: Feed, W: Sink>(r: &mut R, w: &mut W) -> Result<Option<u64>, PcapError> {
+    let mut buf = [0u8; ROOM];
     copy(r, w, buf.as_mut_slice())
 }

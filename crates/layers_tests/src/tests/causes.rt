@@ -1,5 +1,6 @@
 //! The numbers and the words of all errors.
 
+use super::cases::must;
 use dp_heap::HeapError;
 use dp_lpm::LpmError;
 use dp_model::EnvError;
@@ -27,99 +28,102 @@ use Cause::{
     OfCapture, OfDevice, OfEnvironment, OfHeap, OfPool, OfRegion, OfRoutes, OfTable, OfZone,
 };
 
-/// The causes, with their numbers and their words. Those of regions, of devices and of tables have no number.
-static CAUSES: [(Cause, u8, &str); 35] = [
-    (OfRegion, 0, "out of memory"),
-    (OfHeap(HeapError::ZeroSize), 1, "the size is 0"),
-    (
+/// A cause, its number and its words.
+struct Named(Cause, u8, &'static str);
+
+/// The causes. Those of regions, of devices and of tables have no number.
+static CAUSES: [Named; 35] = [
+    Named(OfRegion, 0, "out of memory"),
+    Named(OfHeap(HeapError::ZeroSize), 1, "the size is 0"),
+    Named(
         OfHeap(HeapError::BadAlign),
         2,
         "the alignment is neither 0 nor a power of two",
     ),
-    (
+    Named(
         OfHeap(HeapError::NoRoom),
         3,
         "no free element can hold the block",
     ),
-    (OfZone(ZoneError::BadName), 1, "bad zone name"),
-    (OfZone(ZoneError::BadLength), 2, "bad zone length"),
-    (OfZone(ZoneError::BadAlign), 3, "bad zone alignment"),
-    (OfZone(ZoneError::Exists), 4, "the zone exists"),
-    (OfZone(ZoneError::Full), 5, "too many zones"),
-    (OfZone(ZoneError::NoRoom), 6, "no room for the zone"),
-    (OfPool(PoolError::BadCount), 1, "bad number of objects"),
-    (OfPool(PoolError::BadSize), 2, "bad object size"),
-    (OfPool(PoolError::BadCache), 3, "bad cache size"),
-    (
+    Named(OfZone(ZoneError::BadName), 1, "bad zone name"),
+    Named(OfZone(ZoneError::BadLength), 2, "bad zone length"),
+    Named(OfZone(ZoneError::BadAlign), 3, "bad zone alignment"),
+    Named(OfZone(ZoneError::Exists), 4, "the zone exists"),
+    Named(OfZone(ZoneError::Full), 5, "too many zones"),
+    Named(OfZone(ZoneError::NoRoom), 6, "no room for the zone"),
+    Named(OfPool(PoolError::BadCount), 1, "bad number of objects"),
+    Named(OfPool(PoolError::BadSize), 2, "bad object size"),
+    Named(OfPool(PoolError::BadCache), 3, "bad cache size"),
+    Named(
         OfPool(PoolError::Zone(ZoneError::Full)),
         4,
         "too many zones",
     ),
-    (OfDevice, 0, "the device failed"),
-    (
+    Named(OfDevice, 0, "the device failed"),
+    Named(
         OfCapture(PcapError::BadMagic),
         1,
         "no magic number of a pcap file",
     ),
-    (
+    Named(
         OfCapture(PcapError::BadVersion),
         2,
         "the version is not 2.4",
     ),
-    (OfCapture(PcapError::BadLink), 3, "the link type is not 1"),
-    (
+    Named(OfCapture(PcapError::BadLink), 3, "the link type is not 1"),
+    Named(
         OfCapture(PcapError::BadTime),
         4,
         "the fraction of a record's time is a second or more",
     ),
-    (
+    Named(
         OfCapture(PcapError::TooLong),
         5,
         "a record has more than 262144 bytes",
     ),
-    (
+    Named(
         OfCapture(PcapError::ShortHeader),
         6,
         "fewer than the 24 bytes of a header",
     ),
-    (
+    Named(
         OfCapture(PcapError::TooMany),
         7,
         "more than 16777216 records",
     ),
-    (OfCapture(PcapError::Read), 8, "the reader failed"),
-    (OfCapture(PcapError::Write), 9, "the writer failed"),
-    (
+    Named(OfCapture(PcapError::Read), 8, "the reader failed"),
+    Named(OfCapture(PcapError::Write), 9, "the writer failed"),
+    Named(
         OfEnvironment(EnvError::BadNumber),
         1,
         "there are too few or too many pools, tables, rings or ports",
     ),
-    (
+    Named(
         OfEnvironment(EnvError::BadPool(3)),
         2,
         "pool 3 is not within the limits",
     ),
-    (
+    Named(
         OfEnvironment(EnvError::BadRing(7)),
         3,
         "ring 7 is not within the limits",
     ),
-    (
+    Named(
         OfEnvironment(EnvError::BadPort(1)),
         4,
         "port 1 is not within the limits",
     ),
-    (
+    Named(
         OfEnvironment(EnvError::TooMany),
         5,
         "the pools have too many buffers in all",
     ),
-    (OfRoutes(LpmError::BadDepth), 1, "the depth is not 1 to 32"),
-    (OfRoutes(LpmError::BadHop), 2, "the hop is above 16777215"),
-    (OfRoutes(LpmError::RulesFull), 3, "no room for another rule"),
-    (OfRoutes(LpmError::GroupsFull), 4, "no group left"),
-    (OfRoutes(LpmError::NoRule), 5, "no such rule"),
-    (OfTable, 0, "not enough memory"),
+    Named(OfRoutes(LpmError::BadDepth), 1, "the depth is not 1 to 32"),
+    Named(OfRoutes(LpmError::BadHop), 2, "the hop is above 16777215"),
+    Named(OfRoutes(LpmError::RulesFull), 3, "no room for another rule"),
+    Named(OfRoutes(LpmError::GroupsFull), 4, "no group left"),
+    Named(OfRoutes(LpmError::NoRule), 5, "no such rule"),
+    Named(OfTable, 0, "not enough memory"),
 ];
 
 fn number(cause: &Cause) -> u8 {
@@ -151,13 +155,11 @@ fn shows(alloc: Global, cause: &Cause, words: &str) -> Result<bool, Fail> {
 
 #[test]
 fn causes(rt: HostRuntime) -> Result<(), Fail> {
-    for (cause, count, words) in CAUSES.iter() {
-        assert!(&rt;
-            number(cause) == *count && shows(rt.alloc(), cause, words)?,
-            "{words}"
-        );
+    for Named(cause, count, words) in CAUSES.iter() {
+        let is_as_said = number(cause) == *count && shows(rt.alloc(), cause, words)?;
+        must(&rt, is_as_said, words);
     }
     let text = format!(in rt.alloc(); "{:?}", HeapError::ZeroSize)?;
-    assert!(&rt; text.as_str() == "ZeroSize");
+    must(&rt, text.as_str() == "ZeroSize", "the name");
     Ok(())
 }

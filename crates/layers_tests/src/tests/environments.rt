@@ -1,7 +1,9 @@
 //! Environments that are accepted, and the causes that refuse others.
 
+use super::cases::{Case, all_hold, must, none_differs};
 use EnvError::{BadNumber, BadPool, BadPort, BadRing, TooMany};
 use dp_model::{Entry, Env, EnvError, Fact, PoolSpec, PortSpec, RingSpec, Row};
+use std::alloc::Global;
 
 /// The number of a pool's buffers, that of its cache, and its data room.
 type Pool = (u32, u32, u32);
@@ -38,16 +40,24 @@ const O64: Port = (0, 64, 65_536);
 const NO_PORT: Port = (9, 0, 0);
 
 /// Pools, the number of tables, rings and ports, and why an environment of these is refused, if it is.
-static ENVIRONMENTS: [(&[Pool], u8, &[Ring], &[Port], Option<EnvError>); 46] = [
+struct Environment(
+    &'static [Pool],
+    u8,
+    &'static [Ring],
+    &'static [Port],
+    Option<EnvError>,
+);
+
+static ENVIRONMENTS: [Environment; 46] = [
     // The numbers of parts.
-    (&[], 0, &[], &[O], Some(BadNumber)),
-    (&[P, P, P, P, P, P, P, P, P], 0, &[], &[O], Some(BadNumber)),
-    (&[P], 5, &[], &[O], Some(BadNumber)),
-    (&[P], 0, &[R, R, R, R, R, R, R, R, R], &[O], Some(BadNumber)),
-    (&[P], 0, &[], &[], Some(BadNumber)),
-    (&[P], 0, &[], &[O, O, O, O, O, O, O, O, O], Some(BadNumber)),
-    (&[P], 0, &[], &[O], None),
-    (
+    Environment(&[], 0, &[], &[O], Some(BadNumber)),
+    Environment(&[P, P, P, P, P, P, P, P, P], 0, &[], &[O], Some(BadNumber)),
+    Environment(&[P], 5, &[], &[O], Some(BadNumber)),
+    Environment(&[P], 0, &[R, R, R, R, R, R, R, R, R], &[O], Some(BadNumber)),
+    Environment(&[P], 0, &[], &[], Some(BadNumber)),
+    Environment(&[P], 0, &[], &[O, O, O, O, O, O, O, O, O], Some(BadNumber)),
+    Environment(&[P], 0, &[], &[O], None),
+    Environment(
         &[P, P, P, P, P, P, P, P],
         4,
         &[R, R, R, R, R, R, R, R],
@@ -55,17 +65,17 @@ static ENVIRONMENTS: [(&[Pool], u8, &[Ring], &[Port], Option<EnvError>); 46] = [
         None,
     ),
     // The limits of pools.
-    (&[P64, (0, 0, 0)], 0, &[], &[O], Some(BadPool(1))),
-    (&[P64, (1, 0, 0)], 0, &[], &[O], None),
-    (&[P64, (65_535, 0, 0)], 0, &[], &[O], Some(TooMany)),
-    (&[P64, (65_536, 0, 0)], 0, &[], &[O], Some(BadPool(1))),
-    (&[P64, (6, 4, 0)], 0, &[], &[O], None),
-    (&[P64, (5, 4, 0)], 0, &[], &[O], Some(BadPool(1))),
-    (&[P64, (768, 512, 0)], 0, &[], &[O], None),
-    (&[P64, (1000, 513, 0)], 0, &[], &[O], Some(BadPool(1))),
-    (&[P64, (1, 0, 4096)], 0, &[], &[O], None),
-    (&[P64, (1, 0, 4097)], 0, &[], &[O], Some(BadPool(1))),
-    (
+    Environment(&[P64, (0, 0, 0)], 0, &[], &[O], Some(BadPool(1))),
+    Environment(&[P64, (1, 0, 0)], 0, &[], &[O], None),
+    Environment(&[P64, (65_535, 0, 0)], 0, &[], &[O], Some(TooMany)),
+    Environment(&[P64, (65_536, 0, 0)], 0, &[], &[O], Some(BadPool(1))),
+    Environment(&[P64, (6, 4, 0)], 0, &[], &[O], None),
+    Environment(&[P64, (5, 4, 0)], 0, &[], &[O], Some(BadPool(1))),
+    Environment(&[P64, (768, 512, 0)], 0, &[], &[O], None),
+    Environment(&[P64, (1000, 513, 0)], 0, &[], &[O], Some(BadPool(1))),
+    Environment(&[P64, (1, 0, 4096)], 0, &[], &[O], None),
+    Environment(&[P64, (1, 0, 4097)], 0, &[], &[O], Some(BadPool(1))),
+    Environment(
         &[P64, (u32::MAX, u32::MAX, u32::MAX)],
         0,
         &[],
@@ -73,82 +83,82 @@ static ENVIRONMENTS: [(&[Pool], u8, &[Ring], &[Port], Option<EnvError>); 46] = [
         Some(BadPool(1)),
     ),
     // The limits of rings.
-    (
+    Environment(
         &[P129],
         0,
         &[R64, (0, Some((0, 1)))],
         &[O],
         Some(BadRing(1)),
     ),
-    (
+    Environment(
         &[P129],
         0,
         &[R64, (1, Some((0, 1)))],
         &[O],
         Some(BadRing(1)),
     ),
-    (&[P129], 0, &[R64, (2, Some((2, 1)))], &[O], None),
-    (
+    Environment(&[P129], 0, &[R64, (2, Some((2, 1)))], &[O], None),
+    Environment(
         &[P129],
         0,
         &[R64, (3, Some((0, 1)))],
         &[O],
         Some(BadRing(1)),
     ),
-    (
+    Environment(
         &[P129],
         0,
         &[R64, (6, Some((0, 1)))],
         &[O],
         Some(BadRing(1)),
     ),
-    (&[P129], 0, &[R64, (65_536, Some((0, 1)))], &[O], None),
-    (
+    Environment(&[P129], 0, &[R64, (65_536, Some((0, 1)))], &[O], None),
+    Environment(
         &[P129],
         0,
         &[R64, (131_072, Some((0, 1)))],
         &[O],
         Some(BadRing(1)),
     ),
-    (&[P129], 0, &[R64, (2, None)], &[O], Some(BadRing(1))),
-    (
+    Environment(&[P129], 0, &[R64, (2, None)], &[O], Some(BadRing(1))),
+    Environment(
         &[P129],
         0,
         &[R64, (2, Some((3, 1)))],
         &[O],
         Some(BadRing(1)),
     ),
-    (
+    Environment(
         &[P129],
         0,
         &[R64, (2, Some((0, 0)))],
         &[O],
         Some(BadRing(1)),
     ),
-    (
+    Environment(
         &[P129],
         0,
         &[R64, (2, Some((0, 65)))],
         &[O],
         Some(BadRing(1)),
     ),
-    (&[P129], 0, &[R64, (2, Some((0, 64)))], &[O], None),
+    Environment(&[P129], 0, &[R64, (2, Some((0, 64)))], &[O], None),
     // The limits of ports.
-    (&[P129, P128], 0, &[], &[O64, (0, 1, 2)], None),
-    (&[P129, P128], 0, &[], &[O64, (1, 1, 2)], Some(BadPort(1))),
-    (&[P129, P128], 0, &[], &[O64, (2, 1, 2)], Some(BadPort(1))),
-    (
+    Environment(&[P129, P128], 0, &[], &[O64, (0, 1, 2)], None),
+    Environment(&[P129, P128], 0, &[], &[O64, (1, 1, 2)], Some(BadPort(1))),
+    Environment(&[P129, P128], 0, &[], &[O64, (2, 1, 2)], Some(BadPort(1))),
+    Environment(
         &[P129, P128],
         0,
         &[],
         &[O64, (u32::MAX, 1, 2)],
         Some(BadPort(1)),
     ),
-    (&[P129, P128], 0, &[], &[O64, (0, 0, 2)], Some(BadPort(1))),
-    (&[P129, P128], 0, &[], &[O64, (0, 65, 2)], Some(BadPort(1))),
-    (&[P129, P128], 0, &[], &[O64, (0, 1, 1)], Some(BadPort(1))),
-    (&[P129, P128], 0, &[], &[O64, (0, 1, 3)], Some(BadPort(1))),
-    (
+    Environment(&[P129, P128], 0, &[], &[O64, (0, 0, 2)], Some(BadPort(1))),
+    Environment(&[P129, P128], 0, &[], &[O64, (0, 65, 2)], Some(BadPort(1))),
+    Environment(&[P129, P128], 0, &[], &[O64, (0, 1, 1)], Some(BadPort(1))),
+    Environment(&[P129, P128], 0, &[], &[O64, (0, 1, 3)], Some(BadPort(1))),
+    Environment(
         &[P129, P128],
         0,
         &[],
@@ -156,24 +166,24 @@ static ENVIRONMENTS: [(&[Pool], u8, &[Ring], &[Port], Option<EnvError>); 46] = [
         Some(BadPort(1)),
     ),
     // The first cause counts, at its first place: the numbers of parts, pools, rings, ports, and the sum of all buffers.
-    (&[NO_POOL], 9, &[NO_RING], &[NO_PORT], Some(BadNumber)),
-    (
+    Environment(&[NO_POOL], 9, &[NO_RING], &[NO_PORT], Some(BadNumber)),
+    Environment(
         &[P, NO_POOL, NO_POOL],
         0,
         &[NO_RING],
         &[NO_PORT],
         Some(BadPool(1)),
     ),
-    (
+    Environment(
         &[P, MANY],
         0,
         &[R, R, NO_RING, NO_RING],
         &[NO_PORT],
         Some(BadRing(2)),
     ),
-    (&[P, MANY], 0, &[R], &[O, O, O, NO_PORT], Some(BadPort(3))),
-    (&[P, MANY], 0, &[R], &[O], Some(TooMany)),
-    (&[P, (65_534, 0, 0)], 0, &[R], &[O], None),
+    Environment(&[P, MANY], 0, &[R], &[O, O, O, NO_PORT], Some(BadPort(3))),
+    Environment(&[P, MANY], 0, &[R], &[O], Some(TooMany)),
+    Environment(&[P, (65_534, 0, 0)], 0, &[R], &[O], None),
 ];
 
 fn held(share: u8, head: u16, segs: u8) -> Fact {
@@ -235,30 +245,37 @@ fn fault(of_pools: &[Pool], tables: u8, of_rings: &[Ring], of_ports: &[Port]) ->
     Env::new(pools, tables, rings, ports.get(..of_ports.len())?).err()
 }
 
-#[test]
-fn environments(rt: HostRuntime) {
-    for (k, (pools, tables, rings, ports, why)) in ENVIRONMENTS.iter().enumerate() {
-        assert!(rt;
-            fault(pools, *tables, rings, ports) == *why,
-            "environment {k}"
-        );
+impl Case for Environment {
+    fn holds(&self, _alloc: Global) -> bool {
+        fault(self.0, self.1, self.2, self.3) == self.4
     }
 }
 
-/// Causes, and the places that they name.
-static PLACES: [(EnvError, u8); 5] = [
-    (BadNumber, 0),
-    (BadPool(3), 3),
-    (BadRing(7), 7),
-    (BadPort(1), 1),
-    (TooMany, 0),
+#[test]
+fn environments(rt: HostRuntime) {
+    all_hold(&rt, rt.alloc(), &ENVIRONMENTS);
+}
+
+/// A cause, and the place that it names.
+struct Place(EnvError, u8);
+
+static PLACES: [Place; 5] = [
+    Place(BadNumber, 0),
+    Place(BadPool(3), 3),
+    Place(BadRing(7), 7),
+    Place(BadPort(1), 1),
+    Place(TooMany, 0),
 ];
+
+impl Case for Place {
+    fn holds(&self, _alloc: Global) -> bool {
+        self.0.index() == self.1
+    }
+}
 
 #[test]
 fn places_of_causes(rt: HostRuntime) {
-    for (cause, place) in PLACES.iter() {
-        assert!(rt; cause.index() == *place, "{place}");
-    }
+    all_hold(&rt, rt.alloc(), &PLACES);
 }
 
 // Whether an environment has what it was made of, and a copy of it is equal.
@@ -317,9 +334,10 @@ fn parts_and_entries(rt: HostRuntime) {
         Env::new(pools, 0, rings, ports),
     ) {
         (Ok(env), Ok(other)) => {
-            assert!(rt; has_its_parts(&env, pools, rings, ports) && other != env);
-            assert_eq!(rt; differs(&env), None);
+            let has_parts = has_its_parts(&env, pools, rings, ports) && other != env;
+            must(&rt, has_parts, "the parts");
+            none_differs(&rt, 0, differs(&env));
         }
-        _ => assert!(rt; false, "there are such environments"),
+        _ => must(&rt, false, "there are such environments"),
     }
 }

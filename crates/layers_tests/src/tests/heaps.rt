@@ -1,6 +1,7 @@
 //! Scripts of heap calls, and the elements after them, worked out by hand.
 ghost use Rattle.std.specs.Prelude.{◌≡◌, All};
 
+use super::cases::{must, none_differs};
 use Row::{Empty, Full};
 use Step::{Alone, Are, Counts, Fill, Free, Holds, Malloc, Refused, Zeros};
 use dp_heap::{Element, Heap, HeapError, State};
@@ -265,10 +266,10 @@ fn does(bench: &mut Bench, step: &Step) -> bool {
 // Ends a heap whose blocks are all freed.
 fn close(rt: &impl Abort, bench: Bench) {
     let Bench { heap, blocks } = bench;
-    assert!(rt; blocks.is_empty());
+    must(rt, blocks.is_empty(), "all blocks are freed");
     blocks.destroy_empty();
     let busy = heap.stats().busy_count;
-    assert!(rt; busy == 0);
+    must(rt, busy == 0, "no element is busy");
     heap.close().close();
 }
 
@@ -292,6 +293,6 @@ fn differs(rt: &impl Abort, alloc: Global, steps: &[Step]) -> Option<usize> {
 #[test]
 fn scripts(rt: HostRuntime) {
     for (k, steps) in SCRIPTS.iter().enumerate() {
-        assert_eq!(rt; differs(&rt, rt.alloc(), steps), None, "script {k}");
+        none_differs(&rt, k, differs(&rt, rt.alloc(), steps));
     }
 }

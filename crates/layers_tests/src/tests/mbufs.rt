@@ -4,3 +4,5 @@ mod calls;
 mod rows;
 mod setup;
 mod walk;
+
+use super::cases;

@@ -2,6 +2,7 @@
 ghost use Rattle.std.specs.Prelude.{◌≡◌, ◌<◌, length, replicate};
 ghost use Rattle.dp_pool.specs.Pools.{with_object};
 
+use super::cases::{must, none_differs};
 use PoolError::{BadCache, BadCount, BadSize};
 use Step::{
     Clear, Fill, Full, Get, GetAndPutBulk, GetAny, GetBulk, In, IsOut, NumberAll, Numbered, Part,
@@ -398,7 +399,8 @@ fn differs_in(
     let first = differs(&mut pool, steps);
     pool.unmake(&mut heap, &mut zones);
     heap.close().close();
-    assert!(rt; zones.lookup("p.obj") == None && zones.lookup("p.ring") == None);
+    let are_gone = zones.lookup("p.obj").is_none() && zones.lookup("p.ring").is_none();
+    must(rt, are_gone, "the zones are gone");
     first
 }
 
@@ -406,7 +408,7 @@ fn differs_in(
 fn scripts(rt: HostRuntime) {
     for (k, (count, size, cache, steps)) in SCRIPTS.iter().enumerate() {
         let first = differs_in(&rt, rt.alloc(), (*count, *size, *cache), steps);
-        assert_eq!(rt; first, None, "script {k}");
+        none_differs(&rt, k, first);
     }
 }
 
@@ -414,7 +416,7 @@ fn scripts(rt: HostRuntime) {
 fn what_the_cache_holds_is_in(rt: HostRuntime) {
     for cache in 0..5u32 {
         let first = differs_in(&rt, rt.alloc(), (6, 64, cache), &EMPTIED_AND_FILLED);
-        assert_eq!(rt; first, None, "cache {cache}");
+        none_differs(&rt, cache as usize, first);
     }
 }
 
@@ -506,15 +508,16 @@ fn is_whole(heap: &Heap) -> bool {
 fn refused_in_order(rt: HostRuntime) {
     let mut heap = Heap::new(Region::new(rt.alloc(), 4096).expect(&rt, "memory"));
     let mut zones = Zones::new();
-    assert_eq!(rt; differs_at(&mut heap, &mut zones, &REFUSED_IN_ORDER), None);
-    assert!(&rt; is_whole(&heap));
+    let first = differs_at(&mut heap, &mut zones, &REFUSED_IN_ORDER);
+    none_differs(&rt, 0, first);
+    must(&rt, is_whole(&heap), "the heap is whole");
     let zone = zones
         .reserve(&mut heap, "q.ring", 64, 0)
         .expect(&rt, "q.ring");
     let first = differs_at(&mut heap, &mut zones, &BESIDE_Q_RING);
     zones.give_back(&mut heap, zone);
     let busy = heap.stats().busy_count;
-    assert!(&rt; busy == 0);
+    must(&rt, busy == 0, "no element is busy");
     heap.close().close();
-    assert_eq!(rt; first, None);
+    none_differs(&rt, 1, first);
 }

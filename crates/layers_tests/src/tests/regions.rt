@@ -2,6 +2,7 @@
 ghost use Rattle.std.specs.Prelude.{◌≡◌, ◌≤◌, [], length};
 ghost use Rattle.dp_region.specs.Region.{IsRegionSize, min_region};
 
+use super::cases::must;
 use dp_region::{Block, MAX_REGION, Memory, Region};
 use std::alloc::Global;
 use std::process::Abort;
@@ -84,7 +85,7 @@ fn bytes_stay_as_the_holder_left_them(rt: HostRuntime) {
     let kept = is_kept(&mut region);
     let size = region.size();
     region.close();
-    assert!(&rt; kept && size == 4096);
+    must(&rt, kept && size == 4096, "the bytes");
 }
 
 // With the first allocation refused, `new` returns `Memory`.
@@ -92,7 +93,7 @@ fn bytes_stay_as_the_holder_left_them(rt: HostRuntime) {
 fn want_of_memory_is_reported(rt: HostRuntime) {
     match Region::new(rt.alloc(), 4096) {
         Ok(region) => region.close(),
-        Err(error) => assert_eq!(rt; error, Memory),
+        Err(error) => must(&rt, error == Memory, "want of memory"),
     }
 }
 
@@ -116,7 +117,8 @@ fn used(rt: &impl Abort, alloc: Global, size: u32, number: u32) -> (u32, u32)
 #[test]
 fn the_largest_region(rt: HostRuntime) {
     let number = 0x0102_0304;
-    assert!(&rt; used(&rt, rt.alloc(), MAX_REGION, number) == (number, number));
+    let is_kept = used(&rt, rt.alloc(), MAX_REGION, number) == (number, number);
+    must(&rt, is_kept, "both numbers");
 }
 
 // All memory is freed, so any number of regions can follow one another.
@@ -125,10 +127,8 @@ fn ten_thousand_regions_follow_one_another(rt: HostRuntime) {
     for k in 0..2500u32 {
         for size in [4096u32, 8192, 12_288, 16_384] {
             let number = k * 1000 + size % 1000;
-            assert!(&rt;
-                used(&rt, rt.alloc(), size, number) == (number, number),
-                "{k} {size}"
-            );
+            let is_kept = used(&rt, rt.alloc(), size, number) == (number, number);
+            must(&rt, is_kept, "both numbers");
         }
     }
 }

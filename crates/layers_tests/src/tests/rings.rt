@@ -1,6 +1,7 @@
 //! Rings that are filled and emptied, call by call.
 ghost use Rattle.std.specs.Prelude.{◌≡◌, length};
 
+use super::cases::none_differs;
 use Step::{
     Contains, Count, Dequeue, DequeueBulk, DequeueBurst, Enqueue, EnqueueBulk, EnqueueBurst, Peek,
 };
@@ -165,7 +166,7 @@ fn differs_in(rt: &impl Abort, alloc: Global, slots: u32, steps: &[Step]) -> Opt
 
 #[test]
 fn scripts(rt: HostRuntime) {
-    for (slots, steps) in SCRIPTS.iter() {
-        assert_eq!(rt; differs_in(&rt, rt.alloc(), *slots, steps), None, "{slots}");
+    for (k, (slots, steps)) in SCRIPTS.iter().enumerate() {
+        none_differs(&rt, k, differs_in(&rt, rt.alloc(), *slots, steps));
     }
 }

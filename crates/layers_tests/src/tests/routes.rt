@@ -2,6 +2,7 @@
 
 mod plain;
 
+use super::cases::{must, none_differs};
 use LpmError::{BadDepth, BadHop, GroupsFull, NoRule, RulesFull};
 use Step::{Add, Delete, Len, Lookup};
 use dp_lpm::{Lpm, LpmError, MAX_GROUPS, MAX_HOP, MAX_RULES, MAX_TABLES, Tables};
@@ -127,7 +128,7 @@ fn differs(table: &mut Lpm, steps: &[Step]) -> Option<usize> {
 fn scripts(rt: HostRuntime) -> Result<(), Fail> {
     for (k, (rules, groups, steps)) in SCRIPTS.iter().enumerate() {
         let mut table = Lpm::new(rt.alloc(), *rules, *groups)?;
-        assert_eq!(rt; differs(&mut table, steps), None, "script {k}");
+        none_differs(&rt, k, differs(&mut table, steps));
     }
     Ok(())
 }
@@ -169,9 +170,13 @@ fn deletes_all(table: &mut Lpm, address: u32) -> bool {
 fn every_depth_over_one_address(rt: HostRuntime) -> Result<(), Fail> {
     let mut table = Lpm::new(rt.alloc(), 32, 1)?;
     let address = u32::from_be_bytes([170, 85, 204, 51]);
-    assert!(rt; adds_all(&mut table, address));
-    assert!(rt; leaves_at_each_bit(&table, address));
-    assert!(rt; deletes_all(&mut table, address));
+    must(&rt, adds_all(&mut table, address), "each rule decides");
+    must(&rt, leaves_at_each_bit(&table, address), "the rule above");
+    must(
+        &rt,
+        deletes_all(&mut table, address),
+        "the deepest rule decides",
+    );
     Ok(())
 }
 
@@ -270,23 +275,33 @@ impl Pair {
     }
 }
 
+// Deletes a rule, or adds one; returns whether it is refused. None if the answers differ, or those of look-ups after it.
+fn random_step(pair: &mut Pair) -> Option<Result<(), LpmError>> {
+    let answer = if pair.numbers.next() % 4 == 0 {
+        let _ = pair.delete()?;
+        Ok(())
+    } else {
+        pair.add()?
+    };
+    if pair.agree(10) { Some(answer) } else { None }
+}
+
 #[test]
 fn the_table_and_the_list_agree(rt: HostRuntime) -> Result<(), Fail> {
     let mut pair = Pair::new(rt.alloc(), 300, 6, 7)?;
     let mut refused = 0u32;
-    for step in 0..1500u32 {
-        if pair.numbers.next() % 4 == 0 {
-            assert!(rt; pair.delete() != None, "delete {step}");
-        } else {
-            let answer = pair.add();
-            assert!(rt; answer != None, "add {step}");
-            if answer != Some(Ok(())) {
-                refused = refused.wrapping_add(1);
-            }
+    for _ in 0..1500u32 {
+        match random_step(&mut pair) {
+            Some(Ok(())) => {}
+            Some(Err(_)) => refused = refused.wrapping_add(1),
+            None => must(&rt, false, "the answers agree"),
         }
-        assert!(rt; pair.agree(10), "step {step}");
     }
-    assert!(rt; refused > 0 && pair.agree(100_000));
+    must(
+        &rt,
+        refused > 0 && pair.agree(100_000),
+        "refusals and look-ups",
+    );
     Ok(())
 }
 
@@ -325,16 +340,21 @@ fn halves(pair: &mut Pair) -> bool {
 #[test]
 fn a_thousand_rules_with_groups_to_spare(rt: HostRuntime) -> Result<(), Fail> {
     let mut pair = Pair::new(rt.alloc(), 1000, 256, 11)?;
-    assert!(rt; fills(&mut pair) && pair.table.len() == 1000 && pair.agree(20_000));
-    assert!(rt; halves(&mut pair) && pair.table.len() == 500 && pair.agree(20_000));
+    let is_full = fills(&mut pair) && pair.table.len() == 1000 && pair.agree(20_000);
+    must(&rt, is_full, "a full table");
+    let is_half_full = halves(&mut pair) && pair.table.len() == 500 && pair.agree(20_000);
+    must(&rt, is_half_full, "a table half full");
     Ok(())
 }
 
 #[test]
 fn the_limits_are_those_of_the_library(rt: HostRuntime) {
     dp_lpm::has_its_numbers();
-    assert!(rt; (MAX_RULES, MAX_GROUPS) == (65_536, 256));
-    assert!(rt; (MAX_HOP, MAX_TABLES) == (16_777_215, 4));
+    let are_limits = MAX_RULES == 65_536
+        && MAX_GROUPS == 256
+        && MAX_HOP == 16_777_215
+        && MAX_TABLES == 4;
+    must(&rt, are_limits, "the limits");
 }
 
 // A table with one rule: addresses that begin with these bits go to `hop`.

@@ -1,6 +1,7 @@
 //! Zones that are reserved, looked up and given back, call by call.
 ghost use Rattle.std.specs.Prelude.{◌≡◌, All};
 
+use super::cases::{must, none_differs};
 use Step::{GiveAllBack, GiveBack, Keep, KeepAll, Lookup, Try, Whole};
 use ZoneError::{BadAlign, BadLength, BadName, Exists, Full, NoRoom};
 use arrayvec::ArrayString;
@@ -175,10 +176,10 @@ fn close(rt: &impl Abort, bench: Bench) {
         zones: _,
         kept,
     } = bench;
-    assert!(rt; kept.is_empty());
+    must(rt, kept.is_empty(), "all zones are given back");
     kept.destroy_empty();
     let busy = heap.stats().busy_count;
-    assert!(rt; busy == 0);
+    must(rt, busy == 0, "no element is busy");
     heap.close().close();
 }
 
@@ -204,7 +205,7 @@ fn differs(rt: &impl Abort, alloc: Global, size: u32, steps: &[Step]) -> Option<
 #[test]
 fn scripts(rt: HostRuntime) {
     for (k, (size, steps)) in SCRIPTS.iter().enumerate() {
-        assert_eq!(rt; differs(&rt, rt.alloc(), *size, steps), None, "script {k}");
+        none_differs(&rt, k, differs(&rt, rt.alloc(), *size, steps));
     }
 }
 
@@ -289,13 +290,16 @@ fn bytes_of_a_zone(rt: HostRuntime) {
     let edited = is_edited(&mut zone) && reads(&zone);
     zones.give_back(&mut heap, zone);
     heap.close().close();
-    assert!(&rt; edited);
+    must(&rt, edited, "the bytes");
+}
+
+fn is_named(name: &ZoneName) -> bool {
+    name.as_str() == "port~!" && name.is("port~!") && !name.is("port~") && !name.is("port~!!")
 }
 
 #[test]
 fn names(rt: HostRuntime) {
     let name = ZoneName::new("port~!").expect(&rt, "a name");
-    let copy = name.copy();
-    assert!(&rt; copy.as_str() == "port~!" && ZoneName::new("port 1").is_none());
-    assert!(&rt; copy.is("port~!") && !copy.is("port~") && !copy.is("port~!!"));
+    must(&rt, is_named(&name.copy()), "the name");
+    must(&rt, ZoneName::new("port 1").is_none(), "no name");
 }

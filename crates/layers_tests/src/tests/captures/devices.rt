@@ -1,5 +1,6 @@
 //! How often readers are called, and what their buffers hold.
 
+use super::cases::{Case, all_hold, must, none_differs};
 use super::writing::Taker;
 use super::{Buffer, HUNDRED, ROOM, THREE_RECORDS, copied, edited, next};
 use dp_pcap::{
@@ -93,23 +94,31 @@ fn at_hand<F: Feed>(r: &mut Counting<F>, buf: &mut Buffer) -> Option<usize> {
     }
 }
 
-// The same for a feed with a buffer of this room.
-fn at_hand_in(alloc: Global, room: usize, buf: &mut Buffer) -> Option<usize> {
-    let inner = buffered(alloc, room)?;
-    at_hand(&mut Counting { inner, count: 0 }, buf)
+/// The room of a feed's buffer, and how many records are at hand in it.
+struct AtHand(usize, usize);
+
+impl Case for AtHand {
+    fn holds(&self, alloc: Global) -> bool {
+        let mut buf = [0u8; ROOM];
+        match buffered(alloc, self.0) {
+            Some(inner) => at_hand(&mut Counting { inner, count: 0 }, &mut buf) == Some(self.1),
+            None => false,
+        }
+    }
 }
+
+static AT_HAND: [AtHand; 5] = [
+    AtHand(0, 0),
+    AtHand(16, 0),
+    AtHand(54, 1),
+    AtHand(146, 3),
+    AtHand(200, 3),
+];
 
 // A record at hand is the one that comes next, and stepping over it is no call.
 #[test]
 fn what_is_at_hand_comes_next(rt: HostRuntime) {
-    let mut buf = [0u8; ROOM];
-    for (room, lent) in [(0usize, 0usize), (16, 0), (54, 1), (146, 3), (200, 3)] {
-        assert_eq!(rt;
-            at_hand_in(rt.alloc(), room, &mut buf),
-            Some(lent),
-            "{room}"
-        );
-    }
+    all_hold(&rt, rt.alloc(), &AT_HAND);
 }
 
 // How many bytes are buffered after the header, if no record is at hand.
@@ -133,21 +142,35 @@ fn left_where_it_fails(alloc: Global, after: usize) -> Option<usize> {
     without_a_record(&mut FailingFeed::new(buffered(alloc, 256)?, after))
 }
 
+/// The place of a byte of `THREE_RECORDS`, and another value.
+struct NotAtHand(usize, u8);
+
+impl Case for NotAtHand {
+    fn holds(&self, alloc: Global) -> bool {
+        let wrong = edited(&THREE_RECORDS, &[(self.0, self.1)]);
+        left_in(alloc, &wrong) == Some(122)
+    }
+}
+
+static NOT_AT_HAND: [NotAtHand; 3] = [NotAtHand(31, 255), NotAtHand(35, 1), NotAtHand(32, 255)];
+
 // A part of a record is not at hand, and neither is one with a bad head.
 #[test]
 fn nothing_else_is_at_hand(rt: HostRuntime) {
-    for (at, byte) in [(31usize, 255u8), (35, 1), (32, 255)] {
-        let wrong = edited(&THREE_RECORDS, &[(at, byte)]);
-        assert_eq!(rt; left_in(rt.alloc(), &wrong), Some(122), "{at}");
-    }
+    all_hold(&rt, rt.alloc(), &NOT_AT_HAND);
+}
+
+// How many bytes are buffered in a device that keeps nothing.
+fn left_in_plain() -> Option<usize> {
+    without_a_record(&mut OfRead::new(THREE_RECORDS.as_slice()))
 }
 
 // A device that is broken or keeps nothing has nothing at hand.
 #[test]
 fn nothing_is_at_hand_without_a_buffer(rt: HostRuntime) {
-    let mut plain = OfRead::new(THREE_RECORDS.as_slice());
-    assert_eq!(rt; without_a_record(&mut plain), Some(0));
-    assert_eq!(rt; left_where_it_fails(rt.alloc(), 30), Some(0));
+    must(&rt, left_in_plain() == Some(0), "the plain device");
+    let left = left_where_it_fails(rt.alloc(), 30);
+    must(&rt, left == Some(0), "the broken device");
 }
 
 // Reads every record, those that are at hand there; returns how many.
@@ -168,21 +191,23 @@ fn read_all<R: Feed>(r: &mut R, buf: &mut Buffer) -> Result<usize, PcapError> {
 }
 
 /// The bytes of `THREE_RECORDS` that have other values, how many bytes come, how many records are read, and how many of them are truncated.
-static TRUNCATED: [(&[(usize, u8)], usize, usize, u64); 12] = [
+struct Truncated(&'static [(usize, u8)], usize, usize, u64);
+
+static TRUNCATED: [Truncated; 12] = [
     // A record is truncated if its packet had more bytes than were captured.
-    (&[(36, 14)], 146, 3, 0),
-    (&[(36, 15)], 146, 3, 1),
-    (&[(37, 1)], 146, 3, 1),
-    (&[(36, 13)], 146, 3, 0),
-    (&[(66, 1)], 146, 3, 1),
-    (&[(69, 255)], 146, 3, 1),
+    Truncated(&[(36, 14)], 146, 3, 0),
+    Truncated(&[(36, 15)], 146, 3, 1),
+    Truncated(&[(37, 1)], 146, 3, 1),
+    Truncated(&[(36, 13)], 146, 3, 0),
+    Truncated(&[(66, 1)], 146, 3, 1),
+    Truncated(&[(69, 255)], 146, 3, 1),
     // A record that ends before its captured bytes do was not read, so it is not counted.
-    (&[(36, 200), (82, 200)], 146, 3, 2),
-    (&[(36, 200), (82, 200)], 145, 2, 1),
-    (&[(36, 200), (82, 200)], 86, 2, 1),
-    (&[(36, 200), (82, 200)], 54, 1, 1),
-    (&[(36, 200), (82, 200)], 53, 0, 0),
-    (&[(36, 200), (82, 200)], 24, 0, 0),
+    Truncated(&[(36, 200), (82, 200)], 146, 3, 2),
+    Truncated(&[(36, 200), (82, 200)], 145, 2, 1),
+    Truncated(&[(36, 200), (82, 200)], 86, 2, 1),
+    Truncated(&[(36, 200), (82, 200)], 54, 1, 1),
+    Truncated(&[(36, 200), (82, 200)], 53, 0, 0),
+    Truncated(&[(36, 200), (82, 200)], 24, 0, 0),
 ];
 
 // How many records a feed with a buffer of this room, or without one, reads in these bytes, and how many of them are truncated.
@@ -224,17 +249,20 @@ fn are_counted(alloc: Global, bytes: &[u8], records: usize, truncated: u64) -> b
     true
 }
 
+impl Case for Truncated {
+    fn holds(&self, alloc: Global) -> bool {
+        let bytes = edited(&THREE_RECORDS, self.0);
+        match bytes.get(..self.1) {
+            Some(front) => are_counted(alloc, front, self.2, self.3),
+            None => false,
+        }
+    }
+}
+
 // Whether the record is at hand or read in parts, its truncation is counted.
 #[test]
 fn truncated_records_are_counted(rt: HostRuntime) {
-    for (k, (edits, len, records, truncated)) in TRUNCATED.iter().enumerate() {
-        let bytes = edited(&THREE_RECORDS, edits);
-        let counted = match bytes.get(..*len) {
-            Some(front) => are_counted(rt.alloc(), front, *records, *truncated),
-            None => false,
-        };
-        assert!(&rt; counted, "row {k}");
-    }
+    all_hold(&rt, rt.alloc(), &TRUNCATED);
 }
 
 /// What each call returns, with the calls of the reader until then.
@@ -267,7 +295,7 @@ fn miscalls<F: Feed>(r: &mut Counting<F>) -> Option<usize> {
 #[test]
 fn a_call_a_piece(rt: HostRuntime) {
     let inner = OfRead::new(THREE_RECORDS.as_slice());
-    assert_eq!(rt; miscalls(&mut Counting { inner, count: 0 }), None);
+    none_differs(&rt, 0, miscalls(&mut Counting { inner, count: 0 }));
 }
 
 /// A reader that gives at most `most` bytes in a call, then ends or fails, and counts the calls.
@@ -300,24 +328,26 @@ impl Read for Sipped {
 
 /// How many bytes of `THREE_RECORDS` come, how many of them at most in a call, where the record begins in which they end, and the calls of the
 /// reader until then. The last call of each row gives nothing.
-static CUTS: [(usize, usize, u64, usize); 14] = [
+struct CutOff(usize, usize, u64, usize);
+
+static CUTS: [CutOff; 14] = [
     // One call for each byte that came, and one more, whatever length the record would have.
-    (25, 1, 24, 26),
-    (39, 1, 24, 40),
-    (40, 1, 24, 41),
-    (53, 1, 24, 54),
-    (55, 1, 54, 56),
-    (86, 1, 70, 87),
-    (145, 1, 70, 146),
+    CutOff(25, 1, 24, 26),
+    CutOff(39, 1, 24, 40),
+    CutOff(40, 1, 24, 41),
+    CutOff(53, 1, 24, 54),
+    CutOff(55, 1, 54, 56),
+    CutOff(86, 1, 70, 87),
+    CutOff(145, 1, 70, 146),
     // Seven bytes a call: four calls for the header, three for a head.
-    (30, 7, 24, 6),
-    (45, 7, 24, 9),
-    (100, 7, 70, 18),
+    CutOff(30, 7, 24, 6),
+    CutOff(45, 7, 24, 9),
+    CutOff(100, 7, 70, 18),
     // All that it is asked for: a call a piece, and one more in the piece that is cut.
-    (30, 1000, 24, 3),
-    (40, 1000, 24, 3),
-    (45, 1000, 24, 4),
-    (100, 1000, 70, 7),
+    CutOff(30, 1000, 24, 3),
+    CutOff(40, 1000, 24, 3),
+    CutOff(45, 1000, 24, 4),
+    CutOff(100, 1000, 70, 7),
 ];
 
 // Whether the records end like this, once, and then at the end.
@@ -349,53 +379,53 @@ fn calls_until(inner: Sipped, ends: Result<Next, PcapError>, buf: &mut Buffer) -
     }
 }
 
-// A reader that ends or fails inside a record is called once for each byte that came, and once more; after that it is not called.
-#[test]
-fn a_cut_takes_a_call_a_byte_and_one_more(rt: HostRuntime) {
-    let mut buf = [0u8; ROOM];
-    for (len, most, byte, calls) in CUTS.iter() {
-        for fails in [false, true] {
-            let inner = Sipped {
-                left: THREE_RECORDS.get(..*len).unwrap_or(&[]),
-                most: *most,
-                fails,
-                count: 0,
-            };
-            let ends = if fails {
-                Err(PcapError::Read)
-            } else {
-                Ok(Next::Cut(*byte))
-            };
-            assert_eq!(rt;
-                calls_until(inner, ends, &mut buf),
-                Some(*calls),
-                "{len} {most}"
-            );
-        }
+impl CutOff {
+    // The calls of a reader that ends there, or fails.
+    fn calls(&self, fails: bool, ends: Result<Next, PcapError>) -> Option<usize> {
+        let mut buf = [0u8; ROOM];
+        let left = THREE_RECORDS.get(..self.0)?;
+        let inner = Sipped {
+            left,
+            most: self.1,
+            fails,
+            count: 0,
+        };
+        calls_until(inner, ends, &mut buf)
     }
 }
 
-// The calls of a feed of which `THREE_RECORDS` is copied, and the writer afterwards.
-fn calls_of_copy(taker: Taker) -> (usize, Taker) {
-    let mut buf = [0u8; ROOM];
+impl Case for CutOff {
+    fn holds(&self, _alloc: Global) -> bool {
+        self.calls(false, Ok(Next::Cut(self.2))) == Some(self.3)
+            && self.calls(true, Err(PcapError::Read)) == Some(self.3)
+    }
+}
+
+// A reader that ends or fails inside a record is called once for each byte that came, and once more; after that it is not called.
+#[test]
+fn a_cut_takes_a_call_a_byte_and_one_more(rt: HostRuntime) {
+    all_hold(&rt, rt.alloc(), &CUTS);
+}
+
+// Whether a writer took `THREE_RECORDS`, and was called once for each piece.
+fn has_taken_pieces(taker: Taker) -> bool {
+    taker.held.as_slice() == THREE_RECORDS.as_slice()
+        && taker.offered.as_slice() == &[24usize, 16, 14, 16, 16, 60][..]
+}
+
+// Whether a copy of `THREE_RECORDS` makes a call a piece, of its feed and of its writer.
+fn copies_by_pieces(taker: Taker) -> bool {
     let inner = OfRead::new(THREE_RECORDS.as_slice());
     let mut r = Counting { inner, count: 0 };
     let mut w = OfWrite::new(taker);
-    match copied(&mut r, &mut w, &mut buf) {
-        Ok(None) => (r.count, w.into_inner()),
-        _ => (0, w.into_inner()),
-    }
+    copied(&mut r, &mut w) == Ok(None) && r.count == 7 && has_taken_pieces(w.into_inner())
 }
 
 // So it is for a copy, and a writer that takes all that it is offered is called once for each piece too.
 #[test]
 fn a_copy_makes_a_call_a_piece(rt: HostRuntime) {
-    let (calls, taker) = calls_of_copy(Taker::new(rt.alloc(), &[], 1000));
-    assert!(&rt;
-        calls == 7
-            && taker.held.as_slice() == THREE_RECORDS.as_slice()
-            && taker.offered.as_slice() == &[24usize, 16, 14, 16, 16, 60][..]
-    );
+    let holds = copies_by_pieces(Taker::new(rt.alloc(), &[], 1000));
+    must(&rt, holds, "a call a piece");
 }
 
 /// A reader that fails its first call only, and counts all calls.
@@ -420,6 +450,12 @@ fn fails_twice<R: Feed>(r: &mut R) -> bool {
     first && read_header(r).err() == Some(PcapError::Read)
 }
 
+// Whether a reader of which two headers in turn fail is called once.
+fn is_called_once() -> bool {
+    let mut r = OfRead::new(FailsOnce { count: 0 });
+    fails_twice(&mut r) && r.into_inner().count == 1
+}
+
 // The calls of a reader with a buffer, of which two headers in turn fail.
 fn calls_with_a_buffer(alloc: Global) -> Option<usize> {
     let Ok(inner) = BufReader::with_capacity(alloc, 64, FailsOnce { count: 0 }) else {
@@ -436,38 +472,45 @@ fn calls_with_a_buffer(alloc: Global) -> Option<usize> {
 // An interrupted read breaks the device, and the reader is not called again, with a buffer in between or without.
 #[test]
 fn a_failed_reader_is_left_alone(rt: HostRuntime) {
-    let mut r = OfRead::new(FailsOnce { count: 0 });
-    assert!(&rt; fails_twice(&mut r) && r.into_inner().count == 1);
-    assert_eq!(rt; calls_with_a_buffer(rt.alloc()), Some(1));
+    must(&rt, is_called_once(), "one call");
+    let calls = calls_with_a_buffer(rt.alloc());
+    must(&rt, calls == Some(1), "one call with a buffer");
 }
 
 // Whether a copy of `HUNDRED` through buffers of this room is the same, and leaves nothing in the reader.
-fn is_same(alloc: Global, room: usize, buf: &mut Buffer) -> bool {
+fn is_same(alloc: Global, room: usize) -> bool {
     let Ok(inner) = BufReader::with_capacity(alloc, room, HUNDRED.as_slice()) else {
         return false;
     };
     let mut r = OfBufReader::new(inner);
-    is_written(alloc, room, &mut r, buf)
+    is_written(alloc, room, &mut r)
         && r.get_ref().buffer().is_empty()
         && r.get_ref().get_ref().is_empty()
 }
 
 // Whether a copy from this feed through a buffer is `HUNDRED`.
-fn is_written<R: Feed>(alloc: Global, room: usize, r: &mut R, buf: &mut Buffer) -> bool {
+fn is_written<R: Feed>(alloc: Global, room: usize, r: &mut R) -> bool {
     let Ok(inner) = Buffered::with_capacity(alloc, room, Vec::new(alloc)) else {
         return false;
     };
     let mut w = OfBufWriter::new(inner);
-    copied(r, &mut w, buf) == Ok(None)
+    copied(r, &mut w) == Ok(None)
         && w.flush().is_ok()
         && w.get_ref().get_ref().as_slice() == HUNDRED.as_slice()
+}
+
+// The first room of buffers that changes a copy.
+fn room_that_differs(alloc: Global) -> Option<usize> {
+    for room in 0..102usize {
+        if !is_same(alloc, room) {
+            return Some(room);
+        }
+    }
+    None
 }
 
 // Buffers that end at every byte of a header, of a record's head and of its bytes.
 #[test]
 fn buffers_of_any_room_change_nothing(rt: HostRuntime) {
-    let mut buf = [0u8; ROOM];
-    for room in 0..102usize {
-        assert!(&rt; is_same(rt.alloc(), room, &mut buf), "{room}");
-    }
+    none_differs(&rt, 0, room_that_differs(rt.alloc()));
 }

@@ -1,5 +1,6 @@
 //! What captures are read as, call by call.
 
+use super::cases::{Case, all_hold, must, none_differs};
 use super::{BODY, Buffer, HUNDRED, MICRO_HEADER, NANO_HEADER, ROOM, copied, edited, next};
 use Answer::{Cut, End, Record, Refused};
 use PcapError::{BadLink, BadMagic, BadTime, BadVersion, ShortHeader, TooLong, TooMany};
@@ -29,9 +30,16 @@ const EMPTY_RECORD: [u8; 40] = [
 ];
 
 /// The bytes of a capture, those of them that have other values, what the header is read as, and what each call after it returns.
-static CAPTURES: [(&[u8], &[(usize, u8)], Result<Unit, PcapError>, &[Answer]); 18] = [
+struct Capture(
+    &'static [u8],
+    &'static [(usize, u8)],
+    Result<Unit, PcapError>,
+    &'static [Answer],
+);
+
+static CAPTURES: [Capture; 18] = [
     // Big endian, nanoseconds: a record of 14 bytes at (10, 5).
-    (
+    Capture(
         &[
             0xa1, 0xb2, 0x3c, 0x4d, 0, 2, 0, 4, 9, 9, 9, 9, 9, 9, 9, 9, 9, 9, 9, 9, 0, 0, 0, 1, 0,
             0, 0, 10, 0, 0, 0, 5, 0, 0, 0, 14, 0, 0, 0, 99, 1, 2, 3, 4, 5, 6, 7, 8, 9, 10, 11, 12,
@@ -46,7 +54,7 @@ static CAPTURES: [(&[u8], &[(usize, u8)], Result<Unit, PcapError>, &[Answer]); 1
         ],
     ),
     // Little endian, microseconds: a record of 14 bytes at (10, 7), and 3 bytes of one of 20.
-    (
+    Capture(
         &[
             0xd4, 0xc3, 0xb2, 0xa1, 2, 0, 4, 0, 0, 0, 0, 0, 0, 0, 0, 0, 0, 0, 4, 0, 1, 0, 0, 0, 10,
             0, 0, 0, 7, 0, 0, 0, 14, 0, 0, 0, 14, 0, 0, 0, 1, 1, 1, 1, 1, 1, 1, 1, 1, 1, 1, 1, 1,
@@ -62,43 +70,43 @@ static CAPTURES: [(&[u8], &[(usize, u8)], Result<Unit, PcapError>, &[Answer]); 1
         ],
     ),
     // One byte of the header is changed, or two.
-    (&MICRO_HEADER, &[(0, 0xd5)], Err(BadMagic), &[]),
-    (&MICRO_HEADER, &[(3, 0xa2)], Err(BadMagic), &[]),
-    (&MICRO_HEADER, &[(4, 3)], Err(BadVersion), &[]),
-    (&MICRO_HEADER, &[(5, 2)], Err(BadVersion), &[]),
-    (&MICRO_HEADER, &[(6, 3)], Err(BadVersion), &[]),
-    (&MICRO_HEADER, &[(20, 101)], Err(BadLink), &[]),
-    (&MICRO_HEADER, &[(23, 4)], Err(BadLink), &[]),
-    (&MICRO_HEADER, &[(8, 1)], Ok(Micro), &[End]),
-    (&MICRO_HEADER, &[(12, 1)], Ok(Micro), &[End]),
-    (&MICRO_HEADER, &[(16, 1)], Ok(Micro), &[End]),
-    (&MICRO_HEADER, &[(4, 3), (20, 101)], Err(BadVersion), &[]),
+    Capture(&MICRO_HEADER, &[(0, 0xd5)], Err(BadMagic), &[]),
+    Capture(&MICRO_HEADER, &[(3, 0xa2)], Err(BadMagic), &[]),
+    Capture(&MICRO_HEADER, &[(4, 3)], Err(BadVersion), &[]),
+    Capture(&MICRO_HEADER, &[(5, 2)], Err(BadVersion), &[]),
+    Capture(&MICRO_HEADER, &[(6, 3)], Err(BadVersion), &[]),
+    Capture(&MICRO_HEADER, &[(20, 101)], Err(BadLink), &[]),
+    Capture(&MICRO_HEADER, &[(23, 4)], Err(BadLink), &[]),
+    Capture(&MICRO_HEADER, &[(8, 1)], Ok(Micro), &[End]),
+    Capture(&MICRO_HEADER, &[(12, 1)], Ok(Micro), &[End]),
+    Capture(&MICRO_HEADER, &[(16, 1)], Ok(Micro), &[End]),
+    Capture(&MICRO_HEADER, &[(4, 3), (20, 101)], Err(BadVersion), &[]),
     // A fraction of 1,000,000, a length of 262,145, both of these, and the largest that are accepted.
-    (
+    Capture(
         &EMPTY_RECORD,
         &[(28, 0x40), (29, 0x42), (30, 0x0f)],
         Ok(Micro),
         &[Refused(BadTime), End],
     ),
-    (
+    Capture(
         &EMPTY_RECORD,
         &[(32, 1), (34, 4)],
         Ok(Micro),
         &[Refused(TooLong), End],
     ),
-    (
+    Capture(
         &EMPTY_RECORD,
         &[(28, 0x40), (29, 0x42), (30, 0x0f), (32, 1), (34, 4)],
         Ok(Micro),
         &[Refused(BadTime), End],
     ),
-    (
+    Capture(
         &EMPTY_RECORD,
         &[(28, 0x3f), (29, 0x42), (30, 0x0f)],
         Ok(Micro),
         &[Record(0, 999_999_000, &[]), End],
     ),
-    (&EMPTY_RECORD, &[(34, 4)], Ok(Micro), &[Cut(24), End]),
+    Capture(&EMPTY_RECORD, &[(34, 4)], Ok(Micro), &[Cut(24), End]),
 ];
 
 // The result of a call, and the bytes that it read.
@@ -164,12 +172,15 @@ fn differs_in(
     differs(&mut OfRead::new(front), header, answers, &mut buf)
 }
 
+impl Case for Capture {
+    fn holds(&self, _alloc: Global) -> bool {
+        differs_in(self.0, self.1, self.2, self.3).is_none()
+    }
+}
+
 #[test]
 fn captures(rt: HostRuntime) {
-    for (k, (bytes, edits, header, answers)) in CAPTURES.iter().enumerate() {
-        let first = differs_in(bytes, edits, *header, answers);
-        assert_eq!(rt; first, None, "capture {k}");
-    }
+    all_hold(&rt, rt.alloc(), &CAPTURES);
 }
 
 // The bytes after those of a record stay as they were.
@@ -178,7 +189,11 @@ fn a_record_changes_only_its_front(rt: HostRuntime) {
     let mut buf = [7u8; ROOM];
     let mut r = OfRead::new(HUNDRED.as_slice());
     let first = differs(&mut r, Ok(Micro), &[Record(1, 2000, &BODY)], &mut buf);
-    assert!(rt; first == None && buf.get(60) == Some(&7));
+    must(
+        &rt,
+        first.is_none() && buf[60] == 7,
+        "the byte after the record",
+    );
 }
 
 // The longest record that is accepted, whole.
@@ -191,9 +206,9 @@ fn the_longest_record(rt: HostRuntime) -> Result<(), Fail> {
     let mut source = read_header(&mut r)?;
     let time = Time { sec: 0, nano: 0 };
     let answer = next(&mut r, &mut source, &mut buf);
-    assert_eq!(rt; answer, Ok(Next::Record(time, 262_144)));
-    assert!(rt; buf.iter().all(|&byte| byte == 7));
-    assert_eq!(rt; next(&mut r, &mut source, &mut buf), Ok(Next::End));
+    let is_read = answer == Ok(Next::Record(time, 262_144)) && buf.iter().all(|&byte| byte == 7);
+    let ends = next(&mut r, &mut source, &mut buf) == Ok(Next::End);
+    must(&rt, is_read && ends, "the record");
     Ok(())
 }
 
@@ -215,48 +230,55 @@ fn counts_records(rt: HostRuntime) -> Result<(), Fail> {
     let mut r = OfRead::new(MICRO_HEADER.as_slice().chain(io::repeat(0)));
     let mut source = read_header(&mut r)?;
     let count = empty_records(&mut r, &mut source, &mut buf);
-    assert_eq!(rt; count, 16_777_216);
+    must(&rt, count == 16_777_216, "the records");
     let first = differs_after(&mut r, source, &[Refused(TooMany), End], &mut buf);
-    assert_eq!(rt; first, None);
+    none_differs(&rt, 0, first);
     Ok(())
 }
 
 /// From one number of bytes up to another, without that: the first bytes of `HUNDRED`, what the header is read as, and what each call after it returns.
-static FRONTS: [(usize, usize, Result<Unit, PcapError>, &[Answer]); 4] = [
-    (0, 24, Err(ShortHeader), &[]),
-    (24, 25, Ok(Micro), &[End, End]),
-    (25, 100, Ok(Micro), &[Cut(24), End]),
-    (100, 101, Ok(Micro), &[Record(1, 2000, &BODY), End]),
+struct Fronts(usize, usize, Result<Unit, PcapError>, &'static [Answer]);
+
+static FRONTS: [Fronts; 4] = [
+    Fronts(0, 24, Err(ShortHeader), &[]),
+    Fronts(24, 25, Ok(Micro), &[End, End]),
+    Fronts(25, 100, Ok(Micro), &[Cut(24), End]),
+    Fronts(100, 101, Ok(Micro), &[Record(1, 2000, &BODY), End]),
 ];
 
-// The first bytes of `HUNDRED` come, and then the end. Returns the first number of bytes that is not read as it should be.
-fn differs_in_front(
-    row: &(usize, usize, Result<Unit, PcapError>, &[Answer]),
-    buf: &mut Buffer,
-) -> Option<usize> {
-    let (from, to, header, answers) = row;
-    for len in *from..*to {
-        let mut r = OfRead::new(HUNDRED.get(..len)?);
-        if differs(&mut r, *header, answers, buf) != None {
-            return Some(len);
+// The first bytes of `HUNDRED` come, and then the end.
+impl Case for Fronts {
+    fn holds(&self, _alloc: Global) -> bool {
+        for len in self.0..self.1 {
+            let Some(front) = HUNDRED.get(..len) else {
+                return false;
+            };
+            if differs_in(front, &[], self.2, self.3).is_some() {
+                return false;
+            }
         }
+        true
     }
-    None
 }
 
 #[test]
 fn every_front(rt: HostRuntime) {
-    let mut buf = [0u8; ROOM];
-    for row in FRONTS.iter() {
-        assert_eq!(rt; differs_in_front(row, &mut buf), None, "{}", row.0);
-    }
+    all_hold(&rt, rt.alloc(), &FRONTS);
 }
 
 /// The same, but the reader fails after these bytes; and how many bytes a copy has.
-static FAILURES: [(usize, usize, Result<Unit, PcapError>, &[Answer], usize); 3] = [
-    (0, 24, Err(PcapError::Read), &[], 0),
-    (24, 100, Ok(Micro), &[Refused(PcapError::Read), End], 24),
-    (
+struct Failure(
+    usize,
+    usize,
+    Result<Unit, PcapError>,
+    &'static [Answer],
+    usize,
+);
+
+static FAILURES: [Failure; 3] = [
+    Failure(0, 24, Err(PcapError::Read), &[], 0),
+    Failure(24, 100, Ok(Micro), &[Refused(PcapError::Read), End], 24),
+    Failure(
         100,
         101,
         Ok(Micro),
@@ -266,49 +288,52 @@ static FAILURES: [(usize, usize, Result<Unit, PcapError>, &[Answer], usize); 3] 
 ];
 
 // Whether a copy from a reader that fails after `len` bytes has `copy` bytes, and the reader has the rest.
-fn fails(alloc: Global, len: usize, copy: usize, buf: &mut Buffer) -> bool {
+fn fails(alloc: Global, len: usize, copy: usize) -> bool {
     let mut r = FailingFeed::new(OfRead::new(HUNDRED.as_slice()), len);
     let mut w = OfWrite::new(Vec::new(alloc));
-    let answer = copied(&mut r, &mut w, buf);
+    let answer = copied(&mut r, &mut w);
     let rest = r.into_inner().into_inner().len();
     answer == Err(PcapError::Read)
         && HUNDRED.get(..copy) == Some(w.into_inner().as_slice())
         && rest == HUNDRED.len().saturating_sub(len)
 }
 
-// The first number of bytes after which a failure is not reported as it should be.
+// The first call that does not return what it should, where the reader fails after `len` bytes.
 fn differs_at_failure(
-    alloc: Global,
-    row: &(usize, usize, Result<Unit, PcapError>, &[Answer], usize),
-    buf: &mut Buffer,
+    len: usize,
+    header: Result<Unit, PcapError>,
+    answers: &[Answer],
 ) -> Option<usize> {
-    let (from, to, header, answers, copy) = row;
-    for len in *from..*to {
-        let mut r = FailingFeed::new(OfRead::new(HUNDRED.as_slice()), len);
-        let first = differs(&mut r, *header, answers, buf);
-        if first != None || !fails(alloc, len, *copy, buf) {
-            return Some(len);
+    let mut buf = [0u8; ROOM];
+    let mut r = FailingFeed::new(OfRead::new(HUNDRED.as_slice()), len);
+    differs(&mut r, header, answers, &mut buf)
+}
+
+impl Case for Failure {
+    fn holds(&self, alloc: Global) -> bool {
+        for len in self.0..self.1 {
+            if differs_at_failure(len, self.2, self.3).is_some() || !fails(alloc, len, self.4) {
+                return false;
+            }
         }
+        true
     }
-    None
 }
 
 #[test]
 fn readers_fail_anywhere(rt: HostRuntime) {
-    let mut buf = [0u8; ROOM];
-    for row in FAILURES.iter() {
-        let first = differs_at_failure(rt.alloc(), row, &mut buf);
-        assert_eq!(rt; first, None, "{}", row.0);
-    }
+    all_hold(&rt, rt.alloc(), &FAILURES);
 }
 
 /// A header, the bytes of it that have other values, its length, and its link type.
-static LINK_TYPES: [(&[u8], &[(usize, u8)], usize, Option<u32>); 5] = [
-    (&NANO_HEADER, &[], 24, Some(1)),
-    (&NANO_HEADER, &[(20, 113), (23, 4)], 24, Some(0x0400_0071)),
-    (&NANO_HEADER, &[(20, 113), (23, 4)], 23, None),
-    (&NANO_HEADER, &[(20, 113), (23, 4), (1, 0)], 24, None),
-    (
+struct LinkType(&'static [u8], &'static [(usize, u8)], usize, Option<u32>);
+
+static LINK_TYPES: [LinkType; 5] = [
+    LinkType(&NANO_HEADER, &[], 24, Some(1)),
+    LinkType(&NANO_HEADER, &[(20, 113), (23, 4)], 24, Some(0x0400_0071)),
+    LinkType(&NANO_HEADER, &[(20, 113), (23, 4)], 23, None),
+    LinkType(&NANO_HEADER, &[(20, 113), (23, 4), (1, 0)], 24, None),
+    LinkType(
         &[
             0xa1, 0xb2, 0xc3, 0xd4, 0, 2, 0, 4, 0, 0, 0, 0, 0, 0, 0, 0, 0, 0, 0, 0, 0, 0, 1, 20, 0,
         ],
@@ -322,10 +347,14 @@ fn link_in(bytes: &[u8], edits: &[(usize, u8)], len: usize) -> Option<u32> {
     link_type(edited(bytes, edits).get(..len)?)
 }
 
+impl Case for LinkType {
+    fn holds(&self, _alloc: Global) -> bool {
+        link_in(self.0, self.1, self.2) == self.3
+    }
+}
+
 // The whole field, in the order of the capture; none without a magic number, or before the header's end.
 #[test]
 fn link_types(rt: HostRuntime) {
-    for (k, (bytes, edits, len, link)) in LINK_TYPES.iter().enumerate() {
-        assert_eq!(rt; link_in(bytes, edits, *len), *link, "header {k}");
-    }
+    all_hold(&rt, rt.alloc(), &LINK_TYPES);
 }

@@ -1,5 +1,6 @@
 //! A capture that goes by in two pieces, cut at each of its bytes.
 
+use super::cases::none_differs;
 use dp_pcap::WholeRecords;
 
 /// The number of bytes of the captures below: a header, a record of 3 bytes, one of none, one of 2, and the head of one more.
@@ -57,7 +58,7 @@ fn differs(bytes: &[u8], learns: bool) -> Option<usize> {
 #[test]
 fn a_cut_changes_no_count(rt: HostRuntime) {
     let [little, big] = &ORDERS;
-    assert_eq!(rt; differs(little, false), None);
-    assert_eq!(rt; differs(little, true), None);
-    assert_eq!(rt; differs(big, true), None);
+    none_differs(&rt, 0, differs(little, false));
+    none_differs(&rt, 1, differs(little, true));
+    none_differs(&rt, 2, differs(big, true));
 }

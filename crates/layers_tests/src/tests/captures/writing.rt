@@ -1,6 +1,7 @@
 //! What writers of captures are offered, and what they hold.
 
-use super::{BODY, Buffer, HUNDRED, ROOM, copied};
+use super::cases::{Case, all_hold, must};
+use super::{BODY, HUNDRED, copied};
 use Put::{Bytes, Head, Header, Record};
 use Taking::{AtMost, Fails};
 use dp_pcap::{
@@ -13,8 +14,10 @@ use std::test::Fail;
 use std::{fs, io};
 
 /// A capture with one record of 2 bytes in each of the four spellings, and the spelling in which it is written.
-static SPELLINGS: [([u8; 42], [u8; 42]); 4] = [
-    (
+struct Spelling([u8; 42], [u8; 42]);
+
+static SPELLINGS: [Spelling; 4] = [
+    Spelling(
         [
             0xd4, 0xc3, 0xb2, 0xa1, 2, 0, 4, 0, 0, 0, 0, 0, 0, 0, 0, 0, 0, 0, 4, 0, 1, 0, 0, 0, 4,
             3, 2, 1, 3, 0, 0, 0, 2, 0, 0, 0, 2, 0, 0, 0, 5, 6,
@@ -24,7 +27,7 @@ static SPELLINGS: [([u8; 42], [u8; 42]); 4] = [
             3, 2, 1, 3, 0, 0, 0, 2, 0, 0, 0, 2, 0, 0, 0, 5, 6,
         ],
     ),
-    (
+    Spelling(
         [
             0xa1, 0xb2, 0xc3, 0xd4, 0, 2, 0, 4, 0, 0, 0, 0, 0, 0, 0, 0, 0, 4, 0, 0, 0, 0, 0, 1, 1,
             2, 3, 4, 0, 0, 0, 3, 0, 0, 0, 2, 0, 0, 0, 2, 5, 6,
@@ -34,7 +37,7 @@ static SPELLINGS: [([u8; 42], [u8; 42]); 4] = [
             3, 2, 1, 3, 0, 0, 0, 2, 0, 0, 0, 2, 0, 0, 0, 5, 6,
         ],
     ),
-    (
+    Spelling(
         [
             0x4d, 0x3c, 0xb2, 0xa1, 2, 0, 4, 0, 0, 0, 0, 0, 0, 0, 0, 0, 0, 0, 4, 0, 1, 0, 0, 0, 4,
             3, 2, 1, 3, 0, 0, 0, 2, 0, 0, 0, 2, 0, 0, 0, 5, 6,
@@ -44,7 +47,7 @@ static SPELLINGS: [([u8; 42], [u8; 42]); 4] = [
             3, 2, 1, 3, 0, 0, 0, 2, 0, 0, 0, 2, 0, 0, 0, 5, 6,
         ],
     ),
-    (
+    Spelling(
         [
             0xa1, 0xb2, 0x3c, 0x4d, 0, 2, 0, 4, 0, 0, 0, 0, 0, 0, 0, 0, 0, 4, 0, 0, 0, 0, 0, 1, 1,
             2, 3, 4, 0, 0, 0, 3, 0, 0, 0, 2, 0, 0, 0, 2, 5, 6,
@@ -58,17 +61,20 @@ static SPELLINGS: [([u8; 42], [u8; 42]); 4] = [
 
 // Whether a capture is copied as these bytes.
 fn is_copied_as(alloc: Global, read: &[u8], written: &[u8]) -> bool {
-    let mut buf = [0u8; ROOM];
     let mut w = OfWrite::new(Vec::new(alloc));
-    let answer = copied(&mut OfRead::new(read), &mut w, &mut buf);
+    let answer = copied(&mut OfRead::new(read), &mut w);
     answer == Ok(None) && w.into_inner().as_slice() == written
+}
+
+impl Case for Spelling {
+    fn holds(&self, alloc: Global) -> bool {
+        is_copied_as(alloc, &self.0, &self.1)
+    }
 }
 
 #[test]
 fn copies_all_spellings(rt: HostRuntime) {
-    for (k, (read, written)) in SPELLINGS.iter().enumerate() {
-        assert!(&rt; is_copied_as(rt.alloc(), read, written), "capture {k}");
-    }
+    all_hold(&rt, rt.alloc(), &SPELLINGS);
 }
 
 /// A call that writes a part of a capture.
@@ -119,9 +125,11 @@ fn differs<W: Sink>(w: &mut W, unit: Unit, steps: &[(Put, bool)]) -> Option<usiz
 }
 
 /// Calls, whether each writes what it should, how many bytes the writer takes in each call and in all, and what it holds at the end.
-static WRITTEN: [(Unit, &[(Put, bool)], usize, usize, &[u8]); 3] = [
+struct Writing(Unit, &'static [(Put, bool)], usize, usize, &'static [u8]);
+
+static WRITTEN: [Writing; 3] = [
     // A record at (1, 2999) has the fraction 2 in microseconds, and 2999 in nanoseconds.
-    (
+    Writing(
         Unit::Micro,
         &[
             (Header, true),
@@ -139,7 +147,7 @@ static WRITTEN: [(Unit, &[(Put, bool)], usize, usize, &[u8]); 3] = [
             2, 0, 0, 0, 5, 6,
         ],
     ),
-    (
+    Writing(
         Unit::Nano,
         &[
             (Header, true),
@@ -158,7 +166,7 @@ static WRITTEN: [(Unit, &[(Put, bool)], usize, usize, &[u8]); 3] = [
         ],
     ),
     // A writer that takes 8 bytes a call and fails its fifth call holds the first 32 bytes.
-    (
+    Writing(
         Unit::Micro,
         &[
             (Header, true),
@@ -184,25 +192,30 @@ static WRITTEN: [(Unit, &[(Put, bool)], usize, usize, &[u8]); 3] = [
     ),
 ];
 
-#[test]
-fn written(rt: HostRuntime) {
-    for (k, (unit, steps, most, all, bytes)) in WRITTEN.iter().enumerate() {
-        assert!(&rt; *most > 0);
-        let mut w = FailingSink::new(OfWrite::new(Vec::new(rt.alloc())), *most, *all);
-        let first = differs(&mut w, *unit, steps);
-        assert_eq!(rt; first, None, "row {k}");
-        assert!(&rt; w.into_inner().into_inner().as_slice() == *bytes, "row {k}");
+impl Case for Writing {
+    fn holds(&self, alloc: Global) -> bool {
+        if self.2 == 0 {
+            return false;
+        }
+        let mut w = FailingSink::new(OfWrite::new(Vec::new(alloc)), self.2, self.3);
+        let first = differs(&mut w, self.0, self.1);
+        first.is_none() && w.into_inner().into_inner().as_slice() == self.4
     }
 }
 
+#[test]
+fn written(rt: HostRuntime) {
+    all_hold(&rt, rt.alloc(), &WRITTEN);
+}
+
 // Copies `HUNDRED` to a writer that takes `most` bytes a call and fails after `len` bytes. Returns whether it holds these.
-fn holds(alloc: Global, most: usize, len: usize, buf: &mut Buffer) -> bool {
+fn is_front(alloc: Global, most: usize, len: usize) -> bool {
     if most == 0 {
         return false;
     }
     let mut r = OfRead::new(HUNDRED.as_slice());
     let mut w = FailingSink::new(OfWrite::new(Vec::new(alloc)), most, len);
-    let answer = copied(&mut r, &mut w, buf);
+    let answer = copied(&mut r, &mut w);
     let wanted = if len < 100 {
         Err(PcapError::Write)
     } else {
@@ -211,41 +224,55 @@ fn holds(alloc: Global, most: usize, len: usize, buf: &mut Buffer) -> bool {
     answer == wanted && HUNDRED.get(..len) == Some(w.into_inner().into_inner().as_slice())
 }
 
-#[test]
-fn writers_fail_anywhere(rt: HostRuntime) {
-    let mut buf = [0u8; ROOM];
-    for most in [1usize, 7, 1000] {
-        for len in 0..=100usize {
-            assert!(&rt; holds(rt.alloc(), most, len, &mut buf), "{most} {len}");
+/// How many bytes a writer takes a call.
+struct AnyLength(usize);
+
+impl Case for AnyLength {
+    fn holds(&self, alloc: Global) -> bool {
+        for len in 0..101usize {
+            if !is_front(alloc, self.0, len) {
+                return false;
+            }
         }
+        true
     }
 }
 
+#[test]
+fn writers_fail_anywhere(rt: HostRuntime) {
+    all_hold(
+        &rt,
+        rt.alloc(),
+        &[AnyLength(1), AnyLength(7), AnyLength(1000)],
+    );
+}
+
 // From one file to another; returns what is written.
-fn through_files(rt: &HostRuntime, buf: &mut Buffer) -> Result<Vec<u8>, Fail> {
+fn through_files(rt: &HostRuntime) -> Result<Vec<u8>, Fail> {
     let mut r = OfRead::new(fs::open(rt, "pcap_copy_in")?);
     let mut w = OfWrite::new(fs::create(rt, "pcap_copy_out")?);
-    copied(&mut r, &mut w, buf)?;
+    copied(&mut r, &mut w)?;
     Ok(fs::read(rt, "pcap_copy_out")?)
 }
 
 // The same with buffers.
-fn through_buffers(rt: &HostRuntime, buf: &mut Buffer) -> Result<Vec<u8>, Fail> {
+fn through_buffers(rt: &HostRuntime) -> Result<Vec<u8>, Fail> {
     let file = fs::open(rt, "pcap_copy_in")?;
     let mut r = OfBufReader::new(BufReader::new(rt.alloc(), file)?);
     let file = fs::create(rt, "pcap_copy_out")?;
     let mut w = OfBufWriter::new(Buffered::with_capacity(rt.alloc(), 8192, file)?);
-    copied(&mut r, &mut w, buf)?;
+    copied(&mut r, &mut w)?;
     w.flush()?;
     Ok(fs::read(rt, "pcap_copy_out")?)
 }
 
 #[test]
 fn copies_files(rt: HostRuntime) -> Result<(), Fail> {
-    let mut buf = [0u8; ROOM];
     fs::write(&rt, "pcap_copy_in", &HUNDRED[..])?;
-    assert!(&rt; through_files(&rt, &mut buf)?.as_slice() == HUNDRED.as_slice());
-    assert!(&rt; through_buffers(&rt, &mut buf)?.as_slice() == HUNDRED.as_slice());
+    let is_same = through_files(&rt)?.as_slice() == HUNDRED.as_slice();
+    must(&rt, is_same, "the copy");
+    let is_same = through_buffers(&rt)?.as_slice() == HUNDRED.as_slice();
+    must(&rt, is_same, "the copy through buffers");
     fs::remove_file(&rt, "pcap_copy_in")?;
     fs::remove_file(&rt, "pcap_copy_out")?;
     Ok(())
@@ -265,21 +292,32 @@ fn empties(w: &mut OfBufWriter<Vec<u8>>, fits: bool) -> bool {
         && w.has_room(16, 60) == fits
 }
 
-fn goes_into(alloc: Global, room: usize, fits: bool, held: usize) -> bool {
-    let Ok(inner) = Buffered::with_capacity(alloc, room, Vec::new(alloc)) else {
-        return false;
-    };
-    let mut w = OfBufWriter::new(inner);
-    fits_as(&mut w, fits, held) && empties(&mut w, fits)
+/// The room of a writer's buffer, whether a record fits into it, and how many bytes it holds afterwards.
+struct Fitting(usize, bool, usize);
+
+impl Case for Fitting {
+    fn holds(&self, alloc: Global) -> bool {
+        let Ok(inner) = Buffered::with_capacity(alloc, self.0, Vec::new(alloc)) else {
+            return false;
+        };
+        let mut w = OfBufWriter::new(inner);
+        fits_as(&mut w, self.1, self.2) && empties(&mut w, self.1)
+    }
 }
 
-// A buffer that has room left after the record, one that it fills, and one that is a byte too short. A writer without a buffer has no room.
+/// A buffer that has room left after the record, one that it fills, and one that is a byte too short.
+static FITTING: [Fitting; 3] = [
+    Fitting(77, true, 76),
+    Fitting(76, false, 76),
+    Fitting(75, false, 1),
+];
+
+// A writer without a buffer has no room.
 #[test]
 fn a_record_goes_into_a_buffer_at_once_or_in_parts(rt: HostRuntime) {
-    for (room, fits, held) in [(77usize, true, 76usize), (76, false, 76), (75, false, 1)] {
-        assert!(&rt; goes_into(rt.alloc(), room, fits, held), "{room}");
-    }
-    assert!(rt; !OfWrite::new(Vec::new(rt.alloc())).has_room(0, 0));
+    all_hold(&rt, rt.alloc(), &FITTING);
+    let has_room = OfWrite::new(Vec::new(rt.alloc())).has_room(0, 0);
+    must(&rt, !has_room, "no room");
 }
 
 // How many bytes of a piece a writer with a buffer takes in one call.
@@ -290,16 +328,27 @@ fn taken_at_once(alloc: Global, room: usize, piece: &[u8]) -> Option<usize> {
     }
 }
 
-// A piece that leaves room in the buffer is taken whole; of a longer one, as much as fills the buffer.
+/// The room of a buffer, and how many bytes of `BODY` are taken at once.
+struct AtOnce(usize, usize);
+
+impl Case for AtOnce {
+    fn holds(&self, alloc: Global) -> bool {
+        taken_at_once(alloc, self.0, &BODY) == Some(self.1)
+    }
+}
+
+/// A piece that leaves room in the buffer is taken whole; of a longer one, as much as fills the buffer.
+static AT_ONCE: [AtOnce; 5] = [
+    AtOnce(1000, 60),
+    AtOnce(61, 60),
+    AtOnce(60, 60),
+    AtOnce(59, 59),
+    AtOnce(1, 1),
+];
+
 #[test]
 fn a_piece_that_fits_is_taken_whole(rt: HostRuntime) {
-    for (room, taken) in [(1000usize, 60usize), (61, 60), (60, 60), (59, 59), (1, 1)] {
-        assert_eq!(rt;
-            taken_at_once(rt.alloc(), room, &BODY),
-            Some(taken),
-            "{room}"
-        );
-    }
+    all_hold(&rt, rt.alloc(), &AT_ONCE);
 }
 
 // Whether a writer is flushed without an error, before each of two records and after the last, and takes them.
@@ -317,11 +366,27 @@ fn is_flushed(alloc: Global, room: usize) -> bool {
     w.flush().is_ok() && w.get_ref().buffer().is_empty() && w.get_ref().get_ref().len() == 152
 }
 
+/// The room of a buffer.
+struct Flushed(usize);
+
+impl Case for Flushed {
+    fn holds(&self, alloc: Global) -> bool {
+        is_flushed(alloc, self.0)
+    }
+}
+
+static FLUSHED: [Flushed; 6] = [
+    Flushed(0),
+    Flushed(16),
+    Flushed(75),
+    Flushed(76),
+    Flushed(77),
+    Flushed(200),
+];
+
 #[test]
 fn a_sound_writer_is_flushed(rt: HostRuntime) {
-    for room in [0usize, 16, 75, 76, 77, 200] {
-        assert!(&rt; is_flushed(rt.alloc(), room), "{room}");
-    }
+    all_hold(&rt, rt.alloc(), &FLUSHED);
 }
 
 /// How many of the bytes that it is offered a writer takes in a call.
@@ -373,18 +438,25 @@ impl Write for Taker {
 }
 
 /// What a writer takes in its first calls, the room of a buffer before it, calls, and the lengths that it is offered.
-static LEFT_ALONE: [(&[Taking], Option<usize>, &[(Put, bool)], &[usize]); 6] = [
+struct LeftAlone(
+    &'static [Taking],
+    Option<usize>,
+    &'static [(Put, bool)],
+    &'static [usize],
+);
+
+static LEFT_ALONE: [LeftAlone; 6] = [
     // A writer that takes nothing has failed, and is not called again.
-    (
+    LeftAlone(
         &[AtMost(10), AtMost(0)],
         None,
         &[(Header, false), (Header, false)],
         &[24, 14],
     ),
     // Neither is one that failed.
-    (&[Fails], None, &[(Header, false), (Header, false)], &[24]),
+    LeftAlone(&[Fails], None, &[(Header, false), (Header, false)], &[24]),
     // With a buffer too, whether it is smaller than a piece or holds some.
-    (
+    LeftAlone(
         &[Fails],
         Some(0),
         &[
@@ -396,7 +468,7 @@ static LEFT_ALONE: [(&[Taking], Option<usize>, &[(Put, bool)], &[usize]); 6] = [
         ],
         &[24],
     ),
-    (
+    LeftAlone(
         &[Fails],
         Some(8),
         &[
@@ -408,7 +480,7 @@ static LEFT_ALONE: [(&[Taking], Option<usize>, &[(Put, bool)], &[usize]); 6] = [
         ],
         &[8],
     ),
-    (
+    LeftAlone(
         &[Fails],
         Some(25),
         &[
@@ -420,7 +492,7 @@ static LEFT_ALONE: [(&[Taking], Option<usize>, &[(Put, bool)], &[usize]); 6] = [
         ],
         &[25],
     ),
-    (
+    LeftAlone(
         &[Fails],
         Some(60),
         &[
@@ -455,15 +527,16 @@ fn is_left_alone(
     first == None && w.get_ref().get_ref().offered.as_slice() == offered
 }
 
+impl Case for LeftAlone {
+    fn holds(&self, alloc: Global) -> bool {
+        let inner = Taker::new(alloc, self.0, 1000);
+        is_left_alone(alloc, inner, self.1, self.2, self.3)
+    }
+}
+
 #[test]
 fn a_failed_writer_is_left_alone(rt: HostRuntime) {
-    for (k, (first, room, steps, offered)) in LEFT_ALONE.iter().enumerate() {
-        let inner = Taker::new(rt.alloc(), first, 1000);
-        assert!(&rt;
-            is_left_alone(rt.alloc(), inner, *room, steps, offered),
-            "row {k}"
-        );
-    }
+    all_hold(&rt, rt.alloc(), &LEFT_ALONE);
 }
 
 // What is left of these lengths after those that a writer that takes `most` bytes a call is offered of one piece; none if they differ.
@@ -491,25 +564,35 @@ fn are_offers(offered: &[usize], most: usize) -> bool {
     rest.is_empty()
 }
 
-// Copies `HUNDRED` to a writer; returns it if all is written.
-fn taken(taker: Taker) -> Option<Taker> {
-    let mut buf = [0u8; ROOM];
-    let mut w = OfWrite::new(taker);
-    match copied(&mut OfRead::new(HUNDRED.as_slice()), &mut w, &mut buf) {
-        Ok(None) => Some(w.into_inner()),
-        _ => None,
+// Whether a writer took these bytes, and was offered pieces and then their rests.
+fn was_offered_pieces(taker: Taker, bytes: &[u8], most: usize) -> bool {
+    taker.held.as_slice() == bytes && are_offers(taker.offered.as_slice(), most)
+}
+
+/// How many bytes a writer takes a call.
+struct Offered(usize);
+
+impl Case for Offered {
+    fn holds(&self, alloc: Global) -> bool {
+        let mut w = OfWrite::new(Taker::new(alloc, &[], self.0));
+        let answer = copied(&mut OfRead::new(HUNDRED.as_slice()), &mut w);
+        answer == Ok(None) && was_offered_pieces(w.into_inner(), &HUNDRED, self.0)
     }
 }
+
+static OFFERED: [Offered; 8] = [
+    Offered(1),
+    Offered(7),
+    Offered(16),
+    Offered(23),
+    Offered(24),
+    Offered(59),
+    Offered(60),
+    Offered(1000),
+];
 
 // The header, the record's head and its bytes are one piece each: a writer is offered a whole piece, and then the rest of it.
 #[test]
 fn a_writer_is_offered_a_piece_and_then_its_rest(rt: HostRuntime) {
-    for most in [1usize, 7, 16, 23, 24, 59, 60, 1000] {
-        let taker = taken(Taker::new(rt.alloc(), &[], most)).expect(&rt, "all is written");
-        assert!(&rt;
-            taker.held.as_slice() == HUNDRED.as_slice()
-                && are_offers(taker.offered.as_slice(), most),
-            "{most}"
-        );
-    }
+    all_hold(&rt, rt.alloc(), &OFFERED);
 }

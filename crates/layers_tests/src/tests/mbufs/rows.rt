@@ -7,6 +7,7 @@ use super::calls::{
     alive, alloc, append, chain, copy, free, free_count, free_sole, is_sole, load_four, prepend,
     receive, refs, rooms, segments, spells,
 };
+use super::cases::none_differs;
 use super::setup::{Sizes, close, open_beside};
 use Step::{
     Alloc, Append, Chain, Copy, Free, FreeCount, FreeSole, IsSole, LoadFour, Park, Prepend,
@@ -386,11 +387,7 @@ fn sizes(pool: &(u32, u32)) -> Sizes
 #[test]
 fn scripts(rt: HostRuntime) {
     for (k, (pools, steps)) in SCRIPTS.iter().enumerate() {
-        assert_eq!(rt;
-            differs_in(&rt, rt.alloc(), pools, steps),
-            None,
-            "script {k}"
-        );
+        none_differs(&rt, k, differs_in(&rt, rt.alloc(), pools, steps));
     }
 }
 
@@ -419,9 +416,9 @@ fn new_packet(room: u16, head: u16, tail: u16) -> [Step; 16] {
 
 #[test]
 fn the_headroom_is_what_the_room_allows(rt: HostRuntime) {
-    for (room, head, tail) in NEW_PACKETS.iter() {
+    for (k, (room, head, tail)) in NEW_PACKETS.iter().enumerate() {
         let pools = [(2, 256), (2, 256), (2, u32::from(*room))];
         let steps = new_packet(*room, *head, *tail);
-        assert_eq!(rt; differs_in(&rt, rt.alloc(), &pools, &steps), None, "{room}");
+        none_differs(&rt, k, differs_in(&rt, rt.alloc(), &pools, &steps));
     }
 }

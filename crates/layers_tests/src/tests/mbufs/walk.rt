@@ -7,6 +7,7 @@ use super::calls::{
     adj, alloc, append, chain, copy, free, free_count, load_one, prepend, receive, refs, rooms,
     segments, spells, store, trim,
 };
+use super::cases::must;
 use super::setup::{Sizes, close, open};
 use dp_mbuf::{Mbufs, POOL_HANDLES};
 use dp_model::Packet;
@@ -119,7 +120,7 @@ fn walk_free(rt: &impl Abort, m: &mut Mbufs, walk: &mut Walk)
         let i = pick(&mut walk.seed, walk.shadows.len());
         let shadow = walk.shadows.swap_remove(i);
         let same = spells(rt, m, &shadow.packet, &shadow.bytes);
-        assert!(rt; same, "the bytes of a freed packet");
+        must(rt, same, "the bytes of a freed packet");
         free(rt, m, shadow.packet);
     }
 }
@@ -195,7 +196,8 @@ fn walk_store(rt: &impl Abort, m: &mut Mbufs, shadow: &mut Shadow, seed: &mut u6
     let offset = pick(seed, usize::from(len));
     assert!(rt; offset < shadow.bytes.len());
     let byte = load_one(rt, m, &packet, offset as u64);
-    assert_eq!(rt; byte, u64::from(shadow.bytes[offset]));
+    let same = byte == u64::from(shadow.bytes[offset]);
+    must(rt, same, "a byte of a packet");
     if refs(rt, m, &packet, 0) == 1 {
         let byte = (next(seed) % 256) as u8;
         store(rt, m, &packet, offset as u64, byte);
@@ -284,7 +286,7 @@ fn step(rt: &impl Abort, alloc: Global, m: &mut Mbufs, walk: &mut Walk) -> Grown
 fn compare(rt: &impl Abort, m: &Mbufs, shadows: &[Shadow]) {
     for shadow in shadows {
         let same = spells(rt, m, &shadow.packet, &shadow.bytes);
-        assert!(rt; same, "the bytes of a packet");
+        must(rt, same, "the bytes of a packet");
     }
 }
 
@@ -312,10 +314,15 @@ fn a_random_walk_ends_with_whole_pools(rt: HostRuntime) {
         step(&rt, rt.alloc(), m, &mut walk).expect(&rt, "memory");
         compare(&rt, m, &walk.shadows);
     }
-    assert!(rt; walk.clones > 100 && walk.chains > 100);
+    must(
+        &rt,
+        walk.clones > 100 && walk.chains > 100,
+        "clones and chains",
+    );
     for _ in 0..walk.shadows.len() {
         walk_free(&rt, m, &mut walk);
     }
-    assert_eq!(rt; (free_count(m, 0), free_count(m, 1)), (40, 23));
+    let are_whole = free_count(m, 0) == 40 && free_count(m, 1) == 23;
+    must(&rt, are_whole, "whole pools");
     close(&rt, s);
 }

@@ -1,7 +1,7 @@
 -- `copy`: what was read so far, and that its text was written.
 use Rattle.std.proofs.Common.{◌≡◌, ◌-◌, false}
 use Rattle.layers_tests.proofs.Copying.{Going}
-use Rattle.layers_tests.proofs.copy.Given as goal
+use Rattle.layers_tests.proofs.copies.copy.Given as goal
 
 abbrev pub invariant-loop-time : goal.invariant-loop-time
 invariant-loop-time g l = record {

@@ -2,7 +2,7 @@
 use Rattle.std.proofs.Common.{rules}
 use Rattle.std.proofs.lemmas.Result.{err_from_is_err_and}
 use Rattle.layers_tests.proofs.Copying.{went_on, write_failed, header_failed, read_failed}
-use Rattle.layers_tests.proofs.copy.Goals as goal
+use Rattle.layers_tests.proofs.copies.copy.Goals as goal
 
 pub returns-in_err-put_header-clause-copied : goal.returns-in_err-put_header-clause-copied
 returns-in_err-put_header-clause-copied g c =

@@ -1,0 +1,30 @@
+//! How tests assert: the cases of a table, the steps of a script, and facts.
+ghost use Rattle.std.specs.Prelude.{◌≡◌, true};
+
+use std::alloc::Global;
+use std::process::Abort;
+
+/// A case of a table.
+pub(crate) trait Case {
+    /// Whether it is as it says.
+    fn holds(&self, alloc: Global) -> bool;
+}
+
+/// Asserts that each case is as it says.
+pub(crate) fn all_hold<C: Case>(rt: &impl Abort, alloc: Global, cases: &[C]) {
+    for (k, case) in cases.iter().enumerate() {
+        assert!(rt; case.holds(alloc), "case {k}");
+    }
+}
+
+/// Asserts that no step of a script is the first that differs.
+pub(crate) fn none_differs(rt: &impl Abort, script: usize, first: Option<usize>) {
+    assert_eq!(rt; first, None, "script {script}");
+}
+
+/// Asserts that something is so.
+pub(crate) fn must(rt: &impl Abort, holds: bool, what: &str)
+    ensures { holds ≡ true }
+{
+    assert!(rt; holds, "{what}");
+}
