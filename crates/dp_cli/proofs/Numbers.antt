@@ -44,10 +44,6 @@ pub parsed : {E : Type 0} (word : List ℕ) (r : Result ℕ E) → list_all is_a
 parsed word r digits h =
     read_as word r digits (parse_digits (numerals_by_value (λ ds. all_ascii_digits ds ≡ true) tells_all_ascii_digits) 64 word r h (digits_alone word digits))
 
--- anything else
-pub unread : (word : List ℕ) → list_all is_ascii_digit word ≡ false → None ≡ number_in word
-unread word e = rw e refl
-
 -- ---- several numbers
 
 -- a number that is above the one before

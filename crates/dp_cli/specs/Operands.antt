@@ -1,14 +1,9 @@
 -- Words of the command line.
-use Rattle.std.specs.Prelude.{◌≡◌, ℕ, ◌+◌, ◌^◌, List, ◌∷◌, [], ◌++◌, Bool, true, false, ◌==◌, ◌&&◌, ◌-◌, Option, Some, None, codes, length, nat_le, nat_lt}
+use Rattle.std.specs.Prelude.{◌≡◌, ℕ, ◌+◌, ◌-◌, ◌^◌, List, ◌∷◌, [], ◌++◌, Bool, true, false, ◌==◌, ◌&&◌, Option, Some, None, codes, length, nat_le, nat_lt}
 use Rattle.std.specs.Prelude.{option_and_then, if◌then◌else◌}
-use Rattle.std.specs.Char.{is_ascii_digit}
-use Rattle.std.specs.List.{list_all, slice_split}
-use Rattle.std.specs.Option.{unwrap_or}
-use Rattle.std.specs.Str.Parse.{digits_value}
-use Rattle.clap.specs.declared.parser.matches.Found.{Found}
-use Rattle.clap.specs.Matches.{first_value, one_text}
-use Rattle.dp_model.specs.declared.env.Entry.{Entry}
-use Rattle.dp_model.specs.declared.env.Entry.TheVariants.{Port, Ring}
+use Rattle.std.specs.{Char.is_ascii_digit, List.list_all, List.slice_split, Option.option_map_or, Option.unwrap_or, Str.Parse.digits_value}
+use Rattle.clap.specs.{Matches.first_value, Matches.one_text, declared.parser.matches.Found.Found}
+use Rattle.dp_model.specs.declared.env.Entry.{Entry, TheVariants.Port, TheVariants.Ring}
 use Rattle.dp_pipe.specs.declared.forwarding.TheConstants.{MAX_RUN_TURNS}
 
 -- the number of a node among its kind
@@ -26,6 +21,11 @@ abbrev pub number_in : List ℕ → Option ℕ
 number_in word = if list_all is_ascii_digit word && (nat_lt 0 (length word) && nat_lt (digits_value 10 word) (2 ^ 64)) then Some (digits_value 10 word)
     else None
 
+-- the number of an option, which is in a range, or its usual one
+abbrev pub option_within : Option (List ℕ) → ℕ → ℕ → ℕ → Option ℕ
+option_within None usual least most = Some usual
+option_within (Some word) usual least most = option_and_then (λ n. if nat_le least n && nat_le n most then Some n else None) (number_in word)
+
 -- a word as a number of records: from 1 to the maximum number of turns of a run
 abbrev pub records_in : List ℕ → Option ℕ
 records_in word = option_and_then (λ n. if nat_lt 0 n && nat_le n MAX_RUN_TURNS then Some n else None) (number_in word)
@@ -34,29 +34,19 @@ records_in word = option_and_then (λ n. if nat_lt 0 n && nat_le n MAX_RUN_TURNS
 abbrev pub port_in : List ℕ → Option ℕ
 port_in word = option_and_then (λ n. if nat_lt n 8 then Some n else None) (number_in word)
 
--- the number of an option, which is in a range, or its usual one
-abbrev pub option_within : Option (List ℕ) → ℕ → ℕ → ℕ → Option ℕ
-option_within None usual least most = Some usual
-option_within (Some word) usual least most = option_and_then (λ n. if nat_le least n && nat_le n most then Some n else None) (number_in word)
-
 -- the numbers of words, after earlier ones of which this is the last; none if a word is not a number above the one before it
 abbrev pub ascending_from : ℕ → List ℕ → List (List ℕ) → Option (List ℕ)
 ascending_from last earlier [] = Some earlier
 ascending_from last earlier (word ∷ words) =
     option_and_then (λ n. if nat_lt last n then ascending_from n (earlier ++ n ∷ []) words else None) (number_in word)
 
--- the words between commas
-abbrev pub words_in : List ℕ → List (List ℕ)
-words_in list = slice_split (λ b. b == 44) list
-
--- the numbers of a list, at least 1, ascending
+-- the numbers of a list with commas between them, at least 1, ascending
 abbrev pub numbers_in : List ℕ → Option (List ℕ)
-numbers_in list = ascending_from 0 [] (words_in list)
+numbers_in list = ascending_from 0 [] (slice_split (λ b. b == 44) list)
 
--- the calls that a run refuses: those of the list that is given, if there is one
-abbrev pub calls_refused : Option (List ℕ) → Option (List ℕ)
-calls_refused None = Some []
-calls_refused (Some list) = numbers_in list
+-- the calls that the words refuse: those of the list that is given, if there is one
+abbrev pub calls_in : Found → Option (List ℕ)
+calls_in found = option_map_or numbers_in (first_value found (codes "refuse")) (Some [])
 
 -- an operand of the command line; empty if it is not there
 abbrev pub operand : Found → List ℕ → List ℕ
@@ -76,6 +66,3 @@ table_in _ = None
 abbrev pub tables_from : List ℕ → List (List ℕ) → Option (List ℕ)
 tables_from earlier [] = Some earlier
 tables_from earlier (word ∷ words) = option_and_then (λ table. tables_from (earlier ++ table ∷ []) words) (table_in word)
-
-abbrev pub tables_in : List (List ℕ) → Option (List ℕ)
-tables_in words = tables_from [] words

@@ -1,46 +1,21 @@
--- What the words of `dpv run`, `dpv one` and `dpv filter` give, and their runs: the captures that are opened for a pipeline, the run over them, and what is
--- said of it.
-use Rattle.std.specs.Prelude.{◌≡◌, ℕ, ◌⊎◌, List, Bool, Option, Some, codes, map, [], ◌∷◌, None, length, option_map}
-use Rattle.std.specs.Io.Buffered.{reader_remaining}
-use Rattle.dp_pcap.specs.Buffers.{writer_contents}
-use Rattle.std.specs.List.{list_any}
-use Rattle.clap.specs.declared.parser.matches.Found.{Found}
-use Rattle.dp_pcap.specs.declared.of_buf_reader.OfBufReader.{OfBufReader}
-use Rattle.dp_pcap.specs.declared.of_buf_writer.OfBufWriter.{OfBufWriter}
-use Rattle.dp_pcap.specs.OfStd.{buffered_feed_health, buffered_reader, buffered_sink_health, buffered_writer}
-use Rattle.dp_pipe.specs.Pipelines.{Plan}
-use Rattle.dp_pipe.specs.Running.{answer_of}
-use Rattle.dp_captures.specs.declared.closing.Flushed.{Flushed}
-use Rattle.dp_captures.specs.declared.faults.CaptureFault.{CaptureFault}
+-- What the words of `dpv run`, `dpv one` and `dpv filter` give, and a run over the captures that are opened for a pipeline.
+use Rattle.std.specs.Prelude.{◌≡◌, ℕ, ◌⊎◌, List, Bool, Option, Some, codes, map, [], ◌∷◌, MatchResult, Result, option_map}
+use Rattle.std.specs.{Io.Buffered.reader_remaining, List.list_any, Option.unwrap_or}
+use Rattle.clap.specs.{Matches.first_value, Matches.matched_of, Matches.raw_values, declared.parser.matches.Found.Found}
+use Rattle.dp_captures.specs.{Files.AreInputs, Files.AreOutputs, Files.source_left, Guarding.AreGuarded, Outlets.joined, Outputs.file_took}
+use Rattle.dp_captures.specs.{Names.captures_from, Names.input_capture, Names.output_capture, Opening.IsFirstFault, Runs.Kind, Runs.feed, Runs.sink}
+use Rattle.dp_captures.specs.Words.{is_stream, only, row_of, rows_of}
+use Rattle.dp_captures.specs.declared.{closing.Flushed.Flushed, faults.CaptureFault.CaptureFault, file_id.ReadFile.ReadFile, guarded.Guarded.Guarded}
+use Rattle.dp_captures.specs.declared.{input_file.InputFile.InputFile, names.CaptureNames.CaptureNames, output_file.OutputFile.OutputFile}
+use Rattle.dp_captures.specs.declared.{watched.Watched.Watched, words.Replaced.Replaced}
 use Rattle.dp_captures.specs.declared.faults.CaptureFault.TheVariants as fault
-use Rattle.dp_captures.specs.declared.file_id.ReadFile.{ReadFile}
-use Rattle.dp_captures.specs.declared.guarded.Guarded.{Guarded}
-use Rattle.dp_captures.specs.declared.input_file.InputFile.{InputFile}
-use Rattle.dp_captures.specs.declared.names.CaptureNames.{CaptureNames}
-use Rattle.dp_captures.specs.declared.output_file.OutputFile.{OutputFile}
-use Rattle.dp_captures.specs.declared.watched.Watched.{Watched}
-use Rattle.dp_captures.specs.declared.words.Replaced.{Replaced}
-use Rattle.dp_captures.specs.Files.{AreInputs, AreOutputs, source_left}
-use Rattle.dp_captures.specs.Guarding.{AreGuarded}
-use Rattle.dp_captures.specs.Names.{captures_from, input_capture, output_capture}
-use Rattle.dp_captures.specs.Opening.{IsFirstFault}
-use Rattle.dp_captures.specs.Outlets.{joined}
-use Rattle.dp_captures.specs.Outputs.{file_took}
-use Rattle.dp_captures.specs.Runs.{Kind, feed, sink}
-use Rattle.dp_captures.specs.Words.{is_stream, missing, only, row_of, rows_of}
 use Rattle.dp_console.specs.declared.reply.Reply.{Reply}
-use Rattle.dp_runs.specs.declared.run.Watcher.{Watcher}
-use Rattle.dp_runs.specs.Replies.{IsReplied, status_of}
-use Rattle.dp_runs.specs.Watching.{IsRunUnder}
-use Rattle.dp_cli.specs.Operands.{IsFlag, calls_refused, operand, option_within}
-use Rattle.std.specs.Option.{unwrap_or}
-use Rattle.clap.specs.Matches.{first_value, matched_of, raw_values}
 use Rattle.dp_model.specs.Environments.{Environment}
-use Rattle.dp_pipe.specs.declared.nodes.How.{How}
-use Rattle.dp_pipe.specs.declared.nodes.How.TheVariants as how
-use Rattle.dp_pipe.specs.declared.single.SingleFiles.{SingleFiles}
-use Rattle.dp_pipe.specs.Files.{FileMap}
-use Rattle.dp_pipe.specs.Loads.{IsLoadedFrom}
+use Rattle.dp_pcap.specs.OfStd.{buffered_feed_health, buffered_reader, buffered_sink_health, buffered_writer}
+use Rattle.dp_pcap.specs.{Buffers.writer_contents, declared.of_buf_reader.OfBufReader.OfBufReader, declared.of_buf_writer.OfBufWriter.OfBufWriter}
+use Rattle.dp_pipe.specs.{Pipelines.Plan, Running.answer_of, declared.single.SingleFiles.SingleFiles}
+use Rattle.dp_runs.specs.{Replies.IsReplied, Replies.status_of, Watching.IsRunUnder, declared.run.Watcher.Watcher}
+use Rattle.dp_cli.specs.Operands.{IsFlag, operand, option_within}
 
 -- what contracts see of an input: the bytes that are left of it, if they are known
 abbrev pub inputs_kind : {F : Type 0} → (F → Option (List ℕ)) → Kind (OfBufReader (Watched (InputFile F)))
@@ -69,10 +44,6 @@ pub record SaysRun {F : Type 0} (remaining : F → Option (List ℕ)) (found : F
   pub said : IsReplied is_json is_taken flushed.answer reply
   pub status_is : reply.status ≡ status_of (answer_of flushed.answer)
 
--- whether one of these captures is a standard stream
-abbrev pub takes_stream : List Replaced → Bool
-takes_stream given = list_any (λ (one : Replaced). is_stream one.place) given
-
 -- the captures of a pipeline: those that are given for its ports, and else the files that it names
 pub record AreCaptures (p : Plan) (inputs outputs : List Replaced) (names : List CaptureNames) : Type 0 where
   pub read : map input_capture names ≡ captures_from inputs 0 p.inputs
@@ -92,7 +63,7 @@ pub record RunsOver {F : Type 0} (remaining : F → Option (List ℕ)) (found : 
   pub made : AreOutputs names outs
   pub reads : List ReadFile
   pub guarded : AreGuarded reads ins outs
-  pub says : SaysRun remaining found p pattern (takes_stream outputs) ins ins' outs outs' reply
+  pub says : SaysRun remaining found p pattern (list_any (λ (one : Replaced). is_stream one.place) outputs) ins ins' outs outs' reply
 
 -- the status of captures that are not opened: 4 for lack of memory, else 3
 abbrev pub status_unopened : CaptureFault → ℕ
@@ -109,15 +80,16 @@ pub record HasUnopened {F : Type 0} (remaining : F → Option (List ℕ)) (p : P
   pub first : IsFirstFault names ins outs fault
   pub status_is : reply.status ≡ status_unopened fault
 
--- a run that did not begin: memory was refused, or the captures were not opened
+-- the run did not begin: memory was refused, or the captures were not opened
 abbrev pub NeverRuns : {F : Type 0} → (F → Option (List ℕ)) → Plan → List Replaced → List Replaced → Reply → Type 0
 NeverRuns remaining p inputs outputs reply = (reply.status ≡ 4) ⊎ HasUnopened remaining p inputs outputs reply
 
--- ---- what the words give
+-- a pipeline was run over its captures, or the run did not begin
+abbrev pub EndsOver : {F : Type 0} → (F → Option (List ℕ)) → Found → Plan → List ℕ → List Replaced → List Replaced → Result Reply Reply → Type 0
+EndsOver remaining found p pattern inputs outputs reply =
+    MatchResult reply (RunsOver remaining found p pattern inputs outputs) (NeverRuns remaining p inputs outputs)
 
--- the calls that the words refuse
-abbrev pub calls_in : Found → Option (List ℕ)
-calls_in found = calls_refused (first_value found (codes "refuse"))
+-- ---- what the words give
 
 -- the words of an option that may be given several times
 abbrev pub words_of : Found → List ℕ → List (List ℕ)
@@ -136,9 +108,8 @@ pub record AreNamed (found : Found) (program : List ℕ) (cert : Option (List �
   pub output_is : files.output.now ≡ operand found (codes "OUT")
 
 -- the captures that the words name for a program: one to read, and one to write
-pub record ReadsAndWrites (files : SingleFiles) (inputs outputs : List Replaced) : Type 0 where
-  pub reads_from : map row_of inputs ≡ only files.input.now ∷ []
-  pub writes_to : map row_of outputs ≡ only files.output.now ∷ []
+abbrev pub ReadsAndWrites : SingleFiles → List Replaced → List Replaced → Type 0
+ReadsAndWrites files inputs outputs = (map row_of inputs ≡ only files.input.now ∷ []) × (map row_of outputs ≡ only files.output.now ∷ [])
 
 -- the environment of `dpv filter`: that of `dpv one`, with buffers of this room and packets of this many segments
 abbrev pub filter_port : ℕ → ℕ → Environment
@@ -163,34 +134,3 @@ pub record IsFilterPort (found : Found) (env : Environment) : Type 0 where
   pub segs : ℕ
   pub segs_is : segs_in found ≡ Some segs
   pub env_is : env ≡ filter_port room segs
-
--- the words of `dpv run` are right: these calls are refused, and these captures are given
-pub record RunWords (found : Found) : Type 0 where
-  pub pattern : List ℕ
-  pub refused : Some pattern ≡ calls_in found
-  pub inputs : List Replaced
-  pub outputs : List Replaced
-  pub given : AreGiven found inputs outputs
-
--- A pipeline with all the ports that captures are given to is run over them, and else over those that it names. What is said before of programs that
--- are interpreted is on standard error.
-pub record RunsNoted {F : Type 0} (remaining : F → Option (List ℕ)) (found : Found) (p : Plan) (pattern : List ℕ) (inputs outputs : List Replaced)
-    (reply : Reply) : Type 0 where
-  pub there : missing (length p.env.ports) inputs outputs ≡ None
-  pub said : Reply
-  pub runs : RunsOver remaining found p pattern inputs outputs said
-  pub status_is : reply.status ≡ said.status
-  pub out_is : reply.out ≡ said.out
-
--- a pipeline is that of a text and the files that it names, with named certificates or with inferred ones
-pub record IsLoaded (how : How) (p : Plan) : Type 0 where
-  pub text : List ℕ
-  pub files : FileMap
-  pub loaded : IsLoadedFrom (Some files) how text p
-
--- `dpv run`: a pipeline is loaded, and run with the calls refused and over the captures that the words give
-pub record RunsFile {F : Type 0} (remaining : F → Option (List ℕ)) (found : Found) (reply : Reply) : Type 0 where
-  pub words : RunWords found
-  pub p : Plan
-  pub loaded : IsLoaded how.Given p
-  pub runs : RunsNoted remaining found p words.pattern words.inputs words.outputs reply

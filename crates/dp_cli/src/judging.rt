@@ -1,10 +1,9 @@
 //! The commands that judge programs: `check`, `infer`, `explain` and `show`, and those on one program.
 
-ghost use Rattle.std.specs.Prelude.{◌≡◌, IfErr, IfOk};
+ghost use Rattle.std.specs.Prelude.{◌≡◌};
 ghost use Rattle.clap.specs.Matches.{found_of};
 ghost use Rattle.dp_sources.specs.Subjects.{env_of};
-ghost use Rattle.dp_cli.specs.Commands.{ChecksFile, InfersNode, InfersOne};
-ghost use Rattle.dp_cli.specs.Stops.{StopsCheck, StopsInfer};
+ghost use Rattle.dp_cli.specs.Commands.{EndsCheck, EndsInfer, EndsInferOne};
 
 use crate::reading::{
     Request, load_pipeline, node_in, read_about, read_file, read_nodes, read_pipeline,
@@ -40,8 +39,7 @@ fn say_more<R>(
 
 /// `dpv check FILE`.
 pub fn checked<R: Files>(request: &Request<'_, '_, R>) -> Result<Reply, Reply>
-    ensures checks { IfOk result (ChecksFile (found_of request.now.words.now)) }
-    ensures stops { IfErr result (StopsCheck (found_of request.now.words.now)) }
+    ensures { EndsCheck (found_of request.now.words.now) result }
 {
     let (is_json, with_sizes) = (request.flag("json"), request.flag("sizes"));
     if is_json & with_sizes {
@@ -59,8 +57,7 @@ pub fn checked<R: Files>(request: &Request<'_, '_, R>) -> Result<Reply, Reply>
 
 /// `dpv infer FILE WHICH`.
 pub fn inferred<R: Files>(request: &Request<'_, '_, R>) -> Result<Reply, Reply>
-    ensures infers { IfOk result (InfersNode (found_of request.now.words.now)) }
-    ensures stops { IfErr result (StopsInfer (found_of request.now.words.now)) }
+    ensures { EndsInfer (found_of request.now.words.now) result }
 {
     let node = node_in(request, request.word("WHICH"))?;
     let loaded = load_pipeline(request, How::Inferred)?;
@@ -77,8 +74,7 @@ fn alone<'a>(env: &'a Env, program: &'a str) -> Subject<'a>
 
 /// `dpv infer-one NODE`.
 pub fn inferred_one<R: Files>(request: &Request<'_, '_, R>) -> Result<Reply, Reply>
-    ensures infers { IfOk result (InfersOne (found_of request.now.words.now)) }
-    ensures memory { IfErr result (λ reply. reply.status ≡ 4) }
+    ensures { EndsInferOne (found_of request.now.words.now) result }
 {
     let env = one_env();
     let program = request.word("NODE");

@@ -1,8 +1,8 @@
 //! Reads operands of the command line.
 
-ghost use Rattle.std.specs.Prelude.{◌≡◌, ◌<◌, ◌≤◌, map, Some, IfSome, IfOk, option_map};
+ghost use Rattle.std.specs.Prelude.{◌≡◌, ◌==◌, ◌<◌, ◌≤◌, map, Some, IfSome, IfOk, option_map};
 ghost use Rattle.std.specs.Char.{is_ascii_digit};
-ghost use Rattle.std.specs.List.{list_all};
+ghost use Rattle.std.specs.List.{list_all, slice_split};
 ghost use Rattle.dp_engine.specs.Engines.{IsAscending};
 ghost use Rattle.dp_model.specs.declared.env.Entry.{Entry};
 ghost use Rattle.dp_cli.specs.Operands as spec;
@@ -65,7 +65,7 @@ pub fn port_in(word: &str) -> Option<u8>
 
 /// Splits a list at its commas.
 fn words_in<'a>(alloc: Global, list: &'a str) -> Result<Vec<&'a str>, AllocError>
-    ensures { IfOk result (λ words. map (λ word. word.now) words.items ≡ spec.words_in list.now) }
+    ensures { IfOk result (λ words. map (λ word. word.now) words.items ≡ slice_split (λ b. b == 44) list.now) }
 {
     list.split(',').collect(alloc)
 }

@@ -4,7 +4,8 @@ ghost use Rattle.std.specs.Prelude.{◌≡◌, ◌⊎◌, codes};
 ghost use Rattle.clap.specs.Matches.{found_of};
 ghost use Rattle.clap.specs.Words.{kind_of};
 ghost use Rattle.dp_console.specs.Replies.{EndsWith};
-ghost use Rattle.dp_cli.specs.Commands.{Answers, EndsCommand, EndsHelped, HasReplied};
+ghost use Rattle.dp_cli.specs.Commands as spec;
+ghost use Rattle.dp_cli.specs.Commands.{Answers, EndsCommand, EndsHelped};
 
 use crate::command_line::command;
 use crate::judging::{checked, explained, inferred, inferred_one, shown};
@@ -61,21 +62,11 @@ fn wrong_words<R: Print + Eprint, O: Write, E: Write>(
     }
 }
 
-/// What a command other than a trace replied.
-fn replied<K: CompiledPrograms, R: Files>(request: &Request<'_, '_, R>) -> Result<Reply, Reply>
-    ensures { HasReplied R.File.remaining request.now.name.now (found_of request.now.words.now) result }
-{
+/// What a command replied that explains, shows or makes something.
+fn explained_or_made<R: Files>(request: &Request<'_, '_, R>) -> Result<Reply, Reply> {
     match request.name {
-        "run" => run_file::<K, R>(request),
-        "one" => run_one(request),
-        "filter" => run_filter(request),
-        "check" => checked(request),
-        "infer" => inferred(request),
-        "infer-one" => inferred_one(request),
-        "explain" => explained(request),
-        "explain-one" => explained(request),
-        "show" => shown(request),
-        "show-one" => shown(request),
+        "explain" | "explain-one" => explained(request),
+        "show" | "show-one" => shown(request),
         "compile" => {
             let loaded = load_pipeline(request, How::Given)?;
             Ok(compile_reply(request.alloc, &loaded.pipeline))
@@ -88,11 +79,26 @@ fn replied<K: CompiledPrograms, R: Files>(request: &Request<'_, '_, R>) -> Resul
     }
 }
 
-/// The reply to a command other than a trace.
-fn reply_to<K: CompiledPrograms, R: Files>(request: &Request<'_, '_, R>) -> Reply
+/// What a command other than a trace replied.
+fn replied<K: CompiledPrograms, R: Files>(request: &Request<'_, '_, R>) -> Result<Reply, Reply>
     ensures { Answers R.File.remaining request.now.name.now (found_of request.now.words.now) result }
 {
-    match replied::<K, R>(request) {
+    match request.name {
+        "run" => run_file::<K, R>(request),
+        "one" => run_one(request),
+        "filter" => run_filter(request),
+        "check" => checked(request),
+        "infer" => inferred(request),
+        "infer-one" => inferred_one(request),
+        _ => explained_or_made(request),
+    }
+}
+
+/// A reply, whether the command was done or not.
+fn said(replied: Result<Reply, Reply>) -> Reply
+    ensures { result ≡ spec.reply_of replied }
+{
+    match replied {
         Ok(reply) | Err(reply) => reply,
     }
 }
@@ -107,11 +113,12 @@ fn run_command<K: CompiledPrograms, R: Files, O: Write, E: Write>(
         (O.contents console.new.out) (E.contents console.old.err) (E.contents console.new.err) result }
 {
     match request.name {
-        "trace" | "trace-one" => match traced(request, &mut console.out) {
-            Ok(reply) | Err(reply) => end(console, &reply),
-        },
+        "trace" | "trace-one" => {
+            let reply = said(traced(request, &mut console.out));
+            end(console, &reply)
+        }
         _ => {
-            let reply = reply_to::<K, R>(request);
+            let reply = said(replied::<K, R>(request));
             end(console, &reply)
         }
     }

@@ -1,11 +1,12 @@
 //! A command that runs: its words, its host, and the files that it reads before it decides: the pipeline file, the files of `--routes`, and those of
 //! the nodes. What fails here fails with the reply that ends the command early.
 
-ghost use Rattle.std.specs.Prelude.{◌≡◌, ◌⊎◌, IfErr, IfOk, IfSome, None, Some, codes, find, map, nat_le, option_map};
+ghost use Rattle.std.specs.Prelude.{◌≡◌, ◌⊎◌, [], IfErr, IfOk, IfSome, None, Some, codes, find, map, nat_le, option_map};
 ghost use Rattle.clap.specs.Matches.{found_of};
 ghost use Rattle.dp_sources.specs.Faults as faults;
-ghost use Rattle.dp_cli.specs.Runs.{IsLoaded, words_of};
-ghost use Rattle.dp_cli.specs.Operands.{IsFlag, operand, table_in, tables_in, word_of};
+ghost use Rattle.dp_cli.specs.Commands.{IsLoaded};
+ghost use Rattle.dp_cli.specs.Runs.{words_of};
+ghost use Rattle.dp_cli.specs.Operands.{IsFlag, operand, table_in, tables_from, word_of};
 ghost use Rattle.dp_cli.specs.Stops.{HasNoConfig, HasWrongRoutes, IsFault, IsNotLoaded, IsNotReady, NamesNone};
 
 use crate::operands::node_named;
@@ -132,8 +133,8 @@ fn named_by<'w, R>(
     request: &Request<'_, '_, R>,
     words: &[&'w str],
 ) -> Result<Vec<RoutesNamed<'w>>, Reply>
-    ensures named { IfOk result (λ named. Some (map (λ one. one.table) named.items) ≡ tables_in (map (λ word. word.now) words.now)) }
-    ensures wrong { IfErr result (λ reply. ((reply.status ≡ 2) × (tables_in (map (λ word. word.now) words.now) ≡ None)) ⊎ (reply.status ≡ 4)) }
+    ensures named { IfOk result (λ named. Some (map (λ one. one.table) named.items) ≡ tables_from [] (map (λ word. word.now) words.now)) }
+    ensures wrong { IfErr result (λ reply. ((reply.status ≡ 2) × (tables_from [] (map (λ word. word.now) words.now) ≡ None)) ⊎ (reply.status ≡ 4)) }
 {
     let mut named = Vec::new(request.alloc);
     for word in words {
@@ -152,7 +153,7 @@ fn named_by<'w, R>(
 /// The files that the words of `--routes` name, or the reply to the first that names none.
 fn routes_named<'w, R>(request: &Request<'_, 'w, R>) -> Result<Vec<RoutesNamed<'w>>, Reply>
     ensures named { IfOk result (λ named. Some (map (λ one. one.table) named.items)
-        ≡ tables_in (words_of (found_of request.now.words.now) (codes "routes"))) }
+        ≡ tables_from [] (words_of (found_of request.now.words.now) (codes "routes"))) }
     ensures wrong { IfErr result (HasWrongRoutes (found_of request.now.words.now)) }
 {
     match request.words.get_strs("routes") {

@@ -1,17 +1,15 @@
 //! `dpv run`, `dpv one` and `dpv filter` over the host's files.
 
-ghost use Rattle.std.specs.Prelude.{◌≡◌, ◌⊎◌, IfErr, IfOk, None, Some, codes, length, map};
+ghost use Rattle.std.specs.Prelude.{◌≡◌, ◌⊎◌, IfErr, IfOk, None, Some, length, map};
 ghost use Rattle.clap.specs.Matches.{first_value, found_of};
 ghost use Rattle.dp_captures.specs.Words.{row_of, rows_of};
 ghost use Rattle.dp_engine.specs.Engines.{IsAscending};
-ghost use Rattle.dp_cli.specs.Commands.{RunsFilter, RunsOne, RunsSingle};
-ghost use Rattle.dp_cli.specs.Operands.{option_within};
-ghost use Rattle.dp_cli.specs.Runs.{AreGiven, IsFilterPort, NeverRuns, RunsFile, RunsNoted, RunsOver, SaysRun, calls_in, status_unopened, words_of};
-ghost use Rattle.dp_cli.specs.Stops.{HasWrongNumber, NeverBegins, StopsAtWords, StopsFilter, StopsOne, StopsRun, StopsSingle};
-ghost use Rattle.dp_pipe.specs.Running.{answer_of};
+ghost use Rattle.dp_cli.specs.Commands.{EndsFilter, EndsLoaded, EndsOne, EndsRun, EndsSingle};
+ghost use Rattle.dp_cli.specs.Operands.{calls_in, option_within};
+ghost use Rattle.dp_cli.specs.Runs.{AreGiven, EndsOver, IsFilterPort, SaysRun, status_unopened, words_of};
+ghost use Rattle.dp_cli.specs.Stops.{HasWrongNumber, StopsAtWords};
 ghost use Rattle.dp_pipe.specs.Singles.{HasOnePort};
 ghost use Rattle.dp_region.specs.Region.{IsRegionSize};
-ghost use Rattle.dp_runs.specs.Replies.{IsReplied, status_of};
 
 use crate::operands::{number_in, numbers_in};
 use crate::reading::{Given, Loaded, Request, load_pipeline, read_nodes};
@@ -127,25 +125,20 @@ pub fn unopened<R: Files>(request: &Request<'_, '_, R>, fault: CaptureFault<'_>)
     failed(alloc, Fault::File(name, because), request.flag("json"))
 }
 
-/// The texts of the programs of a pipeline, in the order of its nodes. They are called by `--name`, if it is given, and else as their files.
-pub fn programs_of<'a, 'w: 'a, R>(
+/// The text of a node's program. It is called by `--name`, if that is given, and else as its file.
+pub fn program_of<'a, 'w: 'a, R>(
     request: &Request<'_, 'w, R>,
-    pipeline: &Pipeline,
+    node: Entry,
     subject: Subject<'a>,
     sources: &'a Sources,
-) -> Result<Vec<ProgramText<'a>>, AllocError> {
-    let mut programs = Vec::new(request.alloc);
-    for k in 0..pipeline.nodes() {
-        let node = pipeline.node(k).entry();
-        let file = match subject.node(node) {
-            Some(asked) => asked.program,
-            None => "",
-        };
-        let name = request.words.get_str("name").unwrap_or(file);
-        let text = sources.get(file).unwrap_or(&[]);
-        programs.push(ProgramText { node, name, text })?;
-    }
-    Ok(programs)
+) -> ProgramText<'a> {
+    let file = match subject.node(node) {
+        Some(asked) => asked.program,
+        None => "",
+    };
+    let name = request.words.get_str("name").unwrap_or(file);
+    let text = sources.get(file).unwrap_or(&[]);
+    ProgramText { node, name, text }
 }
 
 /// The files that a run reads besides its captures: those of the programs, and its own.
@@ -189,7 +182,11 @@ fn watcher_of<'a, 'w: 'a, R>(
     if !wanted.counts && !wanted.lines && !wanted.drops {
         return Watcher::of_losses(request.alloc, pipeline);
     }
-    let programs = programs_of(request, pipeline, subject, sources)?;
+    let mut programs = Vec::new(request.alloc);
+    for k in 0..pipeline.nodes() {
+        let node = pipeline.node(k).entry();
+        programs.push(program_of(request, node, subject, sources))?;
+    }
     Ok(Watcher::Counting(Counting::of(request.alloc, pipeline, programs.as_slice())?))
 }
 
@@ -200,33 +197,6 @@ fn truncated_in<F: Read + Drop>(inputs: &[InputOf<F>]) -> [u64; 8] {
         *number = input.truncated();
     }
     truncated
-}
-
-/// What is said of a run.
-fn said_of<'p, 'a, R>(
-    request: &Request<'_, '_, R>,
-    env: &'p Env,
-    ran: &Ran,
-    counting: Option<&'p Counting<'a>>,
-    problem: Option<CaptureProblem<'p>>,
-    notes: Notes,
-    is_json: bool,
-    is_stdout_taken: bool,
-) -> Reply
-    ensures status { result.status ≡ status_of (answer_of ran.now.flushed.answer) }
-    ensures said { IsReplied is_json is_stdout_taken ran.now.flushed.answer result }
-{
-    let printing = Printing {
-        env,
-        counting,
-        wanted: wanted_in(request),
-        totals: request.flag("progress"),
-        is_json,
-        is_stdout_taken,
-        problem,
-        notes: Some(notes),
-    };
-    reply_of(request.alloc, ran, &printing)
 }
 
 /// Runs a pipeline over its open captures, and says what it did.
@@ -261,16 +231,17 @@ fn run_opened<K: CompiledPrograms, R: Files>(
     let problem = problem_of_run(names, inputs, &ran);
     remove_empty_outputs(request.rt, request.alloc, names, outputs);
     let (counting, is_json) = (watcher.counting(), request.flag("json"));
-    said_of(
-        request,
-        &env,
-        &ran,
+    let printing = Printing {
+        env: &env,
         counting,
-        problem,
-        notes,
+        wanted: wanted_in(request),
+        totals: request.flag("progress"),
         is_json,
         is_stdout_taken,
-    )
+        problem,
+        notes: Some(notes),
+    };
+    reply_of(request.alloc, &ran, &printing)
 }
 
 /// Opens the captures of a pipeline, and runs it over them. `file` is the pipeline's own, if it has one.
@@ -284,9 +255,7 @@ fn run_ready<K: CompiledPrograms, R: Files>(
     pattern: Vec<u64>,
 ) -> Result<Reply, Reply>
     requires pattern { IsAscending 0 pattern.items }
-    ensures runs { IfOk result (RunsOver R.File.remaining (found_of request.now.words.now) pipeline pattern.items given.now.inputs.items
-        given.now.outputs.items) }
-    ensures never { IfErr result (NeverRuns R.File.remaining pipeline given.now.inputs.items given.now.outputs.items) }
+    ensures { EndsOver R.File.remaining (found_of request.now.words.now) pipeline pattern.items given.now.inputs.items given.now.outputs.items result }
 {
     let (rt, alloc) = (request.rt, request.alloc);
     let Ok(names) = names_of(alloc, &pipeline, given) else {
@@ -355,9 +324,8 @@ fn run_loaded<K: CompiledPrograms, R: Files>(
     pattern: Vec<u64>,
 ) -> Result<Reply, Reply>
     requires pattern { IsAscending 0 pattern.items }
-    ensures runs { IfOk result (RunsNoted R.File.remaining (found_of request.now.words.now) loaded.pipeline pattern.items given.now.inputs.items
-        given.now.outputs.items) }
-    ensures stops { IfErr result (NeverBegins R.File.remaining loaded.pipeline given.now.inputs.items given.now.outputs.items) }
+    ensures { EndsLoaded R.File.remaining (found_of request.now.words.now) loaded.pipeline pattern.items given.now.inputs.items
+        given.now.outputs.items result }
 {
     let Loaded {
         file,
@@ -389,8 +357,7 @@ fn run_loaded<K: CompiledPrograms, R: Files>(
 
 /// `dpv run FILE`.
 pub fn run_file<K: CompiledPrograms, R: Files>(request: &Request<'_, '_, R>) -> Result<Reply, Reply>
-    ensures runs { IfOk result (RunsFile R.File.remaining (found_of request.now.words.now)) }
-    ensures stops { IfErr result (StopsRun R.File.remaining (found_of request.now.words.now)) }
+    ensures { EndsRun R.File.remaining (found_of request.now.words.now) result }
 {
     let pattern = refused_in(request)?;
     let given = captures_in(request)?;
@@ -409,8 +376,7 @@ fn run_single<R: Files>(
 ) -> Result<Reply, Reply>
     requires port { HasOnePort env.now }
     requires region { IsRegionSize region }
-    ensures runs { IfOk result (RunsSingle R.File.remaining (found_of request.now.words.now) env.now region files.entry) }
-    ensures stops { IfErr result (StopsSingle R.File.remaining env.now region files.entry) }
+    ensures { EndsSingle R.File.remaining (found_of request.now.words.now) env.now region files.entry result }
 {
     let alloc = request.alloc;
     let SingleFiles { program, cert, .. } = files;
@@ -426,16 +392,12 @@ fn run_single<R: Files>(
         }
     };
     let pattern = Vec::new(alloc);
-    let reply = run_ready::<Nothing, R>(
-        request, pipeline, subject, &sources, None, &given, pattern,
-    )?;
-    Ok(reply)
+    run_ready::<Nothing, R>(request, pipeline, subject, &sources, None, &given, pattern)
 }
 
 /// `dpv one NODE CERT IN OUT`.
 pub fn run_one<R: Files>(request: &Request<'_, '_, R>) -> Result<Reply, Reply>
-    ensures runs { IfOk result (RunsOne R.File.remaining (found_of request.now.words.now)) }
-    ensures stops { IfErr result (StopsOne R.File.remaining (found_of request.now.words.now)) }
+    ensures { EndsOne R.File.remaining (found_of request.now.words.now) result }
 {
     let files = SingleFiles {
         program: request.word("NODE"),
@@ -508,8 +470,7 @@ fn filter_env<R>(request: &Request<'_, '_, R>) -> Result<Env, Reply>
 
 /// `dpv filter PROGRAM IN OUT`.
 pub fn run_filter<R: Files>(request: &Request<'_, '_, R>) -> Result<Reply, Reply>
-    ensures runs { IfOk result (RunsFilter R.File.remaining (found_of request.now.words.now)) }
-    ensures stops { IfErr result (StopsFilter R.File.remaining (found_of request.now.words.now)) }
+    ensures { EndsFilter R.File.remaining (found_of request.now.words.now) result }
 {
     let env = filter_env(request)?;
     let files = SingleFiles {

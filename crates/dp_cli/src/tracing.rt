@@ -1,18 +1,18 @@
 //! `dpv trace` and `dpv trace-one` over the host's files.
 
-ghost use Rattle.std.specs.Prelude.{◌≡◌, ◌≤◌, IfOk};
+ghost use Rattle.std.specs.Prelude.{◌≡◌, ◌≤◌, IfOk, length};
 ghost use Rattle.dp_engine.specs.Engines.{IsAscending};
 
 use crate::operands::{port_in, records_in};
 use crate::reading::{About, Request, read_about, read_nodes};
-use crate::running::{programs_of, refused_in, unopened};
-use dp_captures::{CaptureProblem, Replacements, names_of, open_inputs, problem_of};
+use crate::running::{program_of, refused_in, unopened};
+use dp_captures::{CaptureNames, CaptureProblem, Replacements, names_of, open_inputs, problem_of};
 use dp_console::{DONE, FAULT, Reply, Text};
 use dp_engine::Nothing;
 use dp_lang::listing_of;
 use dp_model::Entry;
 use dp_pipe::{How, MAX_RUN_TURNS, Pipeline, RunCause, SingleFiles, Traced, load, load_single};
-use dp_runs::{ProgramText, say_stop};
+use dp_runs::say_stop;
 use dp_sources::{Lent, ONE_REGION, Sources, Subject, one_env};
 use dp_trace::{
     NamedLabel, NodeTexts, Picked, Printed, Shown, TracedRun, only_in, pattern_in, say_end,
@@ -79,24 +79,29 @@ fn texts_of<'a>(alloc: Global, text: &'a [u8]) -> Result<NodeTexts<'a>, AllocErr
 }
 
 /// The programs of a pipeline as in their sources.
-fn nodes_of<'a>(
-    alloc: Global,
-    programs: &[ProgramText<'a>],
+fn nodes_of<'a, 'w: 'a, R>(
+    request: &Request<'_, 'w, R>,
+    pipeline: &Pipeline,
+    subject: Subject<'a>,
+    sources: &'a Sources,
 ) -> Result<Vec<NodeTexts<'a>>, AllocError> {
-    let mut nodes = Vec::new(alloc);
-    for program in programs {
-        nodes.push(texts_of(alloc, program.text)?)?;
+    let mut nodes = Vec::new(request.alloc);
+    for k in 0..pipeline.nodes() {
+        let program = program_of(request, pipeline.node(k).entry(), subject, sources);
+        nodes.push(texts_of(request.alloc, program.text)?)?;
     }
     Ok(nodes)
 }
 
-/// The label that `--instr` means in each program, or the reply if no program has it.
+/// The label that `--instr` means in each program, if it is given, or the reply if no program has it.
 fn labels_in<R>(
     request: &Request<'_, '_, R>,
-    word: &str,
     nodes: &[NodeTexts<'_>],
 ) -> Result<Vec<Option<u16>>, Reply> {
     let mut labels = Vec::new(request.alloc);
+    let Some(word) = request.words.get_str("instr") else {
+        return Ok(labels);
+    };
     let mut is_found = false;
     for node in nodes {
         let label = node.label(word);
@@ -105,11 +110,10 @@ fn labels_in<R>(
             return Err(request.without_memory());
         }
     }
-    if is_found {
-        Ok(labels)
-    } else {
-        Err(request.wrong(format_args!("error: no program has the label '{word}'")))
+    if !is_found {
+        return Err(request.wrong(format_args!("error: no program has the label '{word}'")));
     }
+    Ok(labels)
 }
 
 /// The reply to a traced run that was printed, and had the memory that it needs. In a document the line of a fault is the first that is reported.
@@ -144,7 +148,29 @@ fn said_of(
     }
 }
 
-/// Traces a pipeline over the captures that it reads, or this one for `dpv trace-one`; it opens none that it writes.
+/// The captures that a trace reads: those of the pipeline, or the one for `dpv trace-one`.
+fn names_in<R>(
+    request: &Request<'_, '_, R>,
+    pipeline: &Pipeline,
+) -> Result<Vec<CaptureNames>, AllocError>
+    ensures { IfOk result (λ names. length names.items ≡ length pipeline.now.env.ports) }
+{
+    let given = match request.words.get_str("IN") {
+        Some(input) => Replacements::of_one(request.alloc, input, "")?,
+        None => Replacements::none(request.alloc),
+    };
+    names_of(request.alloc, pipeline, &given)
+}
+
+/// The reply to a trace that could not be printed.
+fn unprinted(alloc: Global) -> Reply {
+    let mut reply = Reply::new(alloc);
+    reply.status = FAULT;
+    reply.err.say(format_args!("{UNWRITTEN}\n"));
+    reply
+}
+
+/// Traces a pipeline over the captures that it reads; it opens none that it writes.
 fn trace_pipeline<R: Files, O: Write>(
     request: &Request<'_, '_, R>,
     pipeline: Pipeline,
@@ -157,11 +183,7 @@ fn trace_pipeline<R: Files, O: Write>(
     requires limit { which.records ≤ MAX_RUN_TURNS }
 {
     let (rt, alloc) = (request.rt, request.alloc);
-    let given = match request.words.get_str("IN") {
-        Some(input) => request.made(Replacements::of_one(alloc, input, ""))?,
-        None => Replacements::none(alloc),
-    };
-    let Ok(names) = names_of(alloc, &pipeline, &given) else {
+    let Ok(names) = names_in(request, &pipeline) else {
         return Err(request.without_memory());
     };
     let (names, mut inputs) = (names.as_slice(), Vec::new(alloc));
@@ -171,12 +193,7 @@ fn trace_pipeline<R: Files, O: Write>(
     let ins = inputs.as_mut_slice();
     let run = trace_records::<Nothing, _, _>(alloc, pipeline, ins, pattern, which, shown, out);
     match (run.printed, run.answer) {
-        (Printed::Failed, _) => {
-            let mut reply = Reply::new(alloc);
-            reply.status = FAULT;
-            reply.err.say(format_args!("{UNWRITTEN}\n"));
-            Err(reply)
-        }
+        (Printed::Failed, _) => Err(unprinted(alloc)),
         (Printed::NoMemory, _) | (_, Err(RunCause::Memory)) => Err(request.without_memory()),
         (Printed::Whole, Err(cause)) => {
             Ok(said_of(alloc, run, problem_of(names, ins, cause, None), shown))
@@ -204,15 +221,14 @@ fn trace_loaded<R: Files, O: Write>(
     {
         return Err(no_node(request.alloc, Entry::Port(port)));
     }
-    let programs = request.made(programs_of(request, &pipeline, subject, sources))?;
-    let nodes = request.made(nodes_of(request.alloc, programs.as_slice()))?;
-    let labels = match request.words.get_str("instr") {
-        Some(word) => Some(labels_in(request, word, nodes.as_slice())?),
-        None => None,
+    let Ok(nodes) = nodes_of(request, &pipeline, subject, sources) else {
+        return Err(request.without_memory());
     };
-    let at = match &labels {
-        Some(labels) => Some(labels.as_slice()),
-        None => None,
+    let labels = labels_in(request, nodes.as_slice())?;
+    let at = if labels.is_empty() {
+        None
+    } else {
+        Some(labels.as_slice())
     };
     let shown = Shown {
         sources: nodes.as_slice(),
@@ -222,19 +238,15 @@ fn trace_loaded<R: Files, O: Write>(
     trace_pipeline(request, pipeline, pattern, which, shown, out)
 }
 
-/// `dpv trace FILE` and `dpv trace-one NODE CERT IN`: prints the records as they end; the reply has the rest.
-pub fn traced<R: Files, O: Write>(
+/// Loads what a trace is about, or returns the reply if it is not loaded.
+fn load_about<R>(
     request: &Request<'_, '_, R>,
-    out: &mut O,
-) -> Result<Reply, Reply> {
+    about: &About<'_>,
+    sources: &Sources,
+) -> Result<Pipeline, Reply> {
     let alloc = request.alloc;
-    let (which, asked) = asked_in(request)?;
-    let pattern = refused_in(request)?;
-    let about = read_about(request)?;
-    let subject = about.subject();
-    let sources = read_nodes(request, subject, None, How::Given)?;
-    let loaded = match &about {
-        About::File(file) => load(alloc, file.text(), &mut Lent(&sources), How::Given),
+    let loaded = match about {
+        About::File(file) => load(alloc, file.text(), &mut Lent(sources), How::Given),
         About::Single(_, program, cert) => {
             let files = SingleFiles {
                 program,
@@ -242,13 +254,30 @@ pub fn traced<R: Files, O: Write>(
                 input: request.word("IN"),
                 output: "",
             };
-            load_single(alloc, one_env(), ONE_REGION, files, &mut Lent(&sources))
+            load_single(alloc, one_env(), ONE_REGION, files, &mut Lent(sources))
         }
     };
     match loaded {
-        Ok(pipeline) => trace_loaded(
-            request, pipeline, subject, &sources, pattern, which, asked, out,
-        ),
-        Err(error) => Err(unloaded(alloc, error, subject, &sources, request.flag("json"))),
+        Ok(pipeline) => Ok(pipeline),
+        Err(error) => {
+            let (subject, is_json) = (about.subject(), request.flag("json"));
+            Err(unloaded(alloc, error, subject, sources, is_json))
+        }
     }
+}
+
+/// `dpv trace FILE` and `dpv trace-one NODE CERT IN`: prints the records as they end; the reply has the rest.
+pub fn traced<R: Files, O: Write>(
+    request: &Request<'_, '_, R>,
+    out: &mut O,
+) -> Result<Reply, Reply> {
+    let (which, asked) = asked_in(request)?;
+    let pattern = refused_in(request)?;
+    let about = read_about(request)?;
+    let subject = about.subject();
+    let sources = read_nodes(request, subject, None, How::Given)?;
+    let pipeline = load_about(request, &about, &sources)?;
+    trace_loaded(
+        request, pipeline, subject, &sources, pattern, which, asked, out,
+    )
 }

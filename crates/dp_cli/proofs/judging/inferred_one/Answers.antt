@@ -2,8 +2,8 @@
 use Rattle.dp_sources.specs.Sources.{files_of}
 use Rattle.dp_cli.proofs.judging.inferred_one.Goals as goal
 
-pub returns-clause-infers : goal.returns-clause-infers
-returns-clause-infers g c = record {
-  texts = files_of c.in_ok-sources.sources;
-  says = rw (c.alone-subject.ensures, c.one_env-env.ensures, c.word-program.ensures) at c.infer_one.ensures;
-}
+pub returns : goal.returns
+returns g c = (
+  files_of c.in_ok-sources.sources,
+  rw (c.alone-subject.ensures, c.one_env-env.ensures, c.word-program.ensures) at c.infer_one.ensures,
+)

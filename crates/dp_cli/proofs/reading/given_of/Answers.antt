@@ -3,11 +3,11 @@ use Rattle.std.proofs.Common.{inr, sym}
 use Rattle.dp_cli.proofs.reading.given_of.Goals as goal
 
 pub returns-in-Some : goal.returns-in-Some
-returns-in-Some g c = inr (inr (record {
-  text = c.as_slice-2.result.now;
-  config = c.in-Ok.survey.config;
-  reads = c.in-Ok.ensures.ok;
-  table = c.in-Some.table;
-  lacked = rw (← c.env.ensures, ← c.as_slice-3.ensures.value) (sym c.in-Some.ensures);
-  status_is = c.wrong.ensures;
-}))
+returns-in-Some g c = inr (inr (
+  c.as_slice-2.result.now,
+  c.in-Ok.survey.config,
+  c.in-Some.table,
+  c.in-Ok.ensures.ok,
+  rw (← c.env.ensures, ← c.as_slice-3.ensures.value) (sym c.in-Some.ensures),
+  c.wrong.ensures,
+))

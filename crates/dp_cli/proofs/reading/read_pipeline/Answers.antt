@@ -4,8 +4,8 @@ use Rattle.dp_cli.proofs.Stops.{map_err}
 use Rattle.dp_cli.proofs.reading.read_pipeline.Goals as goal
 
 pub returns : goal.returns
-returns g c = map_err c.given_of.result (λ reply lacks. inr (record {
-  tables = map (λ file. file.table) c.in_ok-routes.routes.items;
-  named = rw (c.in_ok-routes.ensures.tables, c.as_slice.ensures.value) c.in_ok-named.ensures.named;
-  stopped = inr lacks;
-})) c.given_of.ensures
+returns g c = map_err c.given_of.result (λ reply lacks. inr (
+  map (λ file. file.table) c.in_ok-routes.routes.items,
+  rw (c.in_ok-routes.ensures.tables, c.as_slice.ensures.value) c.in_ok-named.ensures.named,
+  inr lacks,
+)) c.given_of.ensures

@@ -6,15 +6,10 @@ use Rattle.dp_cli.proofs.running.filter_env.Goals as goal
 pub returns-in-Err-clause-wrong : goal.returns-in-Err-clause-wrong
 returns-in-Err-clause-wrong g c = (
   c.wrong.ensures,
-  inr (inr (record {
-    env = filter_port c.in_ok-room.room c.in_ok-segs.segs;
-    port = record {
-      room = c.in_ok-room.room;
-      room_is = search rules;
-      segs = c.in_ok-segs.segs;
-      segs_is = search rules;
-      env_is = refl;
-    };
-    refused = (_, c.in-Err.ensures.err);
-  })),
+  inr (inr (
+    filter_port c.in_ok-room.room c.in_ok-segs.segs,
+    record { room = c.in_ok-room.room; room_is = search rules; segs = c.in_ok-segs.segs; segs_is = search rules; env_is = refl },
+    _,
+    c.in-Err.ensures.err,
+  )),
 )

@@ -1,4 +1,4 @@
--- `run_opened`: the run is that of `run_over`, and what is said of it that of `said_of`.
+-- `run_opened`: the run is that of `run_over`, and what is said of it that of `reply_of`.
 use Rattle.dp_cli.proofs.running.run_opened.Goals as goal
 
 pub returns : goal.returns
@@ -9,6 +9,6 @@ returns g c = record {
   run = c.run_over-ran.ensures;
   is_json = c.flag-is_json.result;
   json = c.flag-is_json.ensures;
-  said = c.said_of.ensures.said;
-  status_is = c.said_of.ensures.status;
+  said = c.reply_of.ensures.parts;
+  status_is = c.reply_of.ensures.status;
 }

@@ -15,8 +15,8 @@ run_opened-requires-clause-outputs g c =
     ∙ c.in-Ok.ensures.many
 
 -- the run is over the captures that were opened
-pub returns-clause-runs : goal.returns-clause-runs
-returns-clause-runs g c = record {
+pub returns : goal.returns
+returns g c = record {
   names = c.as_slice-2.result.now;
   named = record {
     read = ap (λ names. map input_capture names) c.as_slice-2.ensures.value ∙ c.in-Ok.ensures.inputs;
@@ -34,8 +34,8 @@ returns-clause-runs g c = record {
 }
 
 -- no run is over captures that were not opened
-pub returns-in-Err-clause-never : goal.returns-in-Err-clause-never
-returns-in-Err-clause-never g c = inr (record {
+pub returns-in-Err : goal.returns-in-Err
+returns-in-Err g c = inr (record {
   names = c.as_slice-2.result.now;
   named = record {
     read = ap (λ names. map input_capture names) c.as_slice-2.ensures.value ∙ c.in-Ok.ensures.inputs;

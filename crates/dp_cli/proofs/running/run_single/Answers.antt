@@ -3,24 +3,22 @@ use Rattle.std.proofs.Common.{inl, inr}
 use Rattle.dp_sources.specs.Sources.{files_of}
 use Rattle.dp_cli.proofs.running.run_single.Goals as goal
 
-pub returns-clause-runs : goal.returns-clause-runs
-returns-clause-runs g c = record {
-  texts = files_of c.in_ok-sources.sources;
-  p = c.in-Ok-load_single.pipeline;
-  loaded = rw (← c.copy.ensures.same) c.in-Ok-load_single.ensures.loaded;
-  inputs = c.in-Ok.given.inputs.items;
-  outputs = c.in-Ok.given.outputs.items;
-  given = record { reads_from = c.in-Ok.ensures.inputs; writes_to = c.in-Ok.ensures.outputs };
-  runs = rw (c.new-pattern.ensures.items) at c.in_ok-reply.ensures.runs;
-}
+pub returns : goal.returns
+returns g c = inr (
+  files_of c.in_ok-sources.sources,
+  c.in-Ok-load_single.pipeline,
+  c.in-Ok.given.inputs.items,
+  c.in-Ok.given.outputs.items,
+  rw (← c.copy.ensures.same) c.in-Ok-load_single.ensures.loaded,
+  (c.in-Ok.ensures.inputs, c.in-Ok.ensures.outputs),
+  rw (c.new-pattern.ensures.items) at c.run_ready.ensures,
+)
 
 -- the program is not loaded
-pub returns-in-Err-clause-stops : goal.returns-in-Err-clause-stops
-returns-in-Err-clause-stops g c = inr (inl (record {
-  texts = files_of c.in_ok-sources.sources;
-  error = c.in-Err.error;
-  fails = rw (← c.copy.ensures.same) c.in-Err.ensures.fails;
-  is_json = c.flag.result;
-  says = c.unloaded.ensures.says;
-  undone = c.unloaded.ensures.not_done;
-}))
+pub returns-in-Err : goal.returns-in-Err
+returns-in-Err g c = inl (inr (
+  files_of c.in_ok-sources.sources,
+  c.in-Err.error,
+  rw (← c.copy.ensures.same) c.in-Err.ensures.fails,
+  (c.flag.result, c.unloaded.ensures.says, c.unloaded.ensures.not_done),
+))
