@@ -66,9 +66,8 @@ alloc_copy pools buffers pool n is =
 pub cloned_copy : (pools : List PoolSpec) (buffers : Buffers) (ns : List Number) (k : Packet) → length ns ≡ length k → copy_of pools buffers (cloned ns k)
     ≡ copy_of pools buffers k
 cloned_copy pools buffers [] [] e = refl
-cloned_copy pools buffers [] (s ∷ k) e = absurd (omega arith)
-cloned_copy pools buffers (n ∷ ns) [] e = absurd (omega arith)
 cloned_copy pools buffers (n ∷ ns) (s ∷ k) e = ap (λ c. piece_of pools buffers s ∷ c) (cloned_copy pools buffers ns k (omega arith))
+cloned_copy pools buffers x y e = absurd (omega arith)
 
 -- free buffers belong to no live segment
 pub quiet : (pools : List PoolSpec) (segments : List Segment) (pool : ℕ) (ns : List Number) (b : Number) → AllByRecursion (IsFresh pools segments pool) ns →

@@ -56,15 +56,7 @@ shared_run = (
 pub copy_captures : Captures {T = ℕ} one_port [] nodes arrivals answers captures 0
 copy_captures = (
   12,
-  record {
-    packets = replicate 8 None;
-    numbers = 0 ∷ 9 ∷ replicate 6 0;
-    jumps = 0;
-    rings = [];
-    outboxes = [] ∷ [];
-    to_answer = [];
-    cuts = 0;
-  },
+  record { packets = replicate 8 None; numbers = 0 ∷ 9 ∷ replicate 6 0; jumps = 0; rings = []; outboxes = [] ∷ []; to_answer = []; cuts = 0 },
   refl,
   refl,
   refl,

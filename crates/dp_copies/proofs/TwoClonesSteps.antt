@@ -1,127 +1,67 @@
 -- The steps of the run by hand, from the last to the first.
-use Rattle.std.proofs.Common.{true, [], ◌∷◌, refl, arith}
+use Rattle.std.proofs.Common.{◌≡◌, ℕ, true, [], ◌∷◌, Some, refl, arith}
+use Rattle.std.specs.Prelude.{slice_get}
+use Rattle.dp_model.specs.declared.instr.Instr.{Instr}
 use Rattle.dp_model.specs.declared.instr.Instr.TheVariants.{Alloc, Free, Clone, Adj, Append, Chain, Set, Store, Tx, Exit}
 use Rattle.dp_model.specs.declared.registers.Width.TheVariants.{One}
-use Rattle.dp_model.specs.Machine.{Ended, Step}
+use Rattle.dp_model.specs.Machine.{State, Ended, Move, Acts, IsLabel, Step, with_step, budgeted}
 use Rattle.dp_model.specs.Runs.{StepsTo}
 use Rattle.dp_copies.specs.TwoClones.{setting, program}
 use Rattle.dp_copies.proofs.TwoClonesStates.{alone, number, whole, cut, clone, joined, fresh, longer, filled, s0, m0, m1, m2, m3, m4, m5, m6, m7, m8, m9, m10}
 use Rattle.dp_copies.proofs.TwoClonesStates.{m11}
 
+-- an instruction at its label, whose effect takes no jump back
+done : (label : ℕ) (s : State) (m : Move) (i : Instr) → slice_get program label ≡ Some i → Acts setting label (with_step s) i m → IsLabel program m.next →
+    m ≡ budgeted label m → Step setting program label s m
+done label s m i here acts is_label is = record { instr = i; here = here; effect = m; acts = acts; is_label = is_label; is = is }
+
 exits : Step setting program 11 m10.state m11
-exits = record {
-  instr = Exit;
-  here = refl;
-  effect = m11;
-  acts = ((refl, (refl, (refl, (refl, (refl, (refl, (refl, (refl, tt)))))))), refl);
-  is_label = tt;
-  is = refl;
-}
+exits = done 11 m10.state m11 Exit refl ((refl, (refl, (refl, (refl, (refl, (refl, (refl, (refl, tt)))))))), refl) tt refl
 
 sends_other : Step setting program 10 m9.state m10
-sends_other = record {
-  instr = Tx 1 0 11;
-  here = refl;
-  effect = m10;
-  acts = (longer, 4, joined ∷ [], refl, refl, refl, refl);
-  is_label = omega arith;
-  is = refl;
-}
+sends_other = done 10 m9.state m10 (Tx 1 0 11) refl (longer, 4, joined ∷ [], refl, refl, refl, refl) (omega arith) refl
 
 stores : Step setting program 9 m8.state m9
-stores = record { instr = Store 1 0 One 1; here = refl; effect = m9; acts = (longer, refl, omega arith, refl, refl); is_label = omega arith; is = refl }
+stores = done 9 m8.state m9 (Store 1 0 One 1) refl (longer, refl, omega arith, refl, refl) (omega arith) refl
 
 sets : Step setting program 8 m7.state m8
-sets = record { instr = Set 1 9; here = refl; effect = m8; acts = ((9, 0 ∷ 9 ∷ 0 ∷ 0 ∷ 0 ∷ 0 ∷ 0 ∷ 0 ∷ []), refl, refl); is_label = omega arith; is = refl }
+sets = done 8 m7.state m8 (Set 1 9) refl ((9, 0 ∷ 9 ∷ 0 ∷ 0 ∷ 0 ∷ 0 ∷ 0 ∷ 0 ∷ []), refl, refl) (omega arith) refl
 
 frees : Step setting program 7 m6.state m7
-frees = record { instr = Free 3; here = refl; effect = m7; acts = (_, refl, refl); is_label = omega arith; is = refl }
+frees = done 7 m6.state m7 (Free 3) refl (_, refl, refl) (omega arith) refl
 
 sends : Step setting program 6 m5.state m6
-sends = record {
-  instr = Tx 2 0 11;
-  here = refl;
-  effect = m6;
-  acts = (joined, 4, [], refl, refl, refl, refl);
-  is_label = omega arith;
-  is = refl;
-}
+sends = done 6 m5.state m6 (Tx 2 0 11) refl (joined, 4, [], refl, refl, refl, refl) (omega arith) refl
 
 chains : Step setting program 5 m4.state m5
-chains = record {
-  instr = Chain 2 0;
-  here = refl;
-  effect = m5;
-  acts = (clone, cut, refl, refl, (λ e. absurd (omega (arith, e))), omega arith, refl);
-  is_label = omega arith;
-  is = refl;
-}
+chains = done 5 m4.state m5 (Chain 2 0) refl (clone, cut, refl, refl, (λ e. absurd (omega (arith, e))), omega arith, refl) (omega arith) refl
 
 adjusts : Step setting program 4 m3.state m4
-adjusts = record { instr = Adj 0 1; here = refl; effect = m4; acts = (whole, refl, omega arith, refl); is_label = omega arith; is = refl }
+adjusts = done 4 m3.state m4 (Adj 0 1) refl (whole, refl, omega arith, refl) (omega arith) refl
 
 clones_other : Step setting program 3 m2.state m3
-clones_other = record {
-  instr = Clone 3 1 0 11;
-  here = refl;
-  effect = m3;
-  acts = (
-    longer,
-    refl,
-    refl,
-    omega arith,
-    (
-      number 0 ∷ [],
-      alone (record { of_pool = refl; exists = omega arith; free = refl }),
-      refl,
-    ),
-  );
-  is_label = omega arith;
-  is = refl;
-}
+clones_other = done 3 m2.state m3 (Clone 3 1 0 11) refl
+    (longer, refl, refl, omega arith, (number 0 ∷ [], alone (record { of_pool = refl; exists = omega arith; free = refl }), refl)) (omega arith) refl
 
 clones : Step setting program 2 m1.state m2
-clones = record {
-  instr = Clone 2 0 0 11;
-  here = refl;
-  effect = m2;
-  acts = (
-    whole,
-    refl,
-    refl,
-    omega arith,
-    (
-      number 3 ∷ [],
-      alone (record { of_pool = refl; exists = omega arith; free = refl }),
-      refl,
-    ),
-  );
-  is_label = omega arith;
-  is = refl;
-}
+clones = done 2 m1.state m2 (Clone 2 0 0 11) refl
+    (whole, refl, refl, omega arith, (number 3 ∷ [], alone (record { of_pool = refl; exists = omega arith; free = refl }), refl)) (omega arith) refl
 
 appends : Step setting program 1 m0.state m1
-appends = record { instr = Append 1 1; here = refl; effect = m1; acts = (fresh, refl, omega arith, refl, refl); is_label = omega arith; is = refl }
+appends = done 1 m0.state m1 (Append 1 1) refl (fresh, refl, omega arith, refl, refl) (omega arith) refl
 
 allocates : Step setting program 0 s0 m0
-allocates = record {
-  instr = Alloc 1 0 11;
-  here = refl;
-  effect = m0;
-  acts = (
+allocates = done 0 s0 m0 (Alloc 1 0 11) refl (
+  refl,
+  omega arith,
+  (
+    number 1 ∷ [],
+    filled,
+    alone (record { of_pool = refl; exists = omega arith; free = refl }),
+    record { others = λ b other. refl; lengths = λ b. refl; bytes = λ are. are },
     refl,
-    omega arith,
-    (
-      number 1 ∷ [],
-      filled,
-      alone (record { of_pool = refl; exists = omega arith; free = refl }),
-      record { others = λ b other. refl; lengths = λ b. refl; bytes = λ are. are },
-      refl,
-    ),
-  );
-  is_label = omega arith;
-  is = refl;
-}
+  ),
+) (omega arith) refl
 
 -- ---- joined
 

@@ -70,8 +70,7 @@ changed_go : (a b : Row) (p : ℕ) (f g : Holding → Holding) (x y : Option Hol
 changed_go a b p f g None None s o ex ey each groups = s
 changed_go a b p f g (Some x) (Some y) s o ex ey each groups =
     fact_set a b p (held (f x)) (held (g y)) s (each x y refl o) (rw (ex, ey) at groups)
-changed_go a b p f g None (Some y) s o ex ey each groups = absurd o
-changed_go a b p f g (Some x) None s o ex ey each groups = absurd o
+changed_go a b p f g x y s o ex ey each groups = absurd o
 
 pub changed_keeps : (a b : Row) (p : ℕ) (f g : Holding → Holding) → Stronger a b → AreWellFormed a → ((h : Holding) → (f h).share ≡ h.share) →
     ((h : Holding) → (g h).share ≡ h.share)
@@ -113,15 +112,13 @@ one_left g n (Held share head tail first last segs) (Held s h t f l k) m out =
     go : (b : Bool) → (share == share_of_group g) ≡ b → entails_share (cond (share == share_of_group g) n share) s ≡ true
     go true e = share_zero (cond (share == share_of_group g) n share) s (loose e)
     go false e = rw e m.share
-one_left g n Empty (Held s h t f l k) m out = absurd m
-one_left g n (Held share head tail first last segs) Empty m out = absurd m
+one_left g n x y m out = absurd m
 
 pub reshared_left : (g n : ℕ) (fs hs : List Fact) → AllZip StrongerFact fs hs → ((i : ℕ) → belongs fs g i ≡ true → belongs hs g i ≡ false) →
     AllZip StrongerFact (reshared g n fs) hs
 reshared_left g n [] [] z out = tt
 reshared_left g n (f ∷ fs) (h ∷ hs) z out = (one_left g n f h z.0 (out 0), reshared_left g n fs hs z.1 (λ i. out (suc i)))
-reshared_left g n [] (h ∷ hs) z out = absurd z
-reshared_left g n (f ∷ fs) [] z out = absurd z
+reshared_left g n x y z out = absurd z
 
 -- it gets the same share in both rows
 one_both : (g n : ℕ) (f h : Fact) → StrongerFact f h → is_in g f ≡ is_in g h → StrongerFact (reshared_fact g n f) (reshared_fact g n h)
@@ -132,15 +129,13 @@ one_both g n (Held share head tail first last segs) (Held s h t f l k) m same =
     go : (b : Bool) → (share == share_of_group g) ≡ b → entails_share (cond (share == share_of_group g) n share) (cond (s == share_of_group g) n s) ≡ true
     go true e = rw (e, sym same ∙ e) (share_same n)
     go false e = rw (e, sym same ∙ e) m.share
-one_both g n Empty (Held s h t f l k) m same = absurd m
-one_both g n (Held share head tail first last segs) Empty m same = absurd m
+one_both g n x y m same = absurd m
 
 pub reshared_both : (g n : ℕ) (fs hs : List Fact) → AllZip StrongerFact fs hs → ((i : ℕ) → belongs fs g i ≡ belongs hs g i) →
     AllZip StrongerFact (reshared g n fs) (reshared g n hs)
 reshared_both g n [] [] z same = tt
 reshared_both g n (f ∷ fs) (h ∷ hs) z same = (one_both g n f h z.0 (same 0), reshared_both g n fs hs z.1 (λ i. same (suc i)))
-reshared_both g n [] (h ∷ hs) z same = absurd z
-reshared_both g n (f ∷ fs) [] z same = absurd z
+reshared_both g n x y z same = absurd z
 
 pub dissolved_keeps : (a b : Row) (p : ℕ) → Stronger a b → Stronger (dissolved a p) (dissolved b p)
 dissolved_keeps a b p s = go (group_at a p) (group_at b p) refl refl
@@ -211,8 +206,7 @@ chain_go a b p q (Some x) (Some y) s out out' o =
     (changed_belongs b p (λ h. after_chain h y) (λ h e g. chained_no_group h.share y.share g
     ∙ sym (sym (belongs_at b.facts g p (held h) (fact_at b p h e)) ∙ out' g)))
     s.groups))
-chain_go a b p q None (Some y) s out out' o = absurd o
-chain_go a b p q (Some x) None s out out' o = absurd o
+chain_go a b p q x y s out out' o = absurd o
 
 pub chain_keeps : (a b : Row) (p q : ℕ) → Stronger a b → AreWellFormed a → Stronger (after_chained a p q) (after_chained b p q)
 chain_keeps a b p q s fits =
@@ -233,8 +227,7 @@ least_same [] [] g i long same = refl
 least_same (x ∷ xs) (y ∷ ys) g i long same = by_cases (is_in g y)
     (λ here. let first : is_in g x ≡ true = same 0 ∙ here in rw (first, here) refl)
     (λ away. let first : is_in g x ≡ false = same 0 ∙ away in rw (first, away) (least_same xs ys g (i + 1) (omega arith) (λ j. same (suc j))))
-least_same [] (y ∷ ys) g i long same = absurd (omega arith)
-least_same (x ∷ xs) [] g i long same = absurd (omega arith)
+least_same x y g i long same = absurd (omega arith)
 
 pub least_is : (xs ys : List Fact) (g : ℕ) → length xs ≡ length ys → ((j : ℕ) → belongs xs g j ≡ belongs ys g j) → least_member xs g ≡ least_member ys g
 least_is xs ys g long same = position_from-zero (is_in g) xs ∙ (least_same xs ys g 0 long same ∙ sym (position_from-zero (is_in g) ys))
@@ -386,10 +379,8 @@ record Twins (a b : Row) (p q n n' : ℕ) (x y : Holding) : Type 0 where
   pub second : held_at b q ≡ Some y
   pub more : StrongerHolding x y
   pub share : entails_share n n' ≡ true
-  pub fa : Fact
-  pub at : slice_get a.facts p ≡ Some fa
-  pub fb : Fact
-  pub at' : slice_get b.facts p ≡ Some fb
+  pub at : slice_get a.facts p ≡ Some Empty
+  pub at' : slice_get b.facts p ≡ Some Empty
   pub apart : p ≢ q
   -- the new group, if the second row has it, has the same registers in both
   pub new : (g : ℕ) → (n' == share_of_group g) ≡ true → ((n == share_of_group g) ≡ true) × ((j : ℕ) → belongs a.facts g j ≡ belongs b.facts g j)
@@ -413,7 +404,7 @@ twin_keeps a b p q n n' x y s t = record {
     both : (g j : ℕ) → (n == share_of_group g) ≡ (n' == share_of_group g) → belongs a.facts g j ≡ belongs b.facts g j → belongs (twin a p q x n).facts g j
         ≡ belongs (twin b p q y n').facts g j
     both g j name same = ⊎_elim
-        (λ is. cc (twin_p a p q n x t.fa g t.first t.at t.apart, twin_p b p q n' y t.fb g t.second t.at' t.apart))
+        (λ is. cc (twin_p a p q n x Empty g t.first t.at t.apart, twin_p b p q n' y Empty g t.second t.at' t.apart))
         (λ np. ⊎_elim
         (λ is. cc (twin_q a p q n x g t.first t.apart, twin_q b p q n' y g t.second t.apart))
         (λ nq. cc (twin_else a p q n x g j t.first np nq, twin_else b p q n' y g j t.second np nq))
@@ -430,7 +421,7 @@ twin_keeps a b p q n n' x y s t = record {
         (λ (np, nq).
         let before : belongs b.facts g i ≡ true = sym (twin_else b p q n' y g i t.second np nq) ∙ inside in
         both g j (t.old g i before out ∙ sym out) (s.groups i g before j))
-        (twin_cases b p q n' y t.fb t.second t.at' t.apart i)
+        (twin_cases b p q n' y Empty t.second t.at' t.apart i)
 
 -- ---- the target is empty
 
@@ -451,8 +442,7 @@ empty_more : (fs gs : List Fact) (p : ℕ) → AllZip StrongerFact fs gs → sli
 empty_more [] [] p z at = at
 empty_more (f ∷ fs) (g ∷ gs) zero z at = ap Some (empty_one f g z.0 (same_Some g Empty at))
 empty_more (f ∷ fs) (g ∷ gs) (suc p) z at = empty_more fs gs p z.1 at
-empty_more [] (g ∷ gs) p z at = absurd z
-empty_more (f ∷ fs) [] p z at = absurd z
+empty_more x y p z at = absurd z
 
 reshared_empty : (facts : List Fact) (g n p : ℕ) → slice_get facts p ≡ Some Empty → slice_get (reshared g n facts) p ≡ Some Empty
 reshared_empty [] g n p e = e
@@ -520,9 +510,7 @@ clone_both a b p q g x y c t t' =
       second = e';
       more = record { share = share_same n; head = c.more.head; tail = c.more.tail; first = c.more.first; last = c.more.last; segs = c.more.segs };
       share = share_same n;
-      fa = Empty;
       at = reshared_empty a.facts g n p c.at;
-      fb = Empty;
       at' = reshared_empty b.facts g n p c.at';
       apart = c.apart;
       new = λ z is. (is, λ j. s.groups q z (belongs_at r'.facts z q (held (shared n y)) (fact_at r' q (shared n y) e') ∙ is) j);
@@ -538,9 +526,7 @@ clone_left a b p q g x y c t t' =
       second = c.second;
       more = rw (e, c.second) at (held_both r b q s);
       share = share_zero n 0 refl;
-      fa = Empty;
       at = reshared_empty a.facts g n p c.at;
-      fb = Empty;
       at' = c.at';
       apart = c.apart;
       new = λ z is. absurd (let wrong : true ≡ false = sym is ∙ loose_no_group z in cc);
@@ -597,9 +583,7 @@ clone_begun a b p q x y c t t' = go (x.share == 2) (y.share == 2) refl refl
       second = c.second;
       more = c.more;
       share = share;
-      fa = Empty;
       at = c.at;
-      fb = Empty;
       at' = c.at';
       apart = c.apart;
       new = new;
@@ -676,5 +660,4 @@ clone_keeps a b p q s fits fits' target = go (held_at a q) (held_at b q) refl re
           more = m;
           apart = λ is. let wrong : None ≡ Some y = rw (← is, at') at e' in cc;
         }) (group_at a q) (group_at b q) refl refl
-    go None (Some y) e e' m = absurd m
-    go (Some x) None e e' m = absurd m
+    go x y e e' m = absurd m

@@ -106,36 +106,17 @@ fact_join fs gs (Held share head tail first last segs) (Held s h t f l n) (Held 
     let segs_some = leb-true 1 n' some in
     let segs_most = leb-true n' 64 most in
     rw (common_is fs gs (joined_share share s) (min head h) (min tail t) (min first f) (min last l) (min 64 (max 1 (max segs n))))
-    (record {
-      left = record {
-        share = kept_less fs gs share (joined_share share s) (joined_left share s);
-        head = omega arith;
-        tail = omega arith;
-        first = omega arith;
-        last = omega arith;
-        segs = omega (arith, p.segs, segs_most);
-      };
-      right = record {
-        share = kept_less fs gs s (joined_share share s) (joined_right share s);
-        head = omega arith;
-        tail = omega arith;
-        first = omega arith;
-        last = omega arith;
-        segs = omega (arith, q.segs, segs_most);
-      };
-      least = record {
-        share = kept_least fs gs share s s' p.share q.share b (λ x e. common x (eq-eqb s' (8 + x) e));
-        head = omega (arith, p.head, q.head);
-        tail = omega (arith, p.tail, q.tail);
-        first = omega (arith, p.first, q.first);
-        last = omega (arith, p.last, q.last);
-        segs = omega (arith, p.segs, q.segs, segs_some);
-      };
+    (let left = kept_less fs gs share (joined_share share s) (joined_left share s) in
+    let right = kept_less fs gs s (joined_share share s) (joined_right share s) in
+    let least = kept_least fs gs share s s' p.share q.share b (λ x e. common x (eq-eqb s' (8 + x) e)) in
+    record {
+      left = record { share = left; head = omega arith; tail = omega arith; first = omega arith; last = omega arith; segs = omega arith };
+      right = record { share = right; head = omega arith; tail = omega arith; first = omega arith; last = omega arith; segs = omega arith };
+      least = record { share = least; head = omega arith; tail = omega arith; first = omega arith; last = omega arith; segs = omega arith };
     })
-fact_join fs gs Empty (Held s h t f l n) Empty p q fits common = absurd q
 fact_join fs gs Empty g (Held s h t f l n) p q fits common = absurd p
 fact_join fs gs (Held share head tail first last segs) g Empty p q fits common = absurd p
-fact_join fs gs (Held share head tail first last segs) Empty (Held s h t f l n) p q fits common = absurd q
+fact_join fs gs x y z p q fits common = absurd q
 
 each_join : (fs gs xs ys us : List Fact) → AllZip StrongerFact xs us → AllZip StrongerFact ys us → list_all is_fact_of_row us ≡ true →
     AllByRecursion (AreCommon fs gs) us
@@ -146,10 +127,9 @@ each_join fs gs (f ∷ xs) (g ∷ ys) (u ∷ us) p q fits common =
     let one = fact_join fs gs f g u p.0 q.0 here common.0 in
     let others = each_join fs gs xs ys us p.1 q.1 rest common.1 in
     record { left = (one.left, others.left); right = (one.right, others.right); least = (one.least, others.least) }
-each_join fs gs [] ys (u ∷ us) p q fits common = absurd p
-each_join fs gs (f ∷ xs) ys [] p q fits common = absurd p
 each_join fs gs [] (g ∷ ys) [] p q fits common = absurd q
 each_join fs gs (f ∷ xs) [] (u ∷ us) p q fits common = absurd q
+each_join fs gs x ys y p q fits common = absurd p
 
 -- the groups of a row that both entail are in both
 common_at : (fs gs us : List Fact) → length fs ≡ length us → length gs ≡ length us → KeepsGroups fs us → KeepsGroups gs us → are_groups us ≡ true →
@@ -208,16 +188,13 @@ share_in fs gs x a b e = by_cases (nat_le 8 (joined_share a b))
 
 elem_in : (fs gs : List Fact) (x : ℕ) (f g : Fact) → is_in x (common_fact fs gs (joined_fact f g)) ≡ true →
     (IsCommon fs gs x ≡ true) × (is_in x f ≡ true) × (is_in x g ≡ true) × (is_share (share_of_group x) ≡ true)
-elem_in fs gs x Empty g e = cc
-elem_in fs gs x (Held share head tail first last segs) Empty e = cc
 elem_in fs gs x (Held share head tail first last segs) (Held s h t f l n) e =
     let is = rw (common_is fs gs (joined_share share s) (min head h) (min tail t) (min first f) (min last l) (min 64 (max 1 (max segs n)))) at e in
     share_in fs gs x share s (eqb-true (kept fs gs (joined_share share s)) (8 + x) is)
+elem_in fs gs x y g e = cc
 
 elem_from : (fs gs : List Fact) (x : ℕ) (f g : Fact) → IsCommon fs gs x ≡ true → is_share (share_of_group x) ≡ true → is_in x f ≡ true → is_in x g ≡ true →
     is_in x (common_fact fs gs (joined_fact f g)) ≡ true
-elem_from fs gs x Empty g c fits e e' = cc
-elem_from fs gs x (Held share head tail first last segs) Empty c fits e e' = cc
 elem_from fs gs x (Held share head tail first last segs) (Held s h t f l n) c fits e e' =
     let a = eqb-true share (8 + x) e in
     let b = eqb-true s (8 + x) e' in
@@ -226,20 +203,19 @@ elem_from fs gs x (Held share head tail first last segs) (Held s h t f l n) c fi
     ∙ kept_common fs gs (8 + x) (λ y same. let number : x ≡ y = omega (arith, same) in rw number at c) in
     rw (common_is fs gs (joined_share share s) (min head h) (min tail t) (min first f) (min last l) (min 64 (max 1 (max segs n))))
     (eq-eqb (kept fs gs (joined_share share s)) (8 + x) left)
+elem_from fs gs x y g c fits e e' = cc
 
 all_in : (fs gs xs ys : List Fact) (x i : ℕ) → belongs (map (common_fact fs gs) (paired joined_fact xs ys)) x i ≡ true →
     (IsCommon fs gs x ≡ true) × (belongs xs x i ≡ true) × (belongs ys x i ≡ true) × (is_share (share_of_group x) ≡ true)
-all_in fs gs [] ys x i e = cc
-all_in fs gs (f ∷ xs) [] x i e = cc
 all_in fs gs (f ∷ xs) (g ∷ ys) x zero e = elem_in fs gs x f g e
 all_in fs gs (f ∷ xs) (g ∷ ys) x (suc i) e = all_in fs gs xs ys x i e
+all_in fs gs y ys x i e = cc
 
 all_out : (fs gs xs ys : List Fact) (x i : ℕ) → IsCommon fs gs x ≡ true → is_share (share_of_group x) ≡ true → belongs xs x i ≡ true → belongs ys x i ≡ true →
     belongs (map (common_fact fs gs) (paired joined_fact xs ys)) x i ≡ true
-all_out fs gs [] ys x i c fits e e' = cc
-all_out fs gs (f ∷ xs) [] x i c fits e e' = cc
 all_out fs gs (f ∷ xs) (g ∷ ys) x zero c fits e e' = elem_from fs gs x f g c fits e e'
 all_out fs gs (f ∷ xs) (g ∷ ys) x (suc i) c fits e e' = all_out fs gs xs ys x i c fits e e'
+all_out fs gs y ys x i c fits e e' = cc
 
 -- a common group has the same registers there
 same_there : (fs gs : List Fact) (x : ℕ) → IsCommon fs gs x ≡ true → is_share (share_of_group x) ≡ true →
@@ -333,10 +309,9 @@ bounds_join [] [] [] p q = record { left = tt; right = tt; least = tt }
 bounds_join (m ∷ ms) (n ∷ ns) (u ∷ us) p q =
     let others = bounds_join ms ns us p.1 q.1 in
     record { left = (omega arith, others.left); right = (omega arith, others.right); least = (omega (arith, p.0, q.0), others.least) }
-bounds_join [] ns (u ∷ us) p q = absurd p
-bounds_join (m ∷ ms) ns [] p q = absurd p
 bounds_join [] (n ∷ ns) [] p q = absurd q
 bounds_join (m ∷ ms) [] (u ∷ us) p q = absurd q
+bounds_join x ns y p q = absurd p
 
 -- two rows that both entail a third have a strongest row in common
 pub record LeastRow (a b u : Row) : Type 0 where

@@ -27,8 +27,7 @@ least_row a b upper fits h k =
 leads_tests : (xs ys : List Lead) → AllZip StrongerLead xs ys → LeadsEntail xs ys
 leads_tests [] [] z = tt
 leads_tests (x ∷ xs) (y ∷ ys) ((same, more), rest) = ((same, row_test x.row y.row more), leads_tests xs ys rest)
-leads_tests [] (y ∷ ys) z = absurd z
-leads_tests (x ∷ xs) [] z = absurd z
+leads_tests x y z = absurd z
 
 pub rows_after : (env : Environment) (label : ℕ) (i : Instr) (a b : Row) → IsTrue (is_well_formed_row a) → IsTrue (is_well_formed_row b) →
     IsTrue (entails a b) → IsTrue (targets_fit b i) → LeadsEntail (leads env label a i) (leads env label b i)

@@ -24,8 +24,7 @@ pub holds_go : (test test' : Holding → Bool) (x y : Option Holding) → Strong
     → option_map_or test' y false ≡ true → option_map_or test x false ≡ true
 holds_go test test' None None o each e = e
 holds_go test test' (Some x) (Some y) o each e = each x y refl o e
-holds_go test test' None (Some y) o each e = absurd o
-holds_go test test' (Some x) None o each e = absurd o
+holds_go test test' x y o each e = absurd o
 
 pub holds_keeps : (a b : Row) (p : ℕ) (test test' : Holding → Bool) → Stronger a b → AreWellFormed a
     → ((h k : Holding) → 1 ≤ h.segs → StrongerHolding h k → test' k ≡ true → test h ≡ true)
@@ -33,9 +32,11 @@ pub holds_keeps : (a b : Row) (p : ℕ) (test test' : Holding → Bool) → Stro
 holds_keeps a b p test test' s fits each e =
     holds_go test test' (held_at a p) (held_at b p) (held_both a b p s) (λ h k is. each h k (facts_segs a.facts p h (facts_fit a fits) is)) e
 
--- less than a number that is at least as great
-pub le_keeps : (m n n' : ℕ) → n' ≤ n → nat_le m n' ≡ true → nat_le m n ≡ true
-le_keeps m n n' le e = le-leb m n (omega (arith, leb-true m n' e))
+-- a measure that the stronger row says at least as much of
+pub least_keeps : (a b : Row) (p n : ℕ) (size : Holding → ℕ) → ((h k : Holding) → StrongerHolding h k → size k ≤ size h) → Stronger a b → AreWellFormed a →
+    holds_with b p (λ h. nat_le n (size h)) ≡ true → holds_with a p (λ h. nat_le n (size h)) ≡ true
+least_keeps a b p n size more s fits e = holds_keeps a b p (λ h. nat_le n (size h)) (λ h. nat_le n (size h)) s fits
+    (λ h k some m t. le-leb n (size h) (omega (arith, leb-true n (size k) t, more h k m))) e
 
 pub below_keeps : (m m' n : ℕ) → m ≤ m' → nat_le m' n ≡ true → nat_le m n ≡ true
 below_keeps m m' n le e = le-leb m n (omega (arith, leb-true m' n e))
@@ -66,8 +67,7 @@ pub empty_at_go : (fs gs : List Fact) (p : ℕ) → AllZip StrongerFact fs gs �
 empty_at_go [] [] p o e = e
 empty_at_go (f ∷ fs) (g ∷ gs) zero o e = empty_keeps f g o.0 e
 empty_at_go (f ∷ fs) (g ∷ gs) (suc p) o e = empty_at_go fs gs p o.1 e
-empty_at_go [] (g ∷ gs) p o e = absurd o
-empty_at_go (f ∷ fs) [] p o e = absurd o
+empty_at_go x y p o e = absurd o
 
 pub empty_at_keeps : (a b : Row) (p : ℕ) → Stronger a b → is_empty_at b p ≡ true → is_empty_at a p ≡ true
 empty_at_keeps a b p s e = empty_at_go a.facts b.facts p s.facts e
@@ -77,8 +77,7 @@ all_empty_keeps [] [] o e = refl
 all_empty_keeps (f ∷ fs) (g ∷ gs) o e =
     let (here, rest) = and_parts (is_empty g) (list_all is_empty gs) e in
     both_are (empty_keeps f g o.0 here) (all_empty_keeps fs gs o.1 rest)
-all_empty_keeps [] (g ∷ gs) o e = absurd o
-all_empty_keeps (f ∷ fs) [] o e = absurd o
+all_empty_keeps x y o e = absurd o
 
 -- ---- bytes, sole buffers and rings
 

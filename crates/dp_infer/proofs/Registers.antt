@@ -15,15 +15,13 @@ pub zip_set : {A B : Type 0} (R : A → B → Type 0) (xs : List A) (ys : List B
 zip_set R [] [] i x y h r = tt
 zip_set R (a ∷ xs) (b ∷ ys) zero x y h r = (r, h.1)
 zip_set R (a ∷ xs) (b ∷ ys) (suc i) x y h r = (h.0, zip_set R xs ys i x y h.1 r)
-zip_set R [] (b ∷ ys) i x y h r = absurd h
-zip_set R (a ∷ xs) [] i x y h r = absurd h
+zip_set R z u i x y h r = absurd h
 
 bounds_at : (ms ns : List ℕ) (i : ℕ) → AllZip AtMost ms ns → get_or ms i 0 ≤ get_or ns i 0
 bounds_at [] [] i h = omega arith
 bounds_at (m ∷ ms) (n ∷ ns) zero h = h.0
 bounds_at (m ∷ ms) (n ∷ ns) (suc i) h = bounds_at ms ns i h.1
-bounds_at [] (n ∷ ns) i h = absurd h
-bounds_at (m ∷ ms) [] i h = absurd h
+bounds_at x y i h = absurd h
 
 -- operands are bounded as well
 pub bound_at : (a b : Row) (x : Operand) → Stronger a b → bound a x ≤ bound b x
@@ -54,8 +52,7 @@ facts_at : (fs gs : List Fact) (p : ℕ) → AllZip StrongerFact fs gs → Stron
 facts_at [] [] p h = tt
 facts_at (f ∷ fs) (g ∷ gs) zero h = h.0
 facts_at (f ∷ fs) (g ∷ gs) (suc p) h = facts_at fs gs p h.1
-facts_at [] (g ∷ gs) p h = absurd h
-facts_at (f ∷ fs) [] p h = absurd h
+facts_at x y p h = absurd h
 
 -- what is known about a packet
 pub held_both : (a b : Row) (p : ℕ) → Stronger a b → StrongerOption (held_at a p) (held_at b p)

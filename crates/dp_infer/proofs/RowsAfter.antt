@@ -22,7 +22,7 @@ use Rattle.dp_infer.proofs.Stronger.{StrongerHolding, Stronger, holding_same, bo
 use Rattle.dp_infer.proofs.Registers.{bound_at, bound_set, fact_set}
 use Rattle.dp_infer.proofs.Changes.{AreWellFormed, changed_keeps, single_more, clone_keeps, free_keeps, leave_keeps', chain_keeps}
 use Rattle.dp_infer.proofs.Sharing.{keeps_out, owns_more}
-use Rattle.dp_infer.proofs.PacketTests.{holds_keeps, le_keeps, below_keeps, empty_at_keeps, all_empty_keeps, from_keeps, append_test, ring_keeps}
+use Rattle.dp_infer.proofs.PacketTests.{holds_keeps, least_keeps, below_keeps, empty_at_keeps, all_empty_keeps, from_keeps, append_test, ring_keeps}
 
 -- ---- what the rules ask
 
@@ -33,20 +33,12 @@ targets_keep a b (Chain p q) s e = e
 targets_keep a b _ s e = refl
 
 pub bytes_keep : (a b : Row) (i : Instr) → Stronger a b → AreWellFormed a → bytes_fit b i ≡ true → bytes_fit a i ≡ true
-bytes_keep a b (Prepend p n) s fits e = holds_keeps a b p (λ h. nat_le n h.head) (λ h. nat_le n h.head) s fits
-    (λ h k some m t. le_keeps n h.head k.head m.head t) e
-bytes_keep a b (Adj p n) s fits e = holds_keeps a b p (λ h. nat_le n h.first) (λ h. nat_le n h.first) s fits
-    (λ h k some m t. le_keeps n h.first k.first m.first t) e
-bytes_keep a b (Append p n) s fits e = holds_keeps a b p (λ h. nat_le n h.tail) (λ h. nat_le n h.tail) s fits
-    (λ h k some m t. le_keeps n h.tail k.tail m.tail t) e
-bytes_keep a b (Trim p n) s fits e = holds_keeps a b p (λ h. nat_le n h.last) (λ h. nat_le n h.last) s fits
-    (λ h k some m t. le_keeps n h.last k.last m.last t) e
-bytes_keep a b (Load r p off w) s fits e =
-    holds_keeps a b p (λ h. nat_le (off + bytes_in w) h.first) (λ h. nat_le (off + bytes_in w) h.first) s fits
-    (λ h k some m t. le_keeps (off + bytes_in w) h.first k.first m.first t) e
-bytes_keep a b (Store p off w r) s fits e =
-    holds_keeps a b p (λ h. nat_le (off + bytes_in w) h.first) (λ h. nat_le (off + bytes_in w) h.first) s fits
-    (λ h k some m t. le_keeps (off + bytes_in w) h.first k.first m.first t) e
+bytes_keep a b (Prepend p n) s fits e = least_keeps a b p n (λ h. h.head) (λ h k m. m.head) s fits e
+bytes_keep a b (Adj p n) s fits e = least_keeps a b p n (λ h. h.first) (λ h k m. m.first) s fits e
+bytes_keep a b (Append p n) s fits e = least_keeps a b p n (λ h. h.tail) (λ h k m. m.tail) s fits e
+bytes_keep a b (Trim p n) s fits e = least_keeps a b p n (λ h. h.last) (λ h k m. m.last) s fits e
+bytes_keep a b (Load r p off w) s fits e = least_keeps a b p (off + bytes_in w) (λ h. h.first) (λ h k m. m.first) s fits e
+bytes_keep a b (Store p off w r) s fits e = least_keeps a b p (off + bytes_in w) (λ h. h.first) (λ h k m. m.first) s fits e
 bytes_keep a b (LoadX r p x off w) s fits e = from_keeps a b p x off (bytes_in w) s fits e
 bytes_keep a b (StoreX p x off w r) s fits e = from_keeps a b p x off (bytes_in w) s fits e
 bytes_keep a b _ s fits e = refl
@@ -98,44 +90,22 @@ data Leading (env : Environment) (label : ℕ) (i : Instr) : Type 0 where
   Ends : ((row : Row) → leads env label row i ≡ []) → Leading env label i
 
 prepend_more : (n : ℕ) (h k : Holding) → 1 ≤ h.segs → StrongerHolding h k → StrongerHolding (after_prepend n h) (after_prepend n k)
-prepend_more n h k some m = record {
-  share = m.share;
-  head = omega (arith, m.head);
-  tail = m.tail;
-  first = omega (arith, m.first);
-  last = omega (arith, m.last, single_more h k n some m.segs);
-  segs = m.segs;
-}
+prepend_more n h k some m =
+    let single = single_more h k n some m.segs in
+    record { share = m.share; head = omega arith; tail = m.tail; first = omega arith; last = omega arith; segs = m.segs }
 
 adj_more : (n : ℕ) (h k : Holding) → 1 ≤ h.segs → StrongerHolding h k → StrongerHolding (after_adj n h) (after_adj n k)
-adj_more n h k some m = record {
-  share = m.share;
-  head = omega (arith, m.head);
-  tail = m.tail;
-  first = omega (arith, m.first);
-  last = omega (arith, m.last);
-  segs = m.segs;
-}
+adj_more n h k some m =
+    record { share = m.share; head = omega arith; tail = m.tail; first = omega arith; last = omega arith; segs = m.segs }
 
 append_more : (n : ℕ) (h k : Holding) → 1 ≤ h.segs → StrongerHolding h k → StrongerHolding (after_append n h) (after_append n k)
-append_more n h k some m = record {
-  share = m.share;
-  head = m.head;
-  tail = omega (arith, m.tail);
-  first = omega (arith, m.first, single_more h k n some m.segs);
-  last = omega (arith, m.last);
-  segs = m.segs;
-}
+append_more n h k some m =
+    let single = single_more h k n some m.segs in
+    record { share = m.share; head = m.head; tail = omega arith; first = omega arith; last = omega arith; segs = m.segs }
 
 trim_more : (n : ℕ) (h k : Holding) → 1 ≤ h.segs → StrongerHolding h k → StrongerHolding (after_trim n h) (after_trim n k)
-trim_more n h k some m = record {
-  share = m.share;
-  head = m.head;
-  tail = omega (arith, m.tail);
-  first = omega (arith, m.first);
-  last = omega (arith, m.last);
-  segs = m.segs;
-}
+trim_more n h k some m =
+    record { share = m.share; head = m.head; tail = omega arith; first = omega arith; last = omega arith; segs = m.segs }
 
 module _ (env : Environment) (label : ℕ) (i : Instr) where
   -- the packet of a register changes
@@ -219,8 +189,7 @@ labels_keep test [] [] z e = refl
 labels_keep test (x ∷ xs) (y ∷ ys) ((same, _), others) e =
     let (here, rest) = and_parts (test y.to) (list_all (λ to. test to.to) ys) e in
     both_are (rw same here) (labels_keep test xs ys others rest)
-labels_keep test [] (y ∷ ys) z e = absurd z
-labels_keep test (x ∷ xs) [] z e = absurd z
+labels_keep test x y z e = absurd z
 
 -- in a forward program each instruction leads to later labels
 pub forward_leads : (env : Environment) (label : ℕ) (row : Row) (i : Instr) → ((to : ℕ) → label_of i ≡ Some to → label < to) →

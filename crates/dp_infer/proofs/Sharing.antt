@@ -30,8 +30,7 @@ pub same_from : (fs gs : List Fact) (x : ℕ) → length fs ≡ length gs → ((
 same_from [] [] x long same = refl
 same_from (f ∷ fs) (g ∷ gs) x long same =
     rw ((booleans_Decides (is_in x f) (is_in x g)).1 (same 0), same_from fs gs x (omega arith) (λ j. same (suc j))) refl
-same_from [] (g ∷ gs) x long same = absurd (omega arith)
-same_from (f ∷ fs) [] x long same = absurd (omega arith)
+same_from y z x long same = absurd (omega arith)
 
 pub all_from_each : {A : Type 0} (test : A → Bool) (xs : List A) → ((i : ℕ) (y : A) → slice_get xs i ≡ Some y → test y ≡ true) → list_all test xs ≡ true
 all_from_each test [] each = refl

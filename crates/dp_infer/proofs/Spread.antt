@@ -55,8 +55,7 @@ entailed_keeps rows (x ∷ xs) (y ∷ ys) ((same, more), others) e =
     let (u, at, s) = passes_at rows y.to y.row here in
     let at' : slice_get rows x.to ≡ Some u = rw same at in
     both_are (passes rows x.to x.row u at' (further x.row y.row u more s)) (entailed_keeps rows xs ys others rest)
-entailed_keeps rows [] (y ∷ ys) z e = absurd z
-entailed_keeps rows (x ∷ xs) [] z e = absurd z
+entailed_keeps rows x y z e = absurd z
 
 -- the row that was found is stronger than the certificate's, and its successors are entailed
 pub leads_well : (q : Question) (label : ℕ) (i : Instr) (row u : Row) → Stronger row u → AreWellFormed row → AreWellFormed u →

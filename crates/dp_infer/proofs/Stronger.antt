@@ -5,7 +5,6 @@ use Rattle.std.specs.List.{AllZip}
 use Rattle.std.proofs.lemmas.Bool.{leb-true, le-leb, and_parts}
 use Rattle.dp_model.specs.declared.row.Fact.{Fact}
 use Rattle.dp_model.specs.declared.row.Row.{Row}
-use Rattle.dp_model.specs.Groups.{keeps_groups}
 use Rattle.dp_infer.proofs.Sharing.{KeepsGroups, keeps_from, keeps_test, keeps_further, share_same, share_further}
 use Rattle.dp_model.specs.declared.row.Holding.{Holding}
 use Rattle.dp_model.specs.Rows.{holding, entails_share, entails_holding, entails_option, entails_fact, at_each_index, entails}
@@ -45,13 +44,8 @@ both_are p q = rw (p, q) refl
 
 pub stronger_holding : (a b : Holding) → entails_holding a b ≡ true → StrongerHolding a b
 stronger_holding a b e =
-    let (e1, segs) = and_parts (entails_share a.share b.share && nat_le b.head a.head && nat_le b.tail a.tail && nat_le b.first a.first && nat_le b.last
-    a.last) (nat_le a.segs b.segs) e in
-    let (e2, last) = and_parts (entails_share a.share b.share && nat_le b.head a.head && nat_le b.tail a.tail && nat_le b.first a.first)
-    (nat_le b.last a.last) e1 in
-    let (e3, first) = and_parts (entails_share a.share b.share && nat_le b.head a.head && nat_le b.tail a.tail) (nat_le b.first a.first) e2 in
-    let (e4, tail) = and_parts (entails_share a.share b.share && nat_le b.head a.head) (nat_le b.tail a.tail) e3 in
-    let (share, head) = and_parts (entails_share a.share b.share) (nat_le b.head a.head) e4 in
+    let (e1, segs) = and_parts _ _ e in let (e2, last) = and_parts _ _ e1 in let (e3, first) = and_parts _ _ e2 in
+    let (e4, tail) = and_parts _ _ e3 in let (share, head) = and_parts _ _ e4 in
     record {
       share = share;
       head = leb-true b.head a.head head;
@@ -74,42 +68,34 @@ holding_test a b h = rw (
 pub stronger_option : (a b : Option Holding) → entails_option a b ≡ true → StrongerOption a b
 stronger_option None None e = tt
 stronger_option (Some a) (Some b) e = stronger_holding a b e
-stronger_option None (Some b) e = absurd cc
-stronger_option (Some a) None e = absurd cc
+stronger_option x y e = absurd cc
 
 pub option_test : (a b : Option Holding) → StrongerOption a b → entails_option a b ≡ true
 option_test None None h = refl
 option_test (Some a) (Some b) h = holding_test a b h
-option_test None (Some b) h = absurd h
-option_test (Some a) None h = absurd h
+option_test x y h = absurd h
 
 pub zip_from : {A B : Type 0} (test : A → B → Bool) (R : A → B → Type 0) → ((x : A) (y : B) → test x y ≡ true → R x y) → (xs : List A) (ys : List B) →
     at_each_index test xs ys ≡ true → AllZip R xs ys
 zip_from test R each [] [] e = tt
 zip_from test R each (x ∷ xs) (y ∷ ys) e = let (here, rest) = and_parts (test x y) (at_each_index test xs ys) e in
     (each x y here, zip_from test R each xs ys rest)
-zip_from test R each [] (y ∷ ys) e = absurd cc
-zip_from test R each (x ∷ xs) [] e = absurd cc
+zip_from test R each x y e = absurd cc
 
 pub zip_test : {A B : Type 0} (test : A → B → Bool) (R : A → B → Type 0) → ((x : A) (y : B) → R x y → test x y ≡ true) → (xs : List A) (ys : List B) →
     AllZip R xs ys → at_each_index test xs ys ≡ true
 zip_test test R each [] [] h = refl
 zip_test test R each (x ∷ xs) (y ∷ ys) h = both_are (each x y h.0) (zip_test test R each xs ys h.1)
-zip_test test R each [] (y ∷ ys) h = absurd h
-zip_test test R each (x ∷ xs) [] h = absurd h
+zip_test test R each x y h = absurd h
 
 pub zip_length : {A B : Type 0} (R : A → B → Type 0) (xs : List A) (ys : List B) → AllZip R xs ys → length xs ≡ length ys
 zip_length R [] [] h = refl
 zip_length R (x ∷ xs) (y ∷ ys) h = ap suc (zip_length R xs ys h.1)
-zip_length R [] (y ∷ ys) h = absurd h
-zip_length R (x ∷ xs) [] h = absurd h
+zip_length R x y h = absurd h
 
 pub stronger : (a b : Row) → entails a b ≡ true → Stronger a b
 stronger a b e =
-    let (e0, bounds) = and_parts (a.live && b.live && at_each_index entails_fact a.facts b.facts && keeps_groups a.facts b.facts)
-    (at_each_index nat_le a.bounds b.bounds) e in
-    let (e1, groups) = and_parts (a.live && b.live && at_each_index entails_fact a.facts b.facts) (keeps_groups a.facts b.facts) e0 in
-    let (e2, facts) = and_parts (a.live && b.live) (at_each_index entails_fact a.facts b.facts) e1 in
+    let (e0, bounds) = and_parts _ _ e in let (e1, groups) = and_parts _ _ e0 in let (e2, facts) = and_parts _ _ e1 in
     let (live, other_live) = and_parts a.live b.live e2 in
     record {
       live = live;
@@ -132,38 +118,25 @@ row_test a b h = rw (
 
 pub holding_same : (a : Option Holding) → StrongerOption a a
 holding_same None = tt
-holding_same (Some a) = record {
-  share = share_same a.share;
-  head = omega arith;
-  tail = omega arith;
-  first = omega arith;
-  last = omega arith;
-  segs = omega arith;
-}
+holding_same (Some a) =
+    record { share = share_same a.share; head = omega arith; tail = omega arith; first = omega arith; last = omega arith; segs = omega arith }
 
 pub option_further : (a b c : Option Holding) → StrongerOption a b → StrongerOption b c → StrongerOption a c
 option_further None None None h k = tt
-option_further (Some a) (Some b) (Some c) h k = record {
-  share = share_further a.share b.share c.share h.share k.share;
-  head = omega arith;
-  tail = omega arith;
-  first = omega arith;
-  last = omega arith;
-  segs = omega arith;
-}
-option_further None None (Some c) h k = absurd k
+option_further (Some a) (Some b) (Some c) h k =
+    let share = share_further a.share b.share c.share h.share k.share in
+    record { share = share; head = omega arith; tail = omega arith; first = omega arith; last = omega arith; segs = omega arith }
 option_further None (Some b) c h k = absurd h
 option_further (Some a) None c h k = absurd h
-option_further (Some a) (Some b) None h k = absurd k
+option_further x y z h k = absurd k
 
 pub zip_further : {A : Type 0} (R : A → A → Type 0) → ((x y z : A) → R x y → R y z → R x z) → (xs ys zs : List A) → AllZip R xs ys → AllZip R ys zs →
     AllZip R xs zs
 zip_further R each [] [] [] h k = tt
 zip_further R each (x ∷ xs) (y ∷ ys) (z ∷ zs) h k = (each x y z h.0 k.0, zip_further R each xs ys zs h.1 k.1)
-zip_further R each [] [] (z ∷ zs) h k = absurd k
 zip_further R each [] (y ∷ ys) zs h k = absurd h
 zip_further R each (x ∷ xs) [] zs h k = absurd h
-zip_further R each (x ∷ xs) (y ∷ ys) [] h k = absurd k
+zip_further R each x y z h k = absurd k
 
 pub further : (a b c : Row) → Stronger a b → Stronger b c → Stronger a c
 further a b c h k = record {

@@ -1,16 +1,16 @@
 -- Double definitions agree: how a record is received, how rings are served, and the order of records.
 use Rattle.std.proofs.Common.{◌≡◌, ◌⊎◌, ℕ, zero, suc, ◌+◌, ◌<◌, ◌≤◌, Bool, true, cond, List, [], ◌∷◌, ◌++◌, length, drop, Option, Some, None, refl, sym, ◌∙◌}
-use Rattle.std.proofs.Common.{ap, subst, arith, inl, inr}
-use Rattle.std.specs.Prelude.{slice_get, MatchOption, option_map, option_to_list, slice_index_or, take}
+use Rattle.std.proofs.Common.{ap, subst, arith, inl, inr, ⊎_elim}
+use Rattle.std.specs.Prelude.{slice_get, option_map, option_to_list, slice_index_or, take}
 use Rattle.std.specs.List.{cons_option}
 use Rattle.std.proofs.lemmas.List.Elements.{filter_map-append}
 use Rattle.std.proofs.lemmas.List.{append-nil}
 use Rattle.std.proofs.Math.Seq.{drop-nil, take-nil}
 use Rattle.std.proofs.lemmas.Bool.{eq-eqb, ne_eqb}
 use Rattle.dp_model.specs.declared.instr.Instr.{Instr}
-use Rattle.dp_model.specs.Packets.{Packet}
 use Rattle.dp_model.specs.Machine.{Setting, World}
-use Rattle.dp_model.specs.Runs.{at_port, of_port, NodeRun, Receives, Waiting, first_waiting, Serves, Nodes, Arrival, round_of, rounds, longest, interleaved}
+use Rattle.dp_model.specs.Runs.{at_port, of_port, NodeRun, Receives, Serves, Nodes, Arrival, round_of, rounds, longest, interleaved}
+use Rattle.dp_model.proofs.RunFolds.{serves_fold}
 use Rattle.dp_model.specs.Safety.{Beginning, IsOfRecord, IsServed}
 
 -- ---- receiving a record and running its node, in one step or in two
@@ -29,33 +29,16 @@ receives_again c nodes port bytes w w' b answers r run = record {
 
 pub serves_is : (c : Setting) (programs : List (List Instr)) (n : ℕ) (w : World) (answers : List Bool) (runs : ℕ) (w' : World) →
     Serves c programs n w answers runs w' → IsServed c programs n w runs w'
-serves_is c programs zero w answers runs w' (_, none, is) =
-    subst (λ r. IsServed c programs zero w r w') (sym none) (record { ran = []; served = is; count = refl; few = omega arith; why = inl refl })
-serves_is c programs (suc n) w answers runs w' serves = go (first_waiting w.rings) refl serves (λ mid answers more. serves_is c programs n mid answers more w')
-  where
-    go : (o : Option (Waiting Packet)) → first_waiting w.rings ≡ o → MatchOption o ((answers ≡ []) × (runs ≡ 0) × (w' ≡ w)) (λ next. (program : List Instr)
-        × (now later : List Bool) × (mid : World) × (more : ℕ) × (slice_get programs next.ring ≡ Some program)
-        × NodeRun c program next.packet next.ring (record w { rings = next.rings }) now mid × Serves c programs n mid later more w' × (answers ≡ now ++ later)
-        × (runs ≡ more + 1)) → ((mid : World) (answers : List Bool) (more : ℕ) → Serves c programs n mid answers more w' → IsServed c programs n mid more w') →
-        IsServed c programs (suc n) w runs w'
-    go None e (_, none, is) on =
-        subst (λ r. IsServed c programs (suc n) w r w') (sym none)
-        (record { ran = []; served = is; count = refl; few = omega arith; why = inr (ap (λ (x : World). first_waiting x.rings) is ∙ e) })
-    go (Some next) e (program, now, later, mid, more, is_program, run, serves, _, count) on =
-        let rest = on mid later more serves in
-        let one_more : runs ≡ suc more = omega (arith, count) in
-        subst (λ r. IsServed c programs (suc n) w r w') (sym one_more)
-        (record {
-          ran = program ∷ rest.ran;
-          served = (next, now, mid, e, is_program, run, rest.served);
-          count = ap suc rest.count;
-          few = omega (arith, rest.few);
-          why = either more rest.why;
-        })
-      where
-        either : (more : ℕ) → (more ≡ n) ⊎ (first_waiting w'.rings ≡ None) → (suc more ≡ suc n) ⊎ (first_waiting w'.rings ≡ None)
-        either more (inl same) = inl (ap suc same)
-        either more (inr none) = inr none
+serves_is c programs n w answers runs w' = serves_fold c programs (λ n w w' answers runs. IsServed c programs n w runs w')
+    (λ n w why. record { ran = []; served = refl; count = refl; few = omega arith; why = why })
+    (λ n more w mid w' next program now later e is_program run rest. record {
+      ran = program ∷ rest.ran;
+      served = (next, now, mid, e, is_program, run, rest.served);
+      count = omega (arith, rest.count);
+      few = omega (arith, rest.few);
+      why = ⊎_elim (λ same. inl (omega (arith, same))) (λ none. inr none) rest.why;
+    })
+    n w w' answers runs
 
 -- ---- rounds give each input its records, in order
 

@@ -10,10 +10,11 @@ use Rattle.dp_model.specs.Packets.{Packet}
 use Rattle.dp_model.specs.Jumps.{label_of}
 use Rattle.dp_model.specs.Machine.{Setting, World, State, Next, At, Ended, Move, Acts, Step, with_jump}
 use Rattle.dp_model.specs.Machine.{cut_off, budgeted, with_step}
-use Rattle.dp_model.specs.Runs.{Then, StepsTo, first_state, NodeRun, max_steps, ConsumedAtMost, Outcome, Got, NoBuffer, Oversize, Arrives}
+use Rattle.dp_model.specs.Runs.{StepsTo, first_state, NodeRun, max_steps, ConsumedAtMost, Outcome, Got, NoBuffer, Oversize, Arrives}
 use Rattle.dp_model.specs.Runs.{Nodes, runs_of, Turn}
 use Rattle.dp_model.specs.Safety.{HasServed, AreProgramsOf, max_steps_of, AreShort}
 use Rattle.dp_model.specs.Laws.Effects.{LeadsOn, did_of}
+use Rattle.dp_model.proofs.RunFolds.{goes_keeps}
 use Rattle.dp_model.proofs.Agreement.{serves_is}
 use Rattle.dp_model.proofs.CountSteps.{goes_short}
 use Rattle.dp_model.specs.Laws.Steps.{acts_counts, goes_counts}
@@ -41,14 +42,7 @@ step_jumps c program label s m within st =
 
 goes_jumps : (c : Setting) (program : List Instr) (n label : ℕ) (s : State) (answers : List Bool) (next : Next) (s' : State) → s.jumps ≤ 256 →
     StepsTo c program n label s answers next s' → s'.jumps ≤ 256
-goes_jumps c program zero label s answers next s' within (_, _, is) = subst (λ (x : State). x.jumps ≤ 256) (sym is) within
-goes_jumps c program (suc n) label s answers next s' within (m, later, st, are_answered, rest) =
-    go m.next rest (step_jumps c program label s m within st) (λ l. goes_jumps c program n l m.state later next s')
-  where
-    go : (x : Next) → Then x (λ l. StepsTo c program n l m.state later next s') ((next ≡ Ended) × (n ≡ 0) × (later ≡ []) × (s' ≡ m.state)) →
-        m.state.jumps ≤ 256 → ((l : ℕ) → m.state.jumps ≤ 256 → StepsTo c program n l m.state later next s' → s'.jumps ≤ 256) → s'.jumps ≤ 256
-    go (At l) rest here on = on l here rest
-    go Ended (_, _, _, is) here on = subst (λ (x : State). x.jumps ≤ 256) (sym is) here
+goes_jumps c program = goes_keeps c program (λ s. s.jumps ≤ 256) (step_jumps c program)
 
 pub jumps_taken : (c : Setting) (program : List Instr) (k : Packet) (number n label : ℕ) (w : World) (answers : List Bool) (s : State) →
     StepsTo c program n 0 (first_state k number w) answers (At label) s → (s.jumps ≤ 256) × (s.world.steps ≡ w.steps + n) × (s.world.cuts ≡ w.cuts)

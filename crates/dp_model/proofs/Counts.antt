@@ -20,11 +20,8 @@ tally_of test (Some k) = tally test k
 -- a register set
 pub tally_set : (test : Segment → Bool) (packets : List (Option Packet)) (p : ℕ) (o o' : Option Packet) → slice_get packets p ≡ Some o →
     tally test (segments_held (slice_set packets p o')) + tally_of test o ≡ tally test (segments_held packets) + tally_of test o'
-tally_set test [] p o o' h = cc
 tally_set test (None ∷ packets) zero None None h = refl
 tally_set test (None ∷ packets) zero None (Some k) h = omega (arith, tally-append test k (segments_held packets))
-tally_set test (None ∷ packets) zero (Some k) o' h = cc
-tally_set test (Some k ∷ packets) zero None o' h = cc
 tally_set test (Some k ∷ packets) zero (Some k') None h =
     let e : tally test k ≡ tally test k' = ap (λ o. tally_of test o) (same_Some (Some k) (Some k') h) in
     omega (arith, e, tally-append test k (segments_held packets))
@@ -34,6 +31,7 @@ tally_set test (Some k ∷ packets) zero (Some k') (Some l) h =
 tally_set test (None ∷ packets) (suc p) o o' h = tally_set test packets p o o' h
 tally_set test (Some k ∷ packets) (suc p) o o' h =
     omega (arith, tally_set test packets p o o' h, tally-append test k (segments_held packets), tally-append test k (segments_held (slice_set packets p o')))
+tally_set test x p o o' h = cc
 
 -- ---- lists of packets
 abbrev pub tally_list : (Segment → Bool) → List Packet → ℕ

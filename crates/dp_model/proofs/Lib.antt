@@ -19,10 +19,10 @@ pub mod Owned
 pub mod OwnedSteps
 pub mod PacketSteps
 pub mod RunEnds
+pub mod RunFolds
 pub mod SafeRuns
 pub mod SafeTurns
 pub mod SafeWhole
-pub mod Sanity
 pub mod Sound
 pub mod SoundClone
 pub mod SoundEdits

@@ -148,15 +148,10 @@ direct_comes pools live pool need k ns d fresh = record {
 -- ---- clones
 pub mbufs_cloned : (ns : List Number) (k : Packet) (n : Number) → length ns ≡ length k → mbufs (cloned ns k) n ≡ times ns n
 mbufs_cloned [] [] n e = refl
-mbufs_cloned [] (s ∷ k) n e = absurd (omega arith)
-mbufs_cloned (m ∷ ns) [] n e = absurd (omega arith)
 mbufs_cloned (m ∷ ns) (s ∷ k) n e =
-    omega (
-      arith,
-      mbufs_cloned ns k n (omega arith),
-      tally-cons (has_mbuf n) (record { mbuf = m; buffer = s.buffer; offset = s.offset; len = s.len })
-          (cloned ns k),
-    )
+    let clone : Segment = record { mbuf = m; buffer = s.buffer; offset = s.offset; len = s.len } in
+    omega (arith, mbufs_cloned ns k n (omega arith), tally-cons (has_mbuf n) clone (cloned ns k))
+mbufs_cloned x y n e = absurd (omega arith)
 
 pub clone_comes : (pools : List PoolSpec) (live : List Segment) (pool : ℕ) (ns : List Number) (k : Packet) →
     ((n : Number) → refs (cloned ns k) n ≤ refs live n) → AreFresh pools live pool (length k) ns → MayCome pools live (cloned ns k)

@@ -1,5 +1,5 @@
 -- Each step keeps each mbuf with one owner.
-use Rattle.std.proofs.Common.{◌≡◌, ◌≢◌, ℕ, ◌+◌, Bool, List, [], ◌∷◌, ◌++◌, length, Some, None, refl, sym, ap, subst, arith}
+use Rattle.std.proofs.Common.{◌≡◌, ◌≢◌, ℕ, ◌+◌, ◌≤◌, Bool, List, [], ◌∷◌, ◌++◌, length, Some, None, refl, sym, ap, subst, arith}
 use Rattle.dp_model.specs.declared.instr.Instr.{Instr}
 use Rattle.dp_model.specs.declared.queue.Queue.{Queue}
 use Rattle.dp_model.specs.Buffers.{Number, same_number}
@@ -40,37 +40,18 @@ see_buffer f n keeps s = ap (λ m. same_number m n) (keeps s).1
 see_indirect : (f : Segment → Segment) (n : Number) → KeepsBuffer f → (s : Segment) → is_indirect_at n (f s) ≡ is_indirect_at n s
 see_indirect f n keeps s = let e = see_mbuf f n keeps s in let g = see_buffer f n keeps s in cc
 
--- a register's packet changes at its front, or at its end
-pub front_fewer : (s : State) (p : ℕ) (f : Segment → Segment) (k : Packet) → KeepsBuffer f → Holds s p k →
-    AreFewer (live s) (live (with_packet p (at_front f k) s))
-front_fewer s p f k keeps holds = record {
-  mbufs = λ n. omega (arith, tally_live_set (has_mbuf n) s p (Some k) (Some (at_front f k)) holds, tally_front (has_mbuf n) f k (see_mbuf f n keeps));
-  buffers = λ n. omega (
-    arith,
-    tally_live_set (λ x. same_number x.buffer n) s p (Some k) (Some (at_front f k)) holds,
-    tally_front (λ x. same_number x.buffer n) f k (see_buffer f n keeps),
-  );
-  indirects = λ n. omega (
-    arith,
-    tally_live_set (is_indirect_at n) s p (Some k) (Some (at_front f k)) holds,
-    tally_front (is_indirect_at n) f k (see_indirect f n keeps),
-  );
-}
-
-pub end_fewer : (s : State) (p : ℕ) (f : Segment → Segment) (k : Packet) → KeepsBuffer f → Holds s p k → AreFewer (live s) (live (with_packet p (at_end f k) s))
-end_fewer s p f k keeps holds = record {
-  mbufs = λ n. omega (arith, tally_live_set (has_mbuf n) s p (Some k) (Some (at_end f k)) holds, tally_end (has_mbuf n) f k (see_mbuf f n keeps));
-  buffers = λ n. omega (
-    arith,
-    tally_live_set (λ x. same_number x.buffer n) s p (Some k) (Some (at_end f k)) holds,
-    tally_end (λ x. same_number x.buffer n) f k (see_buffer f n keeps),
-  );
-  indirects = λ n. omega (
-    arith,
-    tally_live_set (is_indirect_at n) s p (Some k) (Some (at_end f k)) holds,
-    tally_end (is_indirect_at n) f k (see_indirect f n keeps),
-  );
-}
+-- a register's packet changes, and no test of mbufs and buffers sees it
+edit_owned : (c : Setting) (s : State) (p : ℕ) (f : Segment → Segment) (k k' : Packet) → KeepsBuffer f → Holds s p k →
+    ((test : Segment → Bool) → ((x : Segment) → test (f x) ≡ test x) → tally test k' ≡ tally test k) → AreOwned c.env.pools (live s) →
+    AreOwned c.env.pools (live (with_packet p k' s))
+edit_owned c s p f k k' keeps holds same = fewer_owned c.env.pools (live s) (live (with_packet p k' s)) (record {
+  mbufs = λ n. seen (has_mbuf n) (see_mbuf f n keeps);
+  buffers = λ n. seen (λ x. same_number x.buffer n) (see_buffer f n keeps);
+  indirects = λ n. seen (is_indirect_at n) (see_indirect f n keeps);
+})
+  where
+    seen : (test : Segment → Bool) → ((x : Segment) → test (f x) ≡ test x) → tally test (live (with_packet p k' s)) ≤ tally test (live s)
+    seen test sees = omega (arith, tally_live_set test s p (Some k) (Some k') holds, same test sees)
 
 -- a packet comes into an empty register
 pub packet_more : (s : State) (p : ℕ) (k : Packet) → IsEmpty s p → AreMore (live s) (live (with_packet p k s)) k
@@ -118,17 +99,17 @@ effect_owned c s m owned (Cloned p q pool k ns holds empty fresh is _) = by c m.
 effect_owned c s m owned (Freed p k holds is _) =
     by c m.state _ is (fewer_owned c.env.pools (live s) (live (without_packet p s)) (packet_fewer s p k holds) owned)
 effect_owned c s m owned (Prepended p n k holds le sole is _) =
-    by c m.state _ is (fewer_owned c.env.pools (live s) (live (with_packet p (at_front (more_before n) k) s))
-    (front_fewer s p (more_before n) k (λ s. (refl, refl)) holds) owned)
+    by c m.state _ is (edit_owned c s p (more_before n) k (at_front (more_before n) k)
+    (λ s. (refl, refl)) holds (λ test sees. tally_front test (more_before n) k sees) owned)
 effect_owned c s m owned (Appended p n k holds le sole is _) =
-    by c m.state _ is (fewer_owned c.env.pools (live s) (live (with_packet p (at_end (more_after n) k) s))
-    (end_fewer s p (more_after n) k (λ s. (refl, refl)) holds) owned)
+    by c m.state _ is (edit_owned c s p (more_after n) k (at_end (more_after n) k)
+    (λ s. (refl, refl)) holds (λ test sees. tally_end test (more_after n) k sees) owned)
 effect_owned c s m owned (Adjusted p n k holds le is _) =
-    by c m.state _ is (fewer_owned c.env.pools (live s) (live (with_packet p (at_front (less_before n) k) s))
-    (front_fewer s p (less_before n) k (λ s. (refl, refl)) holds) owned)
+    by c m.state _ is (edit_owned c s p (less_before n) k (at_front (less_before n) k)
+    (λ s. (refl, refl)) holds (λ test sees. tally_front test (less_before n) k sees) owned)
 effect_owned c s m owned (Trimmed p n k holds le is _) =
-    by c m.state _ is (fewer_owned c.env.pools (live s) (live (with_packet p (at_end (less_after n) k) s))
-    (end_fewer s p (less_after n) k (λ s. (refl, refl)) holds) owned)
+    by c m.state _ is (edit_owned c s p (less_after n) k (at_end (less_after n) k)
+    (λ s. (refl, refl)) holds (λ test sees. tally_end test (less_after n) k sees) owned)
 effect_owned c s m owned (Chained p q k t hk ht apart few is _) =
     by c m.state _ is (fewer_owned c.env.pools (live s) (live (without_packet q (with_packet p (k ++ t) s))) (chain_fewer s p q k t apart hk ht) owned)
 effect_owned c s m owned (Stored p offset w n k holds le sole is _) = by c m.state _ is owned

@@ -9,15 +9,16 @@ use Rattle.dp_model.specs.declared.queue.Queue.{Queue}
 use Rattle.dp_model.specs.declared.queue.Queue.TheVariants.{Tx, Ring}
 use Rattle.dp_model.specs.Buffers.{Number}
 use Rattle.dp_model.specs.Packets.{Segment, Packet, allocated, cloned, at_front, at_end, more_before, less_before, more_after, less_after}
-use Rattle.dp_model.specs.Machine.{Setting, State, Next, At, Ended, Move, Acts, Holds, with_packet, without_packet, packets_in, with_queue}
+use Rattle.dp_model.specs.Machine.{Setting, State, Next, Move, Acts, Holds, with_packet, without_packet, packets_in, with_queue}
 use Rattle.dp_model.specs.Machine.{with_step, Step}
-use Rattle.dp_model.specs.Runs.{Then, StepsTo}
+use Rattle.dp_model.specs.Runs.{StepsTo}
 use Rattle.dp_model.specs.Safety.{IsPacket, IsPacketOrNone, ArePackets}
 use Rattle.dp_model.specs.Laws.Effects.{Effect, Kept, Calculated, Refused, Allocated, Cloned, Freed, Prepended, Appended, Adjusted, Trimmed, Chained}
 use Rattle.dp_model.specs.Laws.Effects.{Stored, Queued, effect_of}
 use Rattle.dp_model.proofs.SoundClone.{length_cloned}
 use Rattle.dp_model.specs.Laws.Lists.{all_join, each_at}
 use Rattle.dp_model.specs.Laws.Steps.{budget_keeps}
+use Rattle.dp_model.proofs.RunFolds.{goes_keeps}
 
 -- ---- lists
 
@@ -124,12 +125,4 @@ step_packets c program label s m are st =
 -- ---- a run
 pub goes_packets : (c : Setting) (program : List Instr) (n label : ℕ) (s : State) (answers : List Bool) (next : Next) (s' : State) → ArePackets s →
     StepsTo c program n label s answers next s' → ArePackets s'
-goes_packets c program zero label s answers next s' are (_, _, is) = subst ArePackets (sym is) are
-goes_packets c program (suc n) label s answers next s' are (m, later, st, are_answered, rest) =
-    go m.next rest (step_packets c program label s m are st) (λ l. goes_packets c program n l m.state later next s')
-  where
-    go : (x : Next) → Then x (λ l. StepsTo c program n l m.state later next s') ((next ≡ Ended) × (n ≡ 0) × (later ≡ []) × (s' ≡ m.state)) → ArePackets
-        m.state →
-        ((l : ℕ) → ArePackets m.state → StepsTo c program n l m.state later next s' → ArePackets s') → ArePackets s'
-    go (At l) rest here on = on l here rest
-    go Ended (_, _, _, is) here on = subst ArePackets (sym is) here
+goes_packets c program = goes_keeps c program ArePackets (step_packets c program)

@@ -1,7 +1,6 @@
 -- How whole runs end: no packet is live, and the allocation calls are those that were answered.
-use Rattle.std.proofs.Common.{◌≡◌, ℕ, zero, suc, ◌+◌, Bool, true, List, [], ◌∷◌, ◌++◌, length, map, Option, Some, None, sym, ◌∙◌, ap, subst, arith}
+use Rattle.std.proofs.Common.{◌≡◌, ℕ, suc, ◌+◌, Bool, true, List, [], ◌∷◌, ◌++◌, length, map, sym, ◌∙◌, ap, subst, arith}
 use Rattle.std.proofs.Common.{length-append}
-use Rattle.std.specs.Prelude.{slice_get, MatchOption}
 use Rattle.std.specs.List.{AllByRecursion, AllZip}
 use Rattle.std.proofs.lemmas.List.{length-map}
 use Rattle.std.proofs.lemmas.Slice.Zip.{AllZip-long}
@@ -14,7 +13,7 @@ use Rattle.dp_model.specs.Buffers.{Number}
 use Rattle.dp_model.specs.Packets.{Segment, Packet, Lies, is_free, available}
 use Rattle.dp_model.specs.Machine.{Setting, World, Ended, live, segments_listed}
 use Rattle.dp_model.specs.Meaning.{RingHolds, TablesFit}
-use Rattle.dp_model.specs.Runs.{first_state, NodeRun, between, Outcome, Got, NoBuffer, Oversize, Arrives, Waiting, first_waiting, Serves, Nodes, Turn}
+use Rattle.dp_model.specs.Runs.{first_state, NodeRun, between, Outcome, Got, NoBuffer, Oversize, Arrives, Serves, Nodes, Turn}
 use Rattle.dp_model.specs.Runs.{Arrival, Observed, Run, WholeRun, with_empty_outboxes, with_empty_rings}
 use Rattle.dp_model.specs.Laws.{AreChecked}
 use Rattle.dp_model.specs.Safety.{IsAtRest}
@@ -26,15 +25,15 @@ use Rattle.dp_model.specs.Laws.Steps.{goes_counts}
 use Rattle.dp_model.specs.Laws.Lists.{all_right}
 use Rattle.dp_model.specs.Laws.Runs.{start_ready, nothing_mapped, no_lists}
 use Rattle.dp_model.proofs.WholeRuns.{run_ready}
+use Rattle.dp_model.proofs.RunFolds.{serves_fold, run_keeps_each}
 use Rattle.dp_model.specs.Laws.Waiting.{nothing_listed}
 
 -- ---- nothing is live
 
 pub run_outboxes : {T : Type 0} (c : Setting) (nodes : Nodes) (arrivals : List (Arrival T)) (w w' : World) (shown : Observed T) →
     segments_listed w.outboxes ≡ [] → Run c nodes arrivals w shown w' → segments_listed w'.outboxes ≡ []
-run_outboxes c nodes [] w w' shown none (_, is) = ap (λ (x : World). segments_listed x.outboxes) is ∙ none
-run_outboxes c nodes (a ∷ arrivals) w w' shown none (outcome, answers, runs, mid, rest, turn, run, _) =
-    run_outboxes c nodes arrivals (with_empty_outboxes mid) w' rest (nothing_listed mid.outboxes) run
+run_outboxes c nodes arrivals w w' shown = run_keeps_each c nodes (λ w. segments_listed w.outboxes ≡ [])
+    (λ port bytes w mid outcome runs answers none turn. nothing_listed mid.outboxes) arrivals w w' shown
 
 pub ends_with_nothing : {T : Type 0} (c : Setting) (nodes : Nodes) (arrivals : List (Arrival T)) (w w' : World) (shown : Observed T) (left : List ℕ) →
     IsStart c.env w → WholeRun c nodes arrivals w shown left w' → live (between w') ≡ []
@@ -82,28 +81,12 @@ arrives_counts c program port spec bytes w w' Got answers r =
 
 serves_counts : (c : Setting) (programs : List (List Instr)) (n : ℕ) (w w' : World) (answers : List Bool) (runs : ℕ) → Serves c programs n w answers runs w' →
     w'.calls ≡ w.calls + length answers
-serves_counts c programs zero w w' answers runs (none, _, is) =
-    let no_call : length answers ≡ 0 = ap length none in
-    let calls : w'.calls ≡ w.calls = ap (λ (x : World). x.calls) is in
-    omega (arith, no_call, calls)
-serves_counts c programs (suc n) w w' answers runs serves = go (first_waiting w.rings) serves
-    (λ mid answers more. serves_counts c programs n mid w' answers more)
-  where
-    go : (o : Option (Waiting Packet)) → MatchOption o ((answers ≡ []) × (runs ≡ 0) × (w' ≡ w)) (λ next. (program : List Instr)
-        × (now later : List Bool) × (mid : World) × (more : ℕ) × (slice_get programs next.ring ≡ Some program)
-        × NodeRun c program next.packet next.ring (record w { rings = next.rings }) now mid
-        × Serves c programs n mid later more w' × (answers ≡ now ++ later) × (runs ≡ more + 1)) →
-        ((mid : World) (answers : List Bool) (more : ℕ) → Serves c programs n mid answers more w' → w'.calls ≡ mid.calls + length answers) →
-        w'.calls ≡ w.calls + length answers
-    go None (none, _, is) on =
-        let no_call : length answers ≡ 0 = ap length none in
-        let calls : w'.calls ≡ w.calls = ap (λ (x : World). x.calls) is in
-        omega (arith, no_call, calls)
-    go (Some next) (program, now, later, mid, more, is_program, run, serves, are_answered, _) on =
-        let long : length answers ≡ length now + length later = ap length are_answered ∙ length-append now later in
-        omega (arith, long, on mid later more serves, node_counts c program next.packet next.ring (record w { rings = next.rings }) mid now run)
+serves_counts c programs = serves_fold c programs (λ n w w' answers runs. w'.calls ≡ w.calls + length answers)
+    (λ n w why. omega arith)
+    (λ n more w mid w' next program now later e is_program run rest.
+    omega (arith, rest, length-append now later, node_counts c program next.packet next.ring (record w { rings = next.rings }) mid now run))
 
-turn_counts : (c : Setting) (nodes : Nodes) (port : ℕ) (bytes : List ℕ) (w w' : World) (outcome : Outcome) (runs : ℕ) (answers : List Bool) →
+pub turn_counts : (c : Setting) (nodes : Nodes) (port : ℕ) (bytes : List ℕ) (w w' : World) (outcome : Outcome) (runs : ℕ) (answers : List Bool) →
     Turn c nodes port bytes w outcome runs answers w' → w'.calls ≡ w.calls + length answers
 turn_counts c nodes port bytes w w' outcome runs answers t =
     let long : length answers ≡ length t.now + length t.later = ap length t.answers_are ∙ length-append t.now t.later in
@@ -142,8 +125,7 @@ emptied_rings : (pools : List PoolSpec) (segments segments' : List Segment) (spe
     AllZip (RingHolds pools segments) specs rings → AllZip (RingHolds pools segments') specs (map (λ _. []) rings)
 emptied_rings pools segments segments' [] [] all = tt
 emptied_rings pools segments segments' (spec ∷ specs) (ring ∷ rings) all = (tt, emptied_rings pools segments segments' specs rings all.1)
-emptied_rings pools segments segments' [] (ring ∷ rings) all = absurd all
-emptied_rings pools segments segments' (spec ∷ specs) [] all = absurd all
+emptied_rings pools segments segments' x y all = absurd all
 
 -- where no ring has a packet the next record can still come
 pub emptied_rest : (c : Setting) (w : World) → IsAtRest c w → IsAtRest c (with_empty_rings w)

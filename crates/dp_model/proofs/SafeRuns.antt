@@ -6,6 +6,7 @@ use Rattle.dp_model.specs.Rules.{Question, IsCertified}
 use Rattle.dp_model.specs.Machine.{Setting, World, State, live, segments_held, segments_listed, Next, At, Ended, Move, Step}
 use Rattle.dp_model.specs.Runs.{Then, StepsTo, first_state, between}
 use Rattle.dp_model.specs.Safety.{ArePackets, BeginsWell, IsSafeRun, Beginning, IsSafeBeginning, LeadsWithin}
+use Rattle.dp_model.proofs.RunFolds.{goes_keeps}
 use Rattle.dp_model.proofs.Soundness.{step_safe, acts_label}
 use Rattle.dp_model.proofs.Budget.{step_label}
 use Rattle.dp_model.specs.Laws.StepsWithin.{step_within}
@@ -19,14 +20,7 @@ use Rattle.dp_model.proofs.PacketSteps.{goes_packets}
 
 pub goes_owned : (c : Setting) (program : List Instr) (n label : ℕ) (s : State) (answers : List Bool) (next : Next) (s' : State) → HasOwners c s →
     StepsTo c program n label s answers next s' → HasOwners c s'
-goes_owned c program zero label s answers next s' owned (_, _, is) = subst (HasOwners c) (sym is) owned
-goes_owned c program (suc n) label s answers next s' owned (m, later, st, are_answered, rest) =
-    go m.next rest (step_owned c program label s m owned st) (λ l. goes_owned c program n l m.state later next s')
-  where
-    go : (x : Next) → Then x (λ l. StepsTo c program n l m.state later next s') ((next ≡ Ended) × (n ≡ 0) × (later ≡ []) × (s' ≡ m.state)) →
-        HasOwners c m.state → ((l : ℕ) → HasOwners c m.state → StepsTo c program n l m.state later next s' → HasOwners c s') → HasOwners c s'
-    go (At l) rest here on = on l here rest
-    go Ended (_, _, _, is) here on = subst (HasOwners c) (sym is) here
+goes_owned c program = goes_keeps c program (HasOwners c) (step_owned c program)
 
 -- ---- a run can end
 

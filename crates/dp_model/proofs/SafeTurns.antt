@@ -1,7 +1,7 @@
 -- Turns of a pipeline: every node run is safe, there is a turn for each record, and the next one can follow.
 use Rattle.std.proofs.Common.{◌≡◌, ℕ, zero, suc, ◌+◌, ◌<◌, ◌≤◌, Bool, true, false, List, [], ◌∷◌, ◌++◌, length, Option, Some, None, refl, sym, ◌∙◌, ap, subst}
 use Rattle.std.proofs.Common.{arith, inl, inr}
-use Rattle.std.specs.Prelude.{IsTrue, slice_get, slice_set, flat_map, option_map, nat_lt, if◌then◌else◌, MatchOption}
+use Rattle.std.specs.Prelude.{IsTrue, slice_get, slice_set, flat_map, option_map, nat_lt, if◌then◌else◌}
 use Rattle.std.specs.List.{AllByRecursion}
 use Rattle.std.proofs.lemmas.Bool.{ltb-true, ltb-false, lt-ltb, le-ltb}
 use Rattle.std.proofs.lemmas.Option.{same_Some, slice_get_within}
@@ -23,6 +23,7 @@ use Rattle.dp_model.specs.Laws.{Checked}
 use Rattle.dp_model.specs.Safety.{IsPacket, ArePackets, IsAtRest, BeginsWell, Beginning, IsOfRecord, HasServed, IsOfTurn, IsSafeBeginning, outcome_for}
 use Rattle.dp_model.specs.Safety.{IsSafeTurn, IsPipeline}
 use Rattle.dp_model.specs.Laws.Lists.{get_within, zip_back, each_at}
+use Rattle.dp_model.proofs.Agreement.{serves_is}
 use Rattle.dp_model.proofs.Fresh.{enough}
 use Rattle.dp_model.proofs.Sound.{denied_or_enough}
 use Rattle.dp_model.proofs.Begin.{length_received, received_begins, ring_begins}
@@ -200,27 +201,10 @@ served_rest c nodes (program ∷ later) w w' checked rest (next, answers, mid, e
     answers mid (waiting_safe c nodes next program w checked rest e is_program) run)
     served
 
-pub serves_rest : (c : Setting) (nodes : Nodes) (n : ℕ) (w w' : World) (answers : List Bool) (runs : ℕ) → IsPipeline c nodes → IsAtRest c w →
+serves_rest : (c : Setting) (nodes : Nodes) (n : ℕ) (w w' : World) (answers : List Bool) (runs : ℕ) → IsPipeline c nodes → IsAtRest c w →
     Serves c nodes.rings n w answers runs w' → IsAtRest c w'
-serves_rest c nodes zero w w' answers runs checked rest (_, _, is) = subst (IsAtRest c) (sym is) rest
-serves_rest c nodes (suc n) w w' answers runs checked rest serves = go (first_waiting w.rings) refl serves
-    (λ mid answers more. serves_rest c nodes n mid w' answers more checked)
-  where
-    go : (o : Option (Waiting Packet)) → first_waiting w.rings ≡ o → MatchOption o ((answers ≡ []) × (runs ≡ 0) × (w' ≡ w)) (λ next. (program : List Instr)
-        × (now later : List Bool) × (mid : World) × (more : ℕ) × (slice_get nodes.rings next.ring ≡ Some program)
-        × NodeRun c program next.packet next.ring (record w { rings = next.rings }) now mid × Serves c nodes.rings n mid later more w'
-        × (answers ≡ now ++ later)
-        × (runs ≡ more + 1)) → ((mid : World) (answers : List Bool) (more : ℕ) → IsAtRest c mid → Serves c nodes.rings n mid answers more w' → IsAtRest c w') →
-        IsAtRest c w'
-    go None e (_, _, is) on = subst (IsAtRest c) (sym is) rest
-    go (Some next) e (program, now, later, mid, more, is_program, run, serves, _, _) on =
-        on mid later more (safe_rests c (record {
-          entry = Ring next.ring;
-          program = program;
-          packet = next.packet;
-          number = next.ring;
-          world = record w { rings = next.rings };
-        }) now mid (waiting_safe c nodes next program w checked rest e is_program) run) serves
+serves_rest c nodes n w w' answers runs checked rest serves =
+    let s = serves_is c nodes.rings n w answers runs w' serves in served_rest c nodes s.ran w w' checked rest s.served
 
 -- a ring that has a packet has a node
 ring_node : (c : Setting) (nodes : Nodes) (w : World) (next : Waiting Packet) → length nodes.rings ≡ length c.env.rings → IsAtRest c w →
@@ -231,32 +215,21 @@ ring_node c nodes w next count rest e =
     there in
     get_within nodes.rings next.ring (omega (arith, count, slice_get_within c.env.rings next.ring spec is_ring))
 
-pub serves_exist : (c : Setting) (nodes : Nodes) (n : ℕ) (w : World) → IsPipeline c nodes → IsAtRest c w →
+serves_exist : (c : Setting) (nodes : Nodes) (n : ℕ) (w : World) → IsPipeline c nodes → IsAtRest c w →
     (answers : List Bool) × (runs : ℕ) × (w' : World) × Serves c nodes.rings n w answers runs w'
 serves_exist c nodes zero w pipeline rest = ([], 0, w, (refl, refl, refl))
 serves_exist c nodes (suc n) w pipeline rest = go (first_waiting w.rings) refl (λ mid. serves_exist c nodes n mid pipeline)
   where
     go : (o : Option (Waiting Packet)) → first_waiting w.rings ≡ o → ((mid : World) → IsAtRest c mid →
         (answers : List Bool) × (runs : ℕ) × (w' : World) × Serves c nodes.rings n mid answers runs w') →
-        (answers : List Bool) × (runs : ℕ) × (w' : World) × MatchOption o ((answers ≡ []) × (runs ≡ 0) × (w' ≡ w)) (λ next. (program : List Instr)
-        × (now later : List Bool) × (mid : World) × (more : ℕ) × (slice_get nodes.rings next.ring ≡ Some program)
-        × NodeRun c program next.packet next.ring (record w { rings = next.rings }) now mid × Serves c nodes.rings n mid later more w'
-        × (answers ≡ now ++ later)
-        × (runs ≡ more + 1))
-    go None e on = ([], 0, w, (refl, refl, refl))
+        (answers : List Bool) × (runs : ℕ) × (w' : World) × Serves c nodes.rings (suc n) w answers runs w'
+    go None e on = ([], 0, w, rw e (refl, refl, refl))
     go (Some next) e on =
         let (program, is_program) = ring_node c nodes w next pipeline.rings rest e in
-        let b : Beginning = record {
-          entry = Ring next.ring;
-          program = program;
-          packet = next.packet;
-          number = next.ring;
-          world = record w { rings = next.rings };
-        } in
         let safe = waiting_safe c nodes next program w pipeline rest e is_program in
-        let (now, mid, run) = safe_ends c b safe in
-        let (later, more, w', serves) = on mid (safe_rests c b now mid safe run) in
-        (now ++ later, more + 1, w', (program, now, later, mid, more, is_program, run, serves, refl, refl))
+        let (now, mid, run) = safe_ends c _ safe in
+        let (later, more, w', serves) = on mid (safe_rests c _ now mid safe run) in
+        (now ++ later, more + 1, w', rw e (program, now, later, mid, more, is_program, run, serves, refl, refl))
 
 -- ---- the outcome of a record
 received_ends : (c : Setting) (nodes : Nodes) (program : List Instr) (port : ℕ) (spec : PortSpec) (bytes : List ℕ) (w : World) → IsPipeline c nodes →
@@ -319,26 +292,6 @@ turn_rest c nodes port bytes w w' outcome runs answers checked rest t =
     serves_rest c nodes 32 t.mid w' t.later t.more checked
     (arrives_rest c nodes t.program port t.spec bytes w t.mid outcome t.now checked t.program_is t.spec_is rest t.arrives) t.serves
 
--- the record's part and the rings' part make a turn
-turn_of : (c : Setting) (nodes : Nodes) (program : List Instr) (port : ℕ) (spec : PortSpec) (bytes : List ℕ) (w mid w' : World) (outcome : Outcome)
-    (now later : List Bool) (more : ℕ) → slice_get c.env.ports port ≡ Some spec → slice_get nodes.ports port ≡ Some program →
-    Arrives c program port spec bytes w outcome now mid → Serves c nodes.rings 32 mid later more w' →
-    Turn c nodes port bytes w outcome (runs_of outcome + more) (now ++ later) w'
-turn_of c nodes program port spec bytes w mid w' outcome now later more is_spec is_program arrives serves = record {
-  spec = spec;
-  program = program;
-  spec_is = is_spec;
-  program_is = is_program;
-  mid = mid;
-  now = now;
-  arrives = arrives;
-  later = later;
-  more = more;
-  serves = serves;
-  answers_are = refl;
-  runs_is = refl;
-}
-
 pub turn_exists : (c : Setting) (nodes : Nodes) (port : ℕ) (spec : PortSpec) (bytes : List ℕ) (w : World) → IsPipeline c nodes → slice_get c.env.ports port
     ≡ Some spec → IsAtRest c w → AllByRecursion (λ x. x < 256) bytes → (outcome : Outcome) × (runs : ℕ) × (answers : List Bool) × (w' : World)
     × Turn c nodes port bytes w outcome runs answers w'
@@ -347,14 +300,22 @@ turn_exists c nodes port spec bytes w pipeline is_spec rest small =
     let outcome = outcome_for c spec bytes w in
     let (now, mid, arrives) = arrives_exist c nodes program port spec bytes w pipeline is_spec is_program rest small in
     let (later, more, w', serves) = serves_exist c nodes 32 mid pipeline
-    (arrives_rest c nodes program port spec bytes w mid outcome now pipeline is_program is_spec rest arrives) in (
-      outcome,
-      runs_of outcome + more,
-      now ++ later,
-      w',
-      turn_of c nodes program port spec bytes w mid w' outcome now later more is_spec is_program arrives
-          serves,
-    )
+    (arrives_rest c nodes program port spec bytes w mid outcome now pipeline is_program is_spec rest arrives) in
+    let t : Turn c nodes port bytes w outcome (runs_of outcome + more) (now ++ later) w' = record {
+      spec = spec;
+      program = program;
+      spec_is = is_spec;
+      program_is = is_program;
+      mid = mid;
+      now = now;
+      arrives = arrives;
+      later = later;
+      more = more;
+      serves = serves;
+      answers_are = refl;
+      runs_is = refl;
+    } in
+    (outcome, runs_of outcome + more, now ++ later, w', t)
 
 -- every node run of a turn is safe
 pub turn_runs_safe : (c : Setting) (nodes : Nodes) (port : ℕ) (bytes : List ℕ) (w : World) (b : Beginning) → IsPipeline c nodes → IsAtRest c w →

@@ -1,5 +1,5 @@
 -- Whole runs of a pipeline: every node run is safe, and there is a run for each list of records.
-use Rattle.std.proofs.Common.{◌≡◌, List, [], ◌∷◌, ◌++◌, length, replicate, refl, sym, ap, subst, arith}
+use Rattle.std.proofs.Common.{◌≡◌, List, [], ◌∷◌, ◌++◌, length, replicate, refl, ap, arith}
 use Rattle.std.specs.List.{AllByRecursion}
 use Rattle.dp_model.specs.Machine.{Setting, World, live, segments_listed}
 use Rattle.dp_model.specs.Runs.{between, Nodes, Arrival, Observed, Run, records_at, with_empty_outboxes, joined}
@@ -8,6 +8,7 @@ use Rattle.dp_model.specs.Laws.Lists.{get_within}
 use Rattle.dp_model.proofs.Counts.{tally_live}
 use Rattle.dp_model.specs.Laws.Counts.{tally, fewer_owned, fewer_by}
 use Rattle.dp_model.proofs.WholeRuns.{drained_ready}
+use Rattle.dp_model.proofs.RunFolds.{run_keeps_each}
 use Rattle.dp_model.specs.Laws.Waiting.{nothing_listed}
 use Rattle.dp_model.specs.Laws.Runs.{safe_never_stuck, no_lists}
 use Rattle.dp_model.proofs.SafeTurns.{turn_rest, turn_exists, turn_runs_safe}
@@ -29,10 +30,9 @@ drained_rest c w rest = record {
 -- ---- runs
 pub run_rest : {T : Type 0} (c : Setting) (nodes : Nodes) (arrivals : List (Arrival T)) (w w' : World) (shown : Observed T) →
     IsPipeline c nodes → IsAtRest c w → Run c nodes arrivals w shown w' → IsAtRest c w'
-run_rest c nodes [] w w' shown checked rest (_, is) = subst (IsAtRest c) (sym is) rest
-run_rest c nodes (a ∷ arrivals) w w' shown checked rest (outcome, answers, runs, mid, others, turn, run, _) =
-    run_rest c nodes arrivals (with_empty_outboxes mid) w' others checked
-    (drained_rest c mid (turn_rest c nodes a.port a.bytes w mid outcome runs answers checked rest turn)) run
+run_rest c nodes arrivals w w' shown checked = run_keeps_each c nodes (IsAtRest c)
+    (λ port bytes w mid outcome runs answers rest turn. drained_rest c mid (turn_rest c nodes port bytes w mid outcome runs answers checked rest turn))
+    arrivals w w' shown
 
 pub run_exists : {T : Type 0} (c : Setting) (nodes : Nodes) (arrivals : List (Arrival T)) (w : World) → IsPipeline c nodes → IsAtRest c w →
     AllByRecursion (CanArrive c) arrivals → (shown : Observed T) × (w' : World) × Run c nodes arrivals w shown w'

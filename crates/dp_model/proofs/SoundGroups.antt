@@ -1,5 +1,5 @@
 -- Rows whose groups change while packets stay.
-use Rattle.std.proofs.Common.{◌≡◌, ◌⊎◌, ℕ, zero, suc, ◌+◌, ◌≤◌, Bool, true, false, cond, List, [], ◌∷◌, Option, Some, None, refl, sym, ◌∙◌, ap, subst, arith}
+use Rattle.std.proofs.Common.{◌≡◌, ◌⊎◌, ℕ, suc, ◌+◌, ◌≤◌, Bool, true, false, cond, List, [], ◌∷◌, Option, Some, None, refl, sym, ◌∙◌, ap, subst, arith}
 use Rattle.std.specs.Prelude.{slice_get, ◌==◌}
 use Rattle.std.specs.List.{AllByRecursion, AllZip}
 use Rattle.std.specs.Option.{option_map_or}
@@ -19,10 +19,8 @@ use Rattle.dp_model.specs.Laws.Cases.{by_cases}
 
 -- a group's share says nothing of one packet alone
 far_shared : (live : List Segment) (n : ℕ) (k : Packet) → 3 ≤ n → IsShared live n k
-far_shared live zero k le = absurd (omega arith)
-far_shared live (suc zero) k le = absurd (omega arith)
-far_shared live (suc (suc zero)) k le = absurd (omega arith)
 far_shared live (suc (suc (suc n))) k le = tt
+far_shared live x k le = absurd (omega arith)
 
 pub of_group : (live : List Segment) (m : ℕ) (k : Packet) → IsShared live (share_of_group m) k
 of_group live m k = far_shared live (8 + m) k (omega arith)
