@@ -117,6 +117,7 @@ impl Machine {
     }
 
     // Loads the big-endian number at an offset of the first segment.
+    #[inline(always)]
     pub(crate) fn load(&self, p: PacketRegister, offset: u64, width: Width) -> u64
         requires { (packet : Packet) × Holds self.now.state p packet × (offset + bytes_in width ≤ first_len packet) }
         ensures { (packet : Packet) → Holds self.now.state p packet → result ≡ loaded offset (bytes_in width) packet self.now.state.world.buffers }
@@ -126,6 +127,7 @@ impl Machine {
     }
 
     // Stores the low bytes of a number, big-endian, at an offset of the first segment.
+    #[inline(always)]
     pub(crate) fn store(&mut self, p: PacketRegister, offset: u64, width: Width, n: u64)
         requires { (packet : Packet) × Holds self.old.state p packet × (offset + bytes_in width ≤ first_len packet) × IsHeadSole (live self.old.state) packet }
         ensures { (packet : Packet) → Holds self.old.state p packet → self.new ≡ moved
@@ -149,6 +151,7 @@ impl Machine {
     }
 
     // Allocates a packet of one empty segment into an empty register. Returns false if the call is refused.
+    #[inline(always)]
     pub(crate) fn alloc(
         &mut self,
         env: &Env,
@@ -172,7 +175,7 @@ impl Machine {
         }
         match self.mbufs.alloc(u32::from(pool)) {
             Some(packet) => {
-                self.registers[usize::from(into.number())] = Register::of(packet.number());
+                self.registers[usize::from(into.number())].put(packet.number());
                 true
             }
             None => false,
@@ -207,7 +210,7 @@ impl Machine {
         let source = handle_in(&self.registers, from);
         match self.mbufs.clone_of(&source, u32::from(pool)) {
             Some(packet) => {
-                self.registers[usize::from(into.number())] = Register::of(packet.number());
+                self.registers[usize::from(into.number())].put(packet.number());
                 true
             }
             None => false,
