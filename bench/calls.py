@@ -14,6 +14,7 @@ import subprocess
 import sys
 import tempfile
 
+from tables import Table
 from timing import dpdk, instructions
 
 TOP = pathlib.Path(__file__).resolve().parent.parent
@@ -82,24 +83,26 @@ def between(program: str, name: str, like: str) -> float | None:
 
 def shown(number: float | None, star: str = "") -> str:
     """A count, formatted for the table."""
-    return "-" if number is None else f"{number:,.0f}{star}" if number >= 100 else f"{number:.1f}{star}"
+    return "" if number is None else f"{number:,.0f}{star}" if number >= 100 else f"{number:.1f}{star}"
 
 
-def main() -> None:
+def tables() -> list[Table]:
+    """The table."""
     with tempfile.TemporaryDirectory() as made:
         folder = pathlib.Path(made)
         ours = compiled("dpv", folder, library())
         flags = dpdk()
         theirs = None if flags is None else compiled("dpdk", folder, flags)
-        print(f"{'operation':<40} {'dpv':>9} {'DPDK':>9} {'ratio':>6}")
+        table = Table(["operation", "dpv", "DPDK", "ratio"], [40])
         for name, title in (line.split(" ", 1) for line in NAMES.strip().split("\n")):
             own = between(ours, OURS.get(name, name), name)
             its = None if theirs is None else between(theirs, name, name)
             star = "" if its is not None else "*"
             its = TAKEN.get(name) if its is None else its
-            ratio = "-" if own is None or its is None else f"{own / its:.2f}"
-            print(f"{title:<40} {shown(own):>9} {shown(its, star):>9} {ratio:>6}", flush=True)
+            ratio = "" if own is None or its is None else f"{own / its:.2f}"
+            table.row(title, shown(own), shown(its, star), ratio)
+    return [table]
 
 
 if __name__ == "__main__":
-    main()
+    tables()

@@ -2,9 +2,11 @@
 """Draws docs/speed.svg from the tables of docs/users/speed.md.
 
 Usage: bench/chart.py [--check]   (with --check it writes nothing, and exits with 1 where the picture is not that of the tables)
-Three groups of bars, each from the table of a heading: a record of 60 bytes with 14 bytes taken off, by program; the nodes of examples/, in
-times of C over DPDK; and frames of 60 bytes over DPDK's devices. Longer bars are slower. Python's standard library alone.
+Four groups of bars, each from a table: a record of 60 bytes with 14 bytes taken off, by program, in time and in machine instructions; the
+nodes of examples/, in times of C over DPDK; and frames of 60 bytes over DPDK's devices. Longer bars are slower. What was not measured has no
+bar. Python's standard library alone.
 """
+import operator
 import pathlib
 import sys
 from typing import NamedTuple
@@ -51,20 +53,24 @@ def number(cell: str) -> float | None:
         return None
 
 
+def bars(rows: list[list[str]], column: int, names: int = 1, ours: str = "dpv") -> list[Bar]:
+    """The bars of a column of rows, each named by its first cells; the last of these shows whether it is one of dpv."""
+    return [Bar(", ".join(row[:names]), value, row[names - 1] == ours) for row in rows if (value := number(row[column])) is not None]
+
+
 def groups(page: str) -> list[Group]:
     """What is drawn."""
-    head, *rows = table(page, "A filter beside other programs")
-    first = next(row for row in rows if row[0] == "60 bytes")
-    filters = [Bar(name, value, name == "dpv") for name, cell in zip(head[1:], first[1:]) if (value := number(cell)) is not None]
-    head, *rows = table(page, "Nodes beside C over DPDK, and eBPF")
-    ratio = head.index("dpv / C")
-    nodes = [Bar(row[0], value, True) for row in rows if (value := number(row[ratio])) is not None]
-    head, *rows = table(page, "Live frames over DPDK's devices")
-    live = [Bar(f"{row[0]}, {row[1]}", value, row[1] == "the host") for row in rows if (value := number(row[2])) is not None]
+    head, *filters = table(page, "A filter beside other programs")
+    time, count = head.index("ns, 60 bytes"), head.index("instructions, 60 bytes")
+    node, *nodes = table(page, "Nodes beside C over DPDK, and eBPF")
+    ratios = [it._replace(is_ours=True) for it in bars(nodes, node.index("dpv / C"))]
+    _, *live = table(page, "Live frames over DPDK's devices")
+    by_value = operator.attrgetter("value")
     return [
-        Group("14 bytes taken off a record of 60", "ns of processor time", 0, sorted(filters, key=lambda it: it.value)),
-        Group("nodes of examples/, in times of C over DPDK", "times", 1, sorted(nodes, key=lambda it: it.value)),
-        Group("a live frame of 60 bytes over DPDK's devices", "ns of processor time", 0, live),
+        Group("14 bytes taken off a record of 60", "ns of processor time", 0, sorted(bars(filters, time), key=by_value)),
+        Group("the same, without the kernel", "machine instructions", 0, sorted(bars(filters, count), key=by_value)),
+        Group("nodes of examples/, in times of C over DPDK", "times", 1, sorted(ratios, key=by_value)),
+        Group("a live frame of 60 bytes over DPDK's devices", "ns of processor time", 0, bars(live, 2, names=2, ours="the host")),
     ]
 
 

@@ -13,6 +13,7 @@ import subprocess
 import sys
 import tempfile
 
+from tables import Table, number
 from timing import dpdk, instructions
 
 TOP = pathlib.Path(__file__).resolve().parent.parent
@@ -67,21 +68,19 @@ def bpf(folder: pathlib.Path) -> str | None:
     return str(program)
 
 
-def main() -> None:
+def tables(commits: list[str]) -> list[Table]:
+    """The table."""
     with tempfile.TemporaryDirectory() as name:
         folder = pathlib.Path(name)
-        programs = {commit or "here": built(folder / (commit or "here"), commit) for commit in [None, *sys.argv[1:]]}
-        print(f"{'instructions each':<18}" + "".join(f"{title:>16}" for title in programs))
+        programs = {commit or "here": built(folder / (commit or "here"), commit) for commit in [None, *commits]}
+        other = bpf(folder)
+        table = Table(["instructions each", *programs, "rte_bpf_load"], [18])
         for line in LINES:
             for deed in ("check", "infer"):
-                counts = [each([program, line, deed]) for program in programs.values()]
-                print(f"{line + ', ' + deed:<18}" + "".join(f"{'-' if count is None else f'{count:,.0f}':>16}" for count in counts), flush=True)
-        other = bpf(folder)
-        if other is not None:
-            for line in LINES:
-                count = each([other, line])
-                print(f"{line + ', rte_bpf_load':<24}{'-' if count is None else f'{count:,.0f}':>10}", flush=True)
+                theirs = each([other, line]) if other and deed == "check" else None
+                table.row(f"{line}, {deed}", *(number(each([program, line, deed])) for program in programs.values()), number(theirs))
+    return [table]
 
 
 if __name__ == "__main__":
-    main()
+    tables(sys.argv[1:])

@@ -4,14 +4,16 @@
 Usage: bench/engine.py [PROGRAM WORD ..]   (a program that runs a pipeline file; by default what ./dpv run begins)
 A pipeline's count is the difference of two runs, one with twice as many records of 60 bytes, counted by perf or valgrind. Prints two
 tables. The first has a line per pipeline: instructions per record, and how many instructions of its program a record runs. The second has
-figures derived from these: a hop through a ring, and an instruction of two programs that load, add, compare and store, all compared with a
-pipeline that only sends; and a record of two ports compared with one of strip.
+figures derived from these, and from two runs more: a hop through a ring, and an instruction of two programs that load, add, compare and
+store, all compared with a pipeline that only sends; what an instruction takes more with --counts; what a port that gets no records costs a
+record of another; and a record of two ports compared with one of strip.
 """
 import pathlib
 import struct
 import sys
 import tempfile
 
+from tables import Table, number
 from timing import TOP, built, instructions
 
 RECORDS = 2_000
@@ -99,26 +101,43 @@ def counted(command: list[str], folder: pathlib.Path, ports: int, records: int) 
     return count
 
 
-def main() -> None:
-    program = sys.argv[1:] or [built(), "run"]
-    each = {}
-    print(f"{'records of 60 bytes':<36} {'a record':>9} {'of its program':>15}")
+def each(program: list[str], folder: pathlib.Path, title: str, *options: str, records: int = RECORDS) -> float:
+    """The instructions of a record of a pipeline, which is run with these options."""
+    ports, ring, cache, _ = PIPELINES[title]
+    command = [*program, *options, str(pipeline(folder, ports, ring, cache))]
+    low, high = (counted(command, folder, len(ports), count) for count in (records, 2 * records))
+    return (high - low) / records
+
+
+def without_records(program: list[str], folder: pathlib.Path, records: int) -> float:
+    """The instructions of a record that is only sent, beside a port that gets no records."""
+    command = [*program, "--no-in", "1", str(pipeline(folder, [SEND, SEND], None, 0))]
+    low, high = (counted(command, folder, 1, count) for count in (records, 2 * records))
+    return (high - low) / records
+
+
+def tables(program: list[str], records: int = RECORDS) -> list[Table]:
+    """Both tables."""
+    costs, first = {}, Table(["pipeline", "a record", "instructions of its program that run"], [36])
     with tempfile.TemporaryDirectory() as name:
         folder = pathlib.Path(name)
-        for title, (ports, ring, cache, steps) in PIPELINES.items():
-            command = [*program, str(pipeline(folder, ports, ring, cache))]
-            low, high = (counted(command, folder, len(ports), count) for count in (RECORDS, 2 * RECORDS))
-            each[title] = (high - low) / RECORDS
-            print(f"{title:<36} {each[title]:>9.1f} {steps:>15}", flush=True)
-    hop = each["through a ring"] - each["sent"]
-    step = (each["a router's 24 instructions"] - each["sent"]) / 22
-    other = (each["examples/ttl"] - each["sent"]) / 23
-    ports = each["two ports that send to each other"] / each["strip"]
-    print(f"\n{'one hop through a ring more':<36} {hop:>9.1f}")
-    print(f"{'an instruction of a router':<36} {step:>9.1f}")
-    print(f"{'an instruction of examples/ttl':<36} {other:>9.1f}")
-    print(f"{'two ports, in times of strip':<36} {ports:>9.2f}")
+        for title, (_, _, _, steps) in PIPELINES.items():
+            costs[title] = each(program, folder, title, records=records)
+            first.row(title, number(costs[title]), str(steps))
+        sent, ttl = costs["sent"], costs["examples/ttl"]
+        derived = {
+            "one more hop through a ring": (costs["through a ring"] - sent, 0),
+            "an instruction of the router": ((costs["a router's 24 instructions"] - sent) / 22, 1),
+            "an instruction of examples/ttl": ((ttl - sent) / 23, 1),
+            "the same with `--counts`, more": ((each(program, folder, "examples/ttl", "--counts", records=records) - ttl) / 25, 1),
+            "one more port that gets no records, for each record of another": (without_records(program, folder, records) - sent, 0),
+            "a record of two ports, in times of one of strip": (costs["two ports that send to each other"] / costs["strip"], 2),
+        }
+    second = Table(["part", "machine instructions"], [63])
+    for title, (cost, places) in derived.items():
+        second.row(title, number(cost, places))
+    return [first, second]
 
 
 if __name__ == "__main__":
-    main()
+    tables(sys.argv[1:] or [built(), "run"])

@@ -1,17 +1,18 @@
 #!/usr/bin/env python3
-"""Counts how what dpv takes grows: with records, with the instructions that a record runs, with routes, and with live blocks.
+"""Counts how what dpv takes grows: with records, with the instructions that a record runs, and with routes.
 
 Usage: bench/grow.py [PROGRAM]   (the built program; by default the one that ./dpv builds and runs)
 Machine instructions, as perf or valgrind count them. A count is the difference of two runs, so starting and checking are not in it, but for
-the column that has them. Prints a table for each; a program with N instructions more has N sums of numbers. bench/memory.py has the memory.
+the columns that have them. Prints a table for each; a program with N instructions more has N sums of numbers. bench/memory.py has the
+memory, and bench/heap.py heaps.
 """
 import pathlib
 import random
-import subprocess
 import sys
 import tempfile
 
 from engine import SEND, capture, pipeline
+from tables import Table, number
 from timing import built, instructions
 
 RECORDS = 1_000
@@ -35,24 +36,27 @@ def each(program: str, file: pathlib.Path, folder: pathlib.Path, records: int = 
     return (counts[1] - counts[0]) / records, counts[0]
 
 
-def by_records(program: str, folder: pathlib.Path) -> None:
+def by_records(program: str, folder: pathlib.Path, counts: list[int]) -> Table:
     """A record's cost, by how many records there are."""
-    print(f"{'records':>12} {'a record':>10}")
-    for many in (1_000, 10_000, 100_000):
+    table = Table(["records", "a record that is only sent"], [10])
+    for many in counts:
         found, _ = each(program, pipeline(folder, [SEND], None, 0), folder, many)
-        print(f"{many:>12,} {found:>10.1f}", flush=True)
+        table.row(number(many), number(found))
+    return table
 
 
-def by_instructions(program: str, folder: pathlib.Path) -> None:
+def by_instructions(program: str, folder: pathlib.Path, counts: list[int]) -> Table:
     """The cost of a record and of the start, by the number of extra instructions of its program, which all run."""
-    print(f"\n{'instructions':>12} {'a record':>10} {'one more':>10} {'start':>12}")
-    base = 0.0
-    for more in (0, 16, 64, 256, 1_000):
+    table = Table(["instructions that a record runs", "a record", "each one more", "start, with the check of the program", "each one more there"], [31])
+    first: tuple[float, int] = (0, 0)
+    for more in counts:
         lines = "".join(f"add r{1 + k % 3},{k + 1}\n" for k in range(more))
         program_text = f"set r1,0\nset r2,0\nset r3,0\n{lines}{SEND}"
-        found, start = each(program, pipeline(folder, [program_text], None, 0), folder)
-        base = base or found
-        print(f"{more + 5:>12,} {found:>10.1f} {(found - base) / more if more else 0:>10.1f} {start:>12,}", flush=True)
+        found = each(program, pipeline(folder, [program_text], None, 0), folder)
+        first = found if more == 0 else first
+        one, start = ((now - then) / more if more else None for now, then in zip(found, first))
+        table.row(number(more + 5), number(found[0]), number(one, 1), number(found[1]), number(start))
+    return table
 
 
 def routes_of(count: int) -> list[str]:
@@ -65,37 +69,32 @@ def routes_of(count: int) -> list[str]:
     return sorted(found)
 
 
-def by_routes(program: str, folder: pathlib.Path) -> None:
+def by_routes(program: str, folder: pathlib.Path, counts: list[int]) -> Table:
     """The cost of a look-up and of the start, by the number of routes of the table."""
-    print(f"\n{'routes':>12} {'a look-up':>10} {'start':>14}")
+    table = Table(["routes", "a look-up", "start, with all routes added"], [10])
     sent, _ = each(program, pipeline(folder, ["set r1,0\nset r2,0\n" + SEND], None, 0), folder)
-    for count in (1, 100, 1_000):
+    for count in counts:
         file = pipeline(folder, ["set r2,0\n" + LOOKUP], None, 0)
         rows = "".join(f'  "{route}",\n' for route in routes_of(count))
         file.write_text(f"{file.read_text()}[[table]]\nrules = 65536\ngroups = 256\nroutes = [\n{rows}]\n".replace("1048576", "134217728"))
         found, start = each(program, file, folder)
-        print(f"{count:>12,} {found - sent:>10.1f} {start:>14,}", flush=True)
+        table.row(number(count), number(found - sent), number(start))
+    return table
 
 
-def by_blocks(program: str, folder: pathlib.Path) -> None:
-    """The cost of a block that is allocated and freed, by the number of other blocks held."""
-    print(f"\n{'blocks held':>12} {'taken, freed':>13}")
-    for held in (10, 100, 1_000, 10_000):
-        counts = []
-        for pairs in (0, 1_000):
-            script = folder / "script"
-            lines = [f"malloc {64 + k % 512} 0" for k in range(held)] + [f"{line}" for k in range(pairs) for line in ("malloc 64 0", f"free {held + 1 + k}")]
-            script.write_text("\n".join([f"region {1 << 26}", *lines, ""]))
-            counts.append(counted([program, "mem", str(script)]))
-        print(f"{held:>12,} {(counts[1] - counts[0]) / 1_000:>13,.0f}", flush=True)
+# How much there is of each: for a table, and for a quick look.
+COUNTS = {
+    by_records: ([1_000, 10_000, 100_000], [1_000, 2_000]),
+    by_instructions: ([0, 16, 64, 256, 1_000], [0, 64]),
+    by_routes: ([1, 100, 1_000], [1]),
+}
 
 
-def main() -> None:
-    program = sys.argv[1] if len(sys.argv) > 1 else built()
+def tables(program: str, is_quick: bool = False) -> list[Table]:
+    """All tables."""
     with tempfile.TemporaryDirectory() as name:
-        for table in (by_records, by_instructions, by_routes, by_blocks):
-            table(program, pathlib.Path(name))
+        return [table(program, pathlib.Path(name), quick if is_quick else counts) for table, (counts, quick) in COUNTS.items()]
 
 
 if __name__ == "__main__":
-    main()
+    tables(sys.argv[1] if len(sys.argv) > 1 else built())

@@ -2,9 +2,10 @@
 """Times heap scripts of 10,000 blocks under `dpv mem`, beside rte_malloc if DPDK is installed.
 
 Usage: bench/heap.py [PROGRAM]   (the program dpv; by default what ./dpv begins)
-Prints one table: per script its commands, the time of one command (the best of three runs, minus that of a script with no command), the
-machine instructions of one if perf or valgrind can count them, and the time of rte_malloc with the ratio. The figures of dpv include
-reading the script and printing its results.
+Prints two tables. The first has for each script its commands, the time of one command (the best of three runs, minus that of a script with no
+command), the machine instructions of one if perf or valgrind can count them, and the time of rte_malloc with the ratio. The second has the
+machine instructions of a block that is taken and freed, by the number of other blocks held. The figures of dpv include reading the script and
+printing its results.
 """
 import pathlib
 import random
@@ -12,10 +13,12 @@ import subprocess
 import sys
 import tempfile
 
+from tables import Table, number
 from timing import best, built, dpdk, instructions
 
 REGION = 1 << 27
 BLOCKS = 10_000
+HELD = [10, 100, 1_000, 10_000]
 
 # The same commands, read from the same script. It prints nanoseconds for the whole of them.
 RTE = r"""
@@ -87,30 +90,46 @@ def rte(folder: pathlib.Path) -> str | None:
     return str(folder / "rte")
 
 
-def main() -> None:
-    program = sys.argv[1] if len(sys.argv) > 1 else built()
+def of_rte(other: str, script: pathlib.Path) -> int:
+    """The nanoseconds of the commands of a script over rte_malloc."""
+    return min(int(subprocess.run([other, str(script)], check=True, capture_output=True, text=True).stdout) for _ in range(3))
+
+
+def by_script(program: str, folder: pathlib.Path, is_quick: bool) -> Table:
+    """The table of the scripts."""
+    table = Table(["script", "commands", "ns each", "machine instructions", "rte_malloc ns", "ratio"], [26])
+    script, other = folder / "script", rte(folder)
+    script.write_text(f"region {REGION}\n")
+    base, none = best([program, "mem", str(script)]), instructions([program, "mem", str(script)])
+    for title, commands in list(scripts().items())[: 1 if is_quick else None]:
+        script.write_text(f"region {REGION}\n" + "".join(line + "\n" for line in commands))
+        command = [program, "mem", str(script)]
+        each, counted = (best(command) - base) / len(commands) * 1e9, instructions(command)
+        count = None if counted is None or none is None else (counted - none) / len(commands)
+        theirs = of_rte(other, script) / len(commands) if other else None
+        table.row(title, number(len(commands)), number(each), number(count), number(theirs), number(each / theirs if theirs else None, 1))
+    return table
+
+
+def by_blocks(program: str, folder: pathlib.Path, is_quick: bool) -> Table:
+    """The cost of a block that is taken and freed, by the number of other blocks held."""
+    table = Table(["blocks held", "a block taken and freed"], [12])
+    script = folder / "script"
+    for held in HELD[: 1 if is_quick else None]:
+        costs = []
+        for pairs in (0, 1_000):
+            lines = [f"malloc {64 + k % 512} 0" for k in range(held)] + [line for k in range(pairs) for line in ("malloc 64 0", f"free {held + 1 + k}")]
+            script.write_text("\n".join([f"region {1 << 26}", *lines, ""]))
+            costs.append(instructions([program, "mem", str(script)]))
+        table.row(number(held), number(None if None in costs else (costs[1] - costs[0]) / 1_000))
+    return table
+
+
+def tables(program: str, is_quick: bool = False) -> list[Table]:
+    """Both tables."""
     with tempfile.TemporaryDirectory() as name:
-        folder = pathlib.Path(name)
-        empty = folder / "empty"
-        empty.write_text(f"region {REGION}\n")
-        other = rte(folder)
-        base, none = best([program, "mem", str(empty)]), instructions([program, "mem", str(empty)])
-        print(f"{'script':<26} {'commands':>9} {'ns each':>9} {'instructions':>13} {'rte_malloc ns':>14} {'ratio':>6}")
-        for title, commands in scripts().items():
-            script = folder / "script"
-            script.write_text(f"region {REGION}\n" + "".join(line + "\n" for line in commands))
-            command = [program, "mem", str(script)]
-            each = (best(command) - base) / len(commands) * 1e9
-            counted = instructions(command)
-            count = f"{(counted - none) / len(commands):.0f}" if counted is not None and none is not None else "-"
-            row = f"{title:<26} {len(commands):>9} {each:>9.0f} {count:>13}"
-            if other:
-                theirs = min(int(subprocess.run([other, str(script)], check=True, capture_output=True, text=True).stdout) for _ in range(3)) / len(commands)
-                row += f" {theirs:>14.0f} {each / theirs:>6.1f}"
-            else:
-                row += f" {'-':>14} {'-':>6}"
-            print(row, flush=True)
+        return [table(program, pathlib.Path(name), is_quick) for table in (by_script, by_blocks)]
 
 
 if __name__ == "__main__":
-    main()
+    tables(sys.argv[1] if len(sys.argv) > 1 else built())

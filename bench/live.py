@@ -1,7 +1,7 @@
 #!/usr/bin/env python3
 """Measures the hosts of examples/live: the engine alone, over DPDK's devices, and over Linux packet sockets, each beside no engine.
 
-Usage: bench/live.py [--library FOLDER] [--seconds N] [alone] [threads] [dpdk] [lcores] [sockets]   (all five, with windows of 2 seconds)
+Usage: bench/live.py [--library FOLDER] [--seconds N] [--rounds N] [alone] [threads] [dpdk] [lcores] [sockets]   (all five, with windows of 2 seconds)
 FOLDER has libdpv.a and dpv.h, as `./dpv library FOLDER` puts them there; by default that is done first.
   alone    dpv_pass with no device: nanoseconds of processor time and, by perf or valgrind, machine instructions for a frame
   threads  engines side by side, one for each of 1, 2 and 4 threads, with no device: nanoseconds of processor time for a frame, and frames a
@@ -13,11 +13,13 @@ FOLDER has libdpv.a and dpv.h, as `./dpv library FOLDER` puts them there; by def
   sockets  examples/live/af_packet.c between two network namespaces with a sender, beside the same host with no engine
 The same host with no engine is its source over bench/live/none/dpv.h, which hands each frame across. A host is asked for its numbers twice, and
 between them its processor time is taken from /proc, so opening and closing are not in it. Prints a table for each; each figure is the best of
-five windows, all hosts in turn in each round, so that a busy moment meets them alike. Frames a second are those of a second of processor time,
-which a machine that others use makes no less. What cannot be measured here is said.
+five windows, all hosts in turn in each round, so that a busy moment meets them alike. Of two numbers the first is the host's own and the second
+the kernel's. Frames a second of one processor are those of a second of its time, which a machine that others use makes no less. What cannot be
+measured here is said.
 """
 import argparse
 import contextlib
+import itertools
 import os
 import pathlib
 import re
@@ -31,15 +33,29 @@ import time
 from collections.abc import Iterator
 from typing import NamedTuple
 
+from tables import Table, number
 from timing import TOP, dpdk, instructions
+from wanted import has, reason
 
 HERE = TOP / "bench/live"
 LIVE = TOP / "examples/live"
-ROUNDS = 5
 SIZES = (60, 1500)
+LCORES = (1, 2, 4)
 NO_CARD = ["--no-huge", "--no-pci", "--no-shconf", "--no-telemetry", "-m", "256", "--log-level=1"]
 # A pipeline by its name: its folder, and its file there.
-PIPELINES = {"two ports that cross": (LIVE, "cross.toml"), "examples/ttl": (TOP / "examples/ttl", "ttl.toml"), "examples/router": (TOP / "examples/router", "router.toml")}
+PIPELINES = {
+    "two ports that cross": (LIVE, "cross.toml"),
+    "examples/ttl": (TOP / "examples/ttl", "ttl.toml"),
+    "examples/router": (TOP / "examples/router", "router.toml"),
+}
+
+
+class Windows(NamedTuple):
+    """The windows in which a host is measured, how many there are of each host, and whether the instructions of a frame are counted."""
+
+    seconds: float
+    rounds: int
+    is_counted: bool = True
 
 
 class Taken(NamedTuple):
@@ -49,9 +65,9 @@ class Taken(NamedTuple):
     kernel: float
 
     @property
-    def frames(self) -> float:
-        """Frames in a second of processor time."""
-        return 1e9 / (self.own + self.kernel)
+    def total(self) -> float:
+        """Both."""
+        return self.own + self.kernel
 
 
 def compiled(source: pathlib.Path, program: pathlib.Path, words: list[str]) -> pathlib.Path:
@@ -68,29 +84,35 @@ def over(library: pathlib.Path) -> list[str]:
 # ---- the engine alone
 
 
-def alone(library: pathlib.Path, folder: pathlib.Path) -> None:
+def least(words: list[str], home: pathlib.Path, rounds: int) -> list[float]:
+    """The least of each number that a program prints."""
+    runs = [subprocess.run(words, cwd=home, check=True, capture_output=True, text=True).stdout.split() for _ in range(rounds)]
+    return [min(map(float, column)) for column in zip(*runs)]
+
+
+def alone(library: pathlib.Path, folder: pathlib.Path, windows: Windows) -> Table:
     """The table of dpv_pass with no device."""
     program = str(compiled(HERE / "alone.c", folder / "alone", over(library)))
-    print(f"{'dpv_pass alone':<24} {'bytes':>6} {'ns':>8} {'instructions':>13} {'frames a second':>16}")
-    for title, (home, name) in PIPELINES.items():
-        for size in SIZES:
-            words = [program, name, str(size)]
-            runs = [subprocess.run([*words, "1000000"], cwd=home, check=True, capture_output=True, text=True).stdout.split() for _ in range(ROUNDS)]
-            nanos = min(float(run[0]) for run in runs)
-            counts = [instructions([*words, str(rounds)], str(home)) for rounds in (1_000, 11_000)]
-            each = "-" if None in counts else f"{(counts[1] - counts[0]) / 10_000:.0f}"
-            print(f"{title:<24} {size:>6} {nanos:>8.1f} {each:>13} {1e9 / nanos:>16,.0f}", flush=True)
+    table = Table(["pipeline", "bytes", "ns", "machine instructions", "frames a second of one processor"], [24])
+    for title, size in itertools.product(PIPELINES, SIZES):
+        home, name = PIPELINES[title]
+        words = [program, name, str(size)]
+        nanos = least([*words, "1000000"], home, windows.rounds)[0]
+        counts = [instructions([*words, str(rounds)], str(home)) for rounds in (1_000, 11_000)]
+        each = None if None in counts else (counts[1] - counts[0]) / 10_000
+        table.row(title, number(size), number(nanos), number(each), number(1e9 / nanos if nanos else None))
+    return table
 
 
-def threads(library: pathlib.Path, folder: pathlib.Path) -> None:
+def threads(library: pathlib.Path, folder: pathlib.Path, windows: Windows) -> Table:
     """The table of engines side by side."""
     program = str(compiled(HERE / "threads.c", folder / "threads", ["-pthread", *over(library)]))
-    print(f"\n{'engines side by side':<24} {'threads':>7} {'ns':>8} {'frames a second in all':>23}   ({os.cpu_count()} processors)")
-    for title, (home, name) in PIPELINES.items():
-        for count in (1, 2, 4):
-            words = [program, name, str(count), "1000000"]
-            runs = [subprocess.run(words, cwd=home, check=True, capture_output=True, text=True).stdout.split() for _ in range(ROUNDS)]
-            print(f"{title:<24} {count:>7} {min(float(run[0]) for run in runs):>8.1f} {1e9 / min(float(run[1]) for run in runs):>23,.0f}", flush=True)
+    table = Table(["pipeline", "threads", "ns", f"frames a second by the clock ({os.cpu_count()} processors)"], [24])
+    for title, count in itertools.product(PIPELINES, LCORES):
+        home, name = PIPELINES[title]
+        nanos, clocked = least([program, name, str(count), "1000000"], home, windows.rounds)
+        table.row(title, str(count), number(nanos), number(1e9 / clocked))
+    return table
 
 
 # ---- hosts that run
@@ -160,24 +182,18 @@ def measured(words: list[str], home: pathlib.Path, seconds: float) -> Taken:
         host.end()
 
 
-def best(ways: dict[str, list[str]], home: pathlib.Path, seconds: float) -> dict[str, Taken]:
+def best(ways: dict[str, list[str]], home: pathlib.Path, windows: Windows) -> dict[str, Taken]:
     """For each way the best of some windows, by processor time; each round has all of them."""
     found: dict[str, list[Taken]] = {way: [] for way in ways}
-    for _ in range(ROUNDS):
+    for _ in range(windows.rounds):
         for way, words in ways.items():
-            found[way].append(measured(words, home, seconds))
-    return {way: max(taken, key=lambda it: it.frames) for way, taken in found.items()}
+            found[way].append(measured(words, home, windows.seconds))
+    return {way: min(taken, key=lambda it: it.total) for way, taken in found.items()}
 
 
-def show(title: str, size: int, found: dict[str, Taken]) -> None:
-    """Prints a line for each way."""
-    for way, taken in found.items():
-        print(f"{title:<10} {size:>6}  {way:<26} {taken.frames:>14,.0f} {taken.own:>10.0f} {taken.kernel:>11.0f}", flush=True)
-
-
-def head(title: str) -> None:
-    """Prints the head of a table."""
-    print(f"\n{title:<10} {'bytes':>6}  {'host':<26} {'frames/second':>14} {'ns a frame':>10} {'+ in kernel':>11}", flush=True)
+def sizes() -> list[str]:
+    """The columns of sizes."""
+    return [f"{number(size)} bytes" for size in SIZES]
 
 
 # ---- over DPDK
@@ -191,28 +207,27 @@ def capture(path: pathlib.Path, size: int, records: int = 512) -> None:
         out.writelines(struct.pack("<IIII", k, 0, size, size) + frame for k in range(records))
 
 
-def over_dpdk(library: pathlib.Path, folder: pathlib.Path, seconds: float) -> None:
+def over_dpdk(library: pathlib.Path, folder: pathlib.Path, windows: Windows) -> Table | None:
     """The table of hosts over DPDK's devices."""
     flags = dpdk()
-    if flags is None:
-        print("\nover DPDK: not measured, since DPDK is not installed")
-        return
+    if flags is None or not has("net_pcap"):
+        print(f"\nover DPDK: not measured, since {reason('net_pcap' if flags else 'DPDK')}")
+        return None
     ours = compiled(LIVE / "dpdk.c", folder / "dpdk", [*flags, *over(library)])
     bare = compiled(LIVE / "dpdk.c", folder / "dpdk_none", [*flags, f"-I{HERE / 'none'}"])
     l2fwd = compiled(HERE / "l2fwd.c", folder / "l2fwd", flags)
-    head("DPDK")
-    for size in SIZES:
-        capture(folder / "in.pcap", size)
-        kinds = {"net_null": f"size={size}", "net_pcap": f"rx_pcap={folder / 'in.pcap'},infinite_rx=1"}
-        for kind, options in kinds.items():
+    hosts = {"a loop as l2fwd's": (l2fwd, []), "the host, no engine": (bare, ["--", "cross.toml", "32"]), "the host": (ours, ["--", "cross.toml", "32"])}
+    table = Table(["device", "host", *sizes()], [10, 22])
+    for kind in ("net_null", "net_pcap"):
+        found = []
+        for size in SIZES:
+            capture(folder / "in.pcap", size)
+            options = f"size={size}" if kind == "net_null" else f"rx_pcap={folder / 'in.pcap'},infinite_rx=1"
             devices = [f"--vdev={kind}{k},{options}" for k in range(2)]
-            rest = [*NO_CARD, *devices]
-            ways = {
-                "a loop as l2fwd's": [str(l2fwd), *rest],
-                "the host, no engine": [str(bare), *rest, "--", "cross.toml", "32"],
-                "the host": [str(ours), *rest, "--", "cross.toml", "32"],
-            }
-            show(kind, size, best(ways, LIVE, seconds))
+            found.append(best({title: [str(host), *NO_CARD, "-l", "0", *devices, *rest] for title, (host, rest) in hosts.items()}, LIVE, windows))
+        for title in hosts:
+            table.row(kind, title, *(number(taken[title].total) for taken in found))
+    return table
 
 
 # ---- on several lcores
@@ -252,34 +267,40 @@ def each_frame(words: list[str], home: pathlib.Path) -> str:
     """The machine instructions of a frame: those of a long run, without those of a short one."""
     runs = [counted(words, home, seconds) for seconds in (15, 25)] if shutil.which("valgrind") else [None]
     if None in runs or runs[1][1] <= runs[0][1]:
-        return "-"
+        return ""
     return f"{(runs[1][0] - runs[0][0]) / (runs[1][1] - runs[0][1]):.0f}"
 
 
-def on_lcores(library: pathlib.Path, folder: pathlib.Path, seconds: float) -> None:
+def of_ring(library: pathlib.Path, folder: pathlib.Path, flags: list[str], kind: str) -> dict[str, tuple[pathlib.Path, list[str]]]:
+    """The hosts over devices of a kind, each with its words; those over rings put the frames into them."""
+    seed = ["-DSIZE=60", "-include", str(HERE / "seed.h")] if kind == "net_ring" else []
+    cross = ["--", "cross.toml", "32"]
+    return {
+        "a loop as l2fwd's": (compiled(HERE / "l2fwd.c", folder / f"l2fwd_{kind}", [*seed, *flags]), []),
+        "the host, no engine": (compiled(LIVE / "dpdk.c", folder / f"bare_{kind}", [*seed, *flags, f"-I{HERE / 'none'}"]), cross),
+        "the host": (compiled(LIVE / "dpdk.c", folder / f"dpdk_{kind}", [*seed, *flags, *over(library)]), cross),
+    }
+
+
+def on_lcores(library: pathlib.Path, folder: pathlib.Path, windows: Windows) -> Table | None:
     """The table of hosts on several lcores."""
     flags = dpdk()
     if flags is None:
-        print("\non several lcores: not measured, since DPDK is not installed")
-        return
-    print(f"\n{'on several lcores':<18} {'host':<22} {'lcores':>6} {'frames/second':>14} {'ns':>6} {'instructions':>13}   ({os.cpu_count()} processors)")
-    for kind, options, seed in (("net_null", ",size=60", []), ("net_ring", "", ["-DSIZE=60", "-include", str(HERE / "seed.h")])):
-        hosts = {
-            "a loop as l2fwd's": (compiled(HERE / "l2fwd.c", folder / f"l2fwd_{kind}", [*seed, *flags]), []),
-            "the host, no engine": (compiled(LIVE / "dpdk.c", folder / f"bare_{kind}", [*seed, *flags, f"-I{HERE / 'none'}"]), ["--", "cross.toml", "32"]),
-            "the host": (compiled(LIVE / "dpdk.c", folder / f"dpdk_{kind}", [*seed, *flags, *over(library)]), ["--", "cross.toml", "32"]),
-        }
-        for lcores in (1, 2, 4):
-            devices = [f"--vdev={kind}{k}{options}" for k in range(2)]
-            ways = {title: [str(host), *NO_CARD, "-l", f"0-{lcores - 1}", *devices, *rest] for title, (host, rest) in hosts.items()}
-            found: dict[str, list[tuple[float, float]]] = {way: [] for way in ways}
-            for _ in range(ROUNDS):
-                for way, words in ways.items():
-                    found[way].append(clocked(words, LIVE, lcores, seconds))
-            for way, taken in found.items():
-                most, least = max(it[0] for it in taken), min(it[1] for it in taken)
-                count = each_frame(ways[way], LIVE) if lcores == 1 else ""
-                print(f"{kind:<18} {way:<22} {lcores:>6} {most:>14,.0f} {least:>6.0f} {count:>13}".rstrip(), flush=True)
+        print(f"\non several lcores: not measured, since {reason('DPDK')}")
+        return None
+    columns = [f"{count} lcore{'s' if count > 1 else ''}" for count in LCORES]
+    table = Table(["device", "host", *columns, "ns a frame", "machine instructions"], [10, 22])
+    for kind in ("net_null", "net_ring"):
+        hosts = of_ring(library, folder, flags, kind)
+        devices = [f"--vdev={kind}{k}{',size=60' if kind == 'net_null' else ''}" for k in range(2)]
+        begun = {(way, count): [str(host), *NO_CARD, "-l", f"0-{count - 1}", *devices, *rest] for count in LCORES for way, (host, rest) in hosts.items()}
+        runs = [{it: clocked(words, LIVE, it[1], windows.seconds) for it, words in begun.items()} for _ in range(windows.rounds)]
+        for way in hosts:
+            most = [max(run[way, count][0] for run in runs) for count in LCORES]
+            nanos = [min(run[way, count][1] for run in runs) for count in LCORES]
+            count = each_frame(begun[way, 1], LIVE) if windows.is_counted else ""
+            table.row(kind, way, *map(number, most), f"{min(nanos):.0f} to {max(nanos):.0f}", count)
+    return table
 
 
 # ---- over packet sockets
@@ -307,51 +328,55 @@ def namespaces() -> Iterator[bool]:
             ip("netns", "del", name)
 
 
-def over_sockets(library: pathlib.Path, folder: pathlib.Path, seconds: float) -> None:
+def over_sockets(library: pathlib.Path, folder: pathlib.Path, windows: Windows) -> Table | None:
     """The table of hosts over Linux packet sockets."""
-    ours = compiled(LIVE / "af_packet.c", folder / "af_packet", over(library))
-    bare = compiled(LIVE / "af_packet.c", folder / "af_packet_none", [f"-I{HERE / 'none'}"])
-    blast = compiled(HERE / "blast.c", folder / "blast", [])
+    hosts = {
+        "`af_packet.c` without an engine": compiled(LIVE / "af_packet.c", folder / "af_packet_none", [f"-I{HERE / 'none'}"]),
+        "`af_packet.c`": compiled(LIVE / "af_packet.c", folder / "af_packet", over(library)),
+    }
+    blast, box, found = compiled(HERE / "blast.c", folder / "blast", []), ["ip", "netns", "exec", "dpvb_box"], []
     with namespaces() as made:
         if not made:
             print("\nover packet sockets: not measured, since this user may not make network namespaces")
-            return
-        head("sockets")
+            return None
         for size in SIZES:
             sender = subprocess.Popen(["ip", "netns", "exec", "dpvb_a", str(blast), "va", str(size)])
             try:
-                box = ["ip", "netns", "exec", "dpvb_box"]
-                ways = {name: [*box, str(host), "cross.toml", "0=boxa", "1=boxb"] for name, host in (("the host, no engine", bare), ("the host", ours))}
-                show("veth", size, best(ways, LIVE, seconds))
+                ways = {title: [*box, str(host), "cross.toml", "0=boxa", "1=boxb"] for title, host in hosts.items()}
+                found.append(best(ways, LIVE, windows))
             finally:
                 sender.kill()
                 sender.wait()
+    table = Table(["host", *sizes()], [32])
+    for title in hosts:
+        table.row(title, *(f"{number(taken[title].own)} + {number(taken[title].kernel)}" for taken in found))
+    return table
+
+
+PARTS = {"alone": alone, "threads": threads, "dpdk": over_dpdk, "lcores": on_lcores, "sockets": over_sockets}
+
+
+def library_in(folder: pathlib.Path) -> pathlib.Path:
+    """The library, proved and built."""
+    subprocess.run([str(TOP / "dpv"), "library", str(folder)], check=True)
+    return folder
+
+
+def tables(library: pathlib.Path, parts: list[str], windows: Windows) -> list[Table | None]:
+    """A table of each part, or nothing where it cannot be measured."""
+    with tempfile.TemporaryDirectory() as name:
+        return [PARTS[part](library.resolve(), pathlib.Path(name), windows) for part in parts]
 
 
 def main() -> None:
     parser = argparse.ArgumentParser(description="Measures the hosts of examples/live.")
     parser.add_argument("--library", type=pathlib.Path)
     parser.add_argument("--seconds", type=float, default=2)
+    parser.add_argument("--rounds", type=int, default=5)
     parser.add_argument("parts", nargs="*", metavar="PART")
     asked = parser.parse_args()
-    parts = asked.parts or ["alone", "threads", "dpdk", "lcores", "sockets"]
     with tempfile.TemporaryDirectory() as name:
-        folder = pathlib.Path(name)
-        library = asked.library
-        if library is None:
-            library = folder / "library"
-            subprocess.run([str(TOP / "dpv"), "library", str(library)], check=True)
-        library = library.resolve()
-        if "alone" in parts:
-            alone(library, folder)
-        if "threads" in parts:
-            threads(library, folder)
-        if "dpdk" in parts:
-            over_dpdk(library, folder, asked.seconds)
-        if "lcores" in parts:
-            on_lcores(library, folder, asked.seconds)
-        if "sockets" in parts:
-            over_sockets(library, folder, asked.seconds)
+        tables(asked.library or library_in(pathlib.Path(name)), asked.parts or list(PARTS), Windows(asked.seconds, asked.rounds))
 
 
 if __name__ == "__main__":

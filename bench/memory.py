@@ -13,9 +13,11 @@ import tempfile
 import time
 
 from engine import CROSS, TOP, capture, pipeline
+from tables import Table, number
 
 # How many records are made at once.
 CHUNK = 10_000
+COUNTS = [100_000, 10_000_000]
 
 
 def repeated(path: pathlib.Path, records: int) -> None:
@@ -47,10 +49,9 @@ def peak(command: list[str]) -> tuple[float, int]:
     return time.perf_counter() - start, kilobytes
 
 
-def main() -> None:
-    counts = [int(word) for word in sys.argv[1:] if word.isdigit()] or [100_000, 10_000_000]
-    program = [word for word in sys.argv[1:] if not word.isdigit()] or [str(TOP / "dpv"), "run"]
-    print(f"{'records':>9} {'seconds':>8} {'kilobytes':>10}")
+def tables(program: list[str], counts: list[int] = COUNTS) -> list[Table]:
+    """The table."""
+    table = Table(["records", "seconds", "most memory, kB"], [12])
     with tempfile.TemporaryDirectory() as name:
         folder = pathlib.Path(name)
         command = [*program, str(pipeline(folder, [CROSS, CROSS], None, 0))]
@@ -58,7 +59,13 @@ def main() -> None:
             for port in range(2):
                 repeated(folder / f"port{port}.pcap", count // 2)
             seconds, kilobytes = peak(command)
-            print(f"{count:>9} {seconds:>8.2f} {kilobytes:>10}", flush=True)
+            table.row(number(count), number(seconds, 2), number(kilobytes))
+    return [table]
+
+
+def main() -> None:
+    counts = [int(word) for word in sys.argv[1:] if word.isdigit()] or COUNTS
+    tables([word for word in sys.argv[1:] if not word.isdigit()] or [str(TOP / "dpv"), "run"], counts)
 
 
 if __name__ == "__main__":

@@ -7,8 +7,8 @@ libraries). With --compiled each example runs once more, in a program that has t
 Each example's captures are written over and over until there are some thousand records, and run through `dpv run` and through
 bench/nodes/nodes.c, compiled by cc -O3 over DPDK's mbufs, with the same number of buffers and no cache; where clang can make eBPF, three nodes
 run in librte_bpf too, interpreted and compiled by it (bench/nodes/programs.c). A count is the difference of two runs, of which one has twice
-as many records, as perf or valgrind count them. Prints one table: a record from capture to capture, and below what the node
-itself adds to a record that is only sent. Exits with 1 where two of them write different captures.
+as many records, as perf or valgrind count them. Prints two tables: a record from capture to capture, and what the node itself adds to a
+record that is only sent. Exits with 1 where two of them write different captures.
 """
 import pathlib
 import shutil
@@ -19,7 +19,9 @@ import tempfile
 import tomllib
 from typing import NamedTuple
 
+from tables import Table, number
 from timing import dpdk, instructions
+from wanted import has
 
 TOP = pathlib.Path(__file__).resolve().parent.parent
 sys.path.insert(0, str(TOP / "tests/shared"))
@@ -31,6 +33,9 @@ HERE = TOP / "bench" / "nodes"
 RECORDS = 2_000
 NODES = ["strip", "vlan_pop", "vlan_push", "ttl", "router", "acl", "mirror", "splitter", "gre", "stages"]
 IN_EBPF = ["ttl", "acl", "splitter"]
+# The columns: the ways of running a node, and two of them in times of a third.
+WAYS = ["dpv", "dpv compiled", "C", "eBPF", "eBPF compiled"]
+RATIOS = [("dpv", "C"), ("dpv compiled", "C")]
 SENT = "tx p0,r0,drop\nexit\ndrop: free p0\nexit\n"
 HEAD = 24
 
@@ -85,13 +90,12 @@ def compiled(folder: pathlib.Path) -> str:
 
 def in_ebpf(name: str, folder: pathlib.Path) -> pathlib.Path | None:
     """A node's eBPF instructions, where they can be made."""
-    copier = shutil.which("llvm-objcopy")
-    if name not in IN_EBPF or not shutil.which("clang") or copier is None:
+    if name not in IN_EBPF or not has("clang for eBPF"):
         return None
     made, plain = folder / f"{name}.o", folder / f"{name}.bpf"
     words = ["clang", "-target", "bpf", "-ffreestanding", "-mcpu=v2", "-O2", f"-D{name.upper()}", "-c", str(HERE / "programs.c"), "-o", str(made)]
     subprocess.run(words, check=True)
-    subprocess.run([copier, "-O", "binary", "--only-section=.text", str(made), str(plain)], check=True)
+    subprocess.run(["llvm-objcopy", "-O", "binary", "--only-section=.text", str(made), str(plain)], check=True)
     return plain
 
 
@@ -135,34 +139,45 @@ def row(name: str, program: str, nodes: str, folder: pathlib.Path, made: str | N
     files = [*(str(home / it) for it in sources), "--", *(str(home / it) for it in outs)]
     ways = {"dpv": [program, "run", pipeline.name], "C": [nodes, name, "-", *files]}
     if made is not None:
-        ways["compiled"] = [made, "run", pipeline.name]
+        ways["dpv compiled"] = [made, "run", pipeline.name]
     plain = in_ebpf(name, folder)
     if plain is not None:
-        ways |= {"eBPF": [nodes, name, str(plain), *files], "its JIT": [nodes, name, f"jit:{plain}", *files]}
+        ways |= {"eBPF": [nodes, name, str(plain), *files], "eBPF compiled": [nodes, name, f"jit:{plain}", *files]}
     return {way: counted(command, home, sources, outs) for way, command in ways.items()}
+
+
+def shown(costs: dict[str, float], ways: list[str], ratios: list[tuple[str, str]]) -> list[str]:
+    """The cells of a node."""
+    times = [number(costs[one] / costs[other] if one in costs else None, 2) for one, other in ratios]
+    return [*(number(costs.get(way)) for way in ways), *times]
+
+
+def tables(program: str, is_compiled: bool, names: list[str] = NODES) -> list[Table]:
+    """Both tables."""
+    ways = [it for it in WAYS if is_compiled or it != "dpv compiled"]
+    ratios = [it for it in RATIOS if it[0] in ways]
+    columns, costs = ["node", *ways, *(f"{one} / {other}" for one, other in ratios)], {}
+    with tempfile.TemporaryDirectory() as name:
+        folder = pathlib.Path(name)
+        nodes, made = compiled(folder), with_all_machine_code(program, folder) if is_compiled else None
+        first = Table(columns, [12])
+        for node in ["sent", *names]:
+            found = row(node, program, nodes, folder, made)
+            costs[node] = {way: it.each for way, it in found.items()}
+            first.row(node, *shown(costs[node], ways, ratios))
+            for way in (it for it in found if found[it].written != found["dpv"].written):
+                first.fault(f"{node}: {way} writes other captures than dpv")
+    second = Table(["the node alone", *ways], [14])
+    base = costs["sent"] | {way: costs["sent"]["C"] for way in WAYS[3:]}
+    for node in names:
+        second.row(node, *shown({way: cost - base[way] for way, cost in costs[node].items()}, ways, []))
+    return [first, second]
 
 
 def main() -> int:
     words = [it for it in sys.argv[1:] if it != "--compiled"]
-    is_compiled = len(words) < len(sys.argv) - 1
-    program = program_of(words[0] if words else None)
-    ways, same, rows = ["dpv", *(["compiled"] if is_compiled else []), "C", "eBPF", "its JIT"], True, {}
-    with tempfile.TemporaryDirectory() as name:
-        folder = pathlib.Path(name)
-        nodes, made = compiled(folder), with_all_machine_code(program, folder) if is_compiled else None
-        print(f"{'a record':<12}" + "".join(f"{way:>10}" for way in ways) + f"{ways[-4] + '/C' if made else 'dpv/C':>14}  same captures")
-        for node in ["sent", *NODES]:
-            rows[node] = row(node, program, nodes, folder, made)
-            agree = all(it.written == rows[node]["dpv"].written for it in rows[node].values())
-            same = same and agree
-            shown = "".join(f"{rows[node][way].each:>10.0f}" if way in rows[node] else f"{'-':>10}" for way in ways)
-            print(f"{node:<12}{shown}{rows[node][ways[-4]].each / rows[node]['C'].each:>14.2f}  {'yes' if agree else 'NO'}", flush=True)
-    print(f"\n{'the node':<12}" + "".join(f"{way:>10}" for way in ways))
-    for node in NODES:
-        base = {way: rows["sent"][way if way in ("dpv", "compiled") else "C"].each for way in ways}
-        shown = "".join(f"{rows[node][way].each - base[way]:>10.0f}" if way in rows[node] else f"{'-':>10}" for way in ways)
-        print(f"{node:<12}{shown}")
-    return 0 if same else 1
+    found = tables(program_of(words[0] if words else None), len(words) < len(sys.argv) - 1)
+    return 1 if any(it.faults for it in found) else 0
 
 
 if __name__ == "__main__":

@@ -6,6 +6,7 @@ import shutil
 import subprocess
 import time
 
+from wanted import of_dpdk
 
 TOP = pathlib.Path(__file__).resolve().parent.parent
 
@@ -65,7 +66,4 @@ def instructions(command: list[str], folder: str | None = None) -> int | None:
 
 def dpdk() -> list[str] | None:
     """The words with which a C program is compiled over DPDK, if that is installed."""
-    if not shutil.which("pkg-config"):
-        return None
-    flags = subprocess.run(["pkg-config", "--cflags", "--libs", "libdpdk"], capture_output=True, text=True)
-    return flags.stdout.split() if flags.returncode == 0 else None
+    return of_dpdk("--cflags", "--libs").split() or None

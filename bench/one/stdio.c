@@ -1,4 +1,4 @@
-/* strip IN OUT: takes 14 bytes off each record of a classic capture, as examples/strip does, with the C library alone; for bench/one.py. */
+/* stdio IN OUT: takes 14 bytes off each record of a classic capture, as examples/strip does, with the C library alone; for bench/one.py. */
 #include <stdint.h>
 #include <stdio.h>
 #include <string.h>
