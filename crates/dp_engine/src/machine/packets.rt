@@ -117,7 +117,6 @@ impl Machine {
     }
 
     // Loads the big-endian number at an offset of the first segment.
-    #[inline(always)]
     pub(crate) fn load(&self, p: PacketRegister, offset: u64, width: Width) -> u64
         requires { (packet : Packet) × Holds self.now.state p packet × (offset + bytes_in width ≤ first_len packet) }
         ensures { (packet : Packet) → Holds self.now.state p packet → result ≡ loaded offset (bytes_in width) packet self.now.state.world.buffers }
@@ -127,7 +126,6 @@ impl Machine {
     }
 
     // Stores the low bytes of a number, big-endian, at an offset of the first segment.
-    #[inline(always)]
     pub(crate) fn store(&mut self, p: PacketRegister, offset: u64, width: Width, n: u64)
         requires { (packet : Packet) × Holds self.old.state p packet × (offset + bytes_in width ≤ first_len packet) × IsHeadSole (live self.old.state) packet }
         ensures { (packet : Packet) → Holds self.old.state p packet → self.new ≡ moved
@@ -151,7 +149,6 @@ impl Machine {
     }
 
     // Allocates a packet of one empty segment into an empty register. Returns false if the call is refused.
-    #[inline(always)]
     pub(crate) fn alloc(
         &mut self,
         env: &Env,
