@@ -49,7 +49,6 @@ fn ring_in(rings: &[Option<Ring>; 8], k: u8) -> &Ring
 }
 
 // Appends an entry to a slot's ring, unless that is full. Returns whether it did, and how many entries the ring has afterwards.
-#[inline(always)]
 fn push_in(slot: &mut Option<Ring>, entry: u32) -> (bool, u32)
     requires { IsSome slot.old }
     ensures taken { result.0 ≡ nat_lt 0 (room_in (ring_of slot.old)) }
