@@ -1,8 +1,6 @@
 //! Counts what was refused: packets by full transmit lists and full rings, and buffers by pools.
 
-ghost use Rattle.dp_engine.specs.Watching.{IsOneOfEight};
-
-use crate::counts::{is_one_of_eight, number_of, place_of};
+use crate::counts::{is_one_of_eight, place_of};
 use dp_engine::{View, Watch, Way};
 use dp_lang::{MAX_INSTRS, Program};
 use dp_model::{Entry, Instr, NumberRegister};
@@ -64,8 +62,8 @@ fn count(numbers: &mut [u64; 8], index: usize) {
 pub struct Losses {
     /// What the instruction at each label of each node asks for.
     requests: Vec<Request>,
-    /// The number of the running node.
-    running: u8,
+    /// Where those of the running node begin.
+    place: usize,
     refusals: Refusals,
 }
 
@@ -78,7 +76,7 @@ impl Losses {
     pub fn new(alloc: Global) -> Result<Losses, AllocError> {
         Ok(Losses {
             requests: Vec::from_elem(alloc, Request::None, 16 * MAX_INSTRS)?,
-            running: 0,
+            place: 0,
             refusals: Refusals::NONE,
         })
     }
@@ -98,18 +96,16 @@ impl Losses {
         self.refusals
     }
 
-    /// A run of this node begins.
+    /// A node run begins, of the node whose instructions begin at this place.
     #[inline(always)]
-    pub(crate) fn note_begin(&mut self, node: Entry)
-        requires { IsOneOfEight node }
-    {
-        self.running = number_of(node);
+    pub(crate) fn note_begin(&mut self, place: usize) {
+        self.place = place;
     }
 
     /// The jump of the instruction at this label was taken, or cut.
     #[inline(always)]
     pub(crate) fn note_jump(&mut self, label: u16, view: &View<'_>) {
-        let index = MAX_INSTRS * usize::from(self.running) + usize::from(label);
+        let index = self.place.saturating_add(usize::from(label));
         match self.requests.get(index) {
             Some(Request::Send(port)) => {
                 let port = view.number(*port);
@@ -129,7 +125,7 @@ impl Watch for Losses {
 
     #[inline(always)]
     fn begin(&mut self, node: Entry, _view: View<'_>) {
-        self.note_begin(node);
+        self.note_begin(place_of(node));
     }
 
     #[inline(always)]

@@ -1,16 +1,14 @@
 //! Bytes that are still to be written.
 ghost use Rattle.std.specs.Prelude.{◌≡◌, ◌+◌, ◌≤◌, [], ◌++◌, length, take, IfOk};
 
-use crate::format::HEAD_SIZE;
 use std::alloc::{AllocError, Global};
 
-/// A buffer of bytes that are still to be written: a fixed number of places, of which the first `len` hold them, and `room` are left.
+/// A buffer of bytes that are still to be written: a fixed number of places, of which the first `len` hold them.
 #[derive(Drop)]
 pub(crate) struct Pending {
     bytes: Vec<u8>,
     len: usize,
-    room: usize,
-    ghost fits: { len + room ≡ length bytes.items },
+    ghost fits: { len ≤ length bytes.items },
 }
 
 impl Pending {
@@ -23,11 +21,7 @@ impl Pending {
     {
         let mut bytes = Vec::new(alloc);
         bytes.resize(capacity, 0u8)?;
-        Ok(Pending {
-            bytes,
-            len: 0,
-            room: capacity,
-        })
+        Ok(Pending { bytes, len: 0 })
     }
 
     // How many places it has.
@@ -38,12 +32,13 @@ impl Pending {
         self.bytes.len()
     }
 
-    // How many bytes it has room for.
+    // How many bytes it holds.
     #[inline(always)]
-    pub(crate) fn room(&self) -> usize
-        ensures value { result + length (pending self.now) ≡ places self.now }
+    pub(crate) fn len(&self) -> usize
+        ensures value { result ≡ length (pending self.now) }
+        ensures fits { result ≤ places self.now }
     {
-        self.room
+        self.len
     }
 
     // The bytes that it holds.
@@ -61,9 +56,9 @@ impl Pending {
         ensures bytes { pending self.new ≡ pending self.old ++ bytes.now }
         ensures places { places self.new ≡ places self.old }
     {
-        self.bytes[self.len..self.len + bytes.len()].copy_from_slice(bytes);
-        self.len += bytes.len();
-        self.room -= bytes.len();
+        let end = self.len + bytes.len();
+        self.bytes[self.len..end].copy_from_slice(bytes);
+        self.len = end;
     }
 
     // Appends two pieces for which it has room. Their places are one slice, so that the buffer is looked up once.
@@ -73,11 +68,9 @@ impl Pending {
         ensures bytes { pending self.new ≡ pending self.old ++ (first.now ++ second.now) }
         ensures places { places self.new ≡ places self.old }
     {
-        let size = first.len() + second.len();
-        let at = self.len;
-        self.len += size;
-        self.room -= size;
-        write_both(&mut self.bytes[at..at + size], first, second);
+        let end = self.len + (first.len() + second.len());
+        write_both(&mut self.bytes[self.len..end], first, second);
+        self.len = end;
     }
 
     // Removes bytes from its front.
@@ -88,7 +81,6 @@ impl Pending {
     {
         self.bytes.as_mut_slice().copy_within(count..self.len, 0);
         self.len -= count;
-        self.room += count;
     }
 }
 
@@ -98,21 +90,6 @@ fn write_both(to: &mut [u8], first: &[u8], second: &[u8])
     requires { length to.old ≡ length first.now + length second.now }
     ensures { to.new ≡ first.now ++ second.now }
 {
-    copy_piece(&mut to[..first.len()], first);
+    to[..first.len()].copy_from_slice(first);
     to[first.len()..].copy_from_slice(second);
-}
-
-// Copies a piece. A record's head is copied as an array, so that the compiler makes no test whether it overlaps its place.
-#[inline(always)]
-fn copy_piece(to: &mut [u8], piece: &[u8])
-    requires { length to.old ≡ length piece.now }
-    ensures { to.new ≡ piece.now }
-{
-    if let Ok(head) = <&[u8; HEAD_SIZE]>::try_from(piece) {
-        if let Some(place) = to.as_mut_array::<HEAD_SIZE>() {
-            *place = *head;
-            return;
-        }
-    }
-    to.copy_from_slice(piece);
 }
