@@ -43,6 +43,17 @@ impl Model for Counts {
     ghost invariant = { λ c. HasRoom c.came.items c.taken.items c.ended.items c.cut.items c.place };
 }
 
+// The number of a node: the ports come first, then the rings.
+#[inline(always)]
+pub(crate) fn number_of(node: Entry) -> u8
+    requires { IsOneOfEight node }
+{
+    match node {
+        Entry::Port(port) => port,
+        Entry::Ring(ring) => MAX_OF_A_KIND as u8 + ring,
+    }
+}
+
 // Where the counts of a node begin: those of the ports come first, then those of the rings.
 #[inline(always)]
 pub(crate) fn place_of(node: Entry) -> usize
@@ -170,7 +181,7 @@ impl Watch for Counts {
         let place = place_of(node);
         self.place = place;
         count(&mut self.came, place);
-        self.losses.note_begin(place);
+        self.losses.note_begin(node);
         self.gauge.note_begin(node, &view);
     }
 

@@ -1,6 +1,8 @@
 //! Counts what was refused: packets by full transmit lists and full rings, and buffers by pools.
 
-use crate::counts::{is_one_of_eight, place_of};
+ghost use Rattle.dp_engine.specs.Watching.{IsOneOfEight};
+
+use crate::counts::{is_one_of_eight, number_of, place_of};
 use dp_engine::{View, Watch, Way};
 use dp_lang::{MAX_INSTRS, Program};
 use dp_model::{Entry, Instr, NumberRegister};
@@ -62,8 +64,8 @@ fn count(numbers: &mut [u64; 8], index: usize) {
 pub struct Losses {
     /// What the instruction at each label of each node asks for.
     requests: Vec<Request>,
-    /// Where those of the running node begin.
-    place: usize,
+    /// The number of the running node.
+    running: u8,
     refusals: Refusals,
 }
 
@@ -76,7 +78,7 @@ impl Losses {
     pub fn new(alloc: Global) -> Result<Losses, AllocError> {
         Ok(Losses {
             requests: Vec::from_elem(alloc, Request::None, 16 * MAX_INSTRS)?,
-            place: 0,
+            running: 0,
             refusals: Refusals::NONE,
         })
     }
@@ -96,16 +98,18 @@ impl Losses {
         self.refusals
     }
 
-    /// A node run begins, of the node whose instructions begin at this place.
+    /// A run of this node begins.
     #[inline(always)]
-    pub(crate) fn note_begin(&mut self, place: usize) {
-        self.place = place;
+    pub(crate) fn note_begin(&mut self, node: Entry)
+        requires { IsOneOfEight node }
+    {
+        self.running = number_of(node);
     }
 
     /// The jump of the instruction at this label was taken, or cut.
     #[inline(always)]
     pub(crate) fn note_jump(&mut self, label: u16, view: &View<'_>) {
-        let index = self.place.saturating_add(usize::from(label));
+        let index = MAX_INSTRS * usize::from(self.running) + usize::from(label);
         match self.requests.get(index) {
             Some(Request::Send(port)) => {
                 let port = view.number(*port);
@@ -125,7 +129,7 @@ impl Watch for Losses {
 
     #[inline(always)]
     fn begin(&mut self, node: Entry, _view: View<'_>) {
-        self.note_begin(place_of(node));
+        self.note_begin(node);
     }
 
     #[inline(always)]

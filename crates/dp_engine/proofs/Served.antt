@@ -1,21 +1,23 @@
 -- Node runs of a context, on a record and on packets in rings.
 use Rattle.std.proofs.Common.{◌≡◌, ℕ, zero, suc, ◌+◌, ◌-◌, ◌*◌, ◌<◌, ◌≤◌, Bool, true, false, List, [], ◌∷◌, ◌++◌, length, Option, Some, None, inl}
-use Rattle.std.proofs.Common.{refl, sym, ◌∙◌, ap, subst, arith, append_assoc}
-use Rattle.std.specs.Prelude.{slice_get, slice_index_or, option_map, MatchOption}
+use Rattle.std.proofs.Common.{not, ◌&&◌, refl, sym, ◌∙◌, ap, subst, arith, append_assoc}
+use Rattle.std.specs.Prelude.{slice_get, slice_index_or, option_map, position, nat_le, MatchOption}
 use Rattle.std.specs.List.{AllByRecursion}
+use Rattle.std.proofs.lemmas.Bool.{leb-true, and_parts}
 use Rattle.std.proofs.lemmas.Option.{same_Some, slice_get_within, slice_get-get_or}
 use Rattle.dp_model.specs.declared.env.Entry.TheVariants.{Port, Ring}
+use Rattle.dp_model.specs.declared.env.EnvError.TheVariants.{BadNumber, BadPort}
 use Rattle.dp_model.specs.declared.env.PoolSpec.{PoolSpec}
 use Rattle.dp_model.specs.declared.env.PortSpec.{PortSpec}
 use Rattle.dp_model.specs.declared.instr.Instr.{Instr}
-use Rattle.dp_model.specs.Environments.{Environment, room_at, pool_fits, fault_of}
+use Rattle.dp_model.specs.Environments.{Environment, room_at, is_ring_count, pool_fits, port_fits, numbers_fit, fault_of}
 use Rattle.dp_model.specs.Packets.{Packet, first_len, needed, received, Filled, AreFresh}
 use Rattle.dp_model.specs.Machine.{Setting, World, State, Holds, live, is_denied}
 use Rattle.dp_model.specs.Meaning.{RingHolds}
 use Rattle.dp_model.specs.Runs.{first_state, between, Consumed, Receives, Waiting, beyond, first_waiting, Serves, Nodes, packet_received, Reception}
 use Rattle.dp_model.specs.Safety.{IsAtRest, Beginning, IsOfRecord, IsSafeBeginning, IsPipeline, KeepsSafe}
 use Rattle.dp_model.specs.Laws.Lists.{get_within, zip_back}
-use Rattle.dp_model.specs.Laws.Limits.{segs_small}
+use Rattle.dp_model.specs.Laws.Limits.{segs_small, if_none, or_none, map_none, not_false, none_at}
 use Rattle.dp_model.specs.Laws.Within.{IsInside, inside_held}
 use Rattle.dp_model.specs.Laws.Waiting.{waits}
 use Rattle.dp_model.specs.Laws.Runs.{safe_never_stuck, safe_rests}
@@ -70,6 +72,16 @@ can_run c nodes b keeps limits safe = record {
 
 -- ---- a record
 
+-- a port takes packets of at least one segment
+segs_some : (e : Environment) (k : ℕ) (p : PortSpec) → fault_of e ≡ None → slice_get e.ports k ≡ Some p → 1 ≤ p.segs
+segs_some e k p h is =
+    let room = nat_le 129 (room_at e.pools p.pool) in
+    let pass : position (λ p. not (port_fits e.pools p)) e.ports ≡ None =
+    map_none BadPort _ (or_none _ _ (or_none _ _ (or_none _ _ (if_none (numbers_fit e) _ BadNumber h).1).1).1).0 in
+    let fits = not_false (port_fits e.pools p) (none_at (λ p. not (port_fits e.pools p)) e.ports k p pass is) in
+    let upper = (and_parts (room && nat_le 1 p.segs && nat_le p.segs 64) (is_ring_count p.queue) fits).0 in
+    leb-true 1 p.segs (and_parts room (nat_le 1 p.segs) (and_parts (room && nat_le 1 p.segs) (nat_le p.segs 64) upper).0).1
+
 -- what is known about a port
 pub record AtPort (c : Setting) (nodes : Nodes) (port : ℕ) (spec : PortSpec) : Type 0 where
   pub spec_is : slice_get c.env.ports port ≡ Some spec
@@ -77,6 +89,7 @@ pub record AtPort (c : Setting) (nodes : Nodes) (port : ℕ) (spec : PortSpec) :
   pub program_is : slice_get nodes.ports port ≡ Some program
   pub room : 129 ≤ room_at c.env.pools spec.pool
   pub segs : spec.segs ≤ 64
+  pub some_segs : 1 ≤ spec.segs
 
 pub at_port : (c : Setting) (nodes : Nodes) (ports : List PortSpec) (port : ℕ) (d : PortSpec) → IsPipeline c nodes → ports ≡ c.env.ports
     → port < length c.env.ports → AtPort c nodes port (slice_index_or ports port d)
@@ -91,6 +104,7 @@ at_port c nodes ports port d pipeline same less =
       program = program;
       program_is = is_program;
       room = pipeline.checked.rooms port spec is_spec;
+      some_segs = segs_some c.env port spec pipeline.limits is_spec;
       segs = segs_small c.env port spec.segs pipeline.limits (ap (option_map (λ (p : PortSpec). p.segs)) is_spec);
     }
 

@@ -3,7 +3,7 @@ use Rattle.std.proofs.Common.{◌≡◌, ℕ, zero, suc, ◌+◌, ◌<◌, ◌�
 use Rattle.std.proofs.Common.{arith, get_or, set}
 use Rattle.std.specs.Prelude.{is_none, unwrap_or, IsSome}
 use Rattle.std.specs.List.{position, position_from}
-use Rattle.std.proofs.lemmas.List.{length-set, set-get_or}
+use Rattle.std.proofs.lemmas.List.{length-set, set-get_or, get_or-set_same}
 use Rattle.std.proofs.lemmas.Iterator.Adapters.{position_from-zero}
 use Rattle.dp_ring.specs.Rings.{RingView}
 use Rattle.dp_engine.specs.Queues.{rings_in, RingsFirst, no_ring, ring_at, ring_of}
@@ -92,6 +92,14 @@ module _ (slots : List (Option RingView)) (rings : List RingView) (same : rings_
         ap (λ x. rings_in (set slots k x)) now
             ∙ (set_in slots k (f (ring_at rings k)) inside ∙ ap (λ rs. set rs k (f (ring_at rings k))) same),
       )
+
+  -- and that ring, which is in the slot
+  pub ring_now : (j k : ℕ) (d o : Option RingView) (f : RingView → RingView) → j ≡ k → k < length rings → o ≡ Some (f (ring_of (get_or slots j d))) →
+      ring_of o ≡ ring_at (rings_in (set slots j o)) k
+  ring_now j k d o f at there is =
+      ap ring_of is
+      ∙ (ap f (ring_is j k d at there)
+      ∙ sym (ap (λ rs. ring_at rs k) (changed j k d o f at there is).1 ∙ get_or-set_same rings k (f (ring_at rings k)) no_ring there))
 
   -- and their number
   pub renewed : (j k : ℕ) (d o : Option RingView) (f : RingView → RingView) (count : ℕ) → j ≡ k → k < length rings

@@ -12,8 +12,7 @@ use dp_pcap::{PcapError, Sink, Time, Unit, put_bytes, put_head, put_record};
 type Put = Result<(), PcapError>;
 
 // Writes a packet segment by segment.
-#[cold]
-#[inline(never)]
+#[inline(always)]
 fn put_segments<W: Sink>(mbufs: &Mbufs, packet: Handle, time: Time, unit: Unit, w: &mut W) -> Put
     requires live { IsLive mbufs.now.store packet }
     requires nano { time.nano < NANOS_A_SECOND }

@@ -1,6 +1,6 @@
 //! The queues of a machine: its transmit lists, their counts, its rings, and the number of the lowest non-empty ring.
 
-ghost use Rattle.std.specs.Prelude.{◌≡◌, ◌<◌, ◌≤◌, ◌++◌, ◌∷◌, [], length, nat_lt, drop, slice_get, true, false, IsTrue, IfSome, Some};
+ghost use Rattle.std.specs.Prelude.{◌≡◌, ℕ, ◌<◌, ◌≤◌, ◌++◌, ◌∷◌, [], length, nat_lt, drop, slice_get, true, false, IsTrue, IsFalse, IfSome, Some};
 ghost use Rattle.std.specs.List.{position, position_or_len};
 ghost use Rattle.dp_ring.specs.Rings.{room_in};
 ghost use Rattle.dp_engine.specs.Queues.{rings_in, RingsFirst, ring_at, is_waiting, AreCounts};
@@ -9,6 +9,7 @@ ghost use Rattle.dp_engine.specs.HandleQueues.{IsQueue, ring_of_queue, Becomes};
 
 use crate::rings::Rings;
 use dp_model::Queue;
+use dp_pool::proved;
 use dp_ring::Ring;
 use std::marker::Model;
 
@@ -16,36 +17,48 @@ use std::marker::Model;
 pub struct Queues {
     outboxes: Rings,
     rings: Rings,
-    // The least number of a ring that has an entry; the number of rings if none has.
-    first: u8,
+    // The least number of a ring that has an entry, if one has.
+    first: Option<u8>,
     // The number of entries of each transmit list. After most turns most lists have none, and here that is seen soonest.
     counts: [u32; 8],
 }
 
 impl Model for Queues {
     ghost use Rattle.std.specs.Prelude.{◌≡◌};
-    ghost use Rattle.std.specs.List.{position_or_len};
+    ghost use Rattle.std.specs.List.{position};
     ghost use Rattle.dp_engine.specs.Queues.{QueuesView, is_waiting, AreCounts};
 
     ghost Value = { QueuesView };
 
     ghost view = { λ q. record { rings = q.rings; outboxes = q.outboxes } };
 
-    ghost invariant = { λ q. (q.first ≡ position_or_len is_waiting q.rings) × AreCounts q.counts q.outboxes };
+    ghost invariant = { λ q. (q.first ≡ position is_waiting q.rings) × AreCounts q.counts q.outboxes };
 }
 
-// The least number of a ring that has an entry; the number of rings if none has. No ring below `from` has one.
-fn first_from(rings: &Rings, from: u8) -> u8
+// The least number of a ring that has an entry, if one has. No ring below `from` has one.
+fn first_from(rings: &Rings, from: u8) -> Option<u8>
     requires { from ≤ position_or_len is_waiting rings.now }
-    ensures { result ≡ position_or_len is_waiting rings.now }
+    ensures { result ≡ position is_waiting rings.now }
 {
     let end = rings.len() as u8;
     for k in from..end {
         if rings.count(k) != 0 {
-            return k;
+            return Some(k);
         }
     }
-    end
+    None
+}
+
+// Whether a ring does not come after the first one that has an entry; true if none has one.
+#[inline(always)]
+fn is_up_to(ring: u8, first: Option<u8>) -> bool
+    ensures before { IsTrue result → IfSome first (λ f. ring ≤ f) }
+    ensures after { IsFalse result → (f : ℕ) × (first ≡ Some f) × (f < ring) }
+{
+    match first {
+        Some(first) => ring <= first,
+        None => true,
+    }
 }
 
 // The numbers of entries of these lists.
@@ -127,8 +140,8 @@ impl Queues {
         ensures more { IsTrue result → Becomes (Tx port) ((ring_at self.old.outboxes port).entries ++ handle ∷ []) self.old self.new }
         ensures full { result ≡ false → self.new ≡ self.old }
     {
-        let is_taken = self.outboxes.push(port, handle);
-        self.counts[usize::from(port)] = self.outboxes.count(port);
+        let (is_taken, count) = self.outboxes.push(port, handle);
+        self.counts[usize::from(port)] = count;
         is_taken
     }
 
@@ -155,9 +168,9 @@ impl Queues {
         match queue {
             Queue::Tx(port) => self.push_list(port, handle),
             Queue::Ring(ring) => {
-                let is_taken = self.rings.push(ring, handle);
-                if is_taken && ring < self.first {
-                    self.first = ring;
+                let (is_taken, _) = self.rings.push(ring, handle);
+                if is_taken && is_up_to(ring, self.first) {
+                    self.first = Some(ring);
                 }
                 is_taken
             }
@@ -175,7 +188,7 @@ impl Queues {
             Queue::Tx(port) => self.pop_list(port),
             Queue::Ring(ring) => {
                 let handle = self.rings.pop(ring);
-                if ring <= self.first {
+                if is_up_to(ring, self.first) {
                     self.first = first_from(&self.rings, ring);
                 }
                 handle
@@ -192,6 +205,7 @@ impl Queues {
         ensures rest { Becomes (OfRing ring) (drop 1 (ring_at self.old.rings ring).entries) self.old self.new }
     {
         let Some(handle) = self.rings.pop(ring) else {
+            proved(false);
             unreachable!();
         };
         // Mostly it has no other entry then.
@@ -208,11 +222,8 @@ impl Queues {
         ensures few { IfSome result (λ k. k < 8) }
         ensures waits { IfSome result (λ k. is_waiting (ring_at self.now.rings k) ≡ true) }
     {
-        if usize::from(self.first) < self.rings.len() {
-            Some(self.first)
-        } else {
-            None
-        }
+        self.rings.are_few();
+        self.first
     }
 
     /// Returns the rings and the transmit lists, each in the slot of its number.

@@ -5,6 +5,7 @@ ghost use Rattle.std.specs.List.{position};
 ghost use Rattle.dp_ring.specs.Rings.{room_in, with_more, without_first};
 ghost use Rattle.dp_engine.specs.Queues.{rings_in, RingsFirst, ring_at, ring_of};
 
+use dp_pool::proved;
 use dp_ring::Ring;
 use std::marker::Model;
 
@@ -40,19 +41,30 @@ fn ring_in(rings: &[Option<Ring>; 8], k: u8) -> &Ring
 {
     match &rings[usize::from(k)] {
         Some(ring) => ring,
-        None => unreachable!(),
+        None => {
+            proved(false);
+            unreachable!()
+        }
     }
 }
 
-// Appends an entry to a slot's ring.
-fn push_in(slot: &mut Option<Ring>, entry: u32) -> bool
+// Appends an entry to a slot's ring, unless that is full. Returns whether it did, and how many entries the ring has afterwards.
+fn push_in(slot: &mut Option<Ring>, entry: u32) -> (bool, u32)
     requires { IsSome slot.old }
-    ensures taken { result ≡ nat_lt 0 (room_in (ring_of slot.old)) }
+    ensures taken { result.0 ≡ nat_lt 0 (room_in (ring_of slot.old)) }
+    ensures count { result.1 ≡ length (ring_of slot.new).entries }
+    ensures bound { result.1 < (ring_of slot.new).count }
     ensures ring { slot.new ≡ Some (if nat_lt 0 (room_in (ring_of slot.old)) then with_more (ring_of slot.old) (entry ∷ []) else ring_of slot.old) }
 {
     match slot {
-        Some(ring) => ring.enqueue(entry),
-        None => unreachable!(),
+        Some(ring) => {
+            let is_taken = ring.enqueue(entry);
+            (is_taken, ring.count())
+        }
+        None => {
+            proved(false);
+            unreachable!()
+        }
     }
 }
 
@@ -64,7 +76,10 @@ fn pop_in(slot: &mut Option<Ring>) -> Option<u32>
 {
     match slot {
         Some(ring) => ring.dequeue(),
-        None => unreachable!(),
+        None => {
+            proved(false);
+            unreachable!()
+        }
     }
 }
 
@@ -86,6 +101,13 @@ impl Rings {
         usize::from(self.count)
     }
 
+    /// A law of all rings: they are at most eight.
+    pub fn are_few(&self)
+        ensures { length self.now ≤ 8 }
+    {
+        self.len();
+    }
+
     /// The number of entries of a ring.
     pub fn count(&self, k: u8) -> u32
         requires { k < length self.now }
@@ -103,10 +125,12 @@ impl Rings {
         ring_in(&self.rings, k).peek(i)
     }
 
-    /// Appends an entry to a ring. Returns false if the ring is full.
-    pub fn push(&mut self, k: u8, entry: u32) -> bool
+    /// Appends an entry to a ring, unless that is full. Returns whether it did, and how many entries the ring has afterwards.
+    pub fn push(&mut self, k: u8, entry: u32) -> (bool, u32)
         requires { k < length self.old }
-        ensures taken { result ≡ nat_lt 0 (room_in (ring_at self.old k)) }
+        ensures taken { result.0 ≡ nat_lt 0 (room_in (ring_at self.old k)) }
+        ensures count { result.1 ≡ length (ring_at self.new k).entries }
+        ensures bound { result.1 < (ring_at self.new k).count }
         ensures rings { self.new ≡ (if nat_lt 0 (room_in (ring_at self.old k)) then slice_set self.old k (with_more (ring_at self.old k) (entry ∷ []))
             else self.old) }
     {

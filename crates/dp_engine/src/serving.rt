@@ -1,5 +1,5 @@
 //! Runs the parts of a turn: a record arrives at a port, and then packets in rings are served.
-ghost use Rattle.std.specs.Prelude.{◌≡◌, ℕ, ◌+◌, ◌*◌, ◌^◌, ◌<◌, ◌≤◌, Bool, List, length, IfSome};
+ghost use Rattle.std.specs.Prelude.{◌≡◌, ℕ, ◌+◌, ◌*◌, ◌^◌, ◌<◌, ◌≤◌, Bool, List, length, IsTrue, IsFalse, IfSome};
 ghost use Rattle.dp_pcap.specs.declared.format.TheConstants.{MAX_RECORD};
 ghost use Rattle.dp_model.specs.Limits.{max_ring_runs};
 ghost use Rattle.dp_model.specs.Runs.{Serves, Consumed, runs_of};
@@ -21,6 +21,16 @@ use dp_model::Entry;
 const MAX_RING_RUNS: u8 = 32;
 
 const NO_RUN: NodeRun = NodeRun { steps: 0, cuts: 0 };
+
+// Whether a record needs more segments than its port allows. A port allows one, so a record that fits into one is not compared.
+#[inline(always)]
+fn is_oversize(needed: usize, segs: u32) -> bool
+    requires { 1 ≤ segs }
+    ensures over { IsTrue result → segs < needed }
+    ensures fits { IsFalse result → needed ≤ segs }
+{
+    needed > 1 && needed > segs as usize
+}
 
 // Receives or drops a record at a port, and runs the port's node on it if it is received.
 #[inline(always)]
@@ -51,7 +61,7 @@ pub(crate) fn arrive<K: CompiledPrograms, W: Watch>(
 {
     let env = context.env();
     let spec = env.ports()[usize::from(port)];
-    if m.needed(spec.pool, bytes.len()) > spec.segs as usize {
+    if is_oversize(m.needed(spec.pool, bytes.len()), spec.segs) {
         return (Outcome::Oversize, NO_RUN);
     }
     if !m.receive(env, context.pattern(), spec.pool, bytes, port) {

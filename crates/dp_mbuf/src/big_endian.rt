@@ -31,6 +31,24 @@ fn bytes_of_number(n: u64) -> [u8; 8]
     bytes
 }
 
+// The two low bytes of a number, of which the compiler makes one store, as it does not of bytes out of eight.
+#[inline(always)]
+fn low_two(n: u64) -> [u8; 2]
+    ensures bytes { result ≡ big_endian 2 n }
+    ensures many { length result ≡ 2 }
+{
+    ((n % 0x1_0000) as u16).to_be_bytes()
+}
+
+// The four low bytes of a number, in the same way.
+#[inline(always)]
+fn low_four(n: u64) -> [u8; 4]
+    ensures bytes { result ≡ big_endian 4 n }
+    ensures many { length result ≡ 4 }
+{
+    ((n % 0x1_0000_0000) as u32).to_be_bytes()
+}
+
 // Writes two bytes, one store each: the compiler makes one of them, without a test whether the bytes overlap others.
 #[inline(always)]
 fn put_two(bytes: &mut [u8], at: usize, a: u8, b: u8)
@@ -61,12 +79,12 @@ pub(crate) fn write_number(bytes: &mut [u8], at: usize, width: Width, n: u64)
     match width {
         Width::One => bytes[at] = bytes_of_number(n)[7],
         Width::Two => {
-            let all = bytes_of_number(n);
-            put_two(bytes, at, all[6], all[7]);
+            let low = low_two(n);
+            put_two(bytes, at, low[0], low[1]);
         }
         Width::Four => {
-            let all = bytes_of_number(n);
-            put_four(bytes, at, all[4], all[5], all[6], all[7]);
+            let low = low_four(n);
+            put_four(bytes, at, low[0], low[1], low[2], low[3]);
         }
         Width::Eight => bytes[at..at + 8].copy_from_slice(&bytes_of_number(n)),
     }

@@ -4,7 +4,7 @@ ghost use Rattle.std.specs.Prelude.{◌≡◌, ◌<◌, ◌≤◌, ◌+◌, ◌/
 ghost use Rattle.dp_model.specs.Buffers.{overwritten};
 ghost use Rattle.dp_mbuf.specs.Headers.{header_of, word, then_word, with_both, with_segs_and_last, header_bytes};
 
-use crate::limits::{BUFFER, FIELDS_SIZE, HEADER_SIZE, LAST, LEN, NEXT, OFFSET, REFS, SEGS, WORDS};
+use crate::limits::{BUFFER, FIELDS_SIZE, HEADER_SIZE, LAST, NEXT, OFFSET, REFS, SEGS, WORDS};
 use crate::mbuf_number::MbufNumber;
 use byteorder::{ByteOrder, LittleEndian};
 
@@ -30,17 +30,29 @@ fn read_word(bytes: &[u8], at: usize) -> u16
     LittleEndian::read_u16(&bytes[at..at + 2])
 }
 
+// Reads two little-endian 2-byte numbers, one after the other, as one number of four bytes: the compiler adds one of two bytes to an address
+// byte by byte.
+#[inline(always)]
+fn read_words(bytes: &[u8], at: usize) -> (u16, u16)
+    requires { at + 4 ≤ length bytes.now }
+    ensures { (result.0 ≡ word bytes.now at) × (result.1 ≡ word bytes.now (at + 2)) }
+{
+    let both = LittleEndian::read_u32(&bytes[at..at + 4]);
+    ((both % WORDS) as u16, (both / WORDS) as u16)
+}
+
 /// Reads the header of an object.
 #[inline(always)]
 pub(crate) fn read_header(object: &[u8]) -> Header
     requires { HEADER_SIZE ≤ length object.now }
     ensures { result ≡ header_of object.now }
 {
+    let (offset, len) = read_words(object, OFFSET);
     Header {
         segs: read_word(object, SEGS),
         refs: u32::from(read_word(object, REFS)) + u32::from(read_word(object, REFS + 2)) * WORDS,
-        offset: read_word(object, OFFSET),
-        len: read_word(object, LEN),
+        offset,
+        len,
         next: MbufNumber::new(read_word(object, NEXT + 2), read_word(object, NEXT)),
         last: MbufNumber::new(read_word(object, LAST + 2), read_word(object, LAST)),
         buffer: MbufNumber::new(read_word(object, BUFFER + 2), read_word(object, BUFFER)),

@@ -21,7 +21,7 @@ use crate::header::{
 use crate::limits::{HEADER_SIZE, MAX_MBUFS, MAX_POOLS, MAX_ROOM, NEXT, OFFSET, REFS, SEGS, WORDS};
 use crate::mbuf_number::MbufNumber;
 use dp_model::Width;
-use dp_pool::Pool;
+use dp_pool::{Pool, proved};
 use std::marker::Model;
 
 /// The objects of at most `MAX_POOLS` pools.
@@ -51,7 +51,10 @@ fn pool_at(pools: &[Option<Pool>; MAX_POOLS], k: u16) -> &Pool
 {
     match &pools[usize::from(k)] {
         Some(pool) => pool,
-        None => unreachable!(),
+        None => {
+            proved(false);
+            unreachable!()
+        }
     }
 }
 
@@ -62,8 +65,9 @@ fn write_in(slot: &mut Option<Pool>, index: u16, at: u32, bytes: &[u8])
     ensures becomes { SlotBecomes (λ p. with_written p index at bytes.now) slot.old slot.new }
     ensures small { (k : ℕ) → slice_index bytes.now k < 256 }
 {
-    if let Some(pool) = slot {
-        pool.write(u32::from(index), at, bytes);
+    match slot {
+        Some(pool) => pool.write(u32::from(index), at, bytes),
+        None => proved(false),
     }
 }
 
@@ -73,8 +77,9 @@ fn write_words_in(slot: &mut Option<Pool>, index: u16, at: usize, x: u16, y: u16
     requires { SlotFits slot.old index (at + 4) }
     ensures { SlotBecomes (λ p. with_written p index at (then_word x (then_word y []))) slot.old slot.new }
 {
-    if let Some(pool) = slot {
-        write_words(pool.object_mut(u32::from(index)), at, x, y);
+    match slot {
+        Some(pool) => write_words(pool.object_mut(u32::from(index)), at, x, y),
+        None => proved(false),
     }
 }
 
@@ -85,8 +90,9 @@ fn write_segs_and_last_in(slot: &mut Option<Pool>, index: u16, segs: u16, last: 
     ensures becomes { SlotBecomes (λ p. with_object p index (with_segs_and_last (object_in p index) segs last)) slot.old slot.new }
     ensures small { (last.pool < WORDS) × (last.index < WORDS) }
 {
-    if let Some(pool) = slot {
-        write_segs_and_last(pool.object_mut(u32::from(index)), segs, last);
+    match slot {
+        Some(pool) => write_segs_and_last(pool.object_mut(u32::from(index)), segs, last),
+        None => proved(false),
     }
 }
 
@@ -98,8 +104,9 @@ fn write_both_in(slot: &mut Option<Pool>, index: u16, header: &[u8], at: usize, 
     ensures becomes { SlotBecomes (λ p. with_object p index (with_both (object_in p index) header.now at bytes.now)) slot.old slot.new }
     ensures small { ((k : ℕ) → slice_index header.now k < 256) × ((k : ℕ) → slice_index bytes.now k < 256) }
 {
-    if let Some(pool) = slot {
-        write_both(pool.object_mut(u32::from(index)), header, at, bytes);
+    match slot {
+        Some(pool) => write_both(pool.object_mut(u32::from(index)), header, at, bytes),
+        None => proved(false),
     }
 }
 
@@ -109,8 +116,9 @@ fn write_number_in(slot: &mut Option<Pool>, index: u16, at: usize, width: Width,
     requires { SlotFits slot.old index (at + bytes_in width) }
     ensures { SlotBecomes (λ p. with_written p index at (big_endian (bytes_in width) n)) slot.old slot.new }
 {
-    if let Some(pool) = slot {
-        write_number(pool.object_mut(u32::from(index)), at, width, n);
+    match slot {
+        Some(pool) => write_number(pool.object_mut(u32::from(index)), at, width, n),
+        None => proved(false),
     }
 }
 
@@ -120,8 +128,9 @@ fn zero_in(slot: &mut Option<Pool>, index: u16, at: usize, len: usize)
     requires { SlotFits slot.old index (at + len) }
     ensures { SlotBecomes (λ p. with_written p index at (replicate len 0)) slot.old slot.new }
 {
-    if let Some(pool) = slot {
-        pool.object_mut(u32::from(index))[at..at + len].fill(0);
+    match slot {
+        Some(pool) => pool.object_mut(u32::from(index))[at..at + len].fill(0),
+        None => proved(false),
     }
 }
 
@@ -131,8 +140,9 @@ fn put_in(slot: &mut Option<Pool>, index: u16)
     requires { SlotIsOut slot.old index }
     ensures { SlotBecomes (λ p. put_back p index) slot.old slot.new }
 {
-    if let Some(pool) = slot {
-        pool.put(u32::from(index));
+    match slot {
+        Some(pool) => pool.put(u32::from(index)),
+        None => proved(false),
     }
 }
 
@@ -143,9 +153,12 @@ fn end_in(slot: &mut Option<Pool>, index: u16)
     requires out { SlotIsOut slot.old index }
     ensures { SlotBecomes (λ p. put_back (with_written p index SEGS (then_word 0 [])) index) slot.old slot.new }
 {
-    if let Some(pool) = slot {
-        pool.clear(u32::from(index), SEGS as u32, 2);
-        pool.put(u32::from(index));
+    match slot {
+        Some(pool) => {
+            pool.clear(u32::from(index), SEGS as u32, 2);
+            pool.put(u32::from(index));
+        }
+        None => proved(false),
     }
 }
 
@@ -194,7 +207,10 @@ fn get_in(slot: &mut Option<Pool>) -> Option<u16>
             let index = pool.get()?;
             Some(index as u16)
         }
-        None => None,
+        None => {
+            proved(false);
+            None
+        }
     }
 }
 

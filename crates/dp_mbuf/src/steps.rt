@@ -9,6 +9,7 @@ use crate::header::Header;
 use crate::limits::HEADROOM;
 use crate::mbuf_number::MbufNumber;
 use crate::objects::Objects;
+use dp_pool::proved;
 
 /// Clears the first mbuf's number of segments, so that no packet begins there, and returns the header that it had.
 #[inline(always)]
@@ -136,7 +137,10 @@ pub(crate) fn take_one(objects: &mut Objects, pool: u16) -> MbufNumber
 {
     match objects.take(pool) {
         Some(mbuf) => mbuf,
-        None => unreachable!(),
+        None => {
+            proved(false);
+            unreachable!()
+        }
     }
 }
 

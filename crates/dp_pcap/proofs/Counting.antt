@@ -148,13 +148,24 @@ record_passed o pieces none came pieces' size xs before bytes was begins more wi
     rw (was, begins, more) (record_whole o pieces before (take size bytes) (omega (arith, long))
     (rw (length-drop, long, front) (omega arith)) (rw (was, begins) at b))
 
+-- the record at this offset ends at the next one
+abbrev pub EndsAt : Order → List ℕ → ℕ → ℕ → Type 0
+EndsAt o bytes at next = next ≡ at + (16 + captured o (take 16 (drop at bytes)))
+
+-- n whole records are before this offset
+abbrev pub AreBefore : Order → ℕ → List ℕ → ℕ → Type 0
+AreBefore o count bytes at = (n : ℕ) (before : List ℕ) → IsAfter (none_left o n) before → IsAfter (none_left o (n + count)) (before ++ take at bytes)
+
 -- one more of the whole records at the front of these bytes
-pub front_passed : (o : Order) (n at size : ℕ) (before bytes rest : List ℕ) → rest ≡ drop at bytes → at ≤ length bytes → size ≤ length rest →
-    size ≡ 16 + captured o (take 16 rest) → IsAfter (none_left o n) (before ++ take at bytes)
-    → IsAfter (none_left o (n + 1)) (before ++ take (at + size) bytes)
-front_passed o n at size before bytes rest is there within is_long b =
-    rw (take-add at size bytes, ← is, ← append_assoc)
-    (record_passed o n 0 0 (n + 1) size [] (before ++ take at bytes) rest refl refl (omega arith) within is_long b)
+pub front_passed : (o : Order) (count at next : ℕ) (bytes : List ℕ) → EndsAt o bytes at next → next ≤ length bytes → AreBefore o count bytes at
+    → AreBefore o (count + 1) bytes next
+front_passed o count at next bytes is within b n before from =
+    let rest = drop at bytes in
+    let size = 16 + captured o (take 16 rest) in
+    let same : n + (count + 1) ≡ n + count + 1 = omega arith in
+    rw (is, same, take-add at size bytes, ← append_assoc)
+    (record_passed o (n + count) 0 0 (n + count + 1) size [] (before ++ take at bytes) rest refl refl (omega arith)
+    (omega (arith, length-drop at bytes, is, within)) refl (b n before from))
 
 -- n of them, with the numbers of a call
 pub fronts_passed : (o : Order) (pieces none came count pieces' size : ℕ) (xs before bytes : List ℕ) → none ≡ 0 → came ≡ 0 → pieces' ≡ pieces + count →

@@ -38,6 +38,14 @@ impl<W: Write + Drop> Buffered<W> {
         self.pending.capacity()
     }
 
+    // How many bytes the buffer has room for.
+    #[inline(always)]
+    pub(crate) fn room(&self) -> usize
+        ensures { result + length (writer_buffer self.now) ≡ writer_capacity self.now }
+    {
+        self.pending.room()
+    }
+
     /// The writer.
     pub fn get_ref(&self) -> &W
         ensures { result.now ≡ writer_inner self.now }
@@ -81,7 +89,7 @@ impl<W: Write + Drop> Buffered<W> {
         ensures ok { OnOk result (Appends (writer_contents W.contents self.old) (writer_contents W.contents self.new) bytes.now) }
         ensures err { OnErr result (Keeps (writer_contents W.contents self.old) (writer_contents W.contents self.new)) }
     {
-        if bytes.len() > self.pending.capacity() - self.pending.len() {
+        if bytes.len() > self.pending.room() {
             self.write_out()?;
         }
         self.pending.append(bytes);
@@ -109,7 +117,7 @@ impl<W: Write + Drop> Write for Buffered<W> {
 
     #[inline(always)]
     fn write(&mut self, buf: &[u8]) -> io::Result<usize> {
-        if buf.len() < self.pending.capacity() - self.pending.len() {
+        if buf.len() < self.pending.room() {
             self.pending.append(buf);
             return Ok(buf.len());
         }

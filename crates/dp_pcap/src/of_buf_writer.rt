@@ -93,7 +93,7 @@ impl<W: Write + Drop> Sink for OfBufWriter<W> {
     {
         self.offers = self.offers.and(bytes);
         // The room is tested first, so a piece that fits cannot fail.
-        let spare = self.sink.inner.capacity() - self.sink.inner.buffer().len();
+        let spare = self.sink.inner.room();
         if bytes.len() < spare {
             self.sink.push(bytes)
         } else {
@@ -109,8 +109,7 @@ impl<W: Write + Drop> Sink for OfBufWriter<W> {
         ensures exact { (buffered_sink_health self.now).is_broken ≡ false →
             length (writer_buffer (buffered_writer self.now)) + head + body < writer_capacity (buffered_writer self.now) → IsTrue result }
     {
-        let spare = self.sink.inner.capacity() - self.sink.inner.buffer().len();
-        !self.sink.health.is_broken() && head < spare && body < spare - head
+        head.saturating_add(body) < self.sink.inner.room() && !self.sink.health.is_broken()
     }
 
     /// True exactly where `has_room` is. Nothing is written out then.

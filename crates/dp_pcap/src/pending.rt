@@ -1,14 +1,16 @@
 //! Bytes that are still to be written.
 ghost use Rattle.std.specs.Prelude.{◌≡◌, ◌+◌, ◌≤◌, [], ◌++◌, length, take, IfOk};
 
+use crate::format::HEAD_SIZE;
 use std::alloc::{AllocError, Global};
 
-/// A buffer of bytes that are still to be written: a fixed number of places, of which the first `len` hold them.
+/// A buffer of bytes that are still to be written: a fixed number of places, of which the first `len` hold them, and `room` are left.
 #[derive(Drop)]
 pub(crate) struct Pending {
     bytes: Vec<u8>,
     len: usize,
-    ghost fits: { len ≤ length bytes.items },
+    room: usize,
+    ghost fits: { len + room ≡ length bytes.items },
 }
 
 impl Pending {
@@ -21,7 +23,11 @@ impl Pending {
     {
         let mut bytes = Vec::new(alloc);
         bytes.resize(capacity, 0u8)?;
-        Ok(Pending { bytes, len: 0 })
+        Ok(Pending {
+            bytes,
+            len: 0,
+            room: capacity,
+        })
     }
 
     // How many places it has.
@@ -32,13 +38,12 @@ impl Pending {
         self.bytes.len()
     }
 
-    // How many bytes it holds.
+    // How many bytes it has room for.
     #[inline(always)]
-    pub(crate) fn len(&self) -> usize
-        ensures value { result ≡ length (pending self.now) }
-        ensures fits { result ≤ places self.now }
+    pub(crate) fn room(&self) -> usize
+        ensures value { result + length (pending self.now) ≡ places self.now }
     {
-        self.len
+        self.room
     }
 
     // The bytes that it holds.
@@ -56,9 +61,9 @@ impl Pending {
         ensures bytes { pending self.new ≡ pending self.old ++ bytes.now }
         ensures places { places self.new ≡ places self.old }
     {
-        let end = self.len + bytes.len();
-        self.bytes[self.len..end].copy_from_slice(bytes);
-        self.len = end;
+        self.bytes[self.len..self.len + bytes.len()].copy_from_slice(bytes);
+        self.len += bytes.len();
+        self.room -= bytes.len();
     }
 
     // Appends two pieces for which it has room. Their places are one slice, so that the buffer is looked up once.
@@ -68,9 +73,11 @@ impl Pending {
         ensures bytes { pending self.new ≡ pending self.old ++ (first.now ++ second.now) }
         ensures places { places self.new ≡ places self.old }
     {
-        let end = self.len + (first.len() + second.len());
-        write_both(&mut self.bytes[self.len..end], first, second);
-        self.len = end;
+        let size = first.len() + second.len();
+        let at = self.len;
+        self.len += size;
+        self.room -= size;
+        write_both(&mut self.bytes[at..at + size], first, second);
     }
 
     // Removes bytes from its front.
@@ -81,6 +88,7 @@ impl Pending {
     {
         self.bytes.as_mut_slice().copy_within(count..self.len, 0);
         self.len -= count;
+        self.room += count;
     }
 }
 
@@ -90,6 +98,21 @@ fn write_both(to: &mut [u8], first: &[u8], second: &[u8])
     requires { length to.old ≡ length first.now + length second.now }
     ensures { to.new ≡ first.now ++ second.now }
 {
-    to[..first.len()].copy_from_slice(first);
+    copy_piece(&mut to[..first.len()], first);
     to[first.len()..].copy_from_slice(second);
+}
+
+// Copies a piece. A record's head is copied as an array, so that the compiler makes no test whether it overlaps its place.
+#[inline(always)]
+fn copy_piece(to: &mut [u8], piece: &[u8])
+    requires { length to.old ≡ length piece.now }
+    ensures { to.new ≡ piece.now }
+{
+    if let Ok(head) = <&[u8; HEAD_SIZE]>::try_from(piece) {
+        if let Some(place) = to.as_mut_array::<HEAD_SIZE>() {
+            *place = *head;
+            return;
+        }
+    }
+    to.copy_from_slice(piece);
 }

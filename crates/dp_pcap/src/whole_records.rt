@@ -1,5 +1,5 @@
 //! Counts the whole records of a capture in the bytes that passed so far.
-ghost use Rattle.std.specs.Prelude.{◌≡◌, ◌+◌, ◌<◌, ◌≤◌, ◌^◌, ◌++◌, ℕ, List, length, take};
+ghost use Rattle.std.specs.Prelude.{◌≡◌, ◌+◌, ◌<◌, ◌≤◌, ◌^◌, ◌++◌, ℕ, List, length, take, drop};
 ghost use Rattle.dp_pcap.specs.declared.byte_order.Order.{Order};
 ghost use Rattle.dp_pcap.specs.declared.time.Unit.{Unit as TimeUnit};
 ghost use Rattle.dp_pcap.specs.Capture.{captured, IsHeader};
@@ -64,18 +64,32 @@ fn whole_at_front(order: Order, bytes: &[u8]) -> (u64, usize)
     ensures beyond { (n : ℕ) (before : List ℕ) → IsAfter (none_left order n) before →
         IsAfter (none_left order (n + result.0)) (before ++ take result.1 bytes.now) }
 {
+    if bytes.len() < HEAD_SIZE {
+        return (0, 0);
+    }
+    let last = bytes.len() - HEAD_SIZE;
     let mut count = 0u64;
     let mut at = 0;
-    while bytes.len() - at >= HEAD_SIZE {
-        let rest = &bytes[at..];
-        let size = HEAD_SIZE + body_length(order, &rest[..HEAD_SIZE]) as usize;
-        if rest.len() < size {
-            return (count, at);
-        }
+    let mut next = record_end(order, bytes, 0);
+    // Where a head follows, the record is whole: that is one test for both.
+    while next <= last {
         count += 1;
-        at += size;
+        at = next;
+        next = record_end(order, bytes, at);
+    }
+    if next <= bytes.len() {
+        return (count + 1, next);
     }
     (count, at)
+}
+
+// The offset after a record whose head is at this one.
+#[inline(always)]
+fn record_end(order: Order, bytes: &[u8], at: usize) -> usize
+    requires { at + HEAD_SIZE ≤ length bytes.now }
+    ensures { result ≡ at + (HEAD_SIZE + captured order (take HEAD_SIZE (drop at bytes.now))) }
+{
+    at + HEAD_SIZE + body_length(order, &bytes[at..at + HEAD_SIZE]) as usize
 }
 
 impl WholeRecords {

@@ -1,6 +1,6 @@
 -- A record that was read, and the turn with its bytes.
-use Rattle.std.proofs.Common.{◌≡◌, ◌≤◌, ℕ, Bool, true, false, List, length, take, drop, Option, sym, ◌∙◌, subst, arith, length-drop}
-use Rattle.std.proofs.Common.{length-take-le, take_all}
+use Rattle.std.proofs.Common.{◌≡◌, ◌≤◌, ℕ, Bool, true, false, List, length, take, drop, Option, refl, sym, ◌∙◌, ap, subst, arith}
+use Rattle.std.proofs.Common.{length-drop, length-take-le, take_all}
 use Rattle.std.specs.Prelude.{Ok, Result}
 use Rattle.dp_pcap.specs.declared.time.Time.{Time}
 use Rattle.dp_pcap.specs.declared.error.PcapError.{PcapError}
@@ -9,8 +9,10 @@ use Rattle.dp_pcap.specs.declared.source.Next.TheVariants.{Record}
 use Rattle.dp_pcap.specs.SourceState.{SourceState}
 use Rattle.dp_pcap.specs.declared.format.TheConstants.{MAX_RECORD}
 use Rattle.dp_pcap.specs.Source.{WhereKnown, Continues, IsHeld, IsInRange, body_in}
-use Rattle.dp_engine.specs.Engines.{EngineState}
-use Rattle.dp_engine.specs.Watching.{Event}
+use Rattle.dp_engine.specs.declared.engine.Turn.{Turn}
+use Rattle.dp_engine.specs.Engines.{EngineState, TakesTurn}
+use Rattle.dp_engine.specs.Outcomes.{outcome_of}
+use Rattle.dp_engine.specs.Watching.{Event, WatchesTurn}
 use Rattle.dp_pipe.specs.Forwarding.{HasTurn}
 use Rattle.dp_pipe.specs.Tracing.{TracesRead}
 use Rattle.dp_pipe.specs.Watched.{unnoted, ShowsNext}
@@ -18,6 +20,41 @@ use Rattle.dp_pipe.specs.Watched.{unnoted, ShowsNext}
 -- the turn of a record with these bytes was shown
 abbrev pub TracesAt : {V : Type 0} → (V → Event → V → Type 0) → V → V → ℕ → Time → EngineState → EngineState → List ℕ → Type 0
 TracesAt sees v v' port time e e' bytes = (r : TracesRead sees unnoted v v' port time e e') × (r.bytes ≡ bytes)
+
+module _ {V : Type 0} {sees : V → Event → V → Type 0} {v v' : V} {port : ℕ} {e e' : EngineState} {bytes : List ℕ} {taken : Turn}
+    (took : TakesTurn e e' port bytes taken)
+    (watched : WatchesTurn sees v v' e.setting e.nodes port bytes e.world (outcome_of taken.outcome) taken.runs e'.world) where
+  -- a turn was taken
+  pub turned : HasTurn port e e' bytes
+  turned = record {
+    outcome = outcome_of taken.outcome;
+    runs = taken.runs;
+    answers = took.turn.0;
+    turn = took.turn.1;
+    is = took.rest;
+    lists = took.lists;
+  }
+
+  -- and shown
+  pub traced : (time : Time) → TracesAt sees v v' port time e e' bytes
+  traced time = (
+    record {
+      bytes = bytes;
+      traces = record {
+        before = v;
+        came = refl;
+        turn = taken;
+        after = v';
+        watched = watched;
+        took = took.took;
+        ended = refl;
+      };
+      setting = ap (λ (x : EngineState). x.setting) took.rest;
+      nodes = ap (λ (x : EngineState). x.nodes) took.rest;
+      turns = ap (λ (x : EngineState). x.turns) took.rest;
+    },
+    refl,
+  )
 
 -- from what the reader has buffered
 pub lent : {V : Type 0} (sees : V → Event → V → Type 0) (v v' : V) (port : ℕ) (e e' : EngineState) (s s' : SourceState)

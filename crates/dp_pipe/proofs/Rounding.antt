@@ -1,5 +1,5 @@
 -- Rounds of a run: each input is read in its turn.
-use Rattle.std.proofs.Common.{zero, suc, ◌≡◌, ◌≢◌, ℕ, ◌+◌, ◌<◌, ◌≤◌, true, List, [], ◌∷◌, length, map, Some, Result, Ok, Err, refl}
+use Rattle.std.proofs.Common.{zero, suc, ◌≡◌, ◌≢◌, ℕ, ◌+◌, ◌-◌, ◌<◌, ◌≤◌, true, List, [], ◌∷◌, length, map, Some, Result, Ok, Err, refl}
 use Rattle.std.proofs.Common.{sym, ◌∙◌, ap, subst, arith, ◌⊎◌, inl, inr}
 use Rattle.std.specs.Prelude.{slice_get, slice_set, ⊤}
 use Rattle.std.proofs.lemmas.Bool.{le-ltb}
@@ -7,6 +7,11 @@ use Rattle.std.proofs.lemmas.List.{length-map, map-set}
 use Rattle.std.proofs.lemmas.Option.{same_Some, slice_get_within}
 use Rattle.dp_model.specs.Laws.Lists.{get_set_other, get_set_same, get_within, set_itself, map_get}
 use Rattle.dp_pcap.specs.declared.time.Unit.{Unit as TimeUnit}
+use Rattle.dp_pcap.specs.declared.error.PcapError.{PcapError}
+use Rattle.dp_pcap.specs.declared.source.Next.{Next}
+use Rattle.dp_pcap.specs.declared.source.Next.TheVariants.{Record, End}
+use Rattle.dp_pcap.specs.declared.source.Next.TheVariants as next
+use Rattle.dp_pcap.specs.Source.{IsInRange, Moves}
 use Rattle.dp_engine.specs.declared.report.InputState.{InputState}
 use Rattle.dp_engine.specs.declared.report.InputState.TheVariants.{Open, Whole, Cut}
 use Rattle.dp_engine.specs.Engines.{EngineState}
@@ -15,12 +20,13 @@ use Rattle.dp_pipe.specs.Devices.{Device, Transfer, transfer}
 use Rattle.dp_pipe.specs.declared.forwarding.OpenInputs.{OpenInputs}
 use Rattle.dp_pipe.specs.declared.forwarding.OpenInputs.TheVariants.{Zero, One, Several}
 use Rattle.dp_pipe.specs.declared.forwarding.RunCause.{RunCause}
-use Rattle.dp_pipe.specs.Forwarding.{Input, IsProgressOf, RunUntil, AskedUntil, Advances, StopsRun, AreRounds, NoneIsOpen, OnlyIsOpen, AreOver}
+use Rattle.dp_pipe.specs.Forwarding.{Input, IsProgressOf, RunUntil, AskedUntil, Advances, Follows, StopsRun, AreRounds, NoneIsOpen}
+use Rattle.dp_pipe.specs.Forwarding.{OnlyIsOpen, AreOver}
 use Rattle.dp_pipe.proofs.Advancing.{order_ended, order_round}
 use Rattle.dp_pipe.proofs.Stepping.{input_at, open_going}
 use Rattle.dp_pipe.proofs.Forwarded.{split}
 use Rattle.dp_pipe.proofs.GoingOn.{goes_on, many_least}
-use Rattle.dp_pipe.proofs.Stopping.{stops_at, states_same, are_read}
+use Rattle.dp_pipe.proofs.Stopping.{stops_at, states_same, are_read, ran_on}
 
 -- open or ended
 pub decide : (state : InputState) → (state ≡ Open) ⊎ (state ≡ Open → ⊥)
@@ -238,17 +244,31 @@ module _ {unit : TimeUnit} {e0 e : EngineState} {t : Transfer} {progress : List 
   went_all none = (
     inputs,
     states_same along.progress_is,
-    record {
-      inputs_many = along.inputs_many;
-      unit_is = along.unit_is;
-      captures = along.captures;
-      many = along.many;
-      run = along.run;
-      wrote = along.wrote;
-    },
+    ran_on along,
     are_read along.progress_is,
     all_closed progress inputs along.progress_is.many (λ q p j a b. (along.progress_is.each q p j a b).state) none,
   )
+
+-- how many more results an open input may have: its records, and its end
+abbrev pub results_of : InputState → ℕ → ℕ
+results_of Open given = suc (16777216 - given)
+results_of Whole given = 0
+results_of (Cut byte) given = 0
+
+abbrev pub results_left : InputProgress → ℕ
+results_left p = results_of p.state p.source.given
+
+pub fewer_left : {port : ℕ} {unit : TimeUnit} {e e' : EngineState} {p p' : InputProgress} {old new : Device} {held holds : List Device} → p.state ≡ Open
+    → Advances port unit e e' p p' old new held holds (Ok tt) → results_left p' < results_left p
+fewer_left {port = port} {unit = unit} {e' = e'} {p = p} {p' = p'} {held = held} {holds = holds} open_p step =
+    go step.next step.in_range step.moves step.follows
+  where
+    go : (x : Result Next PcapError) → IsInRange p.source x → Moves p.source p'.source x → Follows port unit step.engine e' p'.state held holds x (Ok tt)
+        → results_left p' < results_left p
+    go (Ok (Record time len)) (nano, short, few) moves (open_p', all) = rw (open_p, open_p', moves) (omega (arith, few))
+    go (Ok End) range moves (ended, ok, same, kept) = rw (open_p, ended) (omega arith)
+    go (Ok (next.Cut byte)) range moves (ended, ok, same, kept) = rw (open_p, ended) (omega arith)
+    go (Err error) range moves (open_p', bad, same, kept) = cc
 
 -- no input has enough records to be still open
 pub none_left : {unit : TimeUnit} {e0 e : EngineState} {t : Transfer} {progress : List InputProgress} {inputs : List Input} {round : ℕ}

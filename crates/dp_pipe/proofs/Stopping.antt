@@ -23,7 +23,7 @@ use Rattle.dp_pipe.specs.Devices.{Device, Transfer}
 use Rattle.dp_pipe.specs.declared.forwarding.RunCause.{RunCause}
 use Rattle.dp_pipe.specs.declared.forwarding.RunCause.TheVariants.{In, Out}
 use Rattle.dp_pipe.specs.Forwarding.{Input, IsReadTo, AreRead, Refuses, IsProgressOf, AreProgressOf, ReadsTurn, Follows, Advances, RunUntil, StopsRun}
-use Rattle.dp_pipe.specs.Forwarding.{HasTurn, HasPulled, DrainsStopped, arrivals_of, unit_for}
+use Rattle.dp_pipe.specs.Forwarding.{HasTurn, HasPulled, RanOnInputs, DrainsStopped, arrivals_of, unit_for}
 use Rattle.dp_pipe.proofs.Indices.{set_here}
 use Rattle.dp_pipe.proofs.RunOn.{arrival}
 use Rattle.dp_pipe.proofs.Advancing.{with_record, arrivals_more, order_next}
@@ -75,6 +75,18 @@ pub are_read : {olds news : List Device} {progress : List InputProgress} {inputs
 are_read {progress = progress} {inputs = inputs} progress_is q i at old new a b =
     let (p, here) = progress_at progress inputs q i progress_is.many at in
     read_as i p.source old new (progress_is.each q p i here at).unit (progress_is.read q p i here at old new a b)
+
+-- a run was on what was read until now
+pub ran_on : {unit : TimeUnit} {e0 e : EngineState} {t : Transfer} {progress : List InputProgress} {inputs : List Input} {round port : ℕ}
+    → RunUntil unit e0 e t progress inputs round port → RanOnInputs unit e0 e t.held t.holds inputs
+ran_on along = record {
+  inputs_many = along.inputs_many;
+  unit_is = along.unit_is;
+  captures = along.captures;
+  many = along.many;
+  run = along.run;
+  wrote = along.wrote;
+}
 
 -- a fault takes no more calls than the largest record
 pub pulls_most : (error : PcapError) → max_pulls (Err error) ≤ 262160
@@ -185,14 +197,7 @@ module _ {unit : TimeUnit} {e0 e : EngineState} {t : Transfer} {progress : List 
   refused_here error buf pulls more is = (
     inputs,
     states is,
-    record {
-      inputs_many = along.inputs_many;
-      unit_is = along.unit_is;
-      captures = along.captures;
-      many = along.many;
-      run = along.run;
-      wrote = along.wrote;
-    },
+    ran_on along,
     record {
       round = round;
       order = along.order;

@@ -26,7 +26,7 @@ use Rattle.dp_pipe.specs.Forwarding.{Input, AreProgressOf, AnswersSo, HasReadSo,
 use Rattle.dp_pipe.specs.Forwarding.{last_pulls}
 use Rattle.dp_pipe.specs.Running.{IsBegun, IsHeaderCause, all_begun, begun}
 use Rattle.dp_pipe.specs.Tracing.{Note, IsTraced, HasTraced, TracesRead, TracedUntil, TracesRecords, TracesNext, FollowsTraced, TracesInput}
-use Rattle.dp_pipe.specs.Tracing.{IsNotAsked, TracesStep, TracesUntil, NoneIsWanted}
+use Rattle.dp_pipe.specs.Tracing.{AreTracedOver, IsNotAsked, TracesStep, TracesUntil, NoneIsWanted}
 use Rattle.dp_pipe.specs.declared.forwarding.InputProgress.{InputProgress}
 use Rattle.dp_pipe.specs.declared.forwarding.RunCause.{RunCause}
 use Rattle.dp_pipe.specs.declared.forwarding.RunCause.TheVariants.{Memory, NoRoom, In, Out}
@@ -426,11 +426,12 @@ module _ {V : Type 0} {sees : V → Event → V → Type 0} {noted : V → Note 
           let given : length i.records ≡ round = rw (sym is_progress.state ∙ open_p, le-ltb q 0 (omega arith)) at ((order q i i_here).0 of) in
           absurd (omega (arith, is_progress.few, given, past)))
 
-  -- no more is to be traced
-  pub all_traced : NoneIsWanted only progress need → TracesRecords sees noted v0 v only most e0 e had left (Ok tt)
-  all_traced none = record {
+  -- all that was traced, where that is enough
+  abbrev pub traced_until : {n : ℕ} → length (arrivals_of until.inputs) ≤ n → (length until.traced.arrivals ≡ n) ⊎ AreTracedOver only until.inputs
+      → TracesRecords sees noted v0 v only n e0 e had left (Ok tt)
+  traced_until few enough = record {
     count = length (arrivals_of until.inputs);
-    few = omega (arith, until.wanted_is);
+    few = few;
     traced = until.traced;
     read = record {
       inputs = until.inputs;
@@ -440,12 +441,15 @@ module _ {V : Type 0} {sees : V → Event → V → Type 0} {noted : V → Note 
       port = until.coming;
       order = until.order;
       read = are_read until.progress_is;
-      enough = go none;
+      enough = enough;
     };
   }
+
+  -- no more is to be traced
+  pub all_traced : NoneIsWanted only progress need → TracesRecords sees noted v0 v only most e0 e had left (Ok tt)
+  all_traced none = traced_until (omega (arith, until.wanted_is)) (go none)
     where
-      go : NoneIsWanted only progress need
-          → (length until.traced.arrivals ≡ most) ⊎ ((q : ℕ) (i : Input) → slice_get until.inputs q ≡ Some i → IsTraced only q → i.state ≢ Open)
+      go : NoneIsWanted only progress need → (length until.traced.arrivals ≡ most) ⊎ AreTracedOver only until.inputs
       go (inl none) = let long = ap length until.arrivals_are in inl (omega (arith, long, until.wanted_is, none))
       go (inr over) = inr (λ q i at of open_i.
           let (p, here) = get_within progress q (omega (arith, slice_get_within until.inputs q i at, until.progress_is.many)) in

@@ -22,12 +22,11 @@ use Rattle.dp_pipe.specs.declared.forwarding.RunCause.TheVariants.{Memory, NoRoo
 use Rattle.dp_pipe.specs.Devices.{Device}
 use Rattle.dp_pipe.specs.Forwarding.{AreProgressOf, DrainedAll, DrainsStopped, Follows, NoneIsOpen, OnlyIsOpen, TurnsOn, arrivals_of, first_emptied}
 use Rattle.dp_pipe.specs.Running.{IsBegun, IsHeaderCause, IsWriteCause, all_begun}
-use Rattle.dp_pipe.specs.Tracing.{Traces, TracesInput, TracesRecords, TracesUntil}
+use Rattle.dp_pipe.specs.Tracing.{FollowsTraced, Traces, TracesInput, TracesRecords, TracesUntil}
 use Rattle.dp_pipe.specs.Watched.{unnoted, DiffersInLists, ShowsInput, ShowsTurns, ShowsUntil}
 use Rattle.dp_pipe.proofs.Forwarded.{emptied_all}
 use Rattle.dp_pipe.proofs.Rounding.{AreClosed, after_alone, before_alone, decide, gap}
-use Rattle.dp_pipe.proofs.Stopping.{are_read}
-use Rattle.dp_pipe.proofs.TracedReads.{header_fault, round_over, skipped, step_on, step_stops, until_none}
+use Rattle.dp_pipe.proofs.TracedReads.{header_fault, round_over, skipped, step_on, step_stops, traced_until, until_none}
 
 -- ---- engines
 
@@ -37,6 +36,9 @@ record IsLike (before after : EngineState) : Type 0 where
   pub setting : after.setting ≡ before.setting
   pub nodes : after.nodes ≡ before.nodes
   pub turns : after.turns ≡ before.turns
+
+itself : (e : EngineState) → IsLike e e
+itself e = record { world = refl; setting = refl; nodes = refl; turns = refl }
 
 -- after the drains of all ports each transmit list is empty
 all_drained : (unit : TimeUnit) (time : Time) (e e' : EngineState) (held holds : List Device) → length e.world.outboxes ≡ length e.setting.env.ports
@@ -116,32 +118,18 @@ module _ {V : Type 0} {sees : V → Event → V → Type 0} {v0 v : V} {most : �
 
   -- all that was shown
   abbrev all_until : TracesRecords sees unnoted v0 v None (length (arrivals_of until.inputs)) e0 e had left (Ok tt)
-  all_until = record {
-    count = length (arrivals_of until.inputs);
-    few = omega arith;
-    traced = until.traced;
-    read = record {
-      inputs = until.inputs;
-      many = until.many;
-      arrivals_are = until.arrivals_are;
-      round = until.reached;
-      port = until.coming;
-      order = until.order;
-      read = are_read until.progress_is;
-      enough = inl (ap length until.arrivals_are);
-    };
-  }
+  all_until = traced_until until (omega arith) (inl (ap length until.arrivals_are))
 
 -- ---- one input
 
 module _ {V : Type 0} {sees : V → Event → V → Type 0} {v v' : V} {port : ℕ} {unit : TimeUnit} {e e' : EngineState} {p p' : InputProgress}
     {old new : Device} {held holds : List Device} (is_open : p.state ≡ Open) (more : ℕ) (some : 1 ≤ more) where
-  -- a record came
-  came : {answer : Result ⊤ RunCause} (shown : ShowsInput sees v v' port unit e e' p p' old new held holds answer) (time : Time) (len : ℕ)
-      → shown.0.next ≡ Ok (Record time len) → p'.state ≡ Open
-      → TracesInput sees unnoted v v' None port e (record shown.0.engine { world = with_empty_outboxes shown.0.engine.world }) p p' old new (more + 1) more
-      (Ok tt)
-  came (step, bytes) time len is open_p' = record {
+  -- the input was asked
+  asked : {whole : EngineState} {fewer : ℕ} {said : Result ⊤ PcapError} {answer : Result ⊤ RunCause}
+      (shown : ShowsInput sees v v' port unit e e' p p' old new held holds answer)
+      → FollowsTraced shown.0.engine whole p'.state (more + 1) fewer shown.0.next said
+      → TracesInput sees unnoted v v' None port e whole p p' old new (more + 1) fewer said
+  asked (step, bytes) follows = record {
     some = omega arith;
     is_open = is_open;
     is_traced = tt;
@@ -151,8 +139,15 @@ module _ {V : Type 0} {sees : V → Event → V → Type 0} {v v' : V} {port : �
     pulls = step.pulls;
     in_range = step.in_range;
     moves = step.moves;
-    follows = rw is (open_p', refl, refl, refl);
+    follows = follows;
   }
+
+  -- a record came
+  came : {answer : Result ⊤ RunCause} (shown : ShowsInput sees v v' port unit e e' p p' old new held holds answer) (time : Time) (len : ℕ)
+      → shown.0.next ≡ Ok (Record time len) → p'.state ≡ Open
+      → TracesInput sees unnoted v v' None port e (record shown.0.engine { world = with_empty_outboxes shown.0.engine.world }) p p' old new (more + 1) more
+      (Ok tt)
+  came (step, bytes) time len is open_p' = asked (step, bytes) (rw is (open_p', refl, refl, refl))
 
   -- it was asked, and the run goes on
   goes : ShowsInput sees v v' port unit e e' p p' old new held holds (Ok tt)
@@ -171,70 +166,16 @@ module _ {V : Type 0} {sees : V → Event → V → Type 0} {v v' : V} {port : �
             came (step, bytes) time len is open_p',
             all_drained unit time step.engine e' held holds turn.lists all,
           )
-      go (Ok End) is (state, ok, same, kept) = (
-        e',
-        more + 1,
-        omega arith,
-        record {
-          some = omega arith;
-          is_open = is_open;
-          is_traced = tt;
-          next = step.next;
-          engine = step.engine;
-          read = (step.read.0, step.read.1, bytes);
-          pulls = step.pulls;
-          in_range = step.in_range;
-          moves = step.moves;
-          follows = rw is (state, refl, same, refl);
-        },
-        record {
-          world = refl;
-          setting = refl;
-          nodes = refl;
-          turns = refl;
-        },
-      )
-      go (Ok (next.Cut byte)) is (state, ok, same, kept) = (
-        e',
-        more + 1,
-        omega arith,
-        record {
-          some = omega arith;
-          is_open = is_open;
-          is_traced = tt;
-          next = step.next;
-          engine = step.engine;
-          read = (step.read.0, step.read.1, bytes);
-          pulls = step.pulls;
-          in_range = step.in_range;
-          moves = step.moves;
-          follows = rw is (state, refl, same, refl);
-        },
-        record {
-          world = refl;
-          setting = refl;
-          nodes = refl;
-          turns = refl;
-        },
-      )
+      go (Ok End) is (state, ok, same, kept) = (e', more + 1, omega arith, asked (step, bytes) (rw is (state, refl, same, refl)), itself e')
+      go (Ok (next.Cut byte)) is (state, ok, same, kept) =
+          (e', more + 1, omega arith, asked (step, bytes) (rw is (state, refl, same, refl)), itself e')
       go (Err error) is (state, bad, same, kept) = cc
 
   -- it has a fault
   fails : {answer : Result ⊤ RunCause} (error : PcapError) (shown : ShowsInput sees v v' port unit e e' p p' old new held holds answer)
       → shown.0.next ≡ Err error
       → p'.state ≡ Open → e' ≡ shown.0.engine → TracesInput sees unnoted v v' None port e e' p p' old new (more + 1) (more + 1) (Err error)
-  fails error (step, bytes) is state same = record {
-    some = omega arith;
-    is_open = is_open;
-    is_traced = tt;
-    next = step.next;
-    engine = step.engine;
-    read = (step.read.0, step.read.1, bytes);
-    pulls = step.pulls;
-    in_range = step.in_range;
-    moves = step.moves;
-    follows = rw is (state, refl, same, refl);
-  }
+  fails error (step, bytes) is state same = asked (step, bytes) (rw is (state, refl, same, refl))
 
 -- ---- the call for one input
 

@@ -1,6 +1,7 @@
 //! Runs an open engine from captures to captures: headers, then record by record, round by round.
-ghost use Rattle.std.specs.Prelude.{◌≡◌, ℕ, ◌+◌, ◌<◌, ◌≤◌, ◌↔◌, true, false, [], List, Ok, Err, length, map, slice_get, slice_set, Some, OnOk, OnErr};
+ghost use Rattle.std.specs.Prelude.{◌≡◌, ℕ, ◌+◌, ◌<◌, ◌≤◌, ◌↔◌, true, false, [], List, Ok, Err, length, map, slice_get, slice_set, take, Some, OnOk, OnErr};
 ghost use Rattle.std.specs.Prelude.{IfOk, IfErr, IsOk, IsErr, IsErrOf, IsTrue};
+ghost use Rattle.dp_pcap.specs.Capture.{truncates};
 ghost use Rattle.dp_pcap.specs.Source.{body_in, IsHeld, IsInRange, Moves, advanced, max_pulls, failed_pulls};
 ghost use Rattle.dp_pipe.specs.Devices.{Device, seen, transfer, AllSound, AllFared, FaredAlone, failed_reader, failed_writer, failed_drain};
 ghost use Rattle.dp_pipe.specs.Forwarding.{Input, ReadsTurn, DrainedAll, DrainsStopped, DrainedFirst, Advances, RunUntil, IsUnderway, IsRound, AreRounds};
@@ -14,8 +15,8 @@ ghost use Rattle.dp_pcap.specs.declared.time.Unit.{Unit as TimeUnit};
 
 use dp_engine::{CompiledPrograms, Engine, InputState, Watch};
 use dp_pcap::{
-    Feed, HEAD_SIZE, MAX_RECORD, MAX_RECORDS, Next, PcapError, Sink, Source, Time, Unit,
-    next_record, pass_record, put_header, read_header, record_at_hand,
+    Feed, HEAD_SIZE, HeldRecord, MAX_RECORD, MAX_RECORDS, Next, PcapError, Sink, Source, Time,
+    Unit, next_record, pass_record, put_header, read_header, record_at_hand,
 };
 
 /// The maximum number of turns of a run: the most records that eight captures can have.
@@ -61,24 +62,25 @@ fn held_turn<K: CompiledPrograms, R: Feed, V: Watch>(
     port: u8,
     r: &mut R,
     source: &mut Source,
-    len: usize,
+    record: HeldRecord,
     watch: &mut V,
 )
     requires exists { port < length engine.old.setting.env.ports }
     requires limit { engine.old.turns + MAX_RECORDS ≤ MAX_RUN_TURNS + source.old.given }
     requires open { source.old.is_open ≡ true }
-    requires held { (time : InSeconds) × IsHeld source.old (R.at_hand r.old) time len }
-    requires fits { len ≤ MAX_RECORD }
-    ensures turn { (time : InSeconds) → IsHeld source.old (R.at_hand r.old) time len →
+    requires held { (time : InSeconds) × IsHeld source.old (R.at_hand r.old) time record.len }
+    requires truncated { record.is_truncated ≡ truncates source.old.order (take HEAD_SIZE (R.at_hand r.old)) }
+    requires fits { record.len ≤ MAX_RECORD }
+    ensures turn { (time : InSeconds) → IsHeld source.old (R.at_hand r.old) time record.len →
         ShowsNext V.sees watch.old watch.new port engine.old engine.new source.old source.new (R.remaining r.old) (R.remaining r.new)
-        (Ok (Next.Record time len)) }
-    ensures source { source.new ≡ advanced source.old len }
+        (Ok (Next.Record time record.len)) }
+    ensures source { source.new ≡ advanced source.old record.len }
     ensures sound { (R.is_broken r.old ≡ false) × (R.is_broken r.new ≡ false) }
     ensures calls { R.calls r.new ≡ R.calls r.old }
     ensures failures { R.failures r.new ≡ R.failures r.old }
 {
-    let _turn = engine.watched_turn(port, body_of(r, len), watch);
-    pass_record(r, source, len);
+    let _turn = engine.watched_turn(port, body_of(r, record.len), watch);
+    pass_record(r, source, record);
 }
 
 // Reads what comes next into the run's buffer and, if it is a record, takes a watched turn with it.
@@ -232,11 +234,11 @@ fn ask<K: CompiledPrograms, R: Feed, W: Sink, V: Watch>(
     if !is_open(input) {
         return Ok(());
     }
-    let Some((time, len)) = record_at_hand(r, &input.source) else {
+    let Some(record) = record_at_hand(r, &input.source) else {
         return ask_copied(engine, port, input, r, outs, unit, buf, watch);
     };
-    held_turn(engine, port, r, &mut input.source, len, watch);
-    match drain_all(engine, time, unit, outs) {
+    held_turn(engine, port, r, &mut input.source, record, watch);
+    match drain_all(engine, record.time, unit, outs) {
         Ok(()) => Ok(()),
         Err(failed) => Err(RunCause::Out(failed)),
     }
@@ -342,10 +344,7 @@ fn rounds_alone<K: CompiledPrograms, R: Feed, W: Sink, V: Watch>(
         ShowsUntil V.sees v0 watch.old e0 engine.old had (map (seen R.remaining R.calls) ins) inputs k 0
         → ShowsTurns V.sees v0 watch.new e0 engine.new had (map (seen R.remaining R.calls) (slice_set ins port r.new)) result }
 {
-    for k in 0..ROUNDS {
-        if !is_open(input) {
-            return Ok(());
-        }
+    while is_open(input) {
         ask(engine, port, input, r, outs, unit, buf, watch)?;
     }
     Ok(())

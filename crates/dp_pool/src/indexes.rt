@@ -8,6 +8,7 @@ ghost use Rattle.dp_pool.specs.Pools.{max_objects, max_cache, is_out_in};
 ghost use Rattle.dp_ring.specs.Rings.{room_in, with_more, without_first};
 ghost use Rattle.dp_pool.specs.Queues.{max_in_cache, in_count, taken, back, cached_after_get, cached_after_put, AreHanded, AreOut, all_returned};
 
+use crate::hint::proved;
 use arrayvec::ArrayVec;
 use dp_ring::Ring;
 use std::marker::Model;
@@ -177,6 +178,7 @@ impl Indexes {
         ensures out { self.new ≡ record self.old { out = taken result self.old.out } }
     {
         let Some(index) = self.queue.dequeue() else {
+            proved(false);
             unreachable!();
         };
         index
@@ -190,6 +192,7 @@ impl Indexes {
         ensures out { self.new ≡ record self.old { out = taken result self.old.out; cached = self.old.cached - 1 } }
     {
         let Some(index) = self.cached.pop() else {
+            proved(false);
             unreachable!();
         };
         index
@@ -258,7 +261,7 @@ impl Indexes {
         requires { slice_get self.old.out index ≡ Some true }
         ensures { self.new ≡ record self.old { out = back index self.old.out } }
     {
-        self.queue.enqueue(index);
+        proved(self.queue.enqueue(index));
     }
 
     // Appends an index to the cache. A cache that reaches one and a half times its size is cut back to its size.

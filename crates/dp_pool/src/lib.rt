@@ -14,10 +14,12 @@
 #![tactic(auto)]
 
 mod error;
+mod hint;
 mod indexes;
 mod making;
 mod pool;
 
 pub use error::PoolError;
+pub use hint::proved;
 pub use making::{MAX_CACHE, MAX_OBJECT, MAX_OBJECTS};
 pub use pool::Pool;

@@ -172,7 +172,7 @@ impl Machine {
         }
         match self.mbufs.alloc(u32::from(pool)) {
             Some(packet) => {
-                self.registers[usize::from(into.number())] = Register::of(packet.number());
+                self.registers[usize::from(into.number())].put(packet.number());
                 true
             }
             None => false,
@@ -207,7 +207,7 @@ impl Machine {
         let source = handle_in(&self.registers, from);
         match self.mbufs.clone_of(&source, u32::from(pool)) {
             Some(packet) => {
-                self.registers[usize::from(into.number())] = Register::of(packet.number());
+                self.registers[usize::from(into.number())].put(packet.number());
                 true
             }
             None => false,

@@ -19,6 +19,7 @@ use crate::machine::register::{Register, set_first};
 use crate::put::put_and_free;
 use dp_model::{Packet as Handle, PacketRegister, Queue};
 use dp_pcap::{PcapError, Sink, Time, Unit};
+use dp_pool::proved;
 
 impl Machine {
     // Moves a packet to the end of a queue. Returns false if it is full.
@@ -67,7 +68,10 @@ impl Machine {
     {
         match self.queues.pop(queue) {
             Some(packet) => self.mbufs.free(Handle::of(packet)),
-            None => unreachable!(),
+            None => {
+                proved(false);
+                unreachable!()
+            }
         }
     }
 
@@ -109,7 +113,10 @@ impl Machine {
     {
         match self.queues.pop(Queue::Tx(port)) {
             Some(packet) => put_and_free(&mut self.mbufs, Handle::of(packet), time, unit, w),
-            None => unreachable!(),
+            None => {
+                proved(false);
+                unreachable!()
+            }
         }
     }
 

@@ -32,14 +32,13 @@ impl Register {
         }
     }
 
-    /// A register that holds the packet of a handle.
-    pub(crate) fn of(handle: u32) -> Register
-        ensures { result ≡ Some handle }
+    /// Puts the packet of a handle into it. Its two fields are written apart, and not the bytes that are in none.
+    #[inline(always)]
+    pub(crate) fn put(&mut self, handle: u32)
+        ensures { self.new ≡ Some handle }
     {
-        Register {
-            handle,
-            is_held: true,
-        }
+        self.handle = handle;
+        self.is_held = true;
     }
 
     /// Whether it holds a packet.
@@ -80,5 +79,5 @@ pub(crate) fn set_first(registers: &mut [Register; 8], handle: u32)
     requires { AllByRecursion (λ o. o ≡ None) registers.old }
     ensures { registers.new ≡ Some handle ∷ replicate 7 None }
 {
-    registers[0] = Register::of(handle);
+    registers[0].put(handle);
 }

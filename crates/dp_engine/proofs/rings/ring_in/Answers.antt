@@ -8,9 +8,9 @@ listed c = omega (arith, c.from.ensures, c.requires, rings_below c.args.rings.no
 pub bounds-rings-from : goal.bounds-rings-from
 bounds-rings-from c = omega (arith, c.from.ensures, c.requires, c.type_inv.rings, rings_below c.args.rings.now)
 
-pub unreachable-requires : goal.unreachable-requires
-unreachable-requires c =
-    let e = ring_there c.args.rings.now c.args.k c.index-rings-from.result c.requires in cc
+pub proved-requires : goal.proved-requires
+proved-requires c =
+    let e = ring_there c.args.rings.now c.args.k c.index-rings-from.result c.requires in absurd cc
 
 pub returns : goal.returns
 returns c =

@@ -33,7 +33,7 @@ there g c =
 fits : (g : _) (c : After-pattern g) → segments_needed c.args.context.now.setting.env.pools (spec_of c.ports.result.now c.from.result).pool
     (length c.args.bytes.now) ≤ (spec_of c.ports.result.now c.from.result).segs
 fits g c =
-    omega (arith, rw c.requires.rests.pools at c.needed.ensures, c.if-needed-spec.false)
+    omega (arith, rw c.requires.rests.pools at c.needed.ensures, c.if-is_oversize.ensures.fits refl)
 
 -- what is received, and that the port's program can run on it
 came : (g : _) (c : After-tables g) → AtPort c.args.context.now.setting c.args.context.now.nodes c.args.port (spec_of c.ports.result.now c.from.result)
@@ -65,17 +65,28 @@ went g c r =
     r.receives c.run.new.m.state
     (subst (λ (x : Setting). Runs x c.port_program-program.result.now c.receive.new.self.state c.run.new.m.state) setting c.run.ensures.runs)
 
-pub returns-then-needed-spec-clause-arrives : goal.returns-then-needed-spec-clause-arrives
-returns-then-needed-spec-clause-arrives g c =
-    let at = there g (goal.at.returns-then-needed-spec-clause-arrives g c).After-from in
+pub returns-then-is_oversize-clause-arrives : goal.returns-then-is_oversize-clause-arrives
+returns-then-is_oversize-clause-arrives g c =
+    let at = there g (goal.at.returns-then-is_oversize-clause-arrives g c).After-from in
     let need : c.needed.result ≡ segments_needed c.args.context.now.setting.env.pools (spec_of c.ports.result.now c.from.result).pool (length c.args.bytes.now)
-    = rw c.requires.rests.pools at c.needed.ensures in
-    ([], (spec_of c.ports.result.now c.from.result, at.program, at.spec_is, at.program_is, (omega (arith, need, c.if-needed-spec.true), refl, refl)))
+    = rw c.requires.rests.pools at c.needed.ensures in (
+      [],
+      (
+        spec_of c.ports.result.now c.from.result,
+        at.program,
+        at.spec_is,
+        at.program_is,
+        (omega (arith, need, c.if-is_oversize.ensures.over refl), refl, refl),
+      ),
+    )
 
 pub needed-requires : goal.needed-requires
 needed-requires g c =
     let at = there g (goal.at.needed-requires g c).After-from in
     rw c.requires.rests.pools at.room
+
+pub is_oversize-requires : goal.is_oversize-requires
+is_oversize-requires g c = (there g (goal.at.is_oversize-requires g c).After-from).some_segs
 
 pub receive-requires-clause-has_room : goal.receive-requires-clause-has_room
 receive-requires-clause-has_room g c =
@@ -87,7 +98,7 @@ receive-requires-clause-fits g c =
     let pools = c.requires.rests.pools ∙ sym (ap (λ (x : Environment). x.pools) c.env-env.ensures.same) in
     let need : c.needed.result ≡ segments_needed c.env-env.result.now.pools (spec_of c.ports.result.now c.from.result).pool (length c.args.bytes.now) =
     rw pools at c.needed.ensures in
-    omega (arith, need, c.if-needed-spec.false, (there g (goal.at.receive-requires-clause-fits g c).After-from).segs)
+    omega (arith, need, c.if-is_oversize.ensures.fits refl, (there g (goal.at.receive-requires-clause-fits g c).After-from).segs)
 
 pub returns-then-not-receive-clause-arrives : goal.returns-then-not-receive-clause-arrives
 returns-then-not-receive-clause-arrives g c =
@@ -138,9 +149,9 @@ returns-clause-rests g c =
           c.args.m.now.state.world c.run.new.m.state.world Got answers c.port_program-program.ensures.same at.spec_is c.requires.rests.rest receives;
     }
 
-pub returns-then-needed-spec-clause-watched : goal.returns-then-needed-spec-clause-watched
-returns-then-needed-spec-clause-watched g c =
-    let at = there g (goal.at.returns-then-needed-spec-clause-watched g c).After-from in
+pub returns-then-is_oversize-clause-watched : goal.returns-then-is_oversize-clause-watched
+returns-then-is_oversize-clause-watched g c =
+    let at = there g (goal.at.returns-then-is_oversize-clause-watched g c).After-from in
     let need : c.needed.result ≡ segments_needed c.args.context.now.setting.env.pools (spec_of c.ports.result.now c.from.result).pool (length c.args.bytes.now)
     = rw c.requires.rests.pools at c.needed.ensures in
     record {
@@ -151,7 +162,7 @@ returns-then-needed-spec-clause-watched g c =
         at.program,
         at.spec_is,
         at.program_is,
-        (omega (arith, need, c.if-needed-spec.true), refl, refl),
+        (omega (arith, need, c.if-is_oversize.ensures.over refl), refl, refl),
         refl,
       );
       seen = refl;

@@ -10,9 +10,9 @@ listed c = omega (arith, c.requires.there, present_below c.args.pools.now)
 pub bounds-pools-from : goal.bounds-pools-from
 bounds-pools-from c = omega (arith, c.requires.there, c.type_inv.pools, present_below c.args.pools.now)
 
-pub unreachable-requires : goal.unreachable-requires
-unreachable-requires c =
-    let e = present_at c.args.pools.now c.args.k c.index-pools-from.result c.requires.there in cc
+pub proved-requires : goal.proved-requires
+proved-requires c =
+    let e = present_at c.args.pools.now c.args.k c.index-pools-from.result c.requires.there in absurd cc
 
 pub returns-clause-value : goal.returns-clause-value
 returns-clause-value c =

@@ -1,23 +1,26 @@
--- One more record.
-use Rattle.std.proofs.Common.{rules, ◌≡◌, ◌+◌, length, arith, append-nil, add-zero}
-use Rattle.std.proofs.lemmas.Slice.{between_to_end}
+-- One more record, also after the last head that was read in the loop.
+use Rattle.std.proofs.Common.{rules, arith, append-nil, add-zero}
 use Rattle.dp_pcap.proofs.Counting.{front_passed}
 use Rattle.dp_pcap.proofs.whole_records.whole_at_front.Goals as goal
 
-pub loop-at-init : goal.loop-at-init
-loop-at-init c = record {
+pub loop-next-init : goal.loop-next-init
+loop-next-init c = record {
   within = omega arith;
   few = omega arith;
-  beyond = λ n before b. rw (append-nil, add-zero) b;
+  ends = c.record_end-next.ensures;
+  before = λ n before b. rw (append-nil, add-zero) b;
 }
 
-pub loop-at-preserved : goal.loop-at-preserved
-loop-at-preserved c = record {
+pub loop-next-preserved : goal.loop-next-preserved
+loop-next-preserved c = record {
   within = search rules;
   few = search rules;
-  beyond = λ n before b.
-      let same : n + c.loop-at.count + 1 ≡ n + (c.loop-at.count + 1) = omega arith in
-      rw same at (front_passed c.args.order (n + c.loop-at.count) c.loop-at.at _ before c.args.bytes.now _
-      (between_to_end c.args.bytes.now c.loop-at.at (length c.args.bytes.now) (omega arith))
-      c.loop-at.invariant.within c.if-rest-size.false (rw c.body_length.ensures) (c.loop-at.invariant.beyond n before b));
+  ends = search rules;
+  before = front_passed c.args.order c.loop-next.count c.loop-next.at c.loop-next.next c.args.bytes.now c.loop-next.invariant.ends (search rules)
+      c.loop-next.invariant.before;
 }
+
+pub returns-then-next-bytes-clause-beyond : goal.returns-then-next-bytes-clause-beyond
+returns-then-next-bytes-clause-beyond c =
+    front_passed c.args.order c.loop-next.count c.loop-next.at c.loop-next.next c.args.bytes.now c.loop-next.invariant.ends c.if-next-bytes.true
+    c.loop-next.invariant.before

@@ -1,14 +1,15 @@
--- The first n records are before this offset.
-use Rattle.std.proofs.Common.{ℕ, ◌+◌, ◌-◌, ◌≤◌, List, ◌++◌, length, take}
-use Rattle.dp_pcap.specs.Counting.{IsAfter, none_left}
+-- The first n records are before this offset, and the next one ends at `next`.
+use Rattle.std.proofs.Common.{◌-◌, ◌≤◌, length}
+use Rattle.dp_pcap.proofs.Counting.{AreBefore, EndsAt}
 use Rattle.dp_pcap.proofs.whole_records.whole_at_front.Given as goal
 
-abbrev pub invariant-loop-at : goal.invariant-loop-at
-invariant-loop-at l = record {
+abbrev pub invariant-loop-next : goal.invariant-loop-next
+invariant-loop-next l = record {
   within : l.at ≤ length l.bytes;
   few : l.count ≤ l.at;
-  beyond : (n : ℕ) (before : List ℕ) → IsAfter (none_left l.order n) before → IsAfter (none_left l.order (n + l.count)) (before ++ take l.at l.bytes);
+  ends : EndsAt l.order l.bytes l.at l.next;
+  before : AreBefore l.order l.count l.bytes l.at;
 }
 
-abbrev pub decreases-loop-at : goal.decreases-loop-at
-decreases-loop-at l = length l.bytes - l.at
+abbrev pub decreases-loop-next : goal.decreases-loop-next
+decreases-loop-next l = length l.bytes - l.at

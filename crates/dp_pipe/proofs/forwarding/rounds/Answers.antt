@@ -6,7 +6,7 @@ use Rattle.dp_pcap.specs.declared.format.TheConstants.{MAX_RECORD}
 use Rattle.dp_engine.specs.Engines.{EngineState}
 use Rattle.dp_pipe.specs.declared.forwarding.RunCause.{RunCause}
 use Rattle.dp_pipe.specs.Devices.{Device, seen, transfer, AllFared, AllSound, failed_reader, failed_writer}
-use Rattle.dp_pipe.specs.Forwarding.{Input, RunUntil, IsAlone, IsRound}
+use Rattle.dp_pipe.specs.Forwarding.{Input, RunUntil, IsAlone, IsRound, IsUnderway}
 use Rattle.dp_pipe.specs.Watched.{ShowsRound, ShowsUntil}
 use Rattle.dp_pipe.proofs.Watched.{shown_all}
 use Rattle.dp_pipe.proofs.Faring.{reader_then, readers_then, writers_then}
@@ -61,39 +61,30 @@ shown g c v0 e0 olds until = c.round.ensures.shown v0 e0 olds c.loop-k.k (c.loop
 gone : (g : _) (c : goal.After-from_residual g) → c.from_residual.result ≡ Err c.in_err-round.field-0.0
 gone g c = search rules
 
+-- what each call needs of that run: its writers, its counts, a buffer, and the run itself
+needs : (g : _) (c : In-loop-k g) → (length c.loop-k.outs ≡ length c.loop-k.engine.setting.env.ports) × (length c.loop-k.outs ≤ 8)
+    × (length c.loop-k.engine.tallies ≡ 8) × (MAX_RECORD ≤ length c.loop-k.buf)
+    × IsUnderway c.args.unit c.loop-k.engine (map (seen g.R.Feed.remaining g.R.Feed.calls) c.loop-k.ins)
+    (map (seen g.W.Sink.contents g.W.Sink.calls) c.loop-k.outs) c.loop-k.inputs c.loop-k.k 0
+needs g c =
+    let inv = c.loop-k.invariant in
+    let start = c.requires.underway in
+    let (now, going) = along g c in (
+      inv.outs ∙ c.requires.outs ∙ ports g c,
+      omega (arith, inv.outs, c.requires.few),
+      going.run.each ∙ sym start.run.run.each ∙ c.requires.counted,
+      rw inv.buf c.requires.buf,
+      record { before = start.before; had = start.had; held = start.held; inputs = now; run = going },
+    )
+
 pub round-requires : goal.round-requires
 round-requires g c =
     let inv = c.loop-k.invariant in
-    let start = c.requires.underway in
     let same = ports g (goal.at.round-requires g c).In-loop-k in
-    let (now, going) = along g (goal.at.round-requires g c).In-loop-k in
-    let counted = going.run.each ∙ sym c.requires.underway.run.run.each ∙ c.requires.counted in
-    let few : length c.loop-k.outs ≤ 8 = omega (arith, inv.outs, c.requires.few) in
-    let buf : MAX_RECORD ≤ length c.loop-k.buf = rw inv.buf c.requires.buf in (
-      omega arith,
-      (
-        inv.inputs ∙ c.requires.inputs ∙ same,
-        (
-          inv.ins ∙ c.requires.ins ∙ same,
-          (
-            inv.outs ∙ c.requires.outs ∙ same,
-            (
-              few,
-              (
-                counted,
-                (
-                  buf,
-                  (
-                    c.loop-k.k,
-                    record { before = start.before; had = start.had; held = start.held; inputs = now; run = going },
-                  ),
-                ),
-              ),
-            ),
-          ),
-        ),
-      ),
-    )
+    let inputs = inv.inputs ∙ c.requires.inputs ∙ same in
+    let ins = inv.ins ∙ c.requires.ins ∙ same in
+    let (outs, few, counted, buf, underway) = needs g (goal.at.round-requires g c).In-loop-k in
+    (omega arith, (inputs, (ins, (outs, (few, (counted, (buf, (c.loop-k.k, underway))))))))
 
 -- the only open input, and its reader
 alone : (g : _) (c : After-index-ins-k g) → IsAlone c.in-One.port (slice_index_or c.loop-k.inputs c.in-One.port c.index-inputs-k.result)
@@ -111,35 +102,9 @@ alone g c =
 
 pub rounds_alone-requires : goal.rounds_alone-requires
 rounds_alone-requires g c =
-    let inv = c.loop-k.invariant in
-    let start = c.requires.underway in
-    let same = ports g (goal.at.rounds_alone-requires g c).In-loop-k in
-    let (now, going) = along g (goal.at.rounds_alone-requires g c).In-loop-k in
-    let counted = going.run.each ∙ sym c.requires.underway.run.run.each ∙ c.requires.counted in
-    let few : length c.loop-k.outs ≤ 8 = omega (arith, inv.outs, c.requires.few) in
-    let buf : MAX_RECORD ≤ length c.loop-k.buf = rw inv.buf c.requires.buf in
-    let here = alone g (goal.at.rounds_alone-requires g c).After-index-ins-k in (
-      omega arith,
-      (
-        inv.outs ∙ c.requires.outs ∙ same,
-        (
-          few,
-          (
-            counted,
-            (
-              buf,
-              (
-                c.loop-k.inputs,
-                c.loop-k.ins,
-                c.loop-k.k,
-                here,
-                record { before = start.before; had = start.had; held = start.held; inputs = now; run = going },
-              ),
-            ),
-          ),
-        ),
-      ),
-    )
+    let (outs, few, counted, buf, underway) = needs g (goal.at.rounds_alone-requires g c).In-loop-k in
+    let here = alone g (goal.at.rounds_alone-requires g c).After-index-ins-k in
+    (omega arith, (outs, (few, (counted, (buf, (c.loop-k.inputs, c.loop-k.ins, c.loop-k.k, here, underway))))))
 
 pub returns-in-One-clause-goes : goal.returns-in-One-clause-goes
 returns-in-One-clause-goes g c e0 olds held read start =

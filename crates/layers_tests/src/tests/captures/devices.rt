@@ -65,14 +65,16 @@ fn step<F: Feed>(
     buf: &mut Buffer,
 ) -> Option<bool> {
     let calls = r.count;
-    let Some((time, len)) = record_at_hand(r, source) else {
+    let Some(found) = record_at_hand(r, source) else {
         let same = next(r, source, buf) == comes;
         return if same { Some(false) } else { None };
     };
-    if comes != Ok(Next::Record(time, len)) || r.held().get(16..16 + len) != buf.get(..len) {
+    if comes != Ok(Next::Record(found.time, found.len))
+        || r.held().get(16..16 + found.len) != buf.get(..found.len)
+    {
         return None;
     }
-    pass_record(r, source, len);
+    pass_record(r, source, found);
     if r.count == calls { Some(true) } else { None }
 }
 
@@ -179,7 +181,7 @@ fn read_all<R: Feed>(r: &mut R, buf: &mut Buffer) -> Result<usize, PcapError> {
     let mut count = 0usize;
     for _ in 0..5 {
         match record_at_hand(r, &source) {
-            Some((_, len)) => pass_record(r, &mut source, len),
+            Some(found) => pass_record(r, &mut source, found),
             None => match next(r, &mut source, buf)? {
                 Next::Record(_, _) => {}
                 _ => return Ok(count),

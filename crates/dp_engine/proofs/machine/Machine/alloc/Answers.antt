@@ -16,7 +16,7 @@ given c =
 
 pub invariant_of-self-in-Some : goal.invariant_of-self-in-Some
 invariant_of-self-in-Some c =
-    rw (c.of.ensures, c.number.ensures, c.from-in-Some.ensures, c.number-in-Some.ensures.same) (given (goal.at.invariant_of-self-in-Some c).In-Some).stand
+    rw (c.put.ensures, c.number-in-Some.ensures, c.from-in-Some.ensures, c.number.ensures.same) (given (goal.at.invariant_of-self-in-Some c).In-Some).stand
 
 pub returns-in-Some-clause-denied : goal.returns-in-Some-clause-denied
 returns-in-Some-clause-denied c = sym ((given (goal.at.returns-in-Some-clause-denied c).In-Some).allowed (sym c.if-is_listed.ensures))
@@ -24,7 +24,7 @@ returns-in-Some-clause-denied c = sym ((given (goal.at.returns-in-Some-clause-de
 pub returns-in-Some-clause-given : goal.returns-in-Some-clause-given
 returns-in-Some-clause-given c _ =
     let t = given (goal.at.returns-in-Some-clause-given c).In-Some in
-    rw (c.of.ensures, c.number.ensures, c.from-in-Some.ensures, c.number-in-Some.ensures.same, c.alloc.ensures.zones)
+    rw (c.put.ensures, c.number-in-Some.ensures, c.from-in-Some.ensures, c.number.ensures.same, c.alloc.ensures.zones)
     (t.ns, t.buffers, t.fresh, t.changes, t.state)
 
 pub returns-in-None-clause-denied : goal.returns-in-None-clause-denied

@@ -33,7 +33,7 @@ pub invariant_of-self-in-Some : goal.invariant_of-self-in-Some
 invariant_of-self-in-Some c =
     let here = goal.at.invariant_of-self-in-Some c in
     let (k, holds) = c.requires.holds in
-    rw (c.of.ensures, c.number.ensures, c.from-in-Some.ensures, c.number-in-Some.ensures.same)
+    rw (c.put.ensures, c.number-in-Some.ensures, c.from-in-Some.ensures, c.number.ensures.same)
     (given here.In-Some k (there here.After-handle_in-source k holds)).stand
 
 pub invariant_of-self-in-None : goal.invariant_of-self-in-None
@@ -51,7 +51,7 @@ pub returns-in-Some-clause-given : goal.returns-in-Some-clause-given
 returns-in-Some-clause-given c _ k holds =
     let here = goal.at.returns-in-Some-clause-given c in
     let t = given here.In-Some k (there here.After-handle_in-source k holds) in
-    rw (c.of.ensures, c.number.ensures, c.from-in-Some.ensures, c.number-in-Some.ensures.same, c.clone_of.ensures.zones) (
+    rw (c.put.ensures, c.number-in-Some.ensures, c.from-in-Some.ensures, c.number.ensures.same, c.clone_of.ensures.zones) (
       t.ns,
       t.fresh,
       keeps_bytes _ _ _ _ _ t.changes t.state,

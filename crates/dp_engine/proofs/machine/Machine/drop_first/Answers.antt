@@ -29,10 +29,10 @@ invariant_of-self c =
     rw (c.free.ensures.packets, c.of.ensures, rest.rings_have, rest.outboxes_have)
     (stand_drops c.args.queue (parts_of c.self.inside) c.in-Some.packet _ (front (goal.at.invariant_of-self c).In-Some) c.self.invariant)
 
-pub unreachable-requires : goal.unreachable-requires
-unreachable-requires c =
+pub proved-requires : goal.proved-requires
+proved-requires c =
     let (packets, k, list) = c.requires.some in
-    first_there c.self.inside _ c.self.view_is c.args.queue k packets c.requires.there list c.in-None.ensures.first
+    absurd (first_there c.self.inside _ c.self.view_is c.args.queue k packets c.requires.there list c.in-None.ensures.first)
 
 pub returns : goal.returns
 returns c packets k list =

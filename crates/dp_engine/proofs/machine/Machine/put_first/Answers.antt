@@ -47,10 +47,10 @@ invariant_of-self g c =
     rw (c.put_and_free.ensures.freed, c.of.ensures, rest.rings_have, rest.outboxes_have)
     (stand_drops (Tx c.args.port) (parts_of c.self.inside) c.in-Some.packet _ (front g (goal.at.invariant_of-self g c).In-Some) c.self.invariant)
 
-pub unreachable-requires : goal.unreachable-requires
-unreachable-requires g c =
+pub proved-requires : goal.proved-requires
+proved-requires g c =
     let (packets, k, list) = c.requires.some in
-    first_there c.self.inside _ c.self.view_is (Tx c.args.port) k packets c.requires.there list c.in-None.ensures.first
+    absurd (first_there c.self.inside _ c.self.view_is (Tx c.args.port) k packets c.requires.there list c.in-None.ensures.first)
 
 pub returns-clause-ok : goal.returns-clause-ok
 returns-clause-ok g c =

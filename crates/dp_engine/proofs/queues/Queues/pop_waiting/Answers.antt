@@ -1,20 +1,22 @@
 -- The first ring that waits loses an entry: what that makes of the rings is derived once.
-use Rattle.std.proofs.Common.{◌≡◌, ◌<◌, ◌≤◌, ◌∙◌, length, drop, ap, refl, sym, subst, arith, true}
+use Rattle.std.proofs.Common.{◌≡◌, ◌<◌, ◌≤◌, ◌∙◌, length, drop, ap, refl, sym, subst, arith, true, Some}
 use Rattle.std.specs.List.{position}
 use Rattle.std.proofs.lemmas.List.{length-set}
 use Rattle.dp_ring.specs.Rings.{without_first}
 use Rattle.dp_model.specs.declared.queue.Queue.TheVariants.{Ring}
 use Rattle.dp_engine.specs.HandleQueues.{Becomes}
 use Rattle.dp_engine.specs.Queues.{QueuesView, ring_at, is_waiting}
-use Rattle.dp_engine.proofs.Firsts.{first_slot, first_is, first_waits, has_entry, here, idle_is, waits_is, not_before, stepped}
+use Rattle.dp_engine.proofs.Firsts.{first_slot, first_is, first_waits, found, has_entry, here, idle_is, waits_is, not_before, stepped}
 use Rattle.dp_engine.proofs.Pushing.{popped}
 use Rattle.dp_engine.proofs.queues.Queues.pop_waiting.Goals as goal
 use Rattle.dp_engine.proofs.queues.Queues.pop_waiting.Goals.{After-pop}
 
+waiting : (c : After-pop) → position is_waiting c.self.inside.rings ≡ Some c.args.ring
+waiting c = ap (λ (q : QueuesView). position is_waiting q.rings) c.self.view_is ∙ c.requires.waits
+
 -- the ring is the first that waits
 first : (c : After-pop) → (c.args.ring ≡ first_slot c.self.inside.rings) × (c.args.ring < length c.self.inside.rings)
-first c =
-    first_is c.self.inside.rings c.args.ring (ap (λ (q : QueuesView). position is_waiting q.rings) c.self.view_is ∙ c.requires.waits)
+first c = first_is c.self.inside.rings c.args.ring (waiting c)
 
 -- none before it waits after that
 from : (c : After-pop) → c.args.ring ≤ first_slot c.pop.new.self
@@ -36,13 +38,13 @@ rest c =
     let its = popped c.self.inside.rings c.pop.new.self c.args.ring c.pop.ensures.rest in
     rw (← c.self.view_is) (record { rings_stay = its.frames; outboxes_stay = refl; rings_have = its.lists; outboxes_have = refl })
 
-pub unreachable-requires : goal.unreachable-requires
-unreachable-requires c =
+pub proved-requires : goal.proved-requires
+proved-requires c =
     let rings = c.self.inside.rings in
-    let (same, there) = first (goal.at.unreachable-requires c).After-pop in
+    let (same, there) = first (goal.at.proved-requires c).After-pop in
     let waits : is_waiting (ring_at rings c.args.ring) ≡ true =
     ap (λ k. is_waiting (ring_at rings k)) same ∙ first_waits rings (omega (arith, same, there)) in
-    has_entry (ring_at rings c.args.ring) waits (sym c.in_default.is ∙ c.pop.ensures.first)
+    absurd (has_entry (ring_at rings c.args.ring) waits (sym c.in_default.is ∙ c.pop.ensures.first))
 
 pub first_from-self-inside-requires : goal.first_from-self-inside-requires
 first_from-self-inside-requires c =
@@ -56,9 +58,11 @@ pub invariant_of-self-else-count-eq0 : goal.invariant_of-self-else-count-eq0
 invariant_of-self-else-count-eq0 c =
     let at = (goal.at.invariant_of-self-else-count-eq0 c).After-pop in (
       c.self.invariant.0
-          ∙ sym (first at).0
-          ∙ here c.pop.new.self c.args.ring (from at) (there_now at)
-          (waits_is (ring_at c.pop.new.self c.args.ring) (λ e. c.if-count-eq0.false (c.count.ensures.value ∙ e))),
+          ∙ waiting at
+          ∙ found c.pop.new.self c.args.ring
+          (here c.pop.new.self c.args.ring (from at) (there_now at)
+          (waits_is (ring_at c.pop.new.self c.args.ring) (λ e. c.if-count-eq0.false (c.count.ensures.value ∙ e))))
+          (there_now at),
       c.self.invariant.1,
     )
 

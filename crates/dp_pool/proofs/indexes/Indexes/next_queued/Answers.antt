@@ -6,15 +6,15 @@ use Rattle.dp_pool.proofs.Views.{view_of, with_state, got_queued}
 use Rattle.dp_pool.proofs.Steps.{Gone, gone_queued, none_queued, in_count_parts}
 use Rattle.dp_pool.proofs.indexes.Indexes.next_queued.Goals as goal
 
-pub unreachable-requires : goal.unreachable-requires
-unreachable-requires c =
+pub proved-requires : goal.proved-requires
+proved-requires c =
     let (once, _, _, _, none_cached, _) = c.self.invariant in
     let empty = none_queued c.self.inside.queue.entries (sym c.dequeue.ensures.first ∙ c.in_default.is) in
     let all = in_count_parts c.self.inside.count c.self.inside.cached.items c.self.inside.queue.entries once in
     let some : 0 < in_count (the_view c.self.inside).out = subst (λ v. 0 < in_count v.out) (sym c.self.view_is) c.requires.some in
     let none = none_cached (ap (λ v. v.cache) c.self.view_is ∙ c.requires.cache) in
     let short = ap length empty in
-    omega (arith, all, some, none, short)
+    absurd omega (arith, all, some, none, short)
 
 left : (c : goal.In-Some) → Gone c.self.inside.count (c.self.inside.cached.items ++ c.self.inside.queue.entries) (c.self.inside.cached.items
     ++ drop 1 c.self.inside.queue.entries) c.in-Some.index
