@@ -62,25 +62,25 @@ fn held_turn<K: CompiledPrograms, R: Feed, V: Watch>(
     port: u8,
     r: &mut R,
     source: &mut Source,
-    record: HeldRecord,
+    found: HeldRecord,
     watch: &mut V,
 )
     requires exists { port < length engine.old.setting.env.ports }
     requires limit { engine.old.turns + MAX_RECORDS ≤ MAX_RUN_TURNS + source.old.given }
     requires open { source.old.is_open ≡ true }
-    requires held { (time : InSeconds) × IsHeld source.old (R.at_hand r.old) time record.len }
-    requires truncated { record.is_truncated ≡ truncates source.old.order (take HEAD_SIZE (R.at_hand r.old)) }
-    requires fits { record.len ≤ MAX_RECORD }
-    ensures turn { (time : InSeconds) → IsHeld source.old (R.at_hand r.old) time record.len →
+    requires held { (time : InSeconds) × IsHeld source.old (R.at_hand r.old) time found.len }
+    requires truncated { found.is_truncated ≡ truncates source.old.order (take HEAD_SIZE (R.at_hand r.old)) }
+    requires fits { found.len ≤ MAX_RECORD }
+    ensures turn { (time : InSeconds) → IsHeld source.old (R.at_hand r.old) time found.len →
         ShowsNext V.sees watch.old watch.new port engine.old engine.new source.old source.new (R.remaining r.old) (R.remaining r.new)
-        (Ok (Next.Record time record.len)) }
-    ensures source { source.new ≡ advanced source.old record.len }
+        (Ok (Next.Record time found.len)) }
+    ensures source { source.new ≡ advanced source.old found.len }
     ensures sound { (R.is_broken r.old ≡ false) × (R.is_broken r.new ≡ false) }
     ensures calls { R.calls r.new ≡ R.calls r.old }
     ensures failures { R.failures r.new ≡ R.failures r.old }
 {
-    let _turn = engine.watched_turn(port, body_of(r, record.len), watch);
-    pass_record(r, source, record);
+    let _turn = engine.watched_turn(port, body_of(r, found.len), watch);
+    pass_record(r, source, found);
 }
 
 // Reads what comes next into the run's buffer and, if it is a record, takes a watched turn with it.
