@@ -11,7 +11,7 @@ use Rattle.dp_model.specs.declared.env.PoolSpec.{PoolSpec}
 use Rattle.dp_model.specs.declared.env.PortSpec.{PortSpec}
 use Rattle.dp_model.specs.declared.instr.Instr.{Instr}
 use Rattle.dp_model.specs.Environments.{Environment, room_at, is_ring_count, pool_fits, port_fits, numbers_fit, fault_of}
-use Rattle.dp_model.specs.Packets.{Packet, first_len, needed, received, Filled, AreFresh}
+use Rattle.dp_model.specs.Packets.{Packet, first_len, needed}
 use Rattle.dp_model.specs.Machine.{Setting, World, State, Holds, live, is_denied}
 use Rattle.dp_model.specs.Meaning.{RingHolds}
 use Rattle.dp_model.specs.Runs.{first_state, between, Consumed, Receives, Waiting, beyond, first_waiting, Serves, Nodes, packet_received, Reception}
@@ -21,22 +21,15 @@ use Rattle.dp_model.specs.Laws.Limits.{segs_small, if_none, or_none, map_none, n
 use Rattle.dp_model.specs.Laws.Within.{IsInside, inside_held}
 use Rattle.dp_model.specs.Laws.Waiting.{waits}
 use Rattle.dp_model.specs.Laws.Runs.{safe_never_stuck, safe_rests}
-use Rattle.dp_lpm.specs.Routes.{RouteTable}
 use Rattle.dp_engine.specs.declared.run.NodeRun as took
 use Rattle.dp_engine.specs.Handles.{Core, moved}
 use Rattle.dp_engine.specs.Laws.{known}
 use Rattle.dp_engine.specs.Schemes.{Scheme}
 use Rattle.dp_engine.specs.Serving.{ServesOne, ServesNext, Rests}
-use Rattle.dp_engine.specs.Steps.{setting_of, routes_of, KeepsFirstsShort, CanRun, Runs}
+use Rattle.dp_engine.specs.Steps.{KeepsFirstsShort, CanRun, Runs}
 use Rattle.dp_engine.specs.Tallies.{held_count, listed_count, packet_count}
 use Rattle.dp_engine.specs.Turns.{IsReceived}
 use Rattle.dp_engine.proofs.Refusals.{within}
-
--- ---- a setting from its parts
-
-pub setting_is : (c : Setting) (env : Environment) (tables : List RouteTable) (pattern : List ℕ) → env ≡ c.env → routes_of tables ≡ c.tables
-    → pattern ≡ c.pattern → setting_of env tables pattern ≡ c
-setting_is c env tables pattern is_env is_tables is_pattern = rw (is_env, is_tables, is_pattern) refl
 
 -- ---- a node run
 
@@ -107,18 +100,6 @@ at_port c nodes ports port d pipeline same less =
       some_segs = segs_some c.env port spec pipeline.limits is_spec;
       segs = segs_small c.env port spec.segs pipeline.limits (ap (option_map (λ (p : PortSpec). p.segs)) is_spec);
     }
-
--- what was received in one setting was received in each with the same environment
-pub received_with : (c d : Setting) (pool port : ℕ) (bytes : List ℕ) (w : World) (s : State) → d.env ≡ c.env → IsReceived d pool port bytes w s
-    → IsReceived c pool port bytes w s
-received_with c d pool port bytes w s same r = record {
-  numbers = r.numbers;
-  buffers = r.buffers;
-  fresh = subst (λ (e : Environment). AreFresh e.pools (live (between w)) pool (needed e.pools pool (length bytes)) r.numbers) same r.fresh;
-  filled = subst (λ (e : Environment). Filled r.numbers (received (room_at e.pools pool) r.numbers (length bytes)) bytes w.buffers r.buffers) same r.filled;
-  state = subst (λ (e : Environment). s ≡ first_state (received (room_at e.pools pool) r.numbers (length bytes)) port
-      (record w { buffers = r.buffers; calls = w.calls + 1 })) same r.state;
-}
 
 -- the node run of a received record
 pub record Received (c : Setting) (program : List Instr) (port : ℕ) (spec : PortSpec) (bytes : List ℕ) (w : World) (s : State) : Type 0 where

@@ -10,12 +10,13 @@ ghost use Rattle.dp_lpm.specs.Changes.{AddsRoute, DeletesRoute};
 ghost use Rattle.dp_lpm.specs.Faults.{add_fault, delete_fault};
 ghost use Rattle.dp_lpm.specs.Routes.{RouteTable};
 ghost use Rattle.dp_engine.specs.Rerouting.{RefusesRoute, IsRetabled};
-ghost use Rattle.dp_engine.specs.Steps.{routes_of};
 ghost use Rattle.dp_engine.specs.Schemes.{scheme_of, programs_of, AreNodes};
+ghost use Rattle.dp_engine.specs.Steps.{setting_in};
 
 use crate::compiled_programs::CompiledPrograms;
 use crate::node::Node;
 use crate::rerouting::RouteFault;
+use crate::setting::Setting;
 use arrayvec::ArrayVec;
 use dp_check::Checked;
 use dp_lpm::{Lpm, Tables};
@@ -29,11 +30,9 @@ type Programs<K> = ArrayVec<Node<K>, 8, Global>;
 /// The read-only context of node runs.
 #[derive(Drop)]
 pub(crate) struct Context<K: CompiledPrograms> {
-    env: Env,
-    tables: Tables,
+    setting: Setting,
     ports: Programs<K>,
     rings: Programs<K>,
-    pattern: Vec<u64>,
 }
 
 impl<K: CompiledPrograms> Model for Context<K> {
@@ -41,9 +40,9 @@ impl<K: CompiledPrograms> Model for Context<K> {
 
     ghost Value = { Scheme };
 
-    ghost view = { λ p. scheme_in p.env p.tables p.ports.items p.rings.items p.pattern.items };
+    ghost view = { λ p. scheme_in p.setting.env p.setting.tables p.ports.items p.rings.items p.setting.pattern };
 
-    ghost invariant = { λ p. IsScheme (scheme_in p.env p.tables p.ports.items p.rings.items p.pattern.items) };
+    ghost invariant = { λ p. IsScheme (scheme_in p.setting.env p.setting.tables p.ports.items p.rings.items p.setting.pattern) };
 }
 
 // Splits the programs into those of the ports, which come first, and those of the rings.
@@ -80,12 +79,15 @@ impl<K: CompiledPrograms> Context<K> {
         let env = env.copy();
         let pattern = Vec::new(*nodes.allocator());
         let (ports, rings) = parted(nodes, env.ports().len());
-        Context {
+        let setting = Setting {
             env,
             tables: Tables::of(tables),
+            pattern,
+        };
+        Context {
+            setting,
             ports,
             rings,
-            pattern,
         }
     }
 
@@ -93,32 +95,33 @@ impl<K: CompiledPrograms> Context<K> {
     pub(crate) fn refuse(&mut self, pattern: Vec<u64>)
         ensures { self.new ≡ record self.old { setting = record self.old.setting { pattern = pattern.items } } }
     {
-        self.pattern = pattern;
+        self.setting.pattern = pattern;
     }
 
-    // The environment. The contract of this call says what holds of every context.
-    pub(crate) fn env(&self) -> &Env
-        ensures same { result.now ≡ self.now.setting.env }
+    // The setting of node runs. The contract of this call says what holds of every context.
+    #[inline(always)]
+    pub(crate) fn setting(&self) -> &Setting
+        ensures same { setting_in result.now ≡ self.now.setting }
         ensures pipeline { IsPipeline self.now.setting self.now.nodes }
         ensures safe { KeepsSafe self.now.setting self.now.nodes }
         ensures tables { TablesFit self.now.setting }
     {
         pipelines_keep_safe();
-        &self.env
+        &self.setting
     }
 
-    // The tables.
-    pub(crate) fn tables(&self) -> &Tables
-        ensures { routes_of result.now ≡ self.now.setting.tables }
+    // The environment.
+    pub(crate) fn env(&self) -> &Env
+        ensures same { result.now ≡ self.now.setting.env }
     {
-        &self.tables
+        self.setting.env()
     }
 
     // The pattern: the numbers of the calls to refuse.
     pub(crate) fn pattern(&self) -> &[u64]
         ensures { result.now ≡ self.now.setting.pattern }
     {
-        self.pattern.as_slice()
+        self.setting.pattern()
     }
 
     // The program of a port.
@@ -151,10 +154,10 @@ impl<K: CompiledPrograms> Context<K> {
         ensures ok { OnOk result (AddsRoute table ip depth hop self.old.tables self.new.tables) }
         ensures err { IfErr result (λ why. RefusesRoute (λ t. add_fault t ip depth hop) table self.old.tables why × (self.new ≡ self.old)) }
     {
-        if usize::from(table) >= self.tables.count() {
+        if usize::from(table) >= self.setting.tables().count() {
             return Err(RouteFault::NoTable);
         }
-        match self.tables.add(table, ip, depth, hop) {
+        match self.setting.add_route(table, ip, depth, hop) {
             Ok(()) => Ok(()),
             Err(error) => Err(RouteFault::Refused(error)),
         }
@@ -166,10 +169,10 @@ impl<K: CompiledPrograms> Context<K> {
         ensures ok { OnOk result (DeletesRoute table ip depth self.old.tables self.new.tables) }
         ensures err { IfErr result (λ why. RefusesRoute (λ t. delete_fault t ip depth) table self.old.tables why × (self.new ≡ self.old)) }
     {
-        if usize::from(table) >= self.tables.count() {
+        if usize::from(table) >= self.setting.tables().count() {
             return Err(RouteFault::NoTable);
         }
-        match self.tables.delete(table, ip, depth) {
+        match self.setting.delete_route(table, ip, depth) {
             Ok(()) => Ok(()),
             Err(error) => Err(RouteFault::Refused(error)),
         }
@@ -179,9 +182,9 @@ impl<K: CompiledPrograms> Context<K> {
     pub(crate) fn route(&self, table: u8, ip: u32) -> Option<u32>
         ensures { result ≡ option_and_then (λ (t : RouteTable). hop_for t.routes ip) (slice_get self.now.tables table) }
     {
-        if usize::from(table) >= self.tables.count() {
+        if usize::from(table) >= self.setting.tables().count() {
             return None;
         }
-        self.tables.lookup(table, ip)
+        self.setting.tables().lookup(table, ip)
     }
 }

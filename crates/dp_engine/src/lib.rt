@@ -55,6 +55,7 @@ mod rings;
 mod route_lookup;
 mod run;
 mod serving;
+mod setting;
 mod view;
 mod watch;
 

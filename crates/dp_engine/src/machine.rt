@@ -9,7 +9,7 @@ ghost use Rattle.dp_model.specs.Environments.{room_at};
 ghost use Rattle.dp_model.specs.Runs.{between};
 ghost use Rattle.dp_engine.specs.Handles.{moved, in_slot, frames_of};
 ghost use Rattle.dp_engine.specs.MachineParts.{first_core};
-ghost use Rattle.dp_engine.specs.Steps.{setting_of, with_jumps};
+ghost use Rattle.dp_engine.specs.Steps.{setting_in, with_jumps};
 ghost use Rattle.dp_engine.specs.Turns.{IsReceived, with_one_call};
 ghost use Rattle.dp_model.specs.Machine.{with_cut, without_packets, jump_budget};
 ghost use Rattle.dp_ring.specs.Rings.{RingView};
@@ -23,8 +23,9 @@ mod queues;
 mod register;
 
 use crate::queues::Queues;
+use crate::setting::Setting;
 use dp_mbuf::Mbufs;
-use dp_model::{Env, PacketRegister};
+use dp_model::PacketRegister;
 use dp_pcap::GhostCount;
 use packets::is_held_in;
 use register::{Register, no_packets, set_first};
@@ -125,29 +126,22 @@ impl Machine {
     // Receives bytes into the first packet register, and puts the port's number into the first number register. Returns false if the call is
     // refused.
     #[inline(always)]
-    pub(crate) fn receive(
-        &mut self,
-        env: &Env,
-        pattern: &[u64],
-        pool: u32,
-        bytes: &[u8],
-        port: u8,
-    ) -> bool
+    pub(crate) fn receive(&mut self, setting: &Setting, pool: u32, bytes: &[u8], port: u8) -> bool
         requires idle { AllByRecursion (λ o. o ≡ None) self.old.state.packets }
-        requires pools { self.old.pools ≡ env.now.pools }
-        requires has_room { min_port_room ≤ room_at env.now.pools pool }
-        requires fits { needed env.now.pools pool (length bytes.now) ≤ max_segments }
+        requires pools { self.old.pools ≡ setting.now.env.pools }
+        requires has_room { min_port_room ≤ room_at setting.now.env.pools pool }
+        requires fits { needed setting.now.env.pools pool (length bytes.now) ≤ max_segments }
         requires few { self.old.state.world.calls + 1 < 2 ^ 64 }
-        ensures denied { not result ≡ is_denied (setting_of env.now [] pattern.now) (between self.old.state.world) pool
-            (needed env.now.pools pool (length bytes.now)) }
+        ensures denied { not result
+            ≡ is_denied (setting_in setting.now) (between self.old.state.world) pool (needed setting.now.env.pools pool (length bytes.now)) }
         ensures refused { IsFalse result → self.new ≡ moved (record self.old.state { world = with_one_call self.old.state.world }) self.old }
         ensures calls { self.new.state.world.calls ≡ self.old.state.world.calls + 1 }
-        ensures received { IsTrue result → IsReceived (setting_of env.now [] pattern.now) pool port bytes.now self.old.state.world self.new.state }
+        ensures received { IsTrue result → IsReceived (setting_in setting.now) pool port bytes.now self.old.state.world self.new.state }
         ensures pools { self.new.pools ≡ self.old.pools }
         ensures frames { self.new.frames ≡ self.old.frames }
     {
         let call = self.calls + 1;
-        if is_listed(pattern, call) {
+        if is_listed(setting.pattern(), call) {
             self.calls = call;
             return false;
         }

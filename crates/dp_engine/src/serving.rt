@@ -59,20 +59,17 @@ pub(crate) fn arrive<K: CompiledPrograms, W: Watch>(
     ensures pipeline { IsPipeline context.now.setting context.now.nodes }
     ensures safe { KeepsSafe context.now.setting context.now.nodes }
 {
-    let env = context.env();
-    let spec = env.ports()[usize::from(port)];
+    let setting = context.setting();
+    let spec = setting.env().ports()[usize::from(port)];
     if is_oversize(m.needed(spec.pool, bytes.len()), spec.segs) {
         return (Outcome::Oversize, NO_RUN);
     }
-    if !m.receive(env, context.pattern(), spec.pool, bytes, port) {
+    if !m.receive(setting, spec.pool, bytes, port) {
         return (Outcome::NoBuffer, NO_RUN);
     }
     watch.begin(Entry::Port(port), View::of(m));
     let program = context.port_program(port);
-    (
-        Outcome::Got,
-        program.run(m, env, context.tables(), context.pattern(), watch),
-    )
+    (Outcome::Got, program.run(m, setting, watch))
 }
 
 // Runs the lowest non-empty ring's program on its front packet, if there is such a ring.
@@ -94,10 +91,10 @@ fn serve_one<K: CompiledPrograms, W: Watch>(
     ensures watched { WatchesOne W.sees watch.old watch.new context.now m.old.state.world result m.new.state.world }
 {
     let ring = m.take_waiting()?;
-    let env = context.env();
+    let setting = context.setting();
     watch.begin(Entry::Ring(ring), View::of(m));
     let program = context.ring_program(ring);
-    Some(program.run(m, env, context.tables(), context.pattern(), watch))
+    Some(program.run(m, setting, watch))
 }
 
 /// Counts of a turn's ring runs.

@@ -1,5 +1,5 @@
 //! Calls on the packets in registers.
-ghost use Rattle.std.specs.Prelude.{◌≡◌, ◌≢◌, ℕ, ◌+◌, ◌^◌, ◌<◌, ◌≤◌, true, false, not, List, [], ◌++◌, length, slice_get, Some, option_map, is_some};
+ghost use Rattle.std.specs.Prelude.{◌≡◌, ◌≢◌, ℕ, ◌+◌, ◌^◌, ◌<◌, ◌≤◌, true, false, not, List, ◌++◌, length, slice_get, Some, option_map, is_some};
 ghost use Rattle.dp_model.specs.Arithmetic.{bytes_in};
 ghost use Rattle.dp_model.specs.Buffers.{Number, Buffers, ChangesOnly};
 ghost use Rattle.dp_model.specs.Packets.{Packet, AreFresh, allocated, cloned, headroom, tailroom};
@@ -8,11 +8,12 @@ ghost use Rattle.dp_model.specs.Packets.{at_end, more_before, more_after, less_a
 ghost use Rattle.dp_model.specs.Limits.{max_segments};
 ghost use Rattle.dp_model.specs.Machine.{Holds, IsEmpty, live, is_denied, with_call, with_packet, without_packet, with_buffers};
 ghost use Rattle.dp_engine.specs.Handles.{moved};
-ghost use Rattle.dp_engine.specs.Steps.{setting_of};
+ghost use Rattle.dp_engine.specs.Steps.{setting_in};
 
 use crate::machine::register::Register;
 use crate::machine::{Machine, is_listed};
-use dp_model::{Env, Packet as Handle, PacketRegister, Width};
+use crate::setting::Setting;
+use dp_model::{Packet as Handle, PacketRegister, Width};
 
 // The handle in a register that holds a packet.
 #[inline(always)]
@@ -149,25 +150,19 @@ impl Machine {
     }
 
     // Allocates a packet of one empty segment into an empty register. Returns false if the call is refused.
-    pub(crate) fn alloc(
-        &mut self,
-        env: &Env,
-        pattern: &[u64],
-        into: PacketRegister,
-        pool: u8,
-    ) -> bool
+    pub(crate) fn alloc(&mut self, setting: &Setting, into: PacketRegister, pool: u8) -> bool
         requires empty { IsEmpty self.old.state into }
-        requires exists { pool < length env.now.pools }
-        requires pools { self.old.pools ≡ env.now.pools }
+        requires exists { pool < length setting.now.env.pools }
+        requires pools { self.old.pools ≡ setting.now.env.pools }
         requires few { self.old.state.world.calls + 1 < 2 ^ 64 }
-        ensures denied { not result ≡ is_denied (setting_of env.now [] pattern.now) self.old.state pool 1 }
+        ensures denied { not result ≡ is_denied (setting_in setting.now) self.old.state pool 1 }
         ensures refused { result ≡ false → self.new ≡ moved (with_call self.old.state) self.old }
-        ensures given { result ≡ true → (ns : List Number) × (buffers : Buffers) × AreFresh env.now.pools (live self.old.state) pool 1 ns
+        ensures given { result ≡ true → (ns : List Number) × (buffers : Buffers) × AreFresh setting.now.env.pools (live self.old.state) pool 1 ns
             × ChangesOnly ns self.old.state.world.buffers buffers
-            × (self.new ≡ moved (with_call (with_packet into (allocated env.now.pools ns) (with_buffers buffers self.old.state))) self.old) }
+            × (self.new ≡ moved (with_call (with_packet into (allocated setting.now.env.pools ns) (with_buffers buffers self.old.state))) self.old) }
     {
         self.calls += 1;
-        if is_listed(pattern, self.calls) {
+        if is_listed(setting.pattern(), self.calls) {
             return false;
         }
         match self.mbufs.alloc(u32::from(pool)) {
@@ -182,26 +177,25 @@ impl Machine {
     // Clones a packet into an empty register. Returns false if the call is refused.
     pub(crate) fn clone_of(
         &mut self,
-        env: &Env,
-        pattern: &[u64],
+        setting: &Setting,
         into: PacketRegister,
         from: PacketRegister,
         pool: u8,
     ) -> bool
         requires holds { (packet : Packet) × Holds self.old.state from packet }
         requires empty { IsEmpty self.old.state into }
-        requires exists { pool < length env.now.pools }
-        requires pools { self.old.pools ≡ env.now.pools }
+        requires exists { pool < length setting.now.env.pools }
+        requires pools { self.old.pools ≡ setting.now.env.pools }
         requires few { self.old.state.world.calls + 1 < 2 ^ 64 }
         ensures denied { (packet : Packet) → Holds self.old.state from packet → not result
-            ≡ is_denied (setting_of env.now [] pattern.now) self.old.state pool (length packet) }
+            ≡ is_denied (setting_in setting.now) self.old.state pool (length packet) }
         ensures refused { result ≡ false → self.new ≡ moved (with_call self.old.state) self.old }
         ensures given { result ≡ true → (packet : Packet) → Holds self.old.state from packet →
-            (ns : List Number) × AreFresh env.now.pools (live self.old.state) pool (length packet) ns
+            (ns : List Number) × AreFresh setting.now.env.pools (live self.old.state) pool (length packet) ns
             × (self.new ≡ moved (with_call (with_packet into (cloned ns packet) self.old.state)) self.old) }
     {
         self.calls += 1;
-        if is_listed(pattern, self.calls) {
+        if is_listed(setting.pattern(), self.calls) {
             return false;
         }
         let source = handle_in(&self.registers, from);

@@ -1,11 +1,10 @@
-use Rattle.std.proofs.Common.{[]}
-use Rattle.dp_engine.specs.Steps.{setting_of}
+use Rattle.dp_engine.specs.Steps.{setting_in}
 use Rattle.dp_engine.proofs.Steps.{Allocates, allocates_to}
 use Rattle.dp_engine.proofs.acts.alloc.Goals as goal
 
 pub returns-clause-acts : goal.returns-clause-acts
 returns-clause-acts c =
-    let S = setting_of c.args.env.now [] c.args.pattern.now in
+    let S = setting_in c.args.setting.now in
     let did : Allocates S c.args.m.now c.alloc.new.self c.args.into c.args.pool c.alloc.result = record {
       denied = c.alloc.ensures.denied;
       refused = c.alloc.ensures.refused;

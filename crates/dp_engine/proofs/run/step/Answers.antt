@@ -8,7 +8,7 @@ use Rattle.dp_engine.specs.declared.run.Went.TheVariants.{There}
 use Rattle.dp_engine.specs.declared.watch.Way.TheVariants as way
 use Rattle.dp_engine.specs.Handles.{Core, moved}
 use Rattle.dp_engine.specs.Midway.{StepResult}
-use Rattle.dp_engine.specs.Steps.{setting_of}
+use Rattle.dp_engine.specs.Steps.{setting_in}
 use Rattle.dp_engine.proofs.Midways.{StandsWithin, stands_within, stepped_at, controlled_at, led_forward, led_back, led_end, led_out}
 use Rattle.dp_engine.proofs.Midways.{names_ran, names_to, seen_of, seen_to}
 use Rattle.dp_engine.proofs.run.step.Goals as goal
@@ -18,8 +18,7 @@ use Rattle.dp_engine.proofs.run.step.Goals.{After-count_step, else-to-label-via-
 standing : (g : _) (c : After-count_step g) → StandsWithin c.args.m.now c.args.ahead c.args.label c.args.instr.now
 standing g c =
     let (P, m0, w0, h, here) = c.requires.midway in
-    stands_within g.W.Watch.sees (setting_of c.args.env.now c.args.tables.now c.args.pattern.now) P m0 w0 c.args.m.now c.args.watch.now c.args.ahead
-    c.args.label c.args.instr.now h here
+    stands_within g.W.Watch.sees (setting_in c.args.setting.now) P m0 w0 c.args.m.now c.args.watch.now c.args.ahead c.args.label c.args.instr.now h here
 
 pub act-requires-clause-shifts : goal.act-requires-clause-shifts
 act-requires-clause-shifts g c = (standing g (goal.at.act-requires-clause-shifts g c).After-count_step).shifts
@@ -79,7 +78,7 @@ overflow_add-result-in-To-2 g c =
 pub cut-requires-clause-few : goal.cut-requires-clause-few
 cut-requires-clause-few g c =
     let sees = g.W.Watch.sees in
-    let S = setting_of c.args.env.now c.args.tables.now c.args.pattern.now in
+    let S = setting_in c.args.setting.now in
     let m = c.args.m.now in
     let m2 = c.act.new.m in
     let v = c.args.watch.now in
@@ -94,7 +93,7 @@ cut-requires-clause-few g c =
 pub returns-in-None : goal.returns-in-None
 returns-in-None g c =
     let sees = g.W.Watch.sees in
-    let S = setting_of c.args.env.now c.args.tables.now c.args.pattern.now in
+    let S = setting_in c.args.setting.now in
     let m = c.args.m.now in
     let m2 = c.act.new.m in
     let v = c.args.watch.now in
@@ -114,7 +113,7 @@ returns-in-None g c =
 pub returns-in-On : goal.returns-in-On
 returns-in-On g c =
     let sees = g.W.Watch.sees in
-    let S = setting_of c.args.env.now c.args.tables.now c.args.pattern.now in
+    let S = setting_in c.args.setting.now in
     let m = c.args.m.now in
     let m2 = c.act.new.m in
     let v = c.args.watch.now in
@@ -136,7 +135,7 @@ returns-in-On g c =
 pub returns-then-not-jump : goal.returns-then-not-jump
 returns-then-not-jump g c =
     let sees = g.W.Watch.sees in
-    let S = setting_of c.args.env.now c.args.tables.now c.args.pattern.now in
+    let S = setting_in c.args.setting.now in
     let m = c.args.m.now in
     let m2 = c.act.new.m in
     let v = c.args.watch.now in
@@ -162,7 +161,7 @@ returns-then-not-jump g c =
 pub returns-else-to-label : goal.returns-else-to-label
 returns-else-to-label g c =
     let sees = g.W.Watch.sees in
-    let S = setting_of c.args.env.now c.args.tables.now c.args.pattern.now in
+    let S = setting_in c.args.setting.now in
     let m = c.args.m.now in
     let m2 = c.act.new.m in
     let v = c.args.watch.now in

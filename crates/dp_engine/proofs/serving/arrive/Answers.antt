@@ -2,41 +2,46 @@
 use Rattle.std.proofs.Common.{◌≡◌, ◌≤◌, ℕ, Bool, false, List, [], ◌∷◌, length, refl, sym, ◌∙◌, ap, subst, arith}
 use Rattle.std.specs.Prelude.{slice_index_or}
 use Rattle.dp_model.specs.declared.env.PortSpec.{PortSpec}
-use Rattle.dp_model.specs.Environments.{Environment, room_at}
+use Rattle.dp_model.specs.Environments.{Environment}
 use Rattle.dp_model.specs.Packets.{needed as segments_needed}
-use Rattle.dp_model.specs.Machine.{Setting}
-use Rattle.dp_model.specs.Runs.{Got, Receives}
+use Rattle.dp_model.specs.Machine.{Setting, World, is_denied}
+use Rattle.dp_model.specs.Runs.{Got, Receives, between}
 use Rattle.dp_engine.specs.Handles.{Core}
-use Rattle.dp_engine.specs.Steps.{setting_of, FitsIn, CanRun, Runs}
-use Rattle.dp_engine.proofs.Served.{AtPort, Received, setting_is, at_port, received_with, received_is}
+use Rattle.dp_engine.specs.Steps.{FitsIn}
+use Rattle.dp_engine.proofs.Served.{AtPort, Received, at_port, received_is}
 use Rattle.dp_model.specs.declared.env.Entry.TheVariants.{Port}
-use Rattle.dp_model.specs.Machine.{Ended}
-use Rattle.dp_engine.specs.Midway.{Watches}
 use Rattle.dp_engine.specs.Watching.{Began}
 use Rattle.dp_engine.proofs.Shown.{received_shows}
 use Rattle.dp_engine.proofs.Turning.{port_small}
 use Rattle.dp_engine.proofs.serving.arrive.Goals as goal
-use Rattle.dp_engine.proofs.serving.arrive.Goals.{After-from, After-pattern, After-tables, After-run}
+use Rattle.dp_engine.proofs.serving.arrive.Goals.{After-from, After-receive, After-port_program-program, After-run}
 
 -- the port of a number
 abbrev spec_of : List PortSpec → ℕ → PortSpec
 spec_of ports port = slice_index_or ports port (record { pool = 0; segs = 0; queue = 0 })
 
+-- an answer of one setting to a record is that of an equal one
+denied_as : {a b : Setting} {is : Bool} (w : World) (pool len : ℕ) → a ≡ b
+    → is ≡ is_denied a (between w) pool (segments_needed a.env.pools pool len) → is_denied b (between w) pool (segments_needed b.env.pools pool len) ≡ is
+denied_as {is = is} w pool len same was =
+    sym (subst (λ (s : Setting). is ≡ is_denied s (between w) pool (segments_needed s.env.pools pool len)) same was)
+
 -- the port
 there : (g : _) (c : After-from g) → AtPort c.args.context.now.setting c.args.context.now.nodes c.args.port (spec_of c.ports.result.now c.from.result)
 there g c =
     let p = c.args.context.now in
-    rw c.from.ensures (at_port p.setting p.nodes c.ports.result.now c.args.port (record { pool = 0; segs = 0; queue = 0 }) c.env-env.ensures.pipeline
-    (c.ports.ensures ∙ ap (λ (x : Environment). x.ports) c.env-env.ensures.same) c.requires.exists)
+    rw c.from.ensures (at_port p.setting p.nodes c.ports.result.now c.args.port (record { pool = 0; segs = 0; queue = 0 }) c.setting-setting.ensures.pipeline
+    (c.ports.ensures ∙ ap (λ (x : Environment). x.ports) c.env.ensures ∙ ap (λ (x : Setting). x.env.ports) c.setting-setting.ensures.same) c.requires.exists)
 
 -- the record has room in its segments
-fits : (g : _) (c : After-pattern g) → segments_needed c.args.context.now.setting.env.pools (spec_of c.ports.result.now c.from.result).pool
+fits : (g : _) (c : After-receive g) → segments_needed c.args.context.now.setting.env.pools (spec_of c.ports.result.now c.from.result).pool
     (length c.args.bytes.now) ≤ (spec_of c.ports.result.now c.from.result).segs
 fits g c =
     omega (arith, rw c.requires.rests.pools at c.needed.ensures, c.if-is_oversize.ensures.fits refl)
 
 -- what is received, and that the port's program can run on it
-came : (g : _) (c : After-tables g) → AtPort c.args.context.now.setting c.args.context.now.nodes c.args.port (spec_of c.ports.result.now c.from.result)
+came : (g : _) (c : After-port_program-program g)
+    → AtPort c.args.context.now.setting c.args.context.now.nodes c.args.port (spec_of c.ports.result.now c.from.result)
     → segments_needed c.args.context.now.setting.env.pools (spec_of c.ports.result.now c.from.result).pool (length c.args.bytes.now)
     ≤ (spec_of c.ports.result.now c.from.result).segs
     → Received c.args.context.now.setting c.port_program-program.result.now c.args.port (spec_of c.ports.result.now c.from.result) c.args.bytes.now
@@ -47,23 +52,17 @@ came g c at fits =
     let bytes = c.args.bytes.now in
     let w = c.args.m.now.state.world in
     let s = c.receive.new.self.state in
-    let got = received_with p.setting (setting_of c.env-env.result.now [] c.pattern.result.now) spec.pool c.args.port bytes w s c.env-env.ensures.same
-    (c.if-not-receive.ensures.received refl) in
-    let denied = rw (c.env-env.ensures.same, c.pattern.ensures) at c.if-not-receive.ensures.denied in
-    received_is p.setting p.nodes c.port_program-program.result.now c.args.port spec bytes w s c.env-env.ensures.safe c.env-env.ensures.pipeline.limits
-    at.spec_is
-    c.port_program-program.ensures.same c.requires.rests.rest fits (sym denied) got
+    let got = rw c.setting-setting.ensures.same at (c.if-not-receive.ensures.received refl) in
+    let denied = denied_as w spec.pool (length bytes) c.setting-setting.ensures.same c.if-not-receive.ensures.denied in
+    received_is p.setting p.nodes c.port_program-program.result.now c.args.port spec bytes w s c.setting-setting.ensures.safe
+    c.setting-setting.ensures.pipeline.limits at.spec_is c.port_program-program.ensures.same c.requires.rests.rest fits denied got
 
 -- what its run made
 went : (g : _) (c : After-run g) → Received c.args.context.now.setting c.port_program-program.result.now c.args.port (spec_of c.ports.result.now c.from.result)
     c.args.bytes.now c.args.m.now.state.world c.receive.new.self.state
     → (answers : List Bool) × Receives c.args.context.now.setting c.port_program-program.result.now c.args.port (spec_of c.ports.result.now c.from.result)
     c.args.bytes.now c.args.m.now.state.world answers c.run.new.m.state.world
-went g c r =
-    let setting = setting_is c.args.context.now.setting c.env-env.result.now c.tables.result.now c.pattern-2.result.now c.env-env.ensures.same c.tables.ensures
-    c.pattern-2.ensures in
-    r.receives c.run.new.m.state
-    (subst (λ (x : Setting). Runs x c.port_program-program.result.now c.receive.new.self.state c.run.new.m.state) setting c.run.ensures.runs)
+went g c r = r.receives c.run.new.m.state (rw c.setting-setting.ensures.same at c.run.ensures.runs)
 
 pub returns-then-is_oversize-clause-arrives : goal.returns-then-is_oversize-clause-arrives
 returns-then-is_oversize-clause-arrives g c =
@@ -90,13 +89,13 @@ is_oversize-requires g c = (there g (goal.at.is_oversize-requires g c).After-fro
 
 pub receive-requires-clause-has_room : goal.receive-requires-clause-has_room
 receive-requires-clause-has_room g c =
-    subst (λ (e : Environment). 129 ≤ room_at e.pools (spec_of c.ports.result.now c.from.result).pool) (sym c.env-env.ensures.same)
-    (there g (goal.at.receive-requires-clause-has_room g c).After-from).room
+    rw (ap (λ (x : Setting). x.env) c.setting-setting.ensures.same) (there g (goal.at.receive-requires-clause-has_room g c).After-from).room
 
 pub receive-requires-clause-fits : goal.receive-requires-clause-fits
 receive-requires-clause-fits g c =
-    let pools = c.requires.rests.pools ∙ sym (ap (λ (x : Environment). x.pools) c.env-env.ensures.same) in
-    let need : c.needed.result ≡ segments_needed c.env-env.result.now.pools (spec_of c.ports.result.now c.from.result).pool (length c.args.bytes.now) =
+    let pools = c.requires.rests.pools ∙ sym (ap (λ (x : Setting). x.env.pools) c.setting-setting.ensures.same) in
+    let need : c.needed.result ≡ segments_needed c.setting-setting.result.now.env.pools (spec_of c.ports.result.now c.from.result).pool
+    (length c.args.bytes.now) =
     rw pools at c.needed.ensures in
     omega (arith, need, c.if-is_oversize.ensures.fits refl, (there g (goal.at.receive-requires-clause-fits g c).After-from).segs)
 
@@ -104,28 +103,26 @@ pub returns-then-not-receive-clause-arrives : goal.returns-then-not-receive-clau
 returns-then-not-receive-clause-arrives g c =
     let here = goal.at.returns-then-not-receive-clause-arrives g c in
     let at = there g here.After-from in
-    let denied = rw (c.env-env.ensures.same, c.pattern.ensures) at c.if-not-receive.ensures.denied in
+    let denied = denied_as c.args.m.now.state.world (spec_of c.ports.result.now c.from.result).pool (length c.args.bytes.now) c.setting-setting.ensures.same
+    c.if-not-receive.ensures.denied in
     let world = ap (λ (x : Core). x.state.world) (c.if-not-receive.ensures.refused refl) in (
       false ∷ [],
-      (spec_of c.ports.result.now c.from.result, at.program, at.spec_is, at.program_is, (fits g here.After-pattern, sym denied, refl, world)),
+      (spec_of c.ports.result.now c.from.result, at.program, at.spec_is, at.program_is, (fits g here.After-receive, denied, refl, world)),
     )
 
 pub begin-requires : goal.begin-requires
-begin-requires g c = port_small c.args.context.now c.args.port c.env-env.ensures.pipeline c.requires.exists
+begin-requires g c = port_small c.args.context.now c.args.port c.setting-setting.ensures.pipeline c.requires.exists
 
 pub run-requires-clause-sound : goal.run-requires-clause-sound
 run-requires-clause-sound g c =
     let here = goal.at.run-requires-clause-sound g c in
-    let setting = setting_is c.args.context.now.setting c.env-env.result.now c.tables.result.now c.pattern-2.result.now c.env-env.ensures.same c.tables.ensures
-    c.pattern-2.ensures in
-    subst (λ (x : Setting). CanRun x c.port_program-program.result.now c.receive.new.self.state) (sym setting)
-    (came g here.After-tables (there g here.After-from) (fits g here.After-pattern)).can_run
+    rw c.setting-setting.ensures.same (came g here.After-port_program-program (there g here.After-from) (fits g here.After-receive)).can_run
 
 pub returns-clause-arrives : goal.returns-clause-arrives
 returns-clause-arrives g c =
     let here = goal.at.returns-clause-arrives g c in
     let at = there g here.After-from in
-    let (answers, receives) = went g c (came g here.After-tables at (fits g here.After-pattern)) in (
+    let (answers, receives) = went g c (came g here.After-port_program-program at (fits g here.After-receive)) in (
       answers,
       (
         spec_of c.ports.result.now c.from.result,
@@ -140,12 +137,12 @@ pub returns-clause-rests : goal.returns-clause-rests
 returns-clause-rests g c =
     let here = goal.at.returns-clause-rests g c in
     let at = there g here.After-from in
-    let (answers, receives) = went g c (came g here.After-tables at (fits g here.After-pattern)) in
+    let (answers, receives) = went g c (came g here.After-port_program-program at (fits g here.After-receive)) in
     record {
       idle = c.run.ensures.idle;
       pools = c.run.ensures.pools ∙ (c.receive.ensures.pools ∙ c.requires.rests.pools);
       fits = subst (FitsIn c.args.context.now.setting.env) (sym (c.run.ensures.frames ∙ c.receive.ensures.frames)) c.requires.rests.fits;
-      rest = c.env-env.ensures.safe.arrives c.port_program-program.result.now c.args.port (spec_of c.ports.result.now c.from.result) c.args.bytes.now
+      rest = c.setting-setting.ensures.safe.arrives c.port_program-program.result.now c.args.port (spec_of c.ports.result.now c.from.result) c.args.bytes.now
           c.args.m.now.state.world c.run.new.m.state.world Got answers c.port_program-program.ensures.same at.spec_is c.requires.rests.rest receives;
     }
 
@@ -172,7 +169,8 @@ pub returns-then-not-receive-clause-watched : goal.returns-then-not-receive-clau
 returns-then-not-receive-clause-watched g c =
     let here = goal.at.returns-then-not-receive-clause-watched g c in
     let at = there g here.After-from in
-    let denied = rw (c.env-env.ensures.same, c.pattern.ensures) at c.if-not-receive.ensures.denied in
+    let denied = denied_as c.args.m.now.state.world (spec_of c.ports.result.now c.from.result).pool (length c.args.bytes.now) c.setting-setting.ensures.same
+    c.if-not-receive.ensures.denied in
     let world = ap (λ (x : Core). x.state.world) (c.if-not-receive.ensures.refused refl) in
     record {
       answers = false ∷ [];
@@ -182,7 +180,7 @@ returns-then-not-receive-clause-watched g c =
         at.program,
         at.spec_is,
         at.program_is,
-        (fits g here.After-pattern, sym denied, refl, world),
+        (fits g here.After-receive, denied, refl, world),
         refl,
       );
       seen = refl;
@@ -196,13 +194,10 @@ returns-clause-watched g c =
     let program = c.port_program-program.result.now in
     let s1 = c.receive.new.self.state in
     let at = there g here.After-from in
-    let setting = setting_is p.setting c.env-env.result.now c.tables.result.now c.pattern-2.result.now c.env-env.ensures.same c.tables.ensures
-    c.pattern-2.ensures in
-    let denied = rw (c.env-env.ensures.same, c.pattern.ensures) at c.if-not-receive.ensures.denied in
-    let got = received_with p.setting (setting_of c.env-env.result.now [] c.pattern.result.now) spec.pool c.args.port c.args.bytes.now
-    c.args.m.now.state.world s1 c.env-env.ensures.same (c.if-not-receive.ensures.received refl) in
-    let watched = subst (λ (x : Setting). Watches g.W.Watch.sees c.begin.new.self c.run.new.watch x program s1 Ended c.run.new.m.state) setting
-    c.run.ensures.watched in
+    let denied = denied_as c.args.m.now.state.world (spec_of c.ports.result.now c.from.result).pool (length c.args.bytes.now) c.setting-setting.ensures.same
+    c.if-not-receive.ensures.denied in
+    let got = rw c.setting-setting.ensures.same at (c.if-not-receive.ensures.received refl) in
+    let watched = rw c.setting-setting.ensures.same at c.run.ensures.watched in
     let begun = subst (λ (x : Core). g.W.Watch.sees c.args.watch.now (Began (Port c.args.port) x.state) c.begin.new.self) c.of.ensures c.begin.ensures in
     received_shows g.W.Watch.sees c.args.watch.now c.begin.new.self c.run.new.watch p program c.args.port spec c.args.bytes.now c.args.m.now.state.world s1
-    c.run.new.m.state at.spec_is c.port_program-program.ensures.same (fits g here.After-pattern) (sym denied) got begun watched
+    c.run.new.m.state at.spec_is c.port_program-program.ensures.same (fits g here.After-receive) denied got begun watched

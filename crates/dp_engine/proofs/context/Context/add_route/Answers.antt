@@ -8,14 +8,16 @@ use Rattle.dp_engine.proofs.context.Context.add_route.Goals as goal
 pub invariant_of-self : goal.invariant_of-self
 invariant_of-self g c =
     let p = c.self.inside in
-    retabled_scheme (scheme_in p.env p.tables p.ports.items p.rings.items p.pattern.items) p.tables c.add.new.self refl c.add.ensures.many
-    c.add.ensures.hops c.self.invariant
+    rw c.add_route.ensures.kept
+    (retabled_scheme (scheme_in p.setting.env p.setting.tables p.ports.items p.rings.items p.setting.pattern) p.setting.tables
+    c.add_route.new.self.tables refl c.add_route.ensures.many c.add_route.ensures.hops c.self.invariant)
 
 pub returns-clause-kept : goal.returns-clause-kept
 returns-clause-kept g c =
     let p = c.self.inside in
-    let s = scheme_in p.env p.tables p.ports.items p.rings.items p.pattern.items in
-    subst (λ (old : Scheme). IsRetabled old (retabled c.add.new.self s)) c.self.view_is (record {
+    let s = scheme_in p.setting.env p.setting.tables p.ports.items p.rings.items p.setting.pattern in
+    rw c.add_route.ensures.kept
+    (subst (λ (old : Scheme). IsRetabled old (retabled c.add_route.new.self.tables s)) c.self.view_is (record {
       new_is = refl;
-      fits = retabled_fits s p.tables c.add.new.self refl c.add.ensures.many c.add.ensures.hops c.self.invariant;
-    })
+      fits = retabled_fits s p.setting.tables c.add_route.new.self.tables refl c.add_route.ensures.many c.add_route.ensures.hops c.self.invariant;
+    }))

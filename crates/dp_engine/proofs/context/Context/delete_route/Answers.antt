@@ -8,14 +8,16 @@ use Rattle.dp_engine.proofs.context.Context.delete_route.Goals as goal
 pub invariant_of-self : goal.invariant_of-self
 invariant_of-self g c =
     let p = c.self.inside in
-    retabled_scheme (scheme_in p.env p.tables p.ports.items p.rings.items p.pattern.items) p.tables c.delete.new.self refl c.delete.ensures.many
-    c.delete.ensures.hops c.self.invariant
+    rw c.delete_route.ensures.kept
+    (retabled_scheme (scheme_in p.setting.env p.setting.tables p.ports.items p.rings.items p.setting.pattern) p.setting.tables
+    c.delete_route.new.self.tables refl c.delete_route.ensures.many c.delete_route.ensures.hops c.self.invariant)
 
 pub returns-clause-kept : goal.returns-clause-kept
 returns-clause-kept g c =
     let p = c.self.inside in
-    let s = scheme_in p.env p.tables p.ports.items p.rings.items p.pattern.items in
-    subst (λ (old : Scheme). IsRetabled old (retabled c.delete.new.self s)) c.self.view_is (record {
+    let s = scheme_in p.setting.env p.setting.tables p.ports.items p.rings.items p.setting.pattern in
+    rw c.delete_route.ensures.kept
+    (subst (λ (old : Scheme). IsRetabled old (retabled c.delete_route.new.self.tables s)) c.self.view_is (record {
       new_is = refl;
-      fits = retabled_fits s p.tables c.delete.new.self refl c.delete.ensures.many c.delete.ensures.hops c.self.invariant;
-    })
+      fits = retabled_fits s p.setting.tables c.delete_route.new.self.tables refl c.delete_route.ensures.many c.delete_route.ensures.hops c.self.invariant;
+    }))

@@ -1,9 +1,9 @@
 -- A clone of a packet: what its register holds, and the result of the call, are derived once, and each goal is one step from there.
-use Rattle.std.proofs.Common.{[], ◌≡◌, length, sym}
+use Rattle.std.proofs.Common.{◌≡◌, length, sym}
 use Rattle.dp_model.specs.Packets.{Packet, cloned}
 use Rattle.dp_model.specs.Machine.{Holds}
-use Rattle.dp_engine.specs.Steps.{setting_of}
 use Rattle.dp_engine.specs.MachineParts.{parts_of}
+use Rattle.dp_engine.specs.Steps.{setting_in}
 use Rattle.dp_engine.proofs.Handles.{Held}
 use Rattle.dp_engine.proofs.Registers.{Taken, handle, held, taken, too_few, keeps_bytes, called}
 use Rattle.dp_engine.proofs.machine.Machine.clone_of.Goals as goal
@@ -16,7 +16,7 @@ there c k holds = held c.self.view_is c.self.invariant c.handle_in-source.ensure
 
 -- the clone that is granted
 given : (c : In-Some) (k : Packet) → Held (parts_of c.self.inside) c.args.from c.handle_in-source.result k
-    → Taken (setting_of c.args.env.now [] c.args.pattern.now) (parts_of c.self.inside) c.clone_of.new.self.store c.args.self.now c.args.into c.args.pool
+    → Taken (setting_in c.args.setting.now) (parts_of c.self.inside) c.clone_of.new.self.store c.args.self.now c.args.into c.args.pool
     (length k) c.in-Some.packet (λ ns. cloned ns k) (λ ns old new. new ≡ old)
 given c k h =
     taken c.self.view_is c.self.invariant c.requires.empty c.requires.pools (rw c.from.ensures at (c.in-Some.ensures.packets k h.has))
@@ -45,7 +45,7 @@ invariant_of-self-in-None c =
 pub returns-in-Some-clause-denied : goal.returns-in-Some-clause-denied
 returns-in-Some-clause-denied c k holds =
     let here = goal.at.returns-in-Some-clause-denied c in
-    sym ((given here.In-Some k (there here.After-handle_in-source k holds)).allowed (sym c.if-is_listed.ensures))
+    sym ((given here.In-Some k (there here.After-handle_in-source k holds)).allowed (sym (rw c.pattern.ensures at c.if-is_listed.ensures)))
 
 pub returns-in-Some-clause-given : goal.returns-in-Some-clause-given
 returns-in-Some-clause-given c _ k holds =
@@ -60,8 +60,8 @@ returns-in-Some-clause-given c _ k holds =
 pub returns-in-None-clause-denied : goal.returns-in-None-clause-denied
 returns-in-None-clause-denied c k holds =
     let h = there (goal.at.returns-in-None-clause-denied c).After-handle_in-source k holds in
-    sym (too_few (setting_of c.args.env.now [] c.args.pattern.now) (parts_of c.self.inside) _ c.args.self.now c.args.pool (length k)
-    (λ ns. cloned ns k) (λ ns old new. new ≡ old) c.self.view_is c.self.invariant c.requires.pools (sym c.if-is_listed.ensures)
+    sym (too_few (setting_in c.args.setting.now) (parts_of c.self.inside) _ c.args.self.now c.args.pool (length k)
+    (λ ns. cloned ns k) (λ ns old new. new ≡ old) c.self.view_is c.self.invariant c.requires.pools (sym (rw c.pattern.ensures at c.if-is_listed.ensures))
     (rw c.from.ensures at (c.in-None.ensures.packets k h.has)))
 
 pub returns-in-None-clause-refused : goal.returns-in-None-clause-refused
