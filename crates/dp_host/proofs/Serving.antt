@@ -1,14 +1,18 @@
 -- What an engine has served is a use of its pipeline, event by event, and the promise holds of such uses.
-use Rattle.std.proofs.Common.{◌≡◌, ℕ, zero, suc, ◌+◌, ◌≤◌, List, [], ◌∷◌, ◌++◌, length, map, replicate, None, refl, sym, ◌∙◌, ap, subst, arith}
+use Rattle.std.proofs.Common.{◌≡◌, ℕ, zero, suc, ◌+◌, ◌≤◌, List, [], ◌∷◌, ◌++◌, length, map, replicate, Option, Some, None, inl, inr, refl, sym}
+use Rattle.std.proofs.Common.{◌∙◌, ap, subst, arith}
 use Rattle.std.proofs.Common.{append_assoc}
 use Rattle.std.specs.Prelude.{true, reverse}
 use Rattle.std.proofs.lemmas.List.{append-nil, length-map, reverse-append, reverse-reverse}
+use Rattle.dp_lpm.specs.declared.error.LpmError.{LpmError}
+use Rattle.dp_lpm.specs.Changes.{HasTable}
 use Rattle.dp_lpm.specs.Routes.{RouteTable}
 use Rattle.dp_model.specs.declared.env.PoolSpec.{PoolSpec}
 use Rattle.dp_model.specs.Buffers.{Number, Buffers}
 use Rattle.dp_model.specs.Environments.{fault_of, count_at}
 use Rattle.dp_model.specs.Machine.{Setting, World, live}
 use Rattle.dp_model.specs.Meaning.{TablesFit}
+use Rattle.dp_model.specs.Prefixes.{hop_for}
 use Rattle.dp_model.specs.Packets.{Packet, available, is_free, packet_bytes}
 use Rattle.dp_model.specs.CopyMachine.{Captures}
 use Rattle.dp_model.specs.Runs.{Nodes, Arrival, Run, Observed, between, drained, joined, records_at, with_empty_outboxes, with_empty_rings}
@@ -20,7 +24,7 @@ use Rattle.dp_model.specs.Laws.Limits.{numbers_known, numbers_pass}
 use Rattle.dp_model.specs.Laws.Runs.{safe_never_stuck}
 use Rattle.dp_copies.specs.CopiedUses.{Shown}
 use Rattle.dp_engine.specs.Batches as batches
-use Rattle.dp_engine.specs.Batches.{Frame, Holds, Passes, frame_of, frames_in}
+use Rattle.dp_engine.specs.Batches.{Frame, Holds, KeepsRest, Passes, frame_of, frames_in}
 use Rattle.dp_engine.specs.declared.batch.BatchSize.{BatchSize}
 use Rattle.dp_engine.specs.declared.batch.SentRecord.{SentRecord}
 use Rattle.dp_engine.specs.declared.engine.Turn.{Turn}
@@ -34,6 +38,11 @@ use Rattle.dp_pipe.specs.Pipelines.{Plan, IsPlan}
 use Rattle.dp_pipe.specs.Running.{IsFirst, setting_in, programs_in}
 use Rattle.dp_pipe.specs.Laws.{are_nodes, all_checked}
 use Rattle.dp_host.specs.Calls.{Call, Change, Event, Passed, Changed, Changes, HasServedCalls, AreOneRun, Promised, arrival_of, frames_by_port, sent_in}
+use Rattle.dp_host.specs.declared.refusal.Refusal.{Refusal}
+use Rattle.dp_host.specs.declared.numbers.Hop.{Hop}
+use Rattle.dp_host.specs.declared.numbers.Room.{Room}
+use Rattle.dp_host.specs.Hosts.{Arrays, ChangeAnswers, LookupAnswers, PassAnswers, RefusesChange, RefusesLookup, batch_size_of, empty_room, outcome_number}
+use Rattle.dp_host.specs.Hosts.{pass_fault, refusal_number}
 use Rattle.dp_host.specs.Calls.{shown_by, stretch_of, stretches_of, tables_after, timed}
 
 -- ---- what is sent
@@ -161,6 +170,35 @@ served_more p events old new port frame turn time records bytes filled pass was 
       );
     }
 
+-- what a pass returns that was taken, and one that was refused
+pub pass_taken : (o : Option EngineState) (missing : Refusal) (e e' : EngineState) (port time : ℕ) (frame : List ℕ) (had has : Arrays) (turn : Turn)
+    (sent : BatchSize) (filled : Room) (n : ℕ) → o ≡ Some e → Passes e e' port frame turn time has.records has.bytes sent
+    → KeepsRest sent had.records has.records had.bytes has.bytes → pass_fault e port (length frame) (length had.records) (length had.bytes) ≡ None
+    → n ≡ outcome_number turn.outcome → filled ≡ record { records = sent.records; bytes = sent.bytes }
+    → PassAnswers o missing (Some e') port time frame had has filled n
+pass_taken o missing e e' port time frame had has turn sent filled n is passes keeps fits number filled_is =
+    let size : batch_size_of filled ≡ sent = ap batch_size_of filled_is in
+    let w = passes.mid.world in
+    subst (λ s. PassAnswers s missing (Some e') port time frame had has filled n) (sym is) (inl (record {
+      taken = fits;
+      turn = turn;
+      number = number;
+      passes = subst (Passes e e' port frame turn time has.records has.bytes) (sym size) passes;
+      answers = passes.turn_is.turn.0;
+      sent = sent_in w;
+      batch = subst (Holds time (frames_by_port 0 (sent_in w)) has.records has.bytes) (sym size) (batch_is time w has.records has.bytes sent passes.batch);
+      rest = subst (λ s. KeepsRest s had.records has.records had.bytes has.bytes) (sym size) keeps;
+      serves = λ p events was. served_more p events e e' port frame turn time has.records has.bytes sent passes was;
+    }))
+
+pub pass_refused : (o : Option EngineState) (missing : Refusal) (e e' : EngineState) (port time : ℕ) (frame : List ℕ) (had has : Arrays) (why : Refusal)
+    (n : ℕ) → o ≡ Some e → n ≡ refusal_number why → (e' ≡ e) × (has.records ≡ had.records) × (has.bytes ≡ had.bytes)
+    × (pass_fault e port (length frame) (length had.records) (length had.bytes) ≡ Some why)
+    → PassAnswers o missing (Some e') port time frame had has empty_room n
+pass_refused o missing e e' port time frame had has why n is number (same, same_records, same_bytes, refuses) =
+    subst (λ s. PassAnswers s missing (Some e') port time frame had has empty_room n) (sym is)
+    (inr (why, number, refuses, same, (λ i. record { records = same_records i; bytes = same_bytes i }), refl))
+
 -- a change of a route is one event more
 pub served_changed : (p : Plan) (events : List Event) (old new : EngineState) (change : Change) → new ≡ rerouting.with_tables new.tables old
     → TablesFit new.setting → Changes change old.tables new.tables → HasServedCalls p events old → HasServedCalls p (Changed change new.tables ∷ events) new
@@ -178,6 +216,31 @@ served_changed p events old new change rest fits changed was = record {
   uses = subst (λ (w : World). Uses (setting_in p []) (programs_in p) (stretches_of p.tables events) was.first.world w)
       (sym (ap (λ (e : EngineState). e.world) rest)) was.uses;
 }
+
+-- what a change returns that was made, and one that was refused
+pub change_made : (change : Change) (fault : RouteTable → Option LpmError) (table : ℕ) (o : Option EngineState) (missing : Refusal) (e e' : EngineState)
+    → o ≡ Some e → e' ≡ rerouting.with_tables e'.tables e → TablesFit e'.setting → Changes change e.tables e'.tables
+    → ChangeAnswers change fault table o missing (Some e') 0
+change_made change fault table o missing e e' is rest fits made = subst (λ s. ChangeAnswers change fault table s missing (Some e') 0) (sym is) (inl (
+  refl,
+  record { changes = made; rest = rest; serves = λ p events was. served_changed p events e e' change rest fits made was },
+))
+
+pub change_refused : (change : Change) (fault : RouteTable → Option LpmError) (table : ℕ) (o : Option EngineState) (missing : Refusal) (e e' : EngineState)
+    (why : Refusal) (n : ℕ) → o ≡ Some e → n ≡ refusal_number why → RefusesChange fault table e.tables why × (e' ≡ e)
+    → ChangeAnswers change fault table o missing (Some e') n
+change_refused change fault table o missing e e' why n is number (refuses, same) =
+    subst (λ s. ChangeAnswers change fault table s missing (Some e') n) (sym is) (inr (why, number, refuses, same))
+
+-- what a look-up returns that found a hop, and one that was refused
+pub looked_up : (table ip : ℕ) (o : Option EngineState) (missing : Refusal) (e : EngineState) (old new : Hop) → o ≡ Some e
+    → HasTable table e.tables (λ t. hop_for t.routes ip ≡ Some new.hop) → LookupAnswers table ip o missing old new 0
+looked_up table ip o missing e old new is found = subst (λ s. LookupAnswers table ip s missing old new 0) (sym is) (inl (refl, found))
+
+pub look_up_refused : (table ip : ℕ) (o : Option EngineState) (missing : Refusal) (e : EngineState) (old : Hop) (why : Refusal) (n : ℕ) → o ≡ Some e
+    → n ≡ refusal_number why → RefusesLookup table ip e.tables why → LookupAnswers table ip o missing old old n
+look_up_refused table ip o missing e old why n is number refuses =
+    subst (λ s. LookupAnswers table ip s missing old old n) (sym is) (inr (why, number, refuses, refl))
 
 -- a pipeline has few ports and rings
 pub few : (p : Plan) → IsPlan p → (length p.env.ports ≤ 8) × (length p.env.rings ≤ 8)

@@ -187,6 +187,7 @@ fn room_of(pass: Pass) -> Room
 }
 
 /// Takes a pass; returns the number of its outcome or of a refusal.
+#[tactic(auto, using(crate::proofs::Serving::pass_refused))]
 pub(crate) fn passed(
     host: &mut Host,
     port: u32,
@@ -218,6 +219,7 @@ pub(crate) fn passed(
 }
 
 /// Adds a route to a table; returns 0 or the number of a refusal.
+#[tactic(auto, using(crate::proofs::Serving::change_made, crate::proofs::Serving::change_refused))]
 pub(crate) fn route_added(host: &mut Host, route: &mut Route) -> u32
     ensures { AddAnswers route.old host.old.running host.old.missing host.new.running result
         × (host.new.missing ≡ host.old.missing) × (host.new.explanation ≡ host.old.explanation) × (route.new ≡ route.old) }
@@ -232,6 +234,7 @@ pub(crate) fn route_added(host: &mut Host, route: &mut Route) -> u32
 }
 
 /// Deletes a route of a table; returns 0 or the number of a refusal.
+#[tactic(auto, using(crate::proofs::Serving::change_made, crate::proofs::Serving::change_refused))]
 pub(crate) fn route_deleted(host: &mut Host, route: &mut Route) -> u32
     ensures { DeleteAnswers route.old host.old.running host.old.missing host.new.running result
         × (host.new.missing ≡ host.old.missing) × (host.new.explanation ≡ host.old.explanation) × (route.new ≡ route.old) }
@@ -246,6 +249,7 @@ pub(crate) fn route_deleted(host: &mut Host, route: &mut Route) -> u32
 }
 
 /// Sets `hop` to that of a table for an address; returns 0 or the number of a refusal.
+#[tactic(auto, using(crate::proofs::Serving::looked_up, crate::proofs::Serving::look_up_refused))]
 pub(crate) fn route_found(host: &mut Host, table: u32, ip: u32, hop: &mut Hop) -> u32
     ensures { (host.new ≡ host.old) × LookupAnswers table ip host.old.running host.old.missing hop.old hop.new result }
 {
@@ -277,6 +281,7 @@ pub(crate) fn batch_size(host: &mut Host, size: &mut Room) -> u32
 }
 
 /// Writes the counts of a port to `stats`.
+#[tactic(auto, using(crate::proofs::Reported::past_all, crate::proofs::Reported::port_missing))]
 pub(crate) fn port_stats(host: &mut Host, port: u32, stats: &mut PortStats) -> u32
     ensures { (host.new ≡ host.old) × SetsOrRefuses (IsPortStats port) (NoPort port) Refusal.NoPort host.old.running host.old.missing stats.old stats.new
         result }
@@ -299,6 +304,7 @@ pub(crate) fn port_stats(host: &mut Host, port: u32, stats: &mut PortStats) -> u
 }
 
 /// Writes the counts of a pool to `stats`.
+#[tactic(auto, using(crate::proofs::Reported::past_all, crate::proofs::Reported::pool_missing))]
 pub(crate) fn pool_stats(host: &mut Host, pool: u32, stats: &mut PoolStats) -> u32
     ensures { (host.new ≡ host.old) × SetsOrRefuses (IsPoolStats pool) (NoPool pool) Refusal.NoPool host.old.running host.old.missing stats.old stats.new
         result }

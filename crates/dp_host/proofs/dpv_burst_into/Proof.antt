@@ -1,198 +1,71 @@
--- The engine's value is lent for the call; the frames, the arrays and the struct are passed on.
-use Rattle.std.proofs.Common.{◌≡◌, ℕ, List, [], ◌∷◌, length, refl, sym, subst, w32}
-use Rattle.dp_host.specs.Bursts.{BurstAnswers}
-use Rattle.std.proofs.raw_atomic.Walks.{proved}
-use base.Fraction.{full_share}
-use base.Logic.{id⊢}
-use base.Fml.{ftrue, flft}
-use mir.Syntax.{named, ty_unit}
-use mir.Val.{Val, vint, vptr, vunit}
-use prog.Wp.{WpFn}
-use contract.Monad.{fact}
+-- The frames, the arrays and the struct are passed on.
+use Rattle.std.proofs.Common.{◌≡◌, [], ◌∷◌, refl, ap, subst, w32}
+use base.Logic.{ent, guard_i, id⊢}
+use mir.Syntax.{named}
+use mir.Val.{vunit}
 use contract.Lifetimes.{Lfts}
+use contract.Monad.{fact_use}
 use contract.Running.{tables}
-use types.Kit.{‵, raw, ◌⊛◌, some, later, prop, ◌$◌, ◌∵◌, !, qed, done, move, keep, use1, use2, split, join}
-use types.Kit.{fsplit, fjoin, feq_i, feq_l, pick, await, regoal, suffices, group}
+use types.Kit.{raw, ◌$◌, ◌∵◌, !, qed, by}
 use types.Part.{whole, sub, agg}
 use types.Run.{enter, of_opd, unit_lit, addr, fld, from, hop, stop, no_more, and_then, returns}
 use types.ByLocal.{alloc_all, pass_all, free_all, look_at, get, get_in, look_in_at, through, sets, lands_as}
-use denote.Builtin.{u8, u32, unit}
-use denote.Exit.{yes}
-use denote.Laws.{Is, Typed}
-use Rattle.dp_host.proofs.Lent.{memory_lent, memory_back, told}
-use denote.Plain.{uint_vals, uint_Tells, uint_Makes}
-use denote.RawPtr.{Ptr, RawPtr, block_ptr, lies_at, in_a_block, ptr_val, rawptr_vals, rawptr_Tells}
-use denote.Ref.{MutRef, mut_vals, mut_Tells}
-use denote.Slice.{MutSlice, slice_val, mut_slice_vals, mut_slice_Tells}
+use denote.Builtin.{u8, unit}
+use denote.Laws.{shows}
 use denote.RattleType.{RattleType}
-use denote.Signature.{named_lft, plain}
-use denote.Steps.{nothing, owned, heard}
-use denote.Triple.Call.{calls_at}
-use denote.Triple.Clauses.{lasts}
-use denote.Triple.Spec.{triple_of}
+use denote.Signature.{named_lft}
+use denote.Steps.{only}
+use denote.Triple.Clauses.{AtExit, Ended}
+use denote.Triple.Entry.{Args}
 use denote.Triple.Table.{framed}
-use denote.Triple.Walked.{Stays, walk_of, stay_dropped, gave_ref, gave_slice, Goes-dropped, Goes-gave_ref, Goes-gave_slice, ends_at}
+use Rattle.dp_host.specs.Bursts.{BurstAnswers}
 use Rattle.dp_host.specs.contracts.dpv_burst_into as f
-use Rattle.dp_host.proofs.dpv_burst_into.Statement.{statement}
-use Rattle.dp_host.proofs.dpv_burst_into.Code as code
-use Rattle.dp_host.specs.contracts.bursts.burst as g
-use Rattle.dp_host.proofs.bursts.burst.Met.{met}
+use Rattle.dp_host.specs.contracts.bursts.burst.Key as called
 use Rattle.dp_host.specs.contracts.host.Host.{the_row as R}
 use Rattle.dp_host.specs.contracts.numbers.BurstFrame as frame
 use Rattle.dp_host.specs.contracts.numbers.Room.{the_row as F}
-use Rattle.dp_host.specs.declared.numbers.BurstFrame.{BurstFrame}
 use Rattle.dp_engine.specs.contracts.batch.SentRecord.{the_row as E}
+use Rattle.dp_host.proofs.Lent.{after_first, by_pointer, hands, lent_slice, lent_struct, number}
+use Rattle.dp_host.proofs.bursts.burst.Met.{met}
+use Rattle.dp_host.proofs.dpv_burst_into.Statement.{statement}
+use Rattle.dp_host.proofs.dpv_burst_into.Code as code
 
 -- a frame
 abbrev B : Lfts 5 → RattleType
 B κs = frame.the_row (named_lft 5 1 tt κs)
 
-abbrev stayed : Stays f.ended.signature.params f.ended.kept
-stayed = (
-  stay_dropped _ yes,
-  (
-    stay_dropped _ yes,
-    (
-      gave_slice (0 ∷ []) tt (plain B),
-      (gave_slice (2 ∷ []) tt (plain (λ _. E)), (gave_slice (3 ∷ []) tt (plain (λ _. u8)), (gave_ref (4 ∷ []) tt (plain (λ _. F)), tt))),
-    ),
-  ),
-)
+abbrev rest : Ended
+rest = record { signature = record f.ended.signature { params = after_first f.ended.signature.params }; kept = f.ended.kept.1 }
 
 -- what the call says
-abbrev Says : R.Denot → ℕ → List BurstFrame → List E.Denot → List ℕ → R.Denot → List BurstFrame → List E.Denot → List ℕ → F.Denot → Type 0
-Says h port frames records bytes h' frames' records' bytes' x =
-    BurstAnswers h.running h.missing h'.running port frames frames' (record { records = records; bytes = bytes })
-    (record { records = records'; bytes = bytes' }) x
+abbrev Says : (κs : Lfts 5) → R.Denot → Args rest.signature κs → Unit {0} → R.Denot → AtExit rest κs → Type 0
+Says κs h (port, (frames, (records, (bytes, (_, _))))) _ h' (_, (frames', (records', (bytes', (x, _))))) =
+    BurstAnswers h.running h.missing h'.running port frames.now frames'.now (record { records = records.now; bytes = bytes.now })
+    (record { records = records'.now; bytes = bytes'.now }) x.now
     × (h'.missing ≡ h.missing) × (h'.explanation ≡ h.explanation)
 
 pub dpv_burst_into_spec : {M : Type 1} → statement M
 dpv_burst_into_spec 𝓤 𝓛 𝓜 𝓡 wired =
-    let c = f.clauses 𝓛 𝓜.mem 𝓡.returns in let W = walk_of 𝓛 f.ended stayed c in let 𝓣 = tables 𝓤 𝓛.H 𝓜 𝓡 𝓡.env in
-    proved 𝓛 f.ended stayed c 𝓜 𝓡 (
-      Goes-dropped 𝓛 5 (plain (λ _. RawPtr)) yes (λ κs x w. refl),
-      (
-        Goes-dropped 𝓛 5 (plain (λ _. u32)) yes (λ κs x w. refl),
-        (
-          Goes-gave_slice 𝓛 5 0 tt (plain B),
-          (Goes-gave_slice 𝓛 5 2 tt (plain (λ _. E)), (Goes-gave_slice 𝓛 5 3 tt (plain (λ _. u8)), (Goes-gave_ref 𝓛 5 4 tt (plain (λ _. F)), tt))),
-        ),
-      ),
-    )
-    f.Key.name code.function (code.unfolded 𝓤 𝓛.H 𝓜 𝓡 wired)
-    (λ κs. (rawptr_vals, (uint_vals w32, (mut_slice_vals, (mut_slice_vals, (mut_slice_vals, (mut_vals, tt)))))))
-    (λ κs. (
-      rawptr_Tells,
-      (
-        uint_Tells w32,
-        (
-          mut_slice_Tells (named 0) κs.0 (B κs),
-          (
-            mut_slice_Tells (named 2) κs.1.1.0 E,
-            (mut_slice_Tells (named 3) κs.1.1.1.0 u8, (mut_Tells (named 4) κs.1.1.1.1.0 F, tt)),
-          ),
-        ),
-      ),
-    )) (λ κs qs bounds a h are.
-    let (at, (port, (fs, (rs, (bs, (r, _)))))) = a in
-    let (_, ((_, fits), (((_, fs_room), _), (((_, rs_room), _), (((_, bs_room), _), _))))) = are in
-    let y : Ptr → W.Ghost = λ p. (
-      (
-        κs,
-        qs,
-        bounds,
-        (p, (port, (fs, (rs, (bs, (r, tt)))))),
-        (rawptr_vals p, (uint_vals w32 port, (mut_slice_vals fs, (mut_slice_vals rs, (mut_slice_vals bs, (mut_vals r, tt)))))),
-      ),
-      h,
-    ) in
-    let Tokens = ‵ (flft κs.0 qs.0) ⊛ (‵ (flft κs.1.0 qs.1.0) ⊛ (‵ (flft κs.1.1.0 qs.1.1.0) ⊛ (‵ (flft κs.1.1.1.0 qs.1.1.1.0) ⊛
-    (‵ (flft κs.1.1.1.1.0 qs.1.1.1.1.0) ⊛ ‵ ftrue)))) in
-    qed 𝓛 ((Tokens ⊛ (‵ (RawPtr.own_val at (rawptr_vals at)) ⊛ (‵ (u32.own_val port (uint_vals w32 port)) ⊛
-    (‵ ((MutSlice (named 0) κs.0 (B κs)).own_val fs (mut_slice_vals fs)) ⊛ (‵ ((MutSlice (named 2) κs.1.1.0 E).own_val rs (mut_slice_vals rs)) ⊛
-    (‵ ((MutSlice (named 3) κs.1.1.1.0 u8).own_val bs (mut_slice_vals bs)) ⊛ (‵ ((MutRef (named 4) κs.1.1.1.1.0 F).own_val r (mut_vals r)) ⊛ ‵ ftrue))))))) ∷
-    ‵ (lies_at R full_share at h) ∷ []) ∵
-    split ! $ move ! (1 ∷ []) $ split ! $ move ! (1 ∷ []) $ split ! $ move ! (1 ∷ []) $ split ! $ move ! (1 ∷ []) $ split ! $ move ! (1 ∷ []) $ split ! $
-    move ! (1 ∷ []) $ split ! $
-    -- [the memory; the frames; the records; the bytes; the struct; the tokens]
-    keep ! (8 ∷ 4 ∷ 3 ∷ 2 ∷ 0 ∷ 7 ∷ []) $
-    in_a_block ! at (λ p. lies_at R full_share p h) (id⊢ 𝓤 _) (λ b o e.
-    regoal ! (λ p. prop (WpFn 𝓤 𝓛.H 𝓣.C 𝓣.Λ code.function (ptr_val p ∷ vint w32 port ∷ slice_val fs.ref_ptr (length fs.now)
-    ∷ slice_val rs.ref_ptr (length rs.now) ∷ slice_val bs.ref_ptr (length bs.now) ∷ vptr r.ref_ptr.0 r.ref_ptr.1 ∷ []) (W.post (y p)))) e refl $
-    enter ! _ _ _ _ _ $ alloc_all ! (λ l. pass_all ! refl (
-      (tt, tt),
-      (
-        (tt, record { fits = fits }),
-        (
-          (tt, (tt, (record { fits = fs_room.0 }, tt))),
-          (
-            (tt, (tt, (record { fits = rs_room.0 }, tt))),
-            (
-              (tt, (tt, (record { fits = bs_room.0 }, tt))),
-              ((tt, tt), tt),
-            ),
-          ),
-        ),
-      ),
-    ) $
+    by_pointer rest Says 𝓛 𝓜 𝓡 f.Key.name code.function (code.unfolded 𝓤 𝓛.H 𝓜 𝓡 wired)
+    (λ κs. let (κ, (_, (κ', (κ'', (κ3, _))))) = κs in
+    (number 𝓛 w32, (lent_slice 𝓛 (named 0) κ (B κs), (lent_slice 𝓛 (named 2) κ' E, (lent_slice 𝓛 (named 3) κ'' u8, (lent_struct 𝓛 (named 4) κ3 F, tt))))))
+    called.name (met 𝓤 𝓛 𝓜 𝓡 (code.calls-dp_host::bursts::burst 𝓡.env wired)) (λ v. v ≡ vunit)
+    (λ κs x v. fact_use 𝓤 (v ∷ [] ≡ vunit ∷ []) (shows 𝓛 unit x (v ∷ [])) (λ is. guard_i 𝓤 (v ≡ vunit) _ (ap only is))) (λ κs a b o P Q typed leads.
+    let (_, (of_frames, (of_records, (of_bytes, _)))) = typed in
+    qed 𝓛 (raw P ∷ []) ∵ enter ! _ _ _ _ _ $ alloc_all ! (λ l. pass_all ! refl ((tt, tt), typed) $
     -- &mut *at
     sets ! (of_opd ! (get ! refl)) refl (tt, tt) $
     sets ! (addr ! (through ! refl (stop !))) refl (tt, tt) $
     -- the arrays and the struct, each lent anew by its pointer
     sets ! (addr ! (from ! (fld ! refl (hop ! (look_in_at ! 3 (sub ! 0 refl (whole !))) (stop !))))) refl (tt, tt) $
-    sets ! (agg ! (and_then ! (get ! refl) (and_then ! (get_in ! (fld ! refl (stop !)) (sub ! 1 refl (whole !))) (no_more !)))) refl
-    (tt, (tt, (record { fits = fs_room.0 }, tt))) $
+    sets ! (agg ! (and_then ! (get ! refl) (and_then ! (get_in ! (fld ! refl (stop !)) (sub ! 1 refl (whole !))) (no_more !)))) refl of_frames $
     sets ! (addr ! (from ! (fld ! refl (hop ! (look_in_at ! 4 (sub ! 0 refl (whole !))) (stop !))))) refl (tt, tt) $
-    sets ! (agg ! (and_then ! (get ! refl) (and_then ! (get_in ! (fld ! refl (stop !)) (sub ! 1 refl (whole !))) (no_more !)))) refl
-    (tt, (tt, (record { fits = rs_room.0 }, tt))) $
+    sets ! (agg ! (and_then ! (get ! refl) (and_then ! (get_in ! (fld ! refl (stop !)) (sub ! 1 refl (whole !))) (no_more !)))) refl of_records $
     sets ! (addr ! (from ! (fld ! refl (hop ! (look_in_at ! 5 (sub ! 0 refl (whole !))) (stop !))))) refl (tt, tt) $
-    sets ! (agg ! (and_then ! (get ! refl) (and_then ! (get_in ! (fld ! refl (stop !)) (sub ! 1 refl (whole !))) (no_more !)))) refl
-    (tt, (tt, (record { fits = bs_room.0 }, tt))) $
+    sets ! (agg ! (and_then ! (get ! refl) (and_then ! (get_in ! (fld ! refl (stop !)) (sub ! 1 refl (whole !))) (no_more !)))) refl of_bytes $
     sets ! (addr ! (through ! refl (stop !))) refl (tt, tt) $
-    memory_lent h b o ! tt (λ α γ.
-    -- [the loan; the lender's part; the token of α; the frames; the records; the bytes; the struct; the tokens]
-    let G = triple_of 𝓛 g.signature (g.spec 𝓛 𝓜.mem 𝓡.returns) in
-    let z : G.Ghost = (
-      (
-        (α ∷ [], κs),
-        (full_share, qs),
-        bounds,
-        (record { ref_ptr = (b, o); ghost_name = γ; now = h }, (port, (fs, (rs, (bs, (r, tt)))))),
-        (vptr b o ∷ [], (uint_vals w32 port, (mut_slice_vals fs, (mut_slice_vals rs, (mut_slice_vals bs, (mut_vals r, tt)))))),
-      ),
-      tt,
-    ) in
-    nothing ! $ move ! (7 ∷ 0 ∷ []) $ join ! $ move ! (6 ∷ 0 ∷ []) $ join ! $ move ! (5 ∷ 0 ∷ []) $ join ! $ move ! (4 ∷ 0 ∷ []) $ join ! $
-    owned ! u32 (Is u32) (uint_Makes 𝓛 w32) port (uint_vals w32 port) (refl, fits) $ join ! $
-    move ! (1 ∷ 0 ∷ []) $ join ! $ move ! (2 ∷ 3 ∷ []) $ join ! $ join ! $
-    nothing ! $ move ! (1 ∷ 0 ∷ []) $ use2 𝓛 (raw (G.pre z)) (id⊢ 𝓤 _) $
-    calls_at ! (framed 𝓤 𝓛.H 𝓜 (tables 𝓤 𝓛.H 𝓜 𝓡 𝓡.env)) G (met 𝓤 𝓛 𝓜 𝓡 (code.calls-dp_host::bursts::burst 𝓡.env wired)) z
+    hands ! (framed 𝓤 𝓛.H 𝓜 (tables 𝓤 𝓛.H 𝓜 𝓡 𝓡.env)) called.name _ (λ v. v ≡ vunit) Q leads
     (and_then ! (get ! refl) (and_then ! (get ! refl) (and_then ! (get ! refl) (and_then ! (get ! refl) (and_then ! (get ! refl) (and_then ! (get ! refl)
-    (no_more !))))))) (λ v.
-    use1 𝓛 (later (some (λ (n : Unit {0}). ((‵ (flft (α ∷ []) full_share) ⊛ Tokens) ⊛ ‵ (unit.own_val n (v ∷ []))) ⊛
-    some (λ (ws : R.Denot × (Unit {0} × (List BurstFrame × (List E.Denot × (List ℕ × (F.Denot × Unit {0})))))).
-    ‵ (lasts g.ended z.0.0 z.0.3 ws) ⊛ raw (fact 𝓤 (let (h', (_, (frames, (records, (bytes, (filled, _)))))) = ws in
-    Says h port fs.now rs.now bs.now h' frames records bytes filled)))))) (id⊢ 𝓤 _) $
-    await ! tt $ pick ! (λ n. split ! $ split ! $ split ! $
-    move ! (3 ∷ []) $ pick ! (λ ws. let (now, (_, (frames, (records, (bytes, (filled, _)))))) = ws in split ! $ move ! (1 ∷ []) $ heard ! _ (λ said.
-    -- [what the loan was at last, and the rest; the token of α; the tokens; the result; the lender's part]
-    fsplit ! $ move ! (0 ∷ 2 ∷ 5 ∷ []) $ memory_back h b o ! tt α γ now $
-    move ! (3 ∷ []) $ feq_l ! (λ is. lands_as ! refl refl (subst (λ (us : List Val). Typed (ty_unit ∷ []) us) (sym is) ((tt, tt), tt)).0 $
-    sets ! (of_opd ! (unit_lit !)) refl (tt, tt) $
-    returns ! (look_at ! 0 refl) $ free_all ! refl $
-    -- [what the other parameters were at last; the tokens; the memory]
-    keep ! (1 ∷ 2 ∷ 0 ∷ []) $
-    fsplit ! $ move ! (1 ∷ []) $ fsplit ! $ move ! (1 ∷ []) $ fsplit ! $ move ! (1 ∷ []) $ fsplit ! $ move ! (1 ∷ []) $ fsplit ! $
-    -- [the struct; nothing; the bytes; the records; the frames; nothing; the tokens; the memory]
-    keep ! (4 ∷ 3 ∷ 2 ∷ 0 ∷ 6 ∷ 7 ∷ []) $
-    fsplit ! $ fsplit ! $ move ! (1 ∷ []) $ feq_l ! (λ same_frames. fjoin ! $
-    move ! (1 ∷ []) $ fsplit ! $ fsplit ! $ move ! (1 ∷ []) $ feq_l ! (λ same_records. fjoin ! $
-    move ! (2 ∷ []) $ fsplit ! $ fsplit ! $ move ! (1 ∷ []) $ feq_l ! (λ same_bytes. fjoin ! $
-    -- [the bytes; the records; the frames; the struct; the tokens; the memory]
-    suffices ! _ (ends_at 𝓛 f.ended stayed c (y (block_ptr b o)) vunit tt
-    (tt, (tt, (frames, (records, (bytes, (filled, tt)))))) (tt, (tt, (same_frames, (same_records, (same_bytes, (tt, tt))))))) $
-    move ! (5 ∷ []) $ told 𝓛 ! (λ h'. Says h port fs.now rs.now bs.now h' frames records bytes filled) (block_ptr b o) now said $
-    -- [the memory; the bytes; the records; the frames; the struct; the tokens]
-    nothing ! $ move ! (5 ∷ 0 ∷ []) $ join ! $ move ! (2 ∷ 0 ∷ []) $ join ! $ move ! (2 ∷ 0 ∷ []) $ join ! $ move ! (2 ∷ 0 ∷ []) $ join ! $
-    nothing ! $ join ! $ nothing ! $ join ! $
-    feq_i ! _ (vunit ∷ []) _ refl $ move ! (3 ∷ 1 ∷ 0 ∷ 2 ∷ []) $ group ! 3 $ done !))))))))))))
+    (no_more !))))))) (λ v is.
+    lands_as ! is refl (tt, tt) $ sets ! (of_opd ! (unit_lit !)) refl (tt, tt) $
+    returns ! (look_at ! 0 refl) $ free_all ! refl $ by ! (subst (λ u. ent 𝓤 (Q v) (Q u)) is (id⊢ 𝓤 (Q v))))))

@@ -1,19 +1,13 @@
 -- The counts of a ring.
-use Rattle.std.proofs.Common.{◌≡◌, ℕ}
 use Rattle.dp_host.specs.declared.refusal.Refusal.TheVariants as refusal
-use Rattle.dp_host.specs.Hosts.{SetsOrRefuses, IsRingStats, NoRing}
-use Rattle.dp_host.specs.contracts.dpv_ring.Key.{name}
-use Rattle.dp_host.specs.contracts.host.ring_stats.Key as called
-use Rattle.dp_host.specs.contracts.host.Host.{the_row as R}
+use Rattle.dp_host.specs.Hosts.{IsRingStats, NoRing}
 use Rattle.dp_host.specs.contracts.numbers.RingStats.{the_row as F}
-use Rattle.dp_host.proofs.Lent.{lent_with_a_number}
+use Rattle.dp_host.proofs.Lent.{Counted, lent}
 use Rattle.dp_host.proofs.host.ring_stats.Met.{met}
 use Rattle.dp_host.proofs.dpv_ring.Statement.{statement}
 use Rattle.dp_host.proofs.dpv_ring.Code.{unfolded, calls-dp_host::host::ring_stats}
 
-abbrev Says : R.Denot → ℕ → ℕ → F.Denot → R.Denot → F.Denot → Type 0
-Says h which n old h' x = (h' ≡ h) × SetsOrRefuses (IsRingStats which) (NoRing which) refusal.NoRing h.running h.missing old x n
-
 pub dpv_ring_spec : {M : Type 1} → statement M
 dpv_ring_spec 𝓤 𝓛 𝓜 𝓡 wired =
-    lent_with_a_number F Says 𝓛 𝓜 𝓡 _ _ _ _ called.name name (unfolded 𝓤 𝓛.H 𝓜 𝓡 wired) (met 𝓤 𝓛 𝓜 𝓡 (calls-dp_host::host::ring_stats 𝓡.env wired))
+    lent F 1 tt (Counted IsRingStats NoRing refusal.NoRing) 𝓛 𝓜 𝓡 _ _ _ _ _ _ (unfolded 𝓤 𝓛.H 𝓜 𝓡 wired)
+    (met 𝓤 𝓛 𝓜 𝓡 (calls-dp_host::host::ring_stats 𝓡.env wired))

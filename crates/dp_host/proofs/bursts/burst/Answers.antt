@@ -6,8 +6,7 @@ use Rattle.dp_host.proofs.bursts.burst.Goals as goal
 
 pub loop-k-init : goal.loop-k-init
 loop-k-init c = record {
-  so_far = none_yet c.args.host.now.running c.args.host.now.missing c.args.port c.args.frames.now
-      (record { records = c.args.records.now; bytes = c.args.bytes.now });
+  so_far = none_yet _ _ _ _ _;
   missing = refl;
   explanation = refl;
 }
@@ -34,19 +33,15 @@ loop-k-preserved c =
       bytes = omega (arith, c.passed_beyond-part.ensures.bytes_fit, c.passed_beyond-part.auto.bytes);
     } in
     record {
-      so_far = one_more_lent c.args.host.now.running c.args.host.now.missing c.loop-k.host.missing c.args.port c.args.frames.now
-          (record { records = c.args.records.now; bytes = c.args.bytes.now }) c.loop-k.k c.loop-k.host.running c.loop-k.frames c.loop-k.used
-          (record { records = c.loop-k.records; bytes = c.loop-k.bytes }) _ c.passed_beyond-part.new.frame c.passed_beyond-part.new.host.running part made
-          c.loop-k.invariant.so_far (omega arith) c.loop-k.invariant.missing c.passed_beyond-part.ensures.passed c.passed_beyond-part.ensures.rest within;
+      so_far = one_more_lent _ _ _ _ _ _ _ _ _ _ _ _ _ _ part made c.loop-k.invariant.so_far (omega arith) c.loop-k.invariant.missing
+          c.passed_beyond-part.ensures.passed c.passed_beyond-part.ensures.rest within;
       missing = c.passed_beyond-part.ensures.missing ∙ c.loop-k.invariant.missing;
       explanation = c.passed_beyond-part.ensures.explanation ∙ c.loop-k.invariant.explanation;
     }
 
 pub returns : goal.returns
 returns c = (
-  all_passed c.args.host.now.running c.args.host.now.missing c.args.port c.args.frames.now
-      (record { records = c.args.records.now; bytes = c.args.bytes.now }) c.loop-k.k c.loop-k.host.running c.loop-k.frames c.loop-k.used
-      (record { records = c.loop-k.records; bytes = c.loop-k.bytes }) c.loop-k.invariant.so_far c.loop-k-test.false (omega arith),
+  all_passed _ _ _ _ _ _ _ _ _ _ c.loop-k.invariant.so_far c.loop-k-test.false (omega arith),
   c.loop-k.invariant.missing,
   c.loop-k.invariant.explanation,
 )

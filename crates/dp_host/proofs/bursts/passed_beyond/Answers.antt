@@ -4,33 +4,27 @@ use Rattle.std.proofs.lemmas.List.{drop_at, length-map, length-take-le, take_at}
 use Rattle.dp_engine.specs.declared.batch.SentRecord.{SentRecord}
 use Rattle.dp_host.proofs.Places.{Fills, all_within, pass_fills}
 use Rattle.dp_host.proofs.bursts.passed_beyond.Goals as goal
+use Rattle.dp_host.proofs.bursts.passed_beyond.Goals.{After-passed-frame}
+
+fills : (c : After-passed-frame) → Fills (record { records = c.args.records.now; bytes = c.args.bytes.now })
+    (record { records = c.passed-frame.new.records; bytes = c.passed-frame.new.bytes }) c.passed-frame.new.filled
+fills c = pass_fills _ _ _ _ _ _ _ _ _ _ c.passed-frame.ensures.0
 
 pub slice_bounds-shift-end : goal.slice_bounds-shift-end
-slice_bounds-shift-end c =
-    let f : Fills (record { records = c.args.records.now; bytes = c.args.bytes.now })
-    (record { records = c.passed-frame.new.records; bytes = c.passed-frame.new.bytes }) c.passed-frame.new.filled =
-    pass_fills _ _ _ _ _ _ _ _ _ _ c.passed-frame.ensures.0 in
-    f.records
+slice_bounds-shift-end c = (fills (goal.at.slice_bounds-shift-end c).After-passed-frame).records
 
 pub slice_bounds-shift-end-2 : goal.slice_bounds-shift-end-2
 slice_bounds-shift-end-2 c =
-    let f : Fills (record { records = c.args.records.now; bytes = c.args.bytes.now })
-    (record { records = c.passed-frame.new.records; bytes = c.passed-frame.new.bytes }) c.passed-frame.new.filled =
-    pass_fills _ _ _ _ _ _ _ _ _ _ c.passed-frame.ensures.0 in
-    sym (length-take-le c.passed-frame.new.filled.records c.passed-frame.new.records f.records)
+    sym (length-take-le c.passed-frame.new.filled.records c.passed-frame.new.records (fills (goal.at.slice_bounds-shift-end-2 c).After-passed-frame).records)
 
 pub shift-requires : goal.shift-requires
 shift-requires c =
-    let f : Fills (record { records = c.args.records.now; bytes = c.args.bytes.now })
-    (record { records = c.passed-frame.new.records; bytes = c.passed-frame.new.bytes }) c.passed-frame.new.filled =
-    pass_fills _ _ _ _ _ _ _ _ _ _ c.passed-frame.ensures.0 in
+    let f = fills (goal.at.shift-requires c).After-passed-frame in
     all_within _ _ (λ (r : SentRecord) le. omega (arith, le, f.bytes, c.requires, c.passed-frame.auto.bytes)) _ f.offsets
 
 pub returns : goal.returns
 returns c =
-    let f : Fills (record { records = c.args.records.now; bytes = c.args.bytes.now })
-    (record { records = c.passed-frame.new.records; bytes = c.passed-frame.new.bytes }) c.passed-frame.new.filled =
-    pass_fills _ _ _ _ _ _ _ _ _ _ c.passed-frame.ensures.0 in
+    let f = fills (goal.at.returns c).After-passed-frame in
     let n = c.passed-frame.new.filled.records in
     let many : length c.shift.new.records ≡ n =
     ap length c.shift.ensures ∙ length-map _ _ ∙ length-take-le n c.passed-frame.new.records f.records in

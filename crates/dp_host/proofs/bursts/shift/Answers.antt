@@ -1,5 +1,5 @@
 -- The next record gets its offset, until all have.
-use Rattle.std.proofs.Common.{◌+◌, ◌<◌, List, ap, ◌∙◌, arith, get_or, length}
+use Rattle.std.proofs.Common.{◌+◌, ◌<◌, List, ap, ◌∙◌, arith, get_or}
 use Rattle.std.proofs.lemmas.List.{get_or_default}
 use Rattle.std.proofs.lemmas.List.Edits.{map_over_more}
 use Rattle.dp_engine.specs.declared.batch.SentRecord.{SentRecord}

@@ -1,11 +1,6 @@
--- A refusal of the engine is one of the C library.
-use Rattle.std.proofs.Common.{◌<◌, length, Option, refl, ◌∙◌, subst, rules}
-use Rattle.dp_lpm.specs.declared.error.LpmError.{LpmError}
+use Rattle.std.proofs.Common.{◌<◌, length, refl, rules}
 use Rattle.dp_lpm.specs.Faults.{add_fault}
-use Rattle.dp_lpm.specs.Routes.{RouteTable}
-use Rattle.dp_engine.specs.Engines.{EngineState}
-use Rattle.dp_engine.specs.Rerouting.{RefusesRoute}
-use Rattle.dp_host.proofs.Depths.{add_too_deep}
+use Rattle.dp_host.proofs.Depths.{add_too_deep, told_on}
 use Rattle.dp_host.proofs.running.Running.add_route.Goals as goal
 use Rattle.dp_host.proofs.running.Running.add_route.Goals.{in-Ok, in-Err}
 
@@ -19,8 +14,6 @@ returns-clause-err c =
     elim c.match-add_route.branch [
       | in-Ok w ↦ rw w.result-is tt
       | in-Err w ↦
-          let (refuses, same) = w.in-Err.ensures.err in
-          let fault : RouteTable → Option LpmError = λ t. add_fault t c.args.ip c.args.depth c.args.hop in
-          let here = subst (λ (e : EngineState). RefusesRoute fault c.args.table e.tables w.in-Err.fault) c.self.view_is refuses in
-          rw w.result-is (w.refusal_of.ensures fault c.args.table c.args.self.now.tables here, same ∙ c.self.view_is)
+          rw w.result-is (told_on (λ t. add_fault t c.args.ip c.args.depth c.args.hop) c.args.table _ _ _ _ _ c.self.view_is
+          w.refusal_of.ensures w.in-Err.ensures.err)
     ]
