@@ -49,11 +49,7 @@ fn slot_after(count: u32, first: u32, n: u32) -> u32
     ensures bound { result < count }
 {
     let beyond = first + n;
-    if beyond < count {
-        beyond
-    } else {
-        beyond - count
-    }
+    beyond.checked_sub(count).unwrap_or(beyond)
 }
 
 // The slot after `slot`.
