@@ -43,14 +43,15 @@ impl Model for Counts {
     ghost invariant = { λ c. HasRoom c.came.items c.taken.items c.ended.items c.cut.items c.place };
 }
 
-// The number of a node: the ports come first, then the rings.
+// The number of a node: the rings come first, so that a ring's run begins without an addition, then the ports.
 #[inline(always)]
 pub(crate) fn number_of(node: Entry) -> u8
     requires { IsOneOfEight node }
+    ensures { result < 16 }
 {
     match node {
-        Entry::Port(port) => port,
-        Entry::Ring(ring) => MAX_OF_A_KIND as u8 + ring,
+        Entry::Ring(ring) => ring,
+        Entry::Port(port) => MAX_OF_A_KIND as u8 + port,
     }
 }
 

@@ -2,7 +2,7 @@
 
 ghost use Rattle.dp_engine.specs.Watching.{IsOneOfEight};
 
-use crate::counts::{is_one_of_eight, number_of, place_of};
+use crate::counts::{is_one_of_eight, number_of};
 use dp_engine::{View, Watch, Way};
 use dp_lang::{MAX_INSTRS, Program};
 use dp_model::{Entry, Instr, NumberRegister};
@@ -86,7 +86,8 @@ impl Losses {
     /// Adds the program of a node.
     pub fn add(&mut self, node: Entry, program: &Program) {
         if is_one_of_eight(node) {
-            let requests = self.requests.as_mut_slice().iter_mut().skip(place_of(node));
+            let place = MAX_INSTRS * usize::from(number_of(node));
+            let requests = self.requests.as_mut_slice().iter_mut().skip(place);
             for (request, instr) in requests.zip(program.instrs()) {
                 *request = Request::of(instr);
             }

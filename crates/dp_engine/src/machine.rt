@@ -32,18 +32,18 @@ use register::{Register, no_packets, set_first};
 use std::marker::Model;
 
 // The maximum number of backward jumps of a node run.
-const JUMP_BUDGET: u16 = 256;
+const JUMP_BUDGET: u64 = 256;
 
 /// A machine: packets in registers, transmit lists and rings, over mbufs, and the counts of node runs.
 pub struct Machine {
     mbufs: Mbufs,
     registers: [Register; 8],
     numbers: [u64; 8],
+    jumps: u64,
     queues: Queues,
     calls: u64,
     steps: GhostCount,
     cuts: u64,
-    jumps: u16,
 }
 
 impl Model for Machine {

@@ -210,7 +210,10 @@ impl Queues {
         };
         // Mostly it has no other entry then.
         if self.rings.count(ring) == 0 {
-            self.first = first_from(&self.rings, ring + 1);
+            self.first = None;
+            if usize::from(ring) + 1 < self.rings.len() {
+                self.first = first_from(&self.rings, ring + 1);
+            }
         }
         handle
     }

@@ -135,7 +135,10 @@ pub(crate) fn serve<K: CompiledPrograms, W: Watch>(
         steps: 0,
         cuts: 0,
     };
-    for i in 0..MAX_RING_RUNS {
+    // Counted down: a test for zero needs no comparison.
+    let mut left = MAX_RING_RUNS;
+    while left != 0 {
+        left -= 1;
         let Some(NodeRun { steps, cuts }) = serve_one(context, m, watch) else {
             return served;
         };

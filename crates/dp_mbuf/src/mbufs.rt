@@ -105,7 +105,7 @@ fn mbuf_at(objects: &Objects, first: MbufNumber, k: u32) -> MbufNumber
 }
 
 // Releases `count` segments along the links, starting at `first`.
-#[inline(never)]
+#[inline(always)]
 fn release_all(objects: &mut Objects, first: MbufNumber, count: u16)
     requires { (v : Store) × (h : ℕ) × Freeing objects.old first 0 count v h }
     ensures packets { (v : Store) (h : ℕ) → Freeing objects.old first 0 count v h → Sound objects.new × (shown objects.new ≡ with_slot h None v) }

@@ -150,6 +150,7 @@ impl Machine {
     }
 
     // Allocates a packet of one empty segment into an empty register. Returns false if the call is refused.
+    #[inline(always)]
     pub(crate) fn alloc(&mut self, setting: &Setting, into: PacketRegister, pool: u8) -> bool
         requires empty { IsEmpty self.old.state into }
         requires exists { pool < length setting.now.env.pools }

@@ -50,12 +50,14 @@ impl Machine {
             ((result ≡ None) × (self.new ≡ self.old))
             (λ w. (result ≡ Some w.ring) × (self.new ≡ moved (first_state w.packet w.ring (record self.old.state.world { rings = w.rings })) self.old)) }
     {
-        let ring = self.queues.first_waiting()?;
-        let packet = self.queues.pop_waiting(ring);
-        set_first(&mut self.registers, packet);
-        self.numbers = [u64::from(ring), 0, 0, 0, 0, 0, 0, 0];
-        self.jumps = 0;
-        Some(ring)
+        let first = self.queues.first_waiting();
+        if let Some(ring) = first {
+            let packet = self.queues.pop_waiting(ring);
+            set_first(&mut self.registers, packet);
+            self.numbers = [u64::from(ring), 0, 0, 0, 0, 0, 0, 0];
+            self.jumps = 0;
+        }
+        first
     }
 
     // Frees the first packet of a queue, which must have one.

@@ -66,8 +66,11 @@ invariant_of-self-else-count-eq0 c =
       c.self.invariant.1,
     )
 
-pub returns-then-count-eq0-clause-rest : goal.returns-then-count-eq0-clause-rest
-returns-then-count-eq0-clause-rest c = rest (goal.at.returns-then-count-eq0-clause-rest c).After-pop
+pub returns-then-from-len-clause-rest : goal.returns-then-from-len-clause-rest
+returns-then-from-len-clause-rest c = rest (goal.at.returns-then-from-len-clause-rest c).After-pop
+
+pub returns-else-from-len-clause-rest : goal.returns-else-from-len-clause-rest
+returns-else-from-len-clause-rest c = rest (goal.at.returns-else-from-len-clause-rest c).After-pop
 
 pub returns-else-count-eq0-clause-rest : goal.returns-else-count-eq0-clause-rest
 returns-else-count-eq0-clause-rest c = rest (goal.at.returns-else-count-eq0-clause-rest c).After-pop
