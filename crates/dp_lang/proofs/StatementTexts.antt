@@ -29,7 +29,7 @@ pub word_some : (f : Form) → 0 < length (word_of f)
 word_some Alloc = omega arith
 word_some _ = omega arith
 
-form_of_word : (f : Form) → form_of (word_of f) ≡ Some f
+pub form_of_word : (f : Form) → form_of (word_of f) ≡ Some f
 unfolding form_of
 form_of_word Alloc = refl
 form_of_word _ = refl

@@ -11,6 +11,8 @@ use Rattle.dp_lang.specs.declared.argument.Named.{Named}
 use Rattle.dp_lang.specs.declared.argument.Named.TheVariants as text
 use Rattle.dp_lang.specs.declared.argument.Numbered.{Numbered}
 use Rattle.dp_lang.specs.declared.argument.Numbered.TheVariants as program
+use Rattle.dp_lang.specs.declared.argument.Shown.{Shown}
+use Rattle.dp_lang.specs.declared.argument.Shown.TheVariants as shown
 use Rattle.dp_lang.specs.declared.cause.Fault.{Fault}
 use Rattle.dp_lang.specs.declared.cause.AsmError.{AsmError}
 use Rattle.dp_lang.specs.declared.cause.AsmError.TheVariants as errors
@@ -32,6 +34,12 @@ numbered (program.Constant n) = constant n
 numbered (program.Width w) = constant (bytes_in w)
 numbered (program.RegisterOrConstant x) = either x
 numbered (program.Label n) = label n
+
+abbrev pub shown_in : Shown → Argument ℕ
+shown_in (shown.Packet p) = packet p
+shown_in (shown.Register r) = register r
+shown_in (shown.Number n) = constant n
+shown_in (shown.Label n) = label n
 
 -- the operands of an instruction
 abbrev pub listed : Arguments → List Numbered

@@ -1,7 +1,7 @@
 //! Operands, as a text has them and as a program has them.
 
 ghost use Rattle.std.specs.Prelude.{◌≡◌};
-ghost use Rattle.dp_lang.specs.Views.{label_in, listed};
+ghost use Rattle.dp_lang.specs.Views.{label_in, listed, numbered, shown_in};
 
 use dp_model::{NumberRegister, Operand, PacketRegister, Width};
 
@@ -37,6 +37,40 @@ pub enum Numbered {
     RegisterOrConstant(Operand),
     /// The number of an instruction, from 0.
     Label(u16),
+}
+
+/// An operand as a text shows it.
+#[derive(Clone, Copy)]
+pub(crate) enum Shown {
+    /// A packet register.
+    Packet(u8),
+    /// A number register.
+    Register(u8),
+    Number(u64),
+    /// The number of an instruction, from 0.
+    Label(u16),
+}
+
+impl Numbered {
+    /// What a text shows.
+    pub(crate) fn shown(self) -> Shown
+        ensures { shown_in result ≡ numbered self }
+    {
+        match self {
+            Numbered::Target(packet) => Shown::Packet(packet.number()),
+            Numbered::Packet(packet) => Shown::Packet(packet.number()),
+            Numbered::Register(register) => Shown::Register(register.number()),
+            Numbered::Small(n) => Shown::Number(u64::from(n)),
+            Numbered::Count(n) => Shown::Number(u64::from(n)),
+            Numbered::Constant(n) => Shown::Number(n),
+            Numbered::Width(width) => Shown::Number(u64::from(width.bytes())),
+            Numbered::RegisterOrConstant(operand) => match operand {
+                Operand::Register(register) => Shown::Register(register.number()),
+                Operand::Constant(n) => Shown::Number(n),
+            },
+            Numbered::Label(n) => Shown::Label(n),
+        }
+    }
 }
 
 /// The operands of an instruction in the order of its text; one variant for each number of them.

@@ -9,7 +9,7 @@ ghost use Rattle.dp_lang.specs.Views.{label_in, listed, numbered, seen_in, seen_
 
 use crate::argument::{Arguments, Named, Numbered};
 use crate::field::{
-    byte_in, count_in, number_in, operand_at, operand_in, packet_in, register_in, width_in,
+    byte_at, count_at, number_at, packet_at, register_at, register_or_constant_at, width_at,
 };
 use dp_model::Instr;
 
@@ -191,24 +191,24 @@ macro_rules! row {
     };
 }
 
-/// Expands to the code that reads a field from an operand of a text; a label becomes the number that is given for it.
+/// Expands to the code that reads a field from the operand of a text at a place; a label becomes the number that is given for it.
 macro_rules! read {
-    (Target $given:expr, $label:expr) => { packet_in($given) };
-    (Packet $given:expr, $label:expr) => { packet_in($given) };
-    (Register $given:expr, $label:expr) => { register_in($given) };
-    (Small $given:expr, $label:expr) => { byte_in($given) };
-    (Count $given:expr, $label:expr) => { count_in($given) };
-    (Constant $given:expr, $label:expr) => { number_in($given) };
-    (Width $given:expr, $label:expr) => { width_in($given) };
-    (RegisterOrConstant $given:expr, $label:expr) => { operand_in($given) };
-    (Label $given:expr, $label:expr) => { $label };
+    (Target $given:expr, $place:literal, $label:expr) => { packet_at($given, $place) };
+    (Packet $given:expr, $place:literal, $label:expr) => { packet_at($given, $place) };
+    (Register $given:expr, $place:literal, $label:expr) => { register_at($given, $place) };
+    (Small $given:expr, $place:literal, $label:expr) => { byte_at($given, $place) };
+    (Count $given:expr, $place:literal, $label:expr) => { count_at($given, $place) };
+    (Constant $given:expr, $place:literal, $label:expr) => { number_at($given, $place) };
+    (Width $given:expr, $place:literal, $label:expr) => { width_at($given, $place) };
+    (RegisterOrConstant $given:expr, $place:literal, $label:expr) => { register_or_constant_at($given, $place) };
+    (Label $given:expr, $place:literal, $label:expr) => { $label };
 }
 
 /// Expands to an instruction, each field read from the operand at its index.
 macro_rules! filled {
     ($name:ident $given:expr, $label:expr, [$($place:literal)*] { $($done:tt)* }) => { Instr::$name { $($done)* } };
     ($name:ident $given:expr, $label:expr, [$place:literal $($places:literal)*] { $($done:tt)* } $field:ident $kind:ident $($more:ident)*) => {
-        filled!($name $given, $label, [$($places)*] { $($done)* $field: read!($kind operand_at($given, $place), $label), } $($more)*)
+        filled!($name $given, $label, [$($places)*] { $($done)* $field: read!($kind $given, $place, $label), } $($more)*)
     };
 }
 

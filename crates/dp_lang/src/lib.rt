@@ -5,10 +5,11 @@
 //! with operands in their ranges and labels that exist. `into_instrs` takes the list out.
 //!
 //! What to call: `assemble` for a text, `print` for the one text of a program, `source_lines` for the line of each instruction in its source,
-//! `arguments_of` for the operands of an instruction as data.
+//! `arguments_of` for the operands of an instruction as data, `is_same` to compare two instructions, which have
+//! no `==`.
 //!
-//! What not to do: a `Program` need not be one that the checker accepts; dp_check decides that. Instructions have no `==`: compare their
-//! printed texts. The printed text has neither the comments nor the labels of the source.
+//! What not to do: a `Program` need not be one that the checker accepts; dp_check decides that. The printed text has neither the comments nor the
+//! labels of the source.
 #![tactic(auto)]
 
 mod argument;
@@ -26,6 +27,7 @@ mod printer;
 mod program;
 mod reader;
 mod resolve;
+mod same;
 mod source;
 mod statement;
 
@@ -39,3 +41,4 @@ pub use listing::{Listed, SourceLine, listing_of, source_line};
 pub use operand::argument_of;
 pub use printer::print;
 pub use program::{MAX_INSTRS, Program};
+pub use same::is_same;

@@ -8,10 +8,10 @@ ghost use Rattle.dp_lang.specs.Programs.{leads_below};
 ghost use Rattle.dp_lang.specs.Forms as forms;
 ghost use Rattle.dp_lang.specs.Views.{numbered};
 
-use crate::argument::Numbered;
+use crate::argument::{Numbered, Shown};
 use crate::form::{Form, arguments_of, form_of};
 use crate::program::Program;
-use dp_model::{Instr, Operand};
+use dp_model::Instr;
 use std::alloc::{AllocError, Global};
 
 /// Adds letters and a number.
@@ -24,19 +24,11 @@ fn push_number(out: &mut String, letters: &str, n: u64) -> Result<(), AllocError
 fn push_argument(out: &mut String, argument: Numbered) -> Result<(), AllocError>
     ensures { OnOk result (string_bytes out.new ≡ string_bytes out.old ++ spec.argument_text (numbered argument)) }
 {
-    match argument {
-        Numbered::Target(register) => push_number(out, "p", u64::from(register.number())),
-        Numbered::Packet(register) => push_number(out, "p", u64::from(register.number())),
-        Numbered::Register(register) => push_number(out, "r", u64::from(register.number())),
-        Numbered::Small(n) => push_number(out, "", u64::from(n)),
-        Numbered::Count(n) => push_number(out, "", u64::from(n)),
-        Numbered::Constant(n) => push_number(out, "", n),
-        Numbered::Width(width) => push_number(out, "", u64::from(width.bytes())),
-        Numbered::RegisterOrConstant(operand) => match operand {
-            Operand::Register(register) => push_number(out, "r", u64::from(register.number())),
-            Operand::Constant(n) => push_number(out, "", n),
-        },
-        Numbered::Label(number) => push_number(out, "L", u64::from(number)),
+    match argument.shown() {
+        Shown::Packet(n) => push_number(out, "p", u64::from(n)),
+        Shown::Register(n) => push_number(out, "r", u64::from(n)),
+        Shown::Number(n) => push_number(out, "", n),
+        Shown::Label(n) => push_number(out, "L", u64::from(n)),
     }
 }
 
