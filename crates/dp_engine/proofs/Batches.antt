@@ -1,6 +1,6 @@
 -- What a pass copies: how frames lie in a batch, and that a batch of the largest size has room for them.
 use Rattle.std.proofs.Common.{◌≡◌, ℕ, zero, suc, ◌+◌, ◌-◌, ◌*◌, ◌<◌, ◌≤◌, max, min, List, [], ◌∷◌, ◌++◌, length}
-use Rattle.std.proofs.Common.{take, drop, drop-drop, map, Some, refl, sym, ◌∙◌, ap, arith}
+use Rattle.std.proofs.Common.{take, drop, drop-drop, get_or, map, Some, refl, sym, ◌∙◌, ap, arith}
 use Rattle.std.proofs.Common.{append_assoc, append-nil, length-append, add-one, add-zero, zero-add}
 use Rattle.std.specs.Prelude.{slice_get, slice_set, flat_map, true, ◌&&◌, nat_le}
 use Rattle.std.specs.List.{AllByRecursion}
@@ -11,7 +11,7 @@ use Rattle.std.proofs.lemmas.List.{drop-set-lt, length-take, length-take-le, map
 use Rattle.std.proofs.lemmas.Slice.{drop-append-drop}
 use Rattle.std.proofs.lemmas.List.Concat.{flat_map-append}
 use Rattle.std.proofs.lemmas.List.Sums.{sum_by-cons}
-use Rattle.std.proofs.lemmas.Option.{same_Some}
+use Rattle.std.proofs.lemmas.Option.{same_Some, slice_get-get_or}
 use Rattle.dp_model.specs.declared.env.PoolSpec.{PoolSpec}
 use Rattle.dp_model.specs.Environments.{room_at, pool_fits}
 use Rattle.dp_model.specs.Buffers.{Buffers, bytes_of, overwritten}
@@ -194,7 +194,7 @@ next_has_room i buffers lists packets limit size here few small =
 
 -- ---- the largest batch
 
-pub buffers_more : (pools : List PoolSpec) (i : ℕ) (p : PoolSpec) → slice_get pools i ≡ Some p
+buffers_more : (pools : List PoolSpec) (i : ℕ) (p : PoolSpec) → slice_get pools i ≡ Some p
     → all_buffers (take (suc i) pools) ≡ all_buffers (take i pools) + p.count
 buffers_more [] i p e = cc
 buffers_more (q ∷ pools) zero p e =
@@ -207,11 +207,22 @@ buffers_more (q ∷ pools) (suc i) p e =
       sum_by-cons (λ (x : PoolSpec). x.count) q (take i pools),
     )
 
-pub widest_more : (pools : List PoolSpec) (i : ℕ) (p : PoolSpec) → slice_get pools i ≡ Some p → widest (take (suc i) pools) ≡ max (widest (take i pools)) p.room
+widest_more : (pools : List PoolSpec) (i : ℕ) (p : PoolSpec) → slice_get pools i ≡ Some p → widest (take (suc i) pools) ≡ max (widest (take i pools)) p.room
 widest_more [] i p e = cc
 widest_more (q ∷ pools) zero p e =
     let same : q.room ≡ p.room = ap (λ (x : PoolSpec). x.room) (same_Some q p e) in omega (arith, same)
 widest_more (q ∷ pools) (suc i) p e = let more = widest_more pools i p e in omega (arith, more)
+
+-- the pool that a loop has come to
+abbrev pub no_pool : PoolSpec
+no_pool = record { count = 0; cache = 0; room = 0 }
+
+pub buffers_next : (pools : List PoolSpec) (i : ℕ) → i < length pools
+    → all_buffers (take (i + 1) pools) ≡ all_buffers (take i pools) + (get_or pools i no_pool).count
+buffers_next pools i less = ap (λ n. all_buffers (take n pools)) (add-one i) ∙ buffers_more pools i _ (slice_get-get_or pools i no_pool less)
+
+pub widest_next : (pools : List PoolSpec) (i : ℕ) → i < length pools → widest (take (i + 1) pools) ≡ max (widest (take i pools)) (get_or pools i no_pool).room
+widest_next pools i less = ap (λ n. widest (take n pools)) (add-one i) ∙ widest_more pools i _ (slice_get-get_or pools i no_pool less)
 
 room_small : (pools : List PoolSpec) (k : ℕ) → room_at pools k ≤ widest pools
 room_small [] k = omega arith

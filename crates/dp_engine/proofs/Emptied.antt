@@ -5,6 +5,9 @@ use Rattle.std.proofs.lemmas.Option.{same_Some}
 use Rattle.std.proofs.lemmas.Slice.Zip.{AllZip-long}
 use Rattle.std.proofs.lemmas.List.{length-set}
 use Rattle.dp_model.specs.Packets.{Packet}
+use Rattle.dp_model.specs.declared.env.PortSpec.{PortSpec}
+use Rattle.dp_model.specs.declared.env.RingSpec.{RingSpec}
+use Rattle.dp_model.specs.Environments.{Environment}
 use Rattle.dp_model.specs.declared.queue.Queue.{Queue}
 use Rattle.dp_model.specs.declared.queue.Queue.TheVariants.{Tx, Ring}
 use Rattle.dp_model.specs.Machine.{State, live, segments_listed, packets_in, with_queue}
@@ -59,9 +62,9 @@ has_less s (Ring ring) packets there =
 -- ---- slots
 
 -- it has the environment's rings and ports
-pub record HasAll (e : EngineState) : Type 0 where
-  pub rings : length e.world.rings ≡ length e.setting.env.rings
-  pub ports : length e.world.outboxes ≡ length e.setting.env.ports
+record HasAll (e : EngineState) : Type 0 where
+  rings : length e.world.rings ≡ length e.setting.env.rings
+  ports : length e.world.outboxes ≡ length e.setting.env.ports
 
 module _ (s : Scheme) (core : Core) (memory : EngineMemoryView) (turns : ℕ) (tallies : List Tallies) (left : List ℕ)
     (is : IsEngine s core memory turns tallies left) where
@@ -72,7 +75,7 @@ module _ (s : Scheme) (core : Core) (memory : EngineMemoryView) (turns : ℕ) (t
   pub port_within : (i : ℕ) → i < length s.setting.env.ports → i < 8
   port_within i lt = omega (arith, lt, (known s.setting.env is.within).ports.1)
 
-  pub has_all : (e : EngineState) → engine_of s core memory turns tallies left ≡ e → HasAll e
+  has_all : (e : EngineState) → engine_of s core memory turns tallies left ≡ e → HasAll e
   has_all e same = subst HasAll same (record {
     rings = AllZip-long _ s.setting.env.rings core.state.world.rings is.rests.rest.ready.world.rings;
     ports = is.rests.rest.ready.world.outboxes;
@@ -137,6 +140,19 @@ module _ (s : Scheme) (core : Core) (memory : EngineMemoryView) (turns : ℕ) (t
   pub left_fits : (ring : ℕ) (packets : List Packet) → slice_get core.state.world.rings ring ≡ Some packets
       → slice_index_or left ring 0 + length packets ≤ 1099511627776 * 8684545
   left_fits ring packets there = omega (arith, all_fit (Ring ring) packets there, sum_at left ring)
+
+module _ {s : Scheme} {core : Core} {memory : EngineMemoryView} {turns : ℕ} {tallies : List Tallies} {left : List ℕ} {e : EngineState} {env : Environment}
+    (is : IsEngine s core memory turns tallies left) (same : engine_of s core memory turns tallies left ≡ e) (its : env ≡ s.setting.env) where
+  -- there are as many transmit lists as ports of the environment, and as many rings
+  pub lists_of_ports : {ports : List PortSpec} → ports ≡ env.ports → length e.world.outboxes ≡ length ports
+  lists_of_ports are =
+      (has_all s core memory turns tallies left is e same).ports
+      ∙ sym (ap length (are ∙ ap (λ (x : Environment). x.ports) its ∙ ap (λ (x : EngineState). x.setting.env.ports) same))
+
+  pub rings_of_env : {rings : List RingSpec} → rings ≡ env.rings → length e.world.rings ≡ length rings
+  rings_of_env are =
+      (has_all s core memory turns tallies left is e same).rings
+      ∙ sym (ap length (are ∙ ap (λ (x : Environment). x.rings) its ∙ ap (λ (x : EngineState). x.setting.env.rings) same))
 
 -- ---- one slot
 

@@ -90,22 +90,11 @@ pub less_left : {X : Type 0} → (f : X → ℕ) (xs : List X) (i : ℕ) (d : X)
     → new + total f xs ≡ old + total f (drop (i + 1) xs)
 less_left f xs i d new mid old inside less were = let more = total_more f xs i d inside in omega arith
 
-pub ring_filled : (home here : Home) (counts : List ℕ) (slots : List (Option RingView)) (k : ℕ) (v : RingView) (o : Option RingView) → k < length counts →
-    k < length slots → here ≡ home
-    → AreFilled (IsNewRing home) (take k counts) slots → IsNewRing here (get_or counts k 0) v → o ≡ Some v →
-    AreFilled (IsNewRing home) (take (k + 1) counts) (slice_set slots k o)
-ring_filled home here counts slots k v o inside room same are new is =
+pub next_filled : {X V : Type 0} (New : Home → X → V → Type 0) (home here : Home) (xs : List X) (slots : List (Option V)) (k : ℕ) (d : X) (v : V) (o : Option V)
+    → k < length xs → k < length slots → here ≡ home → AreFilled (New home) (take k xs) slots → New here (get_or xs k d) v → o ≡ Some v
+    → AreFilled (New home) (take (k + 1) xs) (slice_set slots k o)
+next_filled {V = V} New home here xs slots k d v o inside room same are new is =
     let one : suc k ≡ k + 1 = omega arith in
-    subst (λ (n : ℕ). AreFilled (IsNewRing home) (take n counts) (slice_set slots k o)) one
-    (subst (λ (q : Option RingView). AreFilled (IsNewRing home) (take (suc k) counts) (slice_set slots k q)) (sym is)
-    (fills_next (IsNewRing home) counts slots k 0 v inside room are (subst (λ (h : Home). IsNewRing h (get_or counts k 0) v) same new)))
-
-pub pool_filled : (home here : Home) (specs : List PoolSpec) (slots : List (Option PoolView)) (k : ℕ) (d : PoolSpec) (v : PoolView) (o : Option PoolView) →
-    k < length specs → k < length slots → here ≡ home
-    → AreFilled (IsNewPool home) (take k specs) slots → IsNewPool here (get_or specs k d) v → o ≡ Some v →
-    AreFilled (IsNewPool home) (take (k + 1) specs) (slice_set slots k o)
-pool_filled home here specs slots k d v o inside room same are new is =
-    let one : suc k ≡ k + 1 = omega arith in
-    subst (λ (n : ℕ). AreFilled (IsNewPool home) (take n specs) (slice_set slots k o)) one
-    (subst (λ (q : Option PoolView). AreFilled (IsNewPool home) (take (suc k) specs) (slice_set slots k q)) (sym is)
-    (fills_next (IsNewPool home) specs slots k d v inside room are (subst (λ (h : Home). IsNewPool h (get_or specs k d) v) same new)))
+    subst (λ (n : ℕ). AreFilled (New home) (take n xs) (slice_set slots k o)) one
+    (subst (λ (q : Option V). AreFilled (New home) (take (suc k) xs) (slice_set slots k q)) (sym is)
+    (fills_next (New home) xs slots k d v inside room are (subst (λ (h : Home). New h (get_or xs k d) v) same new)))

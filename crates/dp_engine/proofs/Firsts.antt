@@ -1,12 +1,12 @@
 -- The first ring with an entry, as rings change.
-use Rattle.std.proofs.Common.{◌≡◌, ◌≢◌, ℕ, suc, ◌+◌, ◌<◌, ◌≤◌, Bool, true, false, not, List, length, refl, sym, ◌∙◌, ap, subst, arith, set, ltb}
-use Rattle.std.proofs.Common.{[], ◌∷◌, ◌++◌, length-append, Option, Some, None, cond}
-use Rattle.std.specs.Prelude.{◌==◌, nat_lt, if◌then◌else◌, slice_get, IfSome}
+use Rattle.std.proofs.Common.{◌≡◌, ◌≢◌, ℕ, suc, ◌+◌, ◌<◌, ◌≤◌, Bool, true, false, not, List, length, refl, sym, ◌∙◌, ap, arith, set, ltb}
+use Rattle.std.proofs.Common.{[], ◌∷◌, ◌++◌, length-append, Some, None, cond}
+use Rattle.std.specs.Prelude.{◌==◌, nat_lt, if◌then◌else◌, slice_get}
 use Rattle.std.specs.List.{position, position_or_len}
 use Rattle.std.proofs.lemmas.Option.{same_Some}
 use Rattle.std.proofs.lemmas.List.{length-set, get_or-set_other, get_or-set_same}
 use Rattle.std.proofs.lemmas.List.Sums.{passes_at_first, fails_before_first, position_or_len_is, prefix_len-le-length}
-use Rattle.std.proofs.lemmas.Bool.{ltb-true, ltb-false, lt-ltb, le-ltb, eqb-true}
+use Rattle.std.proofs.lemmas.Bool.{ltb-true, ltb-false, eqb-true}
 use Rattle.dp_ring.specs.Rings.{RingView, room_in, with_more}
 use Rattle.dp_engine.specs.Queues.{no_ring, ring_at, is_waiting}
 
@@ -85,46 +85,6 @@ first_is rings k found = go (nat_lt (first_slot rings) (length rings)) refl foun
         (same, omega (arith, same, lt))
     go false e s = cc
 
--- where one waits and none before it does, a search returns it
-pub found : (rings : List RingView) (k : ℕ) → k ≡ first_slot rings → k < length rings → Some k ≡ position is_waiting rings
-found rings k same there =
-    ap Some same
-    ∙ sym (ap (λ (b : Bool). cond b (Some (first_slot rings)) None) (lt-ltb (first_slot rings) (length rings) (omega (arith, same, there))))
-
--- where none waits, it returns none
-pub none : (rings : List RingView) → length rings ≤ first_slot rings → None ≡ position is_waiting rings
-none rings le = sym (ap (λ (b : Bool). cond b (Some (first_slot rings)) None) (le-ltb (first_slot rings) (length rings) le))
-
--- as many rings of which the same one is the first
-same_found : (rings rings' : List RingView) → first_slot rings' ≡ first_slot rings → length rings' ≡ length rings
-    → position is_waiting rings' ≡ position is_waiting rings
-same_found rings rings' first long =
-    ap (λ n. cond (nat_lt n (length rings')) (Some n) None) first ∙ ap (λ n. cond (nat_lt (first_slot rings) n) (Some (first_slot rings)) None) long
-
--- a ring that is not after the one found is not after the first
-pub up_to : (rings : List RingView) (k : ℕ) (o : Option ℕ) → o ≡ position is_waiting rings → k < length rings → IfSome o (λ f. k ≤ f) → k ≤ first_slot rings
-up_to rings k o is there before =
-    go (nat_lt (first_slot rings) (length rings)) refl (subst (λ (o : Option ℕ). IfSome o (λ f. k ≤ f)) is before)
-  where
-    go : (b : Bool) → nat_lt (first_slot rings) (length rings) ≡ b → IfSome (cond b (Some (first_slot rings)) None) (λ f. k ≤ f) → k ≤ first_slot rings
-    go true e le = le
-    go false e le = omega (arith, ltb-false _ _ e, there)
-
--- a ring that is after the one found is after the first
-pub after : (rings : List RingView) (k f : ℕ) → position is_waiting rings ≡ Some f → f < k → first_slot rings < k
-after rings k f is lt = let (same, there) = first_is rings f is in omega (arith, same, lt)
-
--- a search returns one that waits
-pub found_waits : (rings : List RingView) (o : Option ℕ) → o ≡ position is_waiting rings
-    → IfSome o (λ k. (k < length rings) × (is_waiting (ring_at rings k) ≡ true))
-found_waits rings o is = subst (λ (o : Option ℕ). IfSome o (λ k. (k < length rings) × (is_waiting (ring_at rings k) ≡ true))) (sym is)
-    (go (nat_lt (first_slot rings) (length rings)) refl)
-  where
-    go : (b : Bool) → nat_lt (first_slot rings) (length rings) ≡ b
-        → IfSome (cond b (Some (first_slot rings)) None) (λ k. (k < length rings) × (is_waiting (ring_at rings k) ≡ true))
-    go true e = (ltb-true _ _ e, first_waits rings (ltb-true _ _ e))
-    go false e = tt
-
 -- one that waits has an entry
 pub has_entry : (r : RingView) → is_waiting r ≡ true → None ≡ slice_get r.entries 0 → ⊥
 has_entry r waits none = go r.entries waits none
@@ -142,7 +102,7 @@ below rings k j r lt first =
     ap is_waiting (get_or-set_other rings k j r no_ring other) ∙ fails_before_first is_waiting rings j no_ring first
 
 -- the first stays where a later one changes
-stays : (rings : List RingView) (k : ℕ) (r : RingView) → first_slot rings < k → k < length rings → first_slot (set rings k r) ≡ first_slot rings
+pub stays : (rings : List RingView) (k : ℕ) (r : RingView) → first_slot rings < k → k < length rings → first_slot (set rings k r) ≡ first_slot rings
 stays rings k r lt there =
     position_or_len_is is_waiting (set rings k r) (first_slot rings) no_ring (omega (arith, length-set rings k r, within rings))
     (λ j l. below rings k j r (omega (arith, l, lt)) l)
@@ -154,27 +114,34 @@ pub not_before : (rings : List RingView) (k : ℕ) (r : RingView) → k ≤ firs
 not_before rings k r from there =
     beyond (set rings k r) k (omega (arith, length-set rings k r, there)) (λ j l. below rings k j r l (omega (arith, l, from)))
 
--- a changed one that waits is the first, where it does not come after the first
-comes_first : (rings : List RingView) (k : ℕ) (r : RingView) → k ≤ first_slot rings → k < length rings → is_waiting r ≡ true →
+-- a changed one that waits is the first, where it comes before the first
+pub comes_first : (rings : List RingView) (k : ℕ) (r : RingView) → k < first_slot rings → k < length rings → is_waiting r ≡ true →
     first_slot (set rings k r) ≡ k
-comes_first rings k r le there waits =
+comes_first rings k r lt there waits =
     position_or_len_is is_waiting (set rings k r) k no_ring (omega (arith, length-set rings k r, there))
-    (λ j l. below rings k j r l (omega (arith, l, le)))
+    (λ j l. below rings k j r l (omega (arith, l, lt)))
     (λ l. ap is_waiting (get_or-set_same rings k r no_ring there) ∙ waits)
 
--- so a search returns the same one
-pub same_after : (rings rings' : List RingView) (k : ℕ) (r : RingView) → rings' ≡ set rings k r → first_slot rings < k → k < length rings
-    → position is_waiting rings ≡ position is_waiting rings'
-same_after rings rings' k r is lt there =
-    sym (ap (position is_waiting) is ∙ same_found rings (set rings k r) (stays rings k r lt there) (length-set rings k r))
+-- the first stays where it is the changed one and still waits, or comes before
+pub no_earlier : (rings : List RingView) (k : ℕ) (r : RingView) → first_slot rings ≤ k → k < length rings → is_waiting r ≡ true → first_slot (set rings k r)
+    ≡ first_slot rings
+no_earlier rings k r le there waits = cases (ltb (first_slot rings) k) refl
+  where
+    cases : (b : Bool) → ltb (first_slot rings) k ≡ b → first_slot (set rings k r) ≡ first_slot rings
+    cases true e = stays rings k r (ltb-true _ _ e) there
+    cases false e =
+        let l : k ≤ first_slot rings = ltb-false _ _ e in
+        let same : k ≡ first_slot rings = omega (arith, l, le) in
+        sym (here (set rings k r) k (not_before rings k r l there) (omega (arith, length-set rings k r, there))
+        (ap is_waiting (get_or-set_same rings k r no_ring there) ∙ waits)) ∙ same
 
 -- ---- an entry more, or one less
 
--- a ring that took an entry waits, so it is the first where it does not come after the first; where it took none nothing changes
+-- a ring that took an entry waits, so it is the first where it comes before the first; where it took none nothing changes
 pub record IsPut (rings rings' : List RingView) (k : ℕ) (taken : Bool) : Type 0 where
-  pub earlier : taken ≡ true → k ≤ first_slot rings → Some k ≡ position is_waiting rings'
-  pub later : taken ≡ true → first_slot rings < k → position is_waiting rings ≡ position is_waiting rings'
-  pub full : taken ≡ false → position is_waiting rings ≡ position is_waiting rings'
+  pub earlier : taken ≡ true → k < first_slot rings → k ≡ first_slot rings'
+  pub later : taken ≡ true → first_slot rings ≤ k → first_slot rings ≡ first_slot rings'
+  pub full : taken ≡ false → first_slot rings ≡ first_slot rings'
 
 more_waits : (r : RingView) (entry : ℕ) → is_waiting (with_more r (entry ∷ [])) ≡ true
 more_waits r entry = waits_is (with_more r (entry ∷ [])) (λ e. (let long : length (r.entries ++ entry ∷ []) ≡ length r.entries + 1 =
@@ -187,9 +154,7 @@ put_is rings rings' k entry taken there is became =
     let where_it : (b : Bool) → taken ≡ b → rings' ≡ (if b then set rings k r else rings) = λ b t.
     became ∙ ap (λ (b : Bool). if b then set rings k r else rings) (sym is ∙ t) in
     record {
-      earlier = λ t le. found rings' k
-          (sym (ap first_slot (where_it true t) ∙ comes_first rings k r le there (more_waits (ring_at rings k) entry)))
-          (omega (arith, ap length (where_it true t), length-set rings k r, there));
-      later = λ t lt. same_after rings rings' k r (where_it true t) lt there;
-      full = λ t. sym (ap (position is_waiting) (where_it false t));
+      earlier = λ t lt. sym (ap first_slot (where_it true t) ∙ comes_first rings k r lt there (more_waits (ring_at rings k) entry));
+      later = λ t le. sym (ap first_slot (where_it true t) ∙ no_earlier rings k r le there (more_waits (ring_at rings k) entry));
+      full = λ t. sym (ap first_slot (where_it false t));
     }

@@ -13,7 +13,7 @@ use Rattle.dp_engine.specs.Layouts.{IsLaidOut, PartsIn}
 use Rattle.dp_engine.specs.Needs.{zone_bytes, objects_len, queue_len, pool_bytes, ring_bytes, total, ring_counts, list_counts, bytes_needed}
 use Rattle.dp_engine.specs.Memories.{EngineMemoryView, AreFilled, IsNewRing, IsNewPool}
 use Rattle.dp_engine.specs.Laws.{known}
-use Rattle.dp_engine.proofs.Filled.{total_last, all_at, all_take, filled_count, rings_stand, pools_stand, pool_filled}
+use Rattle.dp_engine.proofs.Filled.{total_last, all_at, all_take, filled_count, rings_stand, pools_stand, next_filled}
 use Rattle.dp_engine.proofs.Ready.{ready, specs_are}
 use Rattle.dp_engine.proofs.Refusals.{within, long}
 
@@ -104,7 +104,7 @@ pub last_filled : (home first here : Home) (specs wanted : List PoolSpec) (slots
 last_filled home first here specs wanted slots i d v o last room at back ps are new is =
     subst (λ (h : Home). AreFilled (IsNewPool h) wanted (slice_set slots i o)) back
     (subst (λ (xs : List PoolSpec). AreFilled (IsNewPool first) xs (slice_set slots i o)) (take_all (i + 1) specs (omega arith) ∙ ps)
-    (pool_filled first here specs slots i d v o (omega arith) room at are new is))
+    (next_filled IsNewPool first here specs slots i d v o (omega arith) room at are new is))
 
 -- stands for a missing pool
 abbrev pub no_spec : PoolSpec

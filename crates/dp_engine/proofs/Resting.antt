@@ -99,28 +99,24 @@ live_of test w = tally-append test (segments_listed w.rings) (segments_listed w.
 
 emptied : (c : Setting) (s : State) (queue : Queue) → IsAtRest c s.world → HasNoMore c s.world (with_queue queue [] s).world
 emptied c s (Tx port) rest =
-    let w = s.world in
-    let boxes = slice_set w.outboxes port [] in
-    let lists = parts (Lies c.env.pools) (between w) rest.ready.within.lie in
+    let w = s.world in let lists = parts (Lies c.env.pools) (between w) rest.ready.within.lie in
     record {
       buffers = refl;
-      fewer = λ test. omega (arith, live_of test w, live_of test (record w { outboxes = boxes }), fewer_listed test w.outboxes port);
+      fewer = λ test. omega (arith, live_of test w, live_of test (with_queue (Tx port) [] s).world, fewer_listed test w.outboxes port);
       rings = rest.ready.world.rings;
       outboxes = length-set w.outboxes port [];
-      lie = all_join (Lies c.env.pools) (segments_listed w.rings) (segments_listed boxes) lists.rings
+      lie = all_join (Lies c.env.pools) (segments_listed w.rings) (segments_listed (slice_set w.outboxes port [])) lists.rings
           (all_listed (Lies c.env.pools) w.outboxes port lists.outboxes);
       packets = record { held = tt; rings = rest.packets.rings; outboxes = all_emptied (AllByRecursion IsPacket) w.outboxes port tt rest.packets.outboxes };
     }
 emptied c s (Ring ring) rest =
-    let w = s.world in
-    let rings = slice_set w.rings ring [] in
-    let lists = parts (Lies c.env.pools) (between w) rest.ready.within.lie in
+    let w = s.world in let lists = parts (Lies c.env.pools) (between w) rest.ready.within.lie in
     record {
       buffers = refl;
-      fewer = λ test. omega (arith, live_of test w, live_of test (record w { rings = rings }), fewer_listed test w.rings ring);
+      fewer = λ test. omega (arith, live_of test w, live_of test (with_queue (Ring ring) [] s).world, fewer_listed test w.rings ring);
       rings = rings_emptied c.env.pools (live (between w)) c.env.rings w.rings ring rest.ready.world.rings;
       outboxes = refl;
-      lie = all_join (Lies c.env.pools) (segments_listed rings) (segments_listed w.outboxes)
+      lie = all_join (Lies c.env.pools) (segments_listed (slice_set w.rings ring [])) (segments_listed w.outboxes)
           (all_listed (Lies c.env.pools) w.rings ring lists.rings) lists.outboxes;
       packets = record { held = tt; rings = all_emptied (AllByRecursion IsPacket) w.rings ring tt rest.packets.rings; outboxes = rest.packets.outboxes };
     }

@@ -4,6 +4,7 @@ use Rattle.std.specs.Prelude.{slice_get, option_map, option_and_then}
 use Rattle.std.specs.List.{AllByRecursion}
 use Rattle.std.proofs.lemmas.List.{length-map}
 use Rattle.std.proofs.lemmas.Option.{same_Some}
+use Rattle.dp_model.specs.declared.instr.Instr.{Instr}
 use Rattle.dp_model.specs.Limits.{max_hop}
 use Rattle.dp_model.specs.Meaning.{TablesFit}
 use Rattle.dp_model.specs.Prefixes.{Route}
@@ -13,8 +14,8 @@ use Rattle.dp_engine.specs.Engines.{IsEngine}
 use Rattle.dp_engine.specs.Handles.{Core}
 use Rattle.dp_engine.specs.Memories.{EngineMemoryView}
 use Rattle.dp_engine.specs.Rerouting.{IsRetabled, retabled}
-use Rattle.dp_engine.specs.Schemes.{Scheme, IsScheme}
-use Rattle.dp_engine.specs.Steps.{routes_of}
+use Rattle.dp_engine.specs.Schemes.{Scheme, IsScheme, scheme_in}
+use Rattle.dp_engine.specs.Steps.{SettingParts, routes_of}
 
 small : (tables : List RouteTable) → AllByRecursion HasSmallHops tables
     → AllByRecursion (AllByRecursion (λ (route : Route). route.hop ≤ max_hop)) (routes_of tables)
@@ -23,14 +24,14 @@ small (t ∷ tables) all = (all.0, small tables all.1)
 
 module _ (s : Scheme) (old now : List RouteTable) (are : s.setting.tables ≡ routes_of old) (many : length now ≡ length old)
     (hops : AllByRecursion HasSmallHops now) (is : IsScheme s) where
-  pub retabled_fits : TablesFit (retabled now s).setting
+  retabled_fits : TablesFit (retabled now s).setting
   retabled_fits = record {
     count = length-map now (λ (t : RouteTable). t.routes)
         ∙ (many ∙ (sym (length-map old (λ (t : RouteTable). t.routes)) ∙ (ap length (sym are) ∙ is.tables_fit.count)));
     hops = small now hops;
   }
 
-  pub retabled_scheme : IsScheme (retabled now s)
+  retabled_scheme : IsScheme (retabled now s)
   retabled_scheme =
       let p = is.pipeline in
       record {
@@ -44,6 +45,21 @@ module _ (s : Scheme) (old now : List RouteTable) (are : s.setting.tables ≡ ro
         ports = is.ports;
         rings = is.rings;
       }
+
+module _ (setting : SettingParts) {now : SettingParts} {ports rings : List (List Instr)} (kept : now ≡ record setting { tables = now.tables })
+    (many : length now.tables ≡ length setting.tables) (hops : AllByRecursion HasSmallHops now.tables)
+    (is : IsScheme (scheme_in setting.env setting.tables ports rings setting.pattern)) where
+  -- a context whose setting has other tables
+  pub retabled_context : IsScheme (scheme_in now.env now.tables ports rings now.pattern)
+  retabled_context = rw kept (retabled_scheme (scheme_in setting.env setting.tables ports rings setting.pattern) setting.tables now.tables refl many hops is)
+
+  pub is_retabled : {s : Scheme} → scheme_in setting.env setting.tables ports rings setting.pattern ≡ s
+      → IsRetabled s (scheme_in now.env now.tables ports rings now.pattern)
+  is_retabled same =
+      rw kept (subst (λ (old : Scheme). IsRetabled old (retabled now.tables (scheme_in setting.env setting.tables ports rings setting.pattern))) same (record {
+        new_is = refl;
+        fits = retabled_fits (scheme_in setting.env setting.tables ports rings setting.pattern) setting.tables now.tables refl many hops is;
+      }))
 
 pub retabled_engine : (s new : Scheme) (core : Core) (memory : EngineMemoryView) (turns : ℕ) (tallies : List Tallies) (left : List ℕ) → IsRetabled s new
     → IsEngine s core memory turns tallies left → IsEngine new core memory turns tallies left

@@ -1,6 +1,6 @@
 //! The queues of a machine: its transmit lists, their counts, its rings, and the number of the lowest non-empty ring.
 
-ghost use Rattle.std.specs.Prelude.{◌≡◌, ℕ, ◌<◌, ◌≤◌, ◌++◌, ◌∷◌, [], length, nat_lt, drop, slice_get, true, false, IsTrue, IsFalse, IfSome, Some};
+ghost use Rattle.std.specs.Prelude.{◌≡◌, ◌<◌, ◌≤◌, ◌++◌, ◌∷◌, [], length, nat_lt, drop, slice_get, true, false, IsTrue, IfSome, Some};
 ghost use Rattle.std.specs.List.{position, position_or_len};
 ghost use Rattle.dp_ring.specs.Rings.{room_in};
 ghost use Rattle.dp_engine.specs.Queues.{rings_in, RingsFirst, ring_at, is_waiting, AreCounts};
@@ -17,48 +17,36 @@ use std::marker::Model;
 pub struct Queues {
     outboxes: Rings,
     rings: Rings,
-    // The least number of a ring that has an entry, if one has.
-    first: Option<u8>,
+    // The least number of a ring that has an entry; the number of rings if none has.
+    first: u8,
     // The number of entries of each transmit list. After most turns most lists have none, and here that is seen soonest.
     counts: [u32; 8],
 }
 
 impl Model for Queues {
     ghost use Rattle.std.specs.Prelude.{◌≡◌};
-    ghost use Rattle.std.specs.List.{position};
+    ghost use Rattle.std.specs.List.{position_or_len};
     ghost use Rattle.dp_engine.specs.Queues.{QueuesView, is_waiting, AreCounts};
 
     ghost Value = { QueuesView };
 
     ghost view = { λ q. record { rings = q.rings; outboxes = q.outboxes } };
 
-    ghost invariant = { λ q. (q.first ≡ position is_waiting q.rings) × AreCounts q.counts q.outboxes };
+    ghost invariant = { λ q. (q.first ≡ position_or_len is_waiting q.rings) × AreCounts q.counts q.outboxes };
 }
 
-// The least number of a ring that has an entry, if one has. No ring below `from` has one.
-fn first_from(rings: &Rings, from: u8) -> Option<u8>
+// The least number of a ring that has an entry; the number of rings if none has. No ring below `from` has one.
+fn first_from(rings: &Rings, from: u8) -> u8
     requires { from ≤ position_or_len is_waiting rings.now }
-    ensures { result ≡ position is_waiting rings.now }
+    ensures { result ≡ position_or_len is_waiting rings.now }
 {
     let end = rings.len() as u8;
     for k in from..end {
         if rings.count(k) != 0 {
-            return Some(k);
+            return k;
         }
     }
-    None
-}
-
-// Whether a ring does not come after the first one that has an entry; true if none has one.
-#[inline(always)]
-fn is_up_to(ring: u8, first: Option<u8>) -> bool
-    ensures before { IsTrue result → IfSome first (λ f. ring ≤ f) }
-    ensures after { IsFalse result → (f : ℕ) × (first ≡ Some f) × (f < ring) }
-{
-    match first {
-        Some(first) => ring <= first,
-        None => true,
-    }
+    end
 }
 
 // The numbers of entries of these lists.
@@ -169,8 +157,8 @@ impl Queues {
             Queue::Tx(port) => self.push_list(port, handle),
             Queue::Ring(ring) => {
                 let (is_taken, _) = self.rings.push(ring, handle);
-                if is_taken && is_up_to(ring, self.first) {
-                    self.first = Some(ring);
+                if is_taken && ring < self.first {
+                    self.first = ring;
                 }
                 is_taken
             }
@@ -188,7 +176,7 @@ impl Queues {
             Queue::Tx(port) => self.pop_list(port),
             Queue::Ring(ring) => {
                 let handle = self.rings.pop(ring);
-                if is_up_to(ring, self.first) {
+                if ring <= self.first {
                     self.first = first_from(&self.rings, ring);
                 }
                 handle
@@ -210,8 +198,8 @@ impl Queues {
         };
         // Mostly it has no other entry then.
         if self.rings.count(ring) == 0 {
-            self.first = None;
-            if usize::from(ring) + 1 < self.rings.len() {
+            self.first = self.rings.len() as u8;
+            if ring + 1 < self.first {
                 self.first = first_from(&self.rings, ring + 1);
             }
         }
@@ -225,8 +213,11 @@ impl Queues {
         ensures few { IfSome result (λ k. k < 8) }
         ensures waits { IfSome result (λ k. is_waiting (ring_at self.now.rings k) ≡ true) }
     {
-        self.rings.are_few();
-        self.first
+        if self.first < self.rings.len() as u8 {
+            Some(self.first)
+        } else {
+            None
+        }
     }
 
     /// Returns the rings and the transmit lists, each in the slot of its number.

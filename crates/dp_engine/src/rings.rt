@@ -101,13 +101,6 @@ impl Rings {
         usize::from(self.count)
     }
 
-    /// A law of all rings: they are at most eight.
-    pub fn are_few(&self)
-        ensures { length self.now ≤ 8 }
-    {
-        self.len();
-    }
-
     /// The number of entries of a ring.
     pub fn count(&self, k: u8) -> u32
         requires { k < length self.now }

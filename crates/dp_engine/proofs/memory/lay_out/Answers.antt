@@ -121,6 +121,70 @@ finish-heap-requires-clause-room c =
     let lists = below_lists here.After-as_slice-2 (planned here.After-power_above) in
     omega (arith, lists, c.take_rings-rings.ensures.left, c.take_pools-pools.ensures.left)
 
+pub take_rings-lists-requires-clause-number : goal.take_rings-lists-requires-clause-number
+take_rings-lists-requires-clause-number c =
+    let p = planned (goal.at.take_rings-lists-requires-clause-number c).After-power_above in
+    omega (arith, ap length c.as_slice.ensures.value, p.lists_few.1)
+
+pub take_rings-lists-requires-clause-names : goal.take_rings-lists-requires-clause-names
+take_rings-lists-requires-clause-names c = c.over-builder.ensures.names.0
+
+pub take_rings-lists-requires-clause-few : goal.take_rings-lists-requires-clause-few
+take_rings-lists-requires-clause-few c =
+    let p = planned (goal.at.take_rings-lists-requires-clause-few c).After-power_above in
+    omega (arith, c.over-builder.ensures.names.1, ap length c.as_slice.ensures.value, p.lists_few.1)
+
+pub take_rings-rings-requires-clause-number : goal.take_rings-rings-requires-clause-number
+take_rings-rings-requires-clause-number c =
+    let p = planned (goal.at.take_rings-rings-requires-clause-number c).After-power_above in
+    omega (arith, ap length c.as_slice-2.ensures.value, p.rings_few)
+
+pub finish-heap-requires-clause-number : goal.finish-heap-requires-clause-number
+finish-heap-requires-clause-number c = let p = planned (goal.at.finish-heap-requires-clause-number c).After-power_above in omega (arith, p.number.0, p.number.1)
+
+pub take_rings-rings-requires-clause-few : goal.take_rings-rings-requires-clause-few
+take_rings-rings-requires-clause-few c =
+    let p = planned (goal.at.take_rings-rings-requires-clause-few c).After-power_above in
+    let lists = ap length c.as_slice.ensures.value in
+    let rings = ap length c.as_slice-2.ensures.value in
+    omega (arith, c.over-builder.ensures.names.1, c.take_rings-lists.ensures.names.1, lists, rings, p.lists_few.1, p.rings_few)
+
+-- all pools but the last
+firsts_of : (c : After-power_above)
+    → PlanOf c.pools-specs.result.now c.list_counts-lists.result.items c.ring_counts-rings.result.items (length c.args.region.bytes)
+    → length (take (length c.pools-specs.result.now - 1) c.pools-specs.result.now) ≡ length c.pools-specs.result.now - 1
+firsts_of c p = length-take-le (length c.pools-specs.result.now - 1) c.pools-specs.result.now (omega (arith, p.number.0))
+
+pub slice_bounds-take_pools-end : goal.slice_bounds-take_pools-end
+slice_bounds-take_pools-end c = let here = (goal.at.slice_bounds-take_pools-end c).After-power_above in sym (firsts_of here (planned here))
+
+pub take_pools-pools-requires-clause-number : goal.take_pools-pools-requires-clause-number
+take_pools-pools-requires-clause-number c =
+    let here = (goal.at.take_pools-pools-requires-clause-number c).After-power_above in
+    let p = planned here in
+    omega (arith, firsts_of here p, p.number.0, p.number.1)
+
+pub take_pools-pools-requires-clause-few : goal.take_pools-pools-requires-clause-few
+take_pools-pools-requires-clause-few c =
+    let here = (goal.at.take_pools-pools-requires-clause-few c).After-power_above in
+    let p = planned here in
+    let lists = ap length c.as_slice.ensures.value in
+    let rings = ap length c.as_slice-2.ensures.value in
+    let names = c.over-builder.ensures.names.1 in
+    omega (
+      arith,
+      firsts_of here p,
+      p.number.0,
+      p.number.1,
+      names,
+      c.take_rings-lists.ensures.names.1,
+      c.take_rings-rings.ensures.names.1,
+      lists,
+      rings,
+      p.lists_few.1,
+      p.rings_few,
+    )
+
 pub listed : goal.listed
 listed c =
     let p = planned (goal.at.listed c).After-power_above in

@@ -9,16 +9,31 @@ use Rattle.dp_engine.specs.declared.watch.Way.TheVariants as way
 use Rattle.dp_engine.specs.Handles.{Core, moved}
 use Rattle.dp_engine.specs.Midway.{StepResult}
 use Rattle.dp_engine.specs.Steps.{setting_in}
-use Rattle.dp_engine.proofs.Midways.{StandsWithin, stands_within, stepped_at, controlled_at, led_forward, led_back, led_end, led_out}
+use Rattle.dp_engine.proofs.Midways.{StandsWithin, stands_within, stands_at, stepped_at, controlled_at, led_forward, led_back, led_end, led_out}
 use Rattle.dp_engine.proofs.Midways.{names_ran, names_to, seen_of, seen_to}
 use Rattle.dp_engine.proofs.run.step.Goals as goal
-use Rattle.dp_engine.proofs.run.step.Goals.{After-count_step, else-to-label-via-then-to-label+else-not-jump, else-to-label-via-else-to-label}
+use Rattle.dp_engine.proofs.run.step.Goals.{After-count_step, After-act, else-to-label-via-then-to-label+else-not-jump, else-to-label-via-else-to-label}
 
 -- where the run is
 standing : (g : _) (c : After-count_step g) → StandsWithin c.args.m.now c.args.ahead c.args.label c.args.instr.now
 standing g c =
     let (P, m0, w0, h, here) = c.requires.midway in
-    stands_within g.W.Watch.sees (setting_in c.args.setting.now) P m0 w0 c.args.m.now c.args.watch.now c.args.ahead c.args.label c.args.instr.now h here
+    stands_within h c.args.instr.now here
+
+-- its instruction leaves pools and frames as they are
+stay : (g : _) (c : After-act g) → (c.act.new.m.pools ≡ c.args.m.now.pools) × (c.act.new.m.frames ≡ c.args.m.now.frames)
+stay g c =
+    (c.act.ensures.pools ∙ ap (λ (x : Core). x.pools) c.count_step.ensures, c.act.ensures.frames ∙ ap (λ (x : Core). x.frames) c.count_step.ensures)
+
+pub act-requires-clause-has : goal.act-requires-clause-has
+act-requires-clause-has g c =
+    let (P, m0, w0, h, here) = c.requires.midway in
+    rw c.count_step.ensures (stands_at h c.args.instr.now here).has
+
+pub act-requires-clause-firsts : goal.act-requires-clause-firsts
+act-requires-clause-firsts g c =
+    let (P, m0, w0, h, here) = c.requires.midway in
+    rw c.count_step.ensures (stands_at h c.args.instr.now here).firsts
 
 pub act-requires-clause-shifts : goal.act-requires-clause-shifts
 act-requires-clause-shifts g c = (standing g (goal.at.act-requires-clause-shifts g c).After-count_step).shifts
@@ -77,85 +92,50 @@ overflow_add-result-in-To-2 g c =
 
 pub cut-requires-clause-few : goal.cut-requires-clause-few
 cut-requires-clause-few g c =
-    let sees = g.W.Watch.sees in
-    let S = setting_in c.args.setting.now in
-    let m = c.args.m.now in
-    let m2 = c.act.new.m in
-    let v = c.args.watch.now in
-    let ahead = c.args.ahead in
-    let label = c.args.label in
-    let i = c.args.instr.now in
     let (P, m0, w0, h, here) = c.requires.midway in
-    let s = controlled_at sees S P m0 w0 m c.count_step.new.self m2 v ahead label i c.in-Some.control (To c.from-to.result) h here c.count_step.ensures
+    let s = controlled_at h c.count_step.new.self c.act.new.m c.args.instr.now c.in-Some.control (To c.from-to.result) here c.count_step.ensures
     (rw c.from-to.ensures c.in-To.is) c.in-Some.ensures.acts in
     omega (arith, ap (λ (x : Core). x.state.world.cuts) (c.if-not-jump.ensures.over refl).1, s.cuts, h.few_cuts)
 
 pub returns-in-None : goal.returns-in-None
 returns-in-None g c =
-    let sees = g.W.Watch.sees in
-    let S = setting_in c.args.setting.now in
-    let m = c.args.m.now in
-    let m2 = c.act.new.m in
-    let v = c.args.watch.now in
-    let ahead = c.args.ahead in
-    let label = c.args.label in
-    let i = c.args.instr.now in
     record {
       led =
           λ P m0 w0 h here.
-          let s = stepped_at sees S P m0 w0 m c.count_step.new.self m2 v ahead label i None h here c.count_step.ensures c.in-None.ensures.acts in
-          let pools = c.act.ensures.pools ∙ ap (λ (x : Core). x.pools) c.count_step.ensures in
-          let frames = c.act.ensures.frames ∙ ap (λ (x : Core). x.frames) c.count_step.ensures in
-          led_end sees S P m0 w0 m m2 v c.see.new.self ahead label c.taken.result h s pools frames (c.in-None.ensures.idle refl) c.taken.ensures.steps
-          c.taken.ensures.cuts (seen_of sees v c.see.new.self label way.Out c.of.result m2 c.of.ensures c.see.ensures);
+          let m2 = c.act.new.m in
+          let (pools, frames) = stay g (goal.at.returns-in-None g c).After-act in
+          led_end h m2 c.see.new.self c.taken.result
+          (stepped_at h c.count_step.new.self m2 c.args.instr.now None here c.count_step.ensures c.in-None.ensures.acts) pools frames
+          (c.in-None.ensures.idle refl) c.taken.ensures.steps c.taken.ensures.cuts (seen_of g.W.Watch.sees c.of.ensures c.see.ensures);
     }
 
 pub returns-in-On : goal.returns-in-On
 returns-in-On g c =
-    let sees = g.W.Watch.sees in
-    let S = setting_in c.args.setting.now in
-    let m = c.args.m.now in
-    let m2 = c.act.new.m in
-    let v = c.args.watch.now in
-    let ahead = c.args.ahead in
-    let label = c.args.label in
-    let i = c.args.instr.now in
     record {
       led =
           λ P m0 w0 h here.
-          let s = controlled_at sees S P m0 w0 m c.count_step.new.self m2 v ahead label i c.in-Some.control On h here c.count_step.ensures c.in-On.is
-          c.in-Some.ensures.acts in
-          let pools = c.act.ensures.pools ∙ ap (λ (x : Core). x.pools) c.count_step.ensures in
-          let frames = c.act.ensures.frames ∙ ap (λ (x : Core). x.frames) c.count_step.ensures in
-          let v2 = c.see-in-On.new.self in
-          led_forward sees S P m0 w0 m m2 v v2 ahead label ahead (label + 1) way.On h s pools frames (omega arith) (omega arith) (refl, refl)
-          (seen_of sees v v2 label way.On c.of-in-On.result m2 c.of-in-On.ensures c.see-in-On.ensures);
+          let m2 = c.act.new.m in
+          let s = controlled_at h c.count_step.new.self m2 c.args.instr.now c.in-Some.control On here c.count_step.ensures c.in-On.is c.in-Some.ensures.acts in
+          let (pools, frames) = stay g (goal.at.returns-in-On g c).After-act in
+          led_forward h m2 c.see-in-On.new.self c.args.ahead (c.args.label + 1) way.On s pools frames (omega arith) (omega arith) (refl, refl)
+          (seen_of g.W.Watch.sees c.of-in-On.ensures c.see-in-On.ensures);
     }
 
 pub returns-then-not-jump : goal.returns-then-not-jump
 returns-then-not-jump g c =
-    let sees = g.W.Watch.sees in
-    let S = setting_in c.args.setting.now in
-    let m = c.args.m.now in
-    let m2 = c.act.new.m in
-    let v = c.args.watch.now in
-    let ahead = c.args.ahead in
-    let label = c.args.label in
-    let i = c.args.instr.now in
     record {
       led =
           λ P m0 w0 h here.
-          let s = controlled_at sees S P m0 w0 m c.count_step.new.self m2 v ahead label i c.in-Some.control (To c.from-to.result) h here c.count_step.ensures
+          let m2 = c.act.new.m in
+          let s = controlled_at h c.count_step.new.self m2 c.args.instr.now c.in-Some.control (To c.from-to.result) here c.count_step.ensures
           (rw c.from-to.ensures c.in-To.is) c.in-Some.ensures.acts in
-          let pools = c.act.ensures.pools ∙ ap (λ (x : Core). x.pools) c.count_step.ensures in
-          let frames = c.act.ensures.frames ∙ ap (λ (x : Core). x.frames) c.count_step.ensures in
+          let (pools, frames) = stay g (goal.at.returns-then-not-jump g c).After-act in
           let (over, same) = c.if-not-jump.ensures.over refl in
           let is = c.cut.ensures ∙ ap (λ (x : Core). moved (without_packets (with_cut x.state)) x) same in
-          let v2 = c.see-then-not-jump.new.self in
-          led_out sees S P m0 w0 m m2 c.cut.new.self v v2 ahead label c.from-to.result c.taken-then-not-jump.result h s pools frames c.if-to-label.true over is
+          led_out h m2 c.cut.new.self c.see-then-not-jump.new.self c.from-to.result c.taken-then-not-jump.result s pools frames c.if-to-label.true over is
           (subst (λ (x : Core). AllByRecursion (λ (o : Option (List Segment)). o ≡ None) x.state.packets) (sym is) (search rules))
           c.taken-then-not-jump.ensures.steps c.taken-then-not-jump.ensures.cuts
-          (seen_of sees v v2 label way.Cut c.of-then-not-jump.result m2 (c.of-then-not-jump.ensures ∙ same) c.see-then-not-jump.ensures);
+          (seen_of g.W.Watch.sees (c.of-then-not-jump.ensures ∙ same) c.see-then-not-jump.ensures);
     }
 
 pub returns-else-to-label : goal.returns-else-to-label
@@ -164,34 +144,30 @@ returns-else-to-label g c =
     let S = setting_in c.args.setting.now in
     let m = c.args.m.now in
     let m2 = c.act.new.m in
-    let v = c.args.watch.now in
     let ahead = c.args.ahead in
     let label = c.args.label in
     let i = c.args.instr.now in
-    let m3 = c.else-to-label.m in
     let v2 = c.see-in-To.new.self in
     let to = c.from-to.result in
     let ahead' = ahead + label + 1 - to in
+    let (pools, frames) = stay g (goal.at.returns-else-to-label g c).After-act in
     record {
       led =
           λ P m0 w0 h here.
-          let s = controlled_at sees S P m0 w0 m c.count_step.new.self m2 v ahead label i c.in-Some.control (To to) h here c.count_step.ensures
-          (rw c.from-to.ensures c.in-To.is) c.in-Some.ensures.acts in
-          let pools = c.act.ensures.pools ∙ ap (λ (x : Core). x.pools) c.count_step.ensures in
-          let frames = c.act.ensures.frames ∙ ap (λ (x : Core). x.frames) c.count_step.ensures in
+          let is : c.in-Some.control ≡ To to = rw c.from-to.ensures c.in-To.is in
+          let s = controlled_at h c.count_step.new.self m2 i c.in-Some.control (To to) here c.count_step.ensures is c.in-Some.ensures.acts in
           let names = names_ran S P m0.state (ahead + label - 65536) label m.state (Some to) m2.state i to here
-          (names_to i c.in-Some.control (To to) (rw c.from-to.ensures c.in-To.is) c.in-Some.ensures.names) s in
+          (names_to i c.in-Some.control (To to) is c.in-Some.ensures.names) s in
           let more : c.args.ahead + c.args.label + 1 - c.from-to.result + c.from-to.result ≡ c.args.ahead + c.args.label + 1 =
           omega (arith, h.keeps.some, s.ran.is_label, h.is.few) in
           elim c.else-to-label.branch [
             | else-to-label-via-then-to-label+else-not-jump w ↦
                 let (room, same) = w.if-not-jump.ensures.taken refl in
-                led_back sees S P m0 w0 m m2 m3 v v2 ahead label ahead' to (way.To to) h s pools frames w.if-to-label.true room (w.m-is ∙ same) more
-                (refl, names, ap (λ (x : Core). x.state) (w.m-is ∙ same))
-                (seen_to sees v v2 label c.in-To.there to c.from-to.ensures c.of-in-To.result m3 c.of-in-To.ensures c.see-in-To.ensures)
+                led_back h m2 c.else-to-label.m v2 ahead' to (way.To to) s pools frames w.if-to-label.true room (w.m-is ∙ same) more
+                (refl, names, ap (λ (x : Core). x.state) (w.m-is ∙ same)) (seen_to sees c.from-to.ensures c.of-in-To.ensures c.see-in-To.ensures)
             | else-to-label-via-else-to-label w ↦
                 subst (λ (x : Core). StepResult sees S P m0 w0 m label x v2 (There to ahead')) (sym w.m-is)
-                (led_forward sees S P m0 w0 m m2 v v2 ahead label ahead' to (way.To to) h s pools frames w.if-to-label.false more (refl, names, refl)
-                (seen_to sees v v2 label c.in-To.there to c.from-to.ensures c.of-in-To.result m2 (c.of-in-To.ensures ∙ w.m-is) c.see-in-To.ensures))
+                (led_forward h m2 v2 ahead' to (way.To to) s pools frames w.if-to-label.false more (refl, names, refl)
+                (seen_to sees c.from-to.ensures (c.of-in-To.ensures ∙ w.m-is) c.see-in-To.ensures))
           ];
     }

@@ -148,43 +148,13 @@ returns-clause-rests g c =
 
 pub returns-then-is_oversize-clause-watched : goal.returns-then-is_oversize-clause-watched
 returns-then-is_oversize-clause-watched g c =
-    let at = there g (goal.at.returns-then-is_oversize-clause-watched g c).After-from in
-    let need : c.needed.result ≡ segments_needed c.args.context.now.setting.env.pools (spec_of c.ports.result.now c.from.result).pool (length c.args.bytes.now)
-    = rw c.requires.rests.pools at c.needed.ensures in
-    record {
-      answers = [];
-      events = [];
-      shows = (
-        spec_of c.ports.result.now c.from.result,
-        at.program,
-        at.spec_is,
-        at.program_is,
-        (omega (arith, need, c.if-is_oversize.ensures.over refl), refl, refl),
-        refl,
-      );
-      seen = refl;
-    }
+    let (answers, (spec, program, spec_is, program_is, arrives)) = returns-then-is_oversize-clause-arrives g c in
+    record { answers = answers; events = []; shows = (spec, program, spec_is, program_is, arrives, refl); seen = refl }
 
 pub returns-then-not-receive-clause-watched : goal.returns-then-not-receive-clause-watched
 returns-then-not-receive-clause-watched g c =
-    let here = goal.at.returns-then-not-receive-clause-watched g c in
-    let at = there g here.After-from in
-    let denied = denied_as c.args.m.now.state.world (spec_of c.ports.result.now c.from.result).pool (length c.args.bytes.now) c.setting-setting.ensures.same
-    c.if-not-receive.ensures.denied in
-    let world = ap (λ (x : Core). x.state.world) (c.if-not-receive.ensures.refused refl) in
-    record {
-      answers = false ∷ [];
-      events = [];
-      shows = (
-        spec_of c.ports.result.now c.from.result,
-        at.program,
-        at.spec_is,
-        at.program_is,
-        (fits g here.After-receive, denied, refl, world),
-        refl,
-      );
-      seen = refl;
-    }
+    let (answers, (spec, program, spec_is, program_is, arrives)) = returns-then-not-receive-clause-arrives g c in
+    record { answers = answers; events = []; shows = (spec, program, spec_is, program_is, arrives, refl); seen = refl }
 
 pub returns-clause-watched : goal.returns-clause-watched
 returns-clause-watched g c =

@@ -2,7 +2,7 @@ use Rattle.std.proofs.Common.{◌∙◌, arith}
 use Rattle.std.proofs.lemmas.List.{length-set}
 use Rattle.dp_engine.specs.Needs.{pool_bytes}
 use Rattle.dp_engine.specs.Memories.{IsNewPool}
-use Rattle.dp_engine.proofs.Filled.{next_empty, less_left, pool_filled}
+use Rattle.dp_engine.proofs.Filled.{next_empty, less_left, next_filled}
 use Rattle.dp_engine.proofs.builder.MemoryBuilder.take_pools.Goals as goal
 
 pub put_pool-requires : goal.put_pool-requires
@@ -20,6 +20,6 @@ loop-k-preserved c =
       names = r.names.0;
       many = omega (arith, many, more);
       slots = length-set c.loop-k.pools c.loop-k.k _ ∙ slots;
-      filled = pool_filled c.args.self.now.home c.loop-k.self.home c.args.specs.now c.loop-k.pools c.loop-k.k _ c.take_pool-pool.result c.put_pool.new.slot
-          inside (omega (arith, slots, few, inside)) i.same.0 i.filled r.pool c.put_pool.ensures;
+      filled = next_filled IsNewPool c.args.self.now.home c.loop-k.self.home c.args.specs.now c.loop-k.pools c.loop-k.k _ c.take_pool-pool.result
+          c.put_pool.new.slot inside (omega (arith, slots, few, inside)) i.same.0 i.filled r.pool c.put_pool.ensures;
     }

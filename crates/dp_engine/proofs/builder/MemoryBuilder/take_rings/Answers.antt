@@ -2,7 +2,7 @@ use Rattle.std.proofs.Common.{◌∙◌, arith}
 use Rattle.std.proofs.lemmas.List.{length-set}
 use Rattle.dp_engine.specs.Needs.{ring_bytes}
 use Rattle.dp_engine.specs.Memories.{IsNewRing}
-use Rattle.dp_engine.proofs.Filled.{next_empty, less_left, ring_filled}
+use Rattle.dp_engine.proofs.Filled.{next_empty, less_left, next_filled}
 use Rattle.dp_engine.proofs.builder.MemoryBuilder.take_rings.Goals as goal
 
 pub put_ring-requires : goal.put_ring-requires
@@ -20,6 +20,6 @@ loop-k-preserved c =
       names = r.names.0;
       many = omega (arith, many, more);
       slots = length-set c.loop-k.rings c.loop-k.k _ ∙ slots;
-      filled = ring_filled c.args.self.now.home c.loop-k.self.home c.args.counts.now c.loop-k.rings c.loop-k.k c.take_ring-ring.result c.put_ring.new.slot
-          inside (omega (arith, slots, few, inside)) i.same.0 i.filled r.ring c.put_ring.ensures;
+      filled = next_filled IsNewRing c.args.self.now.home c.loop-k.self.home c.args.counts.now c.loop-k.rings c.loop-k.k _ c.take_ring-ring.result
+          c.put_ring.new.slot inside (omega (arith, slots, few, inside)) i.same.0 i.filled r.ring c.put_ring.ensures;
     }

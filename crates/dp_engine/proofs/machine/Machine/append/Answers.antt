@@ -1,8 +1,8 @@
-use Rattle.std.proofs.Common.{◌≤◌, subst, sym}
-use Rattle.dp_model.specs.Packets.{at_end, more_after, tailroom, zeroed_after}
+use Rattle.std.proofs.Common.{◌≤◌, refl, subst, sym}
+use Rattle.dp_model.specs.Packets.{tailroom}
 use Rattle.dp_engine.proofs.Counts.{tail_sole}
 use Rattle.dp_engine.proofs.Receive.{pools_of}
-use Rattle.dp_engine.proofs.Registers.{handle, held, counts, stand_becomes, becomes}
+use Rattle.dp_engine.proofs.Registers.{handle, held, counts, stand_changes, now_has}
 use Rattle.dp_engine.proofs.machine.Machine.append.Goals as goal
 
 pub handle_in-packet-requires : goal.handle_in-packet-requires
@@ -15,12 +15,7 @@ append-requires c =
     (k, (held c.self.view_is c.self.invariant c.handle_in-packet.ensures holds).has, (room, tail_sole _ _ k (counts _ _ c.self.view_is c.self.invariant) sole))
 
 pub invariant_of-self : goal.invariant_of-self
-invariant_of-self c =
-    let (k, holds, _, _) = c.requires in
-    let there = held c.self.view_is c.self.invariant c.handle_in-packet.ensures holds in
-    stand_becomes _ (at_end (more_after c.args.n)) (zeroed_after c.args.n) c.self.invariant there c.append.ensures.packets
+invariant_of-self c = stand_changes c.self.inside _ _ c.self.view_is c.self.invariant c.handle_in-packet.ensures c.append.ensures.packets _ c.requires.1
 
 pub returns : goal.returns
-returns c k holds =
-    let there = held c.self.view_is c.self.invariant c.handle_in-packet.ensures holds in
-    rw (c.append.ensures.zones) (becomes _ (at_end (more_after c.args.n)) (zeroed_after c.args.n) c.self.view_is there c.append.ensures.packets)
+returns c = let a = c.append.ensures in rw (a.zones, ← c.self.view_is) (now_has c.self.inside _ _ refl c.self.invariant c.handle_in-packet.ensures a.packets)

@@ -1,7 +1,6 @@
-use Rattle.std.proofs.Common.{◌∙◌, length, ap}
+use Rattle.std.proofs.Common.{length}
 use Rattle.dp_model.specs.Packets.{packet_bytes}
-use Rattle.dp_engine.proofs.Receive.{buffers_of}
-use Rattle.dp_engine.proofs.Registers.{handle, held}
+use Rattle.dp_engine.proofs.Registers.{handle, held, read}
 use Rattle.dp_engine.proofs.machine.Machine.length.Goals as goal
 
 pub handle_in-packet-requires : goal.handle_in-packet-requires
@@ -11,6 +10,4 @@ pub length-requires : goal.length-requires
 length-requires c = let (k, holds) = c.requires in (k, (held c.self.view_is c.self.invariant c.handle_in-packet.ensures holds).has, tt)
 
 pub returns : goal.returns
-returns c k holds =
-    let there = held c.self.view_is c.self.invariant c.handle_in-packet.ensures holds in
-    c.length.ensures.value k there.has ∙ ap (λ b. length (packet_bytes b k)) (buffers_of _ _ c.self.view_is)
+returns c = read _ _ (λ m k. length (packet_bytes m.state.world.buffers k)) c.self.view_is c.self.invariant c.handle_in-packet.ensures c.length.ensures.value

@@ -1,8 +1,6 @@
-use Rattle.std.proofs.Common.{◌∙◌, ap}
 use Rattle.dp_model.specs.Arithmetic.{bytes_in}
 use Rattle.dp_model.specs.Packets.{loaded}
-use Rattle.dp_engine.proofs.Receive.{buffers_of}
-use Rattle.dp_engine.proofs.Registers.{handle, held}
+use Rattle.dp_engine.proofs.Registers.{handle, held, read}
 use Rattle.dp_engine.proofs.machine.Machine.load.Goals as goal
 
 pub handle_in-packet-requires : goal.handle_in-packet-requires
@@ -12,6 +10,6 @@ pub load-requires : goal.load-requires
 load-requires c = let (k, holds, le) = c.requires in (k, (held c.self.view_is c.self.invariant c.handle_in-packet.ensures holds).has, le)
 
 pub returns : goal.returns
-returns c k holds =
-    let there = held c.self.view_is c.self.invariant c.handle_in-packet.ensures holds in
-    c.load.ensures k there.has ∙ ap (loaded c.args.offset (bytes_in c.args.width) k) (buffers_of _ _ c.self.view_is)
+returns c =
+    read _ _ (λ m k. loaded c.args.offset (bytes_in c.args.width) k m.state.world.buffers) c.self.view_is c.self.invariant
+    c.handle_in-packet.ensures c.load.ensures

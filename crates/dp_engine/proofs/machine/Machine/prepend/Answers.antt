@@ -1,6 +1,6 @@
-use Rattle.dp_model.specs.Packets.{at_front, more_before, zeroed_before}
+use Rattle.std.proofs.Common.{refl}
 use Rattle.dp_engine.proofs.Counts.{head_sole}
-use Rattle.dp_engine.proofs.Registers.{handle, held, counts, stand_becomes, becomes}
+use Rattle.dp_engine.proofs.Registers.{handle, held, counts, stand_changes, now_has}
 use Rattle.dp_engine.proofs.machine.Machine.prepend.Goals as goal
 
 pub handle_in-packet-requires : goal.handle_in-packet-requires
@@ -12,12 +12,7 @@ prepend-requires c =
     (k, (held c.self.view_is c.self.invariant c.handle_in-packet.ensures holds).has, (le, head_sole _ _ k (counts _ _ c.self.view_is c.self.invariant) sole))
 
 pub invariant_of-self : goal.invariant_of-self
-invariant_of-self c =
-    let (k, holds, _, _) = c.requires in
-    let there = held c.self.view_is c.self.invariant c.handle_in-packet.ensures holds in
-    stand_becomes _ (at_front (more_before c.args.n)) (zeroed_before c.args.n) c.self.invariant there c.prepend.ensures.packets
+invariant_of-self c = stand_changes c.self.inside _ _ c.self.view_is c.self.invariant c.handle_in-packet.ensures c.prepend.ensures.packets _ c.requires.1
 
 pub returns : goal.returns
-returns c k holds =
-    let there = held c.self.view_is c.self.invariant c.handle_in-packet.ensures holds in
-    rw (c.prepend.ensures.zones) (becomes _ (at_front (more_before c.args.n)) (zeroed_before c.args.n) c.self.view_is there c.prepend.ensures.packets)
+returns c = let a = c.prepend.ensures in rw (a.zones, ← c.self.view_is) (now_has c.self.inside _ _ refl c.self.invariant c.handle_in-packet.ensures a.packets)

@@ -1,9 +1,10 @@
 -- The first packet of a transmit list: its handle is derived once, and each goal is one step from there.
-use Rattle.std.proofs.Common.{◌≡◌, ◌+◌, ◌≤◌, ◌∷◌, List, length, Some, refl, ◌∙◌, subst, ap}
+use Rattle.std.proofs.Common.{◌≡◌, ℕ, ◌+◌, ◌≤◌, ◌∷◌, List, length, Some, refl, ◌∙◌, subst, ap}
 use Rattle.std.specs.Prelude.{drop, slice_get}
 use Rattle.std.specs.Io.KnownBytes.{Appends}
 use Rattle.std.proofs.lemmas.Option.{same_Some}
 use Rattle.std.proofs.lemmas.Result.{on_ok_weaker, on_err_weaker}
+use Rattle.dp_model.specs.Buffers.{Buffers}
 use Rattle.dp_model.specs.Packets.{Packet}
 use Rattle.dp_pcap.specs.Text.{AppendsPart}
 use Rattle.dp_engine.specs.Drains.{record_of}
@@ -24,6 +25,15 @@ named g c packets k box here =
     let m = c.self.inside in
     let (h, at, has) = waits_at m c.args.self.now c.args.port 0 packets k c.self.view_is c.self.invariant c.requires.there box here in
     ap (slice_get m.mbufs.store.slots) (same_Some _ _ (c.in-Some.ensures.first ∙ at)) ∙ has
+
+-- what is said of the packet that the handle has is said of the first one
+first_said : (g : _) (c : In-Some g) (P : Buffers → Packet → Type 0) {h : ℕ} → h ≡ c.in-Some.packet
+    → ((k : Packet) → slice_get c.self.inside.mbufs.store.slots h ≡ Some (Some k) → P c.self.inside.mbufs.store.buffers k)
+    → (packets : List Packet) (k : Packet) → slice_get c.args.self.now.state.world.outboxes c.args.port ≡ Some packets → slice_get packets 0 ≡ Some k
+    → P c.args.self.now.state.world.buffers k
+first_said g c P is all packets k box here =
+    subst (λ b. P b k) (ap (λ (m : Core). m.state.world.buffers) c.self.view_is)
+    (all k (ap (slice_get c.self.inside.mbufs.store.slots) is ∙ named g c packets k box here))
 
 -- there is one
 its_packet : (g : _) (c : In-Some g) → (k : Packet) × (slice_get c.self.inside.mbufs.store.slots c.in-Some.packet ≡ Some (Some k))
@@ -54,28 +64,19 @@ proved-requires g c =
 
 pub returns-clause-ok : goal.returns-clause-ok
 returns-clause-ok g c =
-    on_ok_weaker c.put_and_free.result (λ all packets k box here.
-    let has = named g (goal.at.returns-clause-ok g c).In-Some packets k box here in
-    subst (λ b. Appends (g.W.Sink.contents c.args.w.now) (g.W.Sink.contents c.put_and_free.new.w) (record_of c.args.unit c.args.time b k))
-    (ap (λ (m : Core). m.state.world.buffers) c.self.view_is)
-    (all k (ap (slice_get c.self.inside.mbufs.store.slots) c.of.ensures ∙ has)))
-    c.put_and_free.ensures.puts.ok
+    on_ok_weaker c.put_and_free.result (first_said g (goal.at.returns-clause-ok g c).In-Some (λ b k. Appends (g.W.Sink.contents c.args.w.now)
+    (g.W.Sink.contents c.put_and_free.new.w) (record_of c.args.unit c.args.time b k)) c.of.ensures) c.put_and_free.ensures.puts.ok
 
 pub returns-clause-err : goal.returns-clause-err
 returns-clause-err g c =
-    on_err_weaker c.put_and_free.result (λ all packets k box here.
-    let has = named g (goal.at.returns-clause-err g c).In-Some packets k box here in
-    subst (λ b. AppendsPart (g.W.Sink.contents c.args.w.now) (g.W.Sink.contents c.put_and_free.new.w) (record_of c.args.unit c.args.time b k))
-    (ap (λ (m : Core). m.state.world.buffers) c.self.view_is)
-    (all k (ap (slice_get c.self.inside.mbufs.store.slots) c.of.ensures ∙ has)))
-    c.put_and_free.ensures.puts.err
+    on_err_weaker c.put_and_free.result (first_said g (goal.at.returns-clause-err g c).In-Some (λ b k. AppendsPart (g.W.Sink.contents c.args.w.now)
+    (g.W.Sink.contents c.put_and_free.new.w) (record_of c.args.unit c.args.time b k)) c.of.ensures) c.put_and_free.ensures.puts.err
 
 pub returns-clause-counted : goal.returns-clause-counted
-returns-clause-counted g c packets k box here =
-    let has = named g (goal.at.returns-clause-counted g c).In-Some packets k box here in
-    subst (λ b. g.W.Sink.calls c.put_and_free.new.w ≤ g.W.Sink.calls c.args.w.now + length (record_of c.args.unit c.args.time b k))
-    (ap (λ (m : Core). m.state.world.buffers) c.self.view_is)
-    (c.put_and_free.ensures.puts.counted k (ap (slice_get c.self.inside.mbufs.store.slots) c.of.ensures ∙ has))
+returns-clause-counted g c =
+    first_said g (goal.at.returns-clause-counted g c).In-Some
+    (λ b k. g.W.Sink.calls c.put_and_free.new.w ≤ g.W.Sink.calls c.args.w.now + length (record_of c.args.unit c.args.time b k)) c.of.ensures
+    c.put_and_free.ensures.puts.counted
 
 pub returns-clause-rest : goal.returns-clause-rest
 returns-clause-rest g c packets k list =

@@ -1,7 +1,5 @@
-use Rattle.std.proofs.Common.{◌∙◌, ap}
 use Rattle.dp_model.specs.Packets.{segment_bytes}
-use Rattle.dp_engine.proofs.Receive.{buffers_of}
-use Rattle.dp_engine.proofs.Registers.{handle, held}
+use Rattle.dp_engine.proofs.Registers.{handle, held, read_segment}
 use Rattle.dp_engine.proofs.machine.Machine.segment_bytes.Goals as goal
 
 pub handle_in-packet-requires : goal.handle_in-packet-requires
@@ -11,6 +9,4 @@ pub segment_bytes-requires : goal.segment_bytes-requires
 segment_bytes-requires c = let (k, holds, less) = c.requires in (k, (held c.self.view_is c.self.invariant c.handle_in-packet.ensures holds).has, less)
 
 pub returns : goal.returns
-returns c k s holds here =
-    let there = held c.self.view_is c.self.invariant c.handle_in-packet.ensures holds in
-    c.segment_bytes.ensures.value k there.has s here ∙ ap (λ b. segment_bytes b s) (buffers_of _ _ c.self.view_is)
+returns c = read_segment _ _ (λ m. segment_bytes m.state.world.buffers) c.self.view_is c.self.invariant c.handle_in-packet.ensures c.segment_bytes.ensures.value

@@ -1,9 +1,9 @@
 -- The first handle of a queue is taken: what that makes of a ring is derived once.
-use Rattle.std.proofs.Common.{◌<◌, ◌≤◌, ◌∙◌, length, drop, refl, sym, subst}
+use Rattle.std.proofs.Common.{◌<◌, ◌≤◌, ◌∙◌, length, drop, ap, refl, sym, subst, arith}
 use Rattle.dp_ring.specs.Rings.{without_first}
 use Rattle.dp_engine.specs.HandleQueues.{ring_of_queue, Becomes}
 use Rattle.dp_engine.specs.Queues.{ring_at}
-use Rattle.dp_engine.proofs.Firsts.{first_slot, not_before, up_to, after, same_after}
+use Rattle.dp_engine.proofs.Firsts.{first_slot, not_before, stays}
 use Rattle.dp_engine.proofs.Pushing.{popped}
 use Rattle.dp_engine.proofs.queues.Queues.pop.Goals as goal
 use Rattle.dp_engine.proofs.queues.Queues.pop.Goals.{After-pop-handle}
@@ -19,26 +19,25 @@ rest c =
 
 pub first_from-self-inside-requires : goal.first_from-self-inside-requires
 first_from-self-inside-requires c =
-    let at = (goal.at.first_from-self-inside-requires c).After-pop-handle in
     let rings = c.self.inside.rings in
     subst (λ rs. c.in-Ring.ring ≤ first_slot rs) (sym c.pop-handle.ensures.rest)
-    (not_before rings c.in-Ring.ring (without_first (ring_at rings c.in-Ring.ring) 1)
-    (up_to rings c.in-Ring.ring c.self.inside.first c.self.invariant.0 (there at) (c.if-is_up_to.ensures.before refl)) (there at))
+    (not_before rings c.in-Ring.ring (without_first (ring_at rings c.in-Ring.ring) 1) (omega (arith, c.self.invariant.0, c.if-ring-self.true))
+    (there (goal.at.first_from-self-inside-requires c).After-pop-handle))
 
-pub invariant_of-self-else-is_up_to : goal.invariant_of-self-else-is_up_to
-invariant_of-self-else-is_up_to c =
-    let rings = c.self.inside.rings in
-    let (f, is, lt) = c.if-is_up_to.ensures.after refl in (
-      c.self.invariant.0 ∙ same_after rings c.pop-handle.new.self c.in-Ring.ring _ c.pop-handle.ensures.rest
-          (after rings c.in-Ring.ring f (sym c.self.invariant.0 ∙ is) lt) (there (goal.at.invariant_of-self-else-is_up_to c).After-pop-handle),
+pub invariant_of-self-else-ring-self : goal.invariant_of-self-else-ring-self
+invariant_of-self-else-ring-self c =
+    let rings = c.self.inside.rings in (
+      c.self.invariant.0 ∙ sym (ap first_slot c.pop-handle.ensures.rest
+          ∙ stays rings c.in-Ring.ring (without_first (ring_at rings c.in-Ring.ring) 1) (omega (arith, c.self.invariant.0, c.if-ring-self.false))
+          (there (goal.at.invariant_of-self-else-ring-self c).After-pop-handle)),
       c.self.invariant.1,
     )
 
 pub returns-in-Tx-clause-rest : goal.returns-in-Tx-clause-rest
 returns-in-Tx-clause-rest c = rw (c.in-Tx.is) c.pop_list.ensures.rest
 
-pub returns-then-is_up_to-clause-rest : goal.returns-then-is_up_to-clause-rest
-returns-then-is_up_to-clause-rest c = rest (goal.at.returns-then-is_up_to-clause-rest c).After-pop-handle
+pub returns-then-ring-self-clause-rest : goal.returns-then-ring-self-clause-rest
+returns-then-ring-self-clause-rest c = rest (goal.at.returns-then-ring-self-clause-rest c).After-pop-handle
 
-pub returns-else-is_up_to-clause-rest : goal.returns-else-is_up_to-clause-rest
-returns-else-is_up_to-clause-rest c = rest (goal.at.returns-else-is_up_to-clause-rest c).After-pop-handle
+pub returns-else-ring-self-clause-rest : goal.returns-else-ring-self-clause-rest
+returns-else-ring-self-clause-rest c = rest (goal.at.returns-else-ring-self-clause-rest c).After-pop-handle
