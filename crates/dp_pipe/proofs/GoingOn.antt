@@ -22,14 +22,15 @@ use Rattle.dp_engine.specs.declared.report.InputState.TheVariants.{Open, Whole, 
 use Rattle.dp_engine.specs.Engines.{EngineState}
 use Rattle.dp_pipe.specs.declared.forwarding.InputProgress.{InputProgress}
 use Rattle.dp_pipe.specs.Devices.{Device, Transfer}
-use Rattle.dp_pipe.specs.Forwarding.{Input, HasReadSo, IsProgressOf, ReadsTurn, HasTurn, DrainedAll, DrainedFirst, Follows}
-use Rattle.dp_pipe.specs.Forwarding.{Advances, RunUntil, AnswersSo, HasPulled, PullsUpTo, asked, arrivals_of, HasRun, last_pulls, records_many, unit_for}
+use Rattle.dp_pipe.specs.Forwarding.{Input, HasReadSo, ReadsTurn, HasTurn, DrainedAll, DrainedFirst, Follows}
+use Rattle.dp_pipe.specs.Forwarding.{Advances, AreProgressOf, AreWritten, AskedUntil, RunUntil, AnswersSo, HasPulled, PullsUpTo, asked, arrivals_of}
+use Rattle.dp_pipe.specs.Forwarding.{HasRun, capture_at, last_pulls, records_many, unit_for, units_of}
 use Rattle.dp_pipe.proofs.RunOn.{run_on, arrival}
 use Rattle.dp_pipe.proofs.Advancing.{with_record, ended, arrivals_more, arrivals_ended, order_next, wrote_more, joined_many}
 use Rattle.dp_pipe.proofs.Units.{units_set}
-use Rattle.dp_pipe.proofs.Stepping.{input_at, all_progress, calls_ended, calls_more, known_then, open_read, progress_more, progress_ended}
-use Rattle.dp_pipe.proofs.Stepping.{pulls_ended, pulls_whole, pulls_cut}
-use Rattle.dp_pipe.proofs.Giving.{known_map, read_open}
+use Rattle.dp_pipe.proofs.Stepping.{input_at, pulls_whole, pulls_cut}
+use Rattle.dp_pipe.proofs.Giving.{known_map}
+use Rattle.dp_pipe.proofs.Reading.{more_read, last_read}
 
 -- what all steps of a round share: as many inputs, readers and writers as ports
 pub record AreMany (e : EngineState) (holds : List Device) : Type 0 where
@@ -77,6 +78,12 @@ many_least (x ∷ inputs) (suc n) i e few = let more = many_least inputs n i e (
 pub wanted : (round port count : ℕ) (state : InputState) → state ≡ Open → AnswersSo state count (asked round port port) → count ≡ round
 wanted round port count state e is = rw (e, le-ltb port port (omega arith)) at is
 
+-- an input that has ended gave fewer records than it was asked for
+pub closed_due : (state : InputState) (count round : ℕ) → (state ≡ Open → ⊥) → count ≡ round → AnswersSo state count (round + 1)
+closed_due Open count round closed is = absurd (closed refl)
+closed_due Whole count round closed is = omega (arith, is)
+closed_due (Cut byte) count round closed is = omega (arith, is)
+
 pub whole_read : (s s' : SourceState) (records : List PacketRecord) (bytes : List ℕ) → s' ≡ over s → IsCapture bytes s.unit records capture.Ending.Whole →
     IsCapture bytes s'.unit records capture.Ending.Whole
 whole_read s s' records bytes is h = rw is h
@@ -85,65 +92,62 @@ pub cut_read : (byte : ℕ) (s s' : SourceState) (records : List PacketRecord) (
     IsCapture bytes s.unit records (capture.Ending.Cut byte) → IsCapture bytes s'.unit records (capture.Ending.Cut byte)
 cut_read byte s s' records bytes is h = rw is h
 
+-- a run goes on from where it was, with what was read, asked and written by then
+pub went_on : {unit : TimeUnit} {e0 e e' : EngineState} {t : Transfer} {progress progress' : List InputProgress} {inputs inputs' : List Input}
+    {round round' port port' : ℕ} (along : RunUntil unit e0 e t progress inputs round port) (left holds : List Device) → length inputs' ≡ length inputs
+    → units_of inputs' ≡ units_of inputs → AreProgressOf t.had left progress' inputs' → AskedUntil round' port' inputs'
+    → length (arrivals_of inputs') ≡ records_many inputs' → (captures : List (List (Time × List ℕ))) → length captures ≡ length along.captures
+    → HasRun e0 e' (arrivals_of inputs') captures → AreWritten unit t.held holds (capture_at captures)
+    → RunUntil unit e0 e' (record t { left = left; holds = holds }) progress' inputs' round' port'
+went_on along left holds many units progress_is order total captures longer run wrote = record {
+  first = along.first;
+  held_many = along.held_many;
+  inputs_many = many ∙ along.inputs_many;
+  unit_is = along.unit_is ∙ ap unit_for (sym units);
+  progress_is = progress_is;
+  order = order;
+  total = total;
+  captures = captures;
+  many = longer ∙ along.many;
+  run = run;
+  wrote = wrote;
+}
+
 module _ {unit : TimeUnit} {e0 e : EngineState} {t : Transfer} {progress : List InputProgress} {inputs : List Input} {round port : ℕ}
     (along : RunUntil unit e0 e t progress inputs round port) (many : AreMany e0 t.holds) {p : InputProgress} (p' : InputProgress)
     (here : slice_get progress port ≡ Some p) (open_p : p.state ≡ Open) (there : port < length e0.setting.env.ports)
     {a : Device} (b : Device) (left_a : slice_get t.left port ≡ Some a) where
-  abbrev i : Input
-  i = (input_at port along.progress_is here).0
-
-  i_here : slice_get inputs port ≡ Some i
-  i_here = (input_at port along.progress_is here).1
-
-  i_progress : IsProgressOf p i
-  i_progress = (input_at port along.progress_is here).2
-
-  i_open : i.state ≡ Open
-  i_open = sym i_progress.state ∙ open_p
-
-  count : length i.records ≡ round
-  count = wanted round port (length i.records) i.state i_open (along.order port i i_here)
-
   -- a record came
   record_on : (time : Time) (len : ℕ) (buf : List ℕ) (e1 e2 : EngineState) (holds : List Device)
       → len ≤ length buf → b.calls ≤ a.calls + (16 + len)
       → WhereKnown a.bytes b.bytes (λ left rest. Continues p.source p'.source left rest buf (Ok (Record time len))) → p.source.given < 16777216 →
       p'.source ≡ advanced p.source len
       → HasTurn port e e1 (take len buf) → p'.state ≡ Open → DrainedAll unit time e1 e2 t.holds holds
-      → RunUntil unit e0 e2 (after_asking t port b holds) (slice_set progress port p')
-      (slice_set inputs port (with_record (record { time = time; bytes = take len buf }) i)) round (port + 1)
+      → (inputs' : List Input) × RunUntil unit e0 e2 (after_asking t port b holds) (slice_set progress port p') inputs' round (port + 1)
   record_on time len buf e1 e2 holds fits pulls more less moved turn open_p' drains =
+      let (i, i_here, i_progress) = input_at port along.progress_is here in
+      let i_open = sym i_progress.state ∙ open_p in
       let r : PacketRecord = record { time = time; bytes = take len buf } in
       let i' = with_record r i in
-      let is_progress : IsProgressOf p' i' = progress_more p p' i time len buf i_progress open_p open_p' moved less in
+      let count = wanted round port (length i.records) i.state i_open (along.order port i i_here) in
       let setting1 = ap (λ (x : EngineState). x.setting) turn.is ∙ ap (λ (x : EngineState). x.setting) along.run.stays in
       let n = length e0.setting.env.ports in
       let boxes : length e1.world.outboxes ≡ n = turn.lists ∙ ap (λ (x : Setting). length x.env.ports) setting1 in
       let all : DrainedFirst n unit time e1 e2 t.holds holds = subst (λ (x : Setting). DrainedFirst (length x.env.ports) unit time e1 e2 t.holds holds) setting1
       drains in
       let long : length (records_at time e1.world) ≡ n = length-map e1.world.outboxes _ ∙ boxes in
-      record {
-        first = along.first;
-        held_many = along.held_many;
-        inputs_many = length-set inputs port i' ∙ along.inputs_many;
-        unit_is = along.unit_is ∙ ap unit_for (sym (units_set inputs port i i' i_here refl));
-        total = ap length (arrivals_more inputs round port i r along.order i_here i_open)
-            ∙ length-append (arrivals_of inputs) (arrival port time (take len buf) ∷ [])
-            ∙ omega (arith, along.total, many_more inputs port i r i_here);
-        progress_is = all_progress port b along.progress_is is_progress (λ old at.
-            let was = along.progress_is.read port p i here i_here old a at left_a in
-            read_open i' p'.source old b i_open
-            (known_then old.bytes a.bytes b.bytes _ _ _ (λ bytes left rest before now. rw i_open
-            (now bytes i.records (open_read i.state p.source i.records bytes left i_open before))) was.has more)
-            (calls_more i time len buf old.calls a.calls b.calls i_open fits was.calls pulls));
-        order = order_next inputs round port i' along.order (rw i_open (length-append i.records (r ∷ []) ∙ ap (λ m. m + 1) count));
-        captures = joined along.captures (records_at time e1.world);
-        many = joined_many along.captures (records_at time e1.world) (along.many ∙ sym long) ∙ along.many;
-        run = rw (arrivals_more inputs round port i r along.order i_here i_open)
-            (run_on e0 e e1 e2 port time (take len buf) (arrivals_of inputs) along.captures unit t.holds holds (omega (arith, there, many.counted, many.few))
-            boxes along.run turn all);
-        wrote = wrote_more unit time e1.world n along.captures t.held t.holds holds along.many long along.held_many many.holds_many along.wrote all.wrote;
-      }
+      let grown = arrivals_more inputs round port i r along.order i_here i_open in (
+        slice_set inputs port i',
+        went_on along (slice_set t.left port b) holds (length-set inputs port i') (units_set inputs port i i' i_here refl)
+            (more_read port along.progress_is p' here i_here open_p b left_a time len buf fits pulls more less moved open_p')
+            (order_next inputs round port i' along.order (rw i_open (length-append i.records (r ∷ []) ∙ ap (λ m. m + 1) count)))
+            (ap length grown ∙ length-append (arrivals_of inputs) (arrival port time (take len buf) ∷ [])
+            ∙ omega (arith, along.total, many_more inputs port i r i_here)) (joined along.captures (records_at time e1.world))
+            (joined_many along.captures (records_at time e1.world) (along.many ∙ sym long)) (rw grown
+            (run_on e0 e e1 e2 port time (take len buf) (arrivals_of inputs) along.captures unit t.holds holds
+            (omega (arith, there, many.counted, many.few)) boxes along.run turn all))
+            (wrote_more unit time e1.world n along.captures t.held t.holds holds along.many long along.held_many many.holds_many along.wrote all.wrote),
+      )
 
   -- the input ended
   ended_on : {e' : EngineState} {holds : List Device} (state : InputState) → (state ≡ Open → ⊥)
@@ -151,32 +155,19 @@ module _ {unit : TimeUnit} {e0 e : EngineState} {t : Transfer} {progress : List 
       → WhereKnown a.bytes b.bytes (λ left rest. (bytes : List ℕ) (records : List PacketRecord) → HasRead bytes p.source records left →
       HasReadSo state p'.source records bytes rest)
       → p'.source ≡ over p.source → p'.state ≡ state → e' ≡ e → holds ≡ t.holds
-      → RunUntil unit e0 e' (after_asking t port b holds) (slice_set progress port p') (slice_set inputs port (ended state i)) round (port + 1)
-  ended_on state closed pulls last more moved is e_is holds_is = rw (e_is, holds_is) (record {
-    first = along.first;
-    held_many = along.held_many;
-    inputs_many = length-set inputs port (ended state i) ∙ along.inputs_many;
-    unit_is = along.unit_is ∙ ap unit_for (sym (units_set inputs port i (ended state i) i_here refl));
-    total = ap length (arrivals_ended inputs port i state i_here) ∙ along.total ∙ sym (many_ended inputs port i state i_here);
-    progress_is = all_progress port b along.progress_is (progress_ended p p' i state i_progress is moved closed) (λ old at.
-        let was = along.progress_is.read port p i here i_here old a at left_a in
-        record {
-          has = known_then old.bytes a.bytes b.bytes _ _ _
-              (λ bytes left rest before now. now bytes i.records (open_read i.state p.source i.records bytes left i_open before)) was.has more;
-          calls = calls_ended i old.calls a.calls b.calls (last_pulls state) i_open was.calls pulls;
-          pulls = pulls_ended i state old a b i_open was.pulls last;
-        });
-    order = order_next inputs round port (ended state i) along.order (less state closed);
-    captures = along.captures;
-    many = along.many;
-    run = subst (λ l. HasRun e0 e l along.captures) (sym (arrivals_ended inputs port i state i_here)) along.run;
-    wrote = along.wrote;
-  })
-    where
-      less : (state : InputState) → (state ≡ Open → ⊥) → AnswersSo state (length i.records) (round + 1)
-      less Open closed = absurd (closed refl)
-      less Whole closed = omega (arith, count)
-      less (Cut byte) closed = omega (arith, count)
+      → (inputs' : List Input) × RunUntil unit e0 e' (after_asking t port b holds) (slice_set progress port p') inputs' round (port + 1)
+  ended_on state closed pulls last more moved is e_is holds_is =
+      let (i, i_here, i_progress) = input_at port along.progress_is here in
+      let count = wanted round port (length i.records) i.state (sym i_progress.state ∙ open_p) (along.order port i i_here) in
+      let same = arrivals_ended inputs port i state i_here in
+      rw (e_is, holds_is) (
+        slice_set inputs port (ended state i),
+        went_on along (slice_set t.left port b) t.holds (length-set inputs port (ended state i)) (units_set inputs port i (ended state i) i_here refl)
+            (last_read port along.progress_is p' here i_here open_p b left_a state closed pulls last more moved is)
+            (order_next inputs round port (ended state i) along.order (closed_due state (length i.records) round closed count))
+            (ap length same ∙ along.total ∙ sym (many_ended inputs port i state i_here)) along.captures refl
+            (subst (λ l. HasRun e0 e l along.captures) (sym same) along.run) along.wrote,
+      )
 
   -- the run continues, whatever the answer was, if it did not stop
   pub goes_on : {e' : EngineState} {holds : List Device} → Advances port unit e e' p p' a b t.holds holds (Ok tt)
@@ -187,17 +178,12 @@ module _ {unit : TimeUnit} {e0 e : EngineState} {t : Transfer} {progress : List 
           → IsInRange p.source answer → Moves p.source p'.source answer → Follows port unit step.engine e' p'.state t.holds holds answer (Ok tt)
           → (inputs' : List Input) × RunUntil unit e0 e' (after_asking t port b holds) (slice_set progress port p') inputs' round (port + 1)
       go (Ok (Record time len)) (buf, more, (fits, turn)) (pulls, last) (nano, few, less) moves (open_p', drains) =
-          (_, record_on time len buf step.engine e' holds fits pulls more less moves turn open_p' drains)
-      go (Ok End) (buf, more, same) (pulls, last) range moves (is, ok, e_is, holds_is) = (
-        _,
-        ended_on Whole (λ c. cc) pulls (pulls_whole a b last) (known_map a.bytes b.bytes _ _
-            (λ left rest now bytes records has. whole_read p.source p'.source records bytes moves (now bytes records has)) more) moves is
-            (e_is ∙ same) holds_is,
-      )
-      go (Ok (next.Cut byte)) (buf, more, same) (pulls, last) range moves (is, ok, e_is, holds_is) = (
-        _,
-        ended_on (Cut byte) (λ c. cc) pulls (pulls_cut byte a b last) (known_map a.bytes b.bytes _ _
-            (λ left rest now bytes records has. cut_read byte p.source p'.source records bytes moves (now bytes records has)) more) moves is
-            (e_is ∙ same) holds_is,
-      )
+          record_on time len buf step.engine e' holds fits pulls more less moves turn open_p' drains
+      go (Ok End) (buf, more, same) (pulls, last) range moves (is, ok, e_is, holds_is) =
+          ended_on Whole (λ c. cc) pulls (pulls_whole a b last) (known_map a.bytes b.bytes _ _
+          (λ left rest now bytes records has. whole_read p.source p'.source records bytes moves (now bytes records has)) more) moves is (e_is ∙ same) holds_is
+      go (Ok (next.Cut byte)) (buf, more, same) (pulls, last) range moves (is, ok, e_is, holds_is) =
+          ended_on (Cut byte) (λ c. cc) pulls (pulls_cut byte a b last) (known_map a.bytes b.bytes _ _
+          (λ left rest now bytes records has. cut_read byte p.source p'.source records bytes moves (now bytes records has)) more) moves is (e_is ∙ same)
+          holds_is
       go (Err error) reads pulls range moves (is, bad, e_is, holds_is) = cc

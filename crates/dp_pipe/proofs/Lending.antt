@@ -14,12 +14,13 @@ use Rattle.dp_engine.specs.Engines.{EngineState, TakesTurn}
 use Rattle.dp_engine.specs.Outcomes.{outcome_of}
 use Rattle.dp_engine.specs.Watching.{Event, WatchesTurn}
 use Rattle.dp_pipe.specs.Forwarding.{HasTurn}
-use Rattle.dp_pipe.specs.Tracing.{TracesRead}
+use Rattle.dp_pipe.specs.Tracing.{Note, Came, Ended, TracesRead}
 use Rattle.dp_pipe.specs.Watched.{unnoted, ShowsNext}
 
 -- the turn of a record with these bytes was shown
-abbrev pub TracesAt : {V : Type 0} → (V → Event → V → Type 0) → V → V → ℕ → Time → EngineState → EngineState → List ℕ → Type 0
-TracesAt sees v v' port time e e' bytes = (r : TracesRead sees unnoted v v' port time e e') × (r.bytes ≡ bytes)
+abbrev pub TracesAt : {V : Type 0} → (V → Event → V → Type 0) → (V → Note → V → Type 0) → V → V → ℕ → Time → EngineState → EngineState →
+    List ℕ → Type 0
+TracesAt sees noted v v' port time e e' bytes = (r : TracesRead sees noted v v' port time e e') × (r.bytes ≡ bytes)
 
 module _ {V : Type 0} {sees : V → Event → V → Type 0} {v v' : V} {port : ℕ} {e e' : EngineState} {bytes : List ℕ} {taken : Turn}
     (took : TakesTurn e e' port bytes taken)
@@ -35,19 +36,20 @@ module _ {V : Type 0} {sees : V → Event → V → Type 0} {v v' : V} {port : �
     lists = took.lists;
   }
 
-  -- and shown
-  pub traced : (time : Time) → TracesAt sees v v' port time e e' bytes
-  traced time = (
+  -- and shown, between two reports
+  pub traced : {noted : V → Note → V → Type 0} {first last : V} (time : Time) → noted first (Came port time (length bytes)) v
+      → noted v' (Ended taken e'.world) last → TracesAt sees noted first last port time e e' bytes
+  traced time came ended = (
     record {
       bytes = bytes;
       traces = record {
         before = v;
-        came = refl;
+        came = came;
         turn = taken;
         after = v';
         watched = watched;
         took = took.took;
-        ended = refl;
+        ended = ended;
       };
       setting = ap (λ (x : EngineState). x.setting) took.rest;
       nodes = ap (λ (x : EngineState). x.nodes) took.rest;
@@ -60,11 +62,11 @@ module _ {V : Type 0} {sees : V → Event → V → Type 0} {v v' : V} {port : �
 pub lent : {V : Type 0} (sees : V → Event → V → Type 0) (v v' : V) (port : ℕ) (e e' : EngineState) (s s' : SourceState)
     (a b : Option (List ℕ)) (held bytes : List ℕ) (time : Time) (len : ℕ) → IsHeld s held time len
     → WhereKnown a b (λ left rest. Continues s s' left rest (body_in held len) (Ok (Record time len))) → bytes ≡ body_in held len →
-    HasTurn port e e' bytes → TracesAt sees v v' port time e e' bytes → ShowsNext sees v v' port e e' s s' a b (Ok (Record time len))
+    HasTurn port e e' bytes → TracesAt sees unnoted v v' port time e e' bytes → ShowsNext sees v v' port e e' s s' a b (Ok (Record time len))
 lent sees v v' port e e' s s' a b held bytes time len is more those took shown =
     let long : length (body_in held len) ≡ len = length-take-le len (drop 16 held) (omega (arith, is.whole, length-drop 16 held)) in
     let same : take len (body_in held len) ≡ body_in held len = take_all len (body_in held len) (omega (arith, long)) in
-    let (turn, bytes_are) = subst (TracesAt sees v v' port time e e') (those ∙ sym same) shown in (
+    let (turn, bytes_are) = subst (TracesAt sees unnoted v v' port time e e') (those ∙ sym same) shown in (
       (body_in held len, more, (omega (arith, long), subst (HasTurn port e e') (those ∙ sym same) took)),
       (omega (arith, long), turn, bytes_are),
     )
@@ -78,7 +80,8 @@ has_room s answer time len room is within large =
 -- from the buffer into which it was read
 pub copied : {V : Type 0} (sees : V → Event → V → Type 0) (v v' : V) (port : ℕ) (e e' : EngineState) (s s' : SourceState) (a b : Option (List ℕ))
     (buf : List ℕ) (time : Time) (len : ℕ) → WhereKnown a b (λ left rest. Continues s s' left rest buf (Ok (Record time len))) → len ≤ length buf
-    → HasTurn port e e' (take len buf) → TracesAt sees v v' port time e e' (take len buf) → ShowsNext sees v v' port e e' s s' a b (Ok (Record time len))
+    → HasTurn port e e' (take len buf) → TracesAt sees unnoted v v' port time e e' (take len buf)
+    → ShowsNext sees v v' port e e' s s' a b (Ok (Record time len))
 copied sees v v' port e e' s s' a b buf time len more fits took (turn, bytes_are) = ((buf, more, (fits, took)), (fits, turn, bytes_are))
 
 -- a record is buffered or was copied

@@ -7,6 +7,7 @@ pub mod Gathered
 pub mod Loaded
 pub mod Named
 pub mod Indices
+pub mod Kept
 pub mod Planned
 pub mod Taking
 pub mod Interleaving
@@ -34,5 +35,6 @@ pub mod Through
 pub mod TracedTurns
 pub mod TracedReads
 pub mod Watched
+pub mod Reading
 pub mod Regions
 pub mod Faring

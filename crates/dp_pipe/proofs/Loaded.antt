@@ -51,13 +51,19 @@ ports_of s c is =
     sym (length-map c.ports.items port_names) ∙ ap length is.ports ∙ length-map s.ports names_of_port ∙ sym (length-map s.ports (λ p. p.spec))
     ∙ sym (ap (λ (e : Environment). length e.ports) is.env)
 
-pub rings_of : (s : Setup) (c : Config) → IsConfig s c → length c.rings.items ≡ length c.env.rings
+rings_of : (s : Setup) (c : Config) → IsConfig s c → length c.rings.items ≡ length c.env.rings
 rings_of s c is =
     sym (length-map c.rings.items node_names) ∙ ap length is.rings ∙ length-map s.rings (λ r. r.files) ∙ sym (length-map s.rings (λ r. r.spec))
     ∙ sym (ap (λ (e : Environment). length e.rings) is.env)
 
 pub limits_of : (s : Setup) (c : Config) → IsConfig s c → fault_of c.env ≡ None
 limits_of s c is = subst (λ e. fault_of e ≡ None) (sym is.env) is.fits
+
+-- it has at most eight parts of each kind
+pub few_parts : (s : Setup) (c : Config) → IsConfig s c → (length c.ports.items ≤ 8) × (length c.rings.items ≤ 8)
+few_parts s c is =
+    let (ports, rings, tables) = few c.env (limits_of s c is) in
+    (omega (arith, ports_of s c is, ports), omega (arith, rings_of s c is, rings))
 
 pub tables_of : (s : Setup) (c : Config) → IsConfig s c → length c.tables.items ≡ c.env.tables
 tables_of s c is =

@@ -25,8 +25,9 @@ use Rattle.dp_pipe.specs.Forwarding.{OnlyIsOpen, AreOver}
 use Rattle.dp_pipe.proofs.Advancing.{order_ended, order_round}
 use Rattle.dp_pipe.proofs.Stepping.{input_at, open_going}
 use Rattle.dp_pipe.proofs.Forwarded.{split}
-use Rattle.dp_pipe.proofs.GoingOn.{goes_on, many_least}
-use Rattle.dp_pipe.proofs.Stopping.{stops_at, states_same, are_read, ran_on}
+use Rattle.dp_pipe.proofs.GoingOn.{goes_on, many_least, went_on}
+use Rattle.dp_pipe.proofs.Reading.{are_read}
+use Rattle.dp_pipe.proofs.Stopping.{stops_at, states_same, ran_on}
 
 -- open or ended
 pub decide : (state : InputState) → (state ≡ Open) ⊎ (state ≡ Open → ⊥)
@@ -63,19 +64,7 @@ module _ {unit : TimeUnit} {e0 e : EngineState} {t : Transfer} {progress : List 
     (along : RunUntil unit e0 e t progress inputs round port) where
   -- the same run, where another port comes next
   comes_to : (round' port' : ℕ) → AskedUntil round' port' inputs → RunUntil unit e0 e t progress inputs round' port'
-  comes_to round' port' order = record {
-    first = along.first;
-    held_many = along.held_many;
-    inputs_many = along.inputs_many;
-    unit_is = along.unit_is;
-    progress_is = along.progress_is;
-    order = order;
-    total = along.total;
-    captures = along.captures;
-    many = along.many;
-    run = along.run;
-    wrote = along.wrote;
-  }
+  comes_to round' port' order = went_on along t.left t.holds refl refl along.progress_is order along.total along.captures refl along.run along.wrote
 
   -- an input that has ended is skipped
   over_on : {p : InputProgress} → slice_get progress port ≡ Some p → (p.state ≡ Open → ⊥) → RunUntil unit e0 e t progress inputs round (port + 1)

@@ -22,7 +22,7 @@ use Rattle.dp_engine.specs.declared.report.InputState.TheVariants.{Open, Whole, 
 use Rattle.dp_engine.specs.Engines.{EngineState}
 use Rattle.dp_engine.specs.Watching.{Event}
 use Rattle.dp_pipe.specs.Devices.{Device}
-use Rattle.dp_pipe.specs.Forwarding.{Input, AreProgressOf, AnswersSo, HasReadSo, IsReadTo, IsProgressOf, HasPulled, PullsUpTo, arrivals_of, asked}
+use Rattle.dp_pipe.specs.Forwarding.{Input, AreProgressOf, AnswersSo, HasReadSo, IsProgressOf, HasPulled, PullsUpTo, arrivals_of, asked}
 use Rattle.dp_pipe.specs.Forwarding.{last_pulls}
 use Rattle.dp_pipe.specs.Running.{IsBegun, IsHeaderCause, all_begun, begun}
 use Rattle.dp_pipe.specs.Tracing.{Note, IsTraced, HasTraced, TracesRead, TracedUntil, TracesRecords, TracesNext, FollowsTraced, TracesInput}
@@ -32,15 +32,14 @@ use Rattle.dp_pipe.specs.declared.forwarding.RunCause.{RunCause}
 use Rattle.dp_pipe.specs.declared.forwarding.RunCause.TheVariants.{Memory, NoRoom, In, Out}
 use Rattle.dp_pipe.proofs.Advancing.{with_record, ended, arrivals_grown, arrivals_ended, given_few, asked_next, more_due}
 use Rattle.dp_pipe.proofs.Forwarded.{split}
-use Rattle.dp_pipe.proofs.Giving.{known_map, read_open}
-use Rattle.dp_pipe.proofs.GoingOn.{wanted, whole_read, cut_read}
+use Rattle.dp_pipe.proofs.Giving.{known_map}
+use Rattle.dp_pipe.proofs.GoingOn.{closed_due, wanted, whole_read, cut_read}
 use Rattle.dp_pipe.proofs.Heading.{answers_at}
 use Rattle.dp_pipe.proofs.Indices.{set_here}
 use Rattle.dp_pipe.proofs.Lending.{has_room}
 use Rattle.dp_pipe.proofs.RunOn.{arrival}
-use Rattle.dp_pipe.proofs.Stepping.{input_at, all_progress, calls_ended, calls_more, known_then, open_going, open_read, progress_more, progress_ended}
-use Rattle.dp_pipe.proofs.Stepping.{pulls_ended, pulls_failed, pulls_whole, pulls_cut}
-use Rattle.dp_pipe.proofs.Stopping.{are_read, pulls_most, refuses_of}
+use Rattle.dp_pipe.proofs.Reading.{are_read, fault_read, last_read, more_read, others_read}
+use Rattle.dp_pipe.proofs.Stepping.{input_at, open_going, pulls_whole, pulls_cut}
 use Rattle.dp_pipe.proofs.Through.{asked_none, no_arrivals}
 use Rattle.dp_pipe.proofs.TracedTurns.{traced_none, traced_push}
 
@@ -116,22 +115,23 @@ until_round only inputs round n many order q i at =
       (order q i at).1,
     )
 
--- tracing that goes on, where another port comes next
-comes_to : {V : Type 0} {sees : V → Event → V → Type 0} {noted : V → Note → V → Type 0} {v0 v : V} {only : Option ℕ} {most : ℕ} {e0 e : EngineState}
-    {had left : List Device} {progress : List InputProgress} {round port need : ℕ}
-    (until : TracesUntil sees noted v0 v only most e0 e had left progress round port need) (round' port' reached coming : ℕ)
-    → TracedUntil only reached coming until.inputs → (need ≡ 0) ⊎ ((reached ≡ round') × (coming ≡ port'))
-    → TracesUntil sees noted v0 v only most e0 e had left progress round' port' need
-comes_to until round' port' reached coming order now = record {
+-- tracing that goes on with the same inputs, to an engine like this one, to another number of records, or where another port comes next
+pub remade : {V : Type 0} {sees : V → Event → V → Type 0} {noted : V → Note → V → Type 0} {v0 v : V} {only : Option ℕ} {most most' : ℕ}
+    {e0 e e' : EngineState} {had left : List Device} {progress : List InputProgress} {round round' port port' need need' : ℕ}
+    (until : TracesUntil sees noted v0 v only most e0 e had left progress round port need)
+    (traced : HasTraced sees noted v0 v only (length (arrivals_of until.inputs)) e0 e') → traced.arrivals ≡ arrivals_of until.inputs
+    → need' + length (arrivals_of until.inputs) ≡ most' → (reached coming : ℕ) → TracedUntil only reached coming until.inputs
+    → (need' ≡ 0) ⊎ ((reached ≡ round') × (coming ≡ port')) → TracesUntil sees noted v0 v only most' e0 e' had left progress round' port' need'
+remade until traced arrivals_are wanted_is reached coming order now = record {
   inputs = until.inputs;
   many = until.many;
   progress_is = until.progress_is;
   reached = reached;
   coming = coming;
   order = order;
-  traced = until.traced;
-  arrivals_are = until.arrivals_are;
-  wanted_is = until.wanted_is;
+  traced = traced;
+  arrivals_are = arrivals_are;
+  wanted_is = wanted_is;
   now = now;
 }
 
@@ -177,11 +177,11 @@ module _ {V : Type 0} {sees : V → Event → V → Type 0} {noted : V → Note 
 
       go : IsNotAsked only port p need → (need ≡ 0) ⊎ ((until.reached ≡ round) × (until.coming ≡ port))
           → TracesUntil sees noted v0 v only most e0 e had left progress round (port + 1) need
-      go (inl none) now = comes_to until round (port + 1) until.reached until.coming until.order (inl none)
-      go (inr other) (inl none) = comes_to until round (port + 1) until.reached until.coming until.order (inl none)
+      go (inl none) now = remade until until.traced until.arrivals_are until.wanted_is until.reached until.coming until.order (inl none)
+      go (inr other) (inl none) = remade until until.traced until.arrivals_are until.wanted_is until.reached until.coming until.order (inl none)
       go (inr other) (inr (at, coming)) =
-          comes_to until round (port + 1) round (port + 1) (until_skip only round port until.inputs i i_here (of_input other) (order_at at coming))
-          (inr (refl, refl))
+          remade until until.traced until.arrivals_are until.wanted_is round (port + 1) (until_skip only round port until.inputs i i_here (of_input other)
+          (order_at at coming)) (inr (refl, refl))
 
   -- another engine, tracer and input after it
   module _ (v' : V) (e' : EngineState) (need' : ℕ) (p' : InputProgress) (b : Device) where
@@ -212,14 +212,7 @@ module _ {V : Type 0} {sees : V → Event → V → Type 0} {noted : V → Note 
         rw e_is (record {
           inputs = slice_set until.inputs port i';
           many = length-set until.inputs port i' ∙ until.many;
-          progress_is = all_progress port b until.progress_is
-              (progress_more p p' i time len buf i_progress open_p open_p' moved less)
-              (λ old at.
-              let was = until.progress_is.read port p i here i_here old a at left_a in
-              read_open i' p'.source old b is_open
-              (known_then old.bytes a.bytes b.bytes _ _ _ (λ bytes rest last before now. rw is_open
-              (now bytes i.records (open_read i.state p.source i.records bytes rest is_open before))) was.has more)
-              (calls_more i time len buf old.calls a.calls b.calls is_open fits was.calls pulls));
+          progress_is = more_read port until.progress_is p' here i_here open_p b left_a time len buf fits pulls more less moved open_p';
           reached = round;
           coming = port + 1;
           order = until_next only round port until.inputs i' of order (rw is_open (length-append i.records (r ∷ []) ∙ ap (λ m. m + 1) count));
@@ -245,35 +238,21 @@ module _ {V : Type 0} {sees : V → Event → V → Type 0} {noted : V → Note 
         rw (v_is, e_is, need_is) (record {
           inputs = slice_set until.inputs port (ended state i);
           many = length-set until.inputs port (ended state i) ∙ until.many;
-          progress_is = all_progress port b until.progress_is
-              (progress_ended p p' i state i_progress is moved closed)
-              (λ old at.
-              let was = until.progress_is.read port p i here i_here old a at left_a in
-              record {
-                has = known_then old.bytes a.bytes b.bytes _ _ _
-                    (λ bytes rest last before now. now bytes i.records (open_read i.state p.source i.records bytes rest is_open before)) was.has more;
-                calls = calls_ended i old.calls a.calls b.calls (last_pulls state) is_open was.calls pulls;
-                pulls = pulls_ended i state old a b is_open was.pulls final;
-              });
+          progress_is = last_read port until.progress_is p' here i_here open_p b left_a state closed pulls final more moved is;
           reached = round;
           coming = port + 1;
-          order = until_next only round port until.inputs (ended state i) of (order_now some) (less state closed count);
+          order = until_next only round port until.inputs (ended state i) of (order_now some) (closed_due state (length i.records) round closed count);
           traced = traced;
           arrivals_are = arrivals_are;
           wanted_is = ap (λ (l : List (Arrival Time)). need + length l) arrivals ∙ until.wanted_is;
           now = inr (refl, refl);
         })
-      where
-        less : (state : InputState) → (state ≡ Open → ⊥) → length i.records ≡ round → AnswersSo state (length i.records) (round + 1)
-        less Open closed count = absurd (closed refl)
-        less Whole closed count = omega (arith, count)
-        less (Cut byte) closed count = omega (arith, count)
 
     -- it is at fault
     fault_here : (error : PcapError) (buf : List ℕ) → IsTraced only port → p.state ≡ Open → 1 ≤ need → HasPulled (Err error) a b
         → WhereKnown a.bytes b.bytes (λ rest last. Continues p.source p'.source rest last buf (Err error)) → v' ≡ v → e' ≡ e
         → TracesRecords sees noted v0 v' only most e0 e' had (slice_set left port b) (Err (In port error))
-    fault_here error buf of open_p some (pulls, final) more v_is e_is =
+    fault_here error buf of open_p some pulls more v_is e_is =
         let is_open = i_open open_p in
         let long = ap length until.arrivals_are in
         rw (v_is, e_is) (record {
@@ -291,17 +270,8 @@ module _ {V : Type 0} {sees : V → Event → V → Type 0} {noted : V → Note 
             input = i;
             input_is = i_here;
             is_open = is_open;
-            fault = λ old new at c.
-                let was = until.progress_is.read port p i here i_here old a at left_a in
-                subst (IsReadTo i error old) (set_here left port b new c) (record {
-                  refuses = known_then old.bytes a.bytes b.bytes _ _ _ (λ bytes rest last before now.
-                      refuses_of error p.source p'.source i.unit i.records bytes last buf i_progress.unit
-                      (now bytes i.records (open_read i.state p.source i.records bytes rest is_open before))) was.has more;
-                  calls = calls_ended i old.calls a.calls b.calls 262160 is_open was.calls (omega (arith, pulls, pulls_most error));
-                  pulls = pulls_failed i error old a b is_open was.pulls final;
-                });
-            others = λ q j other at old new x y.
-                are_read until.progress_is q j at old new x (sym (get_set_other left port q b other) ∙ y);
+            fault = fault_read port until.progress_is p' here i_here open_p b left_a error buf pulls more;
+            others = others_read port until.progress_is p' here i_here open_p b left_a;
           });
         })
 
@@ -409,9 +379,10 @@ module _ {V : Type 0} {sees : V → Event → V → Type 0} {noted : V → Note 
   round_over few = go until.now
     where
       go : (need ≡ 0) ⊎ ((until.reached ≡ round) × (until.coming ≡ port)) → TracesUntil sees noted v0 v only most e0 e had left progress (round + 1) 0 need
-      go (inl none) = comes_to until (round + 1) 0 until.reached until.coming until.order (inl none)
+      go (inl none) = remade until until.traced until.arrivals_are until.wanted_is until.reached until.coming until.order (inl none)
       go (inr (at, coming)) =
-          comes_to until (round + 1) 0 (round + 1) 0 (until_round only until.inputs round port (omega (arith, until.progress_is.many, few))
+          remade until until.traced until.arrivals_are until.wanted_is (round + 1) 0 (until_round only until.inputs round port
+          (omega (arith, until.progress_is.many, few))
           (rw (at, coming) at until.order)) (inr (refl, refl))
 
   -- no input has enough records to be still open

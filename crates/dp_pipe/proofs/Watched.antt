@@ -26,7 +26,7 @@ use Rattle.dp_pipe.specs.Tracing.{FollowsTraced, Traces, TracesInput, TracesReco
 use Rattle.dp_pipe.specs.Watched.{unnoted, DiffersInLists, ShowsInput, ShowsTurns, ShowsUntil}
 use Rattle.dp_pipe.proofs.Forwarded.{emptied_all}
 use Rattle.dp_pipe.proofs.Rounding.{AreClosed, after_alone, before_alone, decide, gap}
-use Rattle.dp_pipe.proofs.TracedReads.{header_fault, round_over, skipped, step_on, step_stops, traced_until, until_none}
+use Rattle.dp_pipe.proofs.TracedReads.{header_fault, remade, round_over, skipped, step_on, step_stops, traced_until, until_none}
 
 -- ---- engines
 
@@ -76,41 +76,21 @@ module _ {V : Type 0} {sees : V → Event → V → Type 0} {v0 v : V} {most : �
     {progress : List InputProgress} {round port more : ℕ} (until : TracesUntil sees unnoted v0 v None most e0 e had left progress round port more) where
   -- another engine like this one
   until_like : (e' : EngineState) → IsLike e e' → TracesUntil sees unnoted v0 v None most e0 e' had left progress round port more
-  until_like e' like = record {
-    inputs = until.inputs;
-    many = until.many;
-    progress_is = until.progress_is;
-    reached = until.reached;
-    coming = until.coming;
-    order = until.order;
-    traced = record {
-      arrivals = until.traced.arrivals;
-      traces = subst (λ (w : World). Traces sees unnoted v0 v e0.setting e0.nodes until.traced.arrivals e0.world w) (sym like.world) until.traced.traces;
-      only_is = until.traced.only_is;
-      many = until.traced.many;
-      setting = like.setting ∙ until.traced.setting;
-      nodes = like.nodes ∙ until.traced.nodes;
-      turns = like.turns ∙ until.traced.turns;
-    };
-    arrivals_are = until.arrivals_are;
-    wanted_is = until.wanted_is;
-    now = until.now;
-  }
+  until_like e' like =
+      remade until (record {
+        arrivals = until.traced.arrivals;
+        traces = subst (λ (w : World). Traces sees unnoted v0 v e0.setting e0.nodes until.traced.arrivals e0.world w) (sym like.world) until.traced.traces;
+        only_is = until.traced.only_is;
+        many = until.traced.many;
+        setting = like.setting ∙ until.traced.setting;
+        nodes = like.nodes ∙ until.traced.nodes;
+        turns = like.turns ∙ until.traced.turns;
+      }) until.arrivals_are until.wanted_is until.reached until.coming until.order until.now
 
   -- one more is wanted
   one_more : 1 ≤ more → TracesUntil sees unnoted v0 v None (most + 1) e0 e had left progress round port (more + 1)
-  one_more some = record {
-    inputs = until.inputs;
-    many = until.many;
-    progress_is = until.progress_is;
-    reached = until.reached;
-    coming = until.coming;
-    order = until.order;
-    traced = until.traced;
-    arrivals_are = until.arrivals_are;
-    wanted_is = omega (arith, until.wanted_is);
-    now = go until.now;
-  }
+  one_more some =
+      remade until until.traced until.arrivals_are (omega (arith, until.wanted_is)) until.reached until.coming until.order (go until.now)
     where
       go : (more ≡ 0) ⊎ ((until.reached ≡ round) × (until.coming ≡ port)) → (more + 1 ≡ 0) ⊎ ((until.reached ≡ round) × (until.coming ≡ port))
       go (inl none) = absurd (omega (arith, none, some))

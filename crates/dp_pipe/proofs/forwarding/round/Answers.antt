@@ -14,6 +14,18 @@ use Rattle.dp_pipe.proofs.Rounding.{Comes, there_now, many_now, counted_now, ope
 use Rattle.dp_pipe.proofs.forwarding.round.Goals as goal
 use Rattle.dp_pipe.proofs.forwarding.round.Goals.{After-index-ins-k, After-ask}
 
+-- the input of the port, and its reader
+input_here : (g : _) (c : After-index-ins-k g)
+    → slice_get c.loop-port.inputs c.loop-port.port ≡ Some (slice_index_or c.loop-port.inputs c.loop-port.port c.index-inputs-k.result)
+input_here g c =
+    slice_get-get_or c.loop-port.inputs c.loop-port.port c.index-inputs-k.result (omega (arith, c.loop-port.invariant.inputs, c.loop-port-test.true))
+
+reader_here : (g : _) (c : After-index-ins-k g)
+    → slice_get c.loop-port.ins c.loop-port.port ≡ Some (slice_index_or c.loop-port.ins c.loop-port.port c.index-ins-k.result)
+reader_here g c =
+    slice_get-get_or c.loop-port.ins c.loop-port.port c.index-ins-k.result
+    (omega (arith, c.loop-port.invariant.ins, c.loop-port-test.true, c.requires.inputs, c.requires.ins))
+
 -- the input of the port and its reader, where the run continues
 opened : (g : _) (c : After-index-ins-k g) (e0 : EngineState) (olds held : List Device) (read : List Input) (k : ℕ)
     → RunUntil c.args.unit e0 c.args.engine.now (transfer olds (map (seen g.R.Feed.remaining g.R.Feed.calls) c.args.ins.now) held (map
@@ -24,14 +36,13 @@ opened : (g : _) (c : After-index-ins-k g) (e0 : EngineState) (olds held : List 
     (slice_index_or c.loop-port.ins c.loop-port.port c.index-ins-k.result)
 opened g c e0 olds held read k start =
     let inv = c.loop-port.invariant in
-    let (now, along) = inv.goes e0 olds held read k start in
+    let (now, along) = inv.goes k e0 olds held read start in
     let ports = ap (λ (x : EngineState). length x.setting.env.ports) start.run.stays in
     record {
       inputs = now;
       along = along;
-      input = slice_get-get_or c.loop-port.inputs c.loop-port.port c.index-inputs-k.result (omega (arith, inv.inputs, c.loop-port-test.true));
-      reader = slice_get-get_or c.loop-port.ins c.loop-port.port c.index-ins-k.result
-          (omega (arith, inv.ins, c.loop-port-test.true, c.requires.inputs, c.requires.ins));
+      input = input_here g c;
+      reader = reader_here g c;
       there = omega (arith, ports, c.loop-port-test.true, c.requires.inputs);
       few = omega (arith, ports, c.requires.outs, c.requires.few);
       many = inv.outs ∙ c.requires.outs ∙ ports;
@@ -46,32 +57,17 @@ found : (g : _) (c : After-index-ins-k g) → let (k, start) = c.requires.underw
 found g c = let (k, start) = c.requires.underway in opened g c start.before start.had start.held start.inputs k start.run
 
 -- how the devices are after each result
-readers : (g : _) (c : After-ask g) (given : Result ⊤ RunCause) → c.ask.result ≡ given
+fared : (g : _) (c : After-ask g) (given : Result ⊤ RunCause) → c.ask.result ≡ given
     → AllFared g.R.Feed.is_broken g.R.Feed.failures (failed_reader given) c.args.ins.now (slice_set c.loop-port.ins c.loop-port.port c.ask.new.r)
-readers g c given is =
-    let inv = c.loop-port.invariant in
-    reader_then g.R.Feed.is_broken g.R.Feed.failures c.ask.result given c.loop-port.port c.args.ins.now c.loop-port.ins _ c.ask.new.r inv.ins inv.readers
-    (slice_get-get_or c.loop-port.ins c.loop-port.port c.index-ins-k.result (omega (arith, inv.ins, c.loop-port-test.true, c.requires.inputs, c.requires.ins)))
-    c.ask.ensures.fared_reader is
-
-writers : (g : _) (c : After-ask g) (given : Result ⊤ RunCause) → c.ask.result ≡ given → AllSound g.W.Sink.is_broken c.args.outs.now
-    → AllFared g.W.Sink.is_broken g.W.Sink.failures (failed_writer given) c.args.outs.now c.ask.new.outs
-writers g c given is =
-    let inv = c.loop-port.invariant in
-    writers_then g.W.Sink.is_broken g.W.Sink.failures c.ask.result given c.args.outs.now c.loop-port.outs c.ask.new.outs inv.outs inv.writers
-    c.ask.ensures.fared_writers is
-
--- the input of the port, and its reader
-input_here : (g : _) (c : After-index-ins-k g)
-    → slice_get c.loop-port.inputs c.loop-port.port ≡ Some (slice_index_or c.loop-port.inputs c.loop-port.port c.index-inputs-k.result)
-input_here g c =
-    slice_get-get_or c.loop-port.inputs c.loop-port.port c.index-inputs-k.result (omega (arith, c.loop-port.invariant.inputs, c.loop-port-test.true))
-
-reader_here : (g : _) (c : After-index-ins-k g)
-    → slice_get c.loop-port.ins c.loop-port.port ≡ Some (slice_index_or c.loop-port.ins c.loop-port.port c.index-ins-k.result)
-reader_here g c =
-    slice_get-get_or c.loop-port.ins c.loop-port.port c.index-ins-k.result
-    (omega (arith, c.loop-port.invariant.ins, c.loop-port-test.true, c.requires.inputs, c.requires.ins))
+    × (AllSound g.W.Sink.is_broken c.args.outs.now → AllFared g.W.Sink.is_broken g.W.Sink.failures (failed_writer given) c.args.outs.now c.ask.new.outs)
+fared g c given is =
+    let inv = c.loop-port.invariant in (
+      reader_then g.R.Feed.is_broken g.R.Feed.failures c.ask.result given c.loop-port.port c.args.ins.now c.loop-port.ins _ c.ask.new.r inv.ins
+          inv.readers (slice_get-get_or c.loop-port.ins c.loop-port.port c.index-ins-k.result
+          (omega (arith, inv.ins, c.loop-port-test.true, c.requires.inputs, c.requires.ins))) c.ask.ensures.fared_reader is,
+      writers_then g.W.Sink.is_broken g.W.Sink.failures c.ask.result given c.args.outs.now c.loop-port.outs c.ask.new.outs inv.outs inv.writers
+          c.ask.ensures.fared_writers is,
+    )
 
 -- the result where the run stops
 gone : (g : _) (c : goal.After-from_residual g) → c.from_residual.result ≡ Err c.in_err-ask.field-0.0
@@ -88,56 +84,49 @@ ask-requires g c =
 pub loop-port-preserved : goal.loop-port-preserved
 loop-port-preserved g c =
     let inv = c.loop-port.invariant in
+    let here = (goal.at.loop-port-preserved g c).After-index-ins-k in
+    let (readers, writers) = fared g (goal.at.loop-port-preserved g c).After-ask (Ok tt) c.in_ok-ask.was in
     record {
       inputs = length-set c.loop-port.inputs c.loop-port.port c.ask.new.input ∙ inv.inputs;
       ins = length-set c.loop-port.ins c.loop-port.port c.ask.new.r ∙ inv.ins;
       outs = c.ask.ensures.many ∙ inv.outs;
       buf = c.ask.ensures.buf ∙ inv.buf;
-      goes = λ e0 olds held read k start.
-          asked_on (opened g (goal.at.loop-port-preserved g c).After-index-ins-k e0 olds held read k start) (λ open_p. (c.ask.ensures.step open_p).0)
+      goes = λ k e0 olds held read start.
+          asked_on (opened g here e0 olds held read k start) (λ open_p. (c.ask.ensures.step open_p).0)
           (λ closed. let (ok, e, p, r, outs, v) = c.ask.ensures.over closed in (ok, e, p, r, outs)) c.in_ok-ask.was;
-      readers = readers g (goal.at.loop-port-preserved g c).After-ask (Ok tt) c.in_ok-ask.was;
-      writers = writers g (goal.at.loop-port-preserved g c).After-ask (Ok tt) c.in_ok-ask.was;
-      shown = λ v0 e0 olds k until.
-          let here = (goal.at.loop-port-preserved g c).After-index-ins-k in
+      readers = readers;
+      writers = writers;
+      shown = λ k v0 e0 olds until.
           shown_on (seen g.R.Feed.remaining g.R.Feed.calls) c.loop-port.ins c.ask.ensures.step (input_here g here) (reader_here g here)
-          (inv.shown v0 e0 olds k until)
+          (inv.shown k v0 e0 olds until)
           (λ closed. let (ok, e, p, r, outs, v) = c.ask.ensures.over closed in (ok, e, p, r, v)) c.in_ok-ask.was;
     }
 
-pub returns-in_err-ask-clause-goes : goal.returns-in_err-ask-clause-goes
-returns-in_err-ask-clause-goes g c e0 olds held read k start =
-    rw (gone g c) (asked_stops (opened g (goal.at.returns-in_err-ask-clause-goes g c).After-index-ins-k e0 olds held read k start)
-    (λ open_p. (c.ask.ensures.step open_p).0) (λ closed. let (ok, e, p, r, outs, v) = c.ask.ensures.over closed in (ok, e, p, r, outs)) _
-    c.in_err-ask.was)
+pub returns-in_err-ask : goal.returns-in_err-ask
+returns-in_err-ask g c =
+    let here = (goal.at.returns-in_err-ask g c).After-index-ins-k in
+    let (readers, writers) = fared g (goal.at.returns-in_err-ask g c).After-ask c.from_residual.result (c.in_err-ask.was ∙ sym (gone g c)) in
+    record {
+      goes = λ e0 olds held read k start.
+          rw (gone g c) (asked_stops (opened g here e0 olds held read k start) (λ open_p. (c.ask.ensures.step open_p).0)
+          (λ closed. let (ok, e, p, r, outs, v) = c.ask.ensures.over closed in (ok, e, p, r, outs)) _ c.in_err-ask.was);
+      many = search rules;
+      fared_readers = readers;
+      fared_writers = writers;
+      shown = λ v0 e0 olds k until.
+          rw (gone g c) (shown_stops (seen g.R.Feed.remaining g.R.Feed.calls) c.loop-port.ins c.ask.ensures.step (input_here g here)
+          (reader_here g here) (c.loop-port.invariant.shown k v0 e0 olds until) (λ closed. (c.ask.ensures.over closed).0) _ c.in_err-ask.was);
+    }
 
-pub returns-in_err-ask-clause-fared_readers : goal.returns-in_err-ask-clause-fared_readers
-returns-in_err-ask-clause-fared_readers g c =
-    readers g (goal.at.returns-in_err-ask-clause-fared_readers g c).After-ask c.from_residual.result (c.in_err-ask.was ∙ sym (gone g c))
-
-pub returns-in_err-ask-clause-fared_writers : goal.returns-in_err-ask-clause-fared_writers
-returns-in_err-ask-clause-fared_writers g c =
-    writers g (goal.at.returns-in_err-ask-clause-fared_writers g c).After-ask c.from_residual.result (c.in_err-ask.was ∙ sym (gone g c))
-
-pub returns-clause-goes : goal.returns-clause-goes
-returns-clause-goes g c e0 olds held read k start =
-    let (now, along) = c.loop-port.invariant.goes e0 olds held read k start in (
-      now,
-      round_over along (omega (arith, c.loop-port.invariant.inputs, c.loop-port-test.false)),
-    )
-
-pub returns-clause-fared_readers : goal.returns-clause-fared_readers
-returns-clause-fared_readers g c = c.loop-port.invariant.readers
-
-pub returns-clause-fared_writers : goal.returns-clause-fared_writers
-returns-clause-fared_writers g c = c.loop-port.invariant.writers
-
-pub returns-in_err-ask-clause-shown : goal.returns-in_err-ask-clause-shown
-returns-in_err-ask-clause-shown g c v0 e0 olds k until =
-    let here = (goal.at.returns-in_err-ask-clause-shown g c).After-index-ins-k in
-    rw (gone g c) (shown_stops (seen g.R.Feed.remaining g.R.Feed.calls) c.loop-port.ins c.ask.ensures.step (input_here g here) (reader_here g here)
-    (c.loop-port.invariant.shown v0 e0 olds k until) (λ closed. (c.ask.ensures.over closed).0) _ c.in_err-ask.was)
-
-pub returns-clause-shown : goal.returns-clause-shown
-returns-clause-shown g c v0 e0 olds k until =
-    shown_round (c.loop-port.invariant.shown v0 e0 olds k until) (omega (arith, c.loop-port.invariant.inputs, c.loop-port-test.false))
+pub returns : goal.returns
+returns g c =
+    let inv = c.loop-port.invariant in
+    record {
+      goes = λ e0 olds held read k start.
+          let (now, along) = inv.goes k e0 olds held read start in
+          (now, round_over along (omega (arith, inv.inputs, c.loop-port-test.false)));
+      many = (inv.inputs, inv.ins, inv.outs, inv.buf);
+      fared_readers = inv.readers;
+      fared_writers = inv.writers;
+      shown = λ v0 e0 olds k until. shown_round (inv.shown k v0 e0 olds until) (omega (arith, inv.inputs, c.loop-port-test.false));
+    }

@@ -1,25 +1,10 @@
 -- `round`: the run continues, port by port.
-use Rattle.std.proofs.Common.{◌≡◌, ℕ, false, List, length, map}
-use Rattle.dp_engine.specs.Engines.{EngineState}
-use Rattle.dp_pipe.specs.Devices.{Device, seen, transfer, AllSound, AllFared}
-use Rattle.dp_pipe.specs.Forwarding.{Input, RunUntil}
-use Rattle.dp_pipe.specs.Watched.{ShowsUntil}
+use Rattle.std.proofs.Common.{ℕ}
+use Rattle.dp_pipe.proofs.Kept.{KeepsRun}
 use Rattle.dp_pipe.proofs.forwarding.round.Given as goal
 
 abbrev pub invariant-loop-port : goal.invariant-loop-port
-invariant-loop-port g l = record {
-  inputs : length l.inputs ≡ length l.fn.inputs;
-  ins : length l.ins ≡ length l.fn.ins;
-  outs : length l.outs ≡ length l.fn.outs;
-  buf : length l.buf ≡ length l.fn.buf;
-  goes : (e0 : EngineState) (olds held : List Device) (read : List Input) (k : ℕ) →
-      RunUntil l.unit e0 l.fn.engine (transfer olds (map (seen g.R.Feed.remaining g.R.Feed.calls) l.fn.ins) held (map
-      (seen g.W.Sink.contents g.W.Sink.calls) l.fn.outs)) l.fn.inputs read k 0
-      → (now : List Input) × RunUntil l.unit e0 l.engine (transfer olds (map (seen g.R.Feed.remaining g.R.Feed.calls) l.ins) held (map
-      (seen g.W.Sink.contents g.W.Sink.calls) l.outs)) l.inputs now k l.port;
-  readers : AllFared g.R.Feed.is_broken g.R.Feed.failures (λ q. false) l.fn.ins l.ins;
-  writers : AllSound g.W.Sink.is_broken l.fn.outs → AllFared g.W.Sink.is_broken g.W.Sink.failures (λ q. false) l.fn.outs l.outs;
-  shown : (v0 : _) (e0 : EngineState) (olds : List Device) (k : ℕ)
-      → ShowsUntil g.V.Watch.sees v0 l.fn.watch e0 l.fn.engine olds (map (seen g.R.Feed.remaining g.R.Feed.calls) l.fn.ins) l.fn.inputs k 0
-      → ShowsUntil g.V.Watch.sees v0 l.watch e0 l.engine olds (map (seen g.R.Feed.remaining g.R.Feed.calls) l.ins) l.inputs k l.port;
-}
+invariant-loop-port g l =
+    KeepsRun g.V.Watch.sees g.R.Feed.remaining g.R.Feed.calls g.R.Feed.is_broken g.R.Feed.failures g.W.Sink.contents g.W.Sink.calls g.W.Sink.is_broken
+    g.W.Sink.failures l.unit l.fn.engine l.engine l.fn.inputs l.inputs l.fn.ins l.ins l.fn.outs l.outs l.fn.buf l.buf l.fn.watch l.watch
+    (λ along. (k : ℕ) → along k 0 k l.port)

@@ -1,6 +1,7 @@
 -- `rounds`: one more round, the end of all inputs, and a stop. The run and each call of `round` are derived once.
 use Rattle.std.proofs.Common.{rules, ◌≡◌, ◌≤◌, List, Result, Ok, Err, length, map, refl, sym, ap, ◌∙◌, arith}
 use Rattle.std.specs.Prelude.{slice_index_or, ⊤}
+use Rattle.std.proofs.lemmas.List.{length-set}
 use Rattle.std.proofs.lemmas.Option.{slice_get-get_or}
 use Rattle.dp_pcap.specs.declared.format.TheConstants.{MAX_RECORD}
 use Rattle.dp_engine.specs.Engines.{EngineState}
@@ -36,19 +37,17 @@ went g c e0 olds held read start =
     let (now, along) = c.loop-k.invariant.goes e0 olds held read start in c.round.ensures.goes e0 olds held now c.loop-k.k along
 
 -- how the devices are after each result
-readers : (g : _) (c : After-round g) (given : Result ⊤ RunCause) → c.round.result ≡ given
+fared : (g : _) (c : After-round g) (given : Result ⊤ RunCause) → c.round.result ≡ given
     → AllFared g.R.Feed.is_broken g.R.Feed.failures (failed_reader given) c.args.ins.now c.round.new.ins
-readers g c given is =
-    let inv = c.loop-k.invariant in
-    readers_then g.R.Feed.is_broken g.R.Feed.failures c.round.result given c.args.ins.now c.loop-k.ins c.round.new.ins inv.ins inv.readers
-    c.round.ensures.fared_readers is
-
-writers : (g : _) (c : After-round g) (given : Result ⊤ RunCause) → c.round.result ≡ given → AllSound g.W.Sink.is_broken c.args.outs.now
-    → AllFared g.W.Sink.is_broken g.W.Sink.failures (failed_writer given) c.args.outs.now c.round.new.outs
-writers g c given is =
-    let inv = c.loop-k.invariant in
-    writers_then g.W.Sink.is_broken g.W.Sink.failures c.round.result given c.args.outs.now c.loop-k.outs c.round.new.outs inv.outs inv.writers
-    c.round.ensures.fared_writers is
+    × (AllSound g.W.Sink.is_broken c.args.outs.now
+    → AllFared g.W.Sink.is_broken g.W.Sink.failures (failed_writer given) c.args.outs.now c.round.new.outs)
+fared g c given is =
+    let inv = c.loop-k.invariant in (
+      readers_then g.R.Feed.is_broken g.R.Feed.failures c.round.result given c.args.ins.now c.loop-k.ins c.round.new.ins inv.ins inv.readers
+          c.round.ensures.fared_readers is,
+      writers_then g.W.Sink.is_broken g.W.Sink.failures c.round.result given c.args.outs.now c.loop-k.outs c.round.new.outs inv.outs inv.writers
+          c.round.ensures.fared_writers is,
+    )
 
 -- the turns of the round that was made
 shown : (g : _) (c : After-round g) (v0 : _) (e0 : EngineState) (olds : List Device)
@@ -106,90 +105,76 @@ rounds_alone-requires g c =
     let here = alone g (goal.at.rounds_alone-requires g c).After-index-ins-k in
     (omega arith, (outs, (few, (counted, (buf, (c.loop-k.inputs, c.loop-k.ins, c.loop-k.k, here, underway))))))
 
-pub returns-in-One-clause-goes : goal.returns-in-One-clause-goes
-returns-in-One-clause-goes g c e0 olds held read start =
-    let (now, going) = c.loop-k.invariant.goes e0 olds held read start in
-    c.rounds_alone.ensures.goes c.loop-k.inputs c.loop-k.ins e0 olds held now c.loop-k.k
-    (alone g (goal.at.returns-in-One-clause-goes g c).After-index-ins-k) going
-
-pub returns-in-One-clause-fared_readers : goal.returns-in-One-clause-fared_readers
-returns-in-One-clause-fared_readers g c =
+pub returns-in-One : goal.returns-in-One
+returns-in-One g c =
     let inv = c.loop-k.invariant in
-    reader_then g.R.Feed.is_broken g.R.Feed.failures c.rounds_alone.result c.rounds_alone.result c.in-One.port c.args.ins.now c.loop-k.ins _
-    c.rounds_alone.new.r inv.ins inv.readers (alone g (goal.at.returns-in-One-clause-fared_readers g c).After-index-ins-k).reader
-    c.rounds_alone.ensures.fared_reader refl
-
-pub returns-in-One-clause-fared_writers : goal.returns-in-One-clause-fared_writers
-returns-in-One-clause-fared_writers g c =
-    let inv = c.loop-k.invariant in
-    writers_then g.W.Sink.is_broken g.W.Sink.failures c.rounds_alone.result c.rounds_alone.result c.args.outs.now c.loop-k.outs c.rounds_alone.new.outs
-    inv.outs inv.writers c.rounds_alone.ensures.fared_writers refl
-
-pub returns-in-One-clause-shown : goal.returns-in-One-clause-shown
-returns-in-One-clause-shown g c v0 e0 olds until =
-    c.rounds_alone.ensures.shown c.loop-k.inputs c.loop-k.ins v0 e0 olds c.loop-k.k
-    (alone g (goal.at.returns-in-One-clause-shown g c).After-index-ins-k) (c.loop-k.invariant.shown v0 e0 olds until)
+    let called = c.rounds_alone in
+    let here = alone g (goal.at.returns-in-One g c).After-index-ins-k in
+    record {
+      goes = λ e0 olds held read start.
+          let (now, going) = inv.goes e0 olds held read start in
+          called.ensures.goes c.loop-k.inputs c.loop-k.ins e0 olds held now c.loop-k.k here going;
+      many = length-set c.loop-k.inputs c.in-One.port called.new.input ∙ inv.inputs;
+      fared_readers = reader_then g.R.Feed.is_broken g.R.Feed.failures called.result called.result c.in-One.port c.args.ins.now c.loop-k.ins _
+          called.new.r inv.ins inv.readers here.reader called.ensures.fared_reader refl;
+      fared_writers = writers_then g.W.Sink.is_broken g.W.Sink.failures called.result called.result c.args.outs.now c.loop-k.outs
+          called.new.outs inv.outs inv.writers called.ensures.fared_writers refl;
+      shown = λ v0 e0 olds until.
+          called.ensures.shown c.loop-k.inputs c.loop-k.ins v0 e0 olds c.loop-k.k here (inv.shown v0 e0 olds until);
+    }
 
 pub loop-k-preserved : goal.loop-k-preserved
 loop-k-preserved g c =
     let inv = c.loop-k.invariant in
     let (inputs, ins, outs, buf) = c.round.ensures.many in
+    let after = (goal.at.loop-k-preserved g c).After-round in
+    let (readers, writers) = fared g after (Ok tt) c.in_ok-round.was in
     record {
       inputs = inputs ∙ inv.inputs;
       ins = ins ∙ inv.ins;
       outs = outs ∙ inv.outs;
       buf = buf ∙ inv.buf;
-      goes = λ e0 olds held read start.
-          rw c.in_ok-round.was at (went g (goal.at.loop-k-preserved g c).After-round e0 olds held read start);
-      readers = readers g (goal.at.loop-k-preserved g c).After-round (Ok tt) c.in_ok-round.was;
-      writers = writers g (goal.at.loop-k-preserved g c).After-round (Ok tt) c.in_ok-round.was;
-      shown = λ v0 e0 olds until. rw c.in_ok-round.was at (shown g (goal.at.loop-k-preserved g c).After-round v0 e0 olds until);
+      goes = λ e0 olds held read start. rw c.in_ok-round.was at (went g after e0 olds held read start);
+      readers = readers;
+      writers = writers;
+      shown = λ v0 e0 olds until. rw c.in_ok-round.was at (shown g after v0 e0 olds until);
     }
 
-pub returns-in-Zero-clause-goes : goal.returns-in-Zero-clause-goes
-returns-in-Zero-clause-goes g c e0 olds held read start =
-    let (now, along) = c.loop-k.invariant.goes e0 olds held read start in
-    went_all along (rw c.in-Zero.is at c.open_inputs.ensures)
+pub returns-in-Zero : goal.returns-in-Zero
+returns-in-Zero g c =
+    let inv = c.loop-k.invariant in
+    let none = rw c.in-Zero.is at c.open_inputs.ensures in
+    record {
+      goes = λ e0 olds held read start. let (now, along) = inv.goes e0 olds held read start in went_all along none;
+      many = inv.inputs;
+      fared_readers = inv.readers;
+      fared_writers = inv.writers;
+      shown = λ v0 e0 olds until. shown_all (inv.shown v0 e0 olds until) none;
+    }
 
-pub returns-in-Zero-clause-fared_readers : goal.returns-in-Zero-clause-fared_readers
-returns-in-Zero-clause-fared_readers g c = c.loop-k.invariant.readers
+pub returns-in_err-round : goal.returns-in_err-round
+returns-in_err-round g c =
+    let after = (goal.at.returns-in_err-round g c).After-round in
+    let (readers, writers) = fared g after c.from_residual.result (c.in_err-round.was ∙ sym (gone g c)) in
+    record {
+      goes = λ e0 olds held read start. rw (gone g c) (rw c.in_err-round.was at (went g after e0 olds held read start));
+      many = c.round.ensures.many.0 ∙ c.loop-k.invariant.inputs;
+      fared_readers = readers;
+      fared_writers = writers;
+      shown = λ v0 e0 olds until. rw (gone g c) (rw c.in_err-round.was at (shown g after v0 e0 olds until));
+    }
 
-pub returns-in-Zero-clause-fared_writers : goal.returns-in-Zero-clause-fared_writers
-returns-in-Zero-clause-fared_writers g c = c.loop-k.invariant.writers
-
-pub returns-in_err-round-clause-goes : goal.returns-in_err-round-clause-goes
-returns-in_err-round-clause-goes g c e0 olds held read start =
-    rw (gone g c) (rw c.in_err-round.was at (went g (goal.at.returns-in_err-round-clause-goes g c).After-round e0 olds held read start))
-
-pub returns-in_err-round-clause-fared_readers : goal.returns-in_err-round-clause-fared_readers
-returns-in_err-round-clause-fared_readers g c =
-    readers g (goal.at.returns-in_err-round-clause-fared_readers g c).After-round c.from_residual.result (c.in_err-round.was ∙ sym (gone g c))
-
-pub returns-in_err-round-clause-fared_writers : goal.returns-in_err-round-clause-fared_writers
-returns-in_err-round-clause-fared_writers g c =
-    writers g (goal.at.returns-in_err-round-clause-fared_writers g c).After-round c.from_residual.result (c.in_err-round.was ∙ sym (gone g c))
-
-pub returns-clause-goes : goal.returns-clause-goes
-returns-clause-goes g c e0 olds held read start =
-    let (now, along) = c.loop-k.invariant.goes e0 olds held read start in
-    went_all along (none_left along (omega (arith, c.loop-k-test.false)))
-
-pub returns-clause-fared_readers : goal.returns-clause-fared_readers
-returns-clause-fared_readers g c = c.loop-k.invariant.readers
-
-pub returns-clause-fared_writers : goal.returns-clause-fared_writers
-returns-clause-fared_writers g c = c.loop-k.invariant.writers
-
-pub returns-in-Zero-clause-shown : goal.returns-in-Zero-clause-shown
-returns-in-Zero-clause-shown g c v0 e0 olds until =
-    shown_all (c.loop-k.invariant.shown v0 e0 olds until) (rw c.in-Zero.is at c.open_inputs.ensures)
-
-pub returns-in_err-round-clause-shown : goal.returns-in_err-round-clause-shown
-returns-in_err-round-clause-shown g c v0 e0 olds until =
-    rw (gone g c) (rw c.in_err-round.was at (shown g (goal.at.returns-in_err-round-clause-shown g c).After-round v0 e0 olds until))
-
-pub returns-clause-shown : goal.returns-clause-shown
-returns-clause-shown g c v0 e0 olds until =
+pub returns : goal.returns
+returns g c =
+    let inv = c.loop-k.invariant in
     let start = c.requires.underway in
-    let (now, along) = c.loop-k.invariant.goes start.before start.had start.held start.inputs start.run in
-    shown_all (c.loop-k.invariant.shown v0 e0 olds until) (none_left along (omega (arith, c.loop-k-test.false)))
+    record {
+      goes = λ e0 olds held read start.
+          let (now, along) = inv.goes e0 olds held read start in went_all along (none_left along (omega (arith, c.loop-k-test.false)));
+      many = inv.inputs;
+      fared_readers = inv.readers;
+      fared_writers = inv.writers;
+      shown = λ v0 e0 olds until.
+          let (now, along) = inv.goes start.before start.had start.held start.inputs start.run in
+          shown_all (inv.shown v0 e0 olds until) (none_left along (omega (arith, c.loop-k-test.false)));
+    }

@@ -126,36 +126,31 @@ loop-unit-preserved g c =
           );
     }
 
-pub returns-in_err-ask-clause-goes : goal.returns-in_err-ask-clause-goes
-returns-in_err-ask-clause-goes g c inputs ins e0 olds held read k alone start =
-    let port = c.args.port in
-    let (round, here) = opened g (goal.at.returns-in_err-ask-clause-goes g c).In-loop-unit inputs ins e0 olds held read k alone start in
-    rw (gone g c) (rw (set-set ins port c.loop-unit.r c.ask.new.r, set-set inputs port c.loop-unit.input c.ask.new.input) at (asked_stops here
-    (λ open_p. (c.ask.ensures.step open_p).0) (λ closed. let (ok, e, p, r, outs, v) = c.ask.ensures.over closed in (ok, e, p, r, outs)) _
-    c.in_err-ask.was))
-
-pub returns-in_err-ask-clause-fared_reader : goal.returns-in_err-ask-clause-fared_reader
-returns-in_err-ask-clause-fared_reader g c =
-    let failed = rw (c.in_err-ask.was ∙ sym (gone g c)) at c.ask.ensures.fared_reader in
-    record {
-      own = fared_then g.R.Feed.is_broken g.R.Feed.failures _ c.args.r.now c.loop-unit.r c.ask.new.r c.loop-unit.invariant.reader.own failed.own;
-      others = failed.others;
-    }
-
-pub returns-in_err-ask-clause-fared_writers : goal.returns-in_err-ask-clause-fared_writers
-returns-in_err-ask-clause-fared_writers g c =
+pub returns-in_err-ask : goal.returns-in_err-ask
+returns-in_err-ask g c =
     let inv = c.loop-unit.invariant in
-    writers_then g.W.Sink.is_broken g.W.Sink.failures c.ask.result c.from_residual.result c.args.outs.now c.loop-unit.outs c.ask.new.outs inv.outs
-    inv.writers c.ask.ensures.fared_writers (c.in_err-ask.was ∙ sym (gone g c))
-
-pub returns-in_err-ask-clause-shown : goal.returns-in_err-ask-clause-shown
-returns-in_err-ask-clause-shown g c inputs ins v0 e0 olds k alone until =
     let port = c.args.port in
-    let (round, come) = until_here g (goal.at.returns-in_err-ask-clause-shown g c).In-loop-unit inputs ins v0 e0 olds k alone until in
-    rw (gone g c) (rw (set-set ins port c.loop-unit.r c.ask.new.r) at (shown_stops (seen g.R.Feed.remaining g.R.Feed.calls)
-    (slice_set ins port c.loop-unit.r) c.ask.ensures.step (get_set_same inputs port c.loop-unit.input c.args.input.now alone.input)
-    (get_set_same ins port c.loop-unit.r c.args.r.now alone.reader) come
-    (λ closed. (c.ask.ensures.over closed).0) _ c.in_err-ask.was))
+    let loop = (goal.at.returns-in_err-ask g c).In-loop-unit in
+    let is = c.in_err-ask.was ∙ sym (gone g c) in
+    let failed = rw is at c.ask.ensures.fared_reader in
+    record {
+      goes = λ inputs ins e0 olds held read k alone start.
+          let (round, here) = opened g loop inputs ins e0 olds held read k alone start in
+          rw (gone g c) (rw (set-set ins port c.loop-unit.r c.ask.new.r, set-set inputs port c.loop-unit.input c.ask.new.input) at (asked_stops here
+          (λ open_p. (c.ask.ensures.step open_p).0) (λ closed. let (ok, e, p, r, outs, v) = c.ask.ensures.over closed in (ok, e, p, r, outs)) _
+          c.in_err-ask.was));
+      fared_reader = record {
+        own = fared_then g.R.Feed.is_broken g.R.Feed.failures _ c.args.r.now c.loop-unit.r c.ask.new.r inv.reader.own failed.own;
+        others = failed.others;
+      };
+      fared_writers = writers_then g.W.Sink.is_broken g.W.Sink.failures c.ask.result c.from_residual.result c.args.outs.now c.loop-unit.outs
+          c.ask.new.outs inv.outs inv.writers c.ask.ensures.fared_writers is;
+      shown = λ inputs ins v0 e0 olds k alone until.
+          let (round, come) = until_here g loop inputs ins v0 e0 olds k alone until in
+          rw (gone g c) (rw (set-set ins port c.loop-unit.r c.ask.new.r) at (shown_stops (seen g.R.Feed.remaining g.R.Feed.calls)
+          (slice_set ins port c.loop-unit.r) c.ask.ensures.step (get_set_same inputs port c.loop-unit.input c.args.input.now alone.input)
+          (get_set_same ins port c.loop-unit.r c.args.r.now alone.reader) come (λ closed. (c.ask.ensures.over closed).0) _ c.in_err-ask.was));
+    }
 
 -- the input has ended
 closed : (g : _) (c : After-is_open g) → c.is_open.result ≡ false → c.loop-unit.input.state ≡ Open → ⊥

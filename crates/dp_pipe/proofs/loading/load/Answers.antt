@@ -1,31 +1,23 @@
 -- The configuration, and its nodes or the first that is not loaded.
-use Rattle.std.proofs.Common.{◌≡◌, ◌≤◌, length, sym, subst, arith}
+use Rattle.std.proofs.Common.{sym, subst}
 use Rattle.std.proofs.lemmas.List.Elements.{All-get_or}
 use Rattle.std.proofs.lemmas.Option.{get_or_from_slice_get, slice_get_within}
 use Rattle.std.proofs.lemmas.Result.{err_from_is_err_and}
 use Rattle.dp_lpm.specs.Routes.{HasSmallHops}
 use Rattle.dp_pipe.specs.Pipelines.{Plan}
 use Rattle.dp_pipe.specs.Loads.{IsLoadedFrom}
-use Rattle.dp_pipe.proofs.Loaded.{few, limits_of, ports_of, rings_of, tables_of, fit_nodes, loaded_from, bad_node}
+use Rattle.dp_pipe.proofs.Loaded.{few_parts, limits_of, ports_of, tables_of, fit_nodes, loaded_from, bad_node}
 use Rattle.dp_region.specs.Region.{IsRegionSize}
 use Rattle.dp_pipe.proofs.Regions.{setup_region}
 use Rattle.dp_pipe.proofs.loading.load.Goals as goal
 
 pub load_nodes-requires-clause-few_ports : goal.load_nodes-requires-clause-few_ports
 load_nodes-requires-clause-few_ports g c =
-    let same : length c.in_ok-config.config.ports.items ≡ length c.in_ok-config.config.env.ports =
-    ports_of c.in_ok-config.ensures.ok.setup c.in_ok-config.config c.in_ok-config.ensures.ok.config in
-    let most : length c.in_ok-config.config.env.ports ≤ 8 = (few c.in_ok-config.config.env
-    (limits_of c.in_ok-config.ensures.ok.setup c.in_ok-config.config c.in_ok-config.ensures.ok.config)).0 in
-    rw c.deref.ensures.value (omega (arith, same, most))
+    let config = c.in_ok-config.ensures.ok in rw c.deref.ensures.value (few_parts config.setup c.in_ok-config.config config.config).0
 
 pub load_nodes-requires-clause-few_rings : goal.load_nodes-requires-clause-few_rings
 load_nodes-requires-clause-few_rings g c =
-    let same : length c.in_ok-config.config.rings.items ≡ length c.in_ok-config.config.env.rings =
-    rings_of c.in_ok-config.ensures.ok.setup c.in_ok-config.config c.in_ok-config.ensures.ok.config in
-    let most : length c.in_ok-config.config.env.rings ≤ 8 = (few c.in_ok-config.config.env
-    (limits_of c.in_ok-config.ensures.ok.setup c.in_ok-config.config c.in_ok-config.ensures.ok.config)).1 in
-    rw c.deref-2.ensures.value (omega (arith, same, most))
+    let config = c.in_ok-config.ensures.ok in rw c.deref-2.ensures.value (few_parts config.setup c.in_ok-config.config config.config).1
 
 pub returns-in_err-nodes-clause-fails : goal.returns-in_err-nodes-clause-fails
 returns-in_err-nodes-clause-fails g c =

@@ -3,7 +3,7 @@ use Rattle.std.proofs.Common.{rules, ◌≡◌, ◌≤◌, ◌∙◌, inl, inr, 
 use Rattle.std.proofs.lemmas.List.{length-map}
 use Rattle.dp_pipe.specs.Forwarding.{AreRounds}
 use Rattle.dp_pipe.specs.Running.{all_begun}
-use Rattle.dp_pipe.proofs.Stopping.{are_read}
+use Rattle.dp_pipe.proofs.Reading.{are_read}
 use Rattle.dp_pipe.proofs.Through.{along_none, back, fail_read, fail_write, stays_rounds}
 use Rattle.dp_pipe.specs.Devices.{seen, transfer, AllFared, failed_reader, failed_writer}
 use Rattle.dp_pipe.specs.Watched.{ShowsUntil}

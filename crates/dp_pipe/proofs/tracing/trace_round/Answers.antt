@@ -1,5 +1,5 @@
 -- `trace_round`: one more input, and the first with a fault. What a call needs is derived where tracing has come.
-use Rattle.std.proofs.Common.{◌≡◌, ◌≤◌, length, refl, ap, ◌∙◌, arith}
+use Rattle.std.proofs.Common.{◌≡◌, ◌≤◌, length, ap, ◌∙◌, arith}
 use Rattle.std.specs.Prelude.{slice_get, slice_index_or, Some}
 use Rattle.std.proofs.lemmas.List.{length-set}
 use Rattle.std.proofs.lemmas.Option.{slice_get-get_or}
@@ -35,7 +35,7 @@ trace_port-requires g c =
           buf,
           (
             omega (arith, inv.turns, c.requires.limit),
-            open_until (inv.goes v0 e0 most had k until) c.loop-port.port (input_here g (goal.at.trace_port-requires g c).After-index-ins-k),
+            open_until (inv.goes k v0 e0 most had until) c.loop-port.port (input_here g (goal.at.trace_port-requires g c).After-index-ins-k),
           ),
         ),
       ),
@@ -53,8 +53,9 @@ pub loop-port-preserved : goal.loop-port-preserved
 loop-port-preserved g c =
     let inv = c.loop-port.invariant in
     let t = c.trace_port in
-    let after = (goal.at.loop-port-preserved g c).After-trace_port in
-    let (turns, setting) = step_counts (seen g.R.Feed.remaining g.R.Feed.calls) (step g after) in
+    let here = (goal.at.loop-port-preserved g c).After-index-ins-k in
+    let called = step g (goal.at.loop-port-preserved g c).After-trace_port in
+    let (turns, setting) = step_counts (seen g.R.Feed.remaining g.R.Feed.calls) called in
     record {
       inputs = length-set c.loop-port.inputs c.loop-port.port t.new.input ∙ inv.inputs;
       ins = length-set c.loop-port.ins c.loop-port.port t.new.r ∙ inv.ins;
@@ -62,56 +63,41 @@ loop-port-preserved g c =
       only = t.ensures.port ∙ inv.only;
       turns = turns ∙ inv.turns;
       setting = setting ∙ inv.setting;
-      goes = λ v0 e0 most had k until.
-          step_on (seen g.R.Feed.remaining g.R.Feed.calls) (step g after) c.loop-port.ins
-          (inv.goes v0 e0 most had k until) (input_here g (goal.at.loop-port-preserved g c).After-index-ins-k)
-          (reader_here g (goal.at.loop-port-preserved g c).After-index-ins-k) c.in-Ok.is;
+      goes = λ k v0 e0 most had until.
+          step_on (seen g.R.Feed.remaining g.R.Feed.calls) called c.loop-port.ins (inv.goes k v0 e0 most had until) (input_here g here)
+          (reader_here g here) c.in-Ok.is;
     }
 
-pub returns-in-Err-clause-goes : goal.returns-in-Err-clause-goes
-returns-in-Err-clause-goes g c v0 e0 most had k until =
+pub returns-in-Err : goal.returns-in-Err
+returns-in-Err g c =
     let inv = c.loop-port.invariant in
-    step_stops (seen g.R.Feed.remaining g.R.Feed.calls) (step g (goal.at.returns-in-Err-clause-goes g c).After-trace_port)
-    c.loop-port.ins (inv.goes v0 e0 most had k until)
-    (input_here g (goal.at.returns-in-Err-clause-goes g c).After-index-ins-k) (reader_here g (goal.at.returns-in-Err-clause-goes g c).After-index-ins-k)
-    c.in-Err.error c.in-Err.is
+    let here = (goal.at.returns-in-Err g c).After-index-ins-k in
+    let called = step g (goal.at.returns-in-Err g c).After-trace_port in
+    let (turns, setting) = step_counts (seen g.R.Feed.remaining g.R.Feed.calls) called in
+    record {
+      goes = λ v0 e0 most had k until.
+          step_stops (seen g.R.Feed.remaining g.R.Feed.calls) called c.loop-port.ins (inv.goes k v0 e0 most had until) (input_here g here)
+          (reader_here g here) c.in-Err.error c.in-Err.is;
+      turns = turns ∙ inv.turns;
+      setting = setting ∙ inv.setting;
+      port = c.trace_port.ensures.port ∙ inv.only;
+      many = (
+        length-set c.loop-port.inputs c.loop-port.port c.trace_port.new.input ∙ inv.inputs,
+        length-set c.loop-port.ins c.loop-port.port c.trace_port.new.r ∙ inv.ins,
+        c.trace_port.ensures.buf ∙ inv.buf,
+      );
+      cause = tt;
+    }
 
-pub returns-in-Err-clause-turns : goal.returns-in-Err-clause-turns
-returns-in-Err-clause-turns g c =
-    let counts = step_counts (seen g.R.Feed.remaining g.R.Feed.calls)
-    (step g (goal.at.returns-in-Err-clause-turns g c).After-trace_port) in
-    counts.0 ∙ c.loop-port.invariant.turns
-
-pub returns-in-Err-clause-setting : goal.returns-in-Err-clause-setting
-returns-in-Err-clause-setting g c =
-    let counts = step_counts (seen g.R.Feed.remaining g.R.Feed.calls)
-    (step g (goal.at.returns-in-Err-clause-setting g c).After-trace_port) in
-    counts.1 ∙ c.loop-port.invariant.setting
-
-pub returns-clause-goes : goal.returns-clause-goes
-returns-clause-goes g c v0 e0 most had k until =
-    round_over (c.loop-port.invariant.goes v0 e0 most had k until)
-    (omega (arith, c.loop-port.invariant.inputs, c.loop-port-test.false, c.requires.inputs, c.requires.ins))
-
-pub loop-port-init : goal.loop-port-init
-loop-port-init g c = record {
-  inputs = refl;
-  ins = refl;
-  buf = refl;
-  only = refl;
-  turns = refl;
-  setting = refl;
-  goes = λ v0 e0 most had k until. until;
-}
-
-pub returns-in-Err-clause-port : goal.returns-in-Err-clause-port
-returns-in-Err-clause-port g c = c.trace_port.ensures.port ∙ c.loop-port.invariant.only
-
-pub returns-clause-turns : goal.returns-clause-turns
-returns-clause-turns g c = c.loop-port.invariant.turns
-
-pub returns-clause-setting : goal.returns-clause-setting
-returns-clause-setting g c = c.loop-port.invariant.setting
-
-pub returns-clause-port : goal.returns-clause-port
-returns-clause-port g c = c.loop-port.invariant.only
+pub returns : goal.returns
+returns g c =
+    let inv = c.loop-port.invariant in
+    record {
+      goes = λ v0 e0 most had k until.
+          round_over (inv.goes k v0 e0 most had until) (omega (arith, inv.inputs, c.loop-port-test.false, c.requires.inputs, c.requires.ins));
+      turns = inv.turns;
+      setting = inv.setting;
+      port = inv.only;
+      many = (inv.inputs, inv.ins, inv.buf);
+      cause = tt;
+    }

@@ -6,7 +6,7 @@ use Rattle.dp_pipe.specs.Devices.{seen}
 use Rattle.dp_pipe.specs.Tracing.{TracesRound, TracesUntil}
 use Rattle.dp_pipe.proofs.TracedReads.{all_traced, none_wanted}
 use Rattle.dp_pipe.proofs.tracing.trace_rounds.Goals as goal
-use Rattle.dp_pipe.proofs.tracing.trace_rounds.Goals.{In-loop-k, After-trace_round}
+use Rattle.dp_pipe.proofs.tracing.trace_rounds.Goals.{After-trace_round}
 
 -- the result where tracing stops
 gone : (g : _) (c : goal.After-from_residual g) → c.from_residual.result ≡ Err c.in_err-trace_round.field-0.0
