@@ -1,6 +1,7 @@
 -- What the calls of tests on packets keep.
 use Rattle.std.proofs.Common.{◌≡◌, ℕ, zero, suc, ◌+◌, ◌<◌, ◌≤◌, false, List, [], ◌∷◌, length, Option, Some, None, refl, sym, ◌∙◌, ap, subst, arith, get_or}
 use Rattle.std.specs.Prelude.{slice_get}
+use Rattle.std.specs.List.{AllByRecursion}
 use Rattle.dp_model.specs.Environments.{room_at}
 use Rattle.dp_model.specs.Buffers.{Number, Buffers, ChangesOnly}
 use Rattle.dp_model.specs.Packets.{Segment, Packet, refs, IsTailSole, allocated, needed, received, Filled, cloned}
@@ -8,15 +9,18 @@ use Rattle.dp_model.specs.Stores.{Store, IsLive, with_slot, Gives, Allocates, Re
 use Rattle.dp_model.specs.Laws.Lists.{get_replicate}
 use Rattle.dp_region.specs.Ownership.{Home}
 use Rattle.dp_pool.specs.Pools.{PoolView}
-use Rattle.dp_mbuf.specs.Objects.{pool_in}
+use Rattle.dp_mbuf.specs.Objects.{pool_in, present, zones_of, PoolsFirst}
 use Rattle.dp_mbuf.specs.Mbufs.{MbufsView, AreReady, IsNew}
-use Rattle.layers_tests.specs.Rows.{IsOver, AreIn, IsReadyPool}
+use Rattle.layers_tests.specs.Rows.{IsOver, StaysOver, AreIn, SlotIn, IsReadyPool}
 
 pub over_kept : (s s' : Store) → s'.pools ≡ s.pools → IsOver s → IsOver s'
 over_kept s s' e o = record {
   three = ap length e ∙ o.three;
   rooms = λ k b. let l = ap (λ p. room_at p k) e in let q = o.rooms k b in omega (arith, l, q);
 }
+
+pub stays_over : (m m' : MbufsView) → m'.store.pools ≡ m.store.pools → m'.zones ≡ m.zones → IsOver m.store → StaysOver m m'
+stays_over m m' pools zones o = record { over = over_kept m.store m'.store pools o; zones = zones }
 
 pub gives_kept : (s s' : Store) (pool need : ℕ) (packet : List Number → Packet) (Changes : List Number → Buffers → Buffers → Type 0) (r : Option ℕ) →
     Gives s pool need packet Changes s' r → s'.pools ≡ s.pools
@@ -79,6 +83,17 @@ new_over a b c v m n x y ha hb ra rb lx ly new = record {
 pub new_in : (a b c : PoolView) (v : MbufsView) (m n o x y z : ℕ) (ha hb hc home : Home) → IsReadyPool m x ha a → IsReadyPool n y hb b →
     IsReadyPool o z hc c → ha ≡ home → hb ≡ home → hc ≡ home → IsNew (three_of a b c) v → AreIn home v.zones
 new_in a b c v m n o x y z ha hb hc home ra rb rc ea eb ec new = subst (AreIn home) (sym new.zones) (ra.home ∙ ea, (rb.home ∙ eb, (rc.home ∙ ec, tt)))
+
+none_in : (home : Home) (slots : List (Option PoolView)) → AllByRecursion (λ o. o ≡ None) slots → AllByRecursion (SlotIn home) slots
+none_in home [] all = tt
+none_in home (s ∷ slots) all = (subst (SlotIn home) (sym all.0) tt, none_in home slots all.1)
+
+-- pools that are back are in the region of their zones
+pub slots_in : (home : Home) (slots : List (Option PoolView)) → PoolsFirst slots → AreIn home (zones_of (present slots)) →
+    AllByRecursion (SlotIn home) slots
+slots_in home [] first all = tt
+slots_in home (None ∷ slots) first all = (tt, none_in home slots first)
+slots_in home (Some p ∷ slots) first all = (all.0, slots_in home slots first.1 all.1)
 
 -- ---- the pools stay
 

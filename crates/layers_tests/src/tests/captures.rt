@@ -7,7 +7,8 @@ mod writing;
 
 use super::cases;
 use crate::copies::copy;
-use dp_pcap::{Feed, Next, PcapError, Sink, Source, next_record};
+use dp_pcap::{Feed, Next, OfWrite, PcapError, Sink, Source, next_record};
+use std::alloc::Global;
 
 /// A header: little endian, microseconds.
 const MICRO_HEADER: [u8; 24] = [
@@ -69,8 +70,41 @@ fn next<R: Feed>(r: &mut R, source: &mut Source, buf: &mut Buffer) -> Result<Nex
     next_record(r, source, buf.as_mut_slice())
 }
 
+// Copies a capture, with room for a record.
+fn copied_in<R: Feed, W: Sink>(
+    r: &mut R,
+    w: &mut W,
+    buf: &mut Buffer,
+) -> Result<Option<u64>, PcapError> {
+    copy(r, w, buf.as_mut_slice())
+}
+
 // Copies a capture.
 fn copied<R: Feed, W: Sink>(r: &mut R, w: &mut W) -> Result<Option<u64>, PcapError> {
-    let mut buf = [0u8; ROOM];
-    copy(r, w, buf.as_mut_slice())
+    copied_in(r, w, &mut [0u8; ROOM])
+}
+
+// Whether a copy of a capture gives this answer, and these bytes are written.
+fn is_copied<R: Feed>(
+    alloc: Global,
+    r: &mut R,
+    answer: Result<Option<u64>, PcapError>,
+    written: &[u8],
+) -> bool {
+    let mut w = OfWrite::new(Vec::new(alloc));
+    let is_answer = copied(r, &mut w) == answer;
+    w.into_inner().as_slice() == written && is_answer
+}
+
+// The constants are read by these functions alone, since each function that reads one spells it out.
+fn hundred() -> &'static [u8] {
+    &HUNDRED
+}
+
+fn three_records() -> &'static [u8] {
+    &THREE_RECORDS
+}
+
+fn body() -> &'static [u8] {
+    &BODY
 }

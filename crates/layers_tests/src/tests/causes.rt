@@ -1,6 +1,6 @@
 //! The numbers and the words of all errors.
 
-use super::cases::must;
+use super::cases::{Case, all_hold, must};
 use dp_heap::HeapError;
 use dp_lpm::LpmError;
 use dp_model::EnvError;
@@ -9,6 +9,7 @@ use dp_pool::PoolError;
 use dp_region::Memory;
 use dp_zone::ZoneError;
 use std::alloc::Global;
+use std::fmt::Display;
 use std::test::Fail;
 
 /// Why a call is refused.
@@ -138,27 +139,36 @@ fn number(cause: &Cause) -> u8 {
     }
 }
 
-fn shows(alloc: Global, cause: &Cause, words: &str) -> Result<bool, Fail> {
-    let shown = match cause {
-        OfRegion => format!(in alloc; "{Memory}")?,
-        OfHeap(error) => format!(in alloc; "{error}")?,
-        OfZone(error) => format!(in alloc; "{error}")?,
-        OfPool(error) => format!(in alloc; "{error}")?,
-        OfDevice => format!(in alloc; "{Failed}")?,
-        OfCapture(error) => format!(in alloc; "{error}")?,
-        OfEnvironment(error) => format!(in alloc; "{error}")?,
-        OfRoutes(error) => format!(in alloc; "{error}")?,
-        OfTable => format!(in alloc; "{}", dp_lpm::Memory)?,
-    };
-    Ok(shown.as_str() == words)
+fn reads<E: Display>(alloc: Global, error: &E, words: &str) -> bool {
+    match format!(in alloc; "{error}") {
+        Ok(text) => text.as_str() == words,
+        Err(_) => false,
+    }
+}
+
+fn shows(alloc: Global, cause: &Cause, words: &str) -> bool {
+    match cause {
+        OfRegion => reads(alloc, &Memory, words),
+        OfHeap(error) => reads(alloc, error, words),
+        OfZone(error) => reads(alloc, error, words),
+        OfPool(error) => reads(alloc, error, words),
+        OfDevice => reads(alloc, &Failed, words),
+        OfCapture(error) => reads(alloc, error, words),
+        OfEnvironment(error) => reads(alloc, error, words),
+        OfRoutes(error) => reads(alloc, error, words),
+        OfTable => reads(alloc, &dp_lpm::Memory, words),
+    }
+}
+
+impl Case for Named {
+    fn holds(&self, alloc: Global) -> bool {
+        number(&self.0) == self.1 && shows(alloc, &self.0, self.2)
+    }
 }
 
 #[test]
 fn causes(rt: HostRuntime) -> Result<(), Fail> {
-    for Named(cause, count, words) in CAUSES.iter() {
-        let is_as_said = number(cause) == *count && shows(rt.alloc(), cause, words)?;
-        must(&rt, is_as_said, words);
-    }
+    all_hold(&rt, rt.alloc(), &CAUSES);
     let text = format!(in rt.alloc(); "{:?}", HeapError::ZeroSize)?;
     must(&rt, text.as_str() == "ZeroSize", "the name");
     Ok(())

@@ -2,188 +2,158 @@
 
 use super::cases::{Case, all_hold, must, none_differs};
 use EnvError::{BadNumber, BadPool, BadPort, BadRing, TooMany};
+use Parts::{Numbers, Of, OfPool, OfPort, OfRing};
 use dp_model::{Entry, Env, EnvError, Fact, PoolSpec, PortSpec, RingSpec, Row};
 use std::alloc::Global;
 
-/// The number of a pool's buffers, that of its cache, and its data room.
-type Pool = (u32, u32, u32);
-
-/// The size of a ring, and the share and the segments of its packets; none if they have no fact.
-type Ring = (u32, Option<(u8, u8)>);
-
-/// The pool of a port, the segments of its packets, and the size of its transmit list.
-type Port = (u32, u32, u32);
-
-const P: Pool = (1, 0, 2176);
+const P: PoolSpec = PoolSpec {
+    count: 1,
+    cache: 0,
+    room: 2176,
+};
 
 /// Pools of which one has 1 buffer and room for a port, and 1 byte less.
-const P129: Pool = (1, 0, 129);
+const P129: PoolSpec = PoolSpec { room: 129, ..P };
 
-const P128: Pool = (1, 0, 128);
+const P128: PoolSpec = PoolSpec { room: 128, ..P };
 
-const P64: Pool = (64, 0, 2176);
+const P64: PoolSpec = PoolSpec { count: 64, ..P };
 
-const MANY: Pool = (65_535, 0, 0);
+const MANY: PoolSpec = PoolSpec {
+    count: 65_535,
+    room: 0,
+    ..P
+};
 
-const NO_POOL: Pool = (0, 0, 0);
+const NO_POOL: PoolSpec = PoolSpec { count: 0, ..MANY };
 
-const R: Ring = (2, Some((0, 1)));
+const R: RingSpec = RingSpec {
+    count: 2,
+    fact: Fact::Held {
+        share: 0,
+        head: 0,
+        tail: 0,
+        first: 0,
+        last: 0,
+        segs: 1,
+    },
+};
 
-const R64: Ring = (2, Some((0, 64)));
+const NO_RING: RingSpec = RingSpec {
+    count: 3,
+    fact: Fact::Empty,
+};
 
-const NO_RING: Ring = (3, None);
+const O: PortSpec = PortSpec {
+    pool: 0,
+    segs: 1,
+    queue: 2,
+};
 
-const O: Port = (0, 1, 2);
+const O64: PortSpec = PortSpec {
+    segs: 64,
+    queue: 65_536,
+    ..O
+};
 
-const O64: Port = (0, 64, 65_536);
+const NO_PORT: PortSpec = PortSpec {
+    pool: 9,
+    segs: 0,
+    queue: 0,
+};
 
-const NO_PORT: Port = (9, 0, 0);
+/// What an environment is made of.
+enum Parts {
+    /// These numbers of pools, tables, rings and ports within the limits, at most nine of each.
+    Numbers(usize, u8, usize, usize),
+    /// The number of a pool's buffers, that of its cache, and its data room. It comes second.
+    OfPool(u32, u32, u32),
+    /// The size of a ring, and the share and the segments of its packets; none if they have no fact. It comes second.
+    OfRing(u32, Option<(u8, u8)>),
+    /// The pool of a port, the segments of its packets, and the size of its transmit list. It comes second.
+    OfPort(u32, u32, u32),
+    /// These pools, this number of tables, these rings and these ports.
+    Of(&'static [PoolSpec], u8, &'static [RingSpec], &'static [PortSpec]),
+}
 
-/// Pools, the number of tables, rings and ports, and why an environment of these is refused, if it is.
-struct Environment(
-    &'static [Pool],
-    u8,
-    &'static [Ring],
-    &'static [Port],
-    Option<EnvError>,
-);
+/// Why an environment of these parts is refused, if it is.
+struct Environment(Parts, Option<EnvError>);
 
 static ENVIRONMENTS: [Environment; 46] = [
     // The numbers of parts.
-    Environment(&[], 0, &[], &[O], Some(BadNumber)),
-    Environment(&[P, P, P, P, P, P, P, P, P], 0, &[], &[O], Some(BadNumber)),
-    Environment(&[P], 5, &[], &[O], Some(BadNumber)),
-    Environment(&[P], 0, &[R, R, R, R, R, R, R, R, R], &[O], Some(BadNumber)),
-    Environment(&[P], 0, &[], &[], Some(BadNumber)),
-    Environment(&[P], 0, &[], &[O, O, O, O, O, O, O, O, O], Some(BadNumber)),
-    Environment(&[P], 0, &[], &[O], None),
-    Environment(
-        &[P, P, P, P, P, P, P, P],
-        4,
-        &[R, R, R, R, R, R, R, R],
-        &[O, O, O, O, O, O, O, O],
-        None,
-    ),
+    Environment(Numbers(0, 0, 0, 1), Some(BadNumber)),
+    Environment(Numbers(9, 0, 0, 1), Some(BadNumber)),
+    Environment(Numbers(1, 5, 0, 1), Some(BadNumber)),
+    Environment(Numbers(1, 0, 9, 1), Some(BadNumber)),
+    Environment(Numbers(1, 0, 0, 0), Some(BadNumber)),
+    Environment(Numbers(1, 0, 0, 9), Some(BadNumber)),
+    Environment(Numbers(1, 0, 0, 1), None),
+    Environment(Numbers(8, 4, 8, 8), None),
     // The limits of pools.
-    Environment(&[P64, (0, 0, 0)], 0, &[], &[O], Some(BadPool(1))),
-    Environment(&[P64, (1, 0, 0)], 0, &[], &[O], None),
-    Environment(&[P64, (65_535, 0, 0)], 0, &[], &[O], Some(TooMany)),
-    Environment(&[P64, (65_536, 0, 0)], 0, &[], &[O], Some(BadPool(1))),
-    Environment(&[P64, (6, 4, 0)], 0, &[], &[O], None),
-    Environment(&[P64, (5, 4, 0)], 0, &[], &[O], Some(BadPool(1))),
-    Environment(&[P64, (768, 512, 0)], 0, &[], &[O], None),
-    Environment(&[P64, (1000, 513, 0)], 0, &[], &[O], Some(BadPool(1))),
-    Environment(&[P64, (1, 0, 4096)], 0, &[], &[O], None),
-    Environment(&[P64, (1, 0, 4097)], 0, &[], &[O], Some(BadPool(1))),
-    Environment(
-        &[P64, (u32::MAX, u32::MAX, u32::MAX)],
-        0,
-        &[],
-        &[O],
-        Some(BadPool(1)),
-    ),
+    Environment(OfPool(0, 0, 0), Some(BadPool(1))),
+    Environment(OfPool(1, 0, 0), None),
+    Environment(OfPool(65_535, 0, 0), Some(TooMany)),
+    Environment(OfPool(65_536, 0, 0), Some(BadPool(1))),
+    Environment(OfPool(6, 4, 0), None),
+    Environment(OfPool(5, 4, 0), Some(BadPool(1))),
+    Environment(OfPool(768, 512, 0), None),
+    Environment(OfPool(1000, 513, 0), Some(BadPool(1))),
+    Environment(OfPool(1, 0, 4096), None),
+    Environment(OfPool(1, 0, 4097), Some(BadPool(1))),
+    Environment(OfPool(u32::MAX, u32::MAX, u32::MAX), Some(BadPool(1))),
     // The limits of rings.
-    Environment(
-        &[P129],
-        0,
-        &[R64, (0, Some((0, 1)))],
-        &[O],
-        Some(BadRing(1)),
-    ),
-    Environment(
-        &[P129],
-        0,
-        &[R64, (1, Some((0, 1)))],
-        &[O],
-        Some(BadRing(1)),
-    ),
-    Environment(&[P129], 0, &[R64, (2, Some((2, 1)))], &[O], None),
-    Environment(
-        &[P129],
-        0,
-        &[R64, (3, Some((0, 1)))],
-        &[O],
-        Some(BadRing(1)),
-    ),
-    Environment(
-        &[P129],
-        0,
-        &[R64, (6, Some((0, 1)))],
-        &[O],
-        Some(BadRing(1)),
-    ),
-    Environment(&[P129], 0, &[R64, (65_536, Some((0, 1)))], &[O], None),
-    Environment(
-        &[P129],
-        0,
-        &[R64, (131_072, Some((0, 1)))],
-        &[O],
-        Some(BadRing(1)),
-    ),
-    Environment(&[P129], 0, &[R64, (2, None)], &[O], Some(BadRing(1))),
-    Environment(
-        &[P129],
-        0,
-        &[R64, (2, Some((3, 1)))],
-        &[O],
-        Some(BadRing(1)),
-    ),
-    Environment(
-        &[P129],
-        0,
-        &[R64, (2, Some((0, 0)))],
-        &[O],
-        Some(BadRing(1)),
-    ),
-    Environment(
-        &[P129],
-        0,
-        &[R64, (2, Some((0, 65)))],
-        &[O],
-        Some(BadRing(1)),
-    ),
-    Environment(&[P129], 0, &[R64, (2, Some((0, 64)))], &[O], None),
+    Environment(OfRing(0, Some((0, 1))), Some(BadRing(1))),
+    Environment(OfRing(1, Some((0, 1))), Some(BadRing(1))),
+    Environment(OfRing(2, Some((2, 1))), None),
+    Environment(OfRing(3, Some((0, 1))), Some(BadRing(1))),
+    Environment(OfRing(6, Some((0, 1))), Some(BadRing(1))),
+    Environment(OfRing(65_536, Some((0, 1))), None),
+    Environment(OfRing(131_072, Some((0, 1))), Some(BadRing(1))),
+    Environment(OfRing(2, None), Some(BadRing(1))),
+    Environment(OfRing(2, Some((3, 1))), Some(BadRing(1))),
+    Environment(OfRing(2, Some((0, 0))), Some(BadRing(1))),
+    Environment(OfRing(2, Some((0, 65))), Some(BadRing(1))),
+    Environment(OfRing(2, Some((0, 64))), None),
     // The limits of ports.
-    Environment(&[P129, P128], 0, &[], &[O64, (0, 1, 2)], None),
-    Environment(&[P129, P128], 0, &[], &[O64, (1, 1, 2)], Some(BadPort(1))),
-    Environment(&[P129, P128], 0, &[], &[O64, (2, 1, 2)], Some(BadPort(1))),
-    Environment(
-        &[P129, P128],
-        0,
-        &[],
-        &[O64, (u32::MAX, 1, 2)],
-        Some(BadPort(1)),
-    ),
-    Environment(&[P129, P128], 0, &[], &[O64, (0, 0, 2)], Some(BadPort(1))),
-    Environment(&[P129, P128], 0, &[], &[O64, (0, 65, 2)], Some(BadPort(1))),
-    Environment(&[P129, P128], 0, &[], &[O64, (0, 1, 1)], Some(BadPort(1))),
-    Environment(&[P129, P128], 0, &[], &[O64, (0, 1, 3)], Some(BadPort(1))),
-    Environment(
-        &[P129, P128],
-        0,
-        &[],
-        &[O64, (0, 1, 131_072)],
-        Some(BadPort(1)),
-    ),
+    Environment(OfPort(0, 1, 2), None),
+    Environment(OfPort(1, 1, 2), Some(BadPort(1))),
+    Environment(OfPort(2, 1, 2), Some(BadPort(1))),
+    Environment(OfPort(u32::MAX, 1, 2), Some(BadPort(1))),
+    Environment(OfPort(0, 0, 2), Some(BadPort(1))),
+    Environment(OfPort(0, 65, 2), Some(BadPort(1))),
+    Environment(OfPort(0, 1, 1), Some(BadPort(1))),
+    Environment(OfPort(0, 1, 3), Some(BadPort(1))),
+    Environment(OfPort(0, 1, 131_072), Some(BadPort(1))),
     // The first cause counts, at its first place: the numbers of parts, pools, rings, ports, and the sum of all buffers.
-    Environment(&[NO_POOL], 9, &[NO_RING], &[NO_PORT], Some(BadNumber)),
+    Environment(Of(&[NO_POOL], 9, &[NO_RING], &[NO_PORT]), Some(BadNumber)),
     Environment(
-        &[P, NO_POOL, NO_POOL],
-        0,
-        &[NO_RING],
-        &[NO_PORT],
+        Of(&[P, NO_POOL, NO_POOL], 0, &[NO_RING], &[NO_PORT]),
         Some(BadPool(1)),
     ),
     Environment(
-        &[P, MANY],
-        0,
-        &[R, R, NO_RING, NO_RING],
-        &[NO_PORT],
+        Of(&[P, MANY], 0, &[R, R, NO_RING, NO_RING], &[NO_PORT]),
         Some(BadRing(2)),
     ),
-    Environment(&[P, MANY], 0, &[R], &[O, O, O, NO_PORT], Some(BadPort(3))),
-    Environment(&[P, MANY], 0, &[R], &[O], Some(TooMany)),
-    Environment(&[P, (65_534, 0, 0)], 0, &[R], &[O], None),
+    Environment(
+        Of(&[P, MANY], 0, &[R], &[O, O, O, NO_PORT]),
+        Some(BadPort(3)),
+    ),
+    Environment(Of(&[P, MANY], 0, &[R], &[O]), Some(TooMany)),
+    Environment(
+        Of(
+            &[
+                P,
+                PoolSpec {
+                    count: 65_534,
+                    ..MANY
+                },
+            ],
+            0,
+            &[R],
+            &[O],
+        ),
+        None,
+    ),
 ];
 
 fn held(share: u8, head: u16, segs: u8) -> Fact {
@@ -197,57 +167,65 @@ fn held(share: u8, head: u16, segs: u8) -> Fact {
     }
 }
 
-// Pools of these numbers, in the first places.
-fn pools(rows: &[Pool]) -> [PoolSpec; 9] {
-    let mut all = [PoolSpec::default(); 9];
-    for (pool, (count, cache, room)) in all.iter_mut().zip(rows) {
-        *pool = PoolSpec {
-            count: *count,
-            cache: *cache,
-            room: *room,
-        };
-    }
-    all
+fn ring(count: u32, known: Option<(u8, u8)>) -> RingSpec {
+    let fact = match known {
+        Some((share, segs)) => held(share, 0, segs),
+        None => Fact::Empty,
+    };
+    RingSpec { count, fact }
 }
 
-fn rings(rows: &[Ring]) -> [RingSpec; 9] {
-    let mut all = [RingSpec::default(); 9];
-    for (ring, (count, known)) in all.iter_mut().zip(rows) {
-        let fact = match known {
-            Some((share, segs)) => held(*share, 0, *segs),
-            None => Fact::Empty,
-        };
-        *ring = RingSpec {
-            count: *count,
-            fact,
-        };
-    }
-    all
+// Why an environment is refused, if it is.
+fn fault(
+    pools: &[PoolSpec],
+    tables: u8,
+    rings: &[RingSpec],
+    ports: &[PortSpec],
+) -> Option<EnvError> {
+    Env::new(pools, tables, rings, ports).err()
 }
 
-fn ports(rows: &[Port]) -> [PortSpec; 9] {
-    let mut all = [PortSpec::default(); 9];
-    for (port, (pool, segs, queue)) in all.iter_mut().zip(rows) {
-        *port = PortSpec {
-            pool: *pool,
-            segs: *segs,
-            queue: *queue,
-        };
-    }
-    all
-}
-
-// Why an environment of these is refused, if it is. There are at most nine of each.
-fn fault(of_pools: &[Pool], tables: u8, of_rings: &[Ring], of_ports: &[Port]) -> Option<EnvError> {
-    let (pools, rings, ports) = (pools(of_pools), rings(of_rings), ports(of_ports));
-    let pools = pools.get(..of_pools.len())?;
-    let rings = rings.get(..of_rings.len())?;
-    Env::new(pools, tables, rings, ports.get(..of_ports.len())?).err()
+// The same for these numbers of parts.
+fn fault_of_numbers(pools: usize, tables: u8, rings: usize, ports: usize) -> Option<EnvError> {
+    let (all, of_rings, of_ports) = ([P; 9], [R; 9], [O; 9]);
+    fault(
+        all.get(..pools)?,
+        tables,
+        of_rings.get(..rings)?,
+        of_ports.get(..ports)?,
+    )
 }
 
 impl Case for Environment {
     fn holds(&self, _alloc: Global) -> bool {
-        fault(self.0, self.1, self.2, self.3) == self.4
+        let fault = match &self.0 {
+            Numbers(pools, tables, rings, ports) => {
+                fault_of_numbers(*pools, *tables, *rings, *ports)
+            }
+            OfPool(count, cache, room) => {
+                let (count, cache, room) = (*count, *cache, *room);
+                fault(&[P64, PoolSpec { count, cache, room }], 0, &[], &[O])
+            }
+            OfRing(count, known) => {
+                fault(
+                    &[P129],
+                    0,
+                    &[ring(2, Some((0, 64))), ring(*count, *known)],
+                    &[O],
+                )
+            }
+            OfPort(pool, segs, queue) => {
+                let (pool, segs, queue) = (*pool, *segs, *queue);
+                fault(
+                    &[P129, P128],
+                    0,
+                    &[],
+                    &[O64, PortSpec { pool, segs, queue }],
+                )
+            }
+            Of(pools, tables, rings, ports) => fault(pools, *tables, rings, ports),
+        };
+        fault == self.1
     }
 }
 
@@ -325,16 +303,28 @@ fn differs(env: &Env) -> Option<usize> {
 
 #[test]
 fn parts_and_entries(rt: HostRuntime) {
-    let pools = pools(&[(4, 0, 2176), (4, 0, 0)]);
-    let rings = rings(&[(2, Some((0, 64)))]);
-    let ports = ports(&[(0, 1, 4), (0, 3, 4)]);
-    let (pools, rings, ports) = (&pools[..2], &rings[..1], &ports[..2]);
+    let pools = [
+        PoolSpec { count: 4, ..P },
+        PoolSpec {
+            count: 4,
+            ..NO_POOL
+        },
+    ];
+    let rings = [ring(2, Some((0, 64)))];
+    let ports = [
+        PortSpec { queue: 4, ..O },
+        PortSpec {
+            segs: 3,
+            queue: 4,
+            ..O
+        },
+    ];
     match (
-        Env::new(pools, 1, rings, ports),
-        Env::new(pools, 0, rings, ports),
+        Env::new(&pools, 1, &rings, &ports),
+        Env::new(&pools, 0, &rings, &ports),
     ) {
         (Ok(env), Ok(other)) => {
-            let has_parts = has_its_parts(&env, pools, rings, ports) && other != env;
+            let has_parts = has_its_parts(&env, &pools, &rings, &ports) && other != env;
             must(&rt, has_parts, "the parts");
             none_differs(&rt, 0, differs(&env));
         }

@@ -242,14 +242,16 @@ fn counts(heap: &Heap) -> (u32, u32, u32, u32) {
     )
 }
 
+// Whether the heap has these elements while its one block is out, and is whole after that.
+fn is_alone(bench: &mut Bench, elements: &[Row]) -> bool {
+    are(&bench.heap, elements) && free_one(bench, 0) && are(&bench.heap, &[Empty(0, 4096)])
+}
+
 fn does(bench: &mut Bench, step: &Step) -> bool {
     match step {
         Malloc(size, align, offset) => malloc(bench, *size, *align) == Ok(*offset),
         Alone(size, align, offset, elements) => {
-            malloc(bench, *size, *align) == Ok(*offset)
-                && are(&bench.heap, elements)
-                && free_one(bench, 0)
-                && are(&bench.heap, &[Empty(0, 4096)])
+            malloc(bench, *size, *align) == Ok(*offset) && is_alone(bench, elements)
         }
         Refused(size, align, why) => malloc(bench, *size, *align) == Err(*why),
         Zeros(size) => zeros(&mut bench.heap, *size),
@@ -274,18 +276,23 @@ fn close(rt: &impl Abort, bench: Bench) {
 }
 
 // The first step that is not as its row says, from 0.
-fn differs(rt: &impl Abort, alloc: Global, steps: &[Step]) -> Option<usize> {
+fn differs(bench: &mut Bench, steps: &[Step]) -> Option<usize> {
+    for (k, step) in steps.iter().enumerate() {
+        if !does(bench, step) {
+            return Some(k);
+        }
+    }
+    None
+}
+
+// The same in a new heap.
+fn differs_in(rt: &impl Abort, alloc: Global, steps: &[Step]) -> Option<usize> {
     let heap = Heap::new(Region::new(alloc, 4096).expect(rt, "memory"));
     let mut bench = Bench {
         heap,
         blocks: Vec::new(alloc),
     };
-    let mut first = None;
-    for (k, step) in steps.iter().enumerate() {
-        if first == None && !does(&mut bench, step) {
-            first = Some(k);
-        }
-    }
+    let first = differs(&mut bench, steps);
     close(rt, bench);
     first
 }
@@ -293,6 +300,6 @@ fn differs(rt: &impl Abort, alloc: Global, steps: &[Step]) -> Option<usize> {
 #[test]
 fn scripts(rt: HostRuntime) {
     for (k, steps) in SCRIPTS.iter().enumerate() {
-        none_differs(&rt, k, differs(&rt, rt.alloc(), steps));
+        none_differs(&rt, k, differs_in(&rt, rt.alloc(), steps));
     }
 }

@@ -124,13 +124,22 @@ fn differs(table: &mut Lpm, steps: &[Step]) -> Option<usize> {
     None
 }
 
-#[test]
-fn scripts(rt: HostRuntime) -> Result<(), Fail> {
-    for (k, (rules, groups, steps)) in SCRIPTS.iter().enumerate() {
-        let mut table = Lpm::new(rt.alloc(), *rules, *groups)?;
-        none_differs(&rt, k, differs(&mut table, steps));
+// The same in a new table.
+fn differs_in(alloc: Global, rules: u32, groups: u32, steps: &[Step]) -> Option<usize> {
+    if rules > MAX_RULES || groups > MAX_GROUPS {
+        return Some(0);
     }
-    Ok(())
+    match &mut Lpm::new(alloc, rules, groups) {
+        Ok(table) => differs(table, steps),
+        Err(_) => Some(0),
+    }
+}
+
+#[test]
+fn scripts(rt: HostRuntime) {
+    for (k, (rules, groups, steps)) in SCRIPTS.iter().enumerate() {
+        none_differs(&rt, k, differs_in(rt.alloc(), *rules, *groups, steps));
+    }
 }
 
 // Adds a rule of each depth over one address, whose hop is the depth; returns whether each decides.
@@ -170,13 +179,10 @@ fn deletes_all(table: &mut Lpm, address: u32) -> bool {
 fn every_depth_over_one_address(rt: HostRuntime) -> Result<(), Fail> {
     let mut table = Lpm::new(rt.alloc(), 32, 1)?;
     let address = u32::from_be_bytes([170, 85, 204, 51]);
-    must(&rt, adds_all(&mut table, address), "each rule decides");
-    must(&rt, leaves_at_each_bit(&table, address), "the rule above");
-    must(
-        &rt,
-        deletes_all(&mut table, address),
-        "the deepest rule decides",
-    );
+    let is_so = adds_all(&mut table, address)
+        && leaves_at_each_bit(&table, address)
+        && deletes_all(&mut table, address);
+    must(&rt, is_so, "the deepest rule decides");
     Ok(())
 }
 
@@ -273,6 +279,11 @@ impl Pair {
         }
         true
     }
+
+    // Whether the table has this number of rules, and 20,000 random look-ups agree.
+    fn agrees_on(&mut self, rules: usize) -> bool {
+        self.table.len() == rules && self.agree(20_000)
+    }
 }
 
 // Deletes a rule, or adds one; returns whether it is refused. None if the answers differ, or those of look-ups after it.
@@ -340,9 +351,9 @@ fn halves(pair: &mut Pair) -> bool {
 #[test]
 fn a_thousand_rules_with_groups_to_spare(rt: HostRuntime) -> Result<(), Fail> {
     let mut pair = Pair::new(rt.alloc(), 1000, 256, 11)?;
-    let is_full = fills(&mut pair) && pair.table.len() == 1000 && pair.agree(20_000);
+    let is_full = fills(&mut pair) && pair.agrees_on(1000);
     must(&rt, is_full, "a full table");
-    let is_half_full = halves(&mut pair) && pair.table.len() == 500 && pair.agree(20_000);
+    let is_half_full = halves(&mut pair) && pair.agrees_on(500);
     must(&rt, is_half_full, "a table half full");
     Ok(())
 }
@@ -364,6 +375,13 @@ fn one_rule(alloc: Global, ip: [u8; 4], depth: u8, hop: u32) -> Result<Lpm, Fail
     Ok(table)
 }
 
+/// The rules of tables with one rule each: the address, the depth and the hop.
+static RULES: [([u8; 4], u8, u32); 3] = [
+    ([10, 0, 0, 0], 8, 5),
+    ([11, 0, 0, 0], 8, 6),
+    ([10, 1, 0, 0], 16, 7),
+];
+
 /// The number of a table, an address, and its hop.
 static HOPS: [(u8, [u8; 4], Option<u32>); 5] = [
     (0, [10, 1, 2, 3], Some(5)),
@@ -373,19 +391,32 @@ static HOPS: [(u8, [u8; 4], Option<u32>); 5] = [
     (2, [10, 2, 2, 3], None),
 ];
 
+// Tables with one rule each.
+fn one_rule_tables(alloc: Global) -> Result<Tables, Fail> {
+    let mut tables = Vec::new(alloc);
+    for (ip, depth, hop) in RULES.iter() {
+        tables.push(one_rule(alloc, *ip, *depth, *hop)?)?;
+    }
+    if tables.len() > 4 {
+        return Err(Fail::from("too many tables"));
+    }
+    Ok(Tables::of(tables))
+}
+
+// The first address with another hop.
+fn differs_in_tables(tables: &Tables) -> Option<usize> {
+    for (k, (table, ip, hop)) in HOPS.iter().enumerate() {
+        if usize::from(*table) >= tables.count()
+            || tables.lookup(*table, u32::from_be_bytes(*ip)) != *hop
+        {
+            return Some(k);
+        }
+    }
+    None
+}
+
 #[test]
 fn tables_answer_by_their_numbers(rt: HostRuntime) -> Result<(), Fail> {
-    let list = [
-        one_rule(rt.alloc(), [10, 0, 0, 0], 8, 5)?,
-        one_rule(rt.alloc(), [11, 0, 0, 0], 8, 6)?,
-        one_rule(rt.alloc(), [10, 1, 0, 0], 16, 7)?,
-    ];
-    let tables = Tables::of(Vec::from_array(rt.alloc(), list)?);
-    for (k, (table, ip, hop)) in HOPS.iter().enumerate() {
-        assert!(rt;
-            tables.lookup(*table, u32::from_be_bytes(*ip)) == *hop,
-            "row {k}"
-        );
-    }
+    none_differs(&rt, 0, differs_in_tables(&one_rule_tables(rt.alloc())?));
     Ok(())
 }

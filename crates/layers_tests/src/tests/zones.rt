@@ -184,7 +184,17 @@ fn close(rt: &impl Abort, bench: Bench) {
 }
 
 // The first step that is not as its row says, from 0.
-fn differs(rt: &impl Abort, alloc: Global, size: u32, steps: &[Step]) -> Option<usize> {
+fn differs(bench: &mut Bench, steps: &[Step]) -> Option<usize> {
+    for (k, step) in steps.iter().enumerate() {
+        if !does(bench, step) {
+            return Some(k);
+        }
+    }
+    None
+}
+
+// The same in a new heap of this size.
+fn differs_in(rt: &impl Abort, alloc: Global, size: u32, steps: &[Step]) -> Option<usize> {
     assert!(rt; size == 4096 || size == 16384);
     let heap = Heap::new(Region::new(alloc, size).expect(rt, "memory"));
     let mut bench = Bench {
@@ -192,12 +202,7 @@ fn differs(rt: &impl Abort, alloc: Global, size: u32, steps: &[Step]) -> Option<
         zones: Zones::new(),
         kept: Vec::new(alloc),
     };
-    let mut first = None;
-    for (k, step) in steps.iter().enumerate() {
-        if first == None && !does(&mut bench, step) {
-            first = Some(k);
-        }
-    }
+    let first = differs(&mut bench, steps);
     close(rt, bench);
     first
 }
@@ -205,70 +210,24 @@ fn differs(rt: &impl Abort, alloc: Global, size: u32, steps: &[Step]) -> Option<
 #[test]
 fn scripts(rt: HostRuntime) {
     for (k, (size, steps)) in SCRIPTS.iter().enumerate() {
-        none_differs(&rt, k, differs(&rt, rt.alloc(), *size, steps));
+        none_differs(&rt, k, differs_in(&rt, rt.alloc(), *size, steps));
     }
 }
 
-/// How the bytes of a zone are written.
-enum Edit {
-    /// All of them, with this byte.
-    Fill(u8),
-    /// From an offset, in this number, with zeros.
-    Clear(u32, u32),
-    /// A number of 4 bytes at an offset.
-    StoreU32(u32, u32),
-    /// A number of 2 bytes at an offset.
-    StoreU16(u32, u16),
-    /// These from an offset, in a part that is lent.
-    Part(u32, &'static [u8]),
-    /// These from an offset, by `write`.
-    Write(u32, &'static [u8]),
-    /// The bytes from an offset, in this number, are copied to another offset.
-    Copy(u32, u32, u32),
-}
-
-static EDITS: [Edit; 7] = [
-    Edit::Fill(255),
-    Edit::Clear(0, 16),
-    Edit::StoreU32(0, 0x0403_0201),
-    Edit::StoreU16(4, 0x0605),
-    Edit::Part(6, &[7, 8]),
-    Edit::Write(62, &[9, 9]),
-    Edit::Copy(0, 8, 4),
-];
-
-// Writes a zone of 64 bytes; returns whether it has 64 afterwards.
-fn write(zone: &mut Zone, edit: &Edit) -> bool
+// Writes a zone of 64 bytes, in each way; returns whether it has that many.
+fn is_edited(zone: &mut Zone) -> bool
     ensures { zone.new.home ≡ zone.old.home }
 {
     if zone.len() != 64 {
         return false;
     }
-    match edit {
-        Edit::Fill(byte) => zone.bytes_mut().fill(*byte),
-        Edit::Clear(at, len) if *at <= 32 && *len <= 32 => zone.clear(*at, *len),
-        Edit::StoreU32(at, number) if *at <= 60 => zone.store_u32(*at, *number),
-        Edit::StoreU16(at, number) if *at <= 62 => zone.store_u16(*at, *number),
-        Edit::Part(at, bytes) if *at <= 62 && bytes.len() == 2 => {
-            zone.part_mut(*at, 2).copy_from_slice(bytes);
-        }
-        Edit::Write(at, bytes) if *at <= 62 && bytes.len() == 2 => zone.write(*at, bytes),
-        Edit::Copy(from, len, to) if *from <= 32 && *len <= 32 && *to <= 32 => {
-            zone.copy_within(*from, *len, *to);
-        }
-        _ => return false,
-    }
-    zone.len() == 64
-}
-
-fn is_edited(zone: &mut Zone) -> bool
-    ensures { zone.new.home ≡ zone.old.home }
-{
-    for row in EDITS.iter() {
-        if !write(zone, row) {
-            return false;
-        }
-    }
+    zone.bytes_mut().fill(255);
+    zone.clear(0, 16);
+    zone.store_u32(0, 0x0403_0201);
+    zone.store_u16(4, 0x0605);
+    zone.part_mut(6, 2).copy_from_slice(&[7, 8]);
+    zone.write(62, &[9, 9]);
+    zone.copy_within(0, 8, 4);
     true
 }
 

@@ -1,10 +1,10 @@
 //! How often readers are called, and what their buffers hold.
 
 use super::cases::{Case, all_hold, must, none_differs};
-use super::writing::Taker;
-use super::{Buffer, HUNDRED, ROOM, THREE_RECORDS, copied, edited, next};
+use super::writing::{Taker, buffered_list};
+use super::{Buffer, ROOM, copied, edited, hundred, next, three_records};
 use dp_pcap::{
-    Buffered, Failed, FailingFeed, Feed, Next, OfBufReader, OfBufWriter, OfRead, OfWrite,
+    Failed, FailingFeed, Feed, HeldRecord, Next, OfBufReader, OfBufWriter, OfRead, OfWrite,
     PcapError, Source, Time, pass_record, read_header, record_at_hand,
 };
 use std::alloc::Global;
@@ -49,12 +49,19 @@ impl<F: Feed> Feed for Counting<F> {
     }
 }
 
-/// A feed over `THREE_RECORDS` with a buffer of this room.
-fn buffered(alloc: Global, room: usize) -> Option<OfBufReader<&'static [u8]>> {
-    match BufReader::with_capacity(alloc, room, THREE_RECORDS.as_slice()) {
+/// A feed over these bytes with a buffer of this room.
+fn buffered(alloc: Global, room: usize, bytes: &[u8]) -> Option<OfBufReader<&[u8]>> {
+    match BufReader::with_capacity(alloc, room, bytes) {
         Ok(inner) => Some(OfBufReader::new(inner)),
         Err(_) => None,
     }
+}
+
+// Whether a record that is at hand is the one in `buf`, which comes next.
+fn is_next(held: &[u8], found: &HeldRecord, comes: Result<Next, PcapError>, buf: &Buffer) -> bool {
+    let bytes = held.get(16..).unwrap_or(&[]);
+    comes == Ok(Next::Record(found.time, found.len))
+        && bytes.get(..found.len) == buf.get(..found.len)
 }
 
 // Whether a record is at hand; none if it is not the one in `buf` that comes next, or if stepping over it is a call.
@@ -69,24 +76,25 @@ fn step<F: Feed>(
         let same = next(r, source, buf) == comes;
         return if same { Some(false) } else { None };
     };
-    if comes != Ok(Next::Record(found.time, found.len))
-        || r.held().get(16..16 + found.len) != buf.get(..found.len)
-    {
+    if !is_next(r.held(), &found, comes, buf) {
         return None;
     }
     pass_record(r, source, found);
     if r.count == calls { Some(true) } else { None }
 }
 
-// How many of the records of a feed are at hand. None if one of them is not as in a feed without a buffer.
-fn at_hand<F: Feed>(r: &mut Counting<F>, buf: &mut Buffer) -> Option<usize> {
-    let mut plain = OfRead::new(THREE_RECORDS.as_slice());
-    let (Ok(mut other), Ok(mut source)) = (read_header(&mut plain), read_header(r)) else {
+// How many of the records of a feed are at hand. None if one of them is not as in `plain`, a feed without a buffer.
+fn at_hand<F: Feed, P: Feed>(
+    r: &mut Counting<F>,
+    plain: &mut P,
+    buf: &mut Buffer,
+) -> Option<usize> {
+    let (Ok(mut other), Ok(mut source)) = (read_header(plain), read_header(r)) else {
         return None;
     };
     let mut seen = 0usize;
     for _ in 0..4 {
-        let comes = next(&mut plain, &mut other, buf);
+        let comes = next(plain, &mut other, buf);
         seen = seen.wrapping_add(usize::from(step(r, &mut source, comes, buf)?));
     }
     if r.held().is_empty() {
@@ -96,14 +104,18 @@ fn at_hand<F: Feed>(r: &mut Counting<F>, buf: &mut Buffer) -> Option<usize> {
     }
 }
 
+// The same beside a feed over `THREE_RECORDS`.
+fn at_hand_in<F: Feed>(r: &mut Counting<F>) -> Option<usize> {
+    at_hand(r, &mut OfRead::new(three_records()), &mut [0u8; ROOM])
+}
+
 /// The room of a feed's buffer, and how many records are at hand in it.
 struct AtHand(usize, usize);
 
 impl Case for AtHand {
     fn holds(&self, alloc: Global) -> bool {
-        let mut buf = [0u8; ROOM];
-        match buffered(alloc, self.0) {
-            Some(inner) => at_hand(&mut Counting { inner, count: 0 }, &mut buf) == Some(self.1),
+        match buffered(alloc, self.0, three_records()) {
+            Some(inner) => at_hand_in(&mut Counting { inner, count: 0 }) == Some(self.1),
             None => false,
         }
     }
@@ -131,17 +143,10 @@ fn without_a_record<R: Feed>(r: &mut R) -> Option<usize> {
     }
 }
 
-// The same for a feed with a buffer over these bytes.
-fn left_in(alloc: Global, bytes: &[u8]) -> Option<usize> {
-    match BufReader::with_capacity(alloc, 256, bytes) {
-        Ok(inner) => without_a_record(&mut OfBufReader::new(inner)),
-        Err(_) => None,
-    }
-}
-
 // The same for a feed with a buffer that fails after some bytes.
 fn left_where_it_fails(alloc: Global, after: usize) -> Option<usize> {
-    without_a_record(&mut FailingFeed::new(buffered(alloc, 256)?, after))
+    let inner = buffered(alloc, 256, three_records())?;
+    without_a_record(&mut FailingFeed::new(inner, after))
 }
 
 /// The place of a byte of `THREE_RECORDS`, and another value.
@@ -149,8 +154,11 @@ struct NotAtHand(usize, u8);
 
 impl Case for NotAtHand {
     fn holds(&self, alloc: Global) -> bool {
-        let wrong = edited(&THREE_RECORDS, &[(self.0, self.1)]);
-        left_in(alloc, &wrong) == Some(122)
+        let wrong = edited(three_records(), &[(self.0, self.1)]);
+        match &mut buffered(alloc, 256, wrong.as_slice()) {
+            Some(r) => without_a_record(r) == Some(122),
+            None => false,
+        }
     }
 }
 
@@ -164,7 +172,7 @@ fn nothing_else_is_at_hand(rt: HostRuntime) {
 
 // How many bytes are buffered in a device that keeps nothing.
 fn left_in_plain() -> Option<usize> {
-    without_a_record(&mut OfRead::new(THREE_RECORDS.as_slice()))
+    without_a_record(&mut OfRead::new(three_records()))
 }
 
 // A device that is broken or keeps nothing has nothing at hand.
@@ -212,39 +220,36 @@ static TRUNCATED: [Truncated; 12] = [
     Truncated(&[(36, 200), (82, 200)], 24, 0, 0),
 ];
 
-// How many records a feed with a buffer of this room, or without one, reads in these bytes, and how many of them are truncated.
-fn counted(
-    alloc: Global,
-    bytes: &[u8],
-    room: Option<usize>,
-    buf: &mut Buffer,
-) -> (Result<usize, PcapError>, u64) {
-    let Some(room) = room else {
-        let mut r = OfRead::new(bytes);
-        return (read_all(&mut r, buf), r.truncated());
-    };
-    match BufReader::with_capacity(alloc, room, bytes) {
-        Ok(inner) => {
-            let mut r = OfBufReader::new(inner);
-            (read_all(&mut r, buf), r.truncated())
-        }
-        Err(_) => (Err(PcapError::Read), 0),
-    }
+// Whether a feed without a buffer reads this number of records in these bytes, and this number of them are truncated.
+fn is_counted(bytes: &[u8], records: usize, truncated: u64, buf: &mut Buffer) -> bool {
+    let mut r = OfRead::new(bytes);
+    read_all(&mut r, buf) == Ok(records) && r.truncated() == truncated
 }
 
-// Whether feeds with buffers of any room, and one without, count as a row says.
-fn are_counted(alloc: Global, bytes: &[u8], records: usize, truncated: u64) -> bool {
-    let mut buf = [0u8; ROOM];
-    for room in [
-        None,
-        Some(0usize),
-        Some(16),
-        Some(54),
-        Some(146),
-        Some(200),
-        Some(256),
-    ] {
-        if counted(alloc, bytes, room, &mut buf) != (Ok(records), truncated) {
+// The same for a feed with a buffer.
+fn is_counted_behind(
+    r: &mut OfBufReader<&[u8]>,
+    records: usize,
+    truncated: u64,
+    buf: &mut Buffer,
+) -> bool {
+    read_all(r, buf) == Ok(records) && r.truncated() == truncated
+}
+
+// The same for feeds with buffers of any room.
+fn are_counted(
+    alloc: Global,
+    bytes: &[u8],
+    records: usize,
+    truncated: u64,
+    buf: &mut Buffer,
+) -> bool {
+    for room in [0usize, 16, 54, 146, 200, 256] {
+        let is_counted = match &mut buffered(alloc, room, bytes) {
+            Some(r) => is_counted_behind(r, records, truncated, buf),
+            None => false,
+        };
+        if !is_counted {
             return false;
         }
     }
@@ -253,9 +258,13 @@ fn are_counted(alloc: Global, bytes: &[u8], records: usize, truncated: u64) -> b
 
 impl Case for Truncated {
     fn holds(&self, alloc: Global) -> bool {
-        let bytes = edited(&THREE_RECORDS, self.0);
+        let mut buf = [0u8; ROOM];
+        let bytes = edited(three_records(), self.0);
         match bytes.get(..self.1) {
-            Some(front) => are_counted(alloc, front, self.2, self.3),
+            Some(front) => {
+                is_counted(front, self.2, self.3, &mut buf)
+                    && are_counted(alloc, front, self.2, self.3, &mut buf)
+            }
             None => false,
         }
     }
@@ -296,7 +305,7 @@ fn miscalls<F: Feed>(r: &mut Counting<F>) -> Option<usize> {
 // A reader that gives all that it is asked for is called once for the header, a record's head, and its bytes.
 #[test]
 fn a_call_a_piece(rt: HostRuntime) {
-    let inner = OfRead::new(THREE_RECORDS.as_slice());
+    let inner = OfRead::new(three_records());
     none_differs(&rt, 0, miscalls(&mut Counting { inner, count: 0 }));
 }
 
@@ -315,16 +324,11 @@ impl Read for Sipped {
         if self.fails && self.left.is_empty() {
             return Err(io::ErrorKind::BrokenPipe.into());
         }
-        let wanted = buf.len().min(self.most).min(self.left.len());
-        let left = self.left;
-        let (Some(front), Some(rest)) = (left.get(..wanted), left.get(wanted..)) else {
-            return Ok(0);
-        };
-        if let Some(place) = buf.get_mut(..wanted) {
-            place.copy_from_slice(front);
+        let room = buf.len().min(self.most);
+        match buf.get_mut(..room) {
+            Some(place) => self.left.read(place),
+            None => Ok(0),
         }
-        self.left = rest;
-        Ok(wanted)
     }
 }
 
@@ -385,7 +389,7 @@ impl CutOff {
     // The calls of a reader that ends there, or fails.
     fn calls(&self, fails: bool, ends: Result<Next, PcapError>) -> Option<usize> {
         let mut buf = [0u8; ROOM];
-        let left = THREE_RECORDS.get(..self.0)?;
+        let left = three_records().get(..self.0)?;
         let inner = Sipped {
             left,
             most: self.1,
@@ -411,22 +415,23 @@ fn a_cut_takes_a_call_a_byte_and_one_more(rt: HostRuntime) {
 
 // Whether a writer took `THREE_RECORDS`, and was called once for each piece.
 fn has_taken_pieces(taker: Taker) -> bool {
-    taker.held.as_slice() == THREE_RECORDS.as_slice()
+    taker.held.as_slice() == three_records()
         && taker.offered.as_slice() == &[24usize, 16, 14, 16, 16, 60][..]
 }
 
-// Whether a copy of `THREE_RECORDS` makes a call a piece, of its feed and of its writer.
-fn copies_by_pieces(taker: Taker) -> bool {
-    let inner = OfRead::new(THREE_RECORDS.as_slice());
-    let mut r = Counting { inner, count: 0 };
+// Whether a copy makes seven calls of its feed, and a call a piece of its writer.
+fn copies_by_pieces<F: Feed>(r: &mut Counting<F>, taker: Taker) -> bool {
     let mut w = OfWrite::new(taker);
-    copied(&mut r, &mut w) == Ok(None) && r.count == 7 && has_taken_pieces(w.into_inner())
+    let answer = copied(r, &mut w);
+    has_taken_pieces(w.into_inner()) && answer == Ok(None) && r.count == 7
 }
 
 // So it is for a copy, and a writer that takes all that it is offered is called once for each piece too.
 #[test]
 fn a_copy_makes_a_call_a_piece(rt: HostRuntime) {
-    let holds = copies_by_pieces(Taker::new(rt.alloc(), &[], 1000));
+    let inner = OfRead::new(three_records());
+    let taker = Taker::new(rt.alloc(), &[], 1000);
+    let holds = copies_by_pieces(&mut Counting { inner, count: 0 }, taker);
     must(&rt, holds, "a call a piece");
 }
 
@@ -479,32 +484,34 @@ fn a_failed_reader_is_left_alone(rt: HostRuntime) {
     must(&rt, calls == Some(1), "one call with a buffer");
 }
 
-// Whether a copy of `HUNDRED` through buffers of this room is the same, and leaves nothing in the reader.
-fn is_same(alloc: Global, room: usize) -> bool {
-    let Ok(inner) = BufReader::with_capacity(alloc, room, HUNDRED.as_slice()) else {
-        return false;
-    };
-    let mut r = OfBufReader::new(inner);
-    is_written(alloc, room, &mut r)
-        && r.get_ref().buffer().is_empty()
-        && r.get_ref().get_ref().is_empty()
+// Whether a copy of `HUNDRED` is the same, and leaves nothing in the reader.
+fn is_same(r: &mut OfBufReader<&[u8]>, w: &mut OfBufWriter<Vec<u8>>) -> bool {
+    copied(r, w) == Ok(None) && has_written(w) && is_read(r)
 }
 
-// Whether a copy from this feed through a buffer is `HUNDRED`.
-fn is_written<R: Feed>(alloc: Global, room: usize, r: &mut R) -> bool {
-    let Ok(inner) = Buffered::with_capacity(alloc, room, Vec::new(alloc)) else {
-        return false;
-    };
-    let mut w = OfBufWriter::new(inner);
-    copied(r, &mut w) == Ok(None)
-        && w.flush().is_ok()
-        && w.get_ref().get_ref().as_slice() == HUNDRED.as_slice()
+fn has_written(w: &mut OfBufWriter<Vec<u8>>) -> bool {
+    w.flush().is_ok() && w.get_ref().get_ref().as_slice() == hundred()
+}
+
+fn is_read(r: &OfBufReader<&[u8]>) -> bool {
+    r.get_ref().buffer().is_empty() && r.get_ref().get_ref().is_empty()
+}
+
+// The same through buffers of this room.
+fn is_same_in(alloc: Global, room: usize) -> bool {
+    match (
+        &mut buffered(alloc, room, hundred()),
+        &mut buffered_list(alloc, room),
+    ) {
+        (Some(r), Some(w)) => is_same(r, w),
+        _ => false,
+    }
 }
 
 // The first room of buffers that changes a copy.
 fn room_that_differs(alloc: Global) -> Option<usize> {
     for room in 0..102usize {
-        if !is_same(alloc, room) {
+        if !is_same_in(alloc, room) {
             return Some(room);
         }
     }

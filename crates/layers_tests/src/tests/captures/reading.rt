@@ -1,22 +1,23 @@
 //! What captures are read as, call by call.
 
-use super::cases::{Case, all_hold, must, none_differs};
-use super::{BODY, Buffer, HUNDRED, MICRO_HEADER, NANO_HEADER, ROOM, copied, edited, next};
-use Answer::{Cut, End, Record, Refused};
+use super::cases::{Case, all_hold, must};
+use super::{Buffer, MICRO_HEADER, NANO_HEADER, ROOM, body, edited, hundred, is_copied, next};
+use Answer::{Cut, End, OfHundred, Record, Refused};
 use PcapError::{BadLink, BadMagic, BadTime, BadVersion, ShortHeader, TooLong, TooMany};
 use Unit::{Micro, Nano};
 use dp_pcap::{
-    FailingFeed, Feed, Next, OfRead, OfWrite, PcapError, Source, Time, Unit, link_type, read_header,
+    FailingFeed, Feed, Next, OfRead, PcapError, Source, Time, Unit, link_type, read_header,
 };
 use std::alloc::Global;
 use std::io;
 use std::io::Read;
-use std::test::Fail;
 
 /// What a call of `next_record` returns.
 enum Answer {
     /// A record at this second and nanosecond, with these bytes.
     Record(u32, u32, &'static [u8]),
+    /// The record of `HUNDRED`.
+    OfHundred,
     End,
     /// The capture ends inside the record at this byte.
     Cut(u64),
@@ -109,20 +110,25 @@ static CAPTURES: [Capture; 18] = [
     Capture(&EMPTY_RECORD, &[(34, 4)], Ok(Micro), &[Cut(24), End]),
 ];
 
+fn record(sec: u32, nano: u32, bytes: &[u8]) -> (Result<Next, PcapError>, &[u8]) {
+    (Ok(Next::Record(Time { sec, nano }, bytes.len())), bytes)
+}
+
 // The result of a call, and the bytes that it read.
 fn wanted(answer: &Answer) -> (Result<Next, PcapError>, &[u8]) {
     match answer {
-        Record(sec, nano, bytes) => {
-            let time = Time {
-                sec: *sec,
-                nano: *nano,
-            };
-            (Ok(Next::Record(time, bytes.len())), bytes)
-        }
+        Record(sec, nano, bytes) => record(*sec, *nano, bytes),
+        OfHundred => record(1, 2000, body()),
         End => (Ok(Next::End), &[]),
         Cut(byte) => (Ok(Next::Cut(*byte)), &[]),
         Refused(error) => (Err(*error), &[]),
     }
+}
+
+// Whether the next call returns this.
+fn answers_so<R: Feed>(r: &mut R, source: &mut Source, answer: &Answer, buf: &mut Buffer) -> bool {
+    let (result, bytes) = wanted(answer);
+    next(r, source, buf) == result && buf.as_slice().starts_with(bytes)
 }
 
 // The first call after the header that does not return what it should, from 1.
@@ -134,9 +140,7 @@ fn differs_after<R: Feed>(
 ) -> Option<usize> {
     let mut source = source;
     for (k, answer) in answers.iter().enumerate() {
-        let (result, bytes) = wanted(answer);
-        let next = next(r, &mut source, buf);
-        if next != result || !buf.as_slice().starts_with(bytes) {
+        if !answers_so(r, &mut source, answer, buf) {
             return Some(k.wrapping_add(1));
         }
     }
@@ -168,8 +172,7 @@ fn differs_in(
     let Some(front) = all.get(..bytes.len()) else {
         return Some(0);
     };
-    let mut buf = [0u8; ROOM];
-    differs(&mut OfRead::new(front), header, answers, &mut buf)
+    differs(&mut OfRead::new(front), header, answers, &mut [0u8; ROOM])
 }
 
 impl Case for Capture {
@@ -187,8 +190,8 @@ fn captures(rt: HostRuntime) {
 #[test]
 fn a_record_changes_only_its_front(rt: HostRuntime) {
     let mut buf = [7u8; ROOM];
-    let mut r = OfRead::new(HUNDRED.as_slice());
-    let first = differs(&mut r, Ok(Micro), &[Record(1, 2000, &BODY)], &mut buf);
+    let mut r = OfRead::new(hundred());
+    let first = differs(&mut r, Ok(Micro), &[OfHundred], &mut buf);
     must(
         &rt,
         first.is_none() && buf[60] == 7,
@@ -196,44 +199,53 @@ fn a_record_changes_only_its_front(rt: HostRuntime) {
     );
 }
 
+// Whether the longest record comes, with sevens, and then the end.
+fn is_longest<R: Feed>(r: &mut R) -> bool {
+    let mut buf = [0u8; ROOM];
+    let Ok(mut source) = read_header(r) else {
+        return false;
+    };
+    let time = Time { sec: 0, nano: 0 };
+    next(r, &mut source, &mut buf) == Ok(Next::Record(time, 262_144))
+        && buf.iter().all(|&byte| byte == 7)
+        && next(r, &mut source, &mut buf) == Ok(Next::End)
+}
+
 // The longest record that is accepted, whole.
 #[test]
-fn the_longest_record(rt: HostRuntime) -> Result<(), Fail> {
-    let mut buf = [0u8; ROOM];
+fn the_longest_record(rt: HostRuntime) {
     let head = [0u8, 0, 0, 0, 0, 0, 0, 0, 0, 0, 4, 0, 0, 0, 0, 0];
     let bytes = head.as_slice().chain(io::repeat(7).take(262_144));
     let mut r = OfRead::new(MICRO_HEADER.as_slice().chain(bytes));
-    let mut source = read_header(&mut r)?;
-    let time = Time { sec: 0, nano: 0 };
-    let answer = next(&mut r, &mut source, &mut buf);
-    let is_read = answer == Ok(Next::Record(time, 262_144)) && buf.iter().all(|&byte| byte == 7);
-    let ends = next(&mut r, &mut source, &mut buf) == Ok(Next::End);
-    must(&rt, is_read && ends, "the record");
-    Ok(())
+    must(&rt, is_longest(&mut r), "the record");
 }
 
-// How many records without bytes at second 0 come first, at most 16,777,216.
-fn empty_records<R: Feed>(r: &mut R, source: &mut Source, buf: &mut Buffer) -> u32 {
+// Whether 16,777,216 records without bytes come, at second 0.
+fn come_empty<R: Feed>(r: &mut R, source: &mut Source, buf: &mut Buffer) -> bool {
     let time = Time { sec: 0, nano: 0 };
-    for k in 0..16_777_216u32 {
+    for _ in 0..16_777_216u32 {
         if next(r, source, buf) != Ok(Next::Record(time, 0)) {
-            return k;
+            return false;
         }
     }
-    16_777_216
+    true
+}
+
+// Whether they come, and no more.
+fn are_counted<R: Feed>(r: &mut R) -> bool {
+    let mut buf = [0u8; ROOM];
+    let Ok(mut source) = read_header(r) else {
+        return false;
+    };
+    come_empty(r, &mut source, &mut buf)
+        && differs_after(r, source, &[Refused(TooMany), End], &mut buf).is_none()
 }
 
 // 16,777,216 records without bytes, and one byte more.
 #[test]
-fn counts_records(rt: HostRuntime) -> Result<(), Fail> {
-    let mut buf = [0u8; ROOM];
+fn counts_records(rt: HostRuntime) {
     let mut r = OfRead::new(MICRO_HEADER.as_slice().chain(io::repeat(0)));
-    let mut source = read_header(&mut r)?;
-    let count = empty_records(&mut r, &mut source, &mut buf);
-    must(&rt, count == 16_777_216, "the records");
-    let first = differs_after(&mut r, source, &[Refused(TooMany), End], &mut buf);
-    none_differs(&rt, 0, first);
-    Ok(())
+    must(&rt, are_counted(&mut r), "the records");
 }
 
 /// From one number of bytes up to another, without that: the first bytes of `HUNDRED`, what the header is read as, and what each call after it returns.
@@ -243,18 +255,16 @@ static FRONTS: [Fronts; 4] = [
     Fronts(0, 24, Err(ShortHeader), &[]),
     Fronts(24, 25, Ok(Micro), &[End, End]),
     Fronts(25, 100, Ok(Micro), &[Cut(24), End]),
-    Fronts(100, 101, Ok(Micro), &[Record(1, 2000, &BODY), End]),
+    Fronts(100, 101, Ok(Micro), &[OfHundred, End]),
 ];
 
 // The first bytes of `HUNDRED` come, and then the end.
 impl Case for Fronts {
     fn holds(&self, _alloc: Global) -> bool {
         for len in self.0..self.1 {
-            let Some(front) = HUNDRED.get(..len) else {
-                return false;
-            };
-            if differs_in(front, &[], self.2, self.3).is_some() {
-                return false;
+            match hundred().get(..len) {
+                Some(front) if differs_in(front, &[], self.2, self.3).is_none() => {}
+                _ => return false,
             }
         }
         true
@@ -282,20 +292,24 @@ static FAILURES: [Failure; 3] = [
         100,
         101,
         Ok(Micro),
-        &[Record(1, 2000, &BODY), Refused(PcapError::Read), End],
+        &[OfHundred, Refused(PcapError::Read), End],
         100,
     ),
 ];
 
+// A reader of `HUNDRED` that fails after `len` bytes.
+fn failing(len: usize) -> FailingFeed<OfRead<&'static [u8]>> {
+    FailingFeed::new(OfRead::new(hundred()), len)
+}
+
 // Whether a copy from a reader that fails after `len` bytes has `copy` bytes, and the reader has the rest.
 fn fails(alloc: Global, len: usize, copy: usize) -> bool {
-    let mut r = FailingFeed::new(OfRead::new(HUNDRED.as_slice()), len);
-    let mut w = OfWrite::new(Vec::new(alloc));
-    let answer = copied(&mut r, &mut w);
-    let rest = r.into_inner().into_inner().len();
-    answer == Err(PcapError::Read)
-        && HUNDRED.get(..copy) == Some(w.into_inner().as_slice())
-        && rest == HUNDRED.len().saturating_sub(len)
+    let mut r = failing(len);
+    let Some(front) = hundred().get(..copy) else {
+        return false;
+    };
+    let is_copy = is_copied(alloc, &mut r, Err(PcapError::Read), front);
+    r.into_inner().into_inner().len() == 100usize.saturating_sub(len) && is_copy
 }
 
 // The first call that does not return what it should, where the reader fails after `len` bytes.
@@ -304,9 +318,7 @@ fn differs_at_failure(
     header: Result<Unit, PcapError>,
     answers: &[Answer],
 ) -> Option<usize> {
-    let mut buf = [0u8; ROOM];
-    let mut r = FailingFeed::new(OfRead::new(HUNDRED.as_slice()), len);
-    differs(&mut r, header, answers, &mut buf)
+    differs(&mut failing(len), header, answers, &mut [0u8; ROOM])
 }
 
 impl Case for Failure {

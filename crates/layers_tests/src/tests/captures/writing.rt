@@ -1,12 +1,12 @@
 //! What writers of captures are offered, and what they hold.
 
 use super::cases::{Case, all_hold, must};
-use super::{BODY, HUNDRED, copied};
-use Put::{Bytes, Head, Header, Record};
+use super::{body, copied, hundred, is_copied};
+use Put::{Bytes, Head, Header, OfHundred, Record};
 use Taking::{AtMost, Fails};
 use dp_pcap::{
-    Buffered, FailingSink, MAX_RECORD, NANOS_A_SECOND, OfBufReader, OfBufWriter, OfRead, OfWrite,
-    PcapError, Sink, Time, Unit, put_bytes, put_head, put_header, put_record,
+    Buffered, FailingSink, Feed, MAX_RECORD, NANOS_A_SECOND, OfBufReader, OfBufWriter, OfRead,
+    OfWrite, PcapError, Sink, Time, Unit, put_bytes, put_head, put_header, put_record,
 };
 use std::alloc::Global;
 use std::io::{BufReader, Write};
@@ -59,16 +59,14 @@ static SPELLINGS: [Spelling; 4] = [
     ),
 ];
 
-// Whether a capture is copied as these bytes.
-fn is_copied_as(alloc: Global, read: &[u8], written: &[u8]) -> bool {
-    let mut w = OfWrite::new(Vec::new(alloc));
-    let answer = copied(&mut OfRead::new(read), &mut w);
-    answer == Ok(None) && w.into_inner().as_slice() == written
-}
-
 impl Case for Spelling {
     fn holds(&self, alloc: Global) -> bool {
-        is_copied_as(alloc, &self.0, &self.1)
+        is_copied(
+            alloc,
+            &mut OfRead::new(self.0.as_slice()),
+            Ok(None),
+            &self.1,
+        )
     }
 }
 
@@ -80,32 +78,38 @@ fn copies_all_spellings(rt: HostRuntime) {
 /// A call that writes a part of a capture.
 enum Put {
     Header,
-    /// A record at a second and a nanosecond, with these bytes.
-    Record(u32, u32, &'static [u8]),
+    /// A record with these bytes.
+    Record(Time, &'static [u8]),
+    /// The record of `HUNDRED`.
+    OfHundred,
     /// The head of a record of this length.
-    Head(u32, u32, usize),
+    Head(Time, usize),
     Bytes(&'static [u8]),
 }
+
+/// The time of the record of `HUNDRED`, and one that no microsecond spells.
+const AT_2000: Time = Time { sec: 1, nano: 2000 };
+
+const AT_2999: Time = Time { sec: 1, nano: 2999 };
 
 fn write_part<W: Sink>(w: &mut W, unit: Unit, step: &Put) -> Result<(), PcapError> {
     match step {
         Header => put_header(w, unit),
-        Record(sec, nano, bytes) if *nano < NANOS_A_SECOND && bytes.len() <= MAX_RECORD => {
-            let time = Time {
-                sec: *sec,
-                nano: *nano,
-            };
-            put_record(w, unit, time, bytes)
-        }
-        Head(sec, nano, len) if *nano < NANOS_A_SECOND && *len <= MAX_RECORD => {
-            let time = Time {
-                sec: *sec,
-                nano: *nano,
-            };
-            put_head(w, unit, time, *len)
+        Record(time, bytes) => write_record(w, unit, *time, bytes),
+        OfHundred => write_record(w, unit, AT_2000, body()),
+        Head(time, len) if time.nano < NANOS_A_SECOND && *len <= MAX_RECORD => {
+            put_head(w, unit, *time, *len)
         }
         Bytes(bytes) => put_bytes(w, bytes),
         _ => Err(PcapError::BadTime),
+    }
+}
+
+fn write_record<W: Sink>(w: &mut W, unit: Unit, time: Time, bytes: &[u8]) -> Result<(), PcapError> {
+    if time.nano < NANOS_A_SECOND && bytes.len() <= MAX_RECORD {
+        put_record(w, unit, time, bytes)
+    } else {
+        Err(PcapError::BadTime)
     }
 }
 
@@ -133,8 +137,8 @@ static WRITTEN: [Writing; 3] = [
         Unit::Micro,
         &[
             (Header, true),
-            (Record(1, 2999, &[5, 6]), true),
-            (Head(1, 2999, 2), true),
+            (Record(AT_2999, &[5, 6]), true),
+            (Head(AT_2999, 2), true),
             (Bytes(&[5]), true),
             (Bytes(&[]), true),
             (Bytes(&[6]), true),
@@ -151,8 +155,8 @@ static WRITTEN: [Writing; 3] = [
         Unit::Nano,
         &[
             (Header, true),
-            (Record(1, 2999, &[5, 6]), true),
-            (Head(1, 2999, 2), true),
+            (Record(AT_2999, &[5, 6]), true),
+            (Head(AT_2999, 2), true),
             (Bytes(&[5]), true),
             (Bytes(&[]), true),
             (Bytes(&[6]), true),
@@ -172,8 +176,7 @@ static WRITTEN: [Writing; 3] = [
             (Header, true),
             (
                 Record(
-                    1,
-                    2000,
+                    AT_2000,
                     &[
                         9, 9, 9, 9, 9, 9, 9, 9, 9, 9, 9, 9, 9, 9, 9, 9, 9, 9, 9, 9, 9, 9, 9, 9, 9,
                         9, 9, 9, 9, 9, 9, 9, 9, 9, 9, 9, 9, 9, 9, 9, 9, 9, 9, 9, 9, 9,
@@ -192,14 +195,23 @@ static WRITTEN: [Writing; 3] = [
     ),
 ];
 
+type Failing = FailingSink<OfWrite<Vec<u8>>>;
+
+// A writer that takes `most` bytes a call, at least one, and fails after `left` bytes.
+fn failing(alloc: Global, most: usize, left: usize) -> Failing {
+    FailingSink::new(OfWrite::new(Vec::new(alloc)), most.max(1), left)
+}
+
+// Whether it holds these bytes at the end.
+fn has_held(w: Failing, bytes: &[u8]) -> bool {
+    w.into_inner().into_inner().as_slice() == bytes
+}
+
 impl Case for Writing {
     fn holds(&self, alloc: Global) -> bool {
-        if self.2 == 0 {
-            return false;
-        }
-        let mut w = FailingSink::new(OfWrite::new(Vec::new(alloc)), self.2, self.3);
+        let mut w = failing(alloc, self.2, self.3);
         let first = differs(&mut w, self.0, self.1);
-        first.is_none() && w.into_inner().into_inner().as_slice() == self.4
+        has_held(w, self.4) && first.is_none()
     }
 }
 
@@ -208,20 +220,21 @@ fn written(rt: HostRuntime) {
     all_hold(&rt, rt.alloc(), &WRITTEN);
 }
 
-// Copies `HUNDRED` to a writer that takes `most` bytes a call and fails after `len` bytes. Returns whether it holds these.
-fn is_front(alloc: Global, most: usize, len: usize) -> bool {
-    if most == 0 {
-        return false;
-    }
-    let mut r = OfRead::new(HUNDRED.as_slice());
-    let mut w = FailingSink::new(OfWrite::new(Vec::new(alloc)), most, len);
-    let answer = copied(&mut r, &mut w);
-    let wanted = if len < 100 {
+// Copies `HUNDRED`.
+fn copied_hundred<W: Sink>(w: &mut W) -> Result<Option<u64>, PcapError> {
+    copied(&mut OfRead::new(hundred()), w)
+}
+
+// Copies `HUNDRED` to a writer that takes `most` bytes a call and fails after these bytes. Returns whether it holds them.
+fn is_front(alloc: Global, most: usize, front: &[u8]) -> bool {
+    let mut w = failing(alloc, most, front.len());
+    let answer = copied_hundred(&mut w);
+    let wanted = if front.len() < 100 {
         Err(PcapError::Write)
     } else {
         Ok(None)
     };
-    answer == wanted && HUNDRED.get(..len) == Some(w.into_inner().into_inner().as_slice())
+    has_held(w, front) && answer == wanted
 }
 
 /// How many bytes a writer takes a call.
@@ -230,8 +243,9 @@ struct AnyLength(usize);
 impl Case for AnyLength {
     fn holds(&self, alloc: Global) -> bool {
         for len in 0..101usize {
-            if !is_front(alloc, self.0, len) {
-                return false;
+            match hundred().get(..len) {
+                Some(front) if is_front(alloc, self.0, front) => {}
+                _ => return false,
             }
         }
         true
@@ -247,61 +261,82 @@ fn writers_fail_anywhere(rt: HostRuntime) {
     );
 }
 
-// From one file to another; returns what is written.
-fn through_files(rt: &HostRuntime) -> Result<Vec<u8>, Fail> {
-    let mut r = OfRead::new(fs::open(rt, "pcap_copy_in")?);
+// Copies a capture into a file.
+fn into_file<R: Feed>(rt: &HostRuntime, r: &mut R) -> Result<bool, Fail> {
     let mut w = OfWrite::new(fs::create(rt, "pcap_copy_out")?);
-    copied(&mut r, &mut w)?;
-    Ok(fs::read(rt, "pcap_copy_out")?)
+    Ok(copied(r, &mut w) == Ok(None))
+}
+
+// The same with a buffer.
+fn into_buffer<R: Feed>(rt: &HostRuntime, r: &mut R) -> Result<bool, Fail> {
+    let file = fs::create(rt, "pcap_copy_out")?;
+    let mut w = OfBufWriter::new(Buffered::with_capacity(rt.alloc(), 8192, file)?);
+    Ok(copied(r, &mut w) == Ok(None) && w.flush().is_ok())
+}
+
+// Copies one file to the other.
+fn through_files(rt: &HostRuntime) -> Result<bool, Fail> {
+    into_file(rt, &mut OfRead::new(fs::open(rt, "pcap_copy_in")?))
 }
 
 // The same with buffers.
-fn through_buffers(rt: &HostRuntime) -> Result<Vec<u8>, Fail> {
-    let file = fs::open(rt, "pcap_copy_in")?;
-    let mut r = OfBufReader::new(BufReader::new(rt.alloc(), file)?);
-    let file = fs::create(rt, "pcap_copy_out")?;
-    let mut w = OfBufWriter::new(Buffered::with_capacity(rt.alloc(), 8192, file)?);
-    copied(&mut r, &mut w)?;
-    w.flush()?;
-    Ok(fs::read(rt, "pcap_copy_out")?)
+fn through_buffers(rt: &HostRuntime) -> Result<bool, Fail> {
+    let inner = BufReader::new(rt.alloc(), fs::open(rt, "pcap_copy_in")?)?;
+    into_buffer(rt, &mut OfBufReader::new(inner))
+}
+
+// Whether `HUNDRED` was written.
+fn is_in_file(rt: &HostRuntime) -> Result<bool, Fail> {
+    Ok(fs::read(rt, "pcap_copy_out")?.as_slice() == hundred())
+}
+
+fn remove_files(rt: &HostRuntime) -> Result<(), Fail> {
+    fs::remove_file(rt, "pcap_copy_in")?;
+    fs::remove_file(rt, "pcap_copy_out")?;
+    Ok(())
 }
 
 #[test]
 fn copies_files(rt: HostRuntime) -> Result<(), Fail> {
-    fs::write(&rt, "pcap_copy_in", &HUNDRED[..])?;
-    let is_same = through_files(&rt)?.as_slice() == HUNDRED.as_slice();
+    fs::write(&rt, "pcap_copy_in", hundred())?;
+    let is_same = through_files(&rt)? && is_in_file(&rt)?;
     must(&rt, is_same, "the copy");
-    let is_same = through_buffers(&rt)?.as_slice() == HUNDRED.as_slice();
+    let is_same = through_buffers(&rt)? && is_in_file(&rt)?;
     must(&rt, is_same, "the copy through buffers");
-    fs::remove_file(&rt, "pcap_copy_in")?;
-    fs::remove_file(&rt, "pcap_copy_out")?;
-    Ok(())
+    remove_files(&rt)
 }
 
 // Whether a record of 76 bytes fits into the buffer of a writer with room left, and the buffer holds `held` bytes afterwards.
 fn fits_as(w: &mut OfBufWriter<Vec<u8>>, fits: bool, held: usize) -> bool {
     let fitted = w.has_room(16, 60);
-    let written = write_part(w, Unit::Micro, &Record(1, 2000, &BODY));
+    let written = write_part(w, Unit::Micro, &OfHundred);
     fitted == fits && written == Ok(()) && w.get_ref().buffer().len() == held && !w.has_room(16, 60)
 }
 
 // Whether the record is written out, and there is room for another if there was for it.
 fn empties(w: &mut OfBufWriter<Vec<u8>>, fits: bool) -> bool {
     w.flush().is_ok()
-        && HUNDRED.get(24..) == Some(w.get_ref().get_ref().as_slice())
+        && hundred().get(24..) == Some(w.get_ref().get_ref().as_slice())
         && w.has_room(16, 60) == fits
 }
 
 /// The room of a writer's buffer, whether a record fits into it, and how many bytes it holds afterwards.
 struct Fitting(usize, bool, usize);
 
+/// A writer with a buffer of this room over a list of bytes.
+pub(super) fn buffered_list(alloc: Global, room: usize) -> Option<OfBufWriter<Vec<u8>>> {
+    match Buffered::with_capacity(alloc, room, Vec::new(alloc)) {
+        Ok(inner) => Some(OfBufWriter::new(inner)),
+        Err(_) => None,
+    }
+}
+
 impl Case for Fitting {
     fn holds(&self, alloc: Global) -> bool {
-        let Ok(inner) = Buffered::with_capacity(alloc, self.0, Vec::new(alloc)) else {
-            return false;
-        };
-        let mut w = OfBufWriter::new(inner);
-        fits_as(&mut w, self.1, self.2) && empties(&mut w, self.1)
+        match &mut buffered_list(alloc, self.0) {
+            Some(w) => fits_as(w, self.1, self.2) && empties(w, self.1),
+            None => false,
+        }
     }
 }
 
@@ -320,20 +355,15 @@ fn a_record_goes_into_a_buffer_at_once_or_in_parts(rt: HostRuntime) {
     must(&rt, !has_room, "no room");
 }
 
-// How many bytes of a piece a writer with a buffer takes in one call.
-fn taken_at_once(alloc: Global, room: usize, piece: &[u8]) -> Option<usize> {
-    match Buffered::with_capacity(alloc, room, Vec::new(alloc)) {
-        Ok(inner) => OfBufWriter::new(inner).push(piece).ok(),
-        Err(_) => None,
-    }
-}
-
 /// The room of a buffer, and how many bytes of `BODY` are taken at once.
 struct AtOnce(usize, usize);
 
 impl Case for AtOnce {
     fn holds(&self, alloc: Global) -> bool {
-        taken_at_once(alloc, self.0, &BODY) == Some(self.1)
+        match &mut buffered_list(alloc, self.0) {
+            Some(w) => w.push(body()) == Ok(self.1),
+            None => false,
+        }
     }
 }
 
@@ -351,19 +381,14 @@ fn a_piece_that_fits_is_taken_whole(rt: HostRuntime) {
     all_hold(&rt, rt.alloc(), &AT_ONCE);
 }
 
-// Whether a writer is flushed without an error, before each of two records and after the last, and takes them.
-fn is_flushed(alloc: Global, room: usize) -> bool {
-    let Ok(inner) = Buffered::with_capacity(alloc, room, Vec::new(alloc)) else {
-        return false;
-    };
-    let mut w = OfBufWriter::new(inner);
-    for _ in 0..2 {
-        let flushed = w.flush().is_ok();
-        if !flushed || write_part(&mut w, Unit::Micro, &Record(1, 2000, &BODY)) != Ok(()) {
-            return false;
-        }
-    }
-    w.flush().is_ok() && w.get_ref().buffer().is_empty() && w.get_ref().get_ref().len() == 152
+// Whether a writer is flushed without an error, and takes a record then.
+fn is_flushed(w: &mut OfBufWriter<Vec<u8>>) -> bool {
+    w.flush().is_ok() && write_part(w, Unit::Micro, &OfHundred) == Ok(())
+}
+
+// Whether it is flushed without an error, and wrote this number of bytes in all.
+fn is_empty_after(w: &mut OfBufWriter<Vec<u8>>, bytes: usize) -> bool {
+    w.flush().is_ok() && w.get_ref().buffer().is_empty() && w.get_ref().get_ref().len() == bytes
 }
 
 /// The room of a buffer.
@@ -371,7 +396,10 @@ struct Flushed(usize);
 
 impl Case for Flushed {
     fn holds(&self, alloc: Global) -> bool {
-        is_flushed(alloc, self.0)
+        match &mut buffered_list(alloc, self.0) {
+            Some(w) => is_flushed(w) && is_flushed(w) && is_empty_after(w, 152),
+            None => false,
+        }
     }
 }
 
@@ -414,20 +442,25 @@ impl Taker {
             held: Vec::new(alloc),
         }
     }
+
+    // How many bytes of a buffer of this length it takes in the next call.
+    fn taken(&self, len: usize) -> usize {
+        match self.first.get(self.offered.len()) {
+            Some(AtMost(most)) => len.min(*most),
+            Some(Fails) => len.saturating_add(1),
+            None => len.min(self.most),
+        }
+    }
 }
 
 impl Write for Taker {
     fn write(&mut self, buf: &[u8]) -> io::Result<usize> {
-        let most = match self.first.get(self.offered.len()) {
-            Some(AtMost(most)) => buf.len().min(*most),
-            Some(Fails) => buf.len().saturating_add(1),
-            None => buf.len().min(self.most),
-        };
+        let taken = self.taken(buf.len());
         if self.offered.push(buf.len()).is_err() {
             return Err(io::ErrorKind::OutOfMemory.into());
         }
-        match buf.get(..most) {
-            Some(front) if self.held.extend_from_slice(front).is_ok() => Ok(most),
+        match buf.get(..taken) {
+            Some(front) if self.held.extend_from_slice(front).is_ok() => Ok(taken),
             _ => Err(io::ErrorKind::BrokenPipe.into()),
         }
     }
@@ -506,31 +539,33 @@ static LEFT_ALONE: [LeftAlone; 6] = [
     ),
 ];
 
-// Whether the calls return what they should, and the writer is offered these lengths, with a buffer of this room or without one.
-fn is_left_alone(
-    alloc: Global,
-    inner: Taker,
-    room: Option<usize>,
+// Whether the calls return what they should, and the writer is offered these lengths.
+fn is_left_alone(inner: Taker, steps: &[(Put, bool)], offered: &[usize]) -> bool {
+    let mut w = OfWrite::new(inner);
+    let first = differs(&mut w, Unit::Micro, steps);
+    w.into_inner().offered.as_slice() == offered && first.is_none()
+}
+
+// The same with a buffer in between.
+fn is_left_alone_behind(
+    w: &mut OfBufWriter<Taker>,
     steps: &[(Put, bool)],
     offered: &[usize],
 ) -> bool {
-    let Some(room) = room else {
-        let mut w = OfWrite::new(inner);
-        let first = differs(&mut w, Unit::Micro, steps);
-        return first == None && w.into_inner().offered.as_slice() == offered;
-    };
-    let Ok(inner) = Buffered::with_capacity(alloc, room, inner) else {
-        return false;
-    };
-    let mut w = OfBufWriter::new(inner);
-    let first = differs(&mut w, Unit::Micro, steps);
-    first == None && w.get_ref().get_ref().offered.as_slice() == offered
+    let first = differs(w, Unit::Micro, steps);
+    w.get_ref().get_ref().offered.as_slice() == offered && first.is_none()
 }
 
 impl Case for LeftAlone {
     fn holds(&self, alloc: Global) -> bool {
         let inner = Taker::new(alloc, self.0, 1000);
-        is_left_alone(alloc, inner, self.1, self.2, self.3)
+        let Some(room) = self.1 else {
+            return is_left_alone(inner, self.2, self.3);
+        };
+        match Buffered::with_capacity(alloc, room, inner) {
+            Ok(inner) => is_left_alone_behind(&mut OfBufWriter::new(inner), self.2, self.3),
+            Err(_) => false,
+        }
     }
 }
 
@@ -575,8 +610,8 @@ struct Offered(usize);
 impl Case for Offered {
     fn holds(&self, alloc: Global) -> bool {
         let mut w = OfWrite::new(Taker::new(alloc, &[], self.0));
-        let answer = copied(&mut OfRead::new(HUNDRED.as_slice()), &mut w);
-        answer == Ok(None) && was_offered_pieces(w.into_inner(), &HUNDRED, self.0)
+        let answer = copied_hundred(&mut w);
+        was_offered_pieces(w.into_inner(), hundred(), self.0) && answer == Ok(None)
     }
 }
 

@@ -1,8 +1,8 @@
 //! The calls on packets. Each asserts what the call requires, so that tests read as the examples that they are.
 
 ghost use Rattle.std.specs.Prelude.{◌≡◌, ◌+◌, ◌*◌, ◌<◌, ◌≤◌, length, slice_get};
-ghost use Rattle.dp_model.specs.Packets.{Segment, refs};
-ghost use Rattle.dp_model.specs.Stores.{IsLive, Of, segments_of};
+ghost use Rattle.dp_model.specs.Packets.{Segment, IsHeadSole, IsTailSole, refs};
+ghost use Rattle.dp_model.specs.Stores.{HasSome, IsLive, Of, segments_of};
 ghost use Rattle.layers_tests.specs.Rows.{IsOver, StaysOver};
 
 use dp_mbuf::Mbufs;
@@ -71,12 +71,29 @@ pub(crate) fn free_count(m: &Mbufs, pool: u32) -> u32
     m.available(pool)
 }
 
+// Asserts that nothing shares the buffer of the first segment.
+fn sole_head(rt: &impl Abort, m: &Mbufs, p: &Packet)
+    ensures { HasSome m.now.store p.now (λ k. IsHeadSole (segments_of m.now.store) k) }
+{
+    let sharers = refs(rt, m, p, 0);
+    assert!(rt; sharers == 1);
+}
+
+// Asserts that nothing shares the buffer of the last segment.
+fn sole_tail(rt: &impl Abort, m: &Mbufs, p: &Packet)
+    ensures { HasSome m.now.store p.now (λ k. IsTailSole (segments_of m.now.store) k) }
+{
+    let count = segments(rt, m, p);
+    assert!(rt; 1 <= count);
+    let sharers = refs(rt, m, p, count - 1);
+    assert!(rt; sharers == 1);
+}
+
 pub(crate) fn prepend(rt: &impl Abort, m: &mut Mbufs, p: &Packet, n: u16)
     requires { IsOver m.old.store }
     ensures { StaysOver m.old m.new }
 {
-    let sharers = refs(rt, m, p, 0);
-    assert!(rt; sharers == 1);
+    sole_head(rt, m, p);
     let room = m.headroom(p);
     assert!(rt; n <= room);
     m.prepend(p, n);
@@ -86,10 +103,7 @@ pub(crate) fn append(rt: &impl Abort, m: &mut Mbufs, p: &Packet, n: u16)
     requires { IsOver m.old.store }
     ensures { StaysOver m.old m.new }
 {
-    let count = segments(rt, m, p);
-    assert!(rt; 1 <= count);
-    let sharers = refs(rt, m, p, count - 1);
-    assert!(rt; sharers == 1);
+    sole_tail(rt, m, p);
     let room = m.tailroom(p);
     assert!(rt; n <= room);
     m.append(p, n);
@@ -120,8 +134,7 @@ pub(crate) fn store(rt: &impl Abort, m: &mut Mbufs, p: &Packet, offset: u64, byt
     requires { IsOver m.old.store }
     ensures { StaysOver m.old m.new }
 {
-    let sharers = refs(rt, m, p, 0);
-    assert!(rt; sharers == 1);
+    sole_head(rt, m, p);
     let len = m.first_len(p);
     assert!(rt; offset < u64::from(len));
     m.store(p, offset, Width::One, u64::from(byte));

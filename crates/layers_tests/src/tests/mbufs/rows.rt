@@ -1,6 +1,6 @@
 //! Calls on packets over three pools, and what they answer.
 
-ghost use Rattle.std.specs.Prelude.{◌≡◌, ◌<◌};
+ghost use Rattle.std.specs.Prelude.{◌≡◌, ◌<◌, ◌≤◌};
 ghost use Rattle.layers_tests.specs.Rows.{IsOver, StaysOver};
 
 use super::calls::{
@@ -363,20 +363,21 @@ fn differs_in(
     steps: &[Step],
 ) -> Option<usize> {
     let [first, second, third] = pools;
-    assert!(rt; 1 <= first.0 && first.0 <= 100 && second.0 <= 100 && third.0 <= 100);
-    assert!(rt; 128 < first.1 && first.1 <= MAX_ROOM && 128 < second.1 && second.1 <= MAX_ROOM);
-    assert!(rt; third.1 <= MAX_ROOM);
-    let mut s = open_beside(rt, alloc, sizes(first), sizes(second), sizes(third));
+    let (first, second) = (sizes(rt, first, 129), sizes(rt, second, 129));
+    let mut s = open_beside(rt, alloc, first, second, sizes(rt, third, 0));
     let mut packets = Vec::new(alloc);
     let first = differs(rt, &mut s.mbufs, &mut packets, steps);
     close(rt, s);
     first
 }
 
-// Pools without a cache.
-fn sizes(pool: &(u32, u32)) -> Sizes
-    ensures { result ≡ record { count = pool.now.0; room = pool.now.1; cache = 0 } }
+// A pool of 1 to 100 objects without a cache, whose data rooms have `least` bytes or more.
+fn sizes(rt: &impl Abort, pool: &(u32, u32), least: u32) -> Sizes
+    ensures count { (1 ≤ result.count) × (result.count ≤ 100) }
+    ensures room { (least ≤ result.room) × (result.room ≤ MAX_ROOM) }
 {
+    assert!(rt; 1 <= pool.0 && pool.0 <= 100);
+    assert!(rt; least <= pool.1 && pool.1 <= MAX_ROOM);
     Sizes {
         count: pool.0,
         room: pool.1,

@@ -1,6 +1,7 @@
 //! Makes mbufs over three pools, and takes them apart.
 
 ghost use Rattle.std.specs.Prelude.{◌≡◌, ◌+◌, ◌*◌, ◌<◌, ◌≤◌, length};
+ghost use Rattle.std.specs.List.{AllByRecursion};
 ghost use Rattle.layers_tests.specs.Rows.{IsOver, AreIn, SlotIn, IsReadyPool};
 
 use dp_heap::Heap;
@@ -104,6 +105,20 @@ fn unmake(slot: Option<Pool>, heap: &mut Heap, zones: &mut Zones)
     }
 }
 
+fn unmake_all(slots: [Option<Pool>; 8], heap: &mut Heap, zones: &mut Zones)
+    requires { AllByRecursion (SlotIn heap.old.home) slots }
+{
+    let [a, b, c, d, e, f, g, h] = slots;
+    unmake(a, heap, zones);
+    unmake(b, heap, zones);
+    unmake(c, heap, zones);
+    unmake(d, heap, zones);
+    unmake(e, heap, zones);
+    unmake(f, heap, zones);
+    unmake(g, heap, zones);
+    unmake(h, heap, zones);
+}
+
 /// Takes everything apart. There is no packet left, each pool is whole, and nothing of the heap is out.
 pub(crate) fn close(rt: &impl Abort, setup: Setup)
     requires { AreIn setup.heap.home setup.mbufs.zones }
@@ -112,15 +127,7 @@ pub(crate) fn close(rt: &impl Abort, setup: Setup)
     let (mut heap, mut zones) = (heap, zones);
     let empty = mbufs.is_empty();
     assert!(rt; empty, "a packet is left");
-    let [a, b, c, d, e, f, g, h] = mbufs.into_pools();
-    unmake(a, &mut heap, &mut zones);
-    unmake(b, &mut heap, &mut zones);
-    unmake(c, &mut heap, &mut zones);
-    unmake(d, &mut heap, &mut zones);
-    unmake(e, &mut heap, &mut zones);
-    unmake(f, &mut heap, &mut zones);
-    unmake(g, &mut heap, &mut zones);
-    unmake(h, &mut heap, &mut zones);
+    unmake_all(mbufs.into_pools(), &mut heap, &mut zones);
     let stats = heap.stats();
     assert!(rt; stats.busy_count == 0, "a zone is left");
     heap.close().close();

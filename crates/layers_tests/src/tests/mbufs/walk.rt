@@ -183,6 +183,16 @@ fn walk_trim(rt: &impl Abort, m: &mut Mbufs, shadow: &mut Shadow, seed: &mut u64
     }
 }
 
+fn write(rt: &impl Abort, m: &mut Mbufs, shadow: &mut Shadow, offset: usize, byte: u8)
+    requires { IsOver m.old.store }
+    ensures { StaysOver m.old m.new }
+{
+    store(rt, m, &shadow.packet, offset as u64, byte);
+    if let Some(place) = shadow.bytes.get_mut(offset) {
+        *place = byte;
+    }
+}
+
 // Reads a byte of the first segment, and writes another if its buffer has one reference.
 fn walk_store(rt: &impl Abort, m: &mut Mbufs, shadow: &mut Shadow, seed: &mut u64)
     requires { IsOver m.old.store }
@@ -194,15 +204,24 @@ fn walk_store(rt: &impl Abort, m: &mut Mbufs, shadow: &mut Shadow, seed: &mut u6
         return;
     }
     let offset = pick(seed, usize::from(len));
-    assert!(rt; offset < shadow.bytes.len());
     let byte = load_one(rt, m, &packet, offset as u64);
-    let same = byte == u64::from(shadow.bytes[offset]);
+    let same = match shadow.bytes.get(offset) {
+        Some(wanted) => byte == u64::from(*wanted),
+        None => false,
+    };
     must(rt, same, "a byte of a packet");
     if refs(rt, m, &packet, 0) == 1 {
-        let byte = (next(seed) % 256) as u8;
-        store(rt, m, &packet, offset as u64, byte);
-        shadow.bytes[offset] = byte;
+        write(rt, m, shadow, offset, (next(seed) % 256) as u8);
     }
+}
+
+// Appends the second packet to the first.
+fn join(rt: &impl Abort, m: &mut Mbufs, head: &mut Shadow, tail: &Shadow) -> Grown
+    requires { IsOver m.old.store }
+    ensures { StaysOver m.old m.new }
+{
+    chain(rt, m, &head.packet, tail.packet);
+    head.bytes.extend_from_slice(&tail.bytes)
 }
 
 fn walk_chain(rt: &impl Abort, m: &mut Mbufs, walk: &mut Walk) -> Grown
@@ -217,18 +236,12 @@ fn walk_chain(rt: &impl Abort, m: &mut Mbufs, walk: &mut Walk) -> Grown
     let j = pick(&mut walk.seed, walk.shadows.len());
     let head = walk.shadows[j].packet;
     if segments(rt, m, &head) > 30 || segments(rt, m, &tail.packet) > 30 {
-        walk.shadows.push(tail)?;
-        return Ok(());
+        return Ok(walk.shadows.push(tail)?);
     }
     if pool_of(&head) != pool_of(&tail.packet) {
         walk.chains = walk.chains.saturating_add(1);
     }
-    chain(rt, m, &head, tail.packet);
-    let shadow = &mut walk.shadows[j];
-    for byte in &tail.bytes {
-        shadow.bytes.push(*byte)?;
-    }
-    Ok(())
+    join(rt, m, &mut walk.shadows[j], &tail)
 }
 
 // Changes one packet.
@@ -290,6 +303,28 @@ fn compare(rt: &impl Abort, m: &Mbufs, shadows: &[Shadow]) {
     }
 }
 
+// Takes 10,000 steps, and frees what is left.
+fn walk_all(rt: &impl Abort, alloc: Global, m: &mut Mbufs)
+    requires { IsOver m.old.store }
+    ensures { StaysOver m.old m.new }
+{
+    let mut walk = Walk {
+        shadows: Vec::new(alloc),
+        seed: 20261122,
+        clones: 0,
+        chains: 0,
+    };
+    for _ in 0..10000 {
+        step(rt, alloc, m, &mut walk).expect(rt, "memory");
+        compare(rt, m, &walk.shadows);
+    }
+    let is_mixed = walk.clones > 100 && walk.chains > 100;
+    must(rt, is_mixed, "clones and chains");
+    for _ in 0..walk.shadows.len() {
+        walk_free(rt, m, &mut walk);
+    }
+}
+
 #[test]
 fn a_random_walk_ends_with_whole_pools(rt: HostRuntime) {
     let first = Sizes {
@@ -303,26 +338,8 @@ fn a_random_walk_ends_with_whole_pools(rt: HostRuntime) {
         cache: 0,
     };
     let mut s = open(&rt, rt.alloc(), first, second);
-    let m = &mut s.mbufs;
-    let mut walk = Walk {
-        shadows: Vec::new(rt.alloc()),
-        seed: 20261122,
-        clones: 0,
-        chains: 0,
-    };
-    for _ in 0..10000 {
-        step(&rt, rt.alloc(), m, &mut walk).expect(&rt, "memory");
-        compare(&rt, m, &walk.shadows);
-    }
-    must(
-        &rt,
-        walk.clones > 100 && walk.chains > 100,
-        "clones and chains",
-    );
-    for _ in 0..walk.shadows.len() {
-        walk_free(&rt, m, &mut walk);
-    }
-    let are_whole = free_count(m, 0) == 40 && free_count(m, 1) == 23;
+    walk_all(&rt, rt.alloc(), &mut s.mbufs);
+    let are_whole = free_count(&s.mbufs, 0) == 40 && free_count(&s.mbufs, 1) == 23;
     must(&rt, are_whole, "whole pools");
     close(&rt, s);
 }

@@ -76,16 +76,18 @@ impl Plain {
             depth,
             hop,
         };
-        if let Some(place) = self.position(ip, depth) {
-            if place < self.rules.len() {
-                self.rules[place] = rule;
-            }
-            return Ok(());
+        match self.position(ip, depth) {
+            Some(place) if place < self.rules.len() => self.rules[place] = rule,
+            _ => return self.add_new(rule),
         }
+        Ok(())
+    }
+
+    fn add_new(&mut self, rule: PlainRule) -> Result<(), LpmError> {
         if self.rules.len() >= self.max_rules {
             return Err(LpmError::RulesFull);
         }
-        if depth > 24 && !self.has_group(ip) && self.groups_used() >= self.groups {
+        if rule.depth > 24 && !self.has_group(rule.prefix) && self.groups_used() >= self.groups {
             return Err(LpmError::GroupsFull);
         }
         let _ = self.rules.push(rule);
