@@ -1,15 +1,18 @@
 #!/usr/bin/env python3
-"""Runs the gate's tests, or some groups of them: texts, then proofs, then all others side by side. It starts nothing more once one failed.
+"""Runs the gate's tests, or some groups of them: texts, then proofs, then all others side by side. It starts nothing more once one of texts or
+proofs failed; another that fails runs once more by itself, when all have ended, and the gate fails if it fails again.
 
 Usage: tests/run.py [--minutes N] [GROUP ..]
        tests/run.py --list
 
 GROUP is one of texts, proofs, bodies, program, tools, library and random; by default all of them. Groups from `bodies` on use what `rt ci`
-builds. Scripts run side by side, one for each processor and those that take longest first; what one prints stands together, at its end. The
-random cases take N minutes of processor time (8), with a seed from the commit; a failure names the command that repeats it. At the end each
-missing tool is named with what was skipped, and what all took. --list prints the table of docs/developing/testing.md.
+builds. Scripts run side by side, one for each processor and those that take longest first. A line says when one begins; what it prints stands
+together, at its end. The random cases take N minutes of processor time (8), with a seed from the commit; a failure names the command that
+repeats it, and what a script that failed printed last stands at the end, too. There each missing tool is named with what was skipped, and what
+all took. --list prints the table of docs/developing/testing.md.
 """
 import argparse
+import collections
 import concurrent.futures
 import dataclasses
 import importlib.util
@@ -27,6 +30,9 @@ PROGRAM = "crates/dpv/out/dpv"
 PAGE = TOP / "docs/developing/testing.md"
 GROUPS = ("texts", "proofs", "bodies", "program", "tools", "library", "random")
 PROCESSORS = len(os.sched_getaffinity(0))
+# How many lines of a script that failed are printed once more at the end, below those of the scripts that ended after it.
+LAST = 40
+BEGUN = time.monotonic()
 
 
 @dataclasses.dataclass(frozen=True)
@@ -45,11 +51,13 @@ class Step:
 
 @dataclasses.dataclass(frozen=True)
 class Ended:
-    """How a step ended: its status, and what it took, in seconds by the clock and of processor time."""
+    """How a step ended: its script and status, what it took, in seconds by the clock and of processor time, and the last lines that it printed."""
 
+    script: str
     status: int
     clock: float
     used: float
+    last: tuple[str, ...]
 
 
 ON_PROGRAM = (PROGRAM,)
@@ -132,18 +140,20 @@ def words_of(step: Step, minutes: float) -> list[str]:
 
 def run(step: Step, minutes: float, is_alone: bool) -> Ended:
     """Runs a step. What it prints is printed as it comes, or together at the end where others run beside it."""
-    begun, words, rows = time.monotonic(), words_of(step, minutes), []
+    begun, words, rows, last = time.monotonic(), words_of(step, minutes), [], collections.deque(maxlen=LAST)
+    print(f"{step.script} begins, {(begun - BEGUN) / 60:.1f} minutes into the run", flush=True)
     # (one crate for each processor: the estimate of memory of `rt ci` is twice what the largest takes, and would leave processors idle)
     around = os.environ | ({"RT_JOBS": str(PROCESSORS)} if step.script == "rt ci" else {})
     with subprocess.Popen(words, cwd=TOP, env=around, stdout=subprocess.PIPE, stderr=subprocess.STDOUT, text=True, errors="replace") as started:
         for row in started.stdout:
+            last.append(row)
             if is_alone:
                 print(row, end="", flush=True)
             else:
                 rows.append(row)
         _, status, usage = os.wait4(started.pid, 0)
         started.returncode = os.waitstatus_to_exitcode(status)
-    ended = Ended(started.returncode, time.monotonic() - begun, usage.ru_utime + usage.ru_stime)
+    ended = Ended(step.script, started.returncode, time.monotonic() - begun, usage.ru_utime + usage.ru_stime, tuple(last))
     rows.append(f"{step.script}: {ended.clock:.0f} s by the clock, {ended.used:.0f} s of processor time\n")
     if ended.status != 0:
         rows.append(f"{step.script} FAILED; this repeats it: {shlex.join(words)}\n")
@@ -161,7 +171,7 @@ def in_turn(steps: list[Step], minutes: float) -> list[Ended]:
 
 
 def side_by_side(steps: list[Step], minutes: float) -> list[Ended]:
-    """Runs steps side by side, the longest first. Once one failed no other begins."""
+    """Runs steps side by side, the longest first, and then by themselves those that failed: what lacked time or memory passes there."""
     ended, named = [], {it.script for it in steps}
     longest = sorted((it for it in steps if it.after not in named), key=lambda it: it.seconds + 60 * minutes * it.share, reverse=True)
     with concurrent.futures.ThreadPoolExecutor(PROCESSORS) as pool:
@@ -170,11 +180,11 @@ def side_by_side(steps: list[Step], minutes: float) -> list[Ended]:
             for done in concurrent.futures.wait(running, return_when=concurrent.futures.FIRST_COMPLETED).done:
                 step = running.pop(done)
                 ended.append(done.result())
-                if ended[-1].status != 0:
-                    pool.shutdown(cancel_futures=True)
-                    return ended
                 running |= {pool.submit(run, it, minutes, False): it for it in steps if it.after == step.script}
-    return ended
+    failed = [it.script for it in ended if it.status]
+    if failed:
+        print(f"run: failed beside others, and run once more by themselves: {', '.join(failed)}", flush=True)
+    return [it for it in ended if not it.status] + in_turn([it for it in steps if it.script in failed], minutes)
 
 
 # The groups, in the order in which they run, and how.
@@ -206,7 +216,9 @@ def main() -> int:
     for runs, named in PHASES:
         ended = runs([it for it in STEPS if it.group in groups and it.group in named], asked.minutes)
         used += sum(it.used for it in ended)
-        if any(it.status for it in ended):
+        if failed := [it for it in ended if it.status]:
+            for it in failed:
+                print(f"run: {it.script} failed with status {it.status}, and printed last:\n{''.join(it.last)}", end="")
             return 1
     print(f"run: {(time.monotonic() - begun) / 60:.1f} minutes by the clock, {used / 60:.1f} of processor time, on {PROCESSORS} processors")
     for tool, package, what in TOOLS:
