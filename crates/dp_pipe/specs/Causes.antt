@@ -1,5 +1,5 @@
 -- The numbers of causes, and their texts.
-use Rattle.std.specs.Prelude.{ℕ, List, ◌++◌, codes}
+use Rattle.std.specs.Prelude.{ℕ, List, Option, None, Some, [], ◌++◌, codes}
 use Rattle.std.specs.Fmt.{decimal}
 use Rattle.dp_model.specs.declared.env.Entry.{Entry}
 use Rattle.dp_model.specs.declared.env.Entry.TheVariants as entry
@@ -7,6 +7,7 @@ use Rattle.dp_model.specs.Environments.{number_of_cause, index_of_cause}
 use Rattle.dp_lang.specs.Causes as lang
 use Rattle.dp_cert.specs.Faults as cert
 use Rattle.dp_lpm.specs.Faults as lpm
+use Rattle.dp_pipe.specs.declared.causes.Piece.{Piece}
 use Rattle.dp_pipe.specs.declared.error.Part.{Part}
 use Rattle.dp_pipe.specs.declared.error.Part.TheVariants as part
 use Rattle.dp_pipe.specs.declared.error.PipeError.{PipeError}
@@ -62,3 +63,14 @@ text_of (BadCert node fault) = codes "7 BadCert " ++ (node_text node ++ (codes "
     ++ (decimal fault.line ++ (codes " cause " ++ decimal (cert.number_of fault.cause)))))
 text_of (NotInferred node label rule) = node_text node ++ (codes " not inferred at " ++ (decimal label ++ (codes " by J" ++ decimal rule)))
 text_of (Refused node label rule) = node_text node ++ (codes " refused at " ++ (decimal label ++ (codes " by J" ++ decimal rule)))
+
+-- ---- pieces of these texts, which no public clause names
+
+-- a number in decimal, if there is one
+abbrev pub number_text : Option ℕ → List ℕ
+number_text None = []
+number_text (Some n) = decimal n
+
+-- a word, and the number that follows it
+abbrev pub piece_text : Piece → List ℕ
+piece_text piece = piece.0.now ++ number_text piece.1

@@ -1,7 +1,8 @@
 //! The numbers and texts of causes.
 
-ghost use Rattle.std.specs.Prelude.{◌≡◌};
-ghost use Rattle.dp_pipe.specs.Causes.{number_of, number_of_route};
+ghost use Rattle.std.specs.Prelude.{◌≡◌, ◌++◌};
+ghost use Rattle.std.specs.Fmt.{decimal};
+ghost use Rattle.dp_pipe.specs.Causes.{number_of, number_of_route, part_text, piece_text, node_text, text_of};
 
 use crate::error::{Part, PipeError, RouteError};
 use dp_model::Entry;
@@ -40,6 +41,21 @@ impl RouteError {
     }
 }
 
+impl Part {
+    /// Its name in texts.
+    fn word(self) -> &'static str
+        ensures { result.now ≡ part_text self }
+    {
+        match self {
+            Part::Top => "top",
+            Part::Pool => "pool",
+            Part::Table => "table",
+            Part::Ring => "ring",
+            Part::Port => "port",
+        }
+    }
+}
+
 impl fmt::Display for Part {
     ghost use Rattle.std.specs.Prelude.{Some};
     ghost use Rattle.dp_pipe.specs.Causes.{part_text};
@@ -47,13 +63,45 @@ impl fmt::Display for Part {
     ghost output = { λ part. Some (part_text part) };
 
     fn fmt<W: fmt::Write>(&self, f: &mut fmt::Formatter<W>) -> fmt::Result {
-        match self {
-            Part::Top => write!(f, "top"),
-            Part::Pool => write!(f, "pool"),
-            Part::Table => write!(f, "table"),
-            Part::Ring => write!(f, "ring"),
-            Part::Port => write!(f, "port"),
+        f.write_str(self.word())
+    }
+}
+
+/// A word of a text, and the number that follows it, if one does.
+#[derive(Clone, Copy)]
+struct Piece(&'static str, Option<usize>);
+
+/// A piece without a text.
+const NOTHING: Piece = Piece("", None);
+
+impl fmt::Display for Piece {
+    ghost use Rattle.std.specs.Prelude.{Some};
+    ghost use Rattle.dp_pipe.specs.Causes.{piece_text};
+
+    ghost output = { λ piece. Some (piece_text piece) };
+
+    fn fmt<W: fmt::Write>(&self, f: &mut fmt::Formatter<W>) -> fmt::Result {
+        match self.1 {
+            Some(number) => write!(f, "{}{number}", self.0),
+            None => f.write_str(self.0),
         }
+    }
+}
+
+/// A word, and a small number.
+fn numbered(word: &'static str, number: u8) -> Piece
+    ensures { piece_text result ≡ word.now ++ decimal number }
+{
+    Piece(word, Some(usize::from(number)))
+}
+
+/// The name of a node as a piece.
+fn node_piece(node: Entry) -> Piece
+    ensures { piece_text result ≡ node_text node }
+{
+    match node {
+        Entry::Port(index) => numbered("port ", index),
+        Entry::Ring(index) => numbered("ring ", index),
     }
 }
 
@@ -68,10 +116,64 @@ impl fmt::Display for NodeName {
     ghost output = { λ name. Some (node_text name.0) };
 
     fn fmt<W: fmt::Write>(&self, f: &mut fmt::Formatter<W>) -> fmt::Result {
-        match self.0 {
-            Entry::Port(index) => write!(f, "port {index}"),
-            Entry::Ring(index) => write!(f, "ring {index}"),
-        }
+        write!(f, "{}", node_piece(self.0))
+    }
+}
+
+/// The text of an error in pieces. A table of texts, each with its own `write!`, takes three times as long to prove.
+fn pieces_of(error: PipeError) -> (Piece, Piece, Piece, Piece)
+    ensures { piece_text result.0 ++ (piece_text result.1 ++ (piece_text result.2 ++ piece_text result.3)) ≡ text_of error }
+{
+    match error {
+        PipeError::Memory => (Piece("memory", None), NOTHING, NOTHING, NOTHING),
+        PipeError::NotToml => (Piece("1 NotToml", None), NOTHING, NOTHING, NOTHING),
+        PipeError::BadKey { part, index } => (
+            Piece("2 BadKey ", None),
+            Piece(part.word(), None),
+            Piece(" ", Some(index)),
+            NOTHING,
+        ),
+        PipeError::BadEnv(error) => (
+            numbered("3 BadEnv ", error.number()),
+            numbered(" ", error.index()),
+            NOTHING,
+            NOTHING,
+        ),
+        PipeError::BadTable {
+            table,
+            route,
+            cause,
+        } => (
+            Piece("4 BadTable ", Some(table)),
+            Piece(" ", Some(route)),
+            numbered(" ", cause.number()),
+            NOTHING,
+        ),
+        PipeError::File(node) => (Piece("5 File ", None), node_piece(node), NOTHING, NOTHING),
+        PipeError::Asm(node, fault) => (
+            Piece("6 Asm ", None),
+            node_piece(node),
+            Piece(" line ", Some(fault.line)),
+            numbered(" cause ", fault.cause.number()),
+        ),
+        PipeError::BadCert(node, fault) => (
+            Piece("7 BadCert ", None),
+            node_piece(node),
+            Piece(" line ", Some(fault.line)),
+            numbered(" cause ", fault.cause.number()),
+        ),
+        PipeError::NotInferred { node, label, rule } => (
+            node_piece(node),
+            Piece(" not inferred at ", Some(usize::from(label))),
+            numbered(" by J", rule),
+            NOTHING,
+        ),
+        PipeError::Refused { node, label, rule } => (
+            node_piece(node),
+            Piece(" refused at ", Some(usize::from(label))),
+            numbered(" by J", rule),
+            NOTHING,
+        ),
     }
 }
 
@@ -83,42 +185,8 @@ impl fmt::Display for PipeError {
     ghost output = { λ error. Some (text_of error) };
 
     fn fmt<W: fmt::Write>(&self, f: &mut fmt::Formatter<W>) -> fmt::Result {
-        match *self {
-            PipeError::Memory => write!(f, "memory"),
-            PipeError::NotToml => write!(f, "1 NotToml"),
-            PipeError::BadKey { part, index } => write!(f, "2 BadKey {part} {index}"),
-            PipeError::BadEnv(error) => write!(f, "3 BadEnv {} {}", error.number(), error.index()),
-            PipeError::BadTable {
-                table,
-                route,
-                cause,
-            } => write!(f, "4 BadTable {table} {route} {}", cause.number()),
-            PipeError::File(node) => write!(f, "5 File {}", NodeName(node)),
-            PipeError::Asm(node, fault) => {
-                write!(
-                    f,
-                    "6 Asm {} line {} cause {}",
-                    NodeName(node),
-                    fault.line,
-                    fault.cause.number()
-                )
-            }
-            PipeError::BadCert(node, fault) => {
-                write!(
-                    f,
-                    "7 BadCert {} line {} cause {}",
-                    NodeName(node),
-                    fault.line,
-                    fault.cause.number()
-                )
-            }
-            PipeError::NotInferred { node, label, rule } => {
-                write!(f, "{} not inferred at {label} by J{rule}", NodeName(node))
-            }
-            PipeError::Refused { node, label, rule } => {
-                write!(f, "{} refused at {label} by J{rule}", NodeName(node))
-            }
-        }
+        let (first, second, third, last) = pieces_of(*self);
+        write!(f, "{first}{second}{third}{last}")
     }
 }
 
