@@ -47,8 +47,9 @@ VARIANTS = {
 }
 WIDTHS = {1: "One", 2: "Two", 4: "Four", 8: "Eight"}
 MOST = 256
-# The least gain of a compiled examples/ttl per record.
-GAIN = 150
+# The least gain of a compiled examples/ttl per record: compiled by itself, and beside other programs. There LLVM makes calls of loads and stores,
+# which have more callers, and how many depends on the programs.
+GAIN, GAIN_BESIDE = 150, 60
 # A program of all instructions; what it does to a packet does not matter.
 ALL = """ifhead p0,4,drop
 iftail p0,4,drop
@@ -198,21 +199,22 @@ def is_run(program: str, pipeline: pathlib.Path, reported: str) -> bool:
     return passed
 
 
-def is_fast(program: str, made: str, pipeline: pathlib.Path) -> bool:
-    """Whether a record takes fewer machine instructions with the compiled program; skipped if none can be counted."""
+def is_fast(program: str, made: str, pipeline: pathlib.Path, gain: int) -> bool:
+    """Whether a record takes so many machine instructions fewer with the compiled program; skipped if none can be counted."""
     if not shutil.which("perf") and not shutil.which("valgrind"):
         print("no instructions are counted: neither perf nor valgrind is installed")
         return True
     port = tomllib.loads(pipeline.read_text())["port"][0]
     source = {port["in"]: (pipeline.parent / port["in"]).read_bytes()}
     each = [nodes.counted([it, "run", pipeline.name], pipeline.parent, source, [port["out"]]).each for it in (program, made)]
-    print(f"a record of {pipeline.parent.name} takes {each[0]:.0f} machine instructions, compiled {each[1]:.0f}")
-    return each[0] - each[1] >= GAIN
+    passed = each[0] - each[1] >= gain
+    print(f"a record of {pipeline.parent.name} takes {each[0]:.0f} machine instructions, compiled {each[1]:.0f}{'' if passed else f', and not {gain} fewer'}")
+    return passed
 
 
-def does_the_same(program: str, made: str, pipeline: pathlib.Path) -> list[bool]:
-    """Whether a program with this pipeline's node program compiled does the same, faster, and reports what it interprets."""
-    passed = [is_run(made, pipeline, ""), is_fast(program, made, pipeline)]
+def does_the_same(program: str, made: str, pipeline: pathlib.Path, gain: int) -> list[bool]:
+    """Whether a program with this pipeline's node program compiled does the same, faster by this gain, and reports what it interprets."""
+    passed = [is_run(made, pipeline, ""), is_fast(program, made, pipeline, gain)]
     node = pipeline.parent / tomllib.loads(pipeline.read_text())["port"][0]["node"]
     node.write_text(node.read_text() + "exit\n")
     shutil.copy(TOP / "examples" / pipeline.parent.name / "in.pcap", pipeline.parent / "in.pcap")
@@ -228,7 +230,7 @@ def main() -> int:
         passed = [is_module(program, it) for it in pipelines]
         if len(words) < len(sys.argv) - 1:
             pipeline = name / "examples" / "ttl" / "ttl.toml"
-            passed += does_the_same(program, nodes.with_machine_code(program, pipeline), pipeline)
+            passed += does_the_same(program, nodes.with_machine_code(program, pipeline), pipeline, GAIN)
     return 0 if all(passed) else 1
 
 
