@@ -1,5 +1,6 @@
 -- Label by label.
 use Rattle.std.proofs.Common.{arith}
+use Rattle.std.proofs.lemmas.Grind.{common_steps}
 use Rattle.dp_check.specs.Faults.{question}
 use Rattle.dp_check.proofs.RuleLemmas.{one_more, none_left}
 use Rattle.dp_check.proofs.Diagnosed.{begins_badly}
@@ -19,3 +20,6 @@ pub returns-in-Some-clause-refused : goal.returns-in-Some-clause-refused
 returns-in-Some-clause-refused c = λ version.
     begins_badly (question c.args.program.now (record { version = version; rows = c.args.rows.now }) c.args.env.now c.args.entry) c.in-Some.reason
     (omega arith) (c.in-Some.ensures.fails version) c.in-Some.ensures.rule (c.in-Some.ensures.says version)
+
+pub returns-in-Some-reason_at-clause-refused : goal.returns-in-Some-reason_at-clause-refused
+returns-in-Some-reason_at-clause-refused c = grind (arith, common_steps)

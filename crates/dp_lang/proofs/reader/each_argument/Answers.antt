@@ -1,5 +1,6 @@
 -- `each_argument`: one operand more, and the end.
 use Rattle.std.proofs.Common.{map, [], arith, length, ◌<◌}
+use Rattle.std.proofs.lemmas.Grind.{common_steps}
 use Rattle.std.proofs.lemmas.List.{map_push}
 use Rattle.dp_lang.specs.declared.form.OperandKind.TheVariants as kinds
 use Rattle.dp_lang.specs.Views.{argument}
@@ -24,3 +25,9 @@ loop-i-preserved c =
           (err_goes_on ks ps i kinds.Packet (record { ref_ptr = (0, 0); now = [] }) c.loop-i.fault front w.in-Err.cause _ c.loop-i-test.true lt
           (rw (← c.trim.ensures) w.in-Err.ensures) c.loop-i.invariant)
     ]
+
+pub returns-in-None : goal.returns-in-None
+returns-in-None c = grind (arith, common_steps)
+
+pub returns : goal.returns
+returns c = grind (arith, common_steps)

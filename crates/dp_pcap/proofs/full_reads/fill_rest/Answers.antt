@@ -1,5 +1,6 @@
 -- `fill_rest`: one more call, the end of the input, or a failure.
 use Rattle.std.proofs.Common.{◌-◌, length, arith, rules}
+use Rattle.std.proofs.lemmas.Grind.{common_steps}
 use Rattle.std.proofs.KnownBytes.{Consumes-trans}
 use Rattle.dp_pcap.proofs.Pieces.{take_more-put_mid}
 use Rattle.dp_pcap.proofs.full_reads.fill_rest.Goals as goal
@@ -19,3 +20,9 @@ loop-at-preserved g c =
       failures = omega arith;
       noted = omega arith;
     }
+
+pub returns-in_err-n : goal.returns-in_err-n
+returns-in_err-n g c = grind (arith, common_steps)
+
+pub returns-then-n-eq0 : goal.returns-then-n-eq0
+returns-then-n-eq0 g c = grind (arith, common_steps)

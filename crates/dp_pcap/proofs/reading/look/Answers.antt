@@ -1,6 +1,7 @@
 -- `look`: the reader gave a record's head whole, and then bytes after it, or it failed inside them.
 use Rattle.std.proofs.Common.{◌≡◌, ◌+◌, ◌≤◌, Ok, Err, rules, arith, length, take, length-take}
 use Rattle.std.proofs.lemmas.List.{length-take-le}
+use Rattle.std.proofs.lemmas.Grind.{common_steps}
 use Rattle.dp_pcap.specs.declared.error.PcapError.TheVariants.{Read}
 use Rattle.dp_pcap.specs.declared.source.Next.TheVariants.{Record, Cut}
 use Rattle.dp_pcap.proofs.Known.{fails_in_body, noted, two_reads, two_pulls, whole_head, as_it_was}
@@ -98,3 +99,15 @@ returns-clause-pulls g c =
     rw c.note.ensures.bytes
     (two_pulls _ _ _ (take c.in-Ok.got c.fill.new.buf) (take c.in-Ok-fill.came c.fill-2.new.buf) (Ok (Record c.in_ok-time.time c.in_ok-time.len))
     (g.R.Feed.calls c.args.r.now) (g.R.Feed.calls c.note.new.r) c.in-Ok.ensures.bytes.0 c.in-Ok-fill.ensures.bytes.0 sum)
+
+pub returns-in_err-time-clause-answer : goal.returns-in_err-time-clause-answer
+returns-in_err-time-clause-answer g c = grind (arith, common_steps)
+
+pub returns-then-came-len-clause-answer : goal.returns-then-came-len-clause-answer
+returns-then-came-len-clause-answer g c = grind (arith, common_steps)
+
+pub returns-clause-answer : goal.returns-clause-answer
+returns-clause-answer g c = grind (arith, common_steps)
+
+pub returns-clause-beyond : goal.returns-clause-beyond
+returns-clause-beyond g c = grind (arith, common_steps)

@@ -8,6 +8,15 @@ use Rattle.dp_mbuf.proofs.mbufs.Mbufs.store.Goals as goal
 pub first_header-head-requires : goal.first_header-head-requires
 first_header-head-requires c = live_object _ _ c.args.packet.now (same_store c.self.view_is) c.self.invariant (c.requires.0, c.requires.1, tt)
 
+pub overflow_cast-offset : goal.overflow_cast-offset
+overflow_cast-offset c =
+    let (k, has, (fits, _)) = c.requires in
+    omega (
+      arith,
+      at_first _ _ c.args.packet.now (same_store c.self.view_is) c.self.invariant _ c.args.offset
+          (bytes_in c.args.width) c.first_header-head.ensures (k, has, fits),
+    )
+
 pub write_number_near-requires-clause-small : goal.write_number_near-requires-clause-small
 write_number_near-requires-clause-small c =
     let (k, has, (fits, _)) = c.requires in
