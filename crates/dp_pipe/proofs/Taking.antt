@@ -21,7 +21,7 @@ take_seen : {A B : Type 0} (see : A → B) (xs : List A) (i : ℕ) (x : A) → i
 take_seen {B = B} see xs i x lt here =
     take-map see (i + 1) xs ∙ rw (take_more xs i x lt, here) (map_push see (take i xs) x) ∙ ap (λ (ys : List B). ys ++ see x ∷ []) (sym (take-map see i xs))
 
-get_seen : {A B : Type 0} (see : A → B) (xs : List A) (i : ℕ) (x : A) → i < length xs → get_or xs i x ≡ x → slice_get (map see xs) i ≡ Some (see x)
+pub get_seen : {A B : Type 0} (see : A → B) (xs : List A) (i : ℕ) (x : A) → i < length xs → get_or xs i x ≡ x → slice_get (map see xs) i ≡ Some (see x)
 get_seen see xs i x lt here = slice_get-map see xs i ∙ rw (slice_get-get_or xs i x lt, here) refl
 
 takes_more : (old middle new : RouteTable) (values : List Data) (value : Data) → TakesAll old middle values → Takes middle new value →
