@@ -47,8 +47,7 @@ VARIANTS = {
 }
 WIDTHS = {1: "One", 2: "Two", 4: "Four", 8: "Eight"}
 MOST = 256
-# The least gain of a compiled examples/ttl per record: compiled by itself, and beside other programs. There LLVM makes calls of loads and stores,
-# which have more callers, and how many depends on the programs.
+# The least gain of a compiled examples/ttl per record: compiled by itself, and beside other programs, where LLVM makes a call of each instruction.
 GAIN, GAIN_BESIDE = 150, 60
 # A program of all instructions; what it does to a packet does not matter.
 ALL = """ifhead p0,4,drop
@@ -200,7 +199,7 @@ def is_run(program: str, pipeline: pathlib.Path, reported: str) -> bool:
 
 
 def is_fast(program: str, made: str, pipeline: pathlib.Path, gain: int) -> bool:
-    """Whether a record takes so many machine instructions fewer with the compiled program; skipped if none can be counted."""
+    """Whether a record takes at least `gain` machine instructions fewer with the compiled program; skipped if none can be counted."""
     if not shutil.which("perf") and not shutil.which("valgrind"):
         print("no instructions are counted: neither perf nor valgrind is installed")
         return True
