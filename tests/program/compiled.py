@@ -47,8 +47,7 @@ VARIANTS = {
 }
 WIDTHS = {1: "One", 2: "Two", 4: "Four", 8: "Eight"}
 MOST = 256
-# The least gain of a compiled examples/ttl per record: compiled by itself, and beside random programs, where LLVM may make a call of each
-# instruction.
+# The least gain of a compiled examples/ttl per record: compiled by itself, and beside random programs, on which it depends.
 GAIN, GAIN_BESIDE = 150, 60
 # A program of all instructions; what it does to a packet does not matter.
 ALL = """ifhead p0,4,drop
