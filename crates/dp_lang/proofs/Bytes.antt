@@ -49,7 +49,7 @@ digit_plain b h = grind (arith, nat_tests)
 pub digit_letter : (b : ℕ) → is_digit b ≡ true → is_letter_or_digit b ≡ true
 digit_letter b h = grind (arith, nat_tests)
 
-pub plain_ink : (b : ℕ) → is_plain b ≡ true → is_ink b ≡ true
+plain_ink : (b : ℕ) → is_plain b ≡ true → is_ink b ≡ true
 plain_ink b h = rw h refl
 
 pub plain_blank : (b : ℕ) → is_plain b ≡ true → not (is_blank b) ≡ true
@@ -58,26 +58,27 @@ plain_blank b h = grind (arith, nat_tests)
 pub plain_comma : (b : ℕ) → is_plain b ≡ true → not (is_comma b) ≡ true
 plain_comma b h = grind (arith, nat_tests)
 
-pub plain_colon : (b : ℕ) → is_plain b ≡ true → not (is_colon b) ≡ true
-plain_colon b h = grind (arith, nat_tests)
-
-pub plain_hash : (b : ℕ) → is_plain b ≡ true → not (is_hash b) ≡ true
-plain_hash b h = grind (arith, nat_tests)
-
-pub plain_newline : (b : ℕ) → is_plain b ≡ true → not (is_newline b) ≡ true
-plain_newline b h = grind (arith, nat_tests)
-
-pub plain_text : (b : ℕ) → is_plain b ≡ true → is_text b ≡ true
-plain_text b h = grind (arith, nat_tests)
-
-pub ink_hash : (b : ℕ) → is_ink b ≡ true → not (is_hash b) ≡ true
+ink_hash : (b : ℕ) → is_ink b ≡ true → not (is_hash b) ≡ true
 ink_hash b h = grind (arith, nat_tests)
 
-pub ink_colon : (b : ℕ) → is_ink b ≡ true → not (is_colon b) ≡ true
+ink_colon : (b : ℕ) → is_ink b ≡ true → not (is_colon b) ≡ true
 ink_colon b h = grind (arith, nat_tests)
 
-pub ink_newline : (b : ℕ) → is_ink b ≡ true → not (is_newline b) ≡ true
-ink_newline b h = grind (arith, nat_tests)
+-- what the bytes of a printed instruction are, and what none of them is
+pub record Inked (s : List ℕ) : Type 0 where
+  pub hash : Free is_hash s
+  pub colon : Free is_colon s
+  pub newline : Free is_newline s
+  pub text : list_all is_text s ≡ true
 
-pub ink_text : (b : ℕ) → is_ink b ≡ true → is_text b ≡ true
-ink_text b h = grind (arith, nat_tests)
+pub inked : (s : List ℕ) → list_all is_ink s ≡ true → Inked s
+inked s h = record {
+  hash = all_implies is_ink (λ b. not (is_hash b)) ink_hash s h;
+  colon = all_implies is_ink (λ b. not (is_colon b)) ink_colon s h;
+  newline = all_implies is_ink (λ b. not (is_newline b)) (λ b is. grind (arith, nat_tests)) s h;
+  text = all_implies is_ink is_text (λ b is. grind (arith, nat_tests)) s h;
+}
+
+-- and those of a text of plain bytes
+pub ink : (s : List ℕ) → list_all is_plain s ≡ true → list_all is_ink s ≡ true
+ink s h = all_implies is_plain is_ink plain_ink s h

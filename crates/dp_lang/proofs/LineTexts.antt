@@ -10,8 +10,7 @@ use Rattle.dp_lang.specs.Kinds.{all_of}
 use Rattle.dp_lang.specs.Lines.{is_text, is_hash, is_colon, trim, pieces}
 use Rattle.dp_lang.specs.Printing.{argument_text, arguments_text, label_name}
 use Rattle.dp_lang.specs.Reading.{ProgramSource, statement_of, line_of}
-use Rattle.dp_lang.proofs.Bytes.{Free, is_plain, is_ink, plain_ink, plain_colon, plain_hash, plain_text, ink_hash, ink_colon, ink_text, all_implies}
-use Rattle.dp_lang.proofs.Bytes.{all_append, and_left, and_right}
+use Rattle.dp_lang.proofs.Bytes.{Free, is_ink, ink, inked, all_append, and_left, and_right}
 use Rattle.dp_lang.proofs.LineCuts.{split_at, split_none, before_none, begins, ends, free_begins, free_ends, ends_append, trim_none, trim_start_none}
 use Rattle.dp_lang.proofs.Joins.{beyond, arguments_text-beyond}
 use Rattle.dp_lang.proofs.Operands.{named, is_small, argument_plain, name_label, plain_digits}
@@ -22,9 +21,6 @@ begins_append [] t h = absurd cc
 begins_append (b ∷ s) t h = h
 
 -- ---- the bytes of an instruction's line
-
-ink : (s : List ℕ) → list_all is_plain s ≡ true → list_all is_ink s ≡ true
-ink s h = all_implies is_plain is_ink plain_ink s h
 
 after_ink : (before : List ℕ) (as' : List (Argument ℕ)) → list_all is_ink before ≡ true → list_all is_small as' ≡ true → list_all is_ink (beyond before as')
     ≡ true
@@ -73,12 +69,11 @@ pub line_statement : (line : ℕ) (source : ProgramSource) (f : Form) (as' : Lis
 unfolding line_of
 line_statement line source f as' h s few =
     let t = word_of f ++ arguments_text as' in
-    let inked : list_all is_ink t ≡ true = text_ink f as' s in
+    let bytes = inked t (text_ink f as' s) in
     let begun : begins t ≡ true = text_begins f (arguments_text as') in
     let cut : pieces t ≡ t ∷ [] =
-    one_piece t (all_implies is_ink (λ b. not (is_hash b)) ink_hash t inked) begun (text_ends f as' s)
-    ∙ split_none is_colon t (all_implies is_ink (λ b. not (is_colon b)) ink_colon t inked) in
-    rw (all_implies is_ink is_text ink_text t inked, cut, trim_start_none t begun, statement_read f as' h s, lt-ltb (length source.statements) 1024 few) refl
+    one_piece t bytes.hash begun (text_ends f as' s) ∙ split_none is_colon t bytes.colon in
+    rw (bytes.text, cut, trim_start_none t begun, statement_read f as' h s, lt-ltb (length source.statements) 1024 few) refl
 
 -- ---- a label's line
 
@@ -91,12 +86,11 @@ unfolding line_of statement_of
 line_label line source n small new =
     let name = label_name n in
     let t = name ++ 58 ∷ [] in
-    let plain : list_all is_plain name ≡ true = plain_digits n small in
+    let bytes = inked name (ink name (plain_digits n small)) in
     let cut : pieces t ≡ name ∷ [] ∷ [] =
-    one_piece t (all_append (λ b. not (is_hash b)) name (58 ∷ []) (all_implies is_plain (λ b. not (is_hash b)) plain_hash name plain) refl) refl
-    (ends_append name (58 ∷ []) refl)
-    ∙ split_at is_colon name 58 [] (all_implies is_plain (λ b. not (is_colon b)) plain_colon name plain) refl in
-    rw (all_append is_text name (58 ∷ []) (all_implies is_plain is_text plain_text name plain) refl, cut, name_label n small, new) refl
+    one_piece t (all_append (λ b. not (is_hash b)) name (58 ∷ []) bytes.hash refl) refl (ends_append name (58 ∷ []) refl)
+    ∙ split_at is_colon name 58 [] bytes.colon refl in
+    rw (all_append is_text name (58 ∷ []) bytes.text refl, cut, name_label n small, new) refl
 
 -- ---- an empty line
 

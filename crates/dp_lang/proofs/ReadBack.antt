@@ -13,7 +13,7 @@ use Rattle.dp_lang.specs.Printing.{statement_text, is_named, label_name, line, p
 use Rattle.dp_lang.specs.Programs.{IsProgram, is_in_range, leads_below}
 use Rattle.dp_lang.specs.Reading.{ProgramSource, line_of, lines_of, nothing, target_in, not_empty, program_of, Reads}
 use Rattle.dp_lang.specs.Forms.{spelled}
-use Rattle.dp_lang.proofs.Bytes.{Free, is_plain, is_ink, plain_newline, ink_newline, all_implies, all_append, and_left, and_right}
+use Rattle.dp_lang.proofs.Bytes.{Free, ink, inked, all_append, and_left, and_right}
 use Rattle.dp_lang.proofs.LineCuts.{split_at}
 use Rattle.dp_lang.proofs.LineTexts.{text_ink, line_statement, line_label, line_empty}
 use Rattle.dp_lang.proofs.Operands.{is_small, plain_digits}
@@ -48,11 +48,10 @@ along r s e reached = record { last = reached.last; is = e ∙ reached.is; end =
 
 free_label : (n : ℕ) → n < 2 ^ 64 → Free is_newline (label_name n ++ 58 ∷ [])
 free_label n small = all_append (λ b. not (is_newline b)) (label_name n) (58 ∷ [])
-    (all_implies is_plain (λ b. not (is_newline b)) plain_newline (label_name n) (plain_digits n small)) refl
+    (inked (label_name n) (ink (label_name n) (plain_digits n small))).newline refl
 
 free_statement : (i : Instr) → list_all is_small (spelled i).arguments ≡ true → Free is_newline (statement_text (spelled i))
-free_statement i small = all_implies is_ink (λ b. not (is_newline b)) ink_newline (statement_text (spelled i))
-    (text_ink (spelled i).form (spelled i).arguments small)
+free_statement i small = (inked (statement_text (spelled i)) (text_ink (spelled i).form (spelled i).arguments small)).newline
 
 agree_more : (done : List Instr) (i : Instr) (n : ℕ) (source : ProgramSource) → map (λ s. s.1) source.statements ≡ map with_names done →
     map (λ s. s.1) (source.statements ++ (n, with_names i) ∷ []) ≡ map with_names (done ++ i ∷ [])
