@@ -158,31 +158,40 @@ module _ (o : List ℕ) (long : 128 ≤ length o) where
       ∙ word_back y) (mbuf_after o 6 new fits 10 (omega arith)) (mbuf_after o 6 new fits 14 (omega arith))
       (mbuf_after o 6 new fits 18 (omega arith))
 
+  -- a number that is written at byte 10 or 14 stands there, and keeps the fields before it and the last one
+  module _ (at : ℕ) (n : Number) (from : 10 ≤ at) (to : at ≤ 14) where
+    abbrev here : List ℕ
+    here = then_word n.index (then_word n.pool [])
+
+    fits : at + length here ≤ length o
+    fits = omega (arith, long)
+
+    there : mbuf_number (overwritten o at here) at ≡ n
+    there =
+        number_path _ _ (word_in o at here fits (at + 2) 2 refl (omega arith)) (word_in o at here fits at 0 (omega arith) (omega arith)) ∙ mbuf_back n
+
+    number_written : (next last : Number) → mbuf_number (overwritten o at here) 10 ≡ next → mbuf_number (overwritten o at here) 14 ≡ last
+        → header_of (overwritten o at here) ≡ record (header_of o) { next = next; last = last }
+    unfolding header_of
+    number_written next last is_next is_last =
+        header_eq _ _ (word_before o at here fits 0 (omega arith)) (omega (
+          arith,
+          word_before o at here fits 2 (omega arith),
+          word_before o at here fits 4 (omega arith),
+        )) (word_before o at here fits 6 (omega arith)) (word_before o at here fits 8 (omega arith)) is_next is_last
+        (mbuf_after o at here fits 18 (omega arith))
+
   next_written : (n : Number) → header_of (overwritten o 10 (then_word n.index (then_word n.pool []))) ≡ record (header_of o) { next = n }
   unfolding header_of
   next_written n =
-      let new : List ℕ = then_word n.index (then_word n.pool []) in
-      let fits : 10 + length new ≤ length o = omega arith in
-      header_eq _ _ (word_before o 10 new fits 0 (omega arith)) (omega (
-        arith,
-        word_before o 10 new fits 2 (omega arith),
-        word_before o 10 new fits 4 (omega arith),
-      )) (word_before o 10 new fits 6 (omega arith)) (word_before o 10 new fits 8 (omega arith))
-      (number_path _ _ (word_in o 10 new fits 12 2 refl (omega arith)) (word_in o 10 new fits 10 0 refl (omega arith))
-      ∙ mbuf_back n) (mbuf_after o 10 new fits 14 (omega arith)) (mbuf_after o 10 new fits 18 (omega arith))
+      let at = mbuf_after o 10 (here 10 n (omega arith) (omega arith)) (fits 10 n (omega arith) (omega arith)) in
+      number_written 10 n (omega arith) (omega arith) n (mbuf_number o 14) (there 10 n (omega arith) (omega arith)) (at 14 (omega arith))
 
   last_written : (n : Number) → header_of (overwritten o 14 (then_word n.index (then_word n.pool []))) ≡ record (header_of o) { last = n }
   unfolding header_of
   last_written n =
-      let new : List ℕ = then_word n.index (then_word n.pool []) in
-      let fits : 14 + length new ≤ length o = omega arith in
-      header_eq _ _ (word_before o 14 new fits 0 (omega arith)) (omega (
-        arith,
-        word_before o 14 new fits 2 (omega arith),
-        word_before o 14 new fits 4 (omega arith),
-      )) (word_before o 14 new fits 6 (omega arith)) (word_before o 14 new fits 8 (omega arith))
-      (mbuf_before o 14 new fits 10 (omega arith)) (number_path _ _ (word_in o 14 new fits 16 2 refl (omega arith))
-      (word_in o 14 new fits 14 0 refl (omega arith)) ∙ mbuf_back n) (mbuf_after o 14 new fits 18 (omega arith))
+      let at = mbuf_before o 14 (here 14 n (omega arith) (omega arith)) (fits 14 n (omega arith) (omega arith)) in
+      number_written 14 n (omega arith) (omega arith) (mbuf_number o 10) n (at 10 (omega arith)) (there 14 n (omega arith) (omega arith))
 
 -- ---- the header afterwards
 
