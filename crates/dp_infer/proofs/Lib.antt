@@ -2,6 +2,7 @@ pub mod Stronger
 pub mod Registers
 pub mod Changes
 pub mod PacketTests
+pub mod Pairing
 pub mod RowsAfter
 pub mod JoinLaws
 pub mod RowLists

@@ -1,12 +1,7 @@
--- The indexes so far are done.
-use Rattle.std.proofs.Common.{◌≡◌, ◌++◌, take, drop, length}
-use Rattle.dp_infer.specs.Joins.{paired}
-use Rattle.dp_infer.specs.Widening as spec
+-- The bounds so far are raised.
+use Rattle.dp_infer.specs.Widening.{raised}
+use Rattle.dp_infer.proofs.Pairing.{IsPairedTo}
 use Rattle.dp_infer.proofs.widening.raised_bounds.Given as goal
 
 abbrev pub invariant-loop-i : goal.invariant-loop-i
-invariant-loop-i l = record {
-  found : take l.i l.greater ++ paired (spec.raised l.program l.slow) (drop l.i l.before) (drop l.i l.now)
-      ≡ paired (spec.raised l.program l.slow) l.before l.now;
-  eight : length l.greater ≡ 8;
-}
+invariant-loop-i l = IsPairedTo (raised l.program l.slow) l.i l.greater l.before l.now
