@@ -25,6 +25,11 @@ stay : (g : _) (c : After-act g) → (c.act.new.m.pools ≡ c.args.m.now.pools) 
 stay g c =
     (c.act.ensures.pools ∙ ap (λ (x : Core). x.pools) c.count_step.ensures, c.act.ensures.frames ∙ ap (λ (x : Core). x.frames) c.count_step.ensures)
 
+pub shown-here-requires : goal.shown-here-requires
+shown-here-requires g c =
+    let (P, m0, w0, h, here) = c.requires.midway in
+    (stands_within h c.args.instr.now here).within
+
 pub act-requires-clause-has : goal.act-requires-clause-has
 act-requires-clause-has g c =
     let (P, m0, w0, h, here) = c.requires.midway in
@@ -45,30 +50,6 @@ act-requires-clause-few g c =
       ap (λ (x : Core). x.state.world.calls) c.count_step.ensures,
       (standing g (goal.at.act-requires-clause-few g c).After-count_step).few_calls,
     )
-
-pub overflow_cast-label : goal.overflow_cast-label
-overflow_cast-label g c = omega (arith, (standing g (goal.at.overflow_cast-label g c).After-count_step).within)
-
-pub overflow_cast-label-in-On : goal.overflow_cast-label-in-On
-overflow_cast-label-in-On g c = omega (arith, (standing g (goal.at.overflow_cast-label-in-On g c).After-count_step).within)
-
-pub overflow_cast-label-then-not-jump : goal.overflow_cast-label-then-not-jump
-overflow_cast-label-then-not-jump g c = omega (arith, (standing g (goal.at.overflow_cast-label-then-not-jump g c).After-count_step).within)
-
-pub overflow_cast-label-in-To : goal.overflow_cast-label-in-To
-overflow_cast-label-in-To g c = omega (arith, (standing g (goal.at.overflow_cast-label-in-To g c).After-count_step).within)
-
-pub see-requires : goal.see-requires
-see-requires g c = omega (arith, (standing g (goal.at.see-requires g c).After-count_step).within)
-
-pub see-requires-in-On : goal.see-requires-in-On
-see-requires-in-On g c = omega (arith, (standing g (goal.at.see-requires-in-On g c).After-count_step).within)
-
-pub see-requires-then-not-jump : goal.see-requires-then-not-jump
-see-requires-then-not-jump g c = omega (arith, (standing g (goal.at.see-requires-then-not-jump g c).After-count_step).within)
-
-pub see-requires-in-To : goal.see-requires-in-To
-see-requires-in-To g c = omega (arith, (standing g (goal.at.see-requires-in-To g c).After-count_step).within)
 
 pub taken-requires-clause-few : goal.taken-requires-clause-few
 taken-requires-clause-few g c =
@@ -106,7 +87,8 @@ returns-in-None g c =
           let (pools, frames) = stay g (goal.at.returns-in-None g c).After-act in
           led_end h m2 c.see.new.self c.taken.result
           (stepped_at h c.count_step.new.self m2 c.args.instr.now None here c.count_step.ensures c.in-None.ensures.acts) pools frames
-          (c.in-None.ensures.idle refl) c.taken.ensures.steps c.taken.ensures.cuts (seen_of g.W.Watch.sees c.of.ensures c.see.ensures);
+          (c.in-None.ensures.idle refl) c.taken.ensures.steps c.taken.ensures.cuts
+          (seen_of g.W.Watch.sees c.shown-here.ensures.same c.of.ensures c.see.ensures);
     }
 
 pub returns-in-On : goal.returns-in-On
@@ -118,7 +100,7 @@ returns-in-On g c =
           let s = controlled_at h c.count_step.new.self m2 c.args.instr.now c.in-Some.control On here c.count_step.ensures c.in-On.is c.in-Some.ensures.acts in
           let (pools, frames) = stay g (goal.at.returns-in-On g c).After-act in
           led_forward h m2 c.see-in-On.new.self c.args.ahead (c.args.label + 1) way.On s pools frames (omega arith) (omega arith) (refl, refl)
-          (seen_of g.W.Watch.sees c.of-in-On.ensures c.see-in-On.ensures);
+          (seen_of g.W.Watch.sees c.shown-here.ensures.same c.of-in-On.ensures c.see-in-On.ensures);
     }
 
 pub returns-then-not-jump : goal.returns-then-not-jump
@@ -135,7 +117,7 @@ returns-then-not-jump g c =
           led_out h m2 c.cut.new.self c.see-then-not-jump.new.self c.from-to.result c.taken-then-not-jump.result s pools frames c.if-to-label.true over is
           (subst (λ (x : Core). AllByRecursion (λ (o : Option (List Segment)). o ≡ None) x.state.packets) (sym is) (search rules))
           c.taken-then-not-jump.ensures.steps c.taken-then-not-jump.ensures.cuts
-          (seen_of g.W.Watch.sees (c.of-then-not-jump.ensures ∙ same) c.see-then-not-jump.ensures);
+          (seen_of g.W.Watch.sees c.shown-here.ensures.same (c.of-then-not-jump.ensures ∙ same) c.see-then-not-jump.ensures);
     }
 
 pub returns-else-to-label : goal.returns-else-to-label
@@ -164,10 +146,11 @@ returns-else-to-label g c =
             | else-to-label-via-then-to-label+else-not-jump w ↦
                 let (room, same) = w.if-not-jump.ensures.taken refl in
                 led_back h m2 c.else-to-label.m v2 ahead' to (way.To to) s pools frames w.if-to-label.true room (w.m-is ∙ same) more
-                (refl, names, ap (λ (x : Core). x.state) (w.m-is ∙ same)) (seen_to sees c.from-to.ensures c.of-in-To.ensures c.see-in-To.ensures)
+                (refl, names, ap (λ (x : Core). x.state) (w.m-is ∙ same))
+                (seen_to sees c.from-to.ensures c.shown-here.ensures.same c.of-in-To.ensures c.see-in-To.ensures)
             | else-to-label-via-else-to-label w ↦
                 subst (λ (x : Core). StepResult sees S P m0 w0 m label x v2 (There to ahead')) (sym w.m-is)
                 (led_forward h m2 v2 ahead' to (way.To to) s pools frames w.if-to-label.false more (refl, names, refl)
-                (seen_to sees c.from-to.ensures (c.of-in-To.ensures ∙ w.m-is) c.see-in-To.ensures))
+                (seen_to sees c.from-to.ensures c.shown-here.ensures.same (c.of-in-To.ensures ∙ w.m-is) c.see-in-To.ensures))
           ];
     }
