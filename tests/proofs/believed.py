@@ -19,7 +19,7 @@ BEGIN, END = "<!-- believed: begin -->", "<!-- believed: end -->"
 # Each promise: its crate, the file of src/ that has it, the function, and a short description.
 PROMISES = (
     ("dp_pipe", "running", "run", "captures to captures"),
-    ("dp_pipe", "loading", "load", "a pipeline is what its text says"),
+    ("dp_load", "loading", "load", "a pipeline is what its text says"),
     ("dp_copies", "laws", "clones_are_copies", "clones are copies"),
     ("dp_model", "laws", "accepted_programs_are_safe", "accepted programs are never stuck"),
     ("dp_check", "checked", "check", "the checker is exact"),

@@ -7,7 +7,7 @@ use Rattle.dp_pipe.specs.declared.forwarding.RunCause.TheVariants.{Memory, NoRoo
 use Rattle.dp_pipe.specs.declared.running.RunFault.{RunFault}
 use Rattle.dp_pipe.specs.Devices.{AllFared, AllSound, Device, failed_reader, failed_writer, seen, transfer}
 use Rattle.dp_pipe.specs.Headline.{Forwarded, StoppedBy}
-use Rattle.dp_pipe.specs.Pipelines.{Plan}
+use Rattle.dp_load.specs.Pipelines.{Plan}
 use Rattle.dp_pipe.specs.Running.{answer_of}
 use Rattle.dp_pipe.specs.Watched.{WatchesRun}
 use Rattle.dp_captures.specs.declared.closing.Flushed.{Flushed}

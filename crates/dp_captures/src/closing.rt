@@ -12,8 +12,9 @@ use crate::guarded::Guarded;
 use crate::watched::Inlet;
 use arrayvec::ArrayVec;
 use dp_engine::{CompiledPrograms, PortReport, Report, Watch};
+use dp_load::Pipeline;
 use dp_pcap::{OfBufWriter, Sink};
-use dp_pipe::{Pipeline, RunCause, RunFault, run_watched};
+use dp_pipe::{RunCause, RunFault, run_watched};
 use std::alloc::Global;
 use std::io::{Error, Write};
 

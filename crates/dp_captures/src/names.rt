@@ -4,7 +4,7 @@ ghost use Rattle.std.specs.Prelude.{◌≡◌, ◌≤◌, length, map, IfOk};
 ghost use Rattle.dp_captures.specs.Names.{captures_from, input_capture, output_capture};
 
 use crate::words::{Place, Replacements, capture_at};
-use dp_pipe::Pipeline;
+use dp_load::Pipeline;
 use std::alloc::{AllocError, Global};
 
 /// The captures of a port: their names, and where they are.

@@ -8,9 +8,9 @@ use Rattle.dp_cert.specs.Spelling.{Certificate}
 use Rattle.dp_check.specs.Faults.{IsWith}
 use Rattle.dp_console.specs.{Replies.EndsWith, declared.reply.Reply.Reply}
 use Rattle.dp_model.specs.{Environments.Environment, declared.env.Entry.Entry, declared.env.Entry.TheVariants.Port}
-use Rattle.dp_pipe.specs.declared.{error.PipeError.PipeError, nodes.How.How, single.SingleFiles.SingleFiles}
-use Rattle.dp_pipe.specs.declared.nodes.How.TheVariants as how
-use Rattle.dp_pipe.specs.{Files.FileMap, Loads.IsLoadedFrom, Loads.IsUnloaded, Pipelines.Plan, Singles.IsSinglePlan}
+use Rattle.dp_load.specs.declared.{error.PipeError.PipeError, nodes.How.How, single.SingleFiles.SingleFiles}
+use Rattle.dp_load.specs.declared.nodes.How.TheVariants as how
+use Rattle.dp_load.specs.{Files.FileMap, Loads.IsLoadedFrom, Loads.IsUnloaded, Pipelines.Plan, Singles.IsSinglePlan}
 use Rattle.dp_sources.specs.{Subjects.one_port, declared.subject.TheConstants.ONE_REGION}
 use Rattle.dp_verdict.specs.{Checks.SaysChecked, Inferring.SaysCert, Inferring.SaysInferred, Inferring.node_at}
 use Rattle.dp_cli.specs.Operands.{calls_in, operand, word_of}

@@ -13,7 +13,8 @@ use Rattle.dp_console.specs.declared.reply.Reply.{Reply}
 use Rattle.dp_model.specs.Environments.{Environment}
 use Rattle.dp_pcap.specs.OfStd.{buffered_feed_health, buffered_reader, buffered_sink_health, buffered_writer}
 use Rattle.dp_pcap.specs.{Buffers.writer_contents, declared.of_buf_reader.OfBufReader.OfBufReader, declared.of_buf_writer.OfBufWriter.OfBufWriter}
-use Rattle.dp_pipe.specs.{Pipelines.Plan, Running.answer_of, declared.single.SingleFiles.SingleFiles}
+use Rattle.dp_load.specs.{Pipelines.Plan, declared.single.SingleFiles.SingleFiles}
+use Rattle.dp_pipe.specs.Running.{answer_of}
 use Rattle.dp_runs.specs.{Replies.IsReplied, Replies.status_of, Watching.IsRunUnder, declared.run.Watcher.Watcher}
 use Rattle.dp_cli.specs.Operands.{IsFlag, operand, option_within}
 

@@ -5,8 +5,8 @@ use Rattle.clap.specs.declared.parser.matches.Found.{Found}
 use Rattle.dp_captures.specs.Words.{rows_of}
 use Rattle.dp_console.specs.declared.reply.Reply.{Reply}
 use Rattle.dp_model.specs.{Environments.Environment, Environments.fault_of, declared.env.Entry.Entry, declared.env.EnvError.EnvError}
-use Rattle.dp_pipe.specs.declared.{config.Config.Config, error.PipeError.PipeError, nodes.How.How, single.SingleFiles.SingleFiles}
-use Rattle.dp_pipe.specs.{Config.IsConfigOf, Config.IsFaultOf, Files.FileMap, Loads.IsUnloaded, Nodes.Fails, Singles.single_node}
+use Rattle.dp_load.specs.declared.{config.Config.Config, error.PipeError.PipeError, nodes.How.How, single.SingleFiles.SingleFiles}
+use Rattle.dp_load.specs.{Config.IsConfigOf, Config.IsFaultOf, Files.FileMap, Loads.IsUnloaded, Nodes.Fails, Singles.single_node}
 use Rattle.dp_verdict.specs.Checks.{SaysRefused}
 use Rattle.dp_cli.specs.Operands.{IsFlag, calls_in, number_of, tables_from, word_of}
 use Rattle.dp_cli.specs.Runs.{IsFilterPort, room_in, segs_in, words_of}

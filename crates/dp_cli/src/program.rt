@@ -16,7 +16,7 @@ use clap::error::ErrorKind;
 use dp_captures::Streams;
 use dp_console::{Console, DONE, FAULT, Reply, USAGE};
 use dp_engine::{CompiledPrograms, Nothing};
-use dp_pipe::How;
+use dp_load::How;
 use dp_script::mem_reply;
 use dp_show::compile_reply;
 use dp_sources::Fault;

@@ -13,8 +13,8 @@ use crate::operands::node_named;
 use clap::ArgMatches;
 use dp_captures::Streams;
 use dp_console::{MEMORY, Reply, Text, USAGE};
+use dp_load::{How, Pipeline, Survey, load, survey_of};
 use dp_model::{Entry, Env};
-use dp_pipe::{How, Pipeline, Survey, load, survey_of};
 use dp_sources::{
     Because, Fault, FaultReason, Lent, RouteFile, Source, Sources, Subject, joined, one_env, read,
     read_sources,

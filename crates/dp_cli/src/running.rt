@@ -8,7 +8,7 @@ ghost use Rattle.dp_cli.specs.Commands.{EndsFilter, EndsLoaded, EndsOne, EndsRun
 ghost use Rattle.dp_cli.specs.Operands.{calls_in, option_within};
 ghost use Rattle.dp_cli.specs.Runs.{AreGiven, EndsOver, IsFilterPort, SaysRun, status_unopened, words_of};
 ghost use Rattle.dp_cli.specs.Stops.{HasWrongNumber, StopsAtWords};
-ghost use Rattle.dp_pipe.specs.Singles.{HasOnePort};
+ghost use Rattle.dp_load.specs.Singles.{HasOnePort};
 ghost use Rattle.dp_region.specs.Region.{IsRegionSize};
 
 use crate::operands::{number_in, numbers_in};
@@ -20,8 +20,8 @@ use dp_captures::{
 };
 use dp_console::{Reply, Text};
 use dp_engine::{CompiledPrograms, Nothing, need};
+use dp_load::{How, NodeName, Pipeline, SingleFiles, load_single};
 use dp_model::{Entry, Env, MAX_ROOM, MAX_SEGMENTS, MIN_PORT_ROOM, PoolSpec, PortSpec};
-use dp_pipe::{How, NodeName, Pipeline, SingleFiles, load_single};
 use dp_region::{CACHE_LINE, MAX_REGION, MIN_REGION};
 use dp_runs::{
     Counting, Notes, Origin, Printing, ProgramText, Ran, Wanted, Watcher, problem_of_run, reply_of,

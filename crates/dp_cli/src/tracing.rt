@@ -10,8 +10,9 @@ use dp_captures::{CaptureNames, CaptureProblem, Replacements, names_of, open_inp
 use dp_console::{DONE, FAULT, Reply, Text};
 use dp_engine::Nothing;
 use dp_lang::listing_of;
+use dp_load::{How, Pipeline, SingleFiles, load, load_single};
 use dp_model::Entry;
-use dp_pipe::{How, MAX_RUN_TURNS, Pipeline, RunCause, SingleFiles, Traced, load, load_single};
+use dp_pipe::{MAX_RUN_TURNS, RunCause, Traced};
 use dp_runs::say_stop;
 use dp_sources::{Lent, ONE_REGION, Sources, Subject, one_env};
 use dp_trace::{

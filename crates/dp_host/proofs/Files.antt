@@ -4,7 +4,7 @@ use Rattle.std.proofs.Common.{take_at, drop_at}
 use Rattle.std.specs.Prelude.{Result, Ok, Err, IfOk, IfErr, is_err, is_ok, false, if◌then◌else◌}
 use Rattle.std.specs.List.{AllByRecursion}
 use Rattle.std.specs.Str.{IsUtf8}
-use Rattle.dp_pipe.specs.declared.listed.NamedBytes.{NamedBytes}
+use Rattle.dp_load.specs.declared.listed.NamedBytes.{NamedBytes}
 use Rattle.dp_host.specs.declared.packed.TheConstants.{MAX_FILES}
 use Rattle.dp_host.specs.Packing.{AreFiles, ArePacked, BeginsWithFile, BeginsWithNoFile, NotPacked, first_number}
 

@@ -34,7 +34,7 @@ use Rattle.dp_engine.specs.Outcomes.{outcome_of}
 use Rattle.dp_engine.specs.Rerouting as rerouting
 use Rattle.dp_engine.specs.Schemes.{IsScheme, scheme_of}
 use Rattle.dp_engine.specs.Steps.{routes_of}
-use Rattle.dp_pipe.specs.Pipelines.{Plan, IsPlan}
+use Rattle.dp_load.specs.Pipelines.{Plan, IsPlan}
 use Rattle.dp_pipe.specs.Running.{IsFirst, setting_in, programs_in}
 use Rattle.dp_pipe.specs.Laws.{are_nodes, all_checked}
 use Rattle.dp_host.specs.Calls.{Call, Change, Event, Passed, Changed, Changes, HasServedCalls, AreOneRun, Promised, arrival_of, frames_by_port, sent_in}

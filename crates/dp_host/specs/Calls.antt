@@ -16,7 +16,7 @@ use Rattle.dp_copies.specs.CopiedUses.{Shown}
 use Rattle.dp_engine.specs.Batches.{Frame}
 use Rattle.dp_engine.specs.Engines.{EngineState}
 use Rattle.dp_engine.specs.Steps.{routes_of}
-use Rattle.dp_pipe.specs.Pipelines.{Plan, IsPlan}
+use Rattle.dp_load.specs.Pipelines.{Plan, IsPlan}
 use Rattle.dp_pipe.specs.Running.{IsFirst, setting_in, programs_in}
 
 -- ---- calls

@@ -23,14 +23,14 @@ use Rattle.dp_engine.specs.Engines.{EngineState, max_turns}
 use Rattle.dp_engine.specs.Outcomes.{outcome_of}
 use Rattle.dp_engine.specs.Rerouting.{with_tables}
 use Rattle.dp_engine.specs.Shapes.{AreWaiting}
-use Rattle.dp_pipe.specs.declared.error.PipeError.{PipeError}
+use Rattle.dp_load.specs.declared.error.PipeError.{PipeError}
 use Rattle.dp_pipe.specs.declared.forwarding.RunCause.TheVariants as run_cause
-use Rattle.dp_pipe.specs.declared.nodes.How.TheVariants.{Given}
-use Rattle.dp_pipe.specs.declared.listed.NamedBytes.{NamedBytes}
-use Rattle.dp_pipe.specs.Causes.{number_of, text_of}
-use Rattle.dp_pipe.specs.Listed.{listed}
-use Rattle.dp_pipe.specs.Loads.{IsLoadedFrom, IsUnloaded}
-use Rattle.dp_pipe.specs.Pipelines.{Plan}
+use Rattle.dp_load.specs.declared.nodes.How.TheVariants.{Given}
+use Rattle.dp_load.specs.declared.listed.NamedBytes.{NamedBytes}
+use Rattle.dp_load.specs.Causes.{number_of, text_of}
+use Rattle.dp_load.specs.Listed.{listed}
+use Rattle.dp_load.specs.Loads.{IsLoadedFrom, IsUnloaded}
+use Rattle.dp_load.specs.Pipelines.{Plan}
 use Rattle.dp_pipe.specs.Running.{IsUnopened}
 use Rattle.dp_host.specs.declared.host.OpenError.{OpenError}
 use Rattle.dp_host.specs.declared.host.OpenError.TheVariants.{Unread, Load, Open}

@@ -7,7 +7,7 @@ use Rattle.dp_engine.specs.declared.engine.Outcome.{Outcome}
 use Rattle.dp_engine.specs.declared.engine.Outcome.TheVariants.{Got, NoBuffer, Oversize}
 use Rattle.dp_engine.specs.Engines.{EngineState}
 use Rattle.dp_engine.specs.Outcomes.{outcome_of}
-use Rattle.dp_pipe.specs.Pipelines.{Plan}
+use Rattle.dp_load.specs.Pipelines.{Plan}
 use Rattle.dp_host.specs.declared.numbers.BurstFrame.{BurstFrame}
 use Rattle.dp_host.specs.declared.numbers.Room.{Room}
 use Rattle.dp_host.specs.declared.refusal.Refusal.{Refusal}

@@ -3,7 +3,7 @@ use Rattle.std.specs.Prelude.{◌≡◌, ℕ, ◌≤◌, List, [], ◌∷◌, �
 use Rattle.std.specs.Int.{w32, from_le_bytes}
 use Rattle.std.specs.List.{AllByRecursion}
 use Rattle.std.specs.Str.{IsUtf8}
-use Rattle.dp_pipe.specs.declared.listed.NamedBytes.{NamedBytes}
+use Rattle.dp_load.specs.declared.listed.NamedBytes.{NamedBytes}
 use Rattle.dp_host.specs.declared.packed.TheConstants.{MAX_FILES}
 
 -- the little-endian number in the first four bytes

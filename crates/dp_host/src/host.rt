@@ -1,7 +1,7 @@
 //! The contents of a caller's memory: an open engine, or none, with the explanation.
 
 ghost use Rattle.std.specs.Prelude.{◌≡◌, ◌≤◌, [], ◌++◌, drop, length, IfErr, IfOk};
-ghost use Rattle.dp_pipe.specs.Pipelines.{IsPlan};
+ghost use Rattle.dp_load.specs.Pipelines.{IsPlan};
 ghost use Rattle.dp_pipe.specs.Running.{IsUnopened};
 ghost use Rattle.dp_host.specs.Calls.{HasServedCalls};
 ghost use Rattle.dp_host.specs.Hosts.{AddAnswers, DeleteAnswers, LookupAnswers, SetsOrRefuses, CloseAnswers, IsOpenErrorFor, IsOpenedFor, IsPoolStats};
@@ -16,8 +16,9 @@ use crate::refusal::Refusal;
 use crate::running::Running;
 use dp_copies::{clones_are_copies, uses_are_copied};
 use dp_engine::{Outcome, Pass, SentRecord};
+use dp_load::{How, Listed, PipeError, Pipeline, load};
 use dp_model::{runs_keep_safe, uses_join, uses_keep_safe, whole_runs_end_with_whole_pools};
-use dp_pipe::{How, Listed, PipeError, Pipeline, RunCause, engine_of, load};
+use dp_pipe::{RunCause, engine_of};
 use std::alloc::Global;
 
 /// An open engine, or the refusal that calls return when there is none; and why the pipeline was not loaded, if it was not.

@@ -4,7 +4,7 @@ ghost use Rattle.std.specs.Prelude.{◌≡◌, ◌≢◌, ◌≤◌, [], length,
 ghost use Rattle.std.specs.Str.{IsUtf8};
 ghost use Rattle.dp_host.specs.Packing.{ArePacked, BeginsWithFile, BeginsWithNoFile, NotPacked, first_number};
 
-use dp_pipe::NamedBytes;
+use dp_load::NamedBytes;
 use std::alloc::Global;
 
 /// The maximum number of files in a buffer.

@@ -18,11 +18,17 @@ use Rattle.dp_engine.specs.Drains.{captured}
 use Rattle.dp_pipe.specs.Devices.{Device, IsGiven, At}
 use Rattle.dp_pipe.specs.Forwarding.{Input, timed_records, arrivals_of, asked, AnswersSo, AskedUntil, capture_of, capture_at, records_text, AreWritten}
 use Rattle.dp_pipe.specs.Forwarding.{drained_at}
-use Rattle.dp_pipe.proofs.Indices.{set_here}
 use Rattle.dp_pipe.proofs.Forwarded.{split}
 use Rattle.dp_pipe.proofs.Interleaving.{AreFew, interleaved_more}
 use Rattle.dp_pipe.proofs.RunOn.{arrival}
 use Rattle.dp_pipe.proofs.Giving.{given_then}
+
+-- ---- what is there, and what is set
+
+pub set_here : {A : Type 0} (xs : List A) (n : ℕ) (x y : A) → slice_get (slice_set xs n x) n ≡ Some y → x ≡ y
+set_here [] n x y e = cc
+set_here (z ∷ xs) zero x y e = same_Some x y e
+set_here (z ∷ xs) (suc n) x y e = set_here xs n x y e
 
 -- ---- what was written
 

@@ -11,9 +11,9 @@ use Rattle.dp_pipe.specs.declared.running.RunFault.{RunFault}
 use Rattle.dp_pipe.specs.Devices.{Transfer}
 use Rattle.dp_pipe.specs.Forwarding.{Input, RanOnInputs, arrivals_of, capture_at, unit_for, units_of}
 use Rattle.dp_pipe.specs.Headline.{PacketRun, HasRunNumbers, AreGiven, capture_text, Forwarded}
-use Rattle.dp_pipe.specs.Pipelines.{Plan}
+use Rattle.dp_load.specs.Pipelines.{Plan}
 use Rattle.dp_pipe.specs.Running.{RunAnswers, RanOn, RoundsMade, IsFirst, GoesForward, IsReportOf}
-use Rattle.dp_pipe.proofs.Loaded.{few}
+use Rattle.dp_load.specs.Laws.{few}
 use Rattle.dp_pipe.proofs.Numbers.{numbers_reported}
 use Rattle.dp_pipe.proofs.PacketRuns.{IsReady, run_of, counted_run}
 use Rattle.dp_pipe.proofs.Texts.{given_all}

@@ -14,7 +14,7 @@ use Rattle.dp_engine.specs.Engines.{EngineState, IsAscending, no_tallies, with_l
 use Rattle.dp_engine.specs.Reports.{port_report}
 use Rattle.dp_engine.specs.Tallies.{refused_of}
 use Rattle.dp_pipe.specs.declared.forwarding.InputProgress.{InputProgress}
-use Rattle.dp_pipe.specs.Pipelines.{Plan}
+use Rattle.dp_load.specs.Pipelines.{Plan}
 use Rattle.dp_pipe.specs.Running.{IsBegun, IsFirst, IsIdle, IsReportOf, with_states}
 use Rattle.dp_pipe.proofs.Numbers.{left_only}
 

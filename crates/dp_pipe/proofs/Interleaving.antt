@@ -4,7 +4,7 @@ use Rattle.std.specs.Prelude.{slice_get, slice_set, option_map, option_to_list}
 use Rattle.std.proofs.lemmas.List.{length-append, append_assoc}
 use Rattle.std.proofs.lemmas.Option.{slice_get_past, same_Some}
 use Rattle.dp_model.specs.Runs.{Arrival, round_of, rounds, longest, interleaved}
-use Rattle.dp_pipe.proofs.Indices.{front_of}
+use Rattle.dp_load.specs.Laws.{front_of}
 
 -- a record of an input, as it comes to a port
 abbrev pub arriving : {T : Type 0} → ℕ → T × List ℕ → Arrival T

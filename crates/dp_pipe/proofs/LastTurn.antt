@@ -21,7 +21,7 @@ use Rattle.dp_engine.specs.Tallies.{counted}
 use Rattle.dp_pipe.specs.Devices.{Device, Transfer, IsGiven}
 use Rattle.dp_pipe.specs.Forwarding.{Input, FailedAt, capture_at, capture_of, drained_at, records_text, tally_of}
 use Rattle.dp_pipe.specs.Headline.{PacketRun, GoesOnBy, WroteFront, capture_text, sent_until}
-use Rattle.dp_pipe.specs.Pipelines.{Plan}
+use Rattle.dp_load.specs.Pipelines.{Plan}
 use Rattle.dp_pipe.specs.Running.{HeadersWritten, IsFirst, setting_in, programs_in}
 use Rattle.dp_pipe.proofs.Advancing.{joined_here, texts_append}
 use Rattle.dp_pipe.proofs.Giving.{given_then}
@@ -30,7 +30,7 @@ use Rattle.dp_model.specs.Laws.Lists.{get_within}
 use Rattle.dp_pipe.proofs.Forwarded.{split, tallies_other, tallies_same}
 use Rattle.dp_pipe.proofs.Numbers.{IsCounted}
 use Rattle.dp_pipe.proofs.PacketRuns.{IsReady, packet_run, ran, run_of, counted_run, rings_there}
-use Rattle.dp_pipe.proofs.Indices.{beyond}
+use Rattle.dp_load.specs.Laws.{beyond}
 use Rattle.dp_pipe.proofs.RunOn.{counted_sent, outcomes_many, shown_in, tally_more, turn_tally}
 use Rattle.dp_pipe.proofs.Through.{stays_failed}
 

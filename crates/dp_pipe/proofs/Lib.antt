@@ -1,15 +1,5 @@
 -- Lists the lemma files.
-pub mod Digits
-pub mod Each
-pub mod Elements
-pub mod Environments
-pub mod Gathered
-pub mod Loaded
-pub mod Named
-pub mod Indices
 pub mod Kept
-pub mod Planned
-pub mod Taking
 pub mod Interleaving
 pub mod Giving
 pub mod Forwarded
@@ -18,7 +8,6 @@ pub mod Advancing
 pub mod Lending
 pub mod Heading
 pub mod Following
-pub mod SinglePlans
 pub mod Stepping
 pub mod Units
 pub mod Texts
@@ -36,5 +25,4 @@ pub mod TracedTurns
 pub mod TracedReads
 pub mod Watched
 pub mod Reading
-pub mod Regions
 pub mod Faring

@@ -18,7 +18,7 @@ use Rattle.dp_engine.specs.Tallies.{Tallied, counted, how_many, is_got, is_nobuf
 use Rattle.dp_pipe.specs.declared.forwarding.InputProgress.{InputProgress}
 use Rattle.dp_pipe.specs.Forwarding.{Input, tally_of}
 use Rattle.dp_pipe.specs.Headline.{PacketRun, HasRunNumbers, outcomes_at, port_numbers}
-use Rattle.dp_pipe.specs.Pipelines.{Plan}
+use Rattle.dp_load.specs.Pipelines.{Plan}
 use Rattle.dp_pipe.specs.Running.{IsReportOf, with_states, setting_in}
 
 -- ---- what became of the records of a port

@@ -19,7 +19,9 @@ use Rattle.dp_engine.specs.Drains.{captured}
 use Rattle.dp_engine.specs.Engines.{EngineState, no_tallies, tallies_at}
 use Rattle.dp_pipe.specs.Forwarding.{HasRun, capture_at, capture_of, tally_of}
 use Rattle.dp_pipe.specs.Headline.{PacketRun}
-use Rattle.dp_pipe.specs.Pipelines.{Plan}
+use Rattle.dp_engine.specs.Laws.{plan_of}
+use Rattle.dp_load.specs.Pipelines.{Plan, IsPlan}
+use Rattle.dp_pipe.specs.Laws.{are_nodes, all_checked}
 use Rattle.dp_pipe.specs.Running.{IsFirst, setting_in, programs_in}
 use Rattle.dp_pipe.proofs.RunOn.{shown_in}
 use Rattle.dp_pipe.proofs.Numbers.{IsCounted}
@@ -38,6 +40,12 @@ pub record IsReady (p : Plan) (pattern : List ℕ) : Type 0 where
   pub pipeline : IsPipeline (setting_in p pattern) (programs_in p)
   pub tables : TablesFit (setting_in p pattern)
   pub laws : AreLaws
+
+pub is_ready : (p : Plan) (pattern : List ℕ) → IsPlan p → AreLaws → IsReady p pattern
+is_ready p pattern plan laws =
+    let engine =
+    plan_of p.env p.tables p.nodes pattern plan.limits (are_nodes p.env p.nodes plan.nodes) plan.tables (all_checked p.env p.nodes plan.nodes) plan.hops in
+    record { limits = plan.limits; pipeline = engine.pipeline; tables = engine.tables_fit; laws = laws }
 
 -- so its runs are safe
 pub safe_runs : (p : Plan) (pattern : List ℕ) (arrivals : List (Arrival Time)) (w : World) → IsReady p pattern → IsStart p.env w

@@ -16,9 +16,8 @@ use Rattle.dp_engine.specs.declared.report.InputState.TheVariants.{Open}
 use Rattle.dp_pipe.specs.declared.forwarding.InputProgress.{InputProgress}
 use Rattle.dp_pipe.specs.Devices.{Device, At}
 use Rattle.dp_pipe.specs.Forwarding.{Input, AreProgressOf, AreRead, HasPulled, HasReadSo, IsProgressOf, IsRead, IsReadTo, PullsUpTo, Refuses, last_pulls}
-use Rattle.dp_pipe.proofs.Advancing.{with_record, ended}
+use Rattle.dp_pipe.proofs.Advancing.{with_record, ended, set_here}
 use Rattle.dp_pipe.proofs.Giving.{read_as, read_open}
-use Rattle.dp_pipe.proofs.Indices.{set_here}
 use Rattle.dp_pipe.proofs.Stepping.{all_progress, calls_ended, calls_more, known_then, open_read, progress_more, progress_ended, pulls_ended, pulls_failed}
 
 progress_at : (progress : List InputProgress) (inputs : List Input) (q : ℕ) (i : Input) → length progress ≡ length inputs → slice_get inputs q ≡ Some i →

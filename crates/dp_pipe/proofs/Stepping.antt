@@ -21,8 +21,7 @@ use Rattle.dp_pipe.specs.Devices.{Device}
 use Rattle.dp_pipe.specs.Forwarding.{Input, HasReadSo, IsReadBy, IsGoingOn, IsProgressOf, AreProgressOf, PullsUpTo, LastPulls, end_pulls, last_pulls}
 use Rattle.dp_pipe.proofs.Giving.{known_map, length_more}
 use Rattle.dp_pipe.proofs.Forwarded.{split}
-use Rattle.dp_pipe.proofs.Indices.{set_here}
-use Rattle.dp_pipe.proofs.Advancing.{with_record, ended}
+use Rattle.dp_pipe.proofs.Advancing.{with_record, ended, set_here}
 
 -- ---- inputs and the sources that read them
 

@@ -14,13 +14,13 @@ use Rattle.dp_pipe.specs.declared.running.RunFault.{RunFault}
 use Rattle.dp_pipe.specs.Devices.{Transfer, IsGiven}
 use Rattle.dp_pipe.specs.Forwarding.{Input, FailedAt, capture_at}
 use Rattle.dp_pipe.specs.Headline.{StoppedWriting, StoppedBy, WroteFront, capture_text}
-use Rattle.dp_pipe.specs.Pipelines.{Plan}
+use Rattle.dp_load.specs.Pipelines.{Plan}
 use Rattle.dp_pipe.specs.Running.{RunAnswers, RoundsMade, IsFirst, GoesForward, IsIdle, IsUnopened, IsReportOf, all_begun, begun, answer_of}
 use Rattle.dp_pipe.proofs.Headline.{ports_in, went_on}
 use Rattle.dp_pipe.proofs.Heading.{none_read}
 use Rattle.dp_pipe.proofs.Idle.{idle_reported}
 use Rattle.dp_pipe.proofs.LastTurn.{records_long, captures_long, earlier, through, goes_on_by, own_sent, counted_failed, given_ahead, given_own, given_after}
-use Rattle.dp_pipe.proofs.Loaded.{few}
+use Rattle.dp_load.specs.Laws.{few}
 use Rattle.dp_pipe.proofs.Numbers.{numbers_reported}
 use Rattle.dp_pipe.proofs.PacketRuns.{IsReady}
 use Rattle.dp_pipe.proofs.Through.{not_before}

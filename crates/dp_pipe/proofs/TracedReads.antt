@@ -30,12 +30,11 @@ use Rattle.dp_pipe.specs.Tracing.{AreTracedOver, IsNotAsked, TracesStep, TracesU
 use Rattle.dp_pipe.specs.declared.forwarding.InputProgress.{InputProgress}
 use Rattle.dp_pipe.specs.declared.forwarding.RunCause.{RunCause}
 use Rattle.dp_pipe.specs.declared.forwarding.RunCause.TheVariants.{Memory, NoRoom, In, Out}
-use Rattle.dp_pipe.proofs.Advancing.{with_record, ended, arrivals_grown, arrivals_ended, given_few, asked_next, more_due}
+use Rattle.dp_pipe.proofs.Advancing.{with_record, ended, arrivals_grown, arrivals_ended, given_few, asked_next, more_due, set_here}
 use Rattle.dp_pipe.proofs.Forwarded.{split}
 use Rattle.dp_pipe.proofs.Giving.{known_map}
 use Rattle.dp_pipe.proofs.GoingOn.{closed_due, wanted, whole_read, cut_read}
 use Rattle.dp_pipe.proofs.Heading.{answers_at}
-use Rattle.dp_pipe.proofs.Indices.{set_here}
 use Rattle.dp_pipe.proofs.Lending.{has_room}
 use Rattle.dp_pipe.proofs.RunOn.{arrival}
 use Rattle.dp_pipe.proofs.Reading.{are_read, fault_read, last_read, more_read, others_read}

@@ -21,7 +21,7 @@ use Rattle.dp_engine.specs.Tallies.{how_many, is_got, is_nobuf, is_oversize, ref
 use Rattle.dp_pipe.specs.Devices.{Device, Transfer, IsGiven, At}
 use Rattle.dp_pipe.specs.declared.forwarding.RunCause.{RunCause}
 use Rattle.dp_pipe.specs.declared.forwarding.RunCause.TheVariants.{Memory, NoRoom, In, Out}
-use Rattle.dp_pipe.specs.Pipelines.{Plan}
+use Rattle.dp_load.specs.Pipelines.{Plan}
 use Rattle.dp_pipe.specs.Forwarding.{Input, AreRead, AskedUntil, HasInputFault, arrivals_of, capture_at, AreOver, unit_for, units_of}
 use Rattle.dp_pipe.specs.Running.{setting_in, programs_in, IsIdle, AreUnread, HasHeaderFault, HeadersStopped}
 

@@ -6,7 +6,7 @@ use Rattle.dp_model.specs.Environments.{Environment}
 use Rattle.dp_model.specs.Rules.{Question}
 use Rattle.dp_check.specs.Faults.{IsChecked}
 use Rattle.dp_engine.specs.Schemes.{AreNodes}
-use Rattle.dp_pipe.specs.Pipelines.{HasNodes}
+use Rattle.dp_load.specs.Pipelines.{HasNodes}
 
 -- nodes of a pipeline are those of an engine
 pub are_nodes : (env : Environment) (nodes : List Question) → HasNodes env nodes → AreNodes env nodes

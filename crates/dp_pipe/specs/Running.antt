@@ -26,7 +26,7 @@ use Rattle.dp_pipe.specs.declared.forwarding.RunCause.TheVariants.{Memory, NoRoo
 use Rattle.dp_pipe.specs.declared.forwarding.InputProgress.{InputProgress}
 use Rattle.dp_pipe.specs.declared.running.RunFault.{RunFault}
 use Rattle.dp_pipe.specs.Forwarding.{Input, AreRead, unit_for, units_of, AreRounds}
-use Rattle.dp_pipe.specs.Pipelines.{Plan}
+use Rattle.dp_load.specs.Pipelines.{Plan}
 
 -- ---- the run of packets
 

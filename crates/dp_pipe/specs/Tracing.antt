@@ -18,7 +18,7 @@ use Rattle.dp_engine.specs.Outcomes.{outcome_of}
 use Rattle.dp_engine.specs.Watching.{Event, WatchesTurn}
 use Rattle.dp_pipe.specs.Devices.{Device, At}
 use Rattle.dp_pipe.specs.Forwarding.{Input, AreRead, IsRead, IsReadTo, AreProgressOf, AnswersSo, HasPulled, arrivals_of, asked}
-use Rattle.dp_pipe.specs.Pipelines.{Plan}
+use Rattle.dp_load.specs.Pipelines.{Plan}
 use Rattle.dp_pipe.specs.Running.{IsFirst, HasHeaderFault}
 use Rattle.dp_pipe.specs.declared.forwarding.InputProgress.{InputProgress}
 use Rattle.dp_pipe.specs.declared.forwarding.RunCause.{RunCause}

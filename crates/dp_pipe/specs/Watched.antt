@@ -9,7 +9,7 @@ use Rattle.dp_engine.specs.Engines.{EngineState}
 use Rattle.dp_engine.specs.Watching.{Event}
 use Rattle.dp_pipe.specs.Devices.{Device}
 use Rattle.dp_pipe.specs.Forwarding.{ReadsTurn, Advances}
-use Rattle.dp_pipe.specs.Pipelines.{Plan}
+use Rattle.dp_load.specs.Pipelines.{Plan}
 use Rattle.dp_pipe.specs.Running.{IsFirst, IsReportOf, answer_of, report_of}
 use Rattle.dp_pipe.specs.Tracing.{Note, TracesRecords, TracesUntil, TracesBytes, AreTracedOver}
 use Rattle.dp_pipe.specs.declared.forwarding.InputProgress.{InputProgress}

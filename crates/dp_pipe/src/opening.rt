@@ -7,8 +7,8 @@ ghost use Rattle.dp_engine.specs.Engines.{IsAscending};
 ghost use Rattle.dp_pipe.specs.Running.{IsFirst, IsUnopened};
 
 use crate::forwarding::{InputProgress, RunCause};
-use crate::pipeline::Pipeline;
 use dp_engine::{CompiledPrograms, Engine, need};
+use dp_load::Pipeline;
 use dp_pcap::MAX_RECORD;
 use dp_region::Region;
 use std::alloc::Global;

@@ -13,18 +13,18 @@ ghost use Rattle.dp_pipe.specs.Forwarding as forwarding;
 ghost use Rattle.dp_pipe.specs.Forwarding.{AreProgressOf, units_of};
 ghost use Rattle.dp_model.specs.Environments.{Environment};
 ghost use Rattle.dp_pipe.specs.Headline.{Forwarded, StoppedBy};
-ghost use Rattle.dp_pipe.specs.Pipelines.{IsPlan};
+ghost use Rattle.dp_load.specs.Pipelines.{IsPlan};
 ghost use Rattle.dp_pipe.specs.Running as spec;
 ghost use Rattle.dp_pipe.specs.Watched.{ShowsTurns, WatchesRun};
 
 use crate::forwarding::{InputProgress, RunCause, rounds};
 use crate::opening::opened;
-use crate::pipeline::Pipeline;
 use arrayvec::ArrayVec;
 use dp_copies::clones_are_copies;
 use dp_engine::{
     CompiledPrograms, Engine, InputState, Nothing, PoolReport, PortReport, Report, Silent, Watch,
 };
+use dp_load::Pipeline;
 use dp_model::{Env, PoolSpec, PortSpec, RingSpec, runs_keep_safe};
 use dp_pcap::{Feed, MAX_RECORD, Sink, Time, Unit, put_header, read_header};
 use std::alloc::Global;

@@ -12,9 +12,9 @@ ghost use Rattle.dp_pipe.specs.Tracing.{IsOfInput};
 
 use crate::forwarding::{InputProgress, MAX_RUN_TURNS, ROUNDS, RunCause, is_open};
 use crate::opening::opened;
-use crate::pipeline::Pipeline;
 use crate::running::read_headers;
 use dp_engine::{CompiledPrograms, Engine, InputState, Turn, View, Watch};
+use dp_load::Pipeline;
 use dp_pcap::{Feed, MAX_RECORD, Next, PcapError, Source, Time, next_record};
 use std::alloc::Global;
 

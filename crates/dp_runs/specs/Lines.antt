@@ -5,7 +5,7 @@ use Rattle.dp_captures.specs.Runs.{IsRun, Kind}
 use Rattle.dp_console.specs.declared.reply.Reply.{Reply}
 use Rattle.dp_console.specs.Replies.{EndsWith}
 use Rattle.dp_engine.specs.declared.watch.Silent.{Silent}
-use Rattle.dp_pipe.specs.Pipelines.{Plan}
+use Rattle.dp_load.specs.Pipelines.{Plan}
 use Rattle.dp_pipe.specs.Running.{answer_of}
 use Rattle.dp_runs.specs.Replies.{IsReplied, status_of}
 use Rattle.dp_runs.specs.Watching.{anything}

@@ -6,7 +6,7 @@ use Rattle.dp_counts.specs.Counting.{counts_see}
 use Rattle.dp_counts.specs.declared.losses.Losses.{Losses as LossCounts}
 use Rattle.dp_engine.specs.Watching.{Event}
 use Rattle.dp_engine.specs.declared.watch.Silent.{Silent as Nobody}
-use Rattle.dp_pipe.specs.Pipelines.{Plan}
+use Rattle.dp_load.specs.Pipelines.{Plan}
 use Rattle.dp_runs.specs.declared.run.Watcher.{Watcher}
 use Rattle.dp_runs.specs.declared.run.Watcher.TheVariants.{Silent, Losses, Counting}
 

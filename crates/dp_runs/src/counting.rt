@@ -13,8 +13,8 @@ use dp_counts::{
 };
 use dp_engine::Report;
 use dp_lang::{AsmError, Program, source_lines};
+use dp_load::{NodeName, Pipeline};
 use dp_model::{Entry, Env};
-use dp_pipe::{NodeName, Pipeline};
 use std::alloc::{AllocError, Global};
 use std::io;
 

@@ -6,7 +6,8 @@ use crate::run::Ran;
 use dp_console::{Document, Item, Text};
 use dp_counts::{CountsDocument, lines_counted, source_name};
 use dp_engine::{InputState, Report};
-use dp_pipe::{NodeName, RunFault};
+use dp_load::NodeName;
+use dp_pipe::RunFault;
 use std::alloc::{AllocError, Global};
 
 /// Writes the fault at which a run stopped, or that it did not.

@@ -3,8 +3,8 @@
 use dp_console::Text;
 use dp_counts::Refusals;
 use dp_engine::{InputState, PortReport, Report};
+use dp_load::NodeName;
 use dp_model::{Entry, Env, MAX_BUFFERS, MAX_RING, MAX_ROOM, MAX_SEGMENTS, PortSpec};
-use dp_pipe::NodeName;
 use dp_region::{CACHE_LINE, MIN_REGION};
 use std::fmt::Display;
 

@@ -12,8 +12,9 @@ use crate::run::Ran;
 use dp_captures::{CaptureProblem, Totals};
 use dp_console::{DONE, FAULT, MEMORY, Reply, Text};
 use dp_engine::Report;
+use dp_load::NodeName;
 use dp_model::Env;
-use dp_pipe::{NodeName, RunCause, RunFault};
+use dp_pipe::{RunCause, RunFault};
 use std::alloc::{AllocError, Global};
 use std::fmt;
 

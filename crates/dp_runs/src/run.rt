@@ -13,7 +13,7 @@ use dp_captures::{CaptureNames, CaptureProblem, Flushed, Inlet, Outlet, problem_
 use dp_console::{FAULT, MEMORY, Reply};
 use dp_counts::{Losses, Refusals};
 use dp_engine::{CompiledPrograms, Nothing, Silent};
-use dp_pipe::Pipeline;
+use dp_load::Pipeline;
 use std::alloc::{AllocError, Global};
 use std::io::Write;
 

@@ -2,7 +2,7 @@
 
 use dp_compile::Module;
 use dp_console::Reply;
-use dp_pipe::Pipeline;
+use dp_load::Pipeline;
 use std::alloc::Global;
 
 /// The Rattle module of a pipeline's programs, each once, without those that are too long. If memory is refused, the reply is not whole.

@@ -3,8 +3,8 @@
 use crate::texts::words_of;
 use dp_console::{FAULT, Reply, Text};
 use dp_counts::{CountsError, ReadCount, counts_of};
+use dp_load::NodeName;
 use dp_model::Entry;
-use dp_pipe::NodeName;
 use dp_sources::{Fault, Source};
 use std::alloc::Global;
 use std::fmt::Display;

@@ -1,8 +1,8 @@
 -- The lines of faults, and their exit statuses.
 use Rattle.std.specs.Prelude.{◌≡◌, ℕ, List, ◌++◌, codes, Option}
-use Rattle.dp_pipe.specs.Causes as pipe
-use Rattle.dp_pipe.specs.declared.error.PipeError.{PipeError}
-use Rattle.dp_pipe.specs.declared.error.PipeError.TheVariants as error
+use Rattle.dp_load.specs.Causes as pipe
+use Rattle.dp_load.specs.declared.error.PipeError.{PipeError}
+use Rattle.dp_load.specs.declared.error.PipeError.TheVariants as error
 use Rattle.dp_sources.specs.declared.fault.Fault.{Fault}
 use Rattle.dp_sources.specs.declared.fault.Fault.TheVariants as fault
 use Rattle.dp_sources.specs.declared.source.Unread.{Unread}

@@ -2,7 +2,7 @@
 use Rattle.std.specs.Prelude.{ℕ, List, Option, Some, None, find, is_none, string_bytes, if◌then◌else◌}
 use Rattle.std.specs.Option.{option_and_then}
 use Rattle.std.specs.Str.{bytes_eq}
-use Rattle.dp_pipe.specs.Files.{FileMap}
+use Rattle.dp_load.specs.Files.{FileMap}
 use Rattle.dp_sources.specs.declared.source.Source.{Source}
 use Rattle.dp_sources.specs.declared.source.Sources.{Sources}
 

@@ -3,10 +3,10 @@ use Rattle.std.specs.Prelude.{ℕ, zero, suc, ◌-◌, nat_lt, if◌then◌else�
 use Rattle.dp_model.specs.declared.env.Entry.{Entry}
 use Rattle.dp_model.specs.declared.env.Entry.TheVariants.{Port, Ring}
 use Rattle.dp_model.specs.Environments.{Environment}
-use Rattle.dp_pipe.specs.declared.config.Config.{Config}
-use Rattle.dp_pipe.specs.declared.nodes.How.TheVariants.{Given}
-use Rattle.dp_pipe.specs.Nodes as nodes
-use Rattle.dp_pipe.specs.Surveys.{files_at}
+use Rattle.dp_load.specs.declared.config.Config.{Config}
+use Rattle.dp_load.specs.declared.nodes.How.TheVariants.{Given}
+use Rattle.dp_load.specs.Nodes as nodes
+use Rattle.dp_load.specs.Surveys.{files_at}
 use Rattle.dp_sources.specs.declared.subject.Asked.{Asked}
 use Rattle.dp_sources.specs.declared.subject.Subject.{Subject}
 use Rattle.dp_sources.specs.declared.subject.Subject.TheVariants.{Pipeline, Single}

@@ -7,7 +7,7 @@ use crate::source::{ReadError, Sources, Unread};
 use crate::subject::Subject;
 use dp_console::{FAULT, MEMORY, Text};
 use dp_lang::Cause;
-use dp_pipe::{PipeError, RouteError};
+use dp_load::{PipeError, RouteError};
 use std::fmt;
 
 /// Why a file is at fault.

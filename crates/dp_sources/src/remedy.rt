@@ -1,7 +1,7 @@
 //! Says what helps, after it was said why a pipeline is not loaded or a node has no verdict.
 
 ghost use Rattle.std.specs.Prelude.{◌≡◌, ◌⊎◌, IfErr, IfOk, Some};
-ghost use Rattle.dp_pipe.specs.Nodes.{HasNoProgram, IsProgramOf};
+ghost use Rattle.dp_load.specs.Nodes.{HasNoProgram, IsProgramOf};
 ghost use Rattle.dp_sources.specs.Sources.{files_of};
 ghost use Rattle.dp_sources.specs.Subjects.{asked_node};
 
@@ -12,8 +12,8 @@ use dp_cert::Cause;
 use dp_console::Text;
 use dp_infer::{InferError, infer};
 use dp_lang::{AsmError, Program, assemble};
+use dp_load::{PipeError, bytes_of};
 use dp_model::{Entry, Env};
-use dp_pipe::{PipeError, bytes_of};
 use std::alloc::Global;
 
 /// The two parts of a node's name in a command.

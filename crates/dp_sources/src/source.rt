@@ -4,7 +4,7 @@ ghost use Rattle.std.specs.Prelude.{◌≡◌, IfErr, IfOk, Some, find, option_m
 ghost use Rattle.std.specs.Str.{bytes_eq};
 ghost use Rattle.dp_sources.specs.Sources.{files_of};
 
-use dp_pipe::{FetchFault, Files};
+use dp_load::{FetchFault, Files};
 use std::alloc::Global;
 use std::{fmt, io};
 

@@ -5,8 +5,8 @@ ghost use Rattle.dp_sources.specs.Subjects.{asked_node, entry_at, env_of, node_o
 
 use crate::source::{ReadError, Source, Sources, Unread};
 use dp_console::Text;
+use dp_load::{How, MAX_FILE, Survey};
 use dp_model::{Entry, Env, PoolSpec, PortSpec};
-use dp_pipe::{How, MAX_FILE, Survey};
 use std::alloc::{AllocError, Global};
 use std::fs;
 use std::io::{ErrorKind, Read};

@@ -5,7 +5,7 @@ use Rattle.dp_engine.specs.Watching.{Event}
 use Rattle.dp_pipe.specs.declared.forwarding.RunCause.{RunCause}
 use Rattle.dp_pipe.specs.declared.forwarding.RunCause.TheVariants.{Memory, NoRoom}
 use Rattle.dp_pipe.specs.Devices.{Device}
-use Rattle.dp_pipe.specs.Pipelines.{Plan}
+use Rattle.dp_load.specs.Pipelines.{Plan}
 use Rattle.dp_pipe.specs.Tracing.{Note, Came, Ended, TracesFirst}
 
 -- the number of a record that is printed: the next one when a record comes, as far as 32 bits have it

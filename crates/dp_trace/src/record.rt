@@ -6,9 +6,9 @@ use crate::run::Shown;
 use crate::summary::say_summary;
 use dp_console::{Document, Item, Text};
 use dp_engine::{Outcome, Turn, View, Way};
+use dp_load::{NodeName, Pipeline};
 use dp_model::{Entry, Instr, PacketRegister};
 use dp_pcap::Time;
-use dp_pipe::{NodeName, Pipeline};
 use std::alloc::{AllocError, Global};
 
 /// A node run begins, or an instruction with this label and text runs. The numbers are the bytes between which the record's text says what this changed.

@@ -2,7 +2,7 @@
 use Rattle.std.proofs.Common.{◌≡◌, ℕ, suc, ◌+◌, List, Option, sym, subst, add-one}
 use Rattle.dp_sources.specs.declared.subject.Subject.{Subject}
 use Rattle.dp_sources.specs.Subjects.{entry_at}
-use Rattle.dp_pipe.specs.Files.{FileMap}
+use Rattle.dp_load.specs.Files.{FileMap}
 use Rattle.dp_verdict.specs.declared.report.Finding.{Finding}
 use Rattle.dp_verdict.specs.Judging.{AreFindings, IsNext}
 

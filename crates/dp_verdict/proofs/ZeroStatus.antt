@@ -1,8 +1,8 @@
 -- A check ends with status 0 only if the pipeline was loaded.
 use Rattle.std.proofs.Common.{◌≡◌, ℕ, List, [], ◌∷◌, Option, Some, None, Result, Ok, Err, Bool, true, false, sym, ◌∙◌, ap, subst, inl, inr, arith}
 use Rattle.std.specs.Prelude.{IfErr, MatchOption}
-use Rattle.dp_pipe.specs.declared.error.PipeError.{PipeError}
-use Rattle.dp_pipe.specs.Pipelines.{Plan}
+use Rattle.dp_load.specs.declared.error.PipeError.{PipeError}
+use Rattle.dp_load.specs.Pipelines.{Plan}
 use Rattle.dp_model.specs.declared.env.Entry.{Entry}
 use Rattle.dp_sources.specs.declared.fault.Fault.{Fault}
 use Rattle.dp_sources.specs.declared.fault.Fault.TheVariants as fault

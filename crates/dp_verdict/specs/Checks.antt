@@ -4,9 +4,9 @@ use Rattle.std.specs.declared.alloc.AllocError.{AllocError}
 use Rattle.std.specs.Global.{Vec}
 use Rattle.dp_model.specs.declared.env.Entry.{Entry}
 use Rattle.dp_model.specs.Rules.{Question}
-use Rattle.dp_pipe.specs.declared.error.PipeError.{PipeError}
-use Rattle.dp_pipe.specs.declared.error.PipeError.TheVariants.{NotInferred, Refused}
-use Rattle.dp_pipe.specs.Pipelines.{Plan}
+use Rattle.dp_load.specs.declared.error.PipeError.{PipeError}
+use Rattle.dp_load.specs.declared.error.PipeError.TheVariants.{NotInferred, Refused}
+use Rattle.dp_load.specs.Pipelines.{Plan}
 use Rattle.dp_console.specs.declared.reply.Reply.{Reply}
 use Rattle.dp_sources.specs.declared.fault.Fault.{Fault}
 use Rattle.dp_sources.specs.declared.fault.Fault.TheVariants.{Memory}

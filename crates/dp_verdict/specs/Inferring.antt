@@ -7,10 +7,10 @@ use Rattle.dp_model.specs.Environments.{Environment}
 use Rattle.dp_model.specs.Rules.{Question}
 use Rattle.dp_cert.specs.Spelling.{Certificate, spelling, version_for}
 use Rattle.dp_infer.specs.Inference.{Certifies, SaysMost}
-use Rattle.dp_pipe.specs.declared.error.PipeError.{PipeError}
-use Rattle.dp_pipe.specs.Files.{FileMap}
-use Rattle.dp_pipe.specs.Nodes.{Node, IsProgramOf, Fails}
-use Rattle.dp_pipe.specs.Pipelines.{Plan}
+use Rattle.dp_load.specs.declared.error.PipeError.{PipeError}
+use Rattle.dp_load.specs.Files.{FileMap}
+use Rattle.dp_load.specs.Nodes.{Node, IsProgramOf, Fails}
+use Rattle.dp_load.specs.Pipelines.{Plan}
 use Rattle.dp_console.specs.declared.reply.Reply.{Reply}
 use Rattle.dp_verdict.specs.Checks.{SaysRefused}
 

@@ -9,10 +9,10 @@ use Rattle.dp_check.specs.Faults.{question}
 use Rattle.dp_check.specs.Diagnoses.{IsDiagnosis, rule_of}
 use Rattle.dp_check.specs.declared.diagnosis.Diagnosis.{Diagnosis}
 use Rattle.dp_infer.specs.Inference.{Certifies, HasNone}
-use Rattle.dp_pipe.specs.declared.error.PipeError.{PipeError}
-use Rattle.dp_pipe.specs.declared.error.PipeError.TheVariants.{Memory}
-use Rattle.dp_pipe.specs.Files.{FileMap}
-use Rattle.dp_pipe.specs.Nodes.{Node, IsCertOf, IsMissing, IsBadCert, IsProgramOf, HasNoProgram}
+use Rattle.dp_load.specs.declared.error.PipeError.{PipeError}
+use Rattle.dp_load.specs.declared.error.PipeError.TheVariants.{Memory}
+use Rattle.dp_load.specs.Files.{FileMap}
+use Rattle.dp_load.specs.Nodes.{Node, IsCertOf, IsMissing, IsBadCert, IsProgramOf, HasNoProgram}
 use Rattle.dp_console.specs.declared.reply.Reply.{Reply}
 use Rattle.dp_sources.specs.declared.subject.Subject.{Subject}
 use Rattle.dp_sources.specs.Subjects.{entry_at, env_of, node_of}

@@ -2,7 +2,7 @@
 use Rattle.std.specs.Prelude.{ℕ, List, [], ◌∷◌, ◌++◌, Bool, Option, Some, None, codes, if◌then◌else◌}
 use Rattle.std.specs.Fmt.{decimal}
 use Rattle.dp_model.specs.declared.env.Entry.{Entry}
-use Rattle.dp_pipe.specs.Causes.{node_text}
+use Rattle.dp_load.specs.Causes.{node_text}
 use Rattle.dp_verdict.specs.declared.report.RefusedAt.{RefusedAt}
 use Rattle.dp_verdict.specs.declared.report.Verdict.{Verdict}
 use Rattle.dp_verdict.specs.declared.report.Why.{Why}

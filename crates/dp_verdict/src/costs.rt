@@ -4,8 +4,8 @@ ghost use Rattle.std.specs.Prelude.{◌≡◌};
 
 use dp_console::{Document, Item, Reply, Text};
 use dp_cost::{Cost, cost_of, turn_cost};
+use dp_load::{NodeName, Pipeline};
 use dp_model::Instr;
-use dp_pipe::{NodeName, Pipeline};
 use std::alloc::Global;
 
 /// The maximum number of rings.

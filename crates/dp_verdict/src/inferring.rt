@@ -3,7 +3,7 @@
 ghost use Rattle.std.specs.Prelude.{◌≡◌, IfErr, IfOk, MatchOption, Some, option_map};
 ghost use Rattle.dp_cert.specs.Spelling.{Certificate};
 ghost use Rattle.dp_check.specs.Faults.{IsWith};
-ghost use Rattle.dp_pipe.specs.Nodes.{Fails};
+ghost use Rattle.dp_load.specs.Nodes.{Fails};
 ghost use Rattle.dp_sources.specs.Sources.{files_of};
 ghost use Rattle.dp_sources.specs.Subjects.{asked_node, env_of};
 ghost use Rattle.dp_verdict.specs.Inferring.{IsInferred, SaysCert, SaysInferred, by_itself, node_at};
@@ -14,8 +14,8 @@ use dp_cert::{Cert, encode};
 use dp_check::Checked;
 use dp_console::Reply;
 use dp_infer::InferError;
+use dp_load::{PipeError, Pipeline};
 use dp_model::{Entry, Env};
-use dp_pipe::{PipeError, Pipeline};
 use dp_sources::{Asked, Fault, Sources, Subject, program_of};
 use std::alloc::{AllocError, Global};
 

@@ -1,7 +1,7 @@
 //! The verdict on each node by itself, and on a whole pipeline: `dpv explain`, `dpv check`, and what is said of a pipeline that is not loaded.
 
 ghost use Rattle.std.specs.Prelude.{◌≡◌, ◌⊎◌, ◌∷◌, [], IfErr, IfOk, IfSome, None, Some, false, map, option_map};
-ghost use Rattle.dp_pipe.specs.Loads.{IsLoadedFrom, IsUnloaded};
+ghost use Rattle.dp_load.specs.Loads.{IsLoadedFrom, IsUnloaded};
 ghost use Rattle.dp_sources.specs.Sources.{files_of};
 ghost use Rattle.dp_sources.specs.Subjects.{asked_node, env_of};
 ghost use Rattle.dp_verdict.specs.Checks.{HasOnly, IsChecked, IsRefused, SaysChecked, SaysRefused, accepted, refusal_of};
@@ -15,8 +15,8 @@ use dp_check::{Diagnosis, Reason, diagnose};
 use dp_console::{MEMORY, Reply};
 use dp_infer::attempt;
 use dp_lang::{Program, SourceLine, listing_of};
+use dp_load::{How, PipeError, Pipeline, cert_of, load};
 use dp_model::{Entry, Env};
-use dp_pipe::{How, PipeError, Pipeline, cert_of, load};
 use dp_sources::{
     Asked, Fault, Lent, MAX_NODES, RouteFile, Sources, Subject, entry_at, fault_of, program_of,
     say_pipeline_help, say_remedy,

@@ -9,8 +9,8 @@ ghost use Rattle.dp_sources.specs.Faults as faults;
 
 use dp_console::{DONE, Document, Item, REFUSED, Reply, Text, USAGE};
 use dp_lang::{Listed, SourceLine};
+use dp_load::NodeName;
 use dp_model::Entry;
-use dp_pipe::NodeName;
 use dp_sources::Fault;
 use dp_words::{HintText, KnownText, RuleText, WantedText};
 use std::alloc::Global;

@@ -5,8 +5,8 @@ use super::texts::{EVERY_PART, TWO_PORTS};
 use Answer::{Fails, Has};
 use Check::{Captures, Env, Hop, Node, Parts, Region, Ring, Routes};
 use Content::{Repeated, Rows, Text};
+use dp_load::{How, PipeError, Pipeline, load};
 use dp_model::{Entry, Fact};
-use dp_pipe::{How, PipeError, Pipeline, load};
 use dp_sources::{Lent, Sources};
 use std::alloc::{AllocError, Global};
 

@@ -13,8 +13,8 @@ use dp_captures::{
 use dp_console::Reply;
 use dp_counts::Refusals;
 use dp_engine::{Nothing, Report};
+use dp_load::Pipeline;
 use dp_model::Env;
-use dp_pipe::Pipeline;
 use dp_runs::{Notes, Origin, Printing, Ran, Wanted, Watcher, reply_of};
 use std::alloc::{AllocError, Global};
 use std::io::Stderr;

@@ -3,9 +3,9 @@
 use Shown::{Cause, Cure, Link, Sums};
 use dp_captures::{CaptureReason, LinkType, Totals};
 use dp_engine::{InputState, PortReport};
+use dp_load::{Part, PipeError, RouteError};
 use dp_lpm::LpmError;
 use dp_model::{Entry, EnvError};
-use dp_pipe::{Part, PipeError, RouteError};
 use std::alloc::{AllocError, Global};
 
 /// What is shown.

@@ -1,9 +1,9 @@
 //! Pipeline files: why some are refused, and which files the others name.
 
 use Text::{Changed, Whole};
+use dp_load::{Part, PipeError, RouteError, survey_of};
 use dp_lpm::LpmError;
 use dp_model::{Entry, EnvError};
-use dp_pipe::{Part, PipeError, RouteError, survey_of};
 use std::alloc::{AllocError, Global};
 
 /// A pipeline file.

@@ -1,7 +1,7 @@
 use Rattle.std.proofs.Common.{Some, subst}
-use Rattle.dp_pipe.specs.declared.nodes.How.TheVariants.{Given}
-use Rattle.dp_pipe.specs.Listed.{listed}
-use Rattle.dp_pipe.specs.Loads.{IsLoadedFrom}
+use Rattle.dp_load.specs.declared.nodes.How.TheVariants.{Given}
+use Rattle.dp_load.specs.Listed.{listed}
+use Rattle.dp_load.specs.Loads.{IsLoadedFrom}
 use Rattle.dp_host.proofs.host.started.Goals as goal
 
 pub returns-in-Ok-running_of-clause-ok : goal.returns-in-Ok-running_of-clause-ok

@@ -7,7 +7,7 @@ use Rattle.dp_engine.specs.Engines.{EngineState}
 use Rattle.dp_engine.specs.Needs.{bytes_needed}
 use Rattle.dp_engine.specs.Schemes.{AreNodes, nodes_of}
 use Rattle.dp_engine.specs.Steps.{setting_of}
-use Rattle.dp_pipe.proofs.Loaded.{few}
+use Rattle.dp_load.specs.Laws.{few}
 use Rattle.dp_pipe.proofs.opening.engine_of.Goals as goal
 use Rattle.dp_pipe.proofs.opening.engine_of.Goals.{After-refuse}
 use Rattle.dp_pipe.specs.Laws.{are_nodes}

@@ -3,8 +3,7 @@ use Rattle.std.proofs.Common.{◌∙◌}
 use Rattle.std.proofs.lemmas.List.{length-map}
 use Rattle.dp_pipe.specs.Devices.{seen}
 use Rattle.dp_pipe.proofs.Headline.{all_forwarded}
-use Rattle.dp_pipe.proofs.PacketRuns.{IsReady}
-use Rattle.dp_pipe.proofs.Planned.{is_ready}
+use Rattle.dp_pipe.proofs.PacketRuns.{IsReady, is_ready}
 use Rattle.dp_pipe.proofs.Stopped.{all_stopped, no_room_so}
 use Rattle.dp_pipe.proofs.running.run_watched.Goals as goal
 use Rattle.dp_pipe.proofs.running.run_watched.Goals.{After-answer}

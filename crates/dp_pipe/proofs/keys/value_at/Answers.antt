@@ -1,6 +1,0 @@
--- `value_at`: the member of a table.
-use Rattle.toml.proofs.Views.{table_get}
-use Rattle.dp_pipe.proofs.keys.value_at.Goals as goal
-
-pub returns : goal.returns
-returns c = table_get c.get.result c.args.key.now c.args.table.now.entries c.get.ensures.value
