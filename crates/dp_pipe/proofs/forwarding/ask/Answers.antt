@@ -53,3 +53,9 @@ pub returns-in-Err-clause-step : goal.returns-in-Err-clause-step
 returns-in-Err-clause-step g c is_open =
     asked g (goal.at.returns-in-Err-clause-step g c).After-held_turn _ _ _
     (is_open, c.in-Err.failed, refl, stopped_err c.drain_all.result _ _ c.in-Err.is c.drain_all.ensures.err)
+
+pub returns-in-Ok-clause-fared_writers : goal.returns-in-Ok-clause-fared_writers
+returns-in-Ok-clause-fared_writers g c sound = rw c.in-Ok.is at (c.drain_all.ensures.fared sound)
+
+pub returns-in-Err-clause-fared_writers : goal.returns-in-Err-clause-fared_writers
+returns-in-Err-clause-fared_writers g c sound = rw c.in-Err.is at (c.drain_all.ensures.fared sound)

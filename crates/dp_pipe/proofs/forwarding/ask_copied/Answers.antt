@@ -54,3 +54,9 @@ returns-in-Ok-Cut-clause-step g c =
 pub returns-in-Err-clause-step : goal.returns-in-Err-clause-step
 returns-in-Err-clause-step g c =
     asked g (goal.at.returns-in-Err-clause-step g c).After-copied_turn _ _ _ _ (rw c.in-Err.is (c.requires.is_open, refl, refl, refl))
+
+pub returns-in-Ok-clause-fared_writers : goal.returns-in-Ok-clause-fared_writers
+returns-in-Ok-clause-fared_writers g c sound = rw c.in-Ok.is at (c.drain_all.ensures.fared sound)
+
+pub returns-in-Err-drain_all-clause-fared_writers : goal.returns-in-Err-drain_all-clause-fared_writers
+returns-in-Err-drain_all-clause-fared_writers g c sound = rw c.in-Err-drain_all.is at (c.drain_all.ensures.fared sound)

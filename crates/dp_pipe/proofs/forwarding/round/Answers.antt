@@ -36,7 +36,7 @@ opened : (g : _) (c : After-index-ins-k g) (e0 : EngineState) (olds held : List 
     (slice_index_or c.loop-port.ins c.loop-port.port c.index-ins-k.result)
 opened g c e0 olds held read k start =
     let inv = c.loop-port.invariant in
-    let (now, along) = (inv.goes k).on e0 olds held read start in
+    let (now, along) = inv.goes k e0 olds held read start in
     let ports = ap (λ (x : EngineState). length x.setting.env.ports) start.run.stays in
     record {
       inputs = now;
@@ -81,18 +81,6 @@ ask-requires g c =
     let buf : MAX_RECORD ≤ length c.loop-port.buf = rw inv.buf c.requires.buf in
     (omega arith, (there_now here, (many_now here, (few, (counted_now here, (buf, (open_now here, limit_now here)))))))
 
-pub loop-port-init : goal.loop-port-init
-loop-port-init g c = record {
-  inputs = search rules;
-  ins = search rules;
-  outs = search rules;
-  buf = search rules;
-  goes = λ k. record { on = λ e0 olds held read start. (read, start) };
-  readers = search rules;
-  writers = search rules;
-  shown = λ k. record { on = λ v0 e0 olds until. until };
-}
-
 pub loop-port-preserved : goal.loop-port-preserved
 loop-port-preserved g c =
     let inv = c.loop-port.invariant in
@@ -103,19 +91,15 @@ loop-port-preserved g c =
       ins = length-set c.loop-port.ins c.loop-port.port c.ask.new.r ∙ inv.ins;
       outs = c.ask.ensures.many ∙ inv.outs;
       buf = c.ask.ensures.buf ∙ inv.buf;
-      goes = λ k. record {
-        on = λ e0 olds held read start.
-            asked_on (opened g here e0 olds held read k start) (λ open_p. (c.ask.ensures.step open_p).0)
-            (λ closed. let (ok, e, p, r, outs, v) = c.ask.ensures.over closed in (ok, e, p, r, outs)) c.in_ok-ask.was;
-      };
+      goes = λ k e0 olds held read start.
+          asked_on (opened g here e0 olds held read k start) (λ open_p. (c.ask.ensures.step open_p).0)
+          (λ closed. let (ok, e, p, r, outs, v) = c.ask.ensures.over closed in (ok, e, p, r, outs)) c.in_ok-ask.was;
       readers = readers;
       writers = writers;
-      shown = λ k. record {
-        on = λ v0 e0 olds until.
-            shown_on (seen g.R.Feed.remaining g.R.Feed.calls) c.loop-port.ins c.ask.ensures.step (input_here g here) (reader_here g here)
-            ((inv.shown k).on v0 e0 olds until)
-            (λ closed. let (ok, e, p, r, outs, v) = c.ask.ensures.over closed in (ok, e, p, r, v)) c.in_ok-ask.was;
-      };
+      shown = λ k v0 e0 olds until.
+          shown_on (seen g.R.Feed.remaining g.R.Feed.calls) c.loop-port.ins c.ask.ensures.step (input_here g here) (reader_here g here)
+          (inv.shown k v0 e0 olds until)
+          (λ closed. let (ok, e, p, r, outs, v) = c.ask.ensures.over closed in (ok, e, p, r, v)) c.in_ok-ask.was;
     }
 
 pub returns-in_err-ask : goal.returns-in_err-ask
@@ -131,7 +115,7 @@ returns-in_err-ask g c =
       fared_writers = writers;
       shown = λ v0 e0 olds k until.
           rw (gone g c) (shown_stops (seen g.R.Feed.remaining g.R.Feed.calls) c.loop-port.ins c.ask.ensures.step (input_here g here)
-          (reader_here g here) ((c.loop-port.invariant.shown k).on v0 e0 olds until) (λ closed. (c.ask.ensures.over closed).0) _ c.in_err-ask.was);
+          (reader_here g here) (c.loop-port.invariant.shown k v0 e0 olds until) (λ closed. (c.ask.ensures.over closed).0) _ c.in_err-ask.was);
     }
 
 pub returns : goal.returns
@@ -139,10 +123,10 @@ returns g c =
     let inv = c.loop-port.invariant in
     record {
       goes = λ e0 olds held read k start.
-          let (now, along) = (inv.goes k).on e0 olds held read start in
+          let (now, along) = inv.goes k e0 olds held read start in
           (now, round_over along (omega (arith, inv.inputs, c.loop-port-test.false)));
       many = (inv.inputs, inv.ins, inv.outs, inv.buf);
       fared_readers = inv.readers;
       fared_writers = inv.writers;
-      shown = λ v0 e0 olds k until. shown_round ((inv.shown k).on v0 e0 olds until) (omega (arith, inv.inputs, c.loop-port-test.false));
+      shown = λ v0 e0 olds k until. shown_round (inv.shown k v0 e0 olds until) (omega (arith, inv.inputs, c.loop-port-test.false));
     }

@@ -19,7 +19,7 @@ use Rattle.dp_pipe.proofs.forwarding.rounds.Goals.{In-loop-k, After-index-ins-k,
 along : (g : _) (c : In-loop-k g) → (now : List Input) × RunUntil c.args.unit c.requires.underway.before c.loop-k.engine
     (transfer c.requires.underway.had (map (seen g.R.Feed.remaining g.R.Feed.calls) c.loop-k.ins)
     c.requires.underway.held (map (seen g.W.Sink.contents g.W.Sink.calls) c.loop-k.outs)) c.loop-k.inputs now c.loop-k.k 0
-along g c = let start = c.requires.underway in c.loop-k.invariant.goes.on start.before start.had start.held start.inputs start.run
+along g c = let start = c.requires.underway in c.loop-k.invariant.goes start.before start.had start.held start.inputs start.run
 
 -- as many ports as at first
 ports : (g : _) (c : In-loop-k g) → length c.args.engine.now.setting.env.ports ≡ length c.loop-k.engine.setting.env.ports
@@ -34,7 +34,7 @@ went : (g : _) (c : After-round g) (e0 : EngineState) (olds held : List Device) 
     0 → IsRound c.args.unit e0 c.loop-k.engine c.round.new.engine (transfer olds (map (seen g.R.Feed.remaining g.R.Feed.calls) c.round.new.ins) held (map
     (seen g.W.Sink.contents g.W.Sink.calls) c.round.new.outs)) c.round.new.inputs c.loop-k.k c.round.result
 went g c e0 olds held read start =
-    let (now, along) = c.loop-k.invariant.goes.on e0 olds held read start in c.round.ensures.goes e0 olds held now c.loop-k.k along
+    let (now, along) = c.loop-k.invariant.goes e0 olds held read start in c.round.ensures.goes e0 olds held now c.loop-k.k along
 
 -- how the devices are after each result
 fared : (g : _) (c : After-round g) (given : Result ⊤ RunCause) → c.round.result ≡ given
@@ -54,7 +54,7 @@ shown : (g : _) (c : After-round g) (v0 : _) (e0 : EngineState) (olds : List Dev
     → ShowsUntil g.V.Watch.sees v0 c.args.watch.now e0 c.args.engine.now olds (map (seen g.R.Feed.remaining g.R.Feed.calls) c.args.ins.now)
     c.args.inputs.now 0 0 → ShowsRound g.V.Watch.sees v0 c.round.new.watch e0 c.round.new.engine olds (map
     (seen g.R.Feed.remaining g.R.Feed.calls) c.round.new.ins) c.round.new.inputs c.loop-k.k c.round.result
-shown g c v0 e0 olds until = c.round.ensures.shown v0 e0 olds c.loop-k.k (c.loop-k.invariant.shown.on v0 e0 olds until)
+shown g c v0 e0 olds until = c.round.ensures.shown v0 e0 olds c.loop-k.k (c.loop-k.invariant.shown v0 e0 olds until)
 
 -- the result where the run stops
 gone : (g : _) (c : goal.After-from_residual g) → c.from_residual.result ≡ Err c.in_err-round.field-0.0
@@ -112,7 +112,7 @@ returns-in-One g c =
     let here = alone g (goal.at.returns-in-One g c).After-index-ins-k in
     record {
       goes = λ e0 olds held read start.
-          let (now, going) = inv.goes.on e0 olds held read start in
+          let (now, going) = inv.goes e0 olds held read start in
           called.ensures.goes c.loop-k.inputs c.loop-k.ins e0 olds held now c.loop-k.k here going;
       many = length-set c.loop-k.inputs c.in-One.port called.new.input ∙ inv.inputs;
       fared_readers = reader_then g.R.Feed.is_broken g.R.Feed.failures called.result called.result c.in-One.port c.args.ins.now c.loop-k.ins _
@@ -120,20 +120,8 @@ returns-in-One g c =
       fared_writers = writers_then g.W.Sink.is_broken g.W.Sink.failures called.result called.result c.args.outs.now c.loop-k.outs
           called.new.outs inv.outs inv.writers called.ensures.fared_writers refl;
       shown = λ v0 e0 olds until.
-          called.ensures.shown c.loop-k.inputs c.loop-k.ins v0 e0 olds c.loop-k.k here (inv.shown.on v0 e0 olds until);
+          called.ensures.shown c.loop-k.inputs c.loop-k.ins v0 e0 olds c.loop-k.k here (inv.shown v0 e0 olds until);
     }
-
-pub loop-k-init : goal.loop-k-init
-loop-k-init g c = record {
-  inputs = search rules;
-  ins = search rules;
-  outs = search rules;
-  buf = search rules;
-  goes = record { on = λ e0 olds held read start. (read, start) };
-  readers = search rules;
-  writers = search rules;
-  shown = record { on = λ v0 e0 olds until. until };
-}
 
 pub loop-k-preserved : goal.loop-k-preserved
 loop-k-preserved g c =
@@ -146,10 +134,10 @@ loop-k-preserved g c =
       ins = ins ∙ inv.ins;
       outs = outs ∙ inv.outs;
       buf = buf ∙ inv.buf;
-      goes = record { on = λ e0 olds held read start. rw c.in_ok-round.was at (went g after e0 olds held read start) };
+      goes = λ e0 olds held read start. rw c.in_ok-round.was at (went g after e0 olds held read start);
       readers = readers;
       writers = writers;
-      shown = record { on = λ v0 e0 olds until. rw c.in_ok-round.was at (shown g after v0 e0 olds until) };
+      shown = λ v0 e0 olds until. rw c.in_ok-round.was at (shown g after v0 e0 olds until);
     }
 
 pub returns-in-Zero : goal.returns-in-Zero
@@ -157,11 +145,11 @@ returns-in-Zero g c =
     let inv = c.loop-k.invariant in
     let none = rw c.in-Zero.is at c.open_inputs.ensures in
     record {
-      goes = λ e0 olds held read start. let (now, along) = inv.goes.on e0 olds held read start in went_all along none;
+      goes = λ e0 olds held read start. let (now, along) = inv.goes e0 olds held read start in went_all along none;
       many = inv.inputs;
       fared_readers = inv.readers;
       fared_writers = inv.writers;
-      shown = λ v0 e0 olds until. shown_all (inv.shown.on v0 e0 olds until) none;
+      shown = λ v0 e0 olds until. shown_all (inv.shown v0 e0 olds until) none;
     }
 
 pub returns-in_err-round : goal.returns-in_err-round
@@ -182,11 +170,11 @@ returns g c =
     let start = c.requires.underway in
     record {
       goes = λ e0 olds held read start.
-          let (now, along) = inv.goes.on e0 olds held read start in went_all along (none_left along (omega (arith, c.loop-k-test.false)));
+          let (now, along) = inv.goes e0 olds held read start in went_all along (none_left along (omega (arith, c.loop-k-test.false)));
       many = inv.inputs;
       fared_readers = inv.readers;
       fared_writers = inv.writers;
       shown = λ v0 e0 olds until.
-          let (now, along) = inv.goes.on start.before start.had start.held start.inputs start.run in
-          shown_all (inv.shown.on v0 e0 olds until) (none_left along (omega (arith, c.loop-k-test.false)));
+          let (now, along) = inv.goes start.before start.had start.held start.inputs start.run in
+          shown_all (inv.shown v0 e0 olds until) (none_left along (omega (arith, c.loop-k-test.false)));
     }

@@ -28,7 +28,7 @@ opened : (g : _) (c : In-loop-unit g) (inputs : List InputProgress) (ins : List 
     (slice_set ins c.args.port c.loop-unit.r) c.loop-unit.outs (slice_set inputs c.args.port c.loop-unit.input) round c.args.port c.loop-unit.input
     c.loop-unit.r
 opened g c inputs ins e0 olds held read k alone start =
-    let (now, round, along) = c.loop-unit.invariant.goes.on inputs ins e0 olds held read k alone start in
+    let (now, round, along) = c.loop-unit.invariant.goes inputs ins e0 olds held read k alone start in
     let there = slice_get_within inputs c.args.port c.args.input.now alone.input in
     let long = length-set inputs c.args.port c.loop-unit.input in
     let ports = ap (λ (x : EngineState). length x.setting.env.ports) start.run.stays in (
@@ -62,16 +62,12 @@ pub loop-unit-init : goal.loop-unit-init
 loop-unit-init g c = record {
   outs = refl;
   buf = refl;
-  goes = record {
-    on = λ inputs ins e0 olds held read k alone start.
-        rw (set_itself ins c.args.port c.args.r.now alone.reader, set_itself inputs c.args.port c.args.input.now alone.input) (read, k, start);
-  };
+  goes = λ inputs ins e0 olds held read k alone start.
+      rw (set_itself ins c.args.port c.args.r.now alone.reader, set_itself inputs c.args.port c.args.input.now alone.input) (read, k, start);
   reader = record { own = fared_same g.R.Feed.is_broken g.R.Feed.failures c.args.r.now; others = λ q other. refl };
   writers = λ sound. all_same g.W.Sink.is_broken g.W.Sink.failures (λ q. false) c.args.outs.now (λ q. refl);
-  shown = record {
-    on = λ inputs ins v0 e0 olds k alone until.
-        rw (set_itself ins c.args.port c.args.r.now alone.reader, set_itself inputs c.args.port c.args.input.now alone.input) (k, until);
-  };
+  shown = λ inputs ins v0 e0 olds k alone until.
+      rw (set_itself ins c.args.port c.args.r.now alone.reader, set_itself inputs c.args.port c.args.input.now alone.input) (k, until);
 }
 
 -- the turns of one more record, or the stop
@@ -85,7 +81,7 @@ until_here g c inputs ins v0 e0 olds k alone until =
     let long = length-set inputs c.args.port c.loop-unit.input in
     let readers = length-map (slice_set ins c.args.port c.loop-unit.r) (seen g.R.Feed.remaining g.R.Feed.calls)
     ∙ length-set ins c.args.port c.loop-unit.r ∙ alone.many ∙ sym long in
-    let (round, along) = c.loop-unit.invariant.shown.on inputs ins v0 e0 olds k alone until in
+    let (round, along) = c.loop-unit.invariant.shown inputs ins v0 e0 olds k alone until in
     (round, shown_comes c.args.port (omega (arith, there, long)) readers (still_alone inputs c.args.port c.loop-unit.input alone.alone) along)
 
 pub loop-unit-preserved : goal.loop-unit-preserved
@@ -95,20 +91,18 @@ loop-unit-preserved g c =
     record {
       outs = c.ask.ensures.many ∙ inv.outs;
       buf = c.ask.ensures.buf ∙ inv.buf;
-      goes = record {
-        on = λ inputs ins e0 olds held read k alone start.
-            let (round, here) = opened g (goal.at.loop-unit-preserved g c).In-loop-unit inputs ins e0 olds held read k alone start in
-            let (now, on) = asked_on here (λ open_p. (c.ask.ensures.step open_p).0)
-            (λ closed. let (ok, e, p, r, outs, v) = c.ask.ensures.over closed in (ok, e, p, r, outs)) c.in_ok-ask.was in
-            let twice = set-set inputs port c.loop-unit.input c.ask.new.input in
-            let there = slice_get_within inputs port c.args.input.now alone.input in
-            let long = length-set inputs port c.ask.new.input in (
-              now,
-              round + 1,
-              ends_alone port (omega (arith, there, long)) (still_alone inputs port c.ask.new.input alone.alone)
-                  (rw (set-set ins port c.loop-unit.r c.ask.new.r, twice) at on),
-            );
-      };
+      goes = λ inputs ins e0 olds held read k alone start.
+          let (round, here) = opened g (goal.at.loop-unit-preserved g c).In-loop-unit inputs ins e0 olds held read k alone start in
+          let (now, on) = asked_on here (λ open_p. (c.ask.ensures.step open_p).0)
+          (λ closed. let (ok, e, p, r, outs, v) = c.ask.ensures.over closed in (ok, e, p, r, outs)) c.in_ok-ask.was in
+          let twice = set-set inputs port c.loop-unit.input c.ask.new.input in
+          let there = slice_get_within inputs port c.args.input.now alone.input in
+          let long = length-set inputs port c.ask.new.input in (
+            now,
+            round + 1,
+            ends_alone port (omega (arith, there, long)) (still_alone inputs port c.ask.new.input alone.alone)
+                (rw (set-set ins port c.loop-unit.r c.ask.new.r, twice) at on),
+          );
       reader = record {
         own = fared_then g.R.Feed.is_broken g.R.Feed.failures false c.args.r.now c.loop-unit.r c.ask.new.r inv.reader.own
             (rw c.in_ok-ask.was at c.ask.ensures.fared_reader.own);
@@ -116,22 +110,20 @@ loop-unit-preserved g c =
       };
       writers = writers_then g.W.Sink.is_broken g.W.Sink.failures c.ask.result (Ok tt) c.args.outs.now c.loop-unit.outs c.ask.new.outs inv.outs inv.writers
           c.ask.ensures.fared_writers c.in_ok-ask.was;
-      shown = record {
-        on = λ inputs ins v0 e0 olds k alone until.
-            let (round, come) = until_here g (goal.at.loop-unit-preserved g c).In-loop-unit inputs ins v0 e0 olds k alone until in
-            let on = shown_on (seen g.R.Feed.remaining g.R.Feed.calls) (slice_set ins port c.loop-unit.r) c.ask.ensures.step
-            (get_set_same inputs port c.loop-unit.input c.args.input.now alone.input) (get_set_same ins port c.loop-unit.r c.args.r.now alone.reader)
-            come
-            (λ closed. let (ok, e, p, r, outs, v) = c.ask.ensures.over closed in (ok, e, p, r, v)) c.in_ok-ask.was in
-            let there = slice_get_within inputs port c.args.input.now alone.input in
-            let long = length-set inputs port c.ask.new.input in
-            let readers = length-map (slice_set ins port c.ask.new.r) (seen g.R.Feed.remaining g.R.Feed.calls)
-            ∙ length-set ins port c.ask.new.r ∙ alone.many ∙ sym long in (
-              round + 1,
-              shown_ends port (omega (arith, there, long)) readers (still_alone inputs port c.ask.new.input alone.alone)
-                  (rw (set-set ins port c.loop-unit.r c.ask.new.r, set-set inputs port c.loop-unit.input c.ask.new.input) at on),
-            );
-      };
+      shown = λ inputs ins v0 e0 olds k alone until.
+          let (round, come) = until_here g (goal.at.loop-unit-preserved g c).In-loop-unit inputs ins v0 e0 olds k alone until in
+          let on = shown_on (seen g.R.Feed.remaining g.R.Feed.calls) (slice_set ins port c.loop-unit.r) c.ask.ensures.step
+          (get_set_same inputs port c.loop-unit.input c.args.input.now alone.input) (get_set_same ins port c.loop-unit.r c.args.r.now alone.reader)
+          come
+          (λ closed. let (ok, e, p, r, outs, v) = c.ask.ensures.over closed in (ok, e, p, r, v)) c.in_ok-ask.was in
+          let there = slice_get_within inputs port c.args.input.now alone.input in
+          let long = length-set inputs port c.ask.new.input in
+          let readers = length-map (slice_set ins port c.ask.new.r) (seen g.R.Feed.remaining g.R.Feed.calls)
+          ∙ length-set ins port c.ask.new.r ∙ alone.many ∙ sym long in (
+            round + 1,
+            shown_ends port (omega (arith, there, long)) readers (still_alone inputs port c.ask.new.input alone.alone)
+                (rw (set-set ins port c.loop-unit.r c.ask.new.r, set-set inputs port c.loop-unit.input c.ask.new.input) at on),
+          );
     }
 
 pub returns-in_err-ask : goal.returns-in_err-ask
@@ -171,12 +163,12 @@ loop-unit-smaller g c =
 
 pub returns-clause-goes : goal.returns-clause-goes
 returns-clause-goes g c inputs ins e0 olds held read k alone start =
-    let (now, round, going) = c.loop-unit.invariant.goes.on inputs ins e0 olds held read k alone start in
+    let (now, round, going) = c.loop-unit.invariant.goes inputs ins e0 olds held read k alone start in
     went_all going (none_alone inputs c.args.port c.args.input.now c.loop-unit.input alone.input alone.alone
     (closed g (goal.at.returns-clause-goes g c).After-is_open c.loop-unit-test.false))
 
 pub returns-clause-shown : goal.returns-clause-shown
 returns-clause-shown g c inputs ins v0 e0 olds k alone until =
-    let (round, along) = c.loop-unit.invariant.shown.on inputs ins v0 e0 olds k alone until in
+    let (round, along) = c.loop-unit.invariant.shown inputs ins v0 e0 olds k alone until in
     shown_all along (none_alone inputs c.args.port c.args.input.now c.loop-unit.input alone.input alone.alone
     (closed g (goal.at.returns-clause-shown g c).After-is_open c.loop-unit-test.false))

@@ -1,5 +1,6 @@
 -- `engine_of`: the engine that was opened is that of the pipeline.
 use Rattle.std.proofs.Common.{◌≡◌, ◌∙◌, ◌≤◌, sym, ap, subst, arith, length}
+use Rattle.std.proofs.lemmas.Grind.{common_steps}
 use Rattle.std.proofs.lemmas.List.{length-replicate}
 use Rattle.dp_model.specs.Machine.{Setting}
 use Rattle.dp_model.specs.Starts.{IsStart}
@@ -54,3 +55,6 @@ returns-clause-few g c =
     let same = ap (λ (x : Setting). length x.env.ports) (setting g (goal.at.returns-clause-few g c).After-refuse) in
     let ports = ap (λ e. length e.ports) c.into_parts-env.ensures.env in
     omega (arith, same, ports, (few c.args.pipeline.env c.into_parts-env.ensures.plan.limits).0)
+
+pub unreachable-requires : goal.unreachable-requires
+unreachable-requires g c = grind (arith, common_steps)

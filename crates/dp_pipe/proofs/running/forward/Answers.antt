@@ -1,5 +1,6 @@
 -- `forward`: headers in, headers out, and all rounds.
 use Rattle.std.proofs.Common.{rules, ◌≡◌, ◌≤◌, ◌∙◌, inl, inr, Err, sym, ap, arith, length, map, drop, refl, false}
+use Rattle.std.proofs.lemmas.Grind.{common_steps}
 use Rattle.std.proofs.lemmas.List.{length-map}
 use Rattle.dp_pipe.specs.Forwarding.{AreRounds}
 use Rattle.dp_pipe.specs.Running.{all_begun}
@@ -208,3 +209,6 @@ returns-clause-shown g c =
     let here : c.as_mut_slice.result.now ≡ c.read_headers.new.inputs.items = search rules in
     c.rounds.ensures.shown c.args.watch.now c.args.engine.now (map (seen g.R.Feed.remaining g.R.Feed.calls) c.args.ins.now)
     (rw here (begins g (goal.at.returns-clause-shown g c).In_ok-read_headers))
+
+pub returns-clause-many : goal.returns-clause-many
+returns-clause-many g c = grind (arith, common_steps)

@@ -1,5 +1,5 @@
 -- `trace_round`: one more input, and the first with a fault. What a call needs is derived where tracing has come.
-use Rattle.std.proofs.Common.{rules, ◌≡◌, ◌≤◌, length, ap, ◌∙◌, arith}
+use Rattle.std.proofs.Common.{◌≡◌, ◌≤◌, length, ap, ◌∙◌, arith}
 use Rattle.std.specs.Prelude.{slice_get, slice_index_or, Some}
 use Rattle.std.proofs.lemmas.List.{length-set}
 use Rattle.std.proofs.lemmas.Option.{slice_get-get_or}
@@ -35,7 +35,7 @@ trace_port-requires g c =
           buf,
           (
             omega (arith, inv.turns, c.requires.limit),
-            open_until ((inv.goes k).on v0 e0 most had until) c.loop-port.port (input_here g (goal.at.trace_port-requires g c).After-index-ins-k),
+            open_until (inv.goes k v0 e0 most had until) c.loop-port.port (input_here g (goal.at.trace_port-requires g c).After-index-ins-k),
           ),
         ),
       ),
@@ -48,17 +48,6 @@ step : (g : _) (c : After-trace_port g)
     (seen g.R.Feed.remaining g.R.Feed.calls) (slice_index_or c.loop-port.ins c.loop-port.port c.index-ins-k.result) c.trace_port.new.r
     c.loop-port.which.records c.trace_port.new.which.records c.trace_port.result
 step g c = rw (← c.loop-port.invariant.only) c.trace_port.ensures.step
-
-pub loop-port-init : goal.loop-port-init
-loop-port-init g c = record {
-  inputs = search rules;
-  ins = search rules;
-  buf = search rules;
-  only = search rules;
-  turns = search rules;
-  setting = search rules;
-  goes = λ k. record { on = λ v0 e0 most had until. until };
-}
 
 pub loop-port-preserved : goal.loop-port-preserved
 loop-port-preserved g c =
@@ -74,11 +63,9 @@ loop-port-preserved g c =
       only = t.ensures.port ∙ inv.only;
       turns = turns ∙ inv.turns;
       setting = setting ∙ inv.setting;
-      goes = λ k. record {
-        on = λ v0 e0 most had until.
-            step_on (seen g.R.Feed.remaining g.R.Feed.calls) called c.loop-port.ins ((inv.goes k).on v0 e0 most had until) (input_here g here)
-            (reader_here g here) c.in-Ok.is;
-      };
+      goes = λ k v0 e0 most had until.
+          step_on (seen g.R.Feed.remaining g.R.Feed.calls) called c.loop-port.ins (inv.goes k v0 e0 most had until) (input_here g here)
+          (reader_here g here) c.in-Ok.is;
     }
 
 pub returns-in-Err : goal.returns-in-Err
@@ -89,7 +76,7 @@ returns-in-Err g c =
     let (turns, setting) = step_counts (seen g.R.Feed.remaining g.R.Feed.calls) called in
     record {
       goes = λ v0 e0 most had k until.
-          step_stops (seen g.R.Feed.remaining g.R.Feed.calls) called c.loop-port.ins ((inv.goes k).on v0 e0 most had until) (input_here g here)
+          step_stops (seen g.R.Feed.remaining g.R.Feed.calls) called c.loop-port.ins (inv.goes k v0 e0 most had until) (input_here g here)
           (reader_here g here) c.in-Err.error c.in-Err.is;
       turns = turns ∙ inv.turns;
       setting = setting ∙ inv.setting;
@@ -107,7 +94,7 @@ returns g c =
     let inv = c.loop-port.invariant in
     record {
       goes = λ v0 e0 most had k until.
-          round_over ((inv.goes k).on v0 e0 most had until) (omega (arith, inv.inputs, c.loop-port-test.false, c.requires.inputs, c.requires.ins));
+          round_over (inv.goes k v0 e0 most had until) (omega (arith, inv.inputs, c.loop-port-test.false, c.requires.inputs, c.requires.ins));
       turns = inv.turns;
       setting = inv.setting;
       port = inv.only;

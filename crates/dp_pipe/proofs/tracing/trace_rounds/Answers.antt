@@ -29,7 +29,7 @@ trace_round-requires g c =
               buf,
               (
                 omega (arith, inv.turns, c.requires.limit),
-                (v0, e0, most, had, c.loop-k.k, rw inv.only (inv.goes.on v0 e0 most had until)),
+                (v0, e0, most, had, c.loop-k.k, rw inv.only (inv.goes v0 e0 most had until)),
               ),
             ),
           ),
@@ -46,18 +46,7 @@ went : (g : _) (c : After-trace_round g) (v0 : _) (e0 : _) (most : _) (had : _)
     c.trace_round.result
 went g c v0 e0 most had until =
     rw (← c.loop-k.invariant.only) (c.trace_round.ensures.goes v0 e0 most had c.loop-k.k
-    (rw c.loop-k.invariant.only (c.loop-k.invariant.goes.on v0 e0 most had until)))
-
-pub loop-k-init : goal.loop-k-init
-loop-k-init g c = record {
-  inputs = search rules;
-  ins = search rules;
-  buf = search rules;
-  only = search rules;
-  turns = search rules;
-  setting = search rules;
-  goes = record { on = λ v0 e0 most had until. until };
-}
+    (rw c.loop-k.invariant.only (c.loop-k.invariant.goes v0 e0 most had until)))
 
 pub loop-k-preserved : goal.loop-k-preserved
 loop-k-preserved g c =
@@ -71,15 +60,13 @@ loop-k-preserved g c =
       only = t.ensures.port ∙ inv.only;
       turns = t.ensures.turns ∙ inv.turns;
       setting = t.ensures.setting ∙ inv.setting;
-      goes = record {
-        on = λ v0 e0 most had until.
-            rw c.in_ok-trace_round.was at (went g (goal.at.loop-k-preserved g c).After-trace_round v0 e0 most had until);
-      };
+      goes = λ v0 e0 most had until.
+          rw c.in_ok-trace_round.was at (went g (goal.at.loop-k-preserved g c).After-trace_round v0 e0 most had until);
     }
 
 pub returns-then-not-is_any_left-clause-goes : goal.returns-then-not-is_any_left-clause-goes
 returns-then-not-is_any_left-clause-goes g c v0 e0 most had until =
-    all_traced (c.loop-k.invariant.goes.on v0 e0 most had until)
+    all_traced (c.loop-k.invariant.goes v0 e0 most had until)
     (rw (← c.loop-k.invariant.only) (c.if-not-is_any_left.ensures.none refl))
 
 pub returns-in_err-trace_round-clause-goes : goal.returns-in_err-trace_round-clause-goes
@@ -88,5 +75,5 @@ returns-in_err-trace_round-clause-goes g c v0 e0 most had until =
 
 pub returns-clause-goes : goal.returns-clause-goes
 returns-clause-goes g c v0 e0 most had until =
-    let here = c.loop-k.invariant.goes.on v0 e0 most had until in
+    let here = c.loop-k.invariant.goes v0 e0 most had until in
     all_traced here (none_wanted here refl (omega (arith, c.loop-k-test.false)))
