@@ -1,8 +1,21 @@
 -- `reply_of`: each text is made of its parts, in their order.
 use Rattle.std.proofs.Common.{List, ℕ, ◌++◌, ◌∙◌, ap}
+use Rattle.dp_console.specs.declared.reply.Text.{Text}
+use Rattle.dp_runs.specs.Replies.{Parts}
 use Rattle.dp_runs.proofs.reply.reply_of.Goals as goal
 
+-- the parts of what is said, each a text
+parts_of : Text → Text → Text → Text → Text → Parts
+parts_of report totals problem counts notes = record {
+  totals = totals.bytes.items;
+  report = report.bytes.items;
+  more = problem.bytes.items;
+  counts = counts.bytes.items;
+  notes = notes.bytes.items;
+}
+
 pub returns-then-printing-clause-parts : goal.returns-then-printing-clause-parts
+unfolding parts_of
 returns-then-printing-clause-parts c whole =
     let (counted, notes, err_is) = c.both-err.ensures whole.1 in
     let (stopped, counts, counted_is) = c.both-counted.ensures counted in
@@ -11,13 +24,7 @@ returns-then-printing-clause-parts c whole =
     let (totals_text, problem_text, counts_text, notes_text) = c.others_of-totals.result in
     let stop_is = c.stop_of-stop.ensures stop in
     record {
-      parts = record {
-        totals = totals_text.bytes.items;
-        report = c.main_of-main.result.bytes.items;
-        more = problem_text.bytes.items;
-        counts = counts_text.bytes.items;
-        notes = notes_text.bytes.items;
-      };
+      parts = parts_of c.main_of-main.result totals_text problem_text counts_text notes_text;
       report = λ text. c.main_of-main.ensures text main;
       out = rw c.if-printing.true c.new-out.ensures.empty;
       err = rw c.if-printing.true (err_is ∙ ap (λ (l : List ℕ). l ++ notes_text.bytes.items) (counted_is
@@ -27,6 +34,7 @@ returns-then-printing-clause-parts c whole =
     }
 
 pub returns-clause-parts : goal.returns-clause-parts
+unfolding parts_of
 returns-clause-parts c whole =
     let (main, counts, out_is) = c.both-out.ensures whole.0 in
     let (stopped, notes, err_is) = c.both-err-2.ensures whole.1 in
@@ -34,13 +42,7 @@ returns-clause-parts c whole =
     let (totals_text, problem_text, counts_text, notes_text) = c.others_of-totals.result in
     let stop_is = c.stop_of-stop.ensures stop in
     record {
-      parts = record {
-        totals = totals_text.bytes.items;
-        report = c.main_of-main.result.bytes.items;
-        more = problem_text.bytes.items;
-        counts = counts_text.bytes.items;
-        notes = notes_text.bytes.items;
-      };
+      parts = parts_of c.main_of-main.result totals_text problem_text counts_text notes_text;
       report = λ text. c.main_of-main.ensures text main;
       out = rw c.if-printing.false out_is;
       err = rw c.if-printing.false (err_is ∙ ap (λ (l : List ℕ). l ++ notes_text.bytes.items) (stopped_is
