@@ -1,5 +1,5 @@
 -- A record at a port: what is known about the port, about what is received and about the node run is derived once, and each goal is one step from there.
-use Rattle.std.proofs.Common.{◌≡◌, ◌≤◌, ℕ, Bool, false, List, [], ◌∷◌, length, refl, sym, ◌∙◌, ap, subst, arith}
+use Rattle.std.proofs.Common.{rules, ◌≡◌, ◌≤◌, ℕ, Bool, false, List, [], ◌∷◌, length, refl, sym, ◌∙◌, ap, subst, arith}
 use Rattle.std.specs.Prelude.{slice_index_or}
 use Rattle.dp_model.specs.declared.env.PortSpec.{PortSpec}
 use Rattle.dp_model.specs.Environments.{Environment}
@@ -62,7 +62,7 @@ went : (g : _) (c : After-run g) → Received c.args.context.now.setting c.port_
     c.args.bytes.now c.args.m.now.state.world c.receive.new.self.state
     → (answers : List Bool) × Receives c.args.context.now.setting c.port_program-program.result.now c.args.port (spec_of c.ports.result.now c.from.result)
     c.args.bytes.now c.args.m.now.state.world answers c.run.new.m.state.world
-went g c r = r.receives c.run.new.m.state (rw c.setting-setting.ensures.same at c.run.ensures.runs)
+went g c r = r.receives c.run.new.m.state (rw c.setting-setting.ensures.same at c.run.ensures.over.runs)
 
 pub returns-then-is_oversize-clause-arrives : goal.returns-then-is_oversize-clause-arrives
 returns-then-is_oversize-clause-arrives g c =
@@ -113,10 +113,14 @@ returns-then-not-receive-clause-arrives g c =
 pub begin-requires : goal.begin-requires
 begin-requires g c = port_small c.args.context.now c.args.port c.setting-setting.ensures.pipeline c.requires.exists
 
-pub run-requires-clause-sound : goal.run-requires-clause-sound
-run-requires-clause-sound g c =
-    let here = goal.at.run-requires-clause-sound g c in
-    rw c.setting-setting.ensures.same (came g here.After-port_program-program (there g here.After-from) (fits g here.After-receive)).can_run
+pub run-requires : goal.run-requires
+run-requires g c =
+    let here = goal.at.run-requires g c in
+    let received = came g here.After-port_program-program (there g here.After-from) (fits g here.After-receive) in
+    let sound = received.can_run in
+    let is = c.port_program-program.ensures.program in
+    let same = c.setting-setting.ensures.same in
+    record { begins = record { can = rw same sound; is = is; few = search rules; few_cuts = search rules; pools = search rules; fits = search rules } }
 
 pub returns-clause-arrives : goal.returns-clause-arrives
 returns-clause-arrives g c =
@@ -139,9 +143,9 @@ returns-clause-rests g c =
     let at = there g here.After-from in
     let (answers, receives) = went g c (came g here.After-port_program-program at (fits g here.After-receive)) in
     record {
-      idle = c.run.ensures.idle;
-      pools = c.run.ensures.pools ∙ (c.receive.ensures.pools ∙ c.requires.rests.pools);
-      fits = subst (FitsIn c.args.context.now.setting.env) (sym (c.run.ensures.frames ∙ c.receive.ensures.frames)) c.requires.rests.fits;
+      idle = c.run.ensures.over.idle;
+      pools = c.run.ensures.over.pools ∙ (c.receive.ensures.pools ∙ c.requires.rests.pools);
+      fits = subst (FitsIn c.args.context.now.setting.env) (sym (c.run.ensures.over.frames ∙ c.receive.ensures.frames)) c.requires.rests.fits;
       rest = c.setting-setting.ensures.safe.arrives c.port_program-program.result.now c.args.port (spec_of c.ports.result.now c.from.result) c.args.bytes.now
           c.args.m.now.state.world c.run.new.m.state.world Got answers c.port_program-program.ensures.same at.spec_is c.requires.rests.rest receives;
     }
@@ -167,7 +171,7 @@ returns-clause-watched g c =
     let denied = denied_as c.args.m.now.state.world (spec_of c.ports.result.now c.from.result).pool (length c.args.bytes.now) c.setting-setting.ensures.same
     c.if-not-receive.ensures.denied in
     let got = rw c.setting-setting.ensures.same at (c.if-not-receive.ensures.received refl) in
-    let watched = rw c.setting-setting.ensures.same at c.run.ensures.watched in
+    let watched = rw c.setting-setting.ensures.same at c.run.ensures.over.watched in
     let begun = subst (λ (x : Core). g.W.Watch.sees c.args.watch.now (Began (Port c.args.port) x.state) c.begin.new.self) c.of.ensures c.begin.ensures in
     received_shows g.W.Watch.sees c.args.watch.now c.begin.new.self c.run.new.watch p program c.args.port spec c.args.bytes.now c.args.m.now.state.world s1
     c.run.new.m.state at.spec_is c.port_program-program.ensures.same (fits g here.After-receive) denied got begun watched

@@ -1,5 +1,5 @@
 -- A node run on a packet that waits: what is served, and what that made, are derived once, and each goal is one step from there.
-use Rattle.std.proofs.Common.{◌≡◌, Some, sym, ◌∙◌, ap, subst, arith}
+use Rattle.std.proofs.Common.{rules, ◌≡◌, Some, sym, ◌∙◌, ap, subst, arith}
 use Rattle.dp_engine.specs.Handles.{Core}
 use Rattle.dp_engine.specs.Serving.{ServesOne}
 use Rattle.dp_engine.specs.Steps.{FitsIn}
@@ -25,8 +25,8 @@ serves g c n =
     let p = c.args.context.now in
     let m1 = c.take_waiting.new.self in
     let program = c.ring_program-program.result.now in
-    let runs = rw c.setting-setting.ensures.same at c.run.ensures.runs in
-    next_serves p program c.args.m.now m1 c.run.new.m c.in_ok-ring.ring c.run.result c.ring_program-program.ensures.same n runs c.run.ensures.took
+    let runs = rw c.setting-setting.ensures.same at c.run.ensures.over.runs in
+    next_serves p program c.args.m.now m1 c.run.new.m c.in_ok-ring.ring c.run.result c.ring_program-program.ensures.same n runs c.run.ensures.over.took
 
 pub ring_program-program-requires : goal.ring_program-program-requires
 ring_program-program-requires g c = (omega arith, (next g (goal.at.ring_program-program-requires g c).After-setting-setting).there)
@@ -36,16 +36,16 @@ begin-requires g c =
     let n = next g (goal.at.begin-requires g c).After-setting-setting in
     ring_small c.args.context.now c.in_ok-ring.ring c.setting-setting.ensures.pipeline n.there
 
-pub run-requires-clause-sound : goal.run-requires-clause-sound
-run-requires-clause-sound g c =
+pub run-requires : goal.run-requires
+run-requires g c =
     let p = c.args.context.now in
     let m1 = c.take_waiting.new.self in
     let program = c.ring_program-program.result.now in
-    rw c.setting-setting.ensures.same
-    (next_runs p.setting p.nodes program c.args.m.now m1 c.in_ok-ring.ring
-    c.setting-setting.ensures.safe c.setting-setting.ensures.pipeline.limits c.ring_program-program.ensures.same
-    c.requires.rests.rest
-    (next g (goal.at.run-requires-clause-sound g c).After-setting-setting))
+    let sound = next_runs p.setting p.nodes program c.args.m.now m1 c.in_ok-ring.ring c.setting-setting.ensures.safe c.setting-setting.ensures.pipeline.limits
+    c.ring_program-program.ensures.same c.requires.rests.rest (next g (goal.at.run-requires g c).After-setting-setting) in
+    let is = c.ring_program-program.ensures.program in
+    let same = c.setting-setting.ensures.same in
+    record { begins = record { can = rw same sound; is = is; few = search rules; few_cuts = search rules; pools = search rules; fits = search rules } }
 
 pub returns-clause-serves : goal.returns-clause-serves
 returns-clause-serves g c = serves g c (next g (goal.at.returns-clause-serves g c).After-setting-setting)
@@ -58,7 +58,7 @@ returns-clause-packets g c =
     omega (
       arith,
       calls,
-      c.run.ensures.packets,
+      c.run.ensures.over.packets,
       next_count p.setting p.nodes c.args.m.now c.take_waiting.new.self c.in_ok-ring.ring c.requires.rests.idle n,
     )
 
@@ -67,9 +67,9 @@ returns-clause-rests g c =
     let p = c.args.context.now in
     let n = next g (goal.at.returns-clause-rests g c).After-setting-setting in
     record {
-      idle = c.run.ensures.idle;
-      pools = c.run.ensures.pools ∙ (ap (λ (x : Core). x.pools) n.taken ∙ c.requires.rests.pools);
-      fits = subst (FitsIn p.setting.env) (sym (c.run.ensures.frames ∙ ap (λ (x : Core). x.frames) n.taken)) c.requires.rests.fits;
+      idle = c.run.ensures.over.idle;
+      pools = c.run.ensures.over.pools ∙ (ap (λ (x : Core). x.pools) n.taken ∙ c.requires.rests.pools);
+      fits = subst (FitsIn p.setting.env) (sym (c.run.ensures.over.frames ∙ ap (λ (x : Core). x.frames) n.taken)) c.requires.rests.fits;
       rest = served_rests p c.args.m.now c.run.new.m c.run.result c.setting-setting.ensures.safe c.requires.rests.rest (serves g c n);
     }
 
@@ -78,7 +78,7 @@ returns-clause-watched g c =
     let p = c.args.context.now in
     let m1 = c.take_waiting.new.self in
     let program = c.ring_program-program.result.now in
-    let watched = rw c.setting-setting.ensures.same at c.run.ensures.watched in
+    let watched = rw c.setting-setting.ensures.same at c.run.ensures.over.watched in
     let begun = subst (λ (x : Core). g.W.Watch.sees c.args.watch.now (Began (Ring c.in_ok-ring.ring) x.state) c.begin.new.self) c.of.ensures c.begin.ensures in
     next_shows g.W.Watch.sees c.args.watch.now c.begin.new.self c.run.new.watch p program c.args.m.now m1 c.run.new.m c.in_ok-ring.ring
     c.ring_program-program.ensures.same (next g (goal.at.returns-clause-watched g c).After-setting-setting) begun watched
