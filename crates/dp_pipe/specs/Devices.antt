@@ -1,5 +1,5 @@
 -- Readers and writers: what a run sees of them, what each was given, and which of them fail.
-use Rattle.std.specs.Prelude.{◌≡◌, ◌≢◌, ℕ, ◌+◌, ◌≤◌, ◌==◌, ◌||◌, if◌then◌else◌, Bool, false, List, length, slice_get, Option, Some, Result, Ok, Err}
+use Rattle.std.specs.Prelude.{◌≡◌, ◌≢◌, ℕ, ◌+◌, ◌≤◌, ◌==◌, ◌||◌, if◌then◌else◌, Bool, false, List, length, map, slice_get, Option, Some, Result, Ok, Err}
 use Rattle.std.specs.List.{AllByRecursion}
 use Rattle.std.specs.Io.KnownBytes.{Appends}
 use Rattle.dp_pcap.specs.Text.{AppendsPart}
@@ -16,6 +16,20 @@ pub record Device : Type 0 where
 
 abbrev pub seen : {D : Type 0} → (D → Option (List ℕ)) → (D → ℕ) → D → Device
 seen bytes calls d = record { bytes = bytes d; calls = calls d }
+
+-- what contracts see of a kind of readers or writers: those bytes, how many calls there were, whether it is broken, and how many calls failed
+pub record Kind (D : Type 0) : Type 0 where
+  pub bytes : D → Option (List ℕ)
+  pub calls : D → ℕ
+  pub is_broken : D → Bool
+  pub failures : D → ℕ
+
+abbrev pub kind : {D : Type 0} → (D → Option (List ℕ)) → (D → ℕ) → (D → Bool) → (D → ℕ) → Kind D
+kind bytes calls is_broken failures = record { bytes = bytes; calls = calls; is_broken = is_broken; failures = failures }
+
+-- what a run sees of a list of them
+abbrev pub devices : {D : Type 0} → Kind D → List D → List Device
+devices of ds = map (seen of.bytes of.calls) ds
 
 -- the devices of a run, one for each port: what each reader had and has left, and what each writer held and holds
 pub record Transfer : Type 0 where

@@ -1,5 +1,6 @@
 -- The promise of the run of a pipeline, from captures to captures.
 use Rattle.std.specs.Prelude.{◌≡◌, ℕ, ◌+◌, ◌==◌, ◌<◌, ◌≤◌, ◌⊎◌, Bool, nat_lt, if◌then◌else◌, List, [], ◌∷◌, ◌++◌, length, take, Some, slice_get}
+use Rattle.std.specs.Prelude.{◌↔◌, Result, Err, IfOk, IfErr, IsOk}
 use Rattle.std.specs.Io.KnownBytes.{Appends}
 use Rattle.dp_pcap.specs.declared.time.Time.{Time}
 use Rattle.dp_pcap.specs.declared.time.Unit.{Unit as TimeUnit}
@@ -18,12 +19,13 @@ use Rattle.dp_engine.specs.Needs.{bytes_needed}
 use Rattle.dp_engine.specs.Reports.{IsWhole}
 use Rattle.dp_engine.specs.Steps.{routes_of}
 use Rattle.dp_engine.specs.Tallies.{how_many, is_got, is_nobuf, is_oversize, refused_of}
-use Rattle.dp_pipe.specs.Devices.{Device, Transfer, IsGiven, At}
+use Rattle.dp_pipe.specs.Devices.{Device, Kind, Transfer, IsGiven, At, AllSound, AllFared, devices, transfer, failed_reader, failed_writer}
 use Rattle.dp_pipe.specs.declared.forwarding.RunCause.{RunCause}
 use Rattle.dp_pipe.specs.declared.forwarding.RunCause.TheVariants.{Memory, NoRoom, In, Out}
+use Rattle.dp_pipe.specs.declared.running.RunFault.{RunFault}
 use Rattle.dp_load.specs.Pipelines.{Plan}
 use Rattle.dp_pipe.specs.Forwarding.{Input, AreRead, AskedUntil, HasInputFault, arrivals_of, capture_at, AreOver, unit_for, units_of}
-use Rattle.dp_pipe.specs.Running.{setting_in, programs_in, IsIdle, AreUnread, HasHeaderFault, HeadersStopped}
+use Rattle.dp_pipe.specs.Running.{setting_in, programs_in, IsIdle, AreUnread, HasHeaderFault, HeadersStopped, answer_of}
 
 -- ---- a run of packets
 
@@ -193,3 +195,18 @@ StoppedBy p pattern t Memory r = IsIdle p.env r
 StoppedBy p pattern t NoRoom r = (p.region < bytes_needed p.env) × IsIdle p.env r
 StoppedBy p pattern t (In port error) r = HeaderRefused p t port error r ⊎ StoppedReading p pattern t port error r
 StoppedBy p pattern t (Out port) r = HeaderUnwritten p t port r ⊎ StoppedWriting p pattern t port r
+
+-- What every run promises, whatever it is shown to: its captures and its report, or why it stopped, and which of its devices failed.
+pub record RunPromise {R W : Type 0} (p : Plan) (pattern : List ℕ) (readers : Kind R) (ins ins' : List R) (writers : Kind W) (outs outs' : List W)
+    (answer : Result Report RunFault) : Type 0 where
+  pub forwarded : IfOk answer (Forwarded p pattern (transfer (devices readers ins) (devices readers ins') (devices writers outs) (devices writers outs')))
+  pub stopped : IfErr answer (λ (f : RunFault). StoppedBy p pattern (transfer (devices readers ins) (devices readers ins') (devices writers outs)
+      (devices writers outs')) f.cause f.report)
+  -- whether there is room is known before memory is asked for
+  pub no_room : answer_of answer ≡ Err NoRoom ↔ p.region < bytes_needed p.env
+  pub untouched : IfErr answer (λ (f : RunFault). (f.cause ≡ Memory) ⊎ (f.cause ≡ NoRoom) → (ins' ≡ ins) × (outs' ≡ outs))
+  -- where all went well, no device is broken
+  pub sound : IsOk answer → AllSound readers.is_broken ins' × AllSound writers.is_broken outs'
+  -- a device is broken if it was before, or if the result names it; one call of the named one failed, and none of the others
+  pub fared_readers : AllFared readers.is_broken readers.failures (failed_reader (answer_of answer)) ins ins'
+  pub fared_writers : AllFared writers.is_broken writers.failures (failed_writer (answer_of answer)) outs outs'

@@ -1,18 +1,17 @@
 //! Runs a pipeline from captures to captures.
 
-ghost use Rattle.std.specs.Prelude.{◌≡◌, ◌+◌, ◌<◌, ◌≤◌, ◌++◌, ◌∷◌, ◌⊎◌, ◌↔◌, [], Err, false, length, map, replicate, OnOk, OnErr, IfOk};
+ghost use Rattle.std.specs.Prelude.{◌≡◌, ◌+◌, ◌<◌, ◌≤◌, ◌++◌, ◌∷◌, ◌⊎◌, [], Err, false, length, map, replicate, OnOk, OnErr};
 ghost use Rattle.std.specs.Prelude.{IfErr, IsOk, IsTrue, vec_len};
 ghost use Rattle.std.specs.List.{AllByRecursion, list_any};
 ghost use Rattle.std.specs.Vec.{vec_capacity};
 ghost use Rattle.dp_pcap.specs.Source.{IsStart};
 ghost use Rattle.dp_engine.specs.Engines.{EngineState, IsAscending, no_tallies};
-ghost use Rattle.dp_engine.specs.Needs.{bytes_needed};
 ghost use Rattle.dp_engine.specs.Reports.{port_report, IsWhole};
-ghost use Rattle.dp_pipe.specs.Devices.{seen, transfer, AllSound, AllFared, failed_reader, failed_writer};
+ghost use Rattle.dp_pipe.specs.Devices.{kind, seen, transfer, AllSound, AllFared, failed_reader, failed_writer};
 ghost use Rattle.dp_pipe.specs.Forwarding as forwarding;
 ghost use Rattle.dp_pipe.specs.Forwarding.{AreProgressOf, units_of};
 ghost use Rattle.dp_model.specs.Environments.{Environment};
-ghost use Rattle.dp_pipe.specs.Headline.{Forwarded, StoppedBy};
+ghost use Rattle.dp_pipe.specs.Headline.{RunPromise};
 ghost use Rattle.dp_load.specs.Pipelines.{IsPlan};
 ghost use Rattle.dp_pipe.specs.Running as spec;
 ghost use Rattle.dp_pipe.specs.Watched.{ShowsTurns, WatchesRun};
@@ -295,8 +294,8 @@ fn answer<K: CompiledPrograms, R: Feed, W: Sink, V: Watch>(
     ensures answers { spec.RunAnswers pipeline pattern.items (transfer (map (seen R.remaining R.calls) ins.old) (map (seen R.remaining R.calls) ins.new)
         (map (seen W.contents W.calls) outs.old) (map (seen W.contents W.calls) outs.new)) result }
     ensures free { spec.AllFree pipeline.env result }
-    ensures untouched { IfErr result (λ f. (f.cause ≡ RunCause.Memory) ⊎ (f.cause ≡ RunCause.NoRoom)
-        → (ins.new ≡ ins.old) × (outs.new ≡ outs.old) × (watch.new ≡ watch.old)) }
+    ensures untouched { IfErr result (λ f. (f.cause ≡ RunCause.Memory) ⊎ (f.cause ≡ RunCause.NoRoom) → (ins.new ≡ ins.old) × (outs.new ≡ outs.old)) }
+    ensures unwatched { IfErr result (λ f. (f.cause ≡ RunCause.Memory) ⊎ (f.cause ≡ RunCause.NoRoom) → watch.new ≡ watch.old) }
     ensures sound { IsOk result → AllSound R.is_broken ins.new × AllSound W.is_broken outs.new }
     ensures fared_readers { AllFared R.is_broken R.failures (failed_reader (spec.answer_of result)) ins.old ins.new }
     ensures fared_writers { AllFared W.is_broken W.failures (failed_writer (spec.answer_of result)) outs.old outs.new }
@@ -340,27 +339,9 @@ pub fn run_watched<K: CompiledPrograms, R: Feed, W: Sink, V: Watch>(
     requires readers { length ins.old ≡ length pipeline.env.ports }
     requires writers { length outs.old ≡ length pipeline.env.ports }
     requires pattern { IsAscending 0 pattern.items }
-    ensures forwarded { IfOk result (Forwarded pipeline pattern.items (record {
-      had = map (seen R.remaining R.calls) ins.old;
-      left = map (seen R.remaining R.calls) ins.new;
-      held = map (seen W.contents W.calls) outs.old;
-      holds = map (seen W.contents W.calls) outs.new;
-    })) }
-    ensures stopped { IfErr result (λ f. StoppedBy pipeline pattern.items (record {
-      had = map (seen R.remaining R.calls) ins.old;
-      left = map (seen R.remaining R.calls) ins.new;
-      held = map (seen W.contents W.calls) outs.old;
-      holds = map (seen W.contents W.calls) outs.new;
-    }) f.cause f.report) }
-    // Whether there is room is known before memory is asked for.
-    ensures no_room { spec.answer_of result ≡ Err RunCause.NoRoom ↔ pipeline.region < bytes_needed pipeline.env }
-    ensures untouched { IfErr result (λ f. (f.cause ≡ RunCause.Memory) ⊎ (f.cause ≡ RunCause.NoRoom) → (ins.new ≡ ins.old) × (outs.new ≡ outs.old)
-        × (watch.new ≡ watch.old)) }
-    // Where all went well, no device is broken.
-    ensures sound { IsOk result → AllSound R.is_broken ins.new × AllSound W.is_broken outs.new }
-    // A device is broken if it was before, or if the result names it; one call of the named one failed, and none of the others.
-    ensures fared_readers { AllFared R.is_broken R.failures (failed_reader (spec.answer_of result)) ins.old ins.new }
-    ensures fared_writers { AllFared W.is_broken W.failures (failed_writer (spec.answer_of result)) outs.old outs.new }
+    ensures promise { RunPromise pipeline pattern.items (kind R.remaining R.calls R.is_broken R.failures) ins.old ins.new
+        (kind W.contents W.calls W.is_broken W.failures) outs.old outs.new result }
+    ensures unwatched { IfErr result (λ f. (f.cause ≡ RunCause.Memory) ⊎ (f.cause ≡ RunCause.NoRoom) → watch.new ≡ watch.old) }
     // The watcher is shown the turns of that run, and nothing else.
     ensures shown { (spec.answer_of result ≡ Err RunCause.Memory) ⊎ (spec.answer_of result ≡ Err RunCause.NoRoom)
         ⊎ WatchesRun V.sees watch.old watch.new pipeline pattern.items (map (seen R.remaining R.calls) ins.old)
@@ -410,26 +391,8 @@ pub fn run<R: Feed, W: Sink>(
     requires readers { length ins.old ≡ length pipeline.env.ports }
     requires writers { length outs.old ≡ length pipeline.env.ports }
     requires pattern { IsAscending 0 pattern.items }
-    ensures forwarded { IfOk result (Forwarded pipeline pattern.items (record {
-      had = map (seen R.remaining R.calls) ins.old;
-      left = map (seen R.remaining R.calls) ins.new;
-      held = map (seen W.contents W.calls) outs.old;
-      holds = map (seen W.contents W.calls) outs.new;
-    })) }
-    ensures stopped { IfErr result (λ f. StoppedBy pipeline pattern.items (record {
-      had = map (seen R.remaining R.calls) ins.old;
-      left = map (seen R.remaining R.calls) ins.new;
-      held = map (seen W.contents W.calls) outs.old;
-      holds = map (seen W.contents W.calls) outs.new;
-    }) f.cause f.report) }
-    // Whether there is room is known before memory is asked for.
-    ensures no_room { spec.answer_of result ≡ Err RunCause.NoRoom ↔ pipeline.region < bytes_needed pipeline.env }
-    ensures untouched { IfErr result (λ f. (f.cause ≡ RunCause.Memory) ⊎ (f.cause ≡ RunCause.NoRoom) → (ins.new ≡ ins.old) × (outs.new ≡ outs.old)) }
-    // Where all went well, no device is broken.
-    ensures sound { IsOk result → AllSound R.is_broken ins.new × AllSound W.is_broken outs.new }
-    // A device is broken if it was before, or if the result names it; one call of the named one failed, and none of the others.
-    ensures fared_readers { AllFared R.is_broken R.failures (failed_reader (spec.answer_of result)) ins.old ins.new }
-    ensures fared_writers { AllFared W.is_broken W.failures (failed_writer (spec.answer_of result)) outs.old outs.new }
+    ensures promise { RunPromise pipeline pattern.items (kind R.remaining R.calls R.is_broken R.failures) ins.old ins.new
+        (kind W.contents W.calls W.is_broken W.failures) outs.old outs.new result }
 {
     run_watched::<Nothing, R, W, Silent>(alloc, pipeline, ins, outs, pattern, &mut Silent)
 }

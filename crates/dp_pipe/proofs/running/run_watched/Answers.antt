@@ -13,15 +13,17 @@ ready g c =
     is_ready c.args.pipeline c.args.pattern.items c.answer.ensures.plan
     (record { safe = c.runs_keep_safe.ensures; copies = c.clones_are_copies.ensures })
 
-pub returns-clause-forwarded : goal.returns-clause-forwarded
-returns-clause-forwarded g c =
-    all_forwarded c.answer.result (ready g (goal.at.returns-clause-forwarded g c).After-answer) c.answer.ensures.answers
-
-pub returns-clause-stopped : goal.returns-clause-stopped
-returns-clause-stopped g c =
-    all_stopped (ready g (goal.at.returns-clause-stopped g c).After-answer) c.requires.pattern
-    (length-map c.args.outs.now (seen g.W.Sink.contents g.W.Sink.calls) ∙ c.requires.writers) c.answer.result c.answer.ensures.answers
-
-pub returns-clause-no_room : goal.returns-clause-no_room
-returns-clause-no_room g c =
-    no_room_so c.answer.result c.answer.ensures.answers
+pub returns-clause-promise : goal.returns-clause-promise
+returns-clause-promise g c =
+    let is = ready g (goal.at.returns-clause-promise g c).After-answer in
+    let writers = length-map c.args.outs.now (seen g.W.Sink.contents g.W.Sink.calls) ∙ c.requires.writers in
+    let answers = c.answer.ensures.answers in
+    record {
+      forwarded = all_forwarded c.answer.result is answers;
+      stopped = all_stopped is c.requires.pattern writers c.answer.result answers;
+      no_room = no_room_so c.answer.result answers;
+      untouched = c.answer.ensures.untouched;
+      sound = c.answer.ensures.sound;
+      fared_readers = c.answer.ensures.fared_readers;
+      fared_writers = c.answer.ensures.fared_writers;
+    }
