@@ -8,6 +8,7 @@ use Rattle.std.proofs.lemmas.Option.{same_Some, slice_get_within}
 use Rattle.dp_model.specs.Laws.Lists.{get_set_other, get_set_same, get_within, set_itself, map_get}
 use Rattle.dp_pcap.specs.declared.time.Unit.{Unit as TimeUnit}
 use Rattle.dp_pcap.specs.declared.error.PcapError.{PcapError}
+use Rattle.dp_pcap.specs.declared.format.TheConstants.{MAX_RECORD}
 use Rattle.dp_pcap.specs.declared.source.Next.{Next}
 use Rattle.dp_pcap.specs.declared.source.Next.TheVariants.{Record, End}
 use Rattle.dp_pcap.specs.declared.source.Next.TheVariants as next
@@ -21,7 +22,7 @@ use Rattle.dp_pipe.specs.declared.forwarding.OpenInputs.{OpenInputs}
 use Rattle.dp_pipe.specs.declared.forwarding.OpenInputs.TheVariants.{Zero, One, Several}
 use Rattle.dp_pipe.specs.declared.forwarding.RunCause.{RunCause}
 use Rattle.dp_pipe.specs.Forwarding.{Input, IsProgressOf, RunUntil, AskedUntil, Advances, Follows, StopsRun, AreRounds, NoneIsOpen}
-use Rattle.dp_pipe.specs.Forwarding.{OnlyIsOpen, AreOver}
+use Rattle.dp_pipe.specs.Forwarding.{OnlyIsOpen, AreOver, CanAsk}
 use Rattle.dp_pipe.proofs.Advancing.{order_ended, order_round}
 use Rattle.dp_pipe.proofs.Stepping.{input_at, open_going}
 use Rattle.dp_pipe.proofs.Forwarded.{split}
@@ -144,22 +145,14 @@ module _ {R W : Type 0} {remaining : R → Device} {contents : W → Device} {un
   same_ports : length e.setting.env.ports ≡ length e0.setting.env.ports
   same_ports = ap (λ (x : EngineState). length x.setting.env.ports) c.along.run.stays
 
-  -- what a call needs of them
-  pub there_now : port < length e.setting.env.ports
-  there_now = omega (arith, same_ports, c.there)
-
-  pub many_now : length outs ≡ length e.setting.env.ports
-  many_now = c.many ∙ sym same_ports
-
-  pub counted_now : length e.tallies ≡ 8
-  counted_now = c.along.run.each ∙ c.counted
-
-  pub open_now : p.state ≡ Open → p.source.is_open ≡ true
-  open_now open_p = (open_source c.along c.input open_p).0
-
-  pub limit_now : p.state ≡ Open → e.turns + 16777216 ≤ 134217728 + p.source.given
-  limit_now open_p =
-      few_turns c.along c.input open_p (omega (arith, c.along.progress_is.many, c.along.inputs_many, c.few))
+  -- its input can be asked
+  pub can_ask : {buf : ℕ} → length outs ≤ 8 → MAX_RECORD ≤ buf → CanAsk e port p (length outs) buf
+  can_ask few buf = record {
+    exists = omega (arith, same_ports, c.there);
+    places = record { many = c.many ∙ sym same_ports; few = few; counted = c.along.run.each ∙ c.counted; buf = buf };
+    opened = λ open_p. (open_source c.along c.input open_p).0;
+    limit = λ open_p. few_turns c.along c.input open_p (omega (arith, c.along.progress_is.many, c.along.inputs_many, c.few));
+  }
 
 -- the run after it
 module _ {R W : Type 0} {remaining : R → Device} {contents : W → Device} {unit : TimeUnit} {e0 e e' : EngineState}

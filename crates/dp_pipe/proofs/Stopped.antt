@@ -43,11 +43,11 @@ stopped_writing {p = p} {pattern = pattern} {first = first} {t = t} {inputs = in
       read = f.read;
       before = f.before;
       last = f.last;
+      earlier = earlier ready is f few_ports;
+      run = run;
       arrivals_are = f.arrivals_are;
       round = f.round;
       order = f.order;
-      earlier = earlier ready is f few_ports;
-      run = run;
       goes_on = goes_on_by ready is f few_ports;
       there = omega (arith, f.stopped.there, there);
       ahead = λ q less old new here at. subst (λ (u : TimeUnit). IsGiven old new (capture_text u run.captures q)) f.unit_is

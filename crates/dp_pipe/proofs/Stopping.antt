@@ -64,14 +64,8 @@ states_get (x ∷ progress) (suc n) p e = states_get progress n p e
 -- a run was on what was read until now
 pub ran_on : {unit : TimeUnit} {e0 e : EngineState} {t : Transfer} {progress : List InputProgress} {inputs : List Input} {round port : ℕ}
     → RunUntil unit e0 e t progress inputs round port → RanOnInputs unit e0 e t.held t.holds inputs
-ran_on along = record {
-  inputs_many = along.inputs_many;
-  unit_is = along.unit_is;
-  captures = along.captures;
-  many = along.many;
-  run = along.run;
-  wrote = along.wrote;
-}
+ran_on along =
+    record { inputs_many = along.inputs_many; unit_is = along.unit_is; captures = along.captures; many = along.many; run = along.run; wrote = along.wrote }
 
 -- an open input, whose source answers, in a run that continues
 module _ {unit : TimeUnit} {e0 e : EngineState} {t : Transfer} {progress : List InputProgress} {inputs : List Input} {round port : ℕ}

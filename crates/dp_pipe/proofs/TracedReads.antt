@@ -407,11 +407,11 @@ module _ {V : Type 0} {sees : V → Event → V → Type 0} {noted : V → Note 
       inputs = until.inputs;
       many = until.many;
       arrivals_are = until.arrivals_are;
+      read = are_read until.progress_is;
+      enough = enough;
       round = until.reached;
       port = until.coming;
       order = until.order;
-      read = are_read until.progress_is;
-      enough = enough;
     };
   }
 

@@ -27,6 +27,7 @@ use Rattle.dp_engine.specs.Drains.{captured, WrotePart}
 use Rattle.dp_engine.specs.Tallies.{counted}
 use Rattle.dp_engine.specs.Engines.{EngineState, tallies_at, counted_at, drained}
 use Rattle.dp_pipe.specs.Devices.{Device, Transfer, IsGiven, At, transfer}
+use Rattle.dp_pipe.specs.declared.forwarding.TheConstants.{MAX_RUN_TURNS}
 use Rattle.dp_pipe.specs.declared.forwarding.RunCause.{RunCause}
 use Rattle.dp_pipe.specs.declared.forwarding.RunCause.TheVariants.{In, Out}
 use Rattle.dp_pipe.specs.declared.forwarding.InputProgress.{InputProgress}
@@ -313,6 +314,28 @@ pub record IsUnderway (unit : TimeUnit) (after : EngineState) (left holds : List
   pub held : List Device
   pub inputs : List Input
   pub run : RunUntil unit before after (transfer had left held holds) progress inputs round port
+
+-- ---- what a step of a run needs
+
+-- a writer for each port, of which there are at most eight, the counts of eight ports, and a buffer that holds any record
+pub record HasPlaces (e : EngineState) (writers size : ℕ) : Type 0 where
+  pub many : writers ≡ length e.setting.env.ports
+  pub few : writers ≤ 8
+  pub counted : length e.tallies ≡ 8
+  pub buf : MAX_RECORD ≤ size
+
+-- the same, and an input and a reader for each port
+pub record HasPorts (e : EngineState) (sources readers writers size : ℕ) : Type 0 where
+  pub inputs : sources ≡ length e.setting.env.ports
+  pub ins : readers ≡ length e.setting.env.ports
+  pub places : HasPlaces e writers size
+
+-- the input of a port can be asked: if it is open, so is its source, and eight inputs with the most records make no more turns than an engine takes
+pub record CanAsk (e : EngineState) (port : ℕ) (input : InputProgress) (writers size : ℕ) : Type 0 where
+  pub exists : port < length e.setting.env.ports
+  pub places : HasPlaces e writers size
+  pub opened : input.state ≡ Open → input.source.is_open ≡ true
+  pub limit : input.state ≡ Open → e.turns + MAX_RECORDS ≤ MAX_RUN_TURNS + input.source.given
 
 -- ---- one step of a run
 

@@ -3,6 +3,7 @@ use Rattle.std.specs.Prelude.{◌≡◌, ◌≢◌, ℕ, ◌+◌, ◌<◌, ◌�
 use Rattle.std.specs.List.{AllByRecursion}
 use Rattle.dp_model.specs.Machine.{Setting, World}
 use Rattle.dp_model.specs.Runs.{Arrival, Nodes, Consumed, with_empty_outboxes}
+use Rattle.dp_pcap.specs.declared.format.TheConstants.{MAX_RECORD}
 use Rattle.dp_pcap.specs.SourceState.{SourceState}
 use Rattle.dp_pcap.specs.Source.{WhereKnown, Continues, IsInRange, Moves}
 use Rattle.dp_pcap.specs.declared.error.PcapError.{PcapError}
@@ -21,6 +22,7 @@ use Rattle.dp_pipe.specs.Forwarding.{Input, AreRead, IsRead, IsReadTo, AreProgre
 use Rattle.dp_load.specs.Pipelines.{Plan}
 use Rattle.dp_pipe.specs.Running.{IsFirst, HasHeaderFault}
 use Rattle.dp_pipe.specs.declared.forwarding.InputProgress.{InputProgress}
+use Rattle.dp_pipe.specs.declared.forwarding.TheConstants.{MAX_RUN_TURNS}
 use Rattle.dp_pipe.specs.declared.forwarding.RunCause.{RunCause}
 use Rattle.dp_pipe.specs.declared.forwarding.RunCause.TheVariants.{In}
 
@@ -182,6 +184,15 @@ abbrev pub TracesStep : {V R : Type 0} → (V → Event → V → Type 0) → (V
 TracesStep sees noted v v' only port before after p p' device r r' wanted wanted' answer =
     (IsNotAsked only port p wanted × (answer ≡ Ok tt) × (v' ≡ v) × (after ≡ before) × (p' ≡ p) × (r' ≡ r) × (wanted' ≡ wanted))
     ⊎ TracesInput sees noted v v' only port before after p p' (device r) (device r') wanted wanted' answer
+
+-- what tracing needs: an input and a reader for each port, of which there are at most eight, a buffer that holds any record, and no more records that
+-- are wanted than an engine takes turns
+pub record CanTrace (e : EngineState) (sources readers size wanted : ℕ) : Type 0 where
+  pub inputs : sources ≡ length e.setting.env.ports
+  pub ins : readers ≡ length e.setting.env.ports
+  pub few : readers ≤ 8
+  pub buf : MAX_RECORD ≤ size
+  pub limit : e.turns + wanted ≤ MAX_RUN_TURNS
 
 -- Tracing goes on: from an engine before its first turn to another one, in a round in which a port comes next, if more records are wanted.
 pub record TracesUntil {V : Type 0} (sees : V → Event → V → Type 0) (noted : V → Note → V → Type 0) (v v' : V) (only : Option ℕ) (most : ℕ)

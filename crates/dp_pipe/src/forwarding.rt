@@ -5,7 +5,7 @@ ghost use Rattle.dp_pcap.specs.Capture.{truncates};
 ghost use Rattle.dp_pcap.specs.Source.{body_in, IsHeld, IsInRange, Moves, advanced, max_pulls, failed_pulls};
 ghost use Rattle.dp_pipe.specs.Devices.{Device, seen, transfer, AllSound, AllFared, FaredAlone, failed_reader, failed_writer, failed_drain};
 ghost use Rattle.dp_pipe.specs.Forwarding.{Input, ReadsTurn, DrainedAll, DrainsStopped, DrainedFirst, Advances, RunUntil, IsUnderway, IsRound, AreRounds};
-ghost use Rattle.dp_pipe.specs.Forwarding.{LastPulls, AreOpen, IsAlone};
+ghost use Rattle.dp_pipe.specs.Forwarding.{LastPulls, AreOpen, IsAlone, HasPlaces, HasPorts, CanAsk};
 ghost use Rattle.dp_pipe.specs.declared.forwarding.InputProgress.{InputProgress as InputOf};
 ghost use Rattle.dp_pipe.specs.Watched.{ShowsNext, ShowsInput, ShowsUntil, ShowsRound, ShowsTurns};
 ghost use Rattle.dp_engine.specs.Engines.{EngineState};
@@ -167,14 +167,8 @@ fn ask_copied<K: CompiledPrograms, R: Feed, W: Sink, V: Watch>(
     buf: &mut [u8],
     watch: &mut V,
 ) -> Result<(), RunCause>
-    requires exists { port < length engine.old.setting.env.ports }
-    requires many { length outs.old ≡ length engine.old.setting.env.ports }
-    requires few { length outs.old ≤ 8 }
-    requires counted { length engine.old.tallies ≡ 8 }
-    requires buf { MAX_RECORD ≤ length buf.old }
+    requires can { CanAsk engine.old port input.old (length outs.old) (length buf.old) }
     requires is_open { input.old.state ≡ InputState.Open }
-    requires open { input.old.source.is_open ≡ true }
-    requires limit { engine.old.turns + MAX_RECORDS ≤ MAX_RUN_TURNS + input.old.source.given }
     ensures step { ShowsInput V.sees watch.old watch.new port unit engine.old engine.new input.old input.new
         (seen R.remaining R.calls r.old) (seen R.remaining R.calls r.new)
         (map (seen W.contents W.calls) outs.old) (map (seen W.contents W.calls) outs.new) result }
@@ -213,13 +207,7 @@ fn ask<K: CompiledPrograms, R: Feed, W: Sink, V: Watch>(
     buf: &mut [u8],
     watch: &mut V,
 ) -> Result<(), RunCause>
-    requires exists { port < length engine.old.setting.env.ports }
-    requires many { length outs.old ≡ length engine.old.setting.env.ports }
-    requires few { length outs.old ≤ 8 }
-    requires counted { length engine.old.tallies ≡ 8 }
-    requires buf { MAX_RECORD ≤ length buf.old }
-    requires open { input.old.state ≡ InputState.Open → input.old.source.is_open ≡ true }
-    requires limit { input.old.state ≡ InputState.Open → engine.old.turns + MAX_RECORDS ≤ MAX_RUN_TURNS + input.old.source.given }
+    requires can { CanAsk engine.old port input.old (length outs.old) (length buf.old) }
     ensures step { input.old.state ≡ InputState.Open → ShowsInput V.sees watch.old watch.new port unit engine.old engine.new input.old input.new
         (seen R.remaining R.calls r.old) (seen R.remaining R.calls r.new)
         (map (seen W.contents W.calls) outs.old) (map (seen W.contents W.calls) outs.new) result }
@@ -254,12 +242,7 @@ fn round<K: CompiledPrograms, R: Feed, W: Sink, V: Watch>(
     buf: &mut [u8],
     watch: &mut V,
 ) -> Result<(), RunCause>
-    requires inputs { length inputs.old ≡ length engine.old.setting.env.ports }
-    requires ins { length ins.old ≡ length engine.old.setting.env.ports }
-    requires outs { length outs.old ≡ length engine.old.setting.env.ports }
-    requires few { length outs.old ≤ 8 }
-    requires counted { length engine.old.tallies ≡ 8 }
-    requires buf { MAX_RECORD ≤ length buf.old }
+    requires ports { HasPorts engine.old (length inputs.old) (length ins.old) (length outs.old) (length buf.old) }
     requires underway { (k : ℕ) × IsUnderway unit engine.old (map (seen R.remaining R.calls) ins.old) (map (seen W.contents W.calls) outs.old) inputs.old k 0 }
     ensures goes { (e0 : EngineState) (had held : List Device) (read : List Input) (k : ℕ) →
         RunUntil unit e0 engine.old (transfer had (map (seen R.remaining R.calls) ins.old) held (map (seen W.contents W.calls) outs.old)) inputs.old read k 0
@@ -326,10 +309,7 @@ fn rounds_alone<K: CompiledPrograms, R: Feed, W: Sink, V: Watch>(
     buf: &mut [u8],
     watch: &mut V,
 ) -> Result<(), RunCause>
-    requires outs { length outs.old ≡ length engine.old.setting.env.ports }
-    requires few { length outs.old ≤ 8 }
-    requires counted { length engine.old.tallies ≡ 8 }
-    requires buf { MAX_RECORD ≤ length buf.old }
+    requires places { HasPlaces engine.old (length outs.old) (length buf.old) }
     requires underway { (inputs : List InputOf) × (ins : List R) × (k : ℕ) × IsAlone port input.old r.old inputs ins
         × IsUnderway unit engine.old (map (seen R.remaining R.calls) ins) (map (seen W.contents W.calls) outs.old) inputs k 0 }
     ensures goes { (inputs : List InputOf) (ins : List R) (e0 : EngineState) (had held : List Device) (read : List Input) (k : ℕ) →
@@ -360,12 +340,7 @@ pub(crate) fn rounds<K: CompiledPrograms, R: Feed, W: Sink, V: Watch>(
     buf: &mut [u8],
     watch: &mut V,
 ) -> Result<(), RunCause>
-    requires inputs { length inputs.old ≡ length engine.old.setting.env.ports }
-    requires ins { length ins.old ≡ length engine.old.setting.env.ports }
-    requires outs { length outs.old ≡ length engine.old.setting.env.ports }
-    requires few { length outs.old ≤ 8 }
-    requires counted { length engine.old.tallies ≡ 8 }
-    requires buf { MAX_RECORD ≤ length buf.old }
+    requires ports { HasPorts engine.old (length inputs.old) (length ins.old) (length outs.old) (length buf.old) }
     requires underway { IsUnderway unit engine.old (map (seen R.remaining R.calls) ins.old) (map (seen W.contents W.calls) outs.old) inputs.old 0 0 }
     ensures goes { (e0 : EngineState) (had held : List Device) (read : List Input) →
         RunUntil unit e0 engine.old (transfer had (map (seen R.remaining R.calls) ins.old) held (map (seen W.contents W.calls) outs.old)) inputs.old read 0 0

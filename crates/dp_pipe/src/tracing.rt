@@ -8,7 +8,7 @@ ghost use Rattle.dp_engine.specs.Needs.{bytes_needed};
 ghost use Rattle.dp_pipe.specs.Devices.{Device, seen};
 ghost use Rattle.dp_pipe.specs.Forwarding.{LastPulls};
 ghost use Rattle.dp_pipe.specs.Tracing.{IsTraced, TracesNext, TracesStep, TracesUntil, TracesRound, TracesRecords, TracesFirst, NoneIsWanted};
-ghost use Rattle.dp_pipe.specs.Tracing.{IsOfInput};
+ghost use Rattle.dp_pipe.specs.Tracing.{CanTrace, IsOfInput};
 
 use crate::forwarding::{InputProgress, MAX_RUN_TURNS, ROUNDS, RunCause, is_open};
 use crate::opening::opened;
@@ -144,11 +144,7 @@ fn trace_round<K: CompiledPrograms, R: Feed, T: Tracer>(
     which: &mut Traced,
     tracer: &mut T,
 ) -> Result<(), RunCause>
-    requires inputs { length inputs.old ≡ length engine.old.setting.env.ports }
-    requires ins { length ins.old ≡ length engine.old.setting.env.ports }
-    requires few { length ins.old ≤ 8 }
-    requires buf { MAX_RECORD ≤ length buf.old }
-    requires limit { engine.old.turns + which.old.records ≤ MAX_RUN_TURNS }
+    requires can { CanTrace engine.old (length inputs.old) (length ins.old) (length buf.old) which.old.records }
     requires until { (v0 : T) × (e0 : EngineState) × (most : ℕ) × (had : List Device) × (k : ℕ)
         × TracesUntil T.Watch.sees T.noted v0 tracer.old which.old.port most e0 engine.old had (map (seen R.remaining R.calls) ins.old) inputs.old k 0
         which.old.records }
@@ -207,11 +203,7 @@ fn trace_rounds<K: CompiledPrograms, R: Feed, T: Tracer>(
     which: Traced,
     tracer: &mut T,
 ) -> Result<(), RunCause>
-    requires inputs { length inputs.old ≡ length engine.old.setting.env.ports }
-    requires ins { length ins.old ≡ length engine.old.setting.env.ports }
-    requires few { length ins.old ≤ 8 }
-    requires buf { MAX_RECORD ≤ length buf.old }
-    requires limit { engine.old.turns + which.records ≤ MAX_RUN_TURNS }
+    requires can { CanTrace engine.old (length inputs.old) (length ins.old) (length buf.old) which.records }
     requires until { (v0 : T) × (e0 : EngineState) × (most : ℕ) × (had : List Device)
         × TracesUntil T.Watch.sees T.noted v0 tracer.old which.port most e0 engine.old had (map (seen R.remaining R.calls) ins.old) inputs.old 0 0
         which.records }

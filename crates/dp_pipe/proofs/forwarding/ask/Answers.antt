@@ -22,7 +22,7 @@ drain_all-requires g c =
     let ((bytes, more, (fits, turn)), shown) = went g (goal.at.drain_all-requires g c).After-held_turn in
     let ports = ap (λ (x : EngineState). length x.setting.env.ports) turn.is in
     let counts : length c.held_turn.new.engine.tallies ≡ 8 = search rules in
-    (omega arith, (c.requires.many ∙ sym ports, (c.requires.few, (counts, c.in-Some.ensures.in_range.0))))
+    (omega arith, (c.requires.can.places.many ∙ sym ports, (c.requires.can.places.few, (counts, c.in-Some.ensures.in_range.0))))
 
 -- the input was asked, and this follows its record
 asked : (g : _) (c : After-held_turn g) (after : EngineState) (holds : List Device) (answer : Result ⊤ RunCause)

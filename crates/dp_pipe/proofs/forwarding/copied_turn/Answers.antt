@@ -13,18 +13,3 @@ returns-in-Ok-Record-clause-turn g c =
     c.in-Ok-Record.len (rw is at (c.next_record.ensures.continues c.requires.open))
     (has_room c.args.source.now c.next_record.result _ _ _ is c.next_record.ensures.in_range (rw c.next_record.auto.buf c.requires.buf))
     (turned t.taken t.watched) (traced t.taken t.watched c.in-Ok-Record.time refl refl)
-
-pub returns-in-Ok-Record-clause-in_range : goal.returns-in-Ok-Record-clause-in_range
-returns-in-Ok-Record-clause-in_range g c = rw (c.in-Ok-Record.is ∙ ap Ok c.in-Ok-Record.field-0-is) at c.next_record.ensures.in_range
-
-pub returns-in-Ok-Record-clause-source : goal.returns-in-Ok-Record-clause-source
-returns-in-Ok-Record-clause-source g c = rw (c.in-Ok-Record.is ∙ ap Ok c.in-Ok-Record.field-0-is) at c.next_record.ensures.source
-
-pub returns-in-Ok-Record-clause-failed : goal.returns-in-Ok-Record-clause-failed
-returns-in-Ok-Record-clause-failed g c = rw (c.in-Ok-Record.is ∙ ap Ok c.in-Ok-Record.field-0-is) at (c.next_record.ensures.failed c.requires.open)
-
-pub returns-in-Ok-Record-clause-counted : goal.returns-in-Ok-Record-clause-counted
-returns-in-Ok-Record-clause-counted g c = rw (c.in-Ok-Record.is ∙ ap Ok c.in-Ok-Record.field-0-is) at c.next_record.ensures.counted
-
-pub returns-in-Ok-Record-clause-failures : goal.returns-in-Ok-Record-clause-failures
-returns-in-Ok-Record-clause-failures g c = rw (c.in-Ok-Record.is ∙ ap Ok c.in-Ok-Record.field-0-is) at c.next_record.ensures.failures

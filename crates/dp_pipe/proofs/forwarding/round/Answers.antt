@@ -10,7 +10,7 @@ use Rattle.dp_pipe.specs.Devices.{Device, seen, transfer, AllFared, AllSound, fa
 use Rattle.dp_pipe.specs.Forwarding.{Input, RunUntil}
 use Rattle.dp_pipe.proofs.Watched.{shown_on, shown_round, shown_stops}
 use Rattle.dp_pipe.proofs.Faring.{reader_then, writers_then}
-use Rattle.dp_pipe.proofs.Rounding.{Comes, there_now, many_now, counted_now, open_now, limit_now, asked_on, asked_stops, round_over}
+use Rattle.dp_pipe.proofs.Rounding.{Comes, can_ask, asked_on, asked_stops, round_over}
 use Rattle.dp_pipe.proofs.forwarding.round.Goals as goal
 use Rattle.dp_pipe.proofs.forwarding.round.Goals.{After-index-ins-k, After-ask}
 
@@ -24,7 +24,7 @@ reader_here : (g : _) (c : After-index-ins-k g)
     → slice_get c.loop-port.ins c.loop-port.port ≡ Some (slice_index_or c.loop-port.ins c.loop-port.port c.index-ins-k.result)
 reader_here g c =
     slice_get-get_or c.loop-port.ins c.loop-port.port c.index-ins-k.result
-    (omega (arith, c.loop-port.invariant.ins, c.loop-port-test.true, c.requires.inputs, c.requires.ins))
+    (omega (arith, c.loop-port.invariant.ins, c.loop-port-test.true, c.requires.ports.inputs, c.requires.ports.ins))
 
 -- the input of the port and its reader, where the run continues
 opened : (g : _) (c : After-index-ins-k g) (e0 : EngineState) (olds held : List Device) (read : List Input) (k : ℕ)
@@ -43,10 +43,10 @@ opened g c e0 olds held read k start =
       along = along;
       input = input_here g c;
       reader = reader_here g c;
-      there = omega (arith, ports, c.loop-port-test.true, c.requires.inputs);
-      few = omega (arith, ports, c.requires.outs, c.requires.few);
-      many = inv.outs ∙ c.requires.outs ∙ ports;
-      counted = sym start.run.each ∙ c.requires.counted;
+      there = omega (arith, ports, c.loop-port-test.true, c.requires.ports.inputs);
+      few = omega (arith, ports, c.requires.ports.places.many, c.requires.ports.places.few);
+      many = inv.outs ∙ c.requires.ports.places.many ∙ ports;
+      counted = sym start.run.each ∙ c.requires.ports.places.counted;
     }
 
 -- the same, of the run that there is
@@ -64,7 +64,7 @@ fared g c given is =
     let inv = c.loop-port.invariant in (
       reader_then g.R.Feed.is_broken g.R.Feed.failures c.ask.result given c.loop-port.port c.args.ins.now c.loop-port.ins _ c.ask.new.r inv.ins
           inv.readers (slice_get-get_or c.loop-port.ins c.loop-port.port c.index-ins-k.result
-          (omega (arith, inv.ins, c.loop-port-test.true, c.requires.inputs, c.requires.ins))) c.ask.ensures.fared_reader is,
+          (omega (arith, inv.ins, c.loop-port-test.true, c.requires.ports.inputs, c.requires.ports.ins))) c.ask.ensures.fared_reader is,
       writers_then g.W.Sink.is_broken g.W.Sink.failures c.ask.result given c.args.outs.now c.loop-port.outs c.ask.new.outs inv.outs inv.writers
           c.ask.ensures.fared_writers is,
     )
@@ -77,9 +77,9 @@ pub ask-requires : goal.ask-requires
 ask-requires g c =
     let here = found g (goal.at.ask-requires g c).After-index-ins-k in
     let inv = c.loop-port.invariant in
-    let few : length c.loop-port.outs ≤ 8 = omega (arith, inv.outs, c.requires.few) in
-    let buf : MAX_RECORD ≤ length c.loop-port.buf = rw inv.buf c.requires.buf in
-    (omega arith, (there_now here, (many_now here, (few, (counted_now here, (buf, (open_now here, limit_now here)))))))
+    let few : length c.loop-port.outs ≤ 8 = omega (arith, inv.outs, c.requires.ports.places.few) in
+    let buf : MAX_RECORD ≤ length c.loop-port.buf = rw inv.buf c.requires.ports.places.buf in
+    (omega arith, can_ask here few buf)
 
 pub loop-port-preserved : goal.loop-port-preserved
 loop-port-preserved g c =

@@ -1,13 +1,12 @@
 -- `rounds`: one more round, the end of all inputs, and a stop. The run and each call of `round` are derived once.
-use Rattle.std.proofs.Common.{rules, ◌≡◌, ◌≤◌, List, Result, Ok, Err, length, map, refl, sym, ap, ◌∙◌, arith}
+use Rattle.std.proofs.Common.{rules, ◌≡◌, List, Result, Ok, Err, length, map, refl, sym, ap, ◌∙◌, arith}
 use Rattle.std.specs.Prelude.{slice_index_or, ⊤}
 use Rattle.std.proofs.lemmas.List.{length-set}
 use Rattle.std.proofs.lemmas.Option.{slice_get-get_or}
-use Rattle.dp_pcap.specs.declared.format.TheConstants.{MAX_RECORD}
 use Rattle.dp_engine.specs.Engines.{EngineState}
 use Rattle.dp_pipe.specs.declared.forwarding.RunCause.{RunCause}
 use Rattle.dp_pipe.specs.Devices.{Device, seen, transfer, AllFared, AllSound, failed_reader, failed_writer}
-use Rattle.dp_pipe.specs.Forwarding.{Input, RunUntil, IsAlone, IsRound, IsUnderway}
+use Rattle.dp_pipe.specs.Forwarding.{Input, RunUntil, HasPlaces, IsAlone, IsRound, IsUnderway}
 use Rattle.dp_pipe.specs.Watched.{ShowsRound, ShowsUntil}
 use Rattle.dp_pipe.proofs.Watched.{shown_all}
 use Rattle.dp_pipe.proofs.Faring.{reader_then, readers_then, writers_then}
@@ -60,30 +59,36 @@ shown g c v0 e0 olds until = c.round.ensures.shown v0 e0 olds c.loop-k.k (c.loop
 gone : (g : _) (c : goal.After-from_residual g) → c.from_residual.result ≡ Err c.in_err-round.field-0.0
 gone g c = search rules
 
--- what each call needs of that run: its writers, its counts, a buffer, and the run itself
-needs : (g : _) (c : In-loop-k g) → (length c.loop-k.outs ≡ length c.loop-k.engine.setting.env.ports) × (length c.loop-k.outs ≤ 8)
-    × (length c.loop-k.engine.tallies ≡ 8) × (MAX_RECORD ≤ length c.loop-k.buf)
-    × IsUnderway c.args.unit c.loop-k.engine (map (seen g.R.Feed.remaining g.R.Feed.calls) c.loop-k.ins)
-    (map (seen g.W.Sink.contents g.W.Sink.calls) c.loop-k.outs) c.loop-k.inputs c.loop-k.k 0
-needs g c =
+-- what each call needs: its writers, its counts and a buffer, and the run itself
+places : (g : _) (c : In-loop-k g) → HasPlaces c.loop-k.engine (length c.loop-k.outs) (length c.loop-k.buf)
+places g c =
     let inv = c.loop-k.invariant in
+    let was = c.requires.ports.places in
+    record {
+      many = inv.outs ∙ was.many ∙ ports g c;
+      few = omega (arith, inv.outs, was.few);
+      counted = (along g c).1.run.each ∙ sym c.requires.underway.run.run.each ∙ was.counted;
+      buf = rw inv.buf was.buf;
+    }
+
+underway : (g : _) (c : In-loop-k g) → IsUnderway c.args.unit c.loop-k.engine (map (seen g.R.Feed.remaining g.R.Feed.calls) c.loop-k.ins)
+    (map (seen g.W.Sink.contents g.W.Sink.calls) c.loop-k.outs) c.loop-k.inputs c.loop-k.k 0
+underway g c =
     let start = c.requires.underway in
-    let (now, going) = along g c in (
-      inv.outs ∙ c.requires.outs ∙ ports g c,
-      omega (arith, inv.outs, c.requires.few),
-      going.run.each ∙ sym start.run.run.each ∙ c.requires.counted,
-      rw inv.buf c.requires.buf,
-      record { before = start.before; had = start.had; held = start.held; inputs = now; run = going },
-    )
+    let (now, going) = along g c in
+    record { before = start.before; had = start.had; held = start.held; inputs = now; run = going }
 
 pub round-requires : goal.round-requires
 round-requires g c =
     let inv = c.loop-k.invariant in
-    let same = ports g (goal.at.round-requires g c).In-loop-k in
-    let inputs = inv.inputs ∙ c.requires.inputs ∙ same in
-    let ins = inv.ins ∙ c.requires.ins ∙ same in
-    let (outs, few, counted, buf, underway) = needs g (goal.at.round-requires g c).In-loop-k in
-    (omega arith, (inputs, (ins, (outs, (few, (counted, (buf, (c.loop-k.k, underway))))))))
+    let here = (goal.at.round-requires g c).In-loop-k in
+    let same = ports g here in (
+      omega arith,
+      (
+        record { inputs = inv.inputs ∙ c.requires.ports.inputs ∙ same; ins = inv.ins ∙ c.requires.ports.ins ∙ same; places = places g here },
+        (c.loop-k.k, underway g here),
+      ),
+    )
 
 -- the only open input, and its reader
 alone : (g : _) (c : After-index-ins-k g) → IsAlone c.in-One.port (slice_index_or c.loop-k.inputs c.in-One.port c.index-inputs-k.result)
@@ -91,7 +96,7 @@ alone : (g : _) (c : After-index-ins-k g) → IsAlone c.in-One.port (slice_index
 alone g c =
     let inv = c.loop-k.invariant in
     let (there, only) = rw c.in-One.is at c.open_inputs.ensures in
-    let many = inv.ins ∙ c.requires.ins ∙ sym c.requires.inputs ∙ sym inv.inputs in
+    let many = inv.ins ∙ c.requires.ports.ins ∙ sym c.requires.ports.inputs ∙ sym inv.inputs in
     record {
       many = many;
       input = slice_get-get_or c.loop-k.inputs c.in-One.port c.index-inputs-k.result there;
@@ -101,9 +106,9 @@ alone g c =
 
 pub rounds_alone-requires : goal.rounds_alone-requires
 rounds_alone-requires g c =
-    let (outs, few, counted, buf, underway) = needs g (goal.at.rounds_alone-requires g c).In-loop-k in
+    let loop = (goal.at.rounds_alone-requires g c).In-loop-k in
     let here = alone g (goal.at.rounds_alone-requires g c).After-index-ins-k in
-    (omega arith, (outs, (few, (counted, (buf, (c.loop-k.inputs, c.loop-k.ins, c.loop-k.k, here, underway))))))
+    (omega arith, (places g loop, (c.loop-k.inputs, c.loop-k.ins, c.loop-k.k, here, underway g loop)))
 
 pub returns-in-One : goal.returns-in-One
 returns-in-One g c =

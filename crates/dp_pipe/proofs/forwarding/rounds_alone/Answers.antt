@@ -11,7 +11,7 @@ use Rattle.dp_pipe.specs.declared.forwarding.InputProgress.{InputProgress}
 use Rattle.dp_pipe.specs.Devices.{Device, seen, transfer}
 use Rattle.dp_pipe.specs.Forwarding.{Input, RunUntil, IsAlone}
 use Rattle.dp_pipe.specs.Watched.{ShowsUntil}
-use Rattle.dp_pipe.proofs.Rounding.{Comes, there_now, many_now, counted_now, open_now, limit_now, asked_on, asked_stops}
+use Rattle.dp_pipe.proofs.Rounding.{Comes, can_ask, asked_on, asked_stops}
 use Rattle.dp_pipe.proofs.Faring.{all_same, fared_same, fared_then, writers_then}
 use Rattle.dp_pipe.proofs.Lending.{not_both}
 use Rattle.dp_pipe.proofs.Watched.{shown_all, shown_comes, shown_ends, shown_on, shown_stops}
@@ -39,9 +39,9 @@ opened g c inputs ins e0 olds held read k alone start =
         input = get_set_same inputs c.args.port c.loop-unit.input c.args.input.now alone.input;
         reader = get_set_same ins c.args.port c.loop-unit.r c.args.r.now alone.reader;
         there = omega (arith, there, start.progress_is.many, start.inputs_many);
-        few = omega (arith, ports, c.requires.outs, c.requires.few);
-        many = c.loop-unit.invariant.outs ∙ c.requires.outs ∙ ports;
-        counted = sym start.run.each ∙ c.requires.counted;
+        few = omega (arith, ports, c.requires.places.many, c.requires.places.few);
+        many = c.loop-unit.invariant.outs ∙ c.requires.places.many ∙ ports;
+        counted = sym start.run.each ∙ c.requires.places.counted;
       },
     )
 
@@ -50,9 +50,9 @@ ask-requires g c =
     let (inputs, ins, k, alone, start) = c.requires.underway in
     let (round, here) = opened g (goal.at.ask-requires g c).In-loop-unit inputs ins start.before start.had start.held start.inputs k alone start.run in
     let inv = c.loop-unit.invariant in
-    let few : length c.loop-unit.outs ≤ 8 = omega (arith, inv.outs, c.requires.few) in
-    let buf : MAX_RECORD ≤ length c.loop-unit.buf = rw inv.buf c.requires.buf in
-    (omega arith, (there_now here, (many_now here, (few, (counted_now here, (buf, (open_now here, limit_now here)))))))
+    let few : length c.loop-unit.outs ≤ 8 = omega (arith, inv.outs, c.requires.places.few) in
+    let buf : MAX_RECORD ≤ length c.loop-unit.buf = rw inv.buf c.requires.places.buf in
+    (omega arith, can_ask here few buf)
 
 -- the result where the run stops
 gone : (g : _) (c : goal.After-from_residual g) → c.from_residual.result ≡ Err c.in_err-ask.field-0.0

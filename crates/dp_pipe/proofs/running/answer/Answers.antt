@@ -1,5 +1,5 @@
 -- `answer`: the watcher was shown the turns of the engine that was opened.
-use Rattle.std.proofs.Common.{inl, inr}
+use Rattle.std.proofs.Common.{inr}
 use Rattle.dp_pipe.proofs.running.answer.Goals as goal
 
 pub returns-in-Ok-clause-shown : goal.returns-in-Ok-clause-shown
@@ -13,15 +13,3 @@ returns-in-Ok-clause-shown g c =
       progress = _;
       reported = reported;
     }))
-
-pub returns-in-Ok-clause-answers : goal.returns-in-Ok-clause-answers
-returns-in-Ok-clause-answers g c =
-    let (last, went, reported) = c.run_through.ensures.through in
-    inl (record {
-      first = c.in-Ok.engine;
-      is_first = c.in-Ok.ensures.engine;
-      last = last;
-      progress = _;
-      went = went;
-      reported = reported;
-    })

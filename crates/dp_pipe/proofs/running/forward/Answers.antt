@@ -67,29 +67,18 @@ rounds-requires g c =
     c.read_headers.ensures.begun in (
       omega arith,
       (
-        inputs,
-        (
-          ins,
-          (
-            outs,
-            (
-              few,
-              (
-                c.requires.counted,
-                (
-                  c.requires.buf,
-                  record {
-                    before = c.args.engine.now;
-                    had = map (seen g.R.Feed.remaining g.R.Feed.calls) c.args.ins.now;
-                    held = mids;
-                    inputs = all_begun c.read_headers.new.inputs.items;
-                    run = rw here along;
-                  },
-                ),
-              ),
-            ),
-          ),
-        ),
+        record {
+          inputs = inputs;
+          ins = ins;
+          places = record { many = outs; few = few; counted = c.requires.counted; buf = c.requires.buf };
+        },
+        record {
+          before = c.args.engine.now;
+          had = map (seen g.R.Feed.remaining g.R.Feed.calls) c.args.ins.now;
+          held = mids;
+          inputs = all_begun c.read_headers.new.inputs.items;
+          run = rw here along;
+        },
       ),
     )
 

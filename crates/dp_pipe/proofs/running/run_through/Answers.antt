@@ -9,9 +9,9 @@ reported : (g : _) (c : After-answer_with g) → IsReportOf c.forward-outcome.ne
 reported g c =
     rw c.answer_with.ensures.report
     (record {
-      ports = grind (arith, common_steps);
       rings = search rules;
       pools = search rules;
+      ports = grind (arith, common_steps);
       calls = search rules;
       refused = search rules;
       cut = search rules;

@@ -31,30 +31,22 @@ begin g c =
 
 pub trace_rounds-requires : goal.trace_rounds-requires
 trace_rounds-requires g c =
-    let here : c.as_mut_slice.result.now ≡ c.read_headers.new.inputs.items = search rules in
-    let inputs = ap length here ∙ c.in_ok-read_headers.ensures.all ∙ c.requires.readers in
-    let ins = c.read_headers.ensures.many ∙ c.requires.readers in (
+    let here : c.as_mut_slice.result.now ≡ c.read_headers.new.inputs.items = search rules in (
       omega arith,
       (
-        inputs,
+        record {
+          inputs = ap length here ∙ c.in_ok-read_headers.ensures.all ∙ c.requires.readers;
+          ins = c.read_headers.ensures.many ∙ c.requires.readers;
+          few = omega (arith, c.read_headers.ensures.many, c.requires.few);
+          buf = c.requires.buf;
+          limit = omega (arith, c.requires.first, c.requires.limit);
+        },
         (
-          ins,
-          (
-            omega (arith, c.read_headers.ensures.many, c.requires.few),
-            (
-              c.requires.buf,
-              (
-                omega (arith, c.requires.first, c.requires.limit),
-                (
-                  c.args.tracer.now,
-                  c.args.engine.now,
-                  c.args.which.records,
-                  map (seen g.R.Feed.remaining g.R.Feed.calls) c.args.ins.now,
-                  rw here (begin g (goal.at.trace_rounds-requires g c).In_ok-read_headers),
-                ),
-              ),
-            ),
-          ),
+          c.args.tracer.now,
+          c.args.engine.now,
+          c.args.which.records,
+          map (seen g.R.Feed.remaining g.R.Feed.calls) c.args.ins.now,
+          rw here (begin g (goal.at.trace_rounds-requires g c).In_ok-read_headers),
         ),
       ),
     )

@@ -15,7 +15,7 @@ input_here : (g : _) (c : After-index-ins-k g)
     → slice_get c.loop-port.inputs c.loop-port.port ≡ Some (slice_index_or c.loop-port.inputs c.loop-port.port c.index-inputs-k.result)
 input_here g c =
     slice_get-get_or c.loop-port.inputs c.loop-port.port c.index-inputs-k.result
-    (omega (arith, c.loop-port.invariant.inputs, c.loop-port-test.true, c.requires.inputs, c.requires.ins))
+    (omega (arith, c.loop-port.invariant.inputs, c.loop-port-test.true, c.requires.can.inputs, c.requires.can.ins))
 
 reader_here : (g : _) (c : After-index-ins-k g)
     → slice_get c.loop-port.ins c.loop-port.port ≡ Some (slice_index_or c.loop-port.ins c.loop-port.port c.index-ins-k.result)
@@ -27,14 +27,14 @@ trace_port-requires g c =
     let inv = c.loop-port.invariant in
     let (v0, e0, most, had, k, until) = c.requires.until in
     let ports = ap (λ (s : _). length s.env.ports) inv.setting in
-    let buf : MAX_RECORD ≤ length c.loop-port.buf = rw inv.buf c.requires.buf in (
+    let buf : MAX_RECORD ≤ length c.loop-port.buf = rw inv.buf c.requires.can.buf in (
       omega arith,
       (
-        omega (arith, ports, c.loop-port-test.true, c.requires.ins),
+        omega (arith, ports, c.loop-port-test.true, c.requires.can.ins),
         (
           buf,
           (
-            omega (arith, inv.turns, c.requires.limit),
+            omega (arith, inv.turns, c.requires.can.limit),
             open_until (inv.goes k v0 e0 most had until) c.loop-port.port (input_here g (goal.at.trace_port-requires g c).After-index-ins-k),
           ),
         ),
@@ -94,7 +94,7 @@ returns g c =
     let inv = c.loop-port.invariant in
     record {
       goes = λ v0 e0 most had k until.
-          round_over (inv.goes k v0 e0 most had until) (omega (arith, inv.inputs, c.loop-port-test.false, c.requires.inputs, c.requires.ins));
+          round_over (inv.goes k v0 e0 most had until) (omega (arith, inv.inputs, c.loop-port-test.false, c.requires.can.inputs, c.requires.can.ins));
       turns = inv.turns;
       setting = inv.setting;
       port = inv.only;

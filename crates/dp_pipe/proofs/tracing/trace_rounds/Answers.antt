@@ -1,7 +1,6 @@
 -- `trace_rounds`: one more round, the end, and a fault.
-use Rattle.std.proofs.Common.{rules, ◌≡◌, ◌≤◌, length, map, refl, sym, ap, ◌∙◌, arith}
+use Rattle.std.proofs.Common.{rules, ◌≡◌, length, map, refl, sym, ap, ◌∙◌, arith}
 use Rattle.std.specs.Prelude.{Err}
-use Rattle.dp_pcap.specs.declared.format.TheConstants.{MAX_RECORD}
 use Rattle.dp_pipe.specs.Devices.{seen}
 use Rattle.dp_pipe.specs.Tracing.{TracesRound, TracesUntil}
 use Rattle.dp_pipe.proofs.TracedReads.{all_traced, none_wanted}
@@ -16,24 +15,17 @@ pub trace_round-requires : goal.trace_round-requires
 trace_round-requires g c =
     let inv = c.loop-k.invariant in
     let (v0, e0, most, had, until) = c.requires.until in
-    let ports = ap (λ (s : _). length s.env.ports) inv.setting in
-    let buf : MAX_RECORD ≤ length c.loop-k.buf = rw inv.buf c.requires.buf in (
+    let ports = ap (λ (s : _). length s.env.ports) inv.setting in (
       omega arith,
       (
-        inv.inputs ∙ c.requires.inputs ∙ sym ports,
-        (
-          inv.ins ∙ c.requires.ins ∙ sym ports,
-          (
-            omega (arith, inv.ins, c.requires.few),
-            (
-              buf,
-              (
-                omega (arith, inv.turns, c.requires.limit),
-                (v0, e0, most, had, c.loop-k.k, rw inv.only (inv.goes v0 e0 most had until)),
-              ),
-            ),
-          ),
-        ),
+        record {
+          inputs = inv.inputs ∙ c.requires.can.inputs ∙ sym ports;
+          ins = inv.ins ∙ c.requires.can.ins ∙ sym ports;
+          few = omega (arith, inv.ins, c.requires.can.few);
+          buf = rw inv.buf c.requires.can.buf;
+          limit = omega (arith, inv.turns, c.requires.can.limit);
+        },
+        (v0, e0, most, had, c.loop-k.k, rw inv.only (inv.goes v0 e0 most had until)),
       ),
     )
 
