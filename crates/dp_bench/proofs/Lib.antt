@@ -1,3 +1,4 @@
 -- Lists the lemma files.
 pub mod Objects
 pub mod Packets
+pub mod Rounds

@@ -1,2 +1,3 @@
 -- The definitions that contracts of the rounds name.
 pub mod Mbufs
+pub mod Rounds

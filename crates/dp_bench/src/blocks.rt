@@ -1,9 +1,7 @@
 //! Benchmarks of a heap's blocks.
 ghost use Rattle.std.specs.Prelude.{◌≡◌, ◌≤◌};
 
-use crate::heaps::heap;
 use dp_heap::Heap;
-use std::alloc::Global;
 
 // The size of a block, in bytes.
 const SIZE: u32 = 64;
@@ -23,8 +21,8 @@ fn pairs(heap: &mut Heap, rounds: u32) -> u32
     served
 }
 
-// The same with `others` other blocks out.
-fn pairs_beside(heap: &mut Heap, others: u32, rounds: u32) -> u32
+/// The same with `others` other blocks out.
+pub fn pairs_beside(heap: &mut Heap, others: u32, rounds: u32) -> u32
     ensures served { result ≤ rounds }
     ensures same { heap.new ≡ heap.old }
 {
@@ -39,16 +37,4 @@ fn pairs_beside(heap: &mut Heap, others: u32, rounds: u32) -> u32
         }
         Err(_) => 0,
     }
-}
-
-/// The same in a heap of its own.
-pub fn served(alloc: Global, others: u32, rounds: u32) -> u32
-    ensures { result ≤ rounds }
-{
-    let Some(mut heap) = heap(alloc) else {
-        return 0;
-    };
-    let served = pairs_beside(&mut heap, others, rounds);
-    heap.close().close();
-    served
 }

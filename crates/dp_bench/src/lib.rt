@@ -16,6 +16,8 @@ mod routes;
 
 ghost use Rattle.std.specs.Prelude.{◌≡◌, ◌+◌, ◌≤◌, ◌⊎◌};
 
+use heaps::{Bench, Way, served};
+use mbufs::Deed;
 use std::alloc::Global;
 
 /// Takes and frees a block of 64 bytes in each round, with `others` other blocks out.
@@ -23,7 +25,7 @@ use std::alloc::Global;
 pub extern "C" fn dpv_blocks(alloc: Global, others: u32, rounds: u32) -> u32
     ensures { result ≤ rounds }
 {
-    blocks::served(alloc, others, rounds)
+    served(alloc, Bench::Blocks(others), rounds)
 }
 
 /// Puts a number into an empty ring of 1,024 slots and takes it out.
@@ -31,7 +33,7 @@ pub extern "C" fn dpv_blocks(alloc: Global, others: u32, rounds: u32) -> u32
 pub extern "C" fn dpv_ring(alloc: Global, rounds: u32) -> u32
     ensures { (result ≡ rounds) ⊎ (result ≡ 0) }
 {
-    rings::moved(alloc, rings::Way::One, rounds)
+    served(alloc, Bench::Ring(Way::One), rounds)
 }
 
 /// Puts 32 numbers into an empty ring of 1,024 slots and takes them out, each in one call.
@@ -39,7 +41,7 @@ pub extern "C" fn dpv_ring(alloc: Global, rounds: u32) -> u32
 pub extern "C" fn dpv_ring_bulk(alloc: Global, rounds: u32) -> u32
     ensures { (result ≡ rounds) ⊎ (result ≡ 0) }
 {
-    rings::moved(alloc, rings::Way::Bulk, rounds)
+    served(alloc, Bench::Ring(Way::Bulk), rounds)
 }
 
 /// Takes an object of a pool of 8,191 and puts it back, with a cache for 256 or for none.
@@ -47,7 +49,8 @@ pub extern "C" fn dpv_ring_bulk(alloc: Global, rounds: u32) -> u32
 pub extern "C" fn dpv_pool(alloc: Global, cached: bool, rounds: u32) -> u32
     ensures { (result ≡ rounds) ⊎ (result ≡ 0) }
 {
-    pools::served(alloc, cached, rounds)
+    let cache = if cached { 256 } else { 0 };
+    served(alloc, Bench::Pool(cache, Way::One), rounds)
 }
 
 /// Takes 32 objects of a pool of 8,191 and puts them back, each in one call, with a cache for 256.
@@ -55,7 +58,7 @@ pub extern "C" fn dpv_pool(alloc: Global, cached: bool, rounds: u32) -> u32
 pub extern "C" fn dpv_pool_bulk(alloc: Global, rounds: u32) -> u32
     ensures { result ≤ rounds }
 {
-    pools::bulks(alloc, rounds)
+    served(alloc, Bench::Pool(256, Way::Bulk), rounds)
 }
 
 /// Allocates an empty packet of one segment from a pool with a cache for 256 and frees it. The numbers 1 to 3 mean cloning such a packet, for
@@ -65,12 +68,12 @@ pub extern "C" fn dpv_mbufs(alloc: Global, deed: u32, rounds: u32) -> u32
     ensures { result ≤ rounds }
 {
     let deed = match deed {
-        0 => mbufs::Deed::Alloc,
-        1 => mbufs::Deed::Clone,
-        2 => mbufs::Deed::Front,
-        _ => mbufs::Deed::Receive,
+        0 => Deed::Alloc,
+        1 => Deed::Clone,
+        2 => Deed::Front,
+        _ => Deed::Receive,
     };
-    mbufs::served(alloc, deed, rounds)
+    served(alloc, Bench::Mbufs(deed), rounds)
 }
 
 /// Adds `rules` random rules to a table for 65,536, looks `addresses` random addresses up, and deletes the first `deletes` of its rules.

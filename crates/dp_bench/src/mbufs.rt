@@ -4,13 +4,11 @@ ghost use Rattle.dp_heap.specs.Elements.{count_of, is_busy};
 ghost use Rattle.dp_model.specs.Stores.{IsLive};
 ghost use Rattle.dp_bench.specs.Mbufs.{AreAsBefore, HasFront, HasRoom, IsReadyPool, IsInHome, IsOnePool, zones_in};
 
-use crate::heaps::heap;
 use dp_heap::Heap;
 use dp_mbuf::Mbufs;
 use dp_model::Packet;
 use dp_pool::Pool;
 use dp_zone::Zones;
-use std::alloc::Global;
 
 // The number of the pool's objects, their size in bytes, and the size of its cache.
 const OBJECTS: u32 = 400;
@@ -138,20 +136,6 @@ fn all_received(m: &mut Mbufs, rounds: u32) -> u32
     served
 }
 
-fn all_fronted(m: &mut Mbufs, packet: &Packet, rounds: u32) -> u32
-    requires { HasFront m.old.store packet.now 16 }
-    ensures served { result ≤ rounds }
-    ensures same { AreAsBefore m.old m.new }
-{
-    let mut served = 0;
-    for _ in 0..rounds {
-        if fronted(m, packet) {
-            served += 1;
-        }
-    }
-    served
-}
-
 // Whether bytes can be prepended to the packet.
 fn has_front(m: &Mbufs, packet: &Packet) -> bool
     requires { IsLive m.now.store packet.now }
@@ -167,6 +151,23 @@ fn has_front(m: &Mbufs, packet: &Packet) -> bool
     m.headroom(packet) >= FRONT
 }
 
+fn all_fronted(m: &mut Mbufs, packet: &Packet, rounds: u32) -> u32
+    requires { IsLive m.old.store packet.now }
+    ensures served { result ≤ rounds }
+    ensures same { AreAsBefore m.old m.new }
+{
+    if !has_front(m, packet) {
+        return 0;
+    }
+    let mut served = 0;
+    for _ in 0..rounds {
+        if fronted(m, packet) {
+            served += 1;
+        }
+    }
+    served
+}
+
 // Does `rounds` rounds, beside a packet.
 fn served_beside(m: &mut Mbufs, packet: &Packet, deed: Deed, rounds: u32) -> u32
     requires pools { 0 < length m.old.store.pools }
@@ -178,13 +179,7 @@ fn served_beside(m: &mut Mbufs, packet: &Packet, deed: Deed, rounds: u32) -> u32
     match deed {
         Deed::Alloc => all_taken(m, rounds),
         Deed::Clone => all_cloned(m, packet, rounds),
-        Deed::Front => {
-            if has_front(m, packet) {
-                all_fronted(m, packet, rounds)
-            } else {
-                0
-            }
-        }
+        Deed::Front => all_fronted(m, packet, rounds),
         Deed::Receive => all_received(m, rounds),
     }
 }
@@ -244,8 +239,8 @@ fn unmake(pools: [Option<Pool>; 8], heap: &mut Heap, zones: &mut Zones)
     unmake_in(h, heap, zones);
 }
 
-// The same with mbufs in a heap.
-fn served_in(heap: &mut Heap, deed: Deed, rounds: u32) -> u32
+/// The same with mbufs in a heap.
+pub fn served_in(heap: &mut Heap, deed: Deed, rounds: u32) -> u32
     ensures served { result ≤ rounds }
     ensures counted { count_of is_busy heap.new.elements ≡ count_of is_busy heap.old.elements }
 {
@@ -256,17 +251,5 @@ fn served_in(heap: &mut Heap, deed: Deed, rounds: u32) -> u32
     let mut mbufs = Mbufs::over([Some(pool), None, None, None, None, None, None, None]);
     let served = served_by(&mut mbufs, deed, rounds);
     unmake(mbufs.into_pools(), heap, &mut zones);
-    served
-}
-
-/// The same in a heap of its own.
-pub fn served(alloc: Global, deed: Deed, rounds: u32) -> u32
-    ensures { result ≤ rounds }
-{
-    let Some(mut heap) = heap(alloc) else {
-        return 0;
-    };
-    let served = served_in(&mut heap, deed, rounds);
-    heap.close().close();
     served
 }

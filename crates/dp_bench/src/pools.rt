@@ -1,13 +1,13 @@
 //! Benchmarks of pools of objects.
-ghost use Rattle.std.specs.Prelude.{◌≡◌, ◌<◌, ◌≤◌, ◌⊎◌, true};
+ghost use Rattle.std.specs.Prelude.{◌≡◌, ◌<◌, ◌≤◌, true};
 ghost use Rattle.dp_heap.specs.Elements.{count_of, is_busy};
 ghost use Rattle.dp_pool.specs.Queues.{in_count};
+ghost use Rattle.dp_bench.specs.Rounds.{ServedBy};
 
-use crate::heaps::heap;
+use crate::heaps::Way;
 use dp_heap::Heap;
 use dp_pool::Pool;
 use dp_zone::Zones;
-use std::alloc::Global;
 
 // The number of a pool's objects, and their size in bytes.
 const OBJECTS: u32 = 8191;
@@ -59,69 +59,33 @@ fn bulk(pool: &mut Pool, indexes: &mut [u32; 32]) -> bool
 }
 
 // Repeats it `rounds` times; returns how many succeeded.
-fn in_bulk(pool: &mut Pool, rounds: u32) -> u32
+fn in_bulk(pool: &mut Pool, indexes: &mut [u32; 32], rounds: u32) -> u32
     ensures most { result ≤ rounds }
     ensures zones { pool.new.zones ≡ pool.old.zones }
 {
-    let mut indexes = [0; 32];
     let mut served = 0;
     for _ in 0..rounds {
-        if bulk(pool, &mut indexes) {
+        if bulk(pool, indexes) {
             served += 1;
         }
     }
     served
 }
 
-// The same with a pool in a heap.
-fn served_in(heap: &mut Heap, cache: u32, rounds: u32) -> u32
-    ensures served { (result ≡ rounds) ⊎ (result ≡ 0) }
+/// The same with a pool in a heap.
+#[tactic(auto, using(crate::proofs::Rounds::none_served_by))]
+pub fn served_in(heap: &mut Heap, cache: u32, way: Way, rounds: u32) -> u32
+    ensures served { ServedBy way rounds result }
     ensures counted { count_of is_busy heap.new.elements ≡ count_of is_busy heap.old.elements }
 {
     let mut zones = Zones::new();
     let Ok(mut pool) = Pool::make(heap, &mut zones, "pool", OBJECTS, SIZE, cache) else {
         return 0;
     };
-    let served = pairs(&mut pool, rounds);
+    let served = match way {
+        Way::One => pairs(&mut pool, rounds),
+        Way::Bulk => in_bulk(&mut pool, &mut [0; 32], rounds),
+    };
     pool.unmake(heap, &mut zones);
-    served
-}
-
-/// The same in a heap of its own, with a cache for 256 indexes or for none.
-pub fn served(alloc: Global, cached: bool, rounds: u32) -> u32
-    ensures { (result ≡ rounds) ⊎ (result ≡ 0) }
-{
-    let Some(mut heap) = heap(alloc) else {
-        return 0;
-    };
-    let cache = if cached { 256 } else { 0 };
-    let served = served_in(&mut heap, cache, rounds);
-    heap.close().close();
-    served
-}
-
-// Bulks on a pool in a heap, with a cache for 256 indexes.
-fn bulks_in(heap: &mut Heap, rounds: u32) -> u32
-    ensures most { result ≤ rounds }
-    ensures counted { count_of is_busy heap.new.elements ≡ count_of is_busy heap.old.elements }
-{
-    let mut zones = Zones::new();
-    let Ok(mut pool) = Pool::make(heap, &mut zones, "pool", OBJECTS, SIZE, 256) else {
-        return 0;
-    };
-    let served = in_bulk(&mut pool, rounds);
-    pool.unmake(heap, &mut zones);
-    served
-}
-
-/// `rounds` bulks in a heap of its own; returns how many succeeded.
-pub fn bulks(alloc: Global, rounds: u32) -> u32
-    ensures { result ≤ rounds }
-{
-    let Some(mut heap) = heap(alloc) else {
-        return 0;
-    };
-    let served = bulks_in(&mut heap, rounds);
-    heap.close().close();
     served
 }

@@ -3,23 +3,13 @@ ghost use Rattle.std.specs.Prelude.{◌≡◌, ◌+◌, ◌<◌, ◌≤◌, ◌�
 ghost use Rattle.dp_heap.specs.Elements.{count_of, is_busy};
 ghost use Rattle.dp_ring.specs.Rings.{room_in};
 
-use crate::heaps::heap;
+use crate::heaps::Way;
 use dp_heap::Heap;
 use dp_ring::Ring;
 use dp_zone::Zones;
-use std::alloc::Global;
 
 // The number of a ring's slots.
 const PLACES: u32 = 1024;
-
-/// How numbers go in and come out.
-#[derive(Clone, Copy)]
-pub enum Way {
-    /// One a round.
-    One,
-    /// 32 a round.
-    Bulk,
-}
 
 // Puts a number in and takes it out; returns whether it was the same.
 #[inline(never)]
@@ -76,8 +66,8 @@ fn in_bulk(ring: &mut Ring, rounds: u32) -> u32
     moved
 }
 
-// The same with a ring in a heap.
-fn moved_in(heap: &mut Heap, way: Way, rounds: u32) -> u32
+/// The same with a ring in a heap.
+pub fn moved_in(heap: &mut Heap, way: Way, rounds: u32) -> u32
     ensures moved { (result ≡ rounds) ⊎ (result ≡ 0) }
     ensures counted { count_of is_busy heap.new.elements ≡ count_of is_busy heap.old.elements }
 {
@@ -91,17 +81,5 @@ fn moved_in(heap: &mut Heap, way: Way, rounds: u32) -> u32
         Way::Bulk => in_bulk(&mut ring, rounds),
     };
     zones.give_back(heap, ring.into_zone());
-    moved
-}
-
-/// The same in a heap of its own.
-pub fn moved(alloc: Global, way: Way, rounds: u32) -> u32
-    ensures { (result ≡ rounds) ⊎ (result ≡ 0) }
-{
-    let Some(mut heap) = heap(alloc) else {
-        return 0;
-    };
-    let moved = moved_in(&mut heap, way, rounds);
-    heap.close().close();
     moved
 }
