@@ -6,6 +6,7 @@ mod causes;
 mod environments;
 mod heaps;
 mod mbufs;
+mod memory;
 mod models;
 mod pools;
 mod regions;

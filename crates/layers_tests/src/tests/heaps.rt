@@ -1,11 +1,12 @@
 //! Scripts of heap calls, and the elements after them, worked out by hand.
 ghost use Rattle.std.specs.Prelude.{◌≡◌, All};
 
-use super::cases::{must, none_differs};
+use super::cases::none_differs;
+use super::memory::{end_with, new_heap};
 use Row::{Empty, Full};
 use Step::{Alone, Are, Counts, Fill, Free, Holds, Malloc, Refused, Zeros};
 use dp_heap::{Element, Heap, HeapError, State};
-use dp_region::{Block, Region};
+use dp_region::Block;
 use std::alloc::Global;
 use std::process::Abort;
 
@@ -28,7 +29,11 @@ fn element(row: &Row) -> Element {
     }
 }
 
+/// The elements of a heap of which nothing is out.
+const WHOLE: [Row; 1] = [Empty(0, 4096)];
+
 /// A call, and what it answers in a heap of 4,096 bytes.
+#[derive(Drop)]
 enum Step {
     /// A block of a size and an alignment is at this offset, and is the last of those that are out.
     Malloc(u32, u32, u32),
@@ -51,7 +56,7 @@ enum Step {
 }
 
 /// Calls in new heaps, and what they answer.
-static SCRIPTS: [&[Step]; 6] = [
+static SCRIPTS: [&[Step]; 4] = [
     // One block.
     &[
         Alone(100, 0, 3968, &[Empty(0, 3904), Full(3904, 192, 0)]),
@@ -72,36 +77,6 @@ static SCRIPTS: [&[Step]; 6] = [
         Refused(0, 96, HeapError::ZeroSize),
         Refused(64, 96, HeapError::BadAlign),
         Refused(4033, 0, HeapError::NoRoom),
-        Are(&[Empty(0, 4096)]),
-    ],
-    // Two blocks, freed in order.
-    &[
-        Malloc(100, 0, 3968),
-        Counts(1, 1, 3904, 192),
-        Malloc(64, 1024, 3072),
-        Are(&[
-            Empty(0, 3008),
-            Full(3008, 128, 0),
-            Empty(3136, 768),
-            Full(3904, 192, 0),
-        ]),
-        Free(0),
-        Free(0),
-        Are(&[Empty(0, 4096)]),
-    ],
-    // And the other way.
-    &[
-        Malloc(100, 0, 3968),
-        Counts(1, 1, 3904, 192),
-        Malloc(64, 1024, 3072),
-        Are(&[
-            Empty(0, 3008),
-            Full(3008, 128, 0),
-            Empty(3136, 768),
-            Full(3904, 192, 0),
-        ]),
-        Free(1),
-        Free(0),
         Are(&[Empty(0, 4096)]),
     ],
     // The block in the middle is freed last and joined with both of its neighbours. The others stay as they are.
@@ -244,7 +219,7 @@ fn counts(heap: &Heap) -> (u32, u32, u32, u32) {
 
 // Whether the heap has these elements while its one block is out, and is whole after that.
 fn is_alone(bench: &mut Bench, elements: &[Row]) -> bool {
-    are(&bench.heap, elements) && free_one(bench, 0) && are(&bench.heap, &[Empty(0, 4096)])
+    are(&bench.heap, elements) && free_one(bench, 0) && are(&bench.heap, &WHOLE)
 }
 
 fn does(bench: &mut Bench, step: &Step) -> bool {
@@ -265,16 +240,6 @@ fn does(bench: &mut Bench, step: &Step) -> bool {
     }
 }
 
-// Ends a heap whose blocks are all freed.
-fn close(rt: &impl Abort, bench: Bench) {
-    let Bench { heap, blocks } = bench;
-    must(rt, blocks.is_empty(), "all blocks are freed");
-    blocks.destroy_empty();
-    let busy = heap.stats().busy_count;
-    must(rt, busy == 0, "no element is busy");
-    heap.close().close();
-}
-
 // The first step that is not as its row says, from 0.
 fn differs(bench: &mut Bench, steps: &[Step]) -> Option<usize> {
     for (k, step) in steps.iter().enumerate() {
@@ -287,13 +252,13 @@ fn differs(bench: &mut Bench, steps: &[Step]) -> Option<usize> {
 
 // The same in a new heap.
 fn differs_in(rt: &impl Abort, alloc: Global, steps: &[Step]) -> Option<usize> {
-    let heap = Heap::new(Region::new(alloc, 4096).expect(rt, "memory"));
     let mut bench = Bench {
-        heap,
+        heap: new_heap(rt, alloc, 4096),
         blocks: Vec::new(alloc),
     };
     let first = differs(&mut bench, steps);
-    close(rt, bench);
+    let Bench { heap, blocks } = bench;
+    end_with(rt, heap, blocks);
     first
 }
 
@@ -301,5 +266,34 @@ fn differs_in(rt: &impl Abort, alloc: Global, steps: &[Step]) -> Option<usize> {
 fn scripts(rt: HostRuntime) {
     for (k, steps) in SCRIPTS.iter().enumerate() {
         none_differs(&rt, k, differs_in(&rt, rt.alloc(), steps));
+    }
+}
+
+/// The elements while a block of 100 bytes and one of 64 are out.
+const TWO: [Row; 4] = [
+    Empty(0, 3008),
+    Full(3008, 128, 0),
+    Empty(3136, 768),
+    Full(3904, 192, 0),
+];
+
+// Two blocks, of which this one is freed first.
+fn two_blocks(first: usize) -> [Step; 7] {
+    [
+        Malloc(100, 0, 3968),
+        Counts(1, 1, 3904, 192),
+        Malloc(64, 1024, 3072),
+        Are(&TWO),
+        Free(first),
+        Free(0),
+        Are(&WHOLE),
+    ]
+}
+
+#[test]
+fn two_blocks_in_either_order(rt: HostRuntime) {
+    for first in [0usize, 1] {
+        let steps = two_blocks(first);
+        none_differs(&rt, first, differs_in(&rt, rt.alloc(), &steps));
     }
 }

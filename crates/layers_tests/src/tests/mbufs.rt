@@ -5,4 +5,4 @@ mod rows;
 mod setup;
 mod walk;
 
-use super::cases;
+use super::{cases, memory};

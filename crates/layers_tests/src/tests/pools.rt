@@ -3,15 +3,14 @@ ghost use Rattle.std.specs.Prelude.{◌≡◌, ◌<◌, length, replicate};
 ghost use Rattle.dp_pool.specs.Pools.{with_object};
 
 use super::cases::{must, none_differs};
+use super::memory::{end, is_whole, new_heap};
 use PoolError::{BadCache, BadCount, BadSize};
 use Step::{
     Clear, Fill, Full, Get, GetAndPutBulk, GetAny, GetBulk, In, IsOut, NumberAll, Numbered, Part,
     Put, Sizes, State, Write,
 };
-use dp_heap::State::Free;
-use dp_heap::{Element, Heap};
+use dp_heap::Heap;
 use dp_pool::{Pool, PoolError};
-use dp_region::Region;
 use dp_zone::{ZoneError, Zones};
 use std::alloc::Global;
 use std::process::Abort;
@@ -391,7 +390,7 @@ fn differs_in(
     numbers: (u32, u32, u32),
     steps: &[Step],
 ) -> Option<usize> {
-    let mut heap = Heap::new(Region::new(alloc, 8192).expect(rt, "memory"));
+    let mut heap = new_heap(rt, alloc, 8192);
     let mut zones = Zones::new();
     let mut pool = Pool::make(&mut heap, &mut zones, "p", numbers.0, numbers.1, numbers.2).expect(
         rt, "a pool",
@@ -494,19 +493,9 @@ fn differs_at(
     None
 }
 
-fn is_whole(heap: &Heap) -> bool {
-    let whole = Element {
-        offset: 0,
-        size: 4096,
-        state: Free,
-        pad: 0,
-    };
-    heap.element(0) == Some(whole) && heap.element(1) == None
-}
-
 #[test]
 fn refused_in_order(rt: HostRuntime) {
-    let mut heap = Heap::new(Region::new(rt.alloc(), 4096).expect(&rt, "memory"));
+    let mut heap = new_heap(&rt, rt.alloc(), 4096);
     let mut zones = Zones::new();
     let first = differs_at(&mut heap, &mut zones, &REFUSED_IN_ORDER);
     none_differs(&rt, 0, first);
@@ -516,8 +505,6 @@ fn refused_in_order(rt: HostRuntime) {
         .expect(&rt, "q.ring");
     let first = differs_at(&mut heap, &mut zones, &BESIDE_Q_RING);
     zones.give_back(&mut heap, zone);
-    let busy = heap.stats().busy_count;
-    must(&rt, busy == 0, "no element is busy");
-    heap.close().close();
+    end(&rt, heap);
     none_differs(&rt, 1, first);
 }

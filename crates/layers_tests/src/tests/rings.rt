@@ -2,11 +2,11 @@
 ghost use Rattle.std.specs.Prelude.{◌≡◌, length};
 
 use super::cases::none_differs;
+use super::memory::new_heap;
+use Many::{Bulk, Burst};
 use Step::{
     Contains, Count, Dequeue, DequeueBulk, DequeueBurst, Enqueue, EnqueueBulk, EnqueueBurst, Peek,
 };
-use dp_heap::Heap;
-use dp_region::Region;
 use dp_ring::Ring;
 use dp_zone::Zones;
 use std::alloc::Global;
@@ -100,19 +100,15 @@ fn enqueue_bulk(ring: &mut Ring, values: &[u32]) -> bool
     ring.enqueue_bulk(values)
 }
 
-// Takes values out into a buffer that was as said, and compares the buffer afterwards.
-fn dequeue_bulk(ring: &mut Ring, was: &[u32], taken: bool, then: &[u32]) -> bool
-    ensures { ring.new.home ≡ ring.old.home }
-{
-    let mut room = [0; 9];
-    let Some(values) = room.get_mut(..was.len()) else {
-        return false;
-    };
-    values.copy_from_slice(was);
-    ring.dequeue_bulk(values) == taken && &*values == then
+// How many values leave at once: all that fit or none, or this number.
+#[derive(Drop)]
+enum Many {
+    Bulk(bool),
+    Burst(usize),
 }
 
-fn dequeue_burst(ring: &mut Ring, was: &[u32], number: usize, then: &[u32]) -> bool
+// Takes values out into a buffer that was as said, and compares the buffer afterwards.
+fn dequeue_many(ring: &mut Ring, was: &[u32], many: &Many, then: &[u32]) -> bool
     ensures { ring.new.home ≡ ring.old.home }
 {
     let mut room = [0; 9];
@@ -120,7 +116,11 @@ fn dequeue_burst(ring: &mut Ring, was: &[u32], number: usize, then: &[u32]) -> b
         return false;
     };
     values.copy_from_slice(was);
-    ring.dequeue_burst(values) == number && &*values == then
+    let leave = match many {
+        Bulk(taken) => ring.dequeue_bulk(values) == *taken,
+        Burst(number) => ring.dequeue_burst(values) == *number,
+    };
+    leave && &*values == then
 }
 
 fn does(ring: &mut Ring, step: &Step) -> bool
@@ -131,8 +131,8 @@ fn does(ring: &mut Ring, step: &Step) -> bool
         EnqueueBulk(values, taken) => enqueue_bulk(ring, values) == *taken,
         EnqueueBurst(values, number) => ring.enqueue_burst(values) == *number,
         Dequeue(first) => ring.dequeue() == *first,
-        DequeueBulk(was, taken, then) => dequeue_bulk(ring, was, *taken, then),
-        DequeueBurst(was, number, then) => dequeue_burst(ring, was, *number, then),
+        DequeueBulk(was, taken, then) => dequeue_many(ring, was, &Bulk(*taken), then),
+        DequeueBurst(was, number, then) => dequeue_many(ring, was, &Burst(*number), then),
         Peek(k, value) => ring.peek(*k) == *value,
         Contains(value, there) => ring.contains(*value) == *there,
         Count(count, room) => ring.count() == *count && ring.free_count() == *room,
@@ -153,7 +153,7 @@ fn differs(ring: &mut Ring, steps: &[Step]) -> Option<usize>
 
 // The same for a new ring with this number of slots.
 fn differs_in(rt: &impl Abort, alloc: Global, slots: u32, steps: &[Step]) -> Option<usize> {
-    let mut heap = Heap::new(Region::new(alloc, 4096).expect(rt, "memory"));
+    let mut heap = new_heap(rt, alloc, 4096);
     let mut zones = Zones::new();
     let zone = zones.reserve(&mut heap, "ring", 32, 0).expect(rt, "ring");
     assert!(rt; zone.len() >= 32 && (slots == 4 || slots == 8));

@@ -2,11 +2,11 @@
 ghost use Rattle.std.specs.Prelude.{◌≡◌, All};
 
 use super::cases::{must, none_differs};
+use super::memory::{end_with, is_whole, new_heap};
 use Step::{GiveAllBack, GiveBack, Keep, KeepAll, Lookup, Try, Whole};
 use ZoneError::{BadAlign, BadLength, BadName, Exists, Full, NoRoom};
 use arrayvec::ArrayString;
-use dp_heap::{Element, Heap, State};
-use dp_region::Region;
+use dp_heap::Heap;
 use dp_zone::{Zone, ZoneError, ZoneInfo, ZoneName, Zones};
 use std::alloc::Global;
 use std::process::Abort;
@@ -25,7 +25,7 @@ enum Step {
     GiveAllBack,
     /// The zone of this name has this offset and this length, or there is none.
     Lookup(&'static str, Option<(u32, u32)>),
-    /// The heap begins with one free element of 4,096 bytes.
+    /// The heap is one free element of 4,096 bytes.
     Whole,
 }
 
@@ -147,16 +147,6 @@ fn lookup(zones: &Zones, name: &str) -> Option<(u32, u32)> {
     }
 }
 
-fn is_whole(heap: &Heap) -> bool {
-    let whole = Element {
-        offset: 0,
-        size: 4096,
-        state: State::Free,
-        pad: 0,
-    };
-    heap.element(0) == Some(whole)
-}
-
 fn does(bench: &mut Bench, step: &Step) -> bool {
     match step {
         Try(name, len, align, why) => try_one(bench, name, *len, *align) == *why,
@@ -167,20 +157,6 @@ fn does(bench: &mut Bench, step: &Step) -> bool {
         Lookup(name, info) => lookup(&bench.zones, name) == *info,
         Whole => is_whole(&bench.heap),
     }
-}
-
-// Ends a heap whose zones are all given back.
-fn close(rt: &impl Abort, bench: Bench) {
-    let Bench {
-        heap,
-        zones: _,
-        kept,
-    } = bench;
-    must(rt, kept.is_empty(), "all zones are given back");
-    kept.destroy_empty();
-    let busy = heap.stats().busy_count;
-    must(rt, busy == 0, "no element is busy");
-    heap.close().close();
 }
 
 // The first step that is not as its row says, from 0.
@@ -196,14 +172,18 @@ fn differs(bench: &mut Bench, steps: &[Step]) -> Option<usize> {
 // The same in a new heap of this size.
 fn differs_in(rt: &impl Abort, alloc: Global, size: u32, steps: &[Step]) -> Option<usize> {
     assert!(rt; size == 4096 || size == 16384);
-    let heap = Heap::new(Region::new(alloc, size).expect(rt, "memory"));
     let mut bench = Bench {
-        heap,
+        heap: new_heap(rt, alloc, size),
         zones: Zones::new(),
         kept: Vec::new(alloc),
     };
     let first = differs(&mut bench, steps);
-    close(rt, bench);
+    let Bench {
+        heap,
+        zones: _,
+        kept,
+    } = bench;
+    end_with(rt, heap, kept);
     first
 }
 
@@ -243,7 +223,7 @@ fn reads(zone: &Zone) -> bool {
 
 #[test]
 fn bytes_of_a_zone(rt: HostRuntime) {
-    let mut heap = Heap::new(Region::new(rt.alloc(), 4096).expect(&rt, "memory"));
+    let mut heap = new_heap(&rt, rt.alloc(), 4096);
     let mut zones = Zones::new();
     let mut zone = zones.reserve(&mut heap, "z", 64, 0).expect(&rt, "z");
     let edited = is_edited(&mut zone) && reads(&zone);

@@ -89,44 +89,55 @@ fn sole_tail(rt: &impl Abort, m: &Mbufs, p: &Packet)
     assert!(rt; sharers == 1);
 }
 
-pub(crate) fn prepend(rt: &impl Abort, m: &mut Mbufs, p: &Packet, n: u16)
-    requires { IsOver m.old.store }
-    ensures { StaysOver m.old m.new }
-{
-    sole_head(rt, m, p);
-    let room = m.headroom(p);
-    assert!(rt; n <= room);
-    m.prepend(p, n);
+/// An end of a packet.
+#[derive(Clone, Copy)]
+pub(crate) enum End {
+    Front,
+    Back,
 }
 
-pub(crate) fn append(rt: &impl Abort, m: &mut Mbufs, p: &Packet, n: u16)
-    requires { IsOver m.old.store }
-    ensures { StaysOver m.old m.new }
+// Asserts that there are as many bytes.
+fn fits(rt: &impl Abort, n: u16, most: u16)
+    ensures { n ≤ most }
 {
-    sole_tail(rt, m, p);
-    let room = m.tailroom(p);
-    assert!(rt; n <= room);
-    m.append(p, n);
+    assert!(rt; n <= most);
 }
 
-pub(crate) fn adj(rt: &impl Abort, m: &mut Mbufs, p: &Packet, n: u16)
+/// Cuts bytes off the packet.
+pub(crate) fn cut(rt: &impl Abort, m: &mut Mbufs, p: &Packet, end: End, n: u16)
     requires { IsOver m.old.store }
     ensures { StaysOver m.old m.new }
 {
     alive(rt, m, p);
-    let len = m.first_len(p);
-    assert!(rt; n <= len);
-    m.adj(p, n);
+    match end {
+        End::Front => {
+            fits(rt, n, m.first_len(p));
+            m.adj(p, n);
+        }
+        End::Back => {
+            fits(rt, n, m.last_len(p));
+            m.trim(p, n);
+        }
+    }
 }
 
-pub(crate) fn trim(rt: &impl Abort, m: &mut Mbufs, p: &Packet, n: u16)
+/// Prepends zeros to the packet, or appends them.
+pub(crate) fn extend(rt: &impl Abort, m: &mut Mbufs, p: &Packet, end: End, n: u16)
     requires { IsOver m.old.store }
     ensures { StaysOver m.old m.new }
 {
-    alive(rt, m, p);
-    let len = m.last_len(p);
-    assert!(rt; n <= len);
-    m.trim(p, n);
+    match end {
+        End::Front => {
+            sole_head(rt, m, p);
+            fits(rt, n, m.headroom(p));
+            m.prepend(p, n);
+        }
+        End::Back => {
+            sole_tail(rt, m, p);
+            fits(rt, n, m.tailroom(p));
+            m.append(p, n);
+        }
+    }
 }
 
 /// Writes one byte of the first segment.

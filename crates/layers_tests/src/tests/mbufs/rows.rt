@@ -4,11 +4,11 @@ ghost use Rattle.std.specs.Prelude.{◌≡◌, ◌<◌, ◌≤◌};
 ghost use Rattle.layers_tests.specs.Rows.{IsOver, StaysOver};
 
 use super::calls::{
-    alive, alloc, append, chain, copy, free, free_count, free_sole, is_sole, load_four, prepend,
+    End, alive, alloc, chain, copy, extend, free, free_count, free_sole, is_sole, load_four,
     receive, refs, rooms, segments, spells,
 };
 use super::cases::none_differs;
-use super::setup::{Sizes, close, open_beside};
+use super::setup::{Sizes, close, open, sized};
 use Step::{
     Alloc, Append, Chain, Copy, Free, FreeCount, FreeSole, IsSole, LoadFour, Park, Prepend,
     Receive, ReceiveAll, Refs, Rooms, Segments, Spells, SpellsAll,
@@ -188,58 +188,39 @@ static SCRIPTS: [([(u32, u32); 3], &[Step]); 10] = [
             FreeCount(1, 3),
         ],
     ),
-    // A packet of three segments is cloned into a pool whose buffers have no room, and outlives it.
-    (
-        [(3, 256), (2, 256), (3, 0)],
-        &[
-            ReceiveAll(0, 9, 300),
-            Copy(0, 2, true),
-            Rooms(1, (128, 84, 128, 44)),
-            FreeCount(0, 0),
-            FreeCount(2, 0),
-            Free(0),
-            SpellsAll(1, 9, 300),
-            FreeCount(0, 0),
-            FreeCount(2, 0),
-            Append(1, 84),
-            Rooms(1, (128, 0, 128, 128)),
-            Free(1),
-            FreeCount(0, 3),
-            FreeCount(2, 3),
-        ],
-    ),
-    // So it is where they have less room than the headroom.
-    (
-        [(3, 256), (2, 256), (3, 100)],
-        &[
-            ReceiveAll(0, 9, 300),
-            Copy(0, 2, true),
-            Rooms(1, (128, 84, 128, 44)),
-            FreeCount(0, 0),
-            FreeCount(2, 0),
-            Free(0),
-            SpellsAll(1, 9, 300),
-            FreeCount(0, 0),
-            FreeCount(2, 0),
-            Append(1, 84),
-            Rooms(1, (128, 0, 128, 128)),
-            Free(1),
-            FreeCount(0, 3),
-            FreeCount(2, 3),
-        ],
-    ),
+    // A packet of three segments is cloned into a pool whose buffers have no room, or less than the headroom, and outlives it.
+    ([(3, 256), (2, 256), (3, 0)], &OUTLIVED),
+    ([(3, 256), (2, 256), (3, 100)], &OUTLIVED),
 ];
 
-/// The data room of the third pool, and the headroom and the tailroom of a new packet in it.
-static NEW_PACKETS: [(u16, u16, u16); 8] = [
-    (0, 0, 0),
-    (1, 1, 0),
-    (100, 100, 0),
-    (127, 127, 0),
-    (128, 128, 0),
-    (129, 128, 1),
-    (200, 128, 72),
-    (4096, 128, 3968),
+/// A clone of three segments in the third pool, whose source is freed first.
+const OUTLIVED: [Step; 14] = [
+    ReceiveAll(0, 9, 300),
+    Copy(0, 2, true),
+    Rooms(1, (128, 84, 128, 44)),
+    FreeCount(0, 0),
+    FreeCount(2, 0),
+    Free(0),
+    SpellsAll(1, 9, 300),
+    FreeCount(0, 0),
+    FreeCount(2, 0),
+    Append(1, 84),
+    Rooms(1, (128, 0, 128, 128)),
+    Free(1),
+    FreeCount(0, 3),
+    FreeCount(2, 3),
+];
+
+/// The headroom and the tailroom of a new packet in the third pool, whose data rooms have as many bytes as both.
+static NEW_PACKETS: [(u16, u16); 8] = [
+    (0, 0),
+    (1, 0),
+    (100, 0),
+    (127, 0),
+    (128, 0),
+    (128, 1),
+    (128, 72),
+    (128, 3968),
 ];
 
 // The packet with a number.
@@ -287,8 +268,8 @@ fn changes(rt: &impl Abort, m: &mut Mbufs, packets: &[Packet], step: &Step) -> b
             return is_same == if *one { Some(true) } else { None };
         }
         Chain(k, tail) => chain(rt, m, &at(rt, packets, *k), at(rt, packets, *tail)),
-        Append(k, n) => append(rt, m, &at(rt, packets, *k), *n),
-        Prepend(k, n) => prepend(rt, m, &at(rt, packets, *k), *n),
+        Append(k, n) => extend(rt, m, &at(rt, packets, *k), End::Back, *n),
+        Prepend(k, n) => extend(rt, m, &at(rt, packets, *k), End::Front, *n),
         Park(k) => return parks(rt, m, at(rt, packets, *k)),
         _ => return shows(rt, m, packets, step),
     }
@@ -363,8 +344,8 @@ fn differs_in(
     steps: &[Step],
 ) -> Option<usize> {
     let [first, second, third] = pools;
-    let (first, second) = (sizes(rt, first, 129), sizes(rt, second, 129));
-    let mut s = open_beside(rt, alloc, first, second, sizes(rt, third, 0));
+    let (first, second) = (few(rt, first, 129), few(rt, second, 129));
+    let mut s = open(rt, alloc, first, second, few(rt, third, 0));
     let mut packets = Vec::new(alloc);
     let first = differs(rt, &mut s.mbufs, &mut packets, steps);
     close(rt, s);
@@ -372,17 +353,13 @@ fn differs_in(
 }
 
 // A pool of 1 to 100 objects without a cache, whose data rooms have `least` bytes or more.
-fn sizes(rt: &impl Abort, pool: &(u32, u32), least: u32) -> Sizes
+fn few(rt: &impl Abort, pool: &(u32, u32), least: u32) -> Sizes
     ensures count { (1 ≤ result.count) × (result.count ≤ 100) }
     ensures room { (least ≤ result.room) × (result.room ≤ MAX_ROOM) }
 {
     assert!(rt; 1 <= pool.0 && pool.0 <= 100);
     assert!(rt; least <= pool.1 && pool.1 <= MAX_ROOM);
-    Sizes {
-        count: pool.0,
-        room: pool.1,
-        cache: 0,
-    }
+    sized(pool.0, pool.1, 0)
 }
 
 #[test]
@@ -394,7 +371,8 @@ fn scripts(rt: HostRuntime) {
 
 // A new packet in the third pool has this headroom and tailroom, and so has its clone. It is extended to the limit at each end, and then fills the
 // room.
-fn new_packet(room: u16, head: u16, tail: u16) -> [Step; 16] {
+fn new_packet(head: u16, tail: u16) -> [Step; 16] {
+    let room = head.saturating_add(tail);
     [
         Alloc(2, true),
         Rooms(0, (head, tail, 0, 0)),
@@ -417,9 +395,10 @@ fn new_packet(room: u16, head: u16, tail: u16) -> [Step; 16] {
 
 #[test]
 fn the_headroom_is_what_the_room_allows(rt: HostRuntime) {
-    for (k, (room, head, tail)) in NEW_PACKETS.iter().enumerate() {
-        let pools = [(2, 256), (2, 256), (2, u32::from(*room))];
-        let steps = new_packet(*room, *head, *tail);
+    for (k, (head, tail)) in NEW_PACKETS.iter().enumerate() {
+        let room = u32::from(*head) + u32::from(*tail);
+        let pools = [(2, 256), (2, 256), (2, room)];
+        let steps = new_packet(*head, *tail);
         none_differs(&rt, k, differs_in(&rt, rt.alloc(), &pools, &steps));
     }
 }

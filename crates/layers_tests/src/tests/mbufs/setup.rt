@@ -4,10 +4,10 @@ ghost use Rattle.std.specs.Prelude.{◌≡◌, ◌+◌, ◌*◌, ◌<◌, ◌≤
 ghost use Rattle.std.specs.List.{AllByRecursion};
 ghost use Rattle.layers_tests.specs.Rows.{IsOver, AreIn, SlotIn, IsReadyPool};
 
+use super::memory::{end, new_heap};
 use dp_heap::Heap;
 use dp_mbuf::{HEADER_SIZE, HEADROOM, MAX_MBUFS, MAX_ROOM, Mbufs};
 use dp_pool::Pool;
-use dp_region::Region;
 use dp_zone::Zones;
 use std::alloc::Global;
 use std::process::Abort;
@@ -27,6 +27,13 @@ pub(crate) struct Sizes {
     pub cache: u32,
 }
 
+/// The sizes of a pool with these numbers.
+pub(crate) fn sized(count: u32, room: u32, cache: u32) -> Sizes
+    ensures { result ≡ record { count = count; room = room; cache = cache } }
+{
+    Sizes { count, room, cache }
+}
+
 // Makes a pool of mbufs.
 fn make(rt: &impl Abort, heap: &mut Heap, zones: &mut Zones, name: &str, sizes: Sizes) -> Pool
     requires { sizes.room ≤ MAX_ROOM }
@@ -44,24 +51,8 @@ fn make(rt: &impl Abort, heap: &mut Heap, zones: &mut Zones, name: &str, sizes: 
     made.expect(rt, "a pool")
 }
 
-/// Mbufs over two pools of these sizes, and a third with one buffer without room.
-pub(crate) fn open(rt: &impl Abort, alloc: Global, first: Sizes, second: Sizes) -> Setup
-    requires first { (1 ≤ first.count) × (HEADROOM < first.room) × (first.room ≤ MAX_ROOM) }
-    requires second { (HEADROOM < second.room) × (second.room ≤ MAX_ROOM) }
-    requires few { first.count + second.count < MAX_MBUFS }
-    ensures over { IsOver result.mbufs.store }
-    ensures home { AreIn result.heap.home result.mbufs.zones }
-{
-    let third = Sizes {
-        count: 1,
-        room: 0,
-        cache: 0,
-    };
-    open_beside(rt, alloc, first, second, third)
-}
-
 /// Mbufs over three pools of these sizes. The third may have any room.
-pub(crate) fn open_beside(
+pub(crate) fn open(
     rt: &impl Abort,
     alloc: Global,
     first: Sizes,
@@ -75,8 +66,7 @@ pub(crate) fn open_beside(
     ensures over { IsOver result.mbufs.store }
     ensures home { AreIn result.heap.home result.mbufs.zones }
 {
-    let region = Region::new(alloc, 1_048_576).expect(rt, "memory");
-    let mut heap = Heap::new(region);
+    let mut heap = new_heap(rt, alloc, 1_048_576);
     let mut zones = Zones::new();
     let one = make(rt, &mut heap, &mut zones, "first", first);
     let two = make(rt, &mut heap, &mut zones, "second", second);
@@ -105,18 +95,23 @@ fn unmake(slot: Option<Pool>, heap: &mut Heap, zones: &mut Zones)
     }
 }
 
-fn unmake_all(slots: [Option<Pool>; 8], heap: &mut Heap, zones: &mut Zones)
+fn unmake_four(slots: [Option<Pool>; 4], heap: &mut Heap, zones: &mut Zones)
     requires { AllByRecursion (SlotIn heap.old.home) slots }
+    ensures { heap.new.home ≡ heap.old.home }
 {
-    let [a, b, c, d, e, f, g, h] = slots;
+    let [a, b, c, d] = slots;
     unmake(a, heap, zones);
     unmake(b, heap, zones);
     unmake(c, heap, zones);
     unmake(d, heap, zones);
-    unmake(e, heap, zones);
-    unmake(f, heap, zones);
-    unmake(g, heap, zones);
-    unmake(h, heap, zones);
+}
+
+fn unmake_all(slots: [Option<Pool>; 8], heap: &mut Heap, zones: &mut Zones)
+    requires { AllByRecursion (SlotIn heap.old.home) slots }
+{
+    let [a, b, c, d, e, f, g, h] = slots;
+    unmake_four([a, b, c, d], heap, zones);
+    unmake_four([e, f, g, h], heap, zones);
 }
 
 /// Takes everything apart. There is no packet left, each pool is whole, and nothing of the heap is out.
@@ -128,7 +123,5 @@ pub(crate) fn close(rt: &impl Abort, setup: Setup)
     let empty = mbufs.is_empty();
     assert!(rt; empty, "a packet is left");
     unmake_all(mbufs.into_pools(), &mut heap, &mut zones);
-    let stats = heap.stats();
-    assert!(rt; stats.busy_count == 0, "a zone is left");
-    heap.close().close();
+    end(rt, heap);
 }

@@ -4,11 +4,11 @@ ghost use Rattle.std.specs.Prelude.{◌≡◌, ◌<◌, ◌≤◌, length};
 ghost use Rattle.layers_tests.specs.Rows.{IsOver, StaysOver};
 
 use super::calls::{
-    adj, alloc, append, chain, copy, free, free_count, load_one, prepend, receive, refs, rooms,
-    segments, spells, store, trim,
+    End, alloc, chain, copy, cut, extend, free, free_count, load_one, receive, refs, rooms,
+    segments, spells, store,
 };
 use super::cases::must;
-use super::setup::{Sizes, close, open};
+use super::setup::{close, open, sized};
 use dp_mbuf::{Mbufs, POOL_HANDLES};
 use dp_model::Packet;
 use std::alloc::{AllocError, Global};
@@ -92,16 +92,17 @@ fn walk_alloc(alloc_in: Global, m: &mut Mbufs, walk: &mut Walk) -> Grown
     Ok(())
 }
 
-fn walk_copy(rt: &impl Abort, m: &mut Mbufs, walk: &mut Walk) -> Grown
+// Clones a packet with these bytes.
+fn walk_copy(
+    rt: &impl Abort,
+    m: &mut Mbufs,
+    walk: &mut Walk,
+    source: Packet,
+    bytes: Vec<u8>,
+) -> Grown
     requires { IsOver m.old.store }
     ensures { StaysOver m.old m.new }
 {
-    if walk.shadows.is_empty() {
-        return Ok(());
-    }
-    let i = pick(&mut walk.seed, walk.shadows.len());
-    let bytes = walk.shadows[i].bytes.clone()?;
-    let source = walk.shadows[i].packet;
     let pool = pick_pool(&mut walk.seed);
     if let Some(packet) = copy(rt, m, &source, pool) {
         if pool_of(&source) != pool {
@@ -134,7 +135,7 @@ fn walk_append(rt: &impl Abort, m: &mut Mbufs, shadow: &mut Shadow, seed: &mut u
     let count = segments(rt, m, &packet);
     if count > 0 && refs(rt, m, &packet, count - 1) == 1 {
         let n = pick_up_to(seed, rooms(rt, m, &packet).1);
-        append(rt, m, &packet, n);
+        extend(rt, m, &packet, End::Back, n);
         for _ in 0..n {
             shadow.bytes.push(0)?;
         }
@@ -150,7 +151,7 @@ fn walk_prepend(rt: &impl Abort, m: &mut Mbufs, shadow: &mut Shadow, seed: &mut 
     let packet = shadow.packet;
     if refs(rt, m, &packet, 0) == 1 {
         let n = pick_up_to(seed, rooms(rt, m, &packet).0);
-        prepend(rt, m, &packet, n);
+        extend(rt, m, &packet, End::Front, n);
         for _ in 0..n {
             shadow.bytes.insert(0, 0)?;
         }
@@ -158,28 +159,26 @@ fn walk_prepend(rt: &impl Abort, m: &mut Mbufs, shadow: &mut Shadow, seed: &mut 
     Ok(())
 }
 
-fn walk_adj(rt: &impl Abort, m: &mut Mbufs, shadow: &mut Shadow, seed: &mut u64)
+// Cuts bytes off at one end.
+fn walk_cut(rt: &impl Abort, m: &mut Mbufs, shadow: &mut Shadow, seed: &mut u64, end: End)
     requires { IsOver m.old.store }
     ensures { StaysOver m.old m.new }
 {
     let packet = shadow.packet;
-    let n = pick_up_to(seed, rooms(rt, m, &packet).2);
-    adj(rt, m, &packet, n);
+    let (_, _, first, last) = rooms(rt, m, &packet);
+    let len = match end {
+        End::Front => first,
+        End::Back => last,
+    };
+    let n = pick_up_to(seed, len);
+    cut(rt, m, &packet, end, n);
     for _ in 0..n {
-        assert!(rt; !shadow.bytes.is_empty());
-        shadow.bytes.remove(0);
-    }
-}
-
-fn walk_trim(rt: &impl Abort, m: &mut Mbufs, shadow: &mut Shadow, seed: &mut u64)
-    requires { IsOver m.old.store }
-    ensures { StaysOver m.old m.new }
-{
-    let packet = shadow.packet;
-    let n = pick_up_to(seed, rooms(rt, m, &packet).3);
-    trim(rt, m, &packet, n);
-    for _ in 0..n {
-        assert!(rt; shadow.bytes.pop().is_some());
+        let count = shadow.bytes.len();
+        assert!(rt; count > 0);
+        shadow.bytes.remove(match end {
+            End::Front => 0,
+            End::Back => count - 1,
+        });
     }
 }
 
@@ -253,11 +252,11 @@ fn walk_change(rt: &impl Abort, m: &mut Mbufs, shadow: &mut Shadow, seed: &mut u
         0 => walk_append(rt, m, shadow, seed),
         1 => walk_prepend(rt, m, shadow, seed),
         2 => {
-            walk_adj(rt, m, shadow, seed);
+            walk_cut(rt, m, shadow, seed, End::Front);
             Ok(())
         }
         3 => {
-            walk_trim(rt, m, shadow, seed);
+            walk_cut(rt, m, shadow, seed, End::Back);
             Ok(())
         }
         _ => {
@@ -267,7 +266,8 @@ fn walk_change(rt: &impl Abort, m: &mut Mbufs, shadow: &mut Shadow, seed: &mut u
     }
 }
 
-fn walk_one(rt: &impl Abort, m: &mut Mbufs, walk: &mut Walk) -> Grown
+// Clones one packet, or changes it.
+fn walk_one(rt: &impl Abort, m: &mut Mbufs, walk: &mut Walk, is_cloned: bool) -> Grown
     requires { IsOver m.old.store }
     ensures { StaysOver m.old m.new }
 {
@@ -275,6 +275,11 @@ fn walk_one(rt: &impl Abort, m: &mut Mbufs, walk: &mut Walk) -> Grown
         return Ok(());
     }
     let i = pick(&mut walk.seed, walk.shadows.len());
+    if is_cloned {
+        let bytes = walk.shadows[i].bytes.clone()?;
+        let source = walk.shadows[i].packet;
+        return walk_copy(rt, m, walk, source, bytes);
+    }
     walk_change(rt, m, &mut walk.shadows[i], &mut walk.seed)
 }
 
@@ -285,13 +290,13 @@ fn step(rt: &impl Abort, alloc: Global, m: &mut Mbufs, walk: &mut Walk) -> Grown
     match next(&mut walk.seed) % 12 {
         0 | 1 => walk_receive(rt, alloc, m, walk),
         2 => walk_alloc(alloc, m, walk),
-        3 | 4 => walk_copy(rt, m, walk),
+        3 | 4 => walk_one(rt, m, walk, true),
         5 => walk_chain(rt, m, walk),
         6 | 7 => {
             walk_free(rt, m, walk);
             Ok(())
         }
-        _ => walk_one(rt, m, walk),
+        _ => walk_one(rt, m, walk, false),
     }
 }
 
@@ -327,17 +332,8 @@ fn walk_all(rt: &impl Abort, alloc: Global, m: &mut Mbufs)
 
 #[test]
 fn a_random_walk_ends_with_whole_pools(rt: HostRuntime) {
-    let first = Sizes {
-        count: 40,
-        room: 168,
-        cache: 8,
-    };
-    let second = Sizes {
-        count: 23,
-        room: 300,
-        cache: 0,
-    };
-    let mut s = open(&rt, rt.alloc(), first, second);
+    let (first, second) = (sized(40, 168, 8), sized(23, 300, 0));
+    let mut s = open(&rt, rt.alloc(), first, second, sized(1, 0, 0));
     walk_all(&rt, rt.alloc(), &mut s.mbufs);
     let are_whole = free_count(&s.mbufs, 0) == 40 && free_count(&s.mbufs, 1) == 23;
     must(&rt, are_whole, "whole pools");

@@ -1,7 +1,7 @@
--- `open_beside`: the three pools are ready, in zones of one region.
+-- `open`: the three pools are ready, in zones of one region.
 use Rattle.std.proofs.Common.{◌∙◌, sym}
 use Rattle.layers_tests.proofs.RowLemmas.{ready_three, new_over, new_in}
-use Rattle.layers_tests.proofs.tests.mbufs.setup.open_beside.Goals as goal
+use Rattle.layers_tests.proofs.tests.mbufs.setup.open.Goals as goal
 
 pub over-mbufs-requires : goal.over-mbufs-requires
 over-mbufs-requires g c =

@@ -1,7 +1,0 @@
--- `prepend`: the pools and their zones stay.
-use Rattle.std.proofs.Common.{ap}
-use Rattle.layers_tests.proofs.RowLemmas.{stays_over}
-use Rattle.layers_tests.proofs.tests.mbufs.calls.prepend.Goals as goal
-
-pub returns : goal.returns
-returns g c = stays_over _ _ (ap (λ s. s.pools) (c.prepend.ensures.packets c.sole_head.ensures.0 c.sole_head.ensures.1)) c.prepend.ensures.zones c.requires
