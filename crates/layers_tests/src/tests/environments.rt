@@ -6,61 +6,29 @@ use Parts::{Numbers, Of, OfPool, OfPort, OfRing};
 use dp_model::{Entry, Env, EnvError, Fact, PoolSpec, PortSpec, RingSpec, Row};
 use std::alloc::Global;
 
-const P: PoolSpec = PoolSpec {
-    count: 1,
-    cache: 0,
-    room: 2176,
-};
+/// The number of a pool's buffers, and their data room.
+type Pool = (u32, u32);
 
-/// Pools of which one has 1 buffer and room for a port, and 1 byte less.
-const P129: PoolSpec = PoolSpec { room: 129, ..P };
+/// The size of a ring, and the share and the segments of its packets; none if they have no fact.
+type Ring = (u32, Option<(u8, u8)>);
 
-const P128: PoolSpec = PoolSpec { room: 128, ..P };
+/// The pool of a port, the segments of its packets, and the size of its transmit list.
+type Port = (u32, u32, u32);
 
-const P64: PoolSpec = PoolSpec { count: 64, ..P };
+/// One of each within the limits, a pool with as many buffers as all may have, and one of each that is not within the limits.
+const P: Pool = (1, 2176);
 
-const MANY: PoolSpec = PoolSpec {
-    count: 65_535,
-    room: 0,
-    ..P
-};
+const R: Ring = (2, Some((0, 1)));
 
-const NO_POOL: PoolSpec = PoolSpec { count: 0, ..MANY };
+const O: Port = (0, 1, 2);
 
-const R: RingSpec = RingSpec {
-    count: 2,
-    fact: Fact::Held {
-        share: 0,
-        head: 0,
-        tail: 0,
-        first: 0,
-        last: 0,
-        segs: 1,
-    },
-};
+const MANY: Pool = (65_535, 0);
 
-const NO_RING: RingSpec = RingSpec {
-    count: 3,
-    fact: Fact::Empty,
-};
+const NO_POOL: Pool = (0, 0);
 
-const O: PortSpec = PortSpec {
-    pool: 0,
-    segs: 1,
-    queue: 2,
-};
+const NO_RING: Ring = (3, None);
 
-const O64: PortSpec = PortSpec {
-    segs: 64,
-    queue: 65_536,
-    ..O
-};
-
-const NO_PORT: PortSpec = PortSpec {
-    pool: 9,
-    segs: 0,
-    queue: 0,
-};
+const NO_PORT: Port = (9, 0, 0);
 
 /// What an environment is made of.
 enum Parts {
@@ -68,12 +36,12 @@ enum Parts {
     Numbers(usize, u8, usize, usize),
     /// The number of a pool's buffers, that of its cache, and its data room. It comes second.
     OfPool(u32, u32, u32),
-    /// The size of a ring, and the share and the segments of its packets; none if they have no fact. It comes second.
-    OfRing(u32, Option<(u8, u8)>),
-    /// The pool of a port, the segments of its packets, and the size of its transmit list. It comes second.
-    OfPort(u32, u32, u32),
+    /// This ring comes second.
+    OfRing(Ring),
+    /// This port comes second.
+    OfPort(Port),
     /// These pools, this number of tables, these rings and these ports.
-    Of(&'static [PoolSpec], u8, &'static [RingSpec], &'static [PortSpec]),
+    Of(&'static [Pool], u8, &'static [Ring], &'static [Port]),
 }
 
 /// Why an environment of these parts is refused, if it is.
@@ -102,28 +70,28 @@ static ENVIRONMENTS: [Environment; 46] = [
     Environment(OfPool(1, 0, 4097), Some(BadPool(1))),
     Environment(OfPool(u32::MAX, u32::MAX, u32::MAX), Some(BadPool(1))),
     // The limits of rings.
-    Environment(OfRing(0, Some((0, 1))), Some(BadRing(1))),
-    Environment(OfRing(1, Some((0, 1))), Some(BadRing(1))),
-    Environment(OfRing(2, Some((2, 1))), None),
-    Environment(OfRing(3, Some((0, 1))), Some(BadRing(1))),
-    Environment(OfRing(6, Some((0, 1))), Some(BadRing(1))),
-    Environment(OfRing(65_536, Some((0, 1))), None),
-    Environment(OfRing(131_072, Some((0, 1))), Some(BadRing(1))),
-    Environment(OfRing(2, None), Some(BadRing(1))),
-    Environment(OfRing(2, Some((3, 1))), Some(BadRing(1))),
-    Environment(OfRing(2, Some((0, 0))), Some(BadRing(1))),
-    Environment(OfRing(2, Some((0, 65))), Some(BadRing(1))),
-    Environment(OfRing(2, Some((0, 64))), None),
+    Environment(OfRing((0, Some((0, 1)))), Some(BadRing(1))),
+    Environment(OfRing((1, Some((0, 1)))), Some(BadRing(1))),
+    Environment(OfRing((2, Some((2, 1)))), None),
+    Environment(OfRing((3, Some((0, 1)))), Some(BadRing(1))),
+    Environment(OfRing((6, Some((0, 1)))), Some(BadRing(1))),
+    Environment(OfRing((65_536, Some((0, 1)))), None),
+    Environment(OfRing((131_072, Some((0, 1)))), Some(BadRing(1))),
+    Environment(OfRing((2, None)), Some(BadRing(1))),
+    Environment(OfRing((2, Some((3, 1)))), Some(BadRing(1))),
+    Environment(OfRing((2, Some((0, 0)))), Some(BadRing(1))),
+    Environment(OfRing((2, Some((0, 65)))), Some(BadRing(1))),
+    Environment(OfRing((2, Some((0, 64)))), None),
     // The limits of ports.
-    Environment(OfPort(0, 1, 2), None),
-    Environment(OfPort(1, 1, 2), Some(BadPort(1))),
-    Environment(OfPort(2, 1, 2), Some(BadPort(1))),
-    Environment(OfPort(u32::MAX, 1, 2), Some(BadPort(1))),
-    Environment(OfPort(0, 0, 2), Some(BadPort(1))),
-    Environment(OfPort(0, 65, 2), Some(BadPort(1))),
-    Environment(OfPort(0, 1, 1), Some(BadPort(1))),
-    Environment(OfPort(0, 1, 3), Some(BadPort(1))),
-    Environment(OfPort(0, 1, 131_072), Some(BadPort(1))),
+    Environment(OfPort((0, 1, 2)), None),
+    Environment(OfPort((1, 1, 2)), Some(BadPort(1))),
+    Environment(OfPort((2, 1, 2)), Some(BadPort(1))),
+    Environment(OfPort((u32::MAX, 1, 2)), Some(BadPort(1))),
+    Environment(OfPort((0, 0, 2)), Some(BadPort(1))),
+    Environment(OfPort((0, 65, 2)), Some(BadPort(1))),
+    Environment(OfPort((0, 1, 1)), Some(BadPort(1))),
+    Environment(OfPort((0, 1, 3)), Some(BadPort(1))),
+    Environment(OfPort((0, 1, 131_072)), Some(BadPort(1))),
     // The first cause counts, at its first place: the numbers of parts, pools, rings, ports, and the sum of all buffers.
     Environment(Of(&[NO_POOL], 9, &[NO_RING], &[NO_PORT]), Some(BadNumber)),
     Environment(
@@ -139,21 +107,7 @@ static ENVIRONMENTS: [Environment; 46] = [
         Some(BadPort(3)),
     ),
     Environment(Of(&[P, MANY], 0, &[R], &[O]), Some(TooMany)),
-    Environment(
-        Of(
-            &[
-                P,
-                PoolSpec {
-                    count: 65_534,
-                    ..MANY
-                },
-            ],
-            0,
-            &[R],
-            &[O],
-        ),
-        None,
-    ),
+    Environment(Of(&[P, (65_534, 0)], 0, &[R], &[O]), None),
 ];
 
 fn held(share: u8, head: u16, segs: u8) -> Fact {
@@ -167,12 +121,22 @@ fn held(share: u8, head: u16, segs: u8) -> Fact {
     }
 }
 
-fn ring(count: u32, known: Option<(u8, u8)>) -> RingSpec {
+fn pool(count: u32, cache: u32, room: u32) -> PoolSpec {
+    PoolSpec { count, cache, room }
+}
+
+fn ring(ring: Ring) -> RingSpec {
+    let (count, known) = ring;
     let fact = match known {
         Some((share, segs)) => held(share, 0, segs),
         None => Fact::Empty,
     };
     RingSpec { count, fact }
+}
+
+fn port(port: Port) -> PortSpec {
+    let (pool, segs, queue) = port;
+    PortSpec { pool, segs, queue }
 }
 
 // Why an environment is refused, if it is.
@@ -187,43 +151,66 @@ fn fault(
 
 // The same for these numbers of parts.
 fn fault_of_numbers(pools: usize, tables: u8, rings: usize, ports: usize) -> Option<EnvError> {
-    let (all, of_rings, of_ports) = ([P; 9], [R; 9], [O; 9]);
     fault(
-        all.get(..pools)?,
+        [pool(1, 0, 2176); 9].get(..pools)?,
         tables,
-        of_rings.get(..rings)?,
-        of_ports.get(..ports)?,
+        [ring(R); 9].get(..rings)?,
+        [port(O); 9].get(..ports)?,
+    )
+}
+
+fn pools_of(pools: &[Pool]) -> [PoolSpec; 4] {
+    let mut specs = [pool(0, 0, 0); 4];
+    for (spec, (count, room)) in specs.iter_mut().zip(pools) {
+        *spec = pool(*count, 0, *room);
+    }
+    specs
+}
+
+fn rings_of(rings: &[Ring]) -> [RingSpec; 4] {
+    let mut specs = [ring(NO_RING); 4];
+    for (spec, one) in specs.iter_mut().zip(rings) {
+        *spec = ring(*one);
+    }
+    specs
+}
+
+fn ports_of(ports: &[Port]) -> [PortSpec; 4] {
+    let mut specs = [port(NO_PORT); 4];
+    for (spec, one) in specs.iter_mut().zip(ports) {
+        *spec = port(*one);
+    }
+    specs
+}
+
+// The same for these parts, at most four of each.
+fn fault_of(pools: &[Pool], tables: u8, rings: &[Ring], ports: &[Port]) -> Option<EnvError> {
+    fault(
+        pools_of(pools).get(..pools.len())?,
+        tables,
+        rings_of(rings).get(..rings.len())?,
+        ports_of(ports).get(..ports.len())?,
     )
 }
 
 impl Case for Environment {
     fn holds(&self, _alloc: Global) -> bool {
+        let least = (1, 129);
         let fault = match &self.0 {
             Numbers(pools, tables, rings, ports) => {
                 fault_of_numbers(*pools, *tables, *rings, *ports)
             }
             OfPool(count, cache, room) => {
-                let (count, cache, room) = (*count, *cache, *room);
-                fault(&[P64, PoolSpec { count, cache, room }], 0, &[], &[O])
-            }
-            OfRing(count, known) => {
                 fault(
-                    &[P129],
-                    0,
-                    &[ring(2, Some((0, 64))), ring(*count, *known)],
-                    &[O],
-                )
-            }
-            OfPort(pool, segs, queue) => {
-                let (pool, segs, queue) = (*pool, *segs, *queue);
-                fault(
-                    &[P129, P128],
+                    &[pool(64, 0, 2176), pool(*count, *cache, *room)],
                     0,
                     &[],
-                    &[O64, PortSpec { pool, segs, queue }],
+                    &[port(O)],
                 )
             }
-            Of(pools, tables, rings, ports) => fault(pools, *tables, rings, ports),
+            OfRing(second) => fault_of(&[least], 0, &[(2, Some((0, 64))), *second], &[O]),
+            OfPort(second) => fault_of(&[least, (1, 128)], 0, &[], &[(0, 64, 65_536), *second]),
+            Of(pools, tables, rings, ports) => fault_of(pools, *tables, rings, ports),
         };
         fault == self.1
     }
@@ -303,22 +290,9 @@ fn differs(env: &Env) -> Option<usize> {
 
 #[test]
 fn parts_and_entries(rt: HostRuntime) {
-    let pools = [
-        PoolSpec { count: 4, ..P },
-        PoolSpec {
-            count: 4,
-            ..NO_POOL
-        },
-    ];
-    let rings = [ring(2, Some((0, 64)))];
-    let ports = [
-        PortSpec { queue: 4, ..O },
-        PortSpec {
-            segs: 3,
-            queue: 4,
-            ..O
-        },
-    ];
+    let pools = [pool(4, 0, 2176), pool(4, 0, 0)];
+    let rings = [ring((2, Some((0, 64))))];
+    let ports = [port((0, 1, 4)), port((0, 3, 4))];
     match (
         Env::new(&pools, 1, &rings, &ports),
         Env::new(&pools, 0, &rings, &ports),
