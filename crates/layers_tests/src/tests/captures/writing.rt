@@ -1,7 +1,8 @@
 //! What writers of captures are offered, and what they hold.
 
 use super::cases::{Case, all_hold, must};
-use super::{body, copied, hundred, is_copied};
+use super::{body, copied, edited, hundred, is_copied};
+use Asked::{Flush, Push, Take};
 use Put::{Bytes, Head, Header, OfHundred, Record};
 use Taking::{AtMost, Fails};
 use dp_pcap::{
@@ -13,60 +14,43 @@ use std::io::{BufReader, Write};
 use std::test::Fail;
 use std::{fs, io};
 
-/// A capture with one record of 2 bytes in each of the four spellings, and the spelling in which it is written.
-struct Spelling([u8; 42], [u8; 42]);
+/// A capture with one record of 2 bytes in microseconds, little endian and big endian.
+const LITTLE: [u8; 42] = [
+    0xd4, 0xc3, 0xb2, 0xa1, 2, 0, 4, 0, 0, 0, 0, 0, 0, 0, 0, 0, 0, 0, 4, 0, 1, 0, 0, 0, 4, 3, 2, 1,
+    3, 0, 0, 0, 2, 0, 0, 0, 2, 0, 0, 0, 5, 6,
+];
+
+const BIG: [u8; 42] = [
+    0xa1, 0xb2, 0xc3, 0xd4, 0, 2, 0, 4, 0, 0, 0, 0, 0, 0, 0, 0, 0, 4, 0, 0, 0, 0, 0, 1, 1, 2, 3, 4,
+    0, 0, 0, 3, 0, 0, 0, 2, 0, 0, 0, 2, 5, 6,
+];
+
+/// The bytes that are others in nanoseconds.
+const NANO_LITTLE: [(usize, u8); 2] = [(0, 0x4d), (1, 0x3c)];
+
+const NANO_BIG: [(usize, u8); 2] = [(2, 0x3c), (3, 0x4d)];
+
+/// A capture, those of its bytes that have other values, and those of `LITTLE` that have in the spelling in which it is written.
+struct Spelling(
+    &'static [u8],
+    &'static [(usize, u8)],
+    &'static [(usize, u8)],
+);
 
 static SPELLINGS: [Spelling; 4] = [
-    Spelling(
-        [
-            0xd4, 0xc3, 0xb2, 0xa1, 2, 0, 4, 0, 0, 0, 0, 0, 0, 0, 0, 0, 0, 0, 4, 0, 1, 0, 0, 0, 4,
-            3, 2, 1, 3, 0, 0, 0, 2, 0, 0, 0, 2, 0, 0, 0, 5, 6,
-        ],
-        [
-            0xd4, 0xc3, 0xb2, 0xa1, 2, 0, 4, 0, 0, 0, 0, 0, 0, 0, 0, 0, 0, 0, 4, 0, 1, 0, 0, 0, 4,
-            3, 2, 1, 3, 0, 0, 0, 2, 0, 0, 0, 2, 0, 0, 0, 5, 6,
-        ],
-    ),
-    Spelling(
-        [
-            0xa1, 0xb2, 0xc3, 0xd4, 0, 2, 0, 4, 0, 0, 0, 0, 0, 0, 0, 0, 0, 4, 0, 0, 0, 0, 0, 1, 1,
-            2, 3, 4, 0, 0, 0, 3, 0, 0, 0, 2, 0, 0, 0, 2, 5, 6,
-        ],
-        [
-            0xd4, 0xc3, 0xb2, 0xa1, 2, 0, 4, 0, 0, 0, 0, 0, 0, 0, 0, 0, 0, 0, 4, 0, 1, 0, 0, 0, 4,
-            3, 2, 1, 3, 0, 0, 0, 2, 0, 0, 0, 2, 0, 0, 0, 5, 6,
-        ],
-    ),
-    Spelling(
-        [
-            0x4d, 0x3c, 0xb2, 0xa1, 2, 0, 4, 0, 0, 0, 0, 0, 0, 0, 0, 0, 0, 0, 4, 0, 1, 0, 0, 0, 4,
-            3, 2, 1, 3, 0, 0, 0, 2, 0, 0, 0, 2, 0, 0, 0, 5, 6,
-        ],
-        [
-            0x4d, 0x3c, 0xb2, 0xa1, 2, 0, 4, 0, 0, 0, 0, 0, 0, 0, 0, 0, 0, 0, 4, 0, 1, 0, 0, 0, 4,
-            3, 2, 1, 3, 0, 0, 0, 2, 0, 0, 0, 2, 0, 0, 0, 5, 6,
-        ],
-    ),
-    Spelling(
-        [
-            0xa1, 0xb2, 0x3c, 0x4d, 0, 2, 0, 4, 0, 0, 0, 0, 0, 0, 0, 0, 0, 4, 0, 0, 0, 0, 0, 1, 1,
-            2, 3, 4, 0, 0, 0, 3, 0, 0, 0, 2, 0, 0, 0, 2, 5, 6,
-        ],
-        [
-            0x4d, 0x3c, 0xb2, 0xa1, 2, 0, 4, 0, 0, 0, 0, 0, 0, 0, 0, 0, 0, 0, 4, 0, 1, 0, 0, 0, 4,
-            3, 2, 1, 3, 0, 0, 0, 2, 0, 0, 0, 2, 0, 0, 0, 5, 6,
-        ],
-    ),
+    Spelling(&LITTLE, &[], &[]),
+    Spelling(&BIG, &[], &[]),
+    Spelling(&LITTLE, &NANO_LITTLE, &NANO_LITTLE),
+    Spelling(&BIG, &NANO_BIG, &NANO_LITTLE),
 ];
 
 impl Case for Spelling {
     fn holds(&self, alloc: Global) -> bool {
-        is_copied(
-            alloc,
-            &mut OfRead::new(self.0.as_slice()),
-            Ok(None),
-            &self.1,
-        )
+        let (read, written) = (edited(self.0, self.1), edited(&LITTLE, self.2));
+        match (read.get(..42), written.get(..42)) {
+            (Some(bytes), Some(copy)) => is_copied(alloc, &mut OfRead::new(bytes), Ok(None), copy),
+            _ => false,
+        }
     }
 }
 
@@ -128,21 +112,24 @@ fn differs<W: Sink>(w: &mut W, unit: Unit, steps: &[(Put, bool)]) -> Option<usiz
     None
 }
 
+/// A record at (1, 2999), at once and in parts.
+const TWICE: [(Put, bool); 6] = [
+    (Header, true),
+    (Record(AT_2999, &[5, 6]), true),
+    (Head(AT_2999, 2), true),
+    (Bytes(&[5]), true),
+    (Bytes(&[]), true),
+    (Bytes(&[6]), true),
+];
+
 /// Calls, whether each writes what it should, how many bytes the writer takes in each call and in all, and what it holds at the end.
 struct Writing(Unit, &'static [(Put, bool)], usize, usize, &'static [u8]);
 
 static WRITTEN: [Writing; 3] = [
-    // A record at (1, 2999) has the fraction 2 in microseconds, and 2999 in nanoseconds.
+    // The fraction is 2 in microseconds, and 2999 in nanoseconds.
     Writing(
         Unit::Micro,
-        &[
-            (Header, true),
-            (Record(AT_2999, &[5, 6]), true),
-            (Head(AT_2999, 2), true),
-            (Bytes(&[5]), true),
-            (Bytes(&[]), true),
-            (Bytes(&[6]), true),
-        ],
+        &TWICE,
         1000,
         1000,
         &[
@@ -153,14 +140,7 @@ static WRITTEN: [Writing; 3] = [
     ),
     Writing(
         Unit::Nano,
-        &[
-            (Header, true),
-            (Record(AT_2999, &[5, 6]), true),
-            (Head(AT_2999, 2), true),
-            (Bytes(&[5]), true),
-            (Bytes(&[]), true),
-            (Bytes(&[6]), true),
-        ],
+        &TWICE,
         1000,
         1000,
         &[
@@ -237,28 +217,15 @@ fn is_front(alloc: Global, most: usize, front: &[u8]) -> bool {
     has_held(w, front) && answer == wanted
 }
 
-/// How many bytes a writer takes a call.
-struct AnyLength(usize);
-
-impl Case for AnyLength {
-    fn holds(&self, alloc: Global) -> bool {
-        for len in 0..101usize {
-            match hundred().get(..len) {
-                Some(front) if is_front(alloc, self.0, front) => {}
-                _ => return false,
-            }
+// Whether each front of `HUNDRED` is what such a writer holds that fails after it.
+fn are_fronts(alloc: Global, most: usize) -> bool {
+    for len in 0..101usize {
+        match hundred().get(..len) {
+            Some(front) if is_front(alloc, most, front) => {}
+            _ => return false,
         }
-        true
     }
-}
-
-#[test]
-fn writers_fail_anywhere(rt: HostRuntime) {
-    all_hold(
-        &rt,
-        rt.alloc(),
-        &[AnyLength(1), AnyLength(7), AnyLength(1000)],
-    );
+    true
 }
 
 // Copies a capture into a file.
@@ -320,65 +287,12 @@ fn empties(w: &mut OfBufWriter<Vec<u8>>, fits: bool) -> bool {
         && w.has_room(16, 60) == fits
 }
 
-/// The room of a writer's buffer, whether a record fits into it, and how many bytes it holds afterwards.
-struct Fitting(usize, bool, usize);
-
 /// A writer with a buffer of this room over a list of bytes.
 pub(super) fn buffered_list(alloc: Global, room: usize) -> Option<OfBufWriter<Vec<u8>>> {
     match Buffered::with_capacity(alloc, room, Vec::new(alloc)) {
         Ok(inner) => Some(OfBufWriter::new(inner)),
         Err(_) => None,
     }
-}
-
-impl Case for Fitting {
-    fn holds(&self, alloc: Global) -> bool {
-        match &mut buffered_list(alloc, self.0) {
-            Some(w) => fits_as(w, self.1, self.2) && empties(w, self.1),
-            None => false,
-        }
-    }
-}
-
-/// A buffer that has room left after the record, one that it fills, and one that is a byte too short.
-static FITTING: [Fitting; 3] = [
-    Fitting(77, true, 76),
-    Fitting(76, false, 76),
-    Fitting(75, false, 1),
-];
-
-// A writer without a buffer has no room.
-#[test]
-fn a_record_goes_into_a_buffer_at_once_or_in_parts(rt: HostRuntime) {
-    all_hold(&rt, rt.alloc(), &FITTING);
-    let has_room = OfWrite::new(Vec::new(rt.alloc())).has_room(0, 0);
-    must(&rt, !has_room, "no room");
-}
-
-/// The room of a buffer, and how many bytes of `BODY` are taken at once.
-struct AtOnce(usize, usize);
-
-impl Case for AtOnce {
-    fn holds(&self, alloc: Global) -> bool {
-        match &mut buffered_list(alloc, self.0) {
-            Some(w) => w.push(body()) == Ok(self.1),
-            None => false,
-        }
-    }
-}
-
-/// A piece that leaves room in the buffer is taken whole; of a longer one, as much as fills the buffer.
-static AT_ONCE: [AtOnce; 5] = [
-    AtOnce(1000, 60),
-    AtOnce(61, 60),
-    AtOnce(60, 60),
-    AtOnce(59, 59),
-    AtOnce(1, 1),
-];
-
-#[test]
-fn a_piece_that_fits_is_taken_whole(rt: HostRuntime) {
-    all_hold(&rt, rt.alloc(), &AT_ONCE);
 }
 
 // Whether a writer is flushed without an error, and takes a record then.
@@ -391,30 +305,62 @@ fn is_empty_after(w: &mut OfBufWriter<Vec<u8>>, bytes: usize) -> bool {
     w.flush().is_ok() && w.get_ref().buffer().is_empty() && w.get_ref().get_ref().len() == bytes
 }
 
-/// The room of a buffer.
-struct Flushed(usize);
+/// What is asked of a writer with a buffer.
+enum Asked {
+    /// To take a record: whether it fits into the buffer, and how many bytes are held afterwards.
+    Take(bool, usize),
+    /// To take `BODY`: how many of its bytes are taken at once.
+    Push(usize),
+    /// To write two records, and to be flushed before, between and after them.
+    Flush,
+}
 
-impl Case for Flushed {
+/// The room of a writer's buffer, and what it is asked.
+struct Behind(usize, Asked);
+
+static BEHIND: [Behind; 14] = [
+    // A buffer that has room left after the record, one that it fills, and one that is a byte too short.
+    Behind(77, Take(true, 76)),
+    Behind(76, Take(false, 76)),
+    Behind(75, Take(false, 1)),
+    // A piece that leaves room in the buffer is taken whole; of a longer one, as much as fills the buffer.
+    Behind(1000, Push(60)),
+    Behind(61, Push(60)),
+    Behind(60, Push(60)),
+    Behind(59, Push(59)),
+    Behind(1, Push(1)),
+    // A sound writer is flushed.
+    Behind(0, Flush),
+    Behind(16, Flush),
+    Behind(75, Flush),
+    Behind(76, Flush),
+    Behind(77, Flush),
+    Behind(200, Flush),
+];
+
+fn does(w: &mut OfBufWriter<Vec<u8>>, asked: &Asked) -> bool {
+    match asked {
+        Take(fits, held) => fits_as(w, *fits, *held) && empties(w, *fits),
+        Push(taken) => w.push(body()) == Ok(*taken),
+        Flush => is_flushed(w) && is_flushed(w) && is_empty_after(w, 152),
+    }
+}
+
+impl Case for Behind {
     fn holds(&self, alloc: Global) -> bool {
         match &mut buffered_list(alloc, self.0) {
-            Some(w) => is_flushed(w) && is_flushed(w) && is_empty_after(w, 152),
+            Some(w) => does(w, &self.1),
             None => false,
         }
     }
 }
 
-static FLUSHED: [Flushed; 6] = [
-    Flushed(0),
-    Flushed(16),
-    Flushed(75),
-    Flushed(76),
-    Flushed(77),
-    Flushed(200),
-];
-
+// A writer without a buffer has no room.
 #[test]
-fn a_sound_writer_is_flushed(rt: HostRuntime) {
-    all_hold(&rt, rt.alloc(), &FLUSHED);
+fn what_a_buffer_takes_and_writes(rt: HostRuntime) {
+    all_hold(&rt, rt.alloc(), &BEHIND);
+    let has_room = OfWrite::new(Vec::new(rt.alloc())).has_room(0, 0);
+    must(&rt, !has_room, "no room");
 }
 
 /// How many of the bytes that it is offered a writer takes in a call.
@@ -605,29 +551,32 @@ fn was_offered_pieces(taker: Taker, bytes: &[u8], most: usize) -> bool {
 }
 
 /// How many bytes a writer takes a call.
-struct Offered(usize);
+struct Most(usize);
 
-impl Case for Offered {
+impl Case for Most {
     fn holds(&self, alloc: Global) -> bool {
         let mut w = OfWrite::new(Taker::new(alloc, &[], self.0));
         let answer = copied_hundred(&mut w);
-        was_offered_pieces(w.into_inner(), hundred(), self.0) && answer == Ok(None)
+        was_offered_pieces(w.into_inner(), hundred(), self.0)
+            && answer == Ok(None)
+            && are_fronts(alloc, self.0)
     }
 }
 
-static OFFERED: [Offered; 8] = [
-    Offered(1),
-    Offered(7),
-    Offered(16),
-    Offered(23),
-    Offered(24),
-    Offered(59),
-    Offered(60),
-    Offered(1000),
+static MOST: [Most; 8] = [
+    Most(1),
+    Most(7),
+    Most(16),
+    Most(23),
+    Most(24),
+    Most(59),
+    Most(60),
+    Most(1000),
 ];
 
-// The header, the record's head and its bytes are one piece each: a writer is offered a whole piece, and then the rest of it.
+// The header, the record's head and its bytes are one piece each: a writer is offered a whole piece, and then the rest of it. It may fail after any
+// byte.
 #[test]
 fn a_writer_is_offered_a_piece_and_then_its_rest(rt: HostRuntime) {
-    all_hold(&rt, rt.alloc(), &OFFERED);
+    all_hold(&rt, rt.alloc(), &MOST);
 }
