@@ -12,17 +12,6 @@ use std::alloc::Global;
 /// What a fact says of a packet: the share, headroom, tailroom, the lengths of the first and of the last segment, and the number of segments.
 type Parts = (u8, u16, u16, u16, u16, u8);
 
-fn holding(parts: Parts) -> Holding {
-    Holding {
-        share: parts.0,
-        head: parts.1,
-        tail: parts.2,
-        first: parts.3,
-        last: parts.4,
-        segs: parts.5,
-    }
-}
-
 fn held(parts: Parts) -> Fact {
     Fact::Held {
         share: parts.0,
@@ -32,6 +21,10 @@ fn held(parts: Parts) -> Fact {
         last: parts.4,
         segs: parts.5,
     }
+}
+
+fn parts_of(it: &Holding) -> Parts {
+    (it.share, it.head, it.tail, it.first, it.last, it.segs)
 }
 
 /// The parts of a fact, whether it is well formed outside a row, and its group.
@@ -51,9 +44,12 @@ static FACTS: [KnownFact; 8] = [
 // Whether a fact has its parts, and is well formed and in a group as its row says.
 fn is_as(parts: Parts, well_formed: bool, group: Option<u8>) -> bool {
     let fact = held(parts);
-    !fact.is_empty()
-        && fact.holding() == Some(holding(parts))
-        && Fact::from(holding(parts)) == fact
+    let Some(holding) = fact.holding() else {
+        return false;
+    };
+    held(parts_of(&holding)) == fact
+        && Fact::from(holding) == fact
+        && !fact.is_empty()
         && fact.is_well_formed() == well_formed
         && fact.group() == group
         && fact.is_in(1) == (group == Some(1))
