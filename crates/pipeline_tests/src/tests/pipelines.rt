@@ -39,11 +39,7 @@ enum Answer {
 }
 
 /// A pipeline file, how its nodes get certificates, and what becomes of it.
-struct Case {
-    text: Content,
-    how: How,
-    answer: Answer,
-}
+type Case = (Content, How, Answer);
 
 /// What the files hold that the pipelines name.
 static FILES: &[File] = &[
@@ -73,13 +69,22 @@ const MIDDLE: &str = "[[port]]\npool = 0\nsegs = 1\nqueue = 4\n";
 
 const END: &str = "in = \"in\"\nout = \"out\"\n";
 
-const OF_STRIP: &str = "node = \"strip\"\n";
+// The lines that name a node's program, and its certificate if it has one.
+macro_rules! node {
+    ($program:literal) => {
+        concat!("node = \"", $program, "\"\n")
+    };
+    ($program:literal, $cert:literal) => {
+        concat!("node = \"", $program, "\"\ncert = \"", $cert, "\"\n")
+    };
+}
 
-const OF_STRIP_CERT: &str = "node = \"strip\"\ncert = \"strip.cert\"\n";
-
-const OF_STRIP_NOTHING: &str = "node = \"strip\"\ncert = \"nothing\"\n";
-
-const OF_LOST: &str = "node = \"lost\"\n";
+// Such a pipeline, with the lines of its ring and of its port.
+macro_rules! nodes {
+    ($ring:expr, $port:expr) => {
+        Text(&[HEAD, $ring, MIDDLE, $port, END])
+    };
+}
 
 /// Eight of these have nearly as many buffers as all pools may have.
 const POOL: &str = "[[pool]]\ncount = 8191\ncache = 512\nroom = 4096\n";
@@ -92,55 +97,40 @@ const RING: &str =
 const PORT: &str =
     "[[port]]\npool = 7\nsegs = 64\nqueue = 65536\nnode = \"longest\"\nin = \"a\"\nout = \"b\"\n";
 
+const TOP: &str = "region = 1073741824\n";
+
 /// A pipeline file with the greatest number of each part.
 const LARGEST: &[&str] = &[
-    "region = 1073741824\n",
-    POOL,
-    POOL,
-    POOL,
-    POOL,
-    POOL,
-    POOL,
-    POOL,
-    POOL,
-    TABLE,
-    TABLE,
-    TABLE,
-    TABLE,
-    RING,
-    RING,
-    RING,
-    RING,
-    RING,
-    RING,
-    RING,
-    RING,
-    PORT,
-    PORT,
-    PORT,
-    PORT,
-    PORT,
-    PORT,
-    PORT,
-    PORT,
+    TOP, POOL, POOL, POOL, POOL, POOL, POOL, POOL, POOL, TABLE, TABLE, TABLE, TABLE, RING, RING,
+    RING, RING, RING, RING, RING, RING, PORT, PORT, PORT, PORT, PORT, PORT, PORT, PORT,
 ];
 
+// A fault in the first line of a program or a certificate.
+macro_rules! fault {
+    ($of:ident, $cause:ident) => {
+        $of::Fault {
+            line: 1,
+            cause: $of::Cause::$cause,
+        }
+    };
+}
+
 static CASES: &[Case] = &[
-    Case {
-        text: Text(&[TWO_PORTS]),
-        how: How::Given,
-        answer: Has(&[
+    (
+        Text(&[TWO_PORTS]),
+        How::Given,
+        Has(&[
             Region(10_368),
             Env(2, 2, 0),
             Parts([0, 0, 2, 2]),
             Captures(0, "a.pcap", "a.out"),
             Captures(1, "b.pcap", "b.out"),
         ]),
-    },
-    Case {
-        text: Text(&[EVERY_PART]),
-        how: How::Inferred,
-        answer: Has(&[
+    ),
+    (
+        Text(&[EVERY_PART]),
+        How::Inferred,
+        Has(&[
             Parts([1, 1, 1, 2]),
             Routes(2),
             Hop(0, 0x0a01_02c8, Some(2)),
@@ -155,120 +145,78 @@ static CASES: &[Case] = &[
                 segs: 6,
             }),
         ]),
-    },
-    Case {
-        text: Text(LARGEST),
-        how: How::Given,
-        answer: Has(&[
+    ),
+    (
+        Text(LARGEST),
+        How::Given,
+        Has(&[
             Env(8, 8, 4),
             Parts([4, 8, 8, 16]),
             Node(15, 1024, Entry::Ring(7)),
             Hop(3, 0x0a01_02c8, Some(7)),
             Hop(3, 0x0a01_0201, None),
         ]),
-    },
+    ),
     // Certificates are given and inferred.
-    Case {
-        text: Text(&[HEAD, "node = \"forward\"\n", MIDDLE, OF_STRIP_CERT, END]),
-        how: How::Given,
-        answer: Has(&[
+    (
+        nodes!(node!("forward"), node!("strip", "strip.cert")),
+        How::Given,
+        Has(&[
             Parts([0, 1, 1, 2]),
             Node(0, 6, Entry::Port(0)),
             Node(1, 4, Entry::Ring(0)),
         ]),
-    },
-    Case {
-        text: Text(&[
-            HEAD,
-            "node = \"forward\"\ncert = \"nothing\"\n",
-            MIDDLE,
-            OF_STRIP_NOTHING,
-            END,
-        ]),
-        how: How::Inferred,
-        answer: Has(&[]),
-    },
+    ),
+    (
+        nodes!(node!("forward", "nothing"), node!("strip", "nothing")),
+        How::Inferred,
+        Has(&[]),
+    ),
     // The first fault of a node is answered.
-    Case {
-        text: Text(&[
-            HEAD,
-            OF_STRIP,
-            MIDDLE,
-            "node = \"nothing\"\ncert = \"nothing\"\n",
-            END,
-        ]),
-        how: How::Given,
-        answer: Fails(PipeError::File(Entry::Port(0))),
-    },
-    Case {
-        text: Text(&[HEAD, "node = \"long\"\n", MIDDLE, OF_STRIP, END]),
-        how: How::Given,
-        answer: Fails(PipeError::File(Entry::Ring(0))),
-    },
-    Case {
-        text: Text(&[HEAD, OF_STRIP, MIDDLE, OF_STRIP_NOTHING, END]),
-        how: How::Given,
-        answer: Fails(PipeError::File(Entry::Port(0))),
-    },
-    Case {
-        text: Text(&[
-            HEAD,
-            OF_STRIP,
-            MIDDLE,
-            "node = \"bad\"\ncert = \"nothing\"\n",
-            END,
-        ]),
-        how: How::Given,
-        answer: Fails(PipeError::Asm(
-            Entry::Port(0),
-            dp_lang::Fault {
-                line: 1,
-                cause: dp_lang::Cause::BadNumber,
-            },
-        )),
-    },
-    Case {
-        text: Text(&[
-            HEAD,
-            "node = \"strip\"\ncert = \"strip\"\n",
-            MIDDLE,
-            OF_STRIP,
-            END,
-        ]),
-        how: How::Given,
-        answer: Fails(PipeError::BadCert(
-            Entry::Ring(0),
-            dp_cert::Fault {
-                line: 1,
-                cause: dp_cert::Cause::BadHead,
-            },
-        )),
-    },
-    Case {
-        text: Text(&[HEAD, OF_STRIP_CERT, MIDDLE, OF_STRIP, END]),
-        how: How::Given,
-        answer: Fails(PipeError::Refused {
+    (
+        nodes!(node!("strip"), node!("nothing", "nothing")),
+        How::Given,
+        Fails(PipeError::File(Entry::Port(0))),
+    ),
+    (
+        nodes!(node!("long"), node!("strip")),
+        How::Given,
+        Fails(PipeError::File(Entry::Ring(0))),
+    ),
+    (
+        nodes!(node!("strip"), node!("strip", "nothing")),
+        How::Given,
+        Fails(PipeError::File(Entry::Port(0))),
+    ),
+    (
+        nodes!(node!("strip"), node!("bad", "nothing")),
+        How::Given,
+        Fails(PipeError::Asm(Entry::Port(0), fault!(dp_lang, BadNumber))),
+    ),
+    (
+        nodes!(node!("strip", "strip"), node!("strip")),
+        How::Given,
+        Fails(PipeError::BadCert(Entry::Ring(0), fault!(dp_cert, BadHead))),
+    ),
+    (
+        nodes!(node!("strip", "strip.cert"), node!("strip")),
+        How::Given,
+        Fails(PipeError::Refused {
             node: Entry::Ring(0),
             label: 0,
             rule: 2,
         }),
-    },
-    Case {
-        text: Text(&[HEAD, OF_STRIP, MIDDLE, OF_LOST, END]),
-        how: How::Given,
-        answer: Fails(LOST),
-    },
-    Case {
-        text: Text(&[
-            HEAD,
-            "node = \"nothing\"\n",
-            MIDDLE,
-            "node = \"lost\"\ncert = \"strip.cert\"\n",
-            END,
-        ]),
-        how: How::Inferred,
-        answer: Fails(LOST),
-    },
+    ),
+    (
+        nodes!(node!("strip"), node!("lost")),
+        How::Given,
+        Fails(LOST),
+    ),
+    (
+        nodes!(node!("nothing"), node!("lost", "strip.cert")),
+        How::Inferred,
+        Fails(LOST),
+    ),
 ];
 
 /// The program of the port keeps its packet.
@@ -347,9 +295,10 @@ fn is_answer(loaded: Result<Pipeline, PipeError>, answer: &Answer) -> bool {
 }
 
 fn is_answered(alloc: Global, sources: &Sources, case: &Case) -> Result<bool, AllocError> {
-    let text = text_of(alloc, &case.text)?;
-    let loaded = load(alloc, text.as_bytes(), &mut Lent(sources), case.how);
-    Ok(is_answer(loaded, &case.answer))
+    let (text, how, answer) = case;
+    let text = text_of(alloc, text)?;
+    let loaded = load(alloc, text.as_bytes(), &mut Lent(sources), *how);
+    Ok(is_answer(loaded, answer))
 }
 
 // The first case, from 0, with another answer.

@@ -5,7 +5,7 @@ use super::devices::{FULL, code_of};
 use super::files::{Content, text_of};
 use super::plans::{BACK, FULL_RING, Plan, TWICE, Watch, loaded, ran, run_plainly, watcher_of};
 use Content::Text;
-use Watch::{Losses, Silent};
+use Watch::{Counting, Losses, Silent};
 use dp_captures::{
     BUFFER, CaptureNames, Direction, Flushed, Replacements, Streams, captures_of, names_of,
     open_captures, run_captures,
@@ -20,108 +20,24 @@ use std::alloc::{AllocError, Global};
 use std::io::Stderr;
 use std::test::Fail;
 
-/// A run on a disk of this size: how many bytes it took, how many records the port received and sent, the error of the disk, and how often the
-/// first transmit list, ring and pool were too small, as far as the watcher counts it.
-struct Run {
-    plan: Plan,
-    watch: Watch,
-    left: usize,
-    taken: usize,
-    received: u64,
-    sent: u64,
-    code: Option<i32>,
-    refused: [u64; 3],
-}
-
-const ON_FULL_DISK: Run = Run {
-    plan: BACK,
-    watch: Silent,
-    left: 0,
-    taken: 0,
-    received: 2,
-    sent: 0,
-    code: Some(FULL),
-    refused: [0, 0, 0],
-};
+/// A pipeline, what watches its run, and the size of the disk. Then how many bytes the disk took, how many records the port received and sent, the
+/// error of the disk, and how often the first transmit list, ring and pool were too small, as far as the watcher counts it.
+type Run = (Plan, Watch, usize, usize, (u64, u64), Option<i32>, [u64; 3]);
 
 static RUNS: &[Run] = &[
     // A full disk ends a run with the records that it has.
-    ON_FULL_DISK,
-    Run {
-        left: 23,
-        taken: 23,
-        ..ON_FULL_DISK
-    },
-    Run {
-        left: 24,
-        taken: 24,
-        ..ON_FULL_DISK
-    },
-    Run {
-        left: 99,
-        taken: 99,
-        ..ON_FULL_DISK
-    },
-    Run {
-        left: 100,
-        taken: 100,
-        sent: 1,
-        ..ON_FULL_DISK
-    },
-    Run {
-        left: 175,
-        taken: 175,
-        sent: 1,
-        ..ON_FULL_DISK
-    },
-    Run {
-        left: 176,
-        taken: 176,
-        sent: 2,
-        code: None,
-        ..ON_FULL_DISK
-    },
+    (BACK, Silent, 0, 0, (2, 0), Some(FULL), [0; 3]),
+    (BACK, Silent, 23, 23, (2, 0), Some(FULL), [0; 3]),
+    (BACK, Silent, 24, 24, (2, 0), Some(FULL), [0; 3]),
+    (BACK, Silent, 99, 99, (2, 0), Some(FULL), [0; 3]),
+    (BACK, Silent, 100, 100, (2, 1), Some(FULL), [0; 3]),
+    (BACK, Silent, 175, 175, (2, 1), Some(FULL), [0; 3]),
+    (BACK, Silent, 176, 176, (2, 2), None, [0; 3]),
     // The list takes one packet. The ring is full at the first packet that is cloned, and at each of 256 further attempts.
-    Run {
-        plan: TWICE,
-        watch: Losses,
-        left: 1000,
-        taken: 44,
-        received: 2,
-        sent: 1,
-        code: None,
-        refused: [1, 0, 0],
-    },
-    Run {
-        plan: TWICE,
-        watch: Watch::Counting,
-        left: 1000,
-        taken: 44,
-        received: 2,
-        sent: 1,
-        code: None,
-        refused: [1, 0, 0],
-    },
-    Run {
-        plan: FULL_RING,
-        watch: Losses,
-        left: 1000,
-        taken: 44,
-        received: 3,
-        sent: 1,
-        code: None,
-        refused: [0, 257, 0],
-    },
-    Run {
-        plan: FULL_RING,
-        watch: Watch::Counting,
-        left: 1000,
-        taken: 44,
-        received: 3,
-        sent: 1,
-        code: None,
-        refused: [0, 257, 0],
-    },
+    (TWICE, Losses, 1000, 44, (2, 1), None, [1, 0, 0]),
+    (TWICE, Counting, 1000, 44, (2, 1), None, [1, 0, 0]),
+    (FULL_RING, Losses, 1000, 44, (3, 1), None, [0, 257, 0]),
+    (FULL_RING, Counting, 1000, 44, (3, 1), None, [0, 257, 0]),
 ];
 
 /// Runs by `run_line`, on a disk of this size: how many it took, the status, and what is printed.
@@ -287,12 +203,13 @@ fn watched(
 }
 
 fn is_run(alloc: Global, err: Stderr, run: &Run) -> Result<bool, Fail> {
-    let (ran, taken) = watched(alloc, err, &run.plan, run.watch, run.left)?;
+    let (plan, watch, left, want, records, code, refused) = run;
+    let (ran, taken) = watched(alloc, err, plan, *watch, *left)?;
     Ok(
-        taken == run.taken
-            && numbers_of(&ran.flushed) == (run.received, run.sent)
-            && code_of(ran.flushed.failure) == run.code
-            && first_of(ran.refusals) == run.refused,
+        taken == *want
+            && numbers_of(&ran.flushed) == *records
+            && code_of(ran.flushed.failure) == *code
+            && first_of(ran.refusals) == *refused,
     )
 }
 
@@ -367,7 +284,7 @@ fn reply<'p>(
 fn replied(alloc: Global, err: Stderr, said: &Said) -> Result<Reply, Fail> {
     let pipeline = loaded(alloc, &said.plan)?;
     let env = pipeline.env().copy();
-    let mut watcher = watcher_of(alloc, &pipeline, &said.plan, Watch::Counting)?;
+    let mut watcher = watcher_of(alloc, &pipeline, &said.plan, Counting)?;
     let (ran, _) = ran(alloc, err, &said.plan, 1000, pipeline, &mut watcher)?;
     Ok(reply(alloc, &ran, &env, &watcher, said))
 }

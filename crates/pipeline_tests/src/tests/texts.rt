@@ -31,49 +31,44 @@ const BAD_POOL: &[u8] = b"region = 4096\n[[pool]]\ncount = 4\ncache = 0\nroom = 
     [[pool]]\ncount = 4\ncache = 0\nroom = 2176\n[[pool]]\n\
     [[port]]\npool = 0\nsegs = 1\nqueue = 4\nnode = \"n\"\ncert = \"c\"\nin = \"a\"\nout = \"b\"\n";
 
-const TOP: PipeError = PipeError::BadKey {
-    part: Part::Top,
-    index: 0,
-};
+// A bad key of a part.
+macro_rules! bad_key {
+    ($part:ident, $index:literal) => {
+        PipeError::BadKey {
+            part: Part::$part,
+            index: $index,
+        }
+    };
+}
 
-const POOL: PipeError = PipeError::BadKey {
-    part: Part::Pool,
-    index: 0,
-};
+// The second route of the table is refused.
+macro_rules! bad_route {
+    ($cause:expr) => {
+        PipeError::BadTable {
+            table: 0,
+            route: 1,
+            cause: $cause,
+        }
+    };
+}
 
-const POOL_2: PipeError = PipeError::BadKey {
-    part: Part::Pool,
-    index: 2,
-};
+const TOP: PipeError = bad_key!(Top, 0);
 
-const TABLE: PipeError = PipeError::BadKey {
-    part: Part::Table,
-    index: 0,
-};
+const POOL: PipeError = bad_key!(Pool, 0);
 
-const RING: PipeError = PipeError::BadKey {
-    part: Part::Ring,
-    index: 0,
-};
+const POOL_2: PipeError = bad_key!(Pool, 2);
 
-const PORT: PipeError = PipeError::BadKey {
-    part: Part::Port,
-    index: 0,
-};
+const TABLE: PipeError = bad_key!(Table, 0);
 
-/// The second route of the table cannot be read.
-const ROUTE: PipeError = PipeError::BadTable {
-    table: 0,
-    route: 1,
-    cause: RouteError::Unreadable,
-};
+const RING: PipeError = bad_key!(Ring, 0);
+
+const PORT: PipeError = bad_key!(Port, 0);
+
+/// The route cannot be read.
+const ROUTE: PipeError = bad_route!(RouteError::Unreadable);
 
 /// Its depth is not 1 to 32.
-const DEPTH: PipeError = PipeError::BadTable {
-    table: 0,
-    route: 1,
-    cause: RouteError::Refused(LpmError::BadDepth),
-};
+const DEPTH: PipeError = bad_route!(RouteError::Refused(LpmError::BadDepth));
 
 /// The route that is changed.
 const SECOND: &str = "10.1.2.128/25 2";

@@ -87,15 +87,41 @@ const OF_PORT_2: &str = "port 2 not inferred at 2 by J8\nlong.dpv:3: chain p1,p0
 
 const OF_RING_0: &str = "ring 0 accepted\n";
 
+// What is said of a program by itself, without a certificate: the status, and what is printed on both streams.
+macro_rules! alone {
+    ($program:expr, $status:literal, $out:expr) => {
+        alone!($program, $status, $out, "")
+    };
+    ($program:expr, $status:literal, $out:expr, $err:expr) => {
+        Case {
+            files: &[("node.dpv", Text(&[$program]))],
+            asked: Alone(false),
+            status: $status,
+            out: Text(&[$out]),
+            err: Text(&[$err]),
+        }
+    };
+}
+
+// What is said of the programs, and nothing on the error stream where no more is given.
+macro_rules! asked {
+    ($asked:expr, $status:literal, $out:expr) => {
+        asked!($asked, $status, $out, Text(&[]))
+    };
+    ($asked:expr, $status:literal, $out:expr, $err:expr) => {
+        Case {
+            files: PROGRAMS,
+            asked: $asked,
+            status: $status,
+            out: $out,
+            err: $err,
+        }
+    };
+}
+
 static CASES: &[Case] = &[
     // Single programs, and the rule that each breaks.
-    Case {
-        files: &[("node.dpv", Text(&[STRIP]))],
-        asked: Alone(false),
-        status: 0,
-        out: Text(&["port 0 accepted\n"]),
-        err: Text(&[]),
-    },
+    alone!(STRIP, 0, "port 0 accepted\n"),
     Case {
         files: &[
             ("node.dpv", Text(&["tx p0,r0,d\nexit\nd: free p0\nexit\n"])),
@@ -115,206 +141,122 @@ static CASES: &[Case] = &[
         ]),
         err: Text(&[]),
     },
-    Case {
-        files: &[(
-            "node.dpv",
-            Text(&["alloc p1,1,out\nfree p1\nout: free p0\nexit\n"]),
-        )],
-        asked: Alone(false),
-        status: 1,
-        out: Text(&[
-            "port 0 not inferred at 0 by J3\nnode.dpv:1: alloc p1,1,out\n  \
+    alone!(
+        "alloc p1,1,out\nfree p1\nout: free p0\nexit\n",
+        1,
+        "port 0 not inferred at 0 by J3\nnode.dpv:1: alloc p1,1,out\n  \
             J3: the pool, the table, the ring and each label exist\n  \
             known:  the number of pools is 1\n  wanted: a pool with the number 1, from 0\n  \
-            help:   declare one more in the pipeline, or name another\n",
-        ]),
-        err: Text(&[]),
-    },
-    Case {
-        files: &[(
-            "node.dpv",
-            Text(&["tx p0,r0,out\ntx p0,r0,none\nnone: exit\nout: free p0\nexit\n"]),
-        )],
-        asked: Alone(false),
-        status: 1,
-        out: Text(&[
-            "port 0 not inferred at 1 by J4\nnode.dpv:2: tx p0,r0,none\n  \
+            help:   declare one more in the pipeline, or name another\n"
+    ),
+    alone!(
+        "tx p0,r0,out\ntx p0,r0,none\nnone: exit\nout: free p0\nexit\n",
+        1,
+        "port 0 not inferred at 1 by J4\nnode.dpv:2: tx p0,r0,none\n  \
             J4: each packet register that is used holds a packet\n  \
             known:  p0 empty\n  wanted: a packet in p0\n  \
-            help:   put a packet into p0 before it, by alloc or clone\n",
-        ]),
-        err: Text(&[]),
-    },
-    Case {
-        files: &[("node.dpv", Text(&["alloc p0,0,out\nout: free p0\nexit\n"]))],
-        asked: Alone(false),
-        status: 1,
-        out: Text(&[
-            "port 0 not inferred at 0 by J5\nnode.dpv:1: alloc p0,0,out\n  \
+            help:   put a packet into p0 before it, by alloc or clone\n"
+    ),
+    alone!(
+        "alloc p0,0,out\nout: free p0\nexit\n",
+        1,
+        "port 0 not inferred at 0 by J5\nnode.dpv:1: alloc p0,0,out\n  \
             J5: the target of alloc and clone is empty, and those of chain differ\n  \
             known:  p0 sole, headroom 128, at most 1 segment\n  wanted: p0 empty\n  \
-            help:   free p0 before it, or take another register\n",
-        ]),
-        err: Text(&[]),
-    },
-    Case {
-        files: &[(
-            "node.dpv",
-            Text(&["# cuts\n\n\tadj p0,14   # a header\ntx p0,r0,d\nexit\nd: free p0\nexit\n"]),
-        )],
-        asked: Alone(false),
-        status: 1,
-        out: Text(&[
-            "port 0 not inferred at 0 by J6\nnode.dpv:3: adj p0,14   # a header\n  \
+            help:   free p0 before it, or take another register\n"
+    ),
+    alone!(
+        "# cuts\n\n\tadj p0,14   # a header\ntx p0,r0,d\nexit\nd: free p0\nexit\n",
+        1,
+        "port 0 not inferred at 0 by J6\nnode.dpv:3: adj p0,14   # a header\n  \
             J6: the packet has the bytes or the room that the instruction needs\n  \
             known:  p0 first 0\n  wanted: p0 first 14\n  \
-            help:   iflen p0,14,L before it\n",
-        ]),
-        err: Text(&[]),
-    },
-    Case {
-        files: &[(
-            "node.dpv",
-            Text(&[
-                "iflen p0,14,out\nclone p1,p0,0,out\nstore p0,0,8,r0\nfree p1\nout: free p0\nexit\n",
-            ]),
-        )],
-        asked: Alone(false),
-        status: 1,
-        out: Text(&[
-            "port 0 not inferred at 2 by J7\nnode.dpv:3: store p0,0,8,r0\n  \
+            help:   iflen p0,14,L before it\n"
+    ),
+    alone!(
+        "iflen p0,14,out\nclone p1,p0,0,out\nstore p0,0,8,r0\nfree p1\nout: free p0\nexit\n",
+        1,
+        "port 0 not inferred at 2 by J7\nnode.dpv:3: store p0,0,8,r0\n  \
             J7: what it writes is not shared\n  \
             known:  p0 in group p0, headroom 128, first 14, at most 1 segment\n  wanted: p0 sole or head sole\n  \
-            help:   free its clones before it, or write before clone\n",
-        ]),
-        err: Text(&[]),
-    },
-    Case {
-        files: &[(
-            "node.dpv",
-            Text(&["iflen p0,14,out\nload r1,p0,5,1\ntx p0,r1,out\nexit\nout: free p0\nexit\n"]),
-        )],
-        asked: Alone(false),
-        status: 1,
-        out: Text(&[
-            "port 0 not inferred at 2 by J9\nnode.dpv:3: tx p0,r1,out\n  \
+            help:   free its clones before it, or write before clone\n"
+    ),
+    alone!(
+        "iflen p0,14,out\nload r1,p0,5,1\ntx p0,r1,out\nexit\nout: free p0\nexit\n",
+        1,
+        "port 0 not inferred at 2 by J9\nnode.dpv:3: tx p0,r1,out\n  \
             J9: the port exists, and the packet satisfies what the ring declares\n  \
             known:  r1 <= 255\n  wanted: r1 below 1, the number of ports\n  \
-            help:   jlt r1,1,L before it, and at L the tx\n",
-        ]),
-        err: Text(&[]),
-    },
-    Case {
-        files: &[(
-            "node.dpv",
-            Text(&[
-                "iflen p0,14,short\nadj p0,14\ntx p0,r0,out\nexit\nout: free p0\nexit\nshort:  exit\n",
-            ]),
-        )],
-        asked: Alone(false),
-        status: 1,
-        out: Text(&[
-            "port 0 not inferred at 6 by J10\nnode.dpv:7: short:  exit\n  \
+            help:   jlt r1,1,L before it, and at L the tx\n"
+    ),
+    alone!(
+        "iflen p0,14,short\nadj p0,14\ntx p0,r0,out\nexit\nout: free p0\nexit\nshort:  exit\n",
+        1,
+        "port 0 not inferred at 6 by J10\nnode.dpv:7: short:  exit\n  \
             J10: at exit no register holds a packet\n  \
             known:  p0 sole, headroom 128, at most 1 segment\n  wanted: p0 empty\n  \
-            help:   free p0 before it\n",
-        ]),
-        err: Text(&[]),
-    },
-    Case {
-        files: &[("node.dpv", Text(&["exit\nadj p0,65536\n"]))],
-        asked: Alone(false),
-        status: 3,
-        out: Text(&[]),
-        err: Text(&[
-            "fault: pipeline 6 Asm port 0 line 2 cause 5\n  because: line 2: an operand is not a number, or is out of its range\n  \
-             at: node.dpv:2: adj p0,65536\n  help: '65536' has to be a number from 0 to 65535\n",
-        ]),
-    },
+            help:   free p0 before it\n"
+    ),
+    alone!(
+        "exit\nadj p0,65536\n",
+        3,
+        "",
+        "fault: pipeline 6 Asm port 0 line 2 cause 5\n  because: line 2: an operand is not a number, or is out of its range\n  \
+             at: node.dpv:2: adj p0,65536\n  help: '65536' has to be a number from 0 to 65535\n"
+    ),
     // Pipelines: all nodes, one of them, and one that is not there.
-    Case {
-        files: PROGRAMS,
-        asked: Explain(REFUSED, None),
-        status: 1,
-        out: Text(&[OF_PORT_0, OF_PORT_1, OF_PORT_2, OF_RING_0]),
-        err: Text(&[]),
-    },
-    Case {
-        files: PROGRAMS,
-        asked: Explain(REFUSED, Some(Entry::Port(0))),
-        status: 1,
-        out: Text(&[OF_PORT_0]),
-        err: Text(&[]),
-    },
-    Case {
-        files: PROGRAMS,
-        asked: Explain(REFUSED, Some(Entry::Ring(0))),
-        status: 0,
-        out: Text(&[OF_RING_0]),
-        err: Text(&[]),
-    },
-    Case {
-        files: PROGRAMS,
-        asked: Explain(REFUSED, Some(Entry::Port(3))),
-        status: 2,
-        out: Text(&[]),
-        err: Text(&["error: the pipeline has no port 3\n"]),
-    },
+    asked!(
+        Explain(REFUSED, None),
+        1,
+        Text(&[OF_PORT_0, OF_PORT_1, OF_PORT_2, OF_RING_0])
+    ),
+    asked!(
+        Explain(REFUSED, Some(Entry::Port(0))),
+        1,
+        Text(&[OF_PORT_0])
+    ),
+    asked!(
+        Explain(REFUSED, Some(Entry::Ring(0))),
+        0,
+        Text(&[OF_RING_0])
+    ),
+    asked!(
+        Explain(REFUSED, Some(Entry::Port(3))),
+        2,
+        Text(&[]),
+        Text(&["error: the pipeline has no port 3\n"])
+    ),
 ];
 
 static CERTIFIED: &[Case] = &[
     // A pipeline is checked, and its certificates are inferred.
-    Case {
-        files: PROGRAMS,
-        asked: Check(ACCEPTED, false),
-        status: 0,
-        out: Text(&["port 0 accepted\n"]),
-        err: Text(&[]),
-    },
-    Case {
-        files: PROGRAMS,
-        asked: Check(ACCEPTED, true),
-        status: 0,
-        out: Text(&[
-            "{\"fault\":null,\"nodes\":[{\"node\":\"port 0\",\"verdict\":\"accepted\"}]}\n",
-        ]),
-        err: Text(&[]),
-    },
-    Case {
-        files: PROGRAMS,
-        asked: Infer(ACCEPTED, Entry::Port(0)),
-        status: 0,
-        out: Rows(STRIP_ROWS),
-        err: Text(&[]),
-    },
-    Case {
-        files: PROGRAMS,
-        asked: Infer(ACCEPTED, Entry::Ring(0)),
-        status: 2,
-        out: Text(&[]),
-        err: Text(&["error: the pipeline has no ring 0\n"]),
-    },
+    asked!(Check(ACCEPTED, false), 0, Text(&["port 0 accepted\n"])),
+    asked!(
+        Check(ACCEPTED, true),
+        0,
+        Text(&["{\"fault\":null,\"nodes\":[{\"node\":\"port 0\",\"verdict\":\"accepted\"}]}\n"])
+    ),
+    asked!(Infer(ACCEPTED, Entry::Port(0)), 0, Rows(STRIP_ROWS)),
+    asked!(
+        Infer(ACCEPTED, Entry::Ring(0)),
+        2,
+        Text(&[]),
+        Text(&["error: the pipeline has no ring 0\n"])
+    ),
     // A program by itself has a certificate, or none.
-    Case {
-        files: PROGRAMS,
-        asked: InferAlone("strip.dpv"),
-        status: 0,
-        out: Rows(STRIP_ROWS),
-        err: Text(&[]),
-    },
-    Case {
-        files: PROGRAMS,
-        asked: InferAlone("free.dpv"),
-        status: 1,
-        out: Text(&["port 0 not inferred at 0 by J3\n"]),
-        err: Text(&[
+    asked!(InferAlone("strip.dpv"), 0, Rows(STRIP_ROWS)),
+    asked!(
+        InferAlone("free.dpv"),
+        1,
+        Text(&["port 0 not inferred at 0 by J3\n"]),
+        Text(&[
             "  at: free.dpv:1: free p0\n",
             "  J3: the pool, the table, the ring and each label exist\n",
             "  known:  the number of instructions is 1\n",
             "  wanted: an instruction with the number 1, from 0\n",
             "  help:   end the program with exit or jmp\n",
-        ]),
-    },
+        ])
+    ),
 ];
 
 fn explained_alone(alloc: Global, sources: &Sources, has_cert: bool) -> Reply {

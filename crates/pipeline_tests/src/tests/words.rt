@@ -6,48 +6,31 @@ use dp_captures::{
 };
 use std::alloc::{AllocError, Global};
 
-/// Words of both forms, each with the port, the place and the name that it gives, or nothing.
-static WORDS: &[(WordForm, &str, Option<(u8, Place, &str)>)] = &[
-    (Named, "0=in.pcap", Some((0, Place::File, "in.pcap"))),
-    (Named, "7=a=b", Some((7, Place::File, "a=b"))),
-    (Named, "3==", Some((3, Place::File, "="))),
-    (Named, "1=-", Some((1, Place::Stream, "-"))),
-    (Named, "1=--", Some((1, Place::File, "--"))),
-    (Named, "2= -", Some((2, Place::File, " -"))),
-    (Named, "4=/dev/null", Some((4, Place::File, "/dev/null"))),
-    (Named, "5=\u{e9}", Some((5, Place::File, "\u{e9}"))),
-    (Named, "", None),
-    (Named, "0", None),
-    (Named, "=", None),
-    (Named, "0=", None),
-    (Named, "=a", None),
-    (Named, "8=a", None),
-    (Named, "9=a", None),
-    (Named, "00=a", None),
-    (Named, "10=a", None),
-    (Named, "x=a", None),
-    (Named, "-1=a", None),
-    (Named, " 0=a", None),
-    (Named, "0 =a", None),
-    (Named, "/=a", None),
-    (Named, ":=a", None),
-    (Named, "0:a", None),
-    (Named, "\u{660}=a", None),
-    (Bare, "0", Some((0, Place::Nowhere, ""))),
-    (Bare, "3", Some((3, Place::Nowhere, ""))),
-    (Bare, "7", Some((7, Place::Nowhere, ""))),
-    (Bare, "", None),
-    (Bare, "8", None),
-    (Bare, "9", None),
-    (Bare, "00", None),
-    (Bare, "10", None),
-    (Bare, "x", None),
-    (Bare, "0=", None),
-    (Bare, "0=a", None),
-    (Bare, " 0", None),
-    (Bare, "/", None),
-    (Bare, ":", None),
+/// Words of both forms, each with the port, the place and the name that it gives.
+static GIVING: &[(WordForm, &str, (u8, Place, &str))] = &[
+    (Named, "0=in.pcap", (0, Place::File, "in.pcap")),
+    (Named, "7=a=b", (7, Place::File, "a=b")),
+    (Named, "3==", (3, Place::File, "=")),
+    (Named, "1=-", (1, Place::Stream, "-")),
+    (Named, "1=--", (1, Place::File, "--")),
+    (Named, "2= -", (2, Place::File, " -")),
+    (Named, "4=/dev/null", (4, Place::File, "/dev/null")),
+    (Named, "5=\u{e9}", (5, Place::File, "\u{e9}")),
+    (Bare, "0", (0, Place::Nowhere, "")),
+    (Bare, "3", (3, Place::Nowhere, "")),
+    (Bare, "7", (7, Place::Nowhere, "")),
 ];
+
+/// A digit that is none of ASCII.
+const DIGIT: &str = "\u{660}=a";
+
+/// Words that give nothing.
+static NOT_NAMED: &[&str] = &[
+    "", "0", "=", "0=", "=a", "8=a", "9=a", "00=a", "10=a", "x=a", "-1=a", " 0=a", "0 =a", "/=a",
+    ":=a", "0:a", DIGIT,
+];
+
+static NOT_BARE: &[&str] = &["", "8", "9", "00", "10", "x", "0=", "0=a", " 0", "/", ":"];
 
 /// Words PORT=NAME, words PORT, and the ports that get an output, or the problem of the first word at fault.
 static GIVEN: &[(&[&str], &[&str], &str)] = &[
@@ -89,18 +72,21 @@ fn given_by(form: WordForm, word: &str) -> Option<Replaced<'_>> {
     }
 }
 
-// Whether a word gives that.
-fn gives(form: WordForm, word: &str, want: Option<(u8, Place, &str)>) -> bool {
-    match given_by(form, word) {
-        Some(one) => one.word == word && Some((one.port, one.place, one.name)) == want,
-        None => want == None,
+// The first word, from 0, that gives something else.
+fn first_giving() -> Option<usize> {
+    for (k, (form, word, want)) in GIVING.iter().enumerate() {
+        match given_by(*form, word) {
+            Some(one) if one.word == *word && (one.port, one.place, one.name) == *want => {}
+            _ => return Some(k),
+        }
     }
+    None
 }
 
-// The first word that gives something else, from 0.
-fn first_wrong() -> Option<usize> {
-    for (k, (form, word, want)) in WORDS.iter().enumerate() {
-        if !gives(*form, word, *want) {
+// The first word, from 0, that gives something.
+fn first_given(form: WordForm, words: &[&'static str]) -> Option<usize> {
+    for (k, word) in words.iter().enumerate() {
+        if given_by(form, word).is_some() {
             return Some(k);
         }
     }
@@ -126,7 +112,7 @@ fn ports_of(alloc: Global, named: &[&str], bare: &[&str]) -> Result<String, Allo
 }
 
 // The first words, from 0, that give outputs to other ports.
-fn first_given(alloc: Global) -> Result<Option<usize>, AllocError> {
+fn first_ports(alloc: Global) -> Result<Option<usize>, AllocError> {
     for (k, (named, bare, want)) in GIVEN.iter().enumerate() {
         if ports_of(alloc, named, bare)?.as_str() != *want {
             return Ok(Some(k));
@@ -137,11 +123,12 @@ fn first_given(alloc: Global) -> Result<Option<usize>, AllocError> {
 
 #[test]
 fn words(rt: HostRuntime) {
-    assert_eq!(&rt; first_wrong(), None);
+    let none = (first_given(Named, NOT_NAMED), first_given(Bare, NOT_BARE));
+    assert_eq!(&rt; (first_giving(), none), (None, (None, None)));
 }
 
 #[test]
 fn given(rt: HostRuntime) -> Result<(), AllocError> {
-    assert_eq!(&rt; first_given(rt.alloc())?, None);
+    assert_eq!(&rt; first_ports(rt.alloc())?, None);
     Ok(())
 }
