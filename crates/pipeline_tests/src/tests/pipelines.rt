@@ -6,6 +6,7 @@ use Answer::{Fails, Has};
 use Check::{Captures, Env, Hop, Node, Parts, Region, Ring, Routes};
 use Content::{Repeated, Rows, Text};
 use dp_load::{How, PipeError, Pipeline, load};
+use dp_lpm::Lpm;
 use dp_model::{Entry, Fact};
 use dp_sources::{Lent, Sources};
 use std::alloc::{AllocError, Global};
@@ -315,5 +316,45 @@ fn first_wrong(alloc: Global, sources: &Sources) -> Result<Option<usize>, AllocE
 fn loaded(rt: HostRuntime) -> Result<(), AllocError> {
     let sources = sources_of(rt.alloc(), FILES)?;
     assert_eq!(&rt; first_wrong(rt.alloc(), &sources)?, None);
+    Ok(())
+}
+
+// Whether tables have the same routes, as far as two addresses show.
+fn are_tables(tables: &[Lpm], others: &[Lpm]) -> bool {
+    for (one, other) in tables.iter().zip(others) {
+        if one.len() != other.len()
+            || one.lookup(0x0a01_02c8) != other.lookup(0x0a01_02c8)
+            || one.lookup(0x0a01_0264) != other.lookup(0x0a01_0264)
+        {
+            return false;
+        }
+    }
+    tables.len() == others.len()
+}
+
+// Whether a pipeline splits into the parts that another has, loaded from the same files.
+fn splits(pipeline: Pipeline, other: &Pipeline) -> bool {
+    let (env, tables, nodes) = pipeline.into_parts();
+    for (k, node) in nodes.iter().enumerate() {
+        if !has_node(other, k, node.program().instrs().len(), node.entry()) {
+            return false;
+        }
+    }
+    env == *other.env()
+        && nodes.len() == other.nodes()
+        && are_tables(tables.as_slice(), other.tables())
+}
+
+fn is_split(alloc: Global, sources: &Sources) -> Result<bool, PipeError> {
+    let text = EVERY_PART.as_bytes();
+    let pipeline = load(alloc, text, &mut Lent(sources), How::Inferred)?;
+    let other = load(alloc, text, &mut Lent(sources), How::Inferred)?;
+    Ok(splits(pipeline, &other))
+}
+
+#[test]
+fn split(rt: HostRuntime) -> Result<(), AllocError> {
+    let sources = sources_of(rt.alloc(), FILES)?;
+    assert!(&rt; is_split(rt.alloc(), &sources) == Ok(true));
     Ok(())
 }
