@@ -1,11 +1,11 @@
 //! The console, which alone writes what commands say.
 
-ghost use Rattle.std.specs.Prelude.{◌≡◌, ◌⊎◌, IfSome, true};
+ghost use Rattle.std.specs.Prelude.{◌≡◌, ◌⊎◌, false, true};
 ghost use Rattle.std.specs.Fmt.{with_newline};
 ghost use Rattle.std.specs.Io.KnownBytes.{Appends};
 ghost use Rattle.dp_console.specs.Replies.{EndsWith, Prints};
 
-use crate::reply::{FAULT, MEMORY, Reply, Text};
+use crate::reply::{FAULT, MEMORY, Reply};
 use std::fmt::Display;
 use std::io::Write;
 
@@ -21,11 +21,13 @@ pub struct Console<O, E> {
     pub has_failed: bool,
 }
 
-/// Writes a text, and returns whether it was written.
-fn write_text<W: Write>(to: &mut W, text: &Text) -> bool
-    ensures { result ≡ true → Appends (W.contents to.old) (W.contents to.new) text.now.bytes.items }
+/// Writes a line, and returns whether it was written. A write that failed is remembered.
+fn write_line<W: Write, T: Display + Drop>(to: &mut W, has_failed: &mut bool, text: T) -> bool
+    ensures { Prints result has_failed.old has_failed.new (W.contents to.old) (W.contents to.new) (with_newline (T.output text)) }
 {
-    to.write_all(text.bytes.as_slice()).is_ok()
+    let written = writeln!(to, "{text}").is_ok();
+    *has_failed |= !written;
+    written
 }
 
 impl<O: Write, E: Write> Console<O, E> {
@@ -47,11 +49,7 @@ impl<O: Write, E: Write> Console<O, E> {
             (with_newline (T.output text)) }
         ensures err { self.new.err ≡ self.old.err }
     {
-        let written = writeln!(self.out, "{text}").is_ok();
-        if !written {
-            self.has_failed = true;
-        }
-        written
+        write_line(&mut self.out, &mut self.has_failed, text)
     }
 
     /// Prints a line on standard error. Returns whether it was written.
@@ -60,25 +58,19 @@ impl<O: Write, E: Write> Console<O, E> {
             (with_newline (T.output text)) }
         ensures out { self.new.out ≡ self.old.out }
     {
-        let written = writeln!(self.err, "{text}").is_ok();
-        if !written {
-            self.has_failed = true;
-        }
-        written
+        write_line(&mut self.err, &mut self.has_failed, text)
     }
 
-    /// Reports that memory was refused, and returns the status.
-    fn end_without_memory(&mut self, is_json: bool) -> u8
-        ensures { ((result ≡ FAULT) × (self.new.has_failed ≡ true)) ⊎ (result ≡ MEMORY) }
+    /// Writes both texts, and returns this status; or 3 if a text could not be written, now or before.
+    fn write(&mut self, out: &[u8], err: &[u8], status: u8) -> u8
+        ensures { ((result ≡ status) × (self.old.has_failed ≡ false) × (self.new.has_failed ≡ false)
+            × Appends (O.contents self.old.out) (O.contents self.new.out) out.now × Appends (E.contents self.old.err) (E.contents self.new.err) err.now)
+            ⊎ ((result ≡ FAULT) × (self.new.has_failed ≡ true)) }
     {
-        let document = if is_json { NO_MEMORY } else { "" };
-        let printed = self.out.write_all(document.as_bytes()).is_ok();
-        let reported = self.err.write_all(b"fault: memory\n").is_ok();
-        if printed && reported && !self.has_failed {
-            return MEMORY;
-        }
-        self.has_failed = true;
-        FAULT
+        let printed = self.out.write_all(out).is_ok();
+        let reported = self.err.write_all(err).is_ok();
+        self.has_failed |= !(printed && reported);
+        if self.has_failed { FAULT } else { status }
     }
 
     /// Prints a reply, and returns the exit status: the reply's; 4 if memory was refused for it, which is reported; or 3 if a text could not be
@@ -88,14 +80,10 @@ impl<O: Write, E: Write> Console<O, E> {
             (E.contents self.old.err) (E.contents self.new.err) result }
     {
         if !reply.is_whole() {
-            return self.end_without_memory(reply.is_json);
+            let document = if reply.is_json { NO_MEMORY } else { "" };
+            return self.write(document.as_bytes(), b"fault: memory\n", MEMORY);
         }
-        let printed = write_text(&mut self.out, &reply.out);
-        let reported = write_text(&mut self.err, &reply.err);
-        if printed && reported && !self.has_failed {
-            return reply.status;
-        }
-        self.has_failed = true;
-        FAULT
+        let (out, err) = (reply.out.bytes.as_slice(), reply.err.bytes.as_slice());
+        self.write(out, err, reply.status)
     }
 }

@@ -37,74 +37,65 @@ impl Document {
         }
     }
 
-    /// Begins a value: what stands before it.
-    fn begin(&mut self, name: &str) {
+    /// Begins a value: what stands before it, and its bracket, if it has one.
+    fn begin(&mut self, name: &str, bracket: &str) {
         let comma = if self.has_more { "," } else { "" };
-        self.has_more = true;
+        self.has_more = bracket.is_empty();
         if name.is_empty() {
-            self.text.say(comma);
+            self.text.say(format_args!("{comma}{bracket}"));
         } else {
-            self.text.say(format_args!("{comma}\"{name}\":"));
+            self.text.say(format_args!("{comma}\"{name}\":{bracket}"));
         }
+    }
+
+    /// Ends a value.
+    fn end(&mut self, bracket: &str) {
+        self.text.say(bracket);
+        self.has_more = true;
     }
 
     /// Begins an object.
     pub fn begin_object(&mut self, name: &str) {
-        self.begin(name);
-        self.text.add(b"{");
-        self.has_more = false;
+        self.begin(name, "{");
     }
 
     /// Ends an object.
     pub fn end_object(&mut self) {
-        self.text.add(b"}");
-        self.has_more = true;
+        self.end("}");
     }
 
     /// Begins a list.
     pub fn begin_list(&mut self, name: &str) {
-        self.begin(name);
-        self.text.add(b"[");
-        self.has_more = false;
+        self.begin(name, "[");
     }
 
     /// Ends a list.
     pub fn end_list(&mut self) {
-        self.text.add(b"]");
-        self.has_more = true;
-    }
-
-    /// Adds a string.
-    fn quote(&mut self, text: &str) {
-        match serde_json::to_string(self.alloc, &text) {
-            Ok(quoted) => self.text.say(quoted.as_str()),
-            Err(_) => self.text.has_failed = true,
-        }
+        self.end("]");
     }
 
     /// Adds a value.
     pub fn item(&mut self, name: &str, item: Item<'_>) {
-        self.begin(name);
+        self.begin(name, "");
+        let out = &mut self.text;
         match item {
-            Item::Null => self.text.say("null"),
-            Item::Bool(value) => self.text.say(value),
-            Item::Number(number) if number > MAX_NUMBER => self
-                .text
-                .say(format_args!("\"{number}\"")),
-            Item::Number(number) => self.text.say(number),
-            Item::Text(text) => self.quote(text),
+            Item::Null => out.say("null"),
+            Item::Bool(value) => out.say(value),
+            Item::Number(number) if number > MAX_NUMBER => out.say(format_args!("\"{number}\"")),
+            Item::Number(number) => out.say(number),
+            Item::Text(text) => match serde_json::to_string(self.alloc, &text) {
+                Ok(quoted) => out.say(quoted.as_str()),
+                Err(_) => out.has_failed = true,
+            },
         }
     }
 
     /// Adds a string: what is displayed, which has UTF-8 alone.
     pub fn shown<T: Display + Drop>(&mut self, name: &str, value: T) {
-        let mut shown = Text::new(self.alloc);
-        shown.say(value);
-        self.text.has_failed |= shown.has_failed;
-        self.item(
-            name,
-            Item::Text(str::from_utf8(shown.bytes.as_slice()).unwrap_or("")),
-        );
+        match format!(in self.alloc; "{value}") {
+            Ok(shown) => self.item(name, Item::Text(shown.as_str())),
+            Err(_) => self.text.has_failed = true,
+        }
     }
 
     /// Adds values.

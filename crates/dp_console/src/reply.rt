@@ -45,18 +45,14 @@ impl Text {
     pub fn say<T: Display + Drop>(&mut self, text: T)
         ensures { Says self.old self.new (T.output text) }
     {
-        if write!(self.bytes, "{text}").is_err() {
-            self.has_failed = true;
-        }
+        self.has_failed |= write!(self.bytes, "{text}").is_err();
     }
 
     /// Adds bytes. Returns whether the text is still whole.
     pub fn add(&mut self, bytes: &[u8]) -> bool
         ensures { IsTrue result → Says self.old self.new (Some bytes.now) }
     {
-        if self.bytes.extend_from_slice(bytes).is_err() {
-            self.has_failed = true;
-        }
+        self.has_failed |= self.bytes.extend_from_slice(bytes).is_err();
         !self.has_failed
     }
 }
