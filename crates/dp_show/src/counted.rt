@@ -48,12 +48,8 @@ pub fn counts_in(alloc: Global, source: &Source, node: Entry) -> Result<Vec<Read
         Ok(steps) => return Ok(steps),
         Err(CountsError::Memory) => err.has_failed = true,
         Err(CountsError::NoNode) => {
-            say_fault(
-                err,
-                file,
-                format_args!("it has no counts of {name}"),
-                NO_COUNTS,
-            );
+            let because = format_args!("it has no counts of {name}");
+            say_fault(err, file, because, NO_COUNTS);
         }
         Err(error) => say_fault(err, file, error, NO_COUNTS),
     }

@@ -1,11 +1,10 @@
 //! The bytes of each zone that an engine takes.
 
-ghost use Rattle.std.specs.Prelude.{◌≡◌, ◌+◌, ◌^◌, ◌≤◌, true, length, map};
+ghost use Rattle.std.specs.Prelude.{◌≡◌, ◌^◌, ◌≤◌, true, length, map};
 ghost use Rattle.std.specs.List.{AllByRecursion};
-ghost use Rattle.dp_model.specs.Limits.{max_buffers, max_room, max_ring};
+ghost use Rattle.dp_model.specs.Limits.{max_buffers, max_room};
 ghost use Rattle.dp_model.specs.Environments.{pool_fits};
-ghost use Rattle.dp_ring.specs.Rings.{IsCount};
-ghost use Rattle.dp_engine.specs.Needs.{power_above, zone_bytes, objects_len, queue_len, ring_bytes, ring_counts, list_counts, bytes_needed};
+ghost use Rattle.dp_engine.specs.Needs.{zone_bytes, ring_bytes, bytes_needed};
 ghost use Rattle.dp_show.specs.Sizes as spec;
 
 use arrayvec::ArrayVec;
@@ -15,7 +14,7 @@ use dp_model::{Env, PoolSpec, PortSpec, RingSpec};
 use dp_region::CACHE_LINE;
 
 /// The bytes that a pool takes: those of the zone of its buffers, and those of the zone of its queue.
-#[derive(Clone, Copy, Debug, Default, PartialEq, Eq)]
+#[derive(Clone, Copy, Default)]
 pub struct PoolSize {
     pub buffers: u64,
     pub queue: u64,
@@ -37,42 +36,17 @@ fn zone_bytes(len: u64) -> u64
     u64::from(HEADER_LEN) + len.next_multiple_of(u64::from(CACHE_LINE))
 }
 
-/// The smallest power of two above `count`.
-#[tactic(auto, using(dp_engine::proofs::Powers::power_is))]
-fn power_above(count: u32) -> u64
-    requires { count ≤ max_buffers }
-    ensures value { result ≡ power_above count }
-    ensures bound { result ≤ 131072 }
-{
-    (u64::from(count) + 1).next_power_of_two()
-}
-
-/// The length of the zone of a pool's buffers.
-fn objects_len(pool: PoolSpec) -> u64
-    requires { (pool.count ≤ max_buffers) × (pool.room ≤ max_room) }
-    ensures value { result ≡ objects_len pool }
-    ensures bound { result ≤ 277000000 }
-{
-    let size = (pool.room + HEADER_SIZE).next_multiple_of(CACHE_LINE);
-    u64::from(pool.count) * u64::from(size)
-}
-
 /// The bytes that a pool takes.
+#[tactic(auto, using(dp_engine::proofs::Powers::power_is))]
 fn pool_size(pool: PoolSpec) -> PoolSize
     requires { (pool.count ≤ max_buffers) × (pool.room ≤ max_room) }
     ensures { result ≡ spec.pool_size pool }
 {
+    let object = (pool.room + HEADER_SIZE).next_multiple_of(CACHE_LINE);
     PoolSize {
-        buffers: zone_bytes(objects_len(pool)),
-        queue: zone_bytes(4 * power_above(pool.count)),
+        buffers: zone_bytes(u64::from(pool.count) * u64::from(object)),
+        queue: zone_bytes(4 * (u64::from(pool.count) + 1).next_power_of_two()),
     }
-}
-
-/// The bytes that a ring with this number of slots takes.
-fn ring_size(count: u32) -> u64
-    ensures { result ≡ ring_bytes count }
-{
-    zone_bytes(4 * u64::from(count))
 }
 
 /// The bytes that pools take.
@@ -95,7 +69,7 @@ fn ring_sizes(rings: &[RingSpec]) -> ArrayVec<u64, 8>
 {
     let mut sizes = ArrayVec::new();
     for ring in rings.iter() {
-        sizes.push(ring_size(ring.count));
+        sizes.push(zone_bytes(4 * u64::from(ring.count)));
     }
     sizes
 }
@@ -107,7 +81,7 @@ fn list_sizes(ports: &[PortSpec]) -> ArrayVec<u64, 8>
 {
     let mut sizes = ArrayVec::new();
     for port in ports.iter() {
-        sizes.push(ring_size(port.queue));
+        sizes.push(zone_bytes(4 * u64::from(port.queue)));
     }
     sizes
 }
