@@ -2,7 +2,7 @@
 use Rattle.std.specs.Prelude.{ℕ, ◌-◌, List, [], ◌∷◌, ◌++◌, Bool, true, false, ◌==◌, ◌&&◌, ◌||◌, Option, Some, None, codes, find, length}
 use Rattle.std.specs.Prelude.{nat_le, nat_lt, option_map, option_and_then, if◌then◌else◌}
 use Rattle.std.specs.List.{after_first, before_first, position_or_len}
-use Rattle.std.specs.Option.{option_map_or}
+use Rattle.std.specs.Option.{option_map_or, option_or}
 use Rattle.std.specs.Str.{bytes_eq}
 use Rattle.dp_captures.specs.declared.words.WordForm.{WordForm}
 use Rattle.dp_captures.specs.declared.words.WordForm.TheVariants.{Named, Bare}
@@ -25,14 +25,15 @@ abbrev pub port_digit : List ℕ → Option ℕ
 port_digit (digit ∷ []) = if nat_le 48 digit && nat_le digit 55 then Some (digit - 48) else None
 port_digit _ = None
 
--- where a capture is: `-` names a standard stream, anything else a file
-abbrev pub place_named : List ℕ → Place
-place_named name = if bytes_eq name (codes "-") then Stream else File
+-- the capture of this name that a word gives a port: `-` names a standard stream, anything else a file
+abbrev pub capture_named : List ℕ → ℕ → List ℕ → Row
+capture_named word port name =
+    record { word = word; port = port; place = if bytes_eq name (codes "-") then Stream else File; name = name }
 
--- the capture of a port that is given with its name; none if there is no name
+-- the same, and none if there is no name
 abbrev pub row_named : List ℕ → List ℕ → ℕ → Option Row
 row_named word [] port = None
-row_named word (byte ∷ bytes) port = Some (record { word = word; port = port; place = place_named (byte ∷ bytes); name = byte ∷ bytes })
+row_named word (byte ∷ bytes) port = Some (capture_named word port (byte ∷ bytes))
 
 abbrev pub is_equals : ℕ → Bool
 is_equals byte = byte == 61
@@ -82,7 +83,7 @@ rows_of named bare = option_and_then (λ rows. rows_from Bare rows bare) (rows_f
 
 -- what a word gives the only port of a pipeline
 abbrev pub only : List ℕ → Row
-only word = record { word = word; port = 0; place = place_named word; name = word }
+only word = capture_named word 0 word
 
 -- the capture of a port: the one that is given, or else the file of this name
 abbrev pub capture_at : List Replaced → ℕ → List ℕ → Place × List ℕ
@@ -92,9 +93,5 @@ capture_at given port name = option_map_or (λ (one : Replaced). (one.place, one
 abbrev pub missing_in : ℕ → List Replaced → Option ℕ
 missing_in ports given = option_map (λ (one : Replaced). one.port) (find (λ (one : Replaced). nat_le ports one.port) given)
 
-abbrev pub first_of : Option ℕ → Option ℕ → Option ℕ
-first_of None other = other
-first_of (Some port) other = Some port
-
 abbrev pub missing : ℕ → List Replaced → List Replaced → Option ℕ
-missing ports inputs outputs = first_of (missing_in ports inputs) (missing_in ports outputs)
+missing ports inputs outputs = option_or (missing_in ports inputs) (missing_in ports outputs)

@@ -16,23 +16,6 @@ pub struct CaptureNames {
     pub output_place: Place,
 }
 
-/// Makes the captures of a port from their places and names.
-fn captures_of(
-    alloc: Global,
-    input: (Place, &str),
-    output: (Place, &str),
-) -> Result<CaptureNames, AllocError>
-    ensures input { IfOk result (λ names. input_capture names ≡ (input.entry.0, input.entry.1.now)) }
-    ensures output { IfOk result (λ names. output_capture names ≡ (output.entry.0, output.entry.1.now)) }
-{
-    Ok(CaptureNames {
-        input: String::from_str(alloc, input.1)?,
-        output: String::from_str(alloc, output.1)?,
-        input_place: input.0,
-        output_place: output.0,
-    })
-}
-
 /// The captures of a pipeline, in port order: those that are given, and else the files that the pipeline names.
 ///
 /// # Errors
@@ -52,7 +35,12 @@ pub fn names_of(
     for port in 0..pipeline.env().ports().len() {
         let input = capture_at(given.inputs.as_slice(), port, pipeline.input(port));
         let output = capture_at(given.outputs.as_slice(), port, pipeline.output(port));
-        names.push(captures_of(alloc, input, output)?)?;
+        names.push(CaptureNames {
+            input: String::from_str(alloc, input.1)?,
+            output: String::from_str(alloc, output.1)?,
+            input_place: input.0,
+            output_place: output.0,
+        })?;
     }
     Ok(names)
 }

@@ -65,40 +65,33 @@ fn port_digit(word: &str) -> Option<u8>
     }
 }
 
-/// Where the capture of this name is: `-` names a standard stream, anything else a file.
-fn place_named(name: &str) -> Place
-    ensures { result ≡ spec.place_named name.now }
+/// The capture of this name that a word gives a port: `-` names a standard stream, anything else a file.
+fn capture_named<'a>(word: &'a str, port: u8, name: &'a str) -> Replaced<'a>
+    ensures { row_of result ≡ spec.capture_named word.now port name.now }
 {
-    if name == "-" {
+    let place = if name == "-" {
         Place::Stream
     } else {
         Place::File
+    };
+    Replaced {
+        word,
+        port,
+        place,
+        name,
     }
-}
-
-/// The parts of a word before and after its first `=`.
-fn parts_in(word: &str) -> Option<(&str, &str)>
-    ensures { option_map (λ parts. (parts.0.now, parts.1.now)) result ≡ spec.parts_in word.now }
-{
-    word.split_once('=')
 }
 
 /// Parses a word PORT=NAME: the capture that it gives a port.
 pub fn replaced_in(word: &str) -> Option<Replaced<'_>>
     ensures { option_map row_of result ≡ spec.replaced_in word.now }
 {
-    let (port, name) = parts_in(word)?;
+    let (port, name) = word.split_once('=')?;
     let port = port_digit(port)?;
     if name.is_empty() {
         return None;
     }
-    let place = place_named(name);
-    Some(Replaced {
-        word,
-        port,
-        place,
-        name,
-    })
+    Some(capture_named(word, port, name))
 }
 
 /// Parses a word PORT: the port that it gives no capture.
@@ -261,20 +254,6 @@ fn missing_in(given: &[Replaced<'_>], ports: usize) -> Option<u8>
     Some(one.port)
 }
 
-/// The capture that a word gives the only port of a pipeline, alone.
-fn only_in<'a>(alloc: Global, word: &'a str) -> Result<Vec<Replaced<'a>>, AllocError>
-    ensures { IfOk result (λ given. map row_of given.items ≡ spec.only word.now ∷ []) }
-{
-    let mut given = Vec::new(alloc);
-    given.push(Replaced {
-        word,
-        port: 0,
-        place: place_named(word),
-        name: word,
-    })?;
-    Ok(given)
-}
-
 /// The captures that words give the ports of a pipeline: those that are read, and those that are written.
 #[derive(Drop)]
 pub struct Replacements<'a> {
@@ -308,8 +287,8 @@ impl<'a> Replacements<'a> {
         ensures outputs { IfOk result (λ given. map row_of given.outputs.items ≡ spec.only output.now ∷ []) }
     {
         Ok(Replacements {
-            inputs: only_in(alloc, input)?,
-            outputs: only_in(alloc, output)?,
+            inputs: vec![in alloc; capture_named(input, 0, input)]?,
+            outputs: vec![in alloc; capture_named(output, 0, output)]?,
         })
     }
 
@@ -317,10 +296,8 @@ impl<'a> Replacements<'a> {
     pub fn missing(&self, ports: usize) -> Option<u8>
         ensures { result ≡ spec.missing ports self.now.inputs.items self.now.outputs.items }
     {
-        match missing_in(self.inputs.as_slice(), ports) {
-            Some(port) => Some(port),
-            None => missing_in(self.outputs.as_slice(), ports),
-        }
+        let missing = missing_in(self.inputs.as_slice(), ports);
+        missing.or(missing_in(self.outputs.as_slice(), ports))
     }
 
     /// Whether one of the outputs is standard output.

@@ -1,5 +1,5 @@
 -- The captures of one more port.
-use Rattle.std.proofs.Common.{◌∙◌, List, length, length-append, map, ap, arith}
+use Rattle.std.proofs.Common.{rules, ◌≡◌, ◌∙◌, List, length, length-append, map, ap, arith}
 use Rattle.dp_captures.specs.declared.names.CaptureNames.{CaptureNames}
 use Rattle.dp_captures.specs.declared.words.Replaced.{Replaced}
 use Rattle.dp_captures.specs.Names.{input_capture, output_capture}
@@ -14,14 +14,12 @@ loop-port-preserved c = record {
       ap (map input_capture) c.in_ok-push.ensures.items
       ∙ captures_more input_capture c.args.given.now.inputs.items c.args.pipeline.now.inputs c.loop-port.names.items c.loop-port.port _ _
       c.input.ensures
-      (c.in_ok-captures_of.ensures.input ∙ c.capture_at-input.ensures
-      ∙ ap (λ (given : List Replaced). capture_at given c.loop-port.port c.input.result.now) c.as_slice.ensures.value)
+      (search rules)
       c.loop-port.invariant.inputs;
   outputs =
       ap (map output_capture) c.in_ok-push.ensures.items
       ∙ captures_more output_capture c.args.given.now.outputs.items c.args.pipeline.now.outputs c.loop-port.names.items c.loop-port.port _ _
       c.output.ensures
-      (c.in_ok-captures_of.ensures.output ∙ c.capture_at-output.ensures
-      ∙ ap (λ (given : List Replaced). capture_at given c.loop-port.port c.output.result.now) c.as_slice-in-loop-port.ensures.value)
+      (search rules)
       c.loop-port.invariant.outputs;
 }
