@@ -4,7 +4,7 @@ ghost use Rattle.std.specs.Prelude.{◌≡◌};
 ghost use Rattle.dp_captures.specs.Opening.{IsOf};
 
 use crate::names::CaptureNames;
-use crate::watched::{Inlet, Seen};
+use crate::watched::Inlet;
 use dp_pcap::PcapError;
 use dp_pipe::RunCause;
 use std::fmt;
@@ -185,8 +185,8 @@ pub fn fault_at<'a>(name: &'a str, file: Option<&'a str>, reason: CaptureReason)
 }
 
 /// The reason for a fault of an input: the system's error if its reader failed, otherwise the fault of the capture.
-fn reason_of_input(cause: PcapError, seen: Option<Seen>) -> CaptureReason {
-    let Some(seen) = seen else {
+fn reason_of_input<I: Inlet>(cause: PcapError, input: Option<&I>) -> CaptureReason {
+    let Some(seen) = input.and_then(|input| input.seen()) else {
         return CaptureReason::Capture(cause);
     };
     match (cause, seen.failure, seen.link, seen.format) {
@@ -205,10 +205,10 @@ pub fn problem_of<'a, I: Inlet>(
     failure: Option<Error>,
 ) -> Option<CaptureProblem<'a>> {
     let (port, reason) = match (cause, failure) {
-        (RunCause::In(port, error), _) => match ins.get(usize::from(port)) {
-            Some(input) => (port, reason_of_input(error, input.seen())),
-            None => (port, CaptureReason::Capture(error)),
-        },
+        (RunCause::In(port, error), _) => (
+            port,
+            reason_of_input(error, ins.get(usize::from(port))),
+        ),
         (RunCause::Out(port), Some(error)) => (port, CaptureReason::System(error)),
         (RunCause::Out(port), None) => (port, CaptureReason::Capture(PcapError::Write)),
         (RunCause::Memory | RunCause::NoRoom, _) => return None,

@@ -27,11 +27,7 @@ impl FileId {
 
     /// The plain file with this metadata. A device or a pipe is none: it has nothing to lose.
     pub fn plain(metadata: &Metadata) -> Option<FileId> {
-        if metadata.is_file() {
-            Some(FileId::of(metadata))
-        } else {
-            None
-        }
+        metadata.is_file().then_some(FileId::of(metadata))
     }
 
     /// Whether two files or folders are the same.
@@ -42,11 +38,7 @@ impl FileId {
     }
 }
 
-/// The plain file that a name means, if there is one.
-///
-/// # Errors
-///
-/// `AllocError` if there is no memory for the name.
+/// The plain file that a name means, if there is one; or that there is no memory for the name.
 pub fn plain_file<R: Files>(rt: &R, name: &str) -> Result<Option<FileId>, AllocError> {
     match fs::metadata(rt, name) {
         Ok(metadata) => Ok(FileId::plain(&metadata)),

@@ -76,25 +76,6 @@ fn keep<'a>(
     Ok(())
 }
 
-/// Adds the files that a run reads besides its captures.
-fn keep_reads<'a>(kept: &mut Vec<Kept<'a>>, reads: &'a [ReadFile]) -> Result<(), AllocError>
-    requires { kept.old.items ≡ [] }
-    ensures { OnOk result (targets kept.new.items ≡ map read_target reads.now) }
-{
-    for read in reads {
-        let (target, name) = (target_of(read.id), read.name.as_str());
-        keep(kept, target, Some(name), CaptureReason::IsRead)?;
-    }
-    Ok(())
-}
-
-/// What an input is, as it is open.
-fn target_of_input<F: Read>(input: &InputOf<F>) -> Target<'static>
-    ensures { result ≡ input_target input.now }
-{
-    target_of(input.get_ref().get_ref().get_ref().id)
-}
-
 /// Adds the inputs of a run, as they are open.
 fn keep_inputs<'a, F: Read>(
     kept: &mut Vec<Kept<'a>>,
@@ -105,7 +86,7 @@ fn keep_inputs<'a, F: Read>(
     ensures { OnOk result (targets kept.new.items ≡ targets kept.old.items ++ map input_target inputs.now) }
 {
     for port in 0..inputs.len() {
-        let target = target_of_input(&inputs[port]);
+        let target = target_of(inputs[port].get_ref().get_ref().get_ref().id);
         let name = names[port].input.as_str();
         keep(kept, target, Some(name), CaptureReason::IsRead)?;
     }
@@ -134,7 +115,10 @@ pub fn files_of_run<'a, R: Files>(
     ensures { IfOk result (λ kept. spec.AreFilesOf reads.now inputs.now kept.items) }
 {
     let mut kept = Vec::new(alloc);
-    keep_reads(&mut kept, reads)?;
+    for read in reads {
+        let (target, name) = (target_of(read.id), read.name.as_str());
+        keep(&mut kept, target, Some(name), CaptureReason::IsRead)?;
+    }
     keep_inputs(&mut kept, names, inputs)?;
     let target = target_of(plain_file(rt, "/dev/stderr")?);
     keep(&mut kept, target, None, CaptureReason::IsStderr)?;
@@ -211,18 +195,9 @@ pub fn refuse_named<'a, R: Files>(
         let Ok(target) = target_named(rt, port) else {
             return Err(CaptureFault::Memory);
         };
-        if let Err(fault) = add_output(&mut kept, target, port) {
-            return Err(fault);
-        }
+        add_output(&mut kept, target, port)?;
     }
     Ok(())
-}
-
-/// What an output is, as it is open.
-fn target_of_output<F: Write + OpenFile + Drop>(output: &OutputOf<F>) -> Target<'static>
-    ensures { result ≡ output_target output.now }
-{
-    target_of(output.get_ref().get_ref().get_ref().id)
 }
 
 /// Refuses the first output that is one of these files as it is open, or an earlier output.
@@ -236,10 +211,8 @@ pub fn refuse_open<'a, F: Write + OpenFile + Drop>(
     ensures named { IfErr result (IsOutput names.now) }
 {
     for port in 0..outputs.len() {
-        let target = target_of_output(&outputs[port]);
-        if let Err(fault) = add_output(&mut kept, target, &names[port]) {
-            return Err(fault);
-        }
+        let target = target_of(outputs[port].get_ref().get_ref().get_ref().id);
+        add_output(&mut kept, target, &names[port])?;
     }
     Ok(())
 }

@@ -126,9 +126,7 @@ impl<R: Read> Watched<R> {
         if !self.is_begun {
             self.is_begun = true;
             self.seen.format = Format::of(bytes);
-            if let Some(field) = link_type(bytes) {
-                self.seen.link = Some(LinkType(field));
-            }
+            self.seen.link = link_type(bytes).map(|field| LinkType(field));
             self.progress.records = WholeRecords::of_capture(bytes);
         }
         self.progress.pass(bytes);

@@ -1,5 +1,5 @@
 -- One output more is apart.
-use Rattle.std.proofs.Common.{◌<◌, length, add-one, arith}
+use Rattle.std.proofs.Common.{rules, ◌≡◌, ◌<◌, Err, length, add-one, arith}
 use Rattle.dp_captures.specs.Guarding.{output_target}
 use Rattle.dp_captures.proofs.Guarding.{apart_more, none_left}
 use Rattle.dp_captures.proofs.Opened.{output_named}
@@ -9,12 +9,13 @@ pub loop-port-preserved : goal.loop-port-preserved
 loop-port-preserved g c rest =
     let within : c.loop-port.port < length c.args.outputs.now = omega (arith, c.loop-port-test.true) in
     c.loop-port.invariant (apart_more output_target c.loop-port.kept.items _ c.args.outputs.now c.loop-port.port c.index-outputs-port.result _ _ within
-    c.index-outputs-port.is c.target_of_output-target.ensures c.in_default.ensures.apart c.in_default.ensures.added (rw (add-one c.loop-port.port) at rest))
+    c.index-outputs-port.is (search rules) c.in_ok-add_output.ensures.apart c.in_ok-add_output.ensures.added (rw (add-one c.loop-port.port) at rest))
 
 pub returns-clause-apart : goal.returns-clause-apart
 returns-clause-apart g c = c.loop-port.invariant (none_left output_target _ c.args.outputs.now c.loop-port.port (omega (arith, c.loop-port-test.false)))
 
-pub returns-in-Err-clause-named : goal.returns-in-Err-clause-named
-returns-in-Err-clause-named g c =
+pub returns-in_err-add_output-clause-named : goal.returns-in_err-add_output-clause-named
+returns-in_err-add_output-clause-named g c =
+    let is : c.from_residual.result ≡ Err c.in_err-add_output.field-0.0 = search rules in
     let within : c.loop-port.port < length c.args.names.now = omega (arith, c.loop-port-test.true) in
-    output_named c.args.names.now c.loop-port.port c.index-names-port.result _ _ within c.index-names-port.is c.in-Err.ensures.named
+    rw is (output_named c.args.names.now c.loop-port.port c.index-names-port.result _ _ within c.index-names-port.is c.in_err-add_output.ensures.named)
