@@ -134,19 +134,6 @@ fn push_reported(places: &mut Vec<DropPlace<'_>>, report: &Report) -> Result<(),
     Ok(())
 }
 
-/// Adds the lines of a node's program at which packets ended.
-fn push_freed<'a>(
-    places: &mut Vec<DropPlace<'a>>,
-    node: Entry,
-    lines: &[LineCounts<'a>],
-) -> Result<(), AllocError> {
-    for line in lines {
-        let cause = DropCause::Freed(line.origin);
-        push_place(places, node, cause, line.dropped)?;
-    }
-    Ok(())
-}
-
 /// The places of a run of these programs where packets ended without being sent, the one with most packets first. Together they are all records that were
 /// dropped, all packets that a `free` freed, and all that were left in rings.
 ///
@@ -162,8 +149,10 @@ pub fn drop_places<'a>(
     let mut places = Vec::new(alloc);
     push_reported(&mut places, report)?;
     for source in sources {
-        let lines = lines_counted(alloc, counts, source)?;
-        push_freed(&mut places, source.node, lines.as_slice())?;
+        for line in lines_counted(alloc, counts, source)?.as_slice() {
+            let cause = DropCause::Freed(line.origin);
+            push_place(&mut places, source.node, cause, line.dropped)?;
+        }
     }
     places.sort_by_key(|place| u64::MAX - place.packets)?;
     Ok(places)
@@ -190,7 +179,7 @@ fn built_from<'a>(comment: &'a str, name: &'a str) -> Option<(&'a str, usize, &'
 /// The name of the file that a program was built from, if `dpv build` wrote it.
 fn built_name<'a>(source: &NodeSource<'a>) -> Option<&'a str> {
     let first = source.lines.as_slice().first()?;
-    let header = words_of(first.text, 1).comment()?;
+    let header = words_of(first.text).comment()?;
     let (name, _rest) = header
         .strip_prefix("Built from ")?
         .split_once(" by `dpv build`")?;
@@ -209,7 +198,7 @@ fn origin_of<'a>(
     (number, text): (usize, &'a [u8]),
     before: Option<Origin<'a>>,
 ) -> Origin<'a> {
-    let words = words_of(text, number);
+    let words = words_of(text);
     let comment = words.comment().unwrap_or(words.code());
     let (file, line, text, is_built) = match built_name(source) {
         None => (source.name, Some(number), words.text, false),
@@ -280,18 +269,6 @@ pub fn lines_counted<'a>(
     Ok(lines)
 }
 
-/// Adds to the count of a name of a node.
-fn add_named<'a>(all: &mut Vec<NamedCount<'a>>, more: NamedCount<'a>) -> Result<(), AllocError> {
-    for own in all.as_mut_slice() {
-        if own.node == more.node && own.name == more.name {
-            own.packets = own.packets.wrapping_add(more.packets);
-            return Ok(());
-        }
-    }
-    all.push(more)?;
-    Ok(())
-}
-
 /// The counts that have names, in the order of the programs and of the first instruction with each name. A name that stands several times in a program is
 /// one count.
 ///
@@ -303,21 +280,24 @@ pub fn named_counts<'a>(
     counts: &Counts,
     sources: &[NodeSource<'a>],
 ) -> Result<Vec<NamedCount<'a>>, AllocError> {
-    let mut all = Vec::new(alloc);
+    let mut all: Vec<NamedCount<'a>> = Vec::new(alloc);
     for source in sources {
         let node = source.node;
         for line in source.lines.as_slice() {
             if let Some(step) = line.step
-                && let Some(comment) = words_of(line.text, 0).comment()
+                && let Some(comment) = words_of(line.text).comment()
                 && let Some((name, _rest)) = counter_in(comment)
             {
                 let packets = counts.step(node, step.label).ran;
-                let more = NamedCount {
-                    node,
-                    name,
-                    packets,
-                };
-                add_named(&mut all, more)?;
+                let mut own = all.as_mut_slice().iter_mut();
+                match own.find(|own| own.node == node && own.name == name) {
+                    Some(own) => own.packets = own.packets.wrapping_add(packets),
+                    None => all.push(NamedCount {
+                        node,
+                        name,
+                        packets,
+                    })?,
+                }
             }
         }
     }

@@ -7,32 +7,26 @@ use crate::source::{NodeSource, Role, words_of};
 use dp_console::{Document, Item};
 use dp_model::{Entry, Env};
 
-/// The names of ports.
-const PORTS: [&str; 8] = [
-    "port 0", "port 1", "port 2", "port 3", "port 4", "port 5", "port 6", "port 7",
-];
-
-/// The names of rings.
-const RINGS: [&str; 8] = [
+/// The names of ports, and then those of rings.
+const NODES: [&str; 16] = [
+    "port 0", "port 1", "port 2", "port 3", "port 4", "port 5", "port 6", "port 7", //
     "ring 0", "ring 1", "ring 2", "ring 3", "ring 4", "ring 5", "ring 6", "ring 7",
 ];
 
 /// The name of a node.
 fn name_of(node: Entry) -> Item<'static> {
-    let name = match node {
-        Entry::Port(index) => PORTS.get(usize::from(index)),
-        Entry::Ring(index) => RINGS.get(usize::from(index)),
+    let place = match node {
+        Entry::Port(index) => usize::from(index),
+        Entry::Ring(index) => usize::from(index) + 8,
     };
-    Item::Text(name.unwrap_or(&""))
+    Item::Text(NODES.get(place).unwrap_or(&""))
 }
 
 /// The comment of a line of a program, or `null`, and its code.
 fn parts_of(line: &[u8]) -> (Item<'_>, Item<'_>) {
-    let words = words_of(line, 0);
-    match words.comment() {
-        Some(comment) => (Item::Text(comment), Item::Text(words.code())),
-        None => (Item::Null, Item::Text(words.code())),
-    }
+    let words = words_of(line);
+    let comment = words.comment().map_or(Item::Null, Item::Text);
+    (comment, Item::Text(words.code()))
 }
 
 /// The number of a line, or `null`.
@@ -99,29 +93,24 @@ impl CountsDocument<'_, '_> {
 
     /// Writes how few buffers of each pool were free.
     fn write_pools(self, to: &mut Document) {
-        let levels = self.counts.levels();
-        for (k, pool) in self.env.pools().iter().enumerate() {
-            if let Some(free) = levels.free.get(k) {
-                let (count, least) = (u64::from(pool.count), u64::from((*free).min(pool.count)));
-                write_numbers(
-                    to,
-                    &[("count", count), ("least", least), ("pool", k as u64)],
-                );
-            }
+        let free = self.counts.levels().free;
+        for (k, (pool, free)) in self.env.pools().iter().zip(free).enumerate() {
+            let (count, least) = (u64::from(pool.count), u64::from(free.min(pool.count)));
+            write_numbers(
+                to,
+                &[("count", count), ("least", least), ("pool", k as u64)],
+            );
         }
     }
 
     /// Writes how full each ring was.
     fn write_rings(self, to: &mut Document) {
-        let levels = self.counts.levels();
-        for (k, ring) in self.env.rings().iter().enumerate() {
-            if let Some(waited) = levels.waited.get(k) {
-                let full = total_of(self.counts, Total::Full(k as u8), self.sources);
-                let capacity = u64::from(ring.count.saturating_sub(1));
-                let most = ("most", u64::from(*waited));
-                let ring = ("ring", k as u64);
-                write_numbers(to, &[("capacity", capacity), ("full", full), most, ring]);
-            }
+        let waited = self.counts.levels().waited;
+        for (k, (ring, waited)) in self.env.rings().iter().zip(waited).enumerate() {
+            let capacity = ("capacity", u64::from(ring.count.saturating_sub(1)));
+            let full = total_of(self.counts, Total::Full(k as u8), self.sources);
+            let most = ("most", u64::from(waited));
+            write_numbers(to, &[capacity, ("full", full), most, ("ring", k as u64)]);
         }
     }
 
@@ -154,6 +143,18 @@ impl CountsDocument<'_, '_> {
     }
 }
 
+impl<'a> Origin<'a> {
+    /// Its file, its line, its comment and its code. What `dpv build` wrote a program from is code alone.
+    fn items(self) -> [Item<'a>; 4] {
+        let (comment, code) = if self.is_built {
+            (Item::Null, Item::Text(self.text))
+        } else {
+            parts_of(self.text.as_bytes())
+        };
+        [Item::Text(self.file), number_of(self.line), comment, code]
+    }
+}
+
 impl DropPlace<'_> {
     /// Adds the place to a document, as a member of this name.
     pub fn write(self, name: &str, to: &mut Document) {
@@ -163,25 +164,7 @@ impl DropPlace<'_> {
             DropCause::Left => ("left", None),
             DropCause::Freed(origin) => ("freed", Some(origin)),
         };
-        let (file, line, (comment, text)) = match origin {
-            None => (Item::Null, Item::Null, (Item::Null, Item::Null)),
-            Some(
-                Origin {
-                    file,
-                    line,
-                    text,
-                    is_built,
-                },
-            ) => {
-                let built = (Item::Null, Item::Text(text));
-                let parts = if is_built {
-                    built
-                } else {
-                    parts_of(text.as_bytes())
-                };
-                (Item::Text(file), number_of(line), parts)
-            }
-        };
+        let [file, line, comment, text] = origin.map_or([Item::Null; 4], Origin::items);
         let members = [
             ("comment", comment),
             ("file", file),

@@ -64,8 +64,7 @@ impl fmt::Display for CountsError {
 type Member = (&'static str, &'static str);
 
 /// The error for a member.
-fn bad(node: Option<usize>, instruction: Option<usize>, member: Member) -> CountsError {
-    let (name, wanted) = member;
+fn bad(node: Option<usize>, instruction: Option<usize>, (name, wanted): Member) -> CountsError {
     CountsError::BadMember {
         node,
         instruction,
@@ -90,12 +89,9 @@ fn step_of(value: &Value, number: usize) -> Result<ReadCount, Member> {
     let Some(ran) = value.get("ran").and_then(number_of) else {
         return Err(("ran", "a number, or its digits as a text"));
     };
-    let taken = match value.get("taken") {
-        Some(taken) if taken.is_null() => return Ok(ReadCount { ran, taken: None }),
-        Some(taken) => number_of(taken),
-        None => None,
-    };
-    match taken {
+    let taken = value.get("taken");
+    match taken.and_then(number_of) {
+        None if taken.map(Value::is_null) == Some(true) => Ok(ReadCount { ran, taken: None }),
         None => Err(("taken", "a number, its digits as a text, or null")),
         Some(taken) if taken > ran => Err(("taken", "at most ran")),
         taken => Ok(ReadCount { ran, taken }),
@@ -109,12 +105,10 @@ fn steps_of(alloc: Global, node: &Value, k: usize) -> Result<Vec<ReadCount>, Cou
     };
     let mut steps = Vec::new(alloc);
     for (number, value) in instructions.as_slice().iter().enumerate() {
-        let step = match step_of(value, number) {
-            Ok(step) => step,
+        match step_of(value, number) {
+            Ok(step) if steps.push(step).is_ok() => {}
+            Ok(_) => return Err(CountsError::Memory),
             Err(member) => return Err(bad(Some(k), Some(number), member)),
-        };
-        if steps.push(step).is_err() {
-            return Err(CountsError::Memory);
         }
     }
     Ok(steps)

@@ -63,10 +63,10 @@ pub struct NodeSource<'a> {
     pub instrs: Vec<Instr>,
 }
 
-/// The words of a line with this number: its code and its comment.
-pub(crate) fn words_of(line: &[u8], number: usize) -> Words<'_> {
+/// The words of a line: its code and its comment.
+pub(crate) fn words_of(line: &[u8]) -> Words<'_> {
     let text = std::str::from_utf8(line).unwrap_or("").trim();
-    Words { number, text }
+    Words { number: 0, text }
 }
 
 /// The instruction in the line of this number, from 1; `places` has the line of each instruction.
@@ -80,38 +80,6 @@ fn step_at(instrs: &[Instr], places: &[usize], number: usize) -> Option<Step> {
     None
 }
 
-/// The parts of a text between its newlines.
-fn split_lines(alloc: Global, text: &[u8]) -> Result<Vec<&[u8]>, AllocError> {
-    text.split(|byte| *byte == b'\n').collect(alloc)
-}
-
-/// A line with its number, from 0.
-fn line_at<'a>(
-    instrs: &[Instr],
-    places: &[usize],
-    number: usize,
-    text: &'a [u8],
-) -> SourceLine<'a> {
-    SourceLine {
-        text,
-        step: step_at(instrs, places, number.saturating_add(1)),
-    }
-}
-
-/// The lines of these texts, with their numbers.
-fn numbered<'a>(
-    alloc: Global,
-    instrs: &[Instr],
-    places: &[usize],
-    texts: &[&'a [u8]],
-) -> Result<Vec<SourceLine<'a>>, AllocError> {
-    let mut lines = Vec::new(alloc);
-    for k in 0..texts.len() {
-        lines.push(line_at(instrs, places, k, texts[k]))?;
-    }
-    Ok(lines)
-}
-
 /// The lines of a program's text; `places` has the line of each instruction, from 1.
 ///
 /// # Errors
@@ -123,6 +91,11 @@ pub fn lines_of<'a>(
     program: &Program,
     places: &[usize],
 ) -> Result<Vec<SourceLine<'a>>, AllocError> {
-    let texts = split_lines(alloc, text.strip_suffix(b"\n").unwrap_or(text))?;
-    numbered(alloc, program.instrs(), places, texts.as_slice())
+    let mut lines = Vec::new(alloc);
+    let text = text.strip_suffix(b"\n").unwrap_or(text);
+    for (k, text) in text.split(|byte| *byte == b'\n').enumerate() {
+        let step = step_at(program.instrs(), places, k.saturating_add(1));
+        lines.push(SourceLine { text, step })?;
+    }
+    Ok(lines)
 }
