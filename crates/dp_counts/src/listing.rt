@@ -23,18 +23,6 @@ fn print_columns<O: Write>(role: Role, counts: StepCounts, out: &mut O) -> io::R
     }
 }
 
-// Prints the line of an instruction, and how many node runs were cut there, if there were any.
-fn print_step<O: Write>(role: Role, counts: StepCounts, text: &[u8], out: &mut O) -> io::Result<()>
-    ensures { OnOk result (Appends (O.contents out.old) (O.contents out.new) (spec.step_line role counts text.now)) }
-{
-    print_columns(role, counts, out)?;
-    out.write_all(text)?;
-    if counts.cut == 0 {
-        return writeln!(out);
-    }
-    writeln!(out, "\n{:>10}       cut", counts.cut)
-}
-
 // Prints a text after two empty columns.
 fn print_indented<O: Write>(text: &[u8], out: &mut O) -> io::Result<()>
     ensures { OnOk result (Appends (O.contents out.old) (O.contents out.new) (spec.indented text.now)) }
@@ -54,7 +42,7 @@ fn print_other<O: Write>(text: &[u8], out: &mut O) -> io::Result<()>
     }
 }
 
-// Prints a line of a program.
+// Prints a line of a program, and how many node runs were cut at its instruction, if there were any.
 fn print_line<O: Write>(
     counts: &Counts,
     node: Entry,
@@ -63,10 +51,16 @@ fn print_line<O: Write>(
 ) -> io::Result<()>
     ensures { OnOk result (Appends (O.contents out.old) (O.contents out.new) (spec.line_text counts.now node line.now)) }
 {
-    match line.step {
-        Some(step) => print_step(step.role, counts.step(node, step.label), line.text, out),
-        None => print_other(line.text, out),
+    let Some(step) = line.step else {
+        return print_other(line.text, out);
+    };
+    let counts = counts.step(node, step.label);
+    print_columns(step.role, counts, out)?;
+    out.write_all(line.text)?;
+    if counts.cut == 0 {
+        return writeln!(out);
     }
+    writeln!(out, "\n{:>10}       cut", counts.cut)
 }
 
 // Prints the lines of a program.
@@ -123,18 +117,11 @@ pub enum Total {
 fn share_of_line(counts: &Counts, total: Total, node: Entry, line: &SourceLine<'_>) -> u64
     ensures { result ≡ totals.share_of_line counts.now total node line.now }
 {
-    match line.step {
-        Some(step) => share(counts.step(node, step.label), total, step.role),
-        None => 0,
-    }
-}
-
-// What an instruction adds.
-fn share(counts: StepCounts, total: Total, role: Role) -> u64
-    ensures { result ≡ totals.share total role counts }
-{
-    let StepCounts { ran, taken, cut } = counts;
-    match (total, role) {
+    let Some(step) = line.step else {
+        return 0;
+    };
+    let StepCounts { ran, taken, cut } = counts.step(node, step.label);
+    match (total, step.role) {
         (Total::Hits(table), Role::Lookup(own)) if own == table => {
             ran.saturating_sub(taken).saturating_sub(cut)
         }
