@@ -96,7 +96,7 @@ fn count(numbers: &mut [u64], k: usize)
 }
 
 /// The counts of an instruction.
-#[derive(Clone, Copy)]
+#[derive(Clone, Copy, Default)]
 pub struct StepCounts {
     /// How often it ran.
     pub ran: u64,
@@ -148,11 +148,7 @@ impl Counts {
         ensures { result ≡ step_counts self.now node label }
     {
         if label >= MAX_INSTRS || !is_one_of_eight(node) {
-            return StepCounts {
-                ran: 0,
-                taken: 0,
-                cut: 0,
-            };
+            return StepCounts::default();
         }
         let place = place_of(node);
         let mut ran = self.came[place];
@@ -182,30 +178,29 @@ impl Watch for Counts {
         let place = place_of(node);
         self.place = place;
         count(&mut self.came, place);
-        self.losses.note_begin(node);
-        self.gauge.note_begin(node, &view);
+        self.gauge.note_calls(&view);
+        self.losses.begin(node, view);
     }
 
     #[inline(always)]
     fn see(&mut self, label: u16, way: Way, view: View<'_>) {
         let k = self.place + usize::from(label);
+        self.gauge.note_calls(&view);
         match way {
-            Way::On => self.gauge.note_step(&view),
+            Way::On => {}
             Way::To(to) => {
                 count(&mut self.came, self.place + usize::from(to) % MAX_INSTRS);
                 count(&mut self.taken, k);
-                self.losses.note_jump(label, &view);
-                self.gauge.note_step(&view);
             }
             Way::Out => {
                 count(&mut self.ended, k);
-                self.gauge.note_end(&view);
+                self.gauge.note_rings(&view);
             }
             Way::Cut => {
                 count(&mut self.cut, k);
-                self.losses.note_jump(label, &view);
-                self.gauge.note_end(&view);
+                self.gauge.note_rings(&view);
             }
         }
+        self.losses.see(label, way, view);
     }
 }

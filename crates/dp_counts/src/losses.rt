@@ -1,7 +1,5 @@
 //! Counts what was refused: packets by full transmit lists and full rings, and buffers by pools.
 
-ghost use Rattle.dp_engine.specs.Watching.{IsOneOfEight};
-
 use crate::counts::{is_one_of_eight, number_of};
 use dp_engine::{View, Watch, Way};
 use dp_lang::{MAX_INSTRS, Program};
@@ -98,29 +96,6 @@ impl Losses {
     pub fn refusals(&self) -> Refusals {
         self.refusals
     }
-
-    /// A run of this node begins.
-    #[inline(always)]
-    pub(crate) fn note_begin(&mut self, node: Entry)
-        requires { IsOneOfEight node }
-    {
-        self.running = number_of(node);
-    }
-
-    /// The jump of the instruction at this label was taken, or cut.
-    #[inline(always)]
-    pub(crate) fn note_jump(&mut self, label: u16, view: &View<'_>) {
-        let index = MAX_INSTRS * usize::from(self.running) + usize::from(label);
-        match self.requests.get(index) {
-            Some(Request::Send(port)) => {
-                let port = view.number(*port);
-                count(&mut self.refusals.lists, port as usize);
-            }
-            Some(Request::Enqueue(ring)) => count(&mut self.refusals.rings, usize::from(*ring)),
-            Some(Request::Allocate(pool)) => count(&mut self.refusals.pools, usize::from(*pool)),
-            _ => {}
-        }
-    }
 }
 
 impl Watch for Losses {
@@ -130,14 +105,23 @@ impl Watch for Losses {
 
     #[inline(always)]
     fn begin(&mut self, node: Entry, _view: View<'_>) {
-        self.note_begin(node);
+        self.running = number_of(node);
     }
 
     #[inline(always)]
     fn see(&mut self, label: u16, way: Way, view: View<'_>) {
-        match way {
-            Way::On | Way::Out => {}
-            Way::To(_) | Way::Cut => self.note_jump(label, &view),
+        if matches!(way, Way::On | Way::Out) {
+            return;
+        }
+        let index = MAX_INSTRS * usize::from(self.running) + usize::from(label);
+        match self.requests.get(index) {
+            Some(Request::Send(port)) => {
+                let port = view.number(*port);
+                count(&mut self.refusals.lists, port as usize);
+            }
+            Some(Request::Enqueue(ring)) => count(&mut self.refusals.rings, usize::from(*ring)),
+            Some(Request::Allocate(pool)) => count(&mut self.refusals.pools, usize::from(*pool)),
+            _ => {}
         }
     }
 }
