@@ -17,19 +17,17 @@ fn word_at(bytes: &[u8], at: usize) -> u16 {
     u16::from(byte_at(bytes, at)) * 256 + u16::from(byte_at(bytes, at.saturating_add(1)))
 }
 
-/// Adds the IPv4 address with which bytes begin, and what follows it.
-fn say_v4(out: &mut Text, bytes: &[u8], then: &str) {
-    for k in 0..4usize {
-        let (part, mark) = (byte_at(bytes, k), if k == 3 { then } else { "." });
-        out.say(format_args!("{part}{mark}"));
-    }
-}
-
-/// Adds the IPv6 address with which bytes begin, with all its parts, and what follows it.
-fn say_v6(out: &mut Text, bytes: &[u8], then: &str) {
-    for k in 0..8usize {
-        let (part, mark) = (word_at(bytes, 2 * k), if k == 7 { then } else { ":" });
-        out.say(format_args!("{part:x}{mark}"));
+/// Adds the address with which bytes begin, of IPv6 with all its parts or of IPv4, and what follows it.
+fn say_address(out: &mut Text, is_long: bool, bytes: &[u8], then: &str) {
+    let (parts, mark) = if is_long { (8usize, ":") } else { (4, ".") };
+    for k in 0..parts {
+        let (byte, word) = (byte_at(bytes, k), word_at(bytes, 2 * k));
+        if is_long {
+            out.say(format_args!("{word:x}"));
+        } else {
+            out.say(byte);
+        }
+        out.say(if k + 1 == parts { then } else { mark });
     }
 }
 
@@ -44,12 +42,9 @@ fn say_protocol(out: &mut Text, number: u8, header: &[u8]) {
         50 => "ESP",
         58 => "ICMP6",
         132 => "SCTP",
-        _ => "protocol",
+        _ => return out.say(format_args!("protocol {number}")),
     };
     out.say(name);
-    if name == "protocol" {
-        out.say(format_args!(" {number}"));
-    }
     if number == 6 || number == 17 {
         let (from, to) = (word_at(header, 0), word_at(header, 2));
         out.say(format_args!(" {from} > {to}"));
@@ -58,30 +53,24 @@ fn say_protocol(out: &mut Text, number: u8, header: &[u8]) {
 
 /// Adds what follows an Ethernet type.
 fn say_payload(out: &mut Text, ethertype: u16, body: &[u8]) {
-    match ethertype {
-        0x0800 => {
-            let header = usize::from(byte_at(body, 0) & 15) * 4;
-            out.say("IP ");
-            say_v4(out, after(body, 12), " > ");
-            say_v4(out, after(body, 16), " ");
-            say_protocol(out, byte_at(body, 9), after(body, header));
-        }
-        0x86dd => {
-            out.say("IP6 ");
-            say_v6(out, after(body, 8), " > ");
-            say_v6(out, after(body, 24), " ");
-            say_protocol(out, byte_at(body, 6), after(body, 40));
-        }
-        0x0806 => out.say("ARP"),
-        other => out.say(format_args!("ethertype 0x{other:04x}")),
-    }
+    let words = usize::from(byte_at(body, 0) & 15);
+    let (name, from, to, protocol, header) = match ethertype {
+        0x0800 => ("IP ", 12, 16, 9, 4 * words),
+        0x86dd => ("IP6 ", 8, 24, 6, 40),
+        0x0806 => return out.say("ARP"),
+        other => return out.say(format_args!("ethertype 0x{other:04x}")),
+    };
+    let is_long = ethertype == 0x86dd;
+    out.say(name);
+    say_address(out, is_long, after(body, from), " > ");
+    say_address(out, is_long, after(body, to), " ");
+    say_protocol(out, byte_at(body, protocol), after(body, header));
 }
 
 /// Adds what a record is.
 pub fn say_summary(out: &mut Text, record: &[u8]) {
     if record.len() < 14 {
-        out.say("no Ethernet header");
-        return;
+        return out.say("no Ethernet header");
     }
     let mut rest = after(record, 12);
     for _ in 0..2 {
