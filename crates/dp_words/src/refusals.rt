@@ -9,6 +9,62 @@ use std::fmt;
 /// The maximum number of bytes for which an instruction can test.
 const MAX_TESTED: u64 = u16::MAX as u64;
 
+/// What helps a built program of a ring that knows too little.
+const GIVEN: &str =
+    "let the ring declare what given states in its source (share = 2 and head = 128 where it states nothing), or state what the ring declares";
+
+/// Words and a number. In them `#` stands for the register of a reason, and `@` for that number.
+type Words = (&'static str, u64);
+
+/// Writes words for a reason.
+fn write_words<W: fmt::Write>(
+    f: &mut fmt::Formatter<W>,
+    reason: Reason,
+    (words, number): Words,
+) -> fmt::Result {
+    let register = register_of(reason);
+    for c in words.chars() {
+        match c {
+            '#' => write!(f, "{register}")?,
+            '@' => write!(f, "{number}")?,
+            _ => f.write_char(c)?,
+        }
+    }
+    Ok(())
+}
+
+/// The number of the register that a reason is about, the first if there are two; 0 if it is about none.
+fn register_of(reason: Reason) -> u8 {
+    match reason {
+        Reason::NotHeld { packet }
+        | Reason::NotEmpty { packet, .. }
+        | Reason::OneRegister { packet }
+        | Reason::TooLittle { packet, .. }
+        | Reason::NotAlone { packet, .. }
+        | Reason::TooLong { front: packet, .. }
+        | Reason::LessThanRing { packet, .. }
+        | Reason::LeftOver { packet, .. } => packet.number(),
+        Reason::NoPort { register, .. } => register.number(),
+        Reason::EntryRow(gap) | Reason::Successor { gap, .. } => match gap {
+            Gap::Packet { packet, .. } | Gap::Group { packet, .. } => packet.number(),
+            Gap::Number { register, .. } => register.number(),
+            Gap::Dead => 0,
+        },
+        _ => 0,
+    }
+}
+
+/// Whether the row of a successor wants a packet register to be empty.
+fn wants_none(gap: Gap) -> bool {
+    matches!(
+        gap,
+        Gap::Packet {
+            wanted: Fact::Empty,
+            ..
+        }
+    )
+}
+
 /// A rule in words.
 #[derive(Clone, Copy)]
 pub struct RuleText(pub Rule);
@@ -38,78 +94,47 @@ pub struct KnownText(pub Reason);
 
 impl fmt::Display for KnownText {
     fn fmt<W: fmt::Write>(&self, f: &mut fmt::Formatter<W>) -> fmt::Result {
-        let (before, number) = match self.0 {
-            Reason::RowCount { known, .. } => return write!(f, "{known} rows"),
-            Reason::NoEntry => return f.write_str("no such port or ring"),
-            Reason::EntryRow(gap) | Reason::Successor { gap, .. } => return write_known(f, gap),
-            Reason::NoPool { known, .. } => ("the number of pools is ", known as u64),
-            Reason::NoTable { known, .. } => ("the number of tables is ", u64::from(known)),
-            Reason::NoRing { known, .. } => ("the number of rings is ", known as u64),
-            Reason::NoInstruction { known, .. } => ("the number of instructions is ", known as u64),
-            Reason::NotHeld { packet } => return write!(f, "p{} empty", packet.number()),
-            Reason::OneRegister { packet } => ("both are p", u64::from(packet.number())),
-            Reason::NotEmpty { packet, known }
-            | Reason::LeftOver { packet, known }
-            | Reason::NotAlone { packet, known, .. }
-            | Reason::LessThanRing { packet, known, .. } => {
-                return write!(f, "p{} {}", packet.number(), FactText(known));
+        let register = register_of(self.0);
+        let words = match self.0 {
+            Reason::RowCount { known, .. } => ("@ rows", known as u64),
+            Reason::NoEntry => ("no such port or ring", 0),
+            Reason::EntryRow(gap) | Reason::Successor { gap, .. } => match gap {
+                Gap::Dead => ("control comes there", 0),
+                Gap::Packet { known, .. } | Gap::Group { known, .. } => {
+                    return write!(f, "p{register} {}", FactText(known));
+                }
+                Gap::Number { known, .. } => ("r# <= @", known),
+            },
+            Reason::NoPool { known, .. } => ("the number of pools is @", known as u64),
+            Reason::NoTable { known, .. } => ("the number of tables is @", u64::from(known)),
+            Reason::NoRing { known, .. } => ("the number of rings is @", known as u64),
+            Reason::NoInstruction { known, .. } => (
+                "the number of instructions is @",
+                known as u64,
+            ),
+            Reason::NotHeld { .. } => ("p# empty", 0),
+            Reason::OneRegister { .. } => ("both are p#", 0),
+            Reason::NotEmpty { known, .. }
+            | Reason::LeftOver { known, .. }
+            | Reason::NotAlone { known, .. }
+            | Reason::LessThanRing { known, .. } => {
+                return write!(f, "p{register} {}", FactText(known));
             }
-            Reason::TooLittle {
-                packet,
-                part,
-                known,
-                ..
-            } => {
-                return write!(f, "p{} {}", packet.number(), Part::Bytes(part, known));
+            Reason::TooLittle { part, known, .. } => {
+                return write!(f, "p{register} {}", Part::Bytes(part, known));
             }
             Reason::TooLong {
-                front,
                 back,
                 known,
                 more,
-            } => {
-                let (known, more) = (Part::Segments(known), Part::Segments(more));
-                return write!(f, "p{} {known}, p{} {more}", front.number(), back.number());
-            }
-            Reason::NoPort {
-                register,
-                known,
                 ..
             } => {
-                return write!(f, "r{} <= {known}", register.number());
+                let (known, more) = (Part::Segments(known), Part::Segments(more));
+                return write!(f, "p{register} {known}, p{} {more}", back.number());
             }
+            Reason::NoPort { known, .. } => ("r# <= @", known),
         };
-        write!(f, "{before}{number}")
-    }
-}
-
-/// Writes what is known where the row of an instruction asks for more.
-fn write_known<W: fmt::Write>(f: &mut fmt::Formatter<W>, gap: Gap) -> fmt::Result {
-    match gap {
-        Gap::Dead => f.write_str("control comes there"),
-        Gap::Packet { packet, known, .. } | Gap::Group { packet, known, .. } => {
-            write!(f, "p{} {}", packet.number(), FactText(known))
-        }
-        Gap::Number {
-            register,
-            known,
-            ..
-        } => write!(f, "r{} <= {known}", register.number()),
-    }
-}
-
-/// Writes what the row of an instruction asks for.
-fn write_wanted<W: fmt::Write>(f: &mut fmt::Formatter<W>, gap: Gap) -> fmt::Result {
-    match gap {
-        Gap::Dead => f.write_str("that control never comes there"),
-        Gap::Packet { packet, wanted, .. } | Gap::Group { packet, wanted, .. } => {
-            write!(f, "p{} {}", packet.number(), FactText(wanted))
-        }
-        Gap::Number {
-            register,
-            wanted,
-            ..
-        } => write!(f, "r{} <= {wanted}", register.number()),
+        write_words(f, self.0, words)
     }
 }
 
@@ -124,60 +149,57 @@ pub struct WantedText<'s, 't> {
 
 impl fmt::Display for WantedText<'_, '_> {
     fn fmt<W: fmt::Write>(&self, f: &mut fmt::Formatter<W>) -> fmt::Result {
-        let (what, number) = match self.reason {
-            Reason::RowCount { wanted, .. } => return write!(f, "{wanted} rows"),
-            Reason::NoEntry => return f.write_str("a port or ring of the environment"),
-            Reason::EntryRow(gap) => return write_wanted(f, gap),
-            Reason::Successor { to, gap } => {
-                write!(f, "at {to}")?;
-                if let Some(label) = label_at(self.source, usize::from(to)) {
-                    write!(f, ", {label}")?;
+        let register = register_of(self.reason);
+        if let Reason::Successor { to, .. } = self.reason {
+            match label_at(self.source, usize::from(to)) {
+                Some(label) => write!(f, "at {to}, {label}: ")?,
+                None => write!(f, "at {to}: ")?,
+            }
+        }
+        let words = match self.reason {
+            Reason::RowCount { wanted, .. } => ("@ rows", wanted as u64),
+            Reason::NoEntry => ("a port or ring of the environment", 0),
+            Reason::EntryRow(gap) | Reason::Successor { gap, .. } => match gap {
+                Gap::Dead => ("that control never comes there", 0),
+                Gap::Packet { wanted, .. } | Gap::Group { wanted, .. } => {
+                    return write!(f, "p{register} {}", FactText(wanted));
                 }
-                f.write_str(": ")?;
-                return write_wanted(f, gap);
-            }
-            Reason::NoPool { pool, .. } => ("pool", u16::from(pool)),
-            Reason::NoTable { table, .. } => ("table", u16::from(table)),
-            Reason::NoRing { ring, .. } => ("ring", u16::from(ring)),
-            Reason::NoInstruction { to, .. } => {
-                return write!(f, "an instruction with the number {to}, from 0");
-            }
-            Reason::NotHeld { packet } => return write!(f, "a packet in p{}", packet.number()),
-            Reason::NotEmpty { packet, .. } | Reason::LeftOver { packet, .. } => {
-                return write!(f, "p{} empty", packet.number());
-            }
-            Reason::OneRegister { .. } => return f.write_str("two registers"),
+                Gap::Number { wanted, .. } => ("r# <= @", wanted),
+            },
+            Reason::NoPool { pool, .. } => ("a pool with the number @, from 0", u64::from(pool)),
+            Reason::NoTable { table, .. } => (
+                "a table with the number @, from 0",
+                u64::from(table),
+            ),
+            Reason::NoRing { ring, .. } => ("a ring with the number @, from 0", u64::from(ring)),
+            Reason::NoInstruction { to, .. } => (
+                "an instruction with the number @, from 0",
+                u64::from(to),
+            ),
+            Reason::NotHeld { .. } => ("a packet in p#", 0),
+            Reason::NotEmpty { .. } | Reason::LeftOver { .. } => ("p# empty", 0),
+            Reason::OneRegister { .. } => ("two registers", 0),
             Reason::TooLittle {
-                packet,
                 part,
                 start,
                 count,
                 ..
             } => {
-                write!(f, "p{} {}", packet.number(), measure_words(part).0)?;
+                write!(f, "p{register} {}", measure_words(part).0)?;
                 if start > 0 {
                     write!(f, "{start} + ")?;
                 }
-                return write!(f, "{count}");
+                ("@", u64::from(count))
             }
-            Reason::NotAlone { packet, wanted, .. } => {
-                let others = if wanted == 2 { "" } else { " or head sole" };
-                return write!(f, "p{} sole{others}", packet.number());
-            }
-            Reason::TooLong { .. } => return f.write_str("at most 64 together"),
-            Reason::NoPort {
-                register,
-                ports,
-                ..
-            } => {
-                write!(f, "r{} below ", register.number())?;
-                return write!(f, "{ports}, the number of ports");
-            }
-            Reason::LessThanRing { packet, wanted, .. } => {
-                return write!(f, "p{} {}", packet.number(), FactText(wanted));
+            Reason::NotAlone { wanted: 2, .. } => ("p# sole", 0),
+            Reason::NotAlone { .. } => ("p# sole or head sole", 0),
+            Reason::TooLong { .. } => ("at most 64 together", 0),
+            Reason::NoPort { ports, .. } => ("r# below @, the number of ports", ports as u64),
+            Reason::LessThanRing { wanted, .. } => {
+                return write!(f, "p{register} {}", FactText(wanted));
             }
         };
-        write!(f, "a {what} with the number {number}, from 0")
+        write_words(f, self.reason, words)
     }
 }
 
@@ -207,112 +229,26 @@ pub struct HintText {
     pub built_for: Option<BuiltFor>,
 }
 
-impl fmt::Display for HintText {
-    fn fmt<W: fmt::Write>(&self, f: &mut fmt::Formatter<W>) -> fmt::Result {
-        let Reason::TooLittle {
-            packet,
-            part,
-            start,
-            count,
-            ..
-        } = self.reason
-        else {
-            return self.write_help(f);
-        };
-        match self.built_for {
-            Some(_) if part == Measure::Headroom && packet.number() > 0 => {
-                return f.write_str(
-                    "let new take its packet from a pool whose room is at least 128",
-                );
-            }
-            Some(BuiltFor::Ring) => return f.write_str(GIVEN),
-            Some(BuiltFor::Port(segs)) if segs > 1 => {
-                write!(
-                    f,
-                    "write segments {segs} in its source, as the port takes packets of "
-                )?;
-                return write!(f, "{segs} segments, and build it again");
-            }
-            _ => {}
-        }
-        let most = start.saturating_add(u64::from(count));
-        let (test, register) = (measure_words(part).1, packet.number());
-        if start == 0 {
-            return write!(f, "{test} p{register},{most},L before it");
-        }
-        write!(
-            f,
-            "bound the index before it by jlt or and: it can be {start}"
-        )?;
-        if most > MAX_TESTED {
-            return Ok(());
-        }
-        write!(f, "; {test} p{register},{most},L would do, too, ")?;
-        f.write_str("but sends each shorter packet to L")
-    }
-}
-
-/// What helps a built program of a ring that knows too little.
-const GIVEN: &str =
-    "let the ring declare what given states in its source (share = 2 and head = 128 where it states nothing), or state what the ring declares";
-
 impl HintText {
-    /// Writes what helps where no test of a measure does.
-    fn write_help<W: fmt::Write>(&self, f: &mut fmt::Formatter<W>) -> fmt::Result {
-        let (before, register, after) = match self.reason {
-            Reason::NotHeld { packet } => (
-                "put a packet into p",
-                packet.number(),
-                " before it, by alloc or clone",
-            ),
-            Reason::NotEmpty { packet, .. } => (
-                "free p",
-                packet.number(),
-                " before it, or take another register",
-            ),
-            Reason::LeftOver { packet, .. } => ("free p", packet.number(), " before it"),
-            Reason::Successor {
-                gap: Gap::Packet { packet, wanted, .. },
-                ..
-            } if self.inferred && wanted == Fact::Empty => {
-                write!(
-                    f,
-                    "free p{} before control goes there: another path ",
-                    packet.number()
-                )?;
-                ("arrives with p", packet.number(), " empty")
-            }
-            Reason::NoPort { ports, .. } if self.built_for.is_some() => {
-                return write!(
-                    f,
-                    "write ports {ports} in its source, the number of ports, and build it again"
-                );
-            }
-            Reason::NoPort {
-                register,
-                ports,
-                ..
-            } => {
-                return write!(
-                    f,
-                    "jlt r{},{ports},L before it, and at L the tx",
-                    register.number()
-                );
-            }
-            _ => return f.write_str(self.plain_help()),
-        };
-        write!(f, "{before}{register}{after}")
-    }
-
-    /// What helps, if that names no register and no number.
-    fn plain_help(&self) -> &'static str {
-        match self.reason {
+    /// What helps; nothing if a test of a measure does.
+    fn words(&self) -> Option<&'static str> {
+        Some(match self.reason {
             Reason::RowCount { .. } | Reason::EntryRow(_) => "let dpv infer write the certificate",
             Reason::NoEntry => "name a port or ring that is there",
             Reason::NoPool { .. } | Reason::NoTable { .. } | Reason::NoRing { .. } =>
                 "declare one more in the pipeline, or name another",
             Reason::NoInstruction { .. } => "end the program with exit or jmp",
+            Reason::NotHeld { .. } => "put a packet into p# before it, by alloc or clone",
+            Reason::NotEmpty { .. } => "free p# before it, or take another register",
             Reason::OneRegister { .. } => "clone the packet, and chain the clone",
+            Reason::TooLittle { packet, part, .. } => match self.built_for {
+                Some(_) if part == Measure::Headroom && packet.number() > 0 =>
+                    "let new take its packet from a pool whose room is at least 128",
+                Some(BuiltFor::Ring) => GIVEN,
+                Some(BuiltFor::Port(segs)) if segs > 1 =>
+                    "write segments @ in its source, as the port takes packets of @ segments, and build it again",
+                _ => return None,
+            },
             Reason::NotAlone { .. } if self.built_for == Some(BuiltFor::Ring) => GIVEN,
             Reason::NotAlone { known, .. } => match known {
                 Fact::Held { share: 1, .. } => "append before chain",
@@ -321,11 +257,67 @@ impl HintText {
                 _ => "write before clone, or into a packet of its own from alloc",
             },
             Reason::TooLong { .. } => "let the port or ring take packets of fewer segments",
+            Reason::NoPort { .. } if self.built_for.is_some() =>
+                "write ports @ in its source, the number of ports, and build it again",
+            Reason::NoPort { .. } => "jlt r#,@,L before it, and at L the tx",
             Reason::LessThanRing { .. } =>
                 "test for what is missing before it, or let the ring declare less",
+            Reason::LeftOver { .. } => "free p# before it",
+            Reason::Successor { gap, .. } if self.inferred && wants_none(gap) =>
+                "free p# before control goes there: another path arrives with p# empty",
             _ if self.inferred =>
                 "test or bound it again before control goes there, or leave the loop with what it began with",
             _ => "let dpv infer write the certificate, or test for more before it",
+        })
+    }
+
+    /// The number in these words: of the ports, or of the segments of the packets of a port.
+    fn number(&self) -> u64 {
+        match self.reason {
+            Reason::NoPort { ports, .. } => ports as u64,
+            _ => match self.built_for {
+                Some(BuiltFor::Port(segs)) => u64::from(segs),
+                _ => 0,
+            },
+        }
+    }
+}
+
+/// Writes which test of a measure helps, with the greatest number of bytes; if these begin at an index, what bounds that.
+fn write_test<W: fmt::Write>(f: &mut fmt::Formatter<W>, reason: Reason) -> fmt::Result {
+    let Reason::TooLittle {
+        packet,
+        part,
+        start,
+        count,
+        ..
+    } = reason
+    else {
+        return Ok(());
+    };
+    let most = start.saturating_add(u64::from(count));
+    let (test, register) = (measure_words(part).1, packet.number());
+    if start == 0 {
+        return write!(f, "{test} p{register},{most},L before it");
+    }
+    write!(
+        f,
+        "bound the index before it by jlt or and: it can be {start}"
+    )?;
+    if most > MAX_TESTED {
+        return Ok(());
+    }
+    write!(
+        f,
+        "; {test} p{register},{most},L would do, too, but sends each shorter packet to L"
+    )
+}
+
+impl fmt::Display for HintText {
+    fn fmt<W: fmt::Write>(&self, f: &mut fmt::Formatter<W>) -> fmt::Result {
+        match self.words() {
+            Some(words) => write_words(f, self.reason, (words, self.number())),
+            None => write_test(f, self.reason),
         }
     }
 }
