@@ -4,7 +4,7 @@ ghost use Rattle.std.specs.Prelude.{◌≡◌, ◌⊎◌, ◌∷◌, [], IfErr, 
 ghost use Rattle.dp_load.specs.Loads.{IsLoadedFrom, IsUnloaded};
 ghost use Rattle.dp_sources.specs.Sources.{files_of};
 ghost use Rattle.dp_sources.specs.Subjects.{asked_node, env_of};
-ghost use Rattle.dp_verdict.specs.Checks.{HasOnly, IsChecked, IsRefused, SaysChecked, SaysRefused, accepted, refusal_of};
+ghost use Rattle.dp_verdict.specs.Checks.{HasOnly, IsChecked, IsRefused, SaysChecked, SaysRefused, accepted};
 ghost use Rattle.dp_verdict.specs.Judging.{Explains, HasNoRows, IsCertFor, IsFinding, IsNext, IsUnjudged};
 ghost use Rattle.dp_verdict.specs.Judging.{SaysExplained, SaysFindings, refused_for};
 ghost use Rattle.dp_verdict.specs.Reports.{findings_of, status_of, texts_of};
@@ -60,8 +60,6 @@ fn refused_for(
 /// A node's program, judged.
 #[derive(Drop)]
 pub struct Judged<'a> {
-    /// The name of the program's file.
-    pub file: &'a str,
     /// The program's text.
     pub text: &'a [u8],
     pub program: Program,
@@ -92,7 +90,6 @@ pub fn judge<'a>(
     let (refused, reason) = refused_for(asked, diagnosis);
     let node = asked.node;
     Ok(Judged {
-        file: asked.program,
         text: sources.get(asked.program).unwrap_or(&[]),
         program,
         cert,
@@ -128,18 +125,6 @@ fn accepted_in<'a>(alloc: Global, pipeline: &Pipeline) -> Report<'a>
     Report { nodes, fault }
 }
 
-/// The node whose program is refused or has no certificate, and where; none for another cause.
-fn refusal_of(error: PipeError) -> Option<(Entry, RefusedAt)>
-    ensures { result ≡ refusal_of error }
-{
-    let (node, given, label, rule) = match error {
-        PipeError::Refused { node, label, rule } => (node, true, label, rule),
-        PipeError::NotInferred { node, label, rule } => (node, false, label, rule),
-        _ => return None,
-    };
-    Some((node, RefusedAt { given, label, rule }))
-}
-
 /// A subject, and the files that were read for it.
 #[derive(Clone, Copy)]
 struct Case<'a> {
@@ -156,7 +141,7 @@ impl<'a> Case<'a> {
     {
         let env = self.subject.env();
         let judged = judge(self.alloc, self.sources, env, asked)?;
-        let (verdict, file, text) = (judged.verdict, judged.file, judged.text);
+        let (verdict, text, file) = (judged.verdict, judged.text, asked.program);
         let (Some(at), Some(reason)) = (verdict.refused, judged.reason) else {
             return Ok(Finding { verdict, why: None });
         };
@@ -236,9 +221,12 @@ impl<'a> Case<'a> {
     fn refused(self, error: PipeError) -> Report<'a>
         ensures { IsRefused error result }
     {
-        let Some((node, at)) = refusal_of(error) else {
-            return Report::of_fault(fault_of(error, self.subject, self.sources));
+        let (node, given, label, rule) = match error {
+            PipeError::Refused { node, label, rule } => (node, true, label, rule),
+            PipeError::NotInferred { node, label, rule } => (node, false, label, rule),
+            _ => return Report::of_fault(fault_of(error, self.subject, self.sources)),
         };
+        let at = RefusedAt { given, label, rule };
         let (mut nodes, fault) = (Vec::new(self.alloc), None);
         if nodes.push(Finding::plain(node, Some(at))).is_err() {
             return Report::of_fault(Fault::Memory);
@@ -267,15 +255,10 @@ impl<'a> Case<'a> {
         if reply.status == MEMORY {
             return reply;
         }
-        say_remedy(
-            self.alloc,
-            self.subject,
-            self.sources,
-            error,
-            &mut reply.err,
-        );
-        if let (Subject::Single { .. }, PipeError::NotInferred { node, .. }) = (self.subject, error)
-            && let Some(asked) = self.subject.node(node)
+        let (subject, err) = (self.subject, &mut reply.err);
+        say_remedy(self.alloc, subject, self.sources, error, err);
+        if let (Subject::Single { .. }, PipeError::NotInferred { node, .. }) = (subject, error)
+            && let Some(asked) = subject.node(node)
             && let Ok(finding) = self.finding(asked)
             && let Some(why) = finding.why
         {
