@@ -34,6 +34,12 @@ fn number(word: &str) -> Option<u32> {
     }
 }
 
+/// Parses two words, a size and an alignment.
+fn size_and_align(words: &str) -> Option<(u32, u32)> {
+    let (size, align) = words.split_once(' ')?;
+    Some((number(size)?, number(align)?))
+}
+
 /// The size of the region that a line `region N` asks for, if a region may have it.
 fn region_size(line: &[u8]) -> Option<u32>
     ensures { IfSome result IsRegionSize }
@@ -71,16 +77,13 @@ fn request(heap: &mut Heap, size: u32, align: u32, zeros: bool) -> Result<Block,
 }
 
 impl Session {
-    /// Frees the blocks in the order of their numbers, and closes the heap.
+    /// Frees the blocks, and closes the heap.
     fn end(self) {
         let Session {
-            heap,
-            held,
+            mut heap,
+            mut held,
             taken: _,
         } = self;
-        let mut heap = heap;
-        let mut held = held;
-        held.reverse();
         while let Some(Held { number: _, block }) = held.pop() {
             heap.free(block);
         }
@@ -145,26 +148,13 @@ impl Session {
             None if text == "stats" => self.stats(out),
             Some(("free", block)) => self.free(number(block)?, out)?,
             Some((word, rest)) if word == "malloc" || word == "zmalloc" => {
-                let (size, align) = rest.split_once(' ')?;
-                self.take(number(size)?, number(align)?, word == "zmalloc", out);
+                let (size, align) = size_and_align(rest)?;
+                self.take(size, align, word == "zmalloc", out);
             }
             _ => return None,
         }
         Some(())
     }
-}
-
-/// Runs the lines of a script after the first, which has this index; returns the number of the one at fault, if one is.
-fn run_lines(session: &mut Session, script: &[u8], first: usize, out: &mut Text) -> Option<usize> {
-    for (k, line) in script.split(|b| *b == b'\n').enumerate() {
-        if k > first && !line.is_empty() && session.run(line, out).is_none() {
-            return Some(k.saturating_add(1));
-        }
-        if out.has_failed {
-            return None;
-        }
-    }
-    None
 }
 
 /// Runs the lines of a script that are not empty; returns the number of the one at fault, if one is.
@@ -183,7 +173,15 @@ fn run_script(alloc: Global, script: &[u8], out: &mut Text) -> Option<usize> {
         held: Vec::new(alloc),
         taken: 0,
     };
-    let fault = run_lines(&mut session, script, first, out);
+    let mut fault = None;
+    for (k, line) in lines {
+        if !line.is_empty() && session.run(line, out).is_none() {
+            fault = Some(k.saturating_add(1));
+        }
+        if fault.is_some() || out.has_failed {
+            break;
+        }
+    }
     session.end();
     fault
 }
