@@ -1,6 +1,6 @@
 //! Runs a heap script: a heap, and the blocks that the script holds of it.
 
-ghost use Rattle.std.specs.Prelude.{◌≡◌, ◌+◌, [], All, IfOk, IfSome, MatchResult, length};
+ghost use Rattle.std.specs.Prelude.{◌≡◌, [], All, IfSome, length};
 ghost use Rattle.dp_heap.specs.Elements.{count_of, is_busy};
 ghost use Rattle.dp_region.specs.Region.{IsRegionSize};
 
@@ -62,20 +62,6 @@ fn say_block(heap: &Heap, number: u32, offset: u32, out: &mut Text) {
     }
 }
 
-/// Allocates a block of this size and alignment, zeroed if asked for.
-fn request(heap: &mut Heap, size: u32, align: u32, zeros: bool) -> Result<Block, HeapError>
-    ensures ours { IfOk result (λ block. block.home ≡ heap.old.home) }
-    ensures home { heap.new.home ≡ heap.old.home }
-    ensures counted { MatchResult result (λ _. count_of is_busy heap.new.elements ≡ count_of is_busy heap.old.elements + 1)
-        (λ _. count_of is_busy heap.new.elements ≡ count_of is_busy heap.old.elements) }
-{
-    if zeros {
-        heap.zmalloc(size, align)
-    } else {
-        heap.malloc(size, align)
-    }
-}
-
 impl Session {
     /// Frees the blocks, and closes the heap.
     fn end(self) {
@@ -93,7 +79,12 @@ impl Session {
 
     /// Allocates a block of this size and alignment, zeroed if asked for, and holds it under the next number.
     fn take(&mut self, size: u32, align: u32, zeros: bool, out: &mut Text) {
-        match request(&mut self.heap, size, align, zeros) {
+        let made = if zeros {
+            self.heap.zmalloc(size, align)
+        } else {
+            self.heap.malloc(size, align)
+        };
+        match made {
             Ok(block) => {
                 let offset = block.offset();
                 let number = self.taken.saturating_add(1);
