@@ -6,7 +6,8 @@ ghost use Rattle.dp_engine.specs.Engines.{IsAscending};
 ghost use Rattle.dp_pipe.specs.Running.{report_of, answer_of};
 ghost use Rattle.dp_captures.specs.Closing as spec;
 ghost use Rattle.dp_captures.specs.Outlets.{HasWhole, TookFront};
-ghost use Rattle.dp_captures.specs.Runs.{IsRun, feed, sink};
+ghost use Rattle.dp_captures.specs.Runs.{IsRun};
+ghost use Rattle.dp_pipe.specs.Devices.{kind};
 
 use crate::guarded::Guarded;
 use crate::watched::Inlet;
@@ -230,8 +231,8 @@ pub fn run_captures<K: CompiledPrograms, V: Watch, I: Inlet, O: Outlet>(
     requires readers { length ins.old ≡ length pipeline.env.ports }
     requires writers { length outs.old ≡ length pipeline.env.ports }
     requires pattern { IsAscending 0 pattern.items }
-    ensures { IsRun V.sees watch.old watch.new pipeline pattern.items (feed I.remaining I.calls I.is_broken I.failures) ins.old ins.new
-        (sink O.contents O.calls O.is_broken O.failures) O.taken outs.old outs.new result }
+    ensures { IsRun V.sees watch.old watch.new pipeline pattern.items (kind I.remaining I.calls I.is_broken I.failures) ins.old ins.new
+        (kind O.contents O.calls O.is_broken O.failures) O.taken outs.old outs.new result }
 {
     // This shows that `flush_outputs` gets at most eight outputs.
     let _ports = count_ports(&pipeline);

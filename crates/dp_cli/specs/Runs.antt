@@ -3,7 +3,7 @@ use Rattle.std.specs.Prelude.{◌≡◌, ℕ, ◌⊎◌, List, Bool, Option, Som
 use Rattle.std.specs.{Io.Buffered.reader_remaining, List.list_any, Option.unwrap_or}
 use Rattle.clap.specs.{Matches.first_value, Matches.matched_of, Matches.raw_values, declared.parser.matches.Found.Found}
 use Rattle.dp_captures.specs.{Files.AreInputs, Files.AreOutputs, Files.source_left, Guarding.AreGuarded, Outlets.joined, Outputs.file_took}
-use Rattle.dp_captures.specs.{Names.captures_from, Names.input_capture, Names.output_capture, Opening.IsFirstFault, Runs.Kind, Runs.feed, Runs.sink}
+use Rattle.dp_captures.specs.{Names.captures_from, Names.input_capture, Names.output_capture, Opening.IsFirstFault}
 use Rattle.dp_captures.specs.Words.{is_stream, only, row_of, rows_of}
 use Rattle.dp_captures.specs.declared.{closing.Flushed.Flushed, faults.CaptureFault.CaptureFault, file_id.ReadFile.ReadFile, guarded.Guarded.Guarded}
 use Rattle.dp_captures.specs.declared.{input_file.InputFile.InputFile, names.CaptureNames.CaptureNames, output_file.OutputFile.OutputFile}
@@ -14,19 +14,19 @@ use Rattle.dp_model.specs.Environments.{Environment}
 use Rattle.dp_pcap.specs.OfStd.{buffered_feed_health, buffered_reader, buffered_sink_health, buffered_writer}
 use Rattle.dp_pcap.specs.{Buffers.writer_contents, declared.of_buf_reader.OfBufReader.OfBufReader, declared.of_buf_writer.OfBufWriter.OfBufWriter}
 use Rattle.dp_load.specs.{Pipelines.Plan, declared.single.SingleFiles.SingleFiles}
-use Rattle.dp_pipe.specs.Running.{answer_of}
+use Rattle.dp_pipe.specs.{Devices.Kind, Devices.kind, Running.answer_of}
 use Rattle.dp_runs.specs.{Replies.IsReplied, Replies.status_of, Watching.IsRunUnder, declared.run.Watcher.Watcher}
 use Rattle.dp_cli.specs.Operands.{IsFlag, operand, option_within}
 
 -- what contracts see of an input: the bytes that are left of it, if they are known
 abbrev pub inputs_kind : {F : Type 0} → (F → Option (List ℕ)) → Kind (OfBufReader (Watched (InputFile F)))
-inputs_kind {F} remaining = feed (λ input. reader_remaining {T = Watched (InputFile F)} (λ watched. source_left remaining watched.inner.source)
+inputs_kind {F} remaining = kind (λ input. reader_remaining {T = Watched (InputFile F)} (λ watched. source_left remaining watched.inner.source)
     (buffered_reader input)) (λ input. (buffered_feed_health input).calls) (λ input. (buffered_feed_health input).is_broken)
     (λ input. (buffered_feed_health input).failures)
 
 -- and of an output: the bytes that its file took and those that are held for it
 abbrev pub outputs_kind : {F : Type 0} → Kind (OfBufWriter (Guarded (OutputFile F)))
-outputs_kind {F} = sink (λ output. writer_contents {W = Guarded (OutputFile F)} (λ guarded. Some (joined guarded.took.pieces))
+outputs_kind {F} = kind (λ output. writer_contents {W = Guarded (OutputFile F)} (λ guarded. Some (joined guarded.took.pieces))
     (buffered_writer output)) (λ output. (buffered_sink_health output).calls) (λ output. (buffered_sink_health output).is_broken)
     (λ output. (buffered_sink_health output).failures)
 

@@ -1,11 +1,12 @@
 -- A run on the command line.
 use Rattle.std.specs.Prelude.{◌≡◌, ℕ, List, Bool, false, Option}
 use Rattle.dp_captures.specs.declared.closing.Flushed.{Flushed}
-use Rattle.dp_captures.specs.Runs.{IsRun, Kind}
+use Rattle.dp_captures.specs.Runs.{IsRun}
 use Rattle.dp_console.specs.declared.reply.Reply.{Reply}
 use Rattle.dp_console.specs.Replies.{EndsWith}
 use Rattle.dp_engine.specs.declared.watch.Silent.{Silent}
 use Rattle.dp_load.specs.Pipelines.{Plan}
+use Rattle.dp_pipe.specs.Devices.{Kind}
 use Rattle.dp_pipe.specs.Running.{answer_of}
 use Rattle.dp_runs.specs.Replies.{IsReplied, status_of}
 use Rattle.dp_runs.specs.Watching.{anything}

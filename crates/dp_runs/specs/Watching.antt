@@ -1,12 +1,13 @@
 -- Runs under a watcher.
 use Rattle.std.specs.Prelude.{◌≡◌, ℕ, List, Option, ⊤}
 use Rattle.dp_captures.specs.declared.closing.Flushed.{Flushed}
-use Rattle.dp_captures.specs.Runs.{IsRun, Kind}
+use Rattle.dp_captures.specs.Runs.{IsRun}
 use Rattle.dp_counts.specs.Counting.{counts_see}
 use Rattle.dp_counts.specs.declared.losses.Losses.{Losses as LossCounts}
 use Rattle.dp_engine.specs.Watching.{Event}
 use Rattle.dp_engine.specs.declared.watch.Silent.{Silent as Nobody}
 use Rattle.dp_load.specs.Pipelines.{Plan}
+use Rattle.dp_pipe.specs.Devices.{Kind}
 use Rattle.dp_runs.specs.declared.run.Watcher.{Watcher}
 use Rattle.dp_runs.specs.declared.run.Watcher.TheVariants.{Silent, Losses, Counting}
 

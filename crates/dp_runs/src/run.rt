@@ -1,7 +1,7 @@
 //! Runs a pipeline from captures to captures.
 
 ghost use Rattle.std.specs.Prelude.{◌≡◌, Bool, false, length};
-ghost use Rattle.dp_captures.specs.Runs.{feed, sink};
+ghost use Rattle.dp_pipe.specs.Devices.{kind};
 ghost use Rattle.dp_console.specs.Replies.{EndsWith};
 ghost use Rattle.dp_engine.specs.Engines.{IsAscending};
 ghost use Rattle.dp_runs.specs.Lines.{IsRunLine};
@@ -83,8 +83,8 @@ pub fn run_over<K: CompiledPrograms, I: Inlet, O: Outlet>(
     requires readers { length ins.old ≡ length pipeline.env.ports }
     requires writers { length outs.old ≡ length pipeline.env.ports }
     requires pattern { IsAscending 0 pattern.items }
-    ensures { IsRunUnder watcher.old watcher.new pipeline pattern.items (feed I.remaining I.calls I.is_broken I.failures) ins.old ins.new
-        (sink O.contents O.calls O.is_broken O.failures) O.taken outs.old outs.new result.flushed }
+    ensures { IsRunUnder watcher.old watcher.new pipeline pattern.items (kind I.remaining I.calls I.is_broken I.failures) ins.old ins.new
+        (kind O.contents O.calls O.is_broken O.failures) O.taken outs.old outs.new result.flushed }
 {
     let flushed = match watcher {
         Watcher::Silent(it) => run_captures::<K, _, I, O>(alloc, pipeline, ins, outs, pattern, it),
@@ -145,8 +145,8 @@ pub fn run_line<I: Inlet, O: Outlet, P: Write, E: Write>(
     requires readers { length ins.old ≡ length pipeline.env.ports }
     requires writers { length outs.old ≡ length pipeline.env.ports }
     requires pattern { IsAscending 0 pattern.items }
-    ensures { IsRunLine pipeline pattern.items (feed I.remaining I.calls I.is_broken I.failures) ins.old ins.new
-        (sink O.contents O.calls O.is_broken O.failures) O.taken outs.old outs.new (P.contents out.old) (P.contents out.new) (E.contents err.old)
+    ensures { IsRunLine pipeline pattern.items (kind I.remaining I.calls I.is_broken I.failures) ins.old ins.new
+        (kind O.contents O.calls O.is_broken O.failures) O.taken outs.old outs.new (P.contents out.old) (P.contents out.new) (E.contents err.old)
         (E.contents err.new) result }
 {
     let (env, silent) = (pipeline.env().copy(), &mut Silent);
