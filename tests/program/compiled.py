@@ -47,8 +47,8 @@ VARIANTS = {
 }
 WIDTHS = {1: "One", 2: "Two", 4: "Four", 8: "Eight"}
 MOST = 256
-# The least gain of a compiled examples/ttl per record: compiled by itself, and beside random programs, on which it depends.
-GAIN, GAIN_BESIDE = 150, 60
+# The least gain of a compiled examples/ttl per record, whatever programs are compiled beside it.
+GAIN = 150
 # A program of all instructions; what it does to a packet does not matter.
 ALL = """ifhead p0,4,drop
 iftail p0,4,drop

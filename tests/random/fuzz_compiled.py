@@ -53,7 +53,7 @@ def does_ttl(program: str, made: str) -> bool:
     """Whether the program passes the test of tests/program/compiled.py with examples/ttl."""
     with new_folder() as folder:
         shutil.copytree(TTL, folder / "ttl")
-        return all(compiled.does_the_same(program, made, folder / "ttl/ttl.toml", compiled.GAIN_BESIDE))
+        return all(compiled.does_the_same(program, made, folder / "ttl/ttl.toml", compiled.GAIN))
 
 
 def limit_of(asked: argparse.Namespace) -> list[str]:
