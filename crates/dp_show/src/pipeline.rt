@@ -3,7 +3,8 @@
 use crate::picture::attributes;
 use crate::texts::Escaped;
 use dp_console::Text;
-use dp_model::{Entry, Env, Instr};
+use dp_model::{Entry, Instr};
+use dp_sources::Subject;
 use dp_verdict::Judged;
 
 /// Whether a program can use a place with this number, by the rows of its instructions: one that is never reached uses none, and `tx` the ports up to
@@ -26,13 +27,14 @@ fn is_used(node: &Judged<'_>, place: &str, number: u8) -> bool {
 
 /// Says the box of a node's program, the arrow to it from its port or ring, and the arrows from it: to each port whose list it can put a packet into and
 /// to each ring, and dotted ones to the pools from which it takes buffers and the tables that it looks addresses up in.
-fn say_program(out: &mut Text, env: &Env, node: &Judged<'_>) {
+fn say_program(out: &mut Text, subject: Subject<'_>, node: &Judged<'_>) {
+    let (env, asked) = (subject.env(), subject.node(node.verdict.node));
     let (kind, from, number) = match node.verdict.node {
         Entry::Port(port) => ("port", "in", port),
         Entry::Ring(ring) => ("ring", "ring", ring),
     };
     let (file, verdict, count) = (
-        Escaped(node.file),
+        Escaped(asked.map_or("", |asked| asked.program)),
         node.verdict,
         node.program.instrs().len(),
     );
@@ -57,7 +59,8 @@ fn say_program(out: &mut Text, env: &Env, node: &Judged<'_>) {
 }
 
 /// Says the picture of a pipeline: its ports, rings, pools and tables, and its programs.
-pub fn say_pipeline(out: &mut Text, env: &Env, nodes: &[Judged<'_>]) {
+pub fn say_pipeline(out: &mut Text, subject: Subject<'_>, nodes: &[Judged<'_>]) {
+    let env = subject.env();
     out.say(
         "digraph pipeline {\n  rankdir=LR;\n  node [shape=box, fontname=monospace, margin=\"0.15,0.1\"];\n",
     );
@@ -84,7 +87,7 @@ pub fn say_pipeline(out: &mut Text, env: &Env, nodes: &[Judged<'_>]) {
         out.say(format_args!("  table{k} [shape=note, label=\"table {k}\"];\n"));
     }
     for node in nodes {
-        say_program(out, env, node);
+        say_program(out, subject, node);
     }
     out.say("}\n");
 }

@@ -109,7 +109,7 @@ pub fn show(
         }
     }
     if which.is_none() {
-        say_pipeline(&mut reply.out, subject.env(), nodes.as_slice());
+        say_pipeline(&mut reply.out, subject, nodes.as_slice());
     }
     reply
 }
