@@ -1,6 +1,7 @@
 //! How full rings and how empty pools were.
 
 use dp_engine::View;
+use dp_model::Entry;
 
 /// How full rings were at the ends of node runs, and how many buffers were free after each allocation call.
 #[derive(Clone, Copy)]
@@ -43,17 +44,27 @@ impl Gauge {
         }
     }
 
-    /// Looks at the beginning of a node run, and after an instruction: at the pools, if there was an allocation call since.
+    /// Looks after an instruction: if it was an allocation call, at the pools.
     #[inline(always)]
-    pub(crate) fn note_calls(&mut self, view: &View<'_>) {
+    pub(crate) fn note_step(&mut self, view: &View<'_>) {
         if view.calls() != self.calls {
             self.note_pools(view);
         }
     }
 
-    /// Looks at the end of a node run at how full each ring is.
+    /// Looks at the beginning of a node run of this node: there is a call for the record of a port.
     #[inline(always)]
-    pub(crate) fn note_rings(&mut self, view: &View<'_>) {
+    pub(crate) fn note_begin(&mut self, node: Entry, view: &View<'_>) {
+        match node {
+            Entry::Port(_) => self.note_pools(view),
+            Entry::Ring(_) => self.note_step(view),
+        }
+    }
+
+    /// Looks at the end of a node run, also at how full each ring is.
+    #[inline(always)]
+    pub(crate) fn note_end(&mut self, view: &View<'_>) {
+        self.note_step(view);
         for k in 0..8u8 {
             let Some(waiting) = view.waiting(k) else {
                 return;
