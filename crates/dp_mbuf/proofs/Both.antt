@@ -1,65 +1,44 @@
 -- A header and bytes after it, both written into one object, and a packet of one segment made so.
 use Rattle.std.proofs.Common.{◌≡◌, ℕ, ◌+◌, ◌-◌, ◌/◌, ◌<◌, ◌≤◌, List, length, take, drop, max, Option, Some, None, refl, ◌∙◌, ap}
-use Rattle.std.proofs.Common.{arith, get_or, set}
-use Rattle.std.proofs.lemmas.List.{get_or-set_same, set-set, take_all}
+use Rattle.std.proofs.Common.{arith, set}
+use Rattle.std.proofs.lemmas.List.{take_all}
 use Rattle.dp_model.specs.Environments.{room_at}
 use Rattle.dp_model.specs.Buffers.{Number}
 use Rattle.dp_model.specs.Packets.{needed}
 use Rattle.dp_model.specs.Stores.{Store, ReceivesInto}
-use Rattle.dp_pool.specs.Pools.{PoolView, object_in, with_object, with_written}
+use Rattle.dp_pool.specs.Pools.{PoolView, with_written}
 use Rattle.dp_mbuf.specs.declared.header.Header.{Header}
-use Rattle.dp_mbuf.specs.Headers.{with_both, header_bytes}
+use Rattle.dp_mbuf.specs.Headers.{header_bytes}
 use Rattle.dp_mbuf.specs.Objects.{present, pool_in, header_at, specs_of, count_in, HasObject, ArePoolSlots, HeaderSet, RoomWritten, Taken}
-use Rattle.dp_mbuf.specs.Objects.{BothWritten, SlotBecomes}
+use Rattle.dp_mbuf.specs.Objects.{BothWritten}
 use Rattle.dp_mbuf.specs.Steps.{FilledBy, direct_header}
 use Rattle.dp_mbuf.specs.Mbufs.{handle, shown, Sound}
 use Rattle.dp_mbuf.proofs.PoolLemmas.{Small}
-use Rattle.dp_mbuf.proofs.ObjectLemmas.{object_pool, object_long, slot_is, room_written, room_is}
-use Rattle.dp_mbuf.proofs.ObjectCalls.{are, listed, front_done, room_done}
+use Rattle.dp_mbuf.proofs.ObjectLemmas.{object_pool, object_long, front_set, room_written, room_is}
+use Rattle.dp_mbuf.proofs.ObjectCalls.{are, again, InSlot, becomes}
 use Rattle.dp_mbuf.proofs.HeaderFields.{header_done, header_set}
-use Rattle.dp_mbuf.proofs.SettingFirst.{written_again}
 use Rattle.dp_mbuf.proofs.Frames.{number_small}
 use Rattle.dp_mbuf.proofs.InHand.{object_after}
 use Rattle.dp_mbuf.proofs.Taking.{fresh_header, small_header, taken_object}
 use Rattle.dp_mbuf.proofs.Receiving.{Ready, ready, need_is, one_needed, receiving_start, receive_done}
 
-module _ (pools : List (Option PoolView)) (ps : List PoolView) (e : present pools ≡ ps) (inv : ArePoolSlots pools) where
-  -- at the object itself
-  both_here : (n : Number) (h : Header) (header : List ℕ) (at : ℕ) (bytes : List ℕ) (d o : Option PoolView) → header ≡ header_bytes h → Small header
-      → Small bytes → HasObject ps n → 128 + at + length bytes ≤ (pool_in ps n.pool).size
-      → SlotBecomes (λ p. with_object p n.index (with_both (object_in p n.index) header (128 + at) bytes)) (get_or pools n.pool d) o
-      → ArePoolSlots (set pools n.pool o) × BothWritten ps n h at bytes (present (set pools n.pool o))
-  both_here n h header at bytes d o eh small_h small_b object fit b =
-      let there : n.pool < length ps = object_pool ps n object in
-      let below = (listed pools ps e inv n.pool there).0 in
-      let is = slot_is pools ps n.pool d e there in
-      let p : PoolView = pool_in ps n.pool in
-      let q : PoolView = with_written p n.index 0 header in
-      let middle : List (Option PoolView) = set pools n.pool (Some q) in
-      let many = ap length eh in
-      let f = front_done pools ps e inv n n.pool n.index 0 header d (Some q) refl refl small_h object (omega (arith, many))
-      (rw is) in
-      let first : HeaderSet ps n h (present middle) =
-      header_done ps (present middle) n (object_long ps n (are pools ps e inv) object) header h eh f.1 in
-      let object' : HasObject (present middle) n = object_after ps (present middle) n first.specs object in
-      let left : o ≡ Some (with_object p n.index (with_both (object_in p n.index) header (128 + at) bytes)) =
-      rw is at b in
-      let again : o ≡ Some (with_written q n.index (128 + at) bytes) = rw left (ap Some (written_again p n.index 0 (128 + at) header bytes object)) in
-      let same = ap (λ s. room_at s n.pool) first.specs in
-      let fit' : 128 + at + length bytes ≤ (pool_in (present middle) n.pool).size =
-      let long = (first.are.rooms n.pool (object_pool (present middle) n object')).header in
-      omega (arith, fit, long, same, room_is ps n.pool, room_is (present middle) n.pool) in
-      let g = room_done middle (present middle) refl f.0 n n.pool n.index at bytes d o refl refl small_b object' fit'
-      (rw (get_or-set_same pools n.pool (Some q) d below) again) in
-      rw (← set-set pools n.pool (Some q) o)
-      (g.0, record { middle = present middle; header = first; bytes_in = g.1 })
-
-  pub both_done : (n : Number) (h : Header) (k i from : ℕ) (header : List ℕ) (at : ℕ) (bytes : List ℕ) (d o : Option PoolView) → k ≡ n.pool → i ≡ n.index
-      → from ≡ 128 + at → header ≡ header_bytes h → Small header → Small bytes → HasObject ps n → 128 + at + length bytes ≤ (pool_in ps n.pool).size
-      → SlotBecomes (λ p. with_object p i (with_both (object_in p i) header from bytes)) (get_or pools k d) o
-      → ArePoolSlots (set pools k o) × BothWritten ps n h at bytes (present (set pools k o))
-  both_done n h k i from header at bytes d o ek ei ef eh small_h small_b object fit b =
-      rw ek (both_here n h header at bytes d o eh small_h small_b object fit (rw (← ef, ← ei, ← ek) b))
+pub both_done : (pools : List (Option PoolView)) (ps : List PoolView) → present pools ≡ ps → ArePoolSlots pools → (n : Number) (h : Header) (j i : ℕ)
+    (header : List ℕ) (at : ℕ) (bytes : List ℕ) (p q : PoolView) → InSlot ps n j i p
+    → q ≡ with_written (with_written p i 0 header) i (128 + at) bytes → header ≡ header_bytes h → Small header → Small bytes
+    → at + length bytes ≤ room_at (specs_of ps) n.pool → ArePoolSlots (set pools j (Some q)) × BothWritten ps n h at bytes (present (set pools j (Some q)))
+both_done pools ps e inv n h j i header at bytes p q s left is small_h small_b fit =
+    let a = are pools ps e inv in
+    let many = ap length is in
+    let middle : List PoolView = set ps n.pool (with_written (pool_in ps n.pool) n.index 0 header) in
+    let first : HeaderSet ps n h middle =
+    header_done ps middle n (object_long ps n a s.object) header h is (front_set ps n 0 header a s.object small_h (omega (arith, many))) in
+    let second = room_written middle n at bytes first.are (object_after ps middle n first.specs s.object) small_b (rw first.specs fit) in
+    let w : RoomWritten middle n at bytes (set ps n.pool (with_written (with_written (pool_in ps n.pool) n.index 0 header) n.index (128 + at) bytes)) =
+    rw (← again ps n.pool (with_written (pool_in ps n.pool) n.index 0 header) (λ r. with_written r n.index (128 + at) bytes)
+    (object_pool ps n s.object)) second in
+    becomes pools ps e inv (BothWritten ps n h at bytes) n j i p q (λ r k. with_written (with_written r k 0 header) k (128 + at) bytes) s left
+    w.are (rw w.specs first.specs)
+    (record { middle = middle; header = first; bytes_in = w })
 
 -- ---- a packet of one segment at once
 
@@ -85,10 +64,8 @@ alone_is ps ps1 ps' n bytes t small fits b =
     let mid : List PoolView = set ps1 n.pool (with_written (pool_in ps1 n.pool) n.index 0 (header_bytes x)) in
     let first : HeaderSet ps1 n x mid = header_set ps1 n x t.are object sm in
     let object' : HasObject mid n = object_after ps1 mid n first.specs object in
-    let same = ap (λ s. room_at s n.pool) first.specs in
-    let long = (first.are.rooms n.pool (object_pool mid n object')).header in
     let end : List PoolView = set mid n.pool (with_written (pool_in mid n.pool) n.index (128 + 128) bytes) in
-    let second : RoomWritten mid n 128 bytes end = room_written mid n 128 bytes first.are object' small (omega (arith, fits, same, long, room_is mid n.pool)) in
+    let second : RoomWritten mid n 128 bytes end = room_written mid n 128 bytes first.are object' small (rw first.specs fits) in
     let f : Header → Header = λ h. record h { segs = 1; last = n } in
     record {
       before = end;

@@ -1,5 +1,5 @@
 -- Marking objects: no packet begins there.
-use Rattle.std.proofs.Common.{◌≡◌, ℕ, zero, suc, ◌+◌, ◌<◌, ◌≤◌, List, [], ◌∷◌, length, drop, Option, Some, None, refl, ap}
+use Rattle.std.proofs.Common.{◌≡◌, ℕ, zero, suc, ◌+◌, ◌<◌, ◌≤◌, List, [], ◌∷◌, length, drop, Option, Some, None, refl, sym, ◌∙◌, ap}
 use Rattle.std.proofs.Common.{arith, ⊎_elim, get_or, set, below_more}
 use Rattle.std.specs.Prelude.{IfSome}
 use Rattle.std.specs.List.{AllByRecursion}
@@ -10,11 +10,10 @@ use Rattle.dp_model.specs.Buffers.{Number, overwritten}
 use Rattle.dp_pool.specs.Pools.{PoolView, object_in, with_written}
 use Rattle.dp_mbuf.specs.Headers.{header_of}
 use Rattle.dp_mbuf.specs.Objects.{header_at, is_out, present, pool_in, HeadersFirst, PoolsFirst, objects_in_all}
-use Rattle.dp_mbuf.specs.Objects.{ArePools, ArePoolSlots, FirstsCleared, FirstsClearedTo, SlotFirstsCleared}
+use Rattle.dp_mbuf.specs.Objects.{ArePools, ArePoolSlots, FirstsCleared, FirstsClearedTo}
 use Rattle.dp_mbuf.specs.Mbufs.{mbufs_in_all}
 use Rattle.dp_mbuf.proofs.PoolLemmas.{pool_written, small_zeros}
-use Rattle.dp_mbuf.proofs.ObjectLemmas.{are_pools, map_kept, rest_kept}
-use Rattle.dp_mbuf.proofs.Owned.{mbufs_are}
+use Rattle.dp_mbuf.proofs.ObjectLemmas.{are_pools, map_kept, rest_kept, mbufs_are}
 
 -- no packet begins where there is no object
 blank : (header_of []).segs ≡ 0
@@ -63,6 +62,12 @@ firsts_cleared_more p q r i bytes u there zeros is =
 
 -- ---- the slots for pools
 
+-- afterwards no packet begins at any object of the slot's pool
+abbrev pub SlotFirstsCleared : Option PoolView → Option PoolView → Type 0
+SlotFirstsCleared None o = o ≡ None
+SlotFirstsCleared (Some p) None = ⊥
+SlotFirstsCleared (Some p) (Some p') = FirstsClearedTo (length p.objects) p p'
+
 -- after the first empty slot there are no pools
 none_after : (pools : List (Option PoolView)) (k : ℕ) → AllByRecursion (λ o. o ≡ None) pools → get_or pools k None ≡ None
 none_after [] k none = refl
@@ -82,10 +87,11 @@ pub record SlotsTo (i : ℕ) (old new : List (Option PoolView)) : Type 0 where
   pub done : (k : ℕ) → k < i → SlotFirstsCleared (get_or old k None) (get_or new k None)
   pub left : (k : ℕ) → i ≤ k → get_or new k None ≡ get_or old k None
 
-pub has_header : (i : ℕ) (old new : List (Option PoolView)) (d : Option PoolView) → length old ≡ 8 → HeadersFirst old → SlotsTo i old new → i < 8 →
-    IfSome (get_or new i d) (λ p. 128 ≤ p.size)
-has_header i old new d eight first s there =
-    rw (get_or_default new i d None (omega (arith, s.many)), s.left i (omega arith)) (header_first old i first)
+pub has_header : (i : ℕ) (old new : List (Option PoolView)) (d : Option PoolView) (p : PoolView) → length old ≡ 8 → HeadersFirst old → SlotsTo i old new
+    → i < 8 → get_or new i d ≡ Some p → 128 ≤ p.size
+has_header i old new d p eight first s there is =
+    let same : get_or old i None ≡ Some p = sym (s.left i (omega arith)) ∙ (sym (get_or_default new i d None (omega (arith, s.many))) ∙ is) in
+    rw same at (header_first old i first)
 
 -- ---- all slots
 

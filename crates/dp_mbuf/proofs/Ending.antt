@@ -1,48 +1,36 @@
 -- A packet that is one object of its own: no packet begins there any more, and the object goes back.
-use Rattle.std.proofs.Common.{◌≡◌, ℕ, ◌<◌, List, [], length, Option, Some, None, true, refl, arith, ⊎_elim, get_or, set}
-use Rattle.std.proofs.lemmas.List.{get_or-set_same, set-set}
+use Rattle.std.proofs.Common.{◌≡◌, ℕ, List, [], Option, Some, None, true, refl, arith, ⊎_elim, set}
 use Rattle.dp_model.specs.Buffers.{Number, same_number}
 use Rattle.dp_model.specs.Stores.{Store, IsLive, with_slot}
 use Rattle.dp_model.specs.Laws.Stored.{same_number_refl, same_is}
 use Rattle.dp_pool.specs.Pools.{PoolView, with_written, put_back}
 use Rattle.dp_mbuf.specs.Headers.{then_word}
-use Rattle.dp_mbuf.specs.Objects.{present, pool_in, header_at, is_out, zones_of, HasObject, ArePools, ArePoolSlots, HeaderSet, Given, Ended, SlotBecomes}
+use Rattle.dp_mbuf.specs.Objects.{present, pool_in, header_at, is_out, zones_of, ArePools, ArePoolSlots, HeaderSet, Given, Ended}
 use Rattle.dp_mbuf.specs.Steps.{MbufBack, BufferLess, Released}
 use Rattle.dp_mbuf.specs.Mbufs.{numbered, shown, Sound}
-use Rattle.dp_mbuf.proofs.ObjectLemmas.{object_pool, object_long, slot_is, same_or}
-use Rattle.dp_mbuf.proofs.ObjectCalls.{are, listed, front_done, give_done}
+use Rattle.dp_mbuf.proofs.ObjectLemmas.{object_pool, object_long, front_set, given, same_or}
+use Rattle.dp_mbuf.proofs.ObjectCalls.{are, again, InSlot, becomes, out_there}
 use Rattle.dp_mbuf.proofs.HeaderFields.{small_word, segs_done}
 use Rattle.dp_mbuf.proofs.Links.{alike}
+use Rattle.dp_mbuf.proofs.InHand.{object_after}
 use Rattle.dp_mbuf.proofs.Live.{opened}
 use Rattle.dp_mbuf.proofs.Freeing.{freeing_start, freed_only}
 
-module _ (pools : List (Option PoolView)) (ps : List PoolView) (e : present pools ≡ ps) (inv : ArePoolSlots pools) where
-  -- at the object itself
-  end_here : (n : Number) (d o : Option PoolView) → HasObject ps n → is_out ps n ≡ true
-      → SlotBecomes (λ p. put_back (with_written p n.index 0 (then_word 0 [])) n.index) (get_or pools n.pool d) o
-      → ArePoolSlots (set pools n.pool o) × Ended ps n (present (set pools n.pool o))
-  end_here n d o object out b =
-      let x : List ℕ = then_word 0 [] in
-      let there : n.pool < length ps = object_pool ps n object in
-      let below = (listed pools ps e inv n.pool there).0 in
-      let is = slot_is pools ps n.pool d e there in
-      let q : PoolView = with_written (pool_in ps n.pool) n.index 0 x in
-      let middle : List (Option PoolView) = set pools n.pool (Some q) in
-      let f = front_done pools ps e inv n n.pool n.index 0 x d (Some q) refl refl (small_word 0 (omega arith)) object (omega arith)
-      (rw is) in
-      let first : HeaderSet ps n (record (header_at ps n) { segs = 0 }) (present middle) =
-      segs_done ps (present middle) n (object_long ps n (are pools ps e inv) object) x 0 refl f.1 in
-      let left : o ≡ Some (put_back q n.index) = rw is at b in
-      let g = give_done middle (present middle) refl f.0 n n.pool n.index d o refl refl (rw (first.outs n) out)
-      (rw (get_or-set_same pools n.pool (Some q) d below) left) in
-      rw (← set-set pools n.pool (Some q) o)
-      (g.0, record { middle = present middle; first_cleared = first; given = g.1 })
-
-  pub end_done : (n : Number) (k i : ℕ) (d o : Option PoolView) → k ≡ n.pool → i ≡ n.index → HasObject ps n → is_out ps n ≡ true
-      → SlotBecomes (λ p. put_back (with_written p i 0 (then_word 0 [])) i) (get_or pools k d) o
-      → ArePoolSlots (set pools k o) × Ended ps n (present (set pools k o))
-  end_done n k i d o ek ei object out b =
-      rw ek (end_here n d o object out (rw (← ei, ← ek) b))
+pub end_done : (pools : List (Option PoolView)) (ps : List PoolView) → present pools ≡ ps → ArePoolSlots pools → (n : Number) (j i i' : ℕ) (p m q : PoolView)
+    → InSlot ps n j i p → m ≡ with_written p i 0 (then_word 0 []) → q ≡ put_back m i' → i' ≡ n.index → is_out ps n ≡ true
+    → ArePoolSlots (set pools j (Some q)) × Ended ps n (present (set pools j (Some q)))
+end_done pools ps e inv n j i i' p m q s cleared back at out =
+    let x : List ℕ = then_word 0 [] in
+    let a = are pools ps e inv in
+    let middle : List PoolView = set ps n.pool (with_written (pool_in ps n.pool) n.index 0 x) in
+    let first : HeaderSet ps n (record (header_at ps n) { segs = 0 }) middle =
+    segs_done ps middle n (object_long ps n a s.object) x 0 refl (front_set ps n 0 x a s.object (small_word 0 (omega arith)) (omega arith)) in
+    let second = given middle n first.are (object_pool middle n (object_after ps middle n first.specs s.object))
+    (out_there (pool_in middle n.pool).out n.index (rw (first.outs n) out)) in
+    let g : Given middle n (set ps n.pool (put_back (with_written (pool_in ps n.pool) n.index 0 x) n.index)) =
+    rw (← again ps n.pool (with_written (pool_in ps n.pool) n.index 0 x) (λ r. put_back r n.index) (object_pool ps n s.object)) second in
+    becomes pools ps e inv (Ended ps n) n j i p q (λ r k. put_back (with_written r k 0 x) k) s (cc (cleared, back, at, s.index)) g.are (rw g.specs first.specs)
+    (record { middle = middle; first_cleared = first; given = g })
 
 -- ---- its segment is released
 

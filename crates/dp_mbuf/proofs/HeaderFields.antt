@@ -11,7 +11,7 @@ use Rattle.dp_mbuf.specs.Headers.{header_of, header_bytes, word, mbuf_number, th
 use Rattle.dp_pool.specs.Pools.{PoolView, object_in, with_written}
 use Rattle.dp_mbuf.specs.Objects.{pool_in, header_at, header_with, HasObject, ArePools, HeaderSet}
 use Rattle.dp_mbuf.proofs.PoolLemmas.{Small}
-use Rattle.dp_mbuf.proofs.ObjectLemmas.{header_eq, header_back, word_back, mbuf_back, object_pool, object_long, front_set}
+use Rattle.dp_mbuf.proofs.ObjectLemmas.{header_eq, header_back, word_back, mbuf_back, object_long, front_set}
 use Rattle.dp_model.specs.Laws.Stored.{number_path, length_overwritten}
 
 -- ---- bytes written over others
@@ -234,7 +234,7 @@ pub header_set : (ps : List PoolView) (n : Number) (h : Header) → ArePools ps 
 header_set ps n h are object small =
     let bytes : List ℕ = header_bytes h in
     header_done ps _ n (object_long ps n are object) bytes h refl
-    (front_set ps n 0 bytes are object small (omega arith) (omega (arith, (are.rooms n.pool (object_pool ps n object)).header)))
+    (front_set ps n 0 bytes are object small (omega arith))
 
 -- two fields written, one after the other
 pub first_set_twice : (ps middle ps' : List PoolView) (n : Number) (s : ℕ) (l : Number) → HeaderSet ps n (record (header_at ps n) { segs = s }) middle →

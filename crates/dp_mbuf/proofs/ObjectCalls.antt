@@ -1,21 +1,23 @@
--- The calls on objects: what they ask of a slot, and how they change it.
-use Rattle.std.proofs.Common.{◌≡◌, ℕ, zero, suc, ◌+◌, ◌<◌, ◌≤◌, Bool, true, false, List, [], ◌∷◌, length, Option, Some, None, refl, ap}
+-- The calls on objects: the pool that is in a slot, and the pools after it changes.
+use Rattle.std.proofs.Common.{◌≡◌, ℕ, zero, suc, ◌+◌, ◌<◌, ◌≤◌, Bool, true, false, List, [], ◌∷◌, length, Option, Some, None, refl, ap, ◌∙◌}
 use Rattle.std.proofs.Common.{arith, get_or, set}
-use Rattle.std.specs.Prelude.{slice_get, count_by, not}
-use Rattle.std.proofs.lemmas.List.{length-set, get_or_past}
-use Rattle.std.proofs.lemmas.List.Sums.{sum_by-cons}
+use Rattle.std.specs.Prelude.{slice_get, is_some}
+use Rattle.std.proofs.lemmas.List.{length-set, get_or_past, set-set}
+use Rattle.std.proofs.lemmas.Option.{slice_get_within}
 use Rattle.std.specs.List.{AllByRecursion}
 use Rattle.dp_model.specs.Environments.{room_at}
-use Rattle.dp_model.specs.Buffers.{Number}
-use Rattle.dp_pool.specs.Pools.{PoolView, with_written, got, put_back}
-use Rattle.dp_mbuf.specs.Objects.{present, pool_in, header_with, is_out, count_in, specs_of, HasObject, HasRooms, PoolsFirst, objects_in_all, ArePoolSlots}
-use Rattle.dp_mbuf.specs.Objects.{ArePools, HeaderSet, RoomWritten, Taken, Given, SlotHas, SlotFits, SlotIsOut, SlotBecomes, SlotGives, slot_count, no_pool}
-use Rattle.dp_mbuf.proofs.PoolLemmas.{Small, pool_out}
-use Rattle.dp_mbuf.proofs.ObjectLemmas.{are_pools, object_pool, room_is, front_set, room_written, rooms_written, taken, given, slot_is, slot_below, slot_set}
-use Rattle.dp_mbuf.proofs.ObjectLemmas.{slot_first}
+use Rattle.dp_model.specs.Buffers.{Number, overwritten}
+use Rattle.dp_model.specs.Laws.Stored.{length_overwritten}
+use Rattle.dp_pool.specs.Pools.{PoolView, object_in, with_object, with_written, with_left, got, put_back}
+use Rattle.dp_mbuf.specs.Objects.{present, pool_in, header_with, is_out, specs_of, HasObject, HasRooms, PoolsFirst, objects_in_all, ArePoolSlots}
+use Rattle.dp_mbuf.specs.Objects.{ArePools, HeaderSet, RoomWritten, Taken, Given, slot_count, no_pool}
+use Rattle.dp_mbuf.specs.Mbufs.{mbufs_in_all}
+use Rattle.dp_mbuf.proofs.PoolLemmas.{Small}
+use Rattle.dp_mbuf.proofs.ObjectLemmas.{are_pools, object_pool, room_is, front_set, room_written, taken, given, here, slot_is, slot_below as listed_below}
+use Rattle.dp_mbuf.proofs.ObjectLemmas.{present_set, mbufs_are, first_set}
 
 -- an index that is out is so in the row
-out_there : (row : List Bool) (i : ℕ) → get_or row i false ≡ true → slice_get row i ≡ Some true
+pub out_there : (row : List Bool) (i : ℕ) → get_or row i false ≡ true → slice_get row i ≡ Some true
 out_there [] i e = cc
 out_there (x ∷ row) zero e = rw e
 out_there (x ∷ row) (suc i) e = out_there row i e
@@ -25,130 +27,146 @@ out_pool [] k i e = cc
 out_pool (p ∷ ps) zero i e = omega arith
 out_pool (p ∷ ps) (suc k) i e = omega (arith, out_pool ps k i e)
 
--- replacing a pool by one of as many objects changes no sum
-as_many : (ps : List PoolView) (k : ℕ) (p : PoolView) → length p.objects ≡ length (pool_in ps k).objects → objects_in_all (set ps k p) ≡ objects_in_all ps
-as_many [] k p many = refl
-as_many (q ∷ ps) zero p many = omega (arith, many, sum_by-cons (λ (x : PoolView). length x.objects) p ps, sum_by-cons (λ (x : PoolView). length x.objects) q ps)
-as_many (q ∷ ps) (suc k) p many =
-    let more = as_many ps k p many in omega (
-      arith,
-      more,
-      sum_by-cons (λ (x : PoolView). length x.objects) q (set ps k p),
-      sum_by-cons (λ (x : PoolView). length x.objects) q ps,
-    )
+-- a pool that is replaced, and then changed
+pub again : (ps : List PoolView) (k : ℕ) (q : PoolView) (f : PoolView → PoolView) → k < length ps → set (set ps k q) k (f (pool_in (set ps k q) k))
+    ≡ set ps k (f q)
+again ps k q f there = rw (here ps k there q, set-set ps k q (f q))
+
+-- a pool after a change of an object's bytes, which were lent
+pub left_is : (p : PoolView) (i : ℕ) (f : List ℕ → List ℕ) (old new : List ℕ) → old ≡ object_in p i → length old ≡ p.size
+    → ((ws : List ℕ) → length ws ≡ p.size → with_left i p ws ≡ with_object p i ws) → new ≡ f old → length (f old) ≡ length old
+    → with_left i p new ≡ with_object p i (f (object_in p i))
+left_is p i f old new value size whole is same =
+    rw (is, ← value) (whole (f old) (omega (arith, size, same)))
+
+-- slot j has p, the pool of object n, whose index is i
+pub record InSlot (ps : List PoolView) (n : Number) (j i : ℕ) (p : PoolView) : Type 0 where
+  pub slot : j ≡ n.pool
+  pub index : i ≡ n.index
+  pub object : HasObject ps n
+  pub is : p ≡ pool_in ps n.pool
+  pub below : i < length p.objects
+  pub size : p.size ≡ 128 + room_at (specs_of ps) n.pool
+
+pub left_written : (p : PoolView) (i at : ℕ) (bytes old new : List ℕ) → old ≡ object_in p i → length old ≡ p.size
+    → ((ws : List ℕ) → length ws ≡ p.size → with_left i p ws ≡ with_object p i ws) → new ≡ overwritten old at bytes → at + length bytes ≤ p.size
+    → with_left i p new ≡ with_written p i at bytes
+left_written p i at bytes old new value size whole is fits =
+    left_is p i (λ o. overwritten o at bytes) old new value size whole is (length_overwritten old bytes at (omega (arith, size, fits)))
 
 module _ (pools : List (Option PoolView)) (ps : List PoolView) (e : present pools ≡ ps) (inv : ArePoolSlots pools) where
   pub are : ArePools ps
   are = rw (← e) (are_pools pools (omega (arith, inv.0)) inv.1)
 
-  pub listed : (k : ℕ) → k < length ps → (k < length pools) × (k < 8)
-  listed k h = let b = slot_below pools ps k e h in (b, omega (arith, b, inv.0))
+  -- slot j is that of pool k
+  module _ (j k : ℕ) (ej : j ≡ k) (there : k < length ps) where
+    pub listed : (j < length pools) × (j < 8)
+    listed = let b = listed_below pools ps k e there in (omega (arith, ej, b), omega (arith, ej, b, inv.0))
 
-  pub has : (k : ℕ) (d : Option PoolView) → k < length ps → SlotHas (get_or pools k d)
-  has k d h = rw (slot_is pools ps k d e h) (are.rooms k h)
+    pub filled : (d : Option PoolView) → is_some (get_or pools j d) ≡ true
+    filled d = rw (ej, slot_is pools ps k d e there) refl
 
-  pub fits : (n : Number) (k i m : ℕ) (d : Option PoolView) → k ≡ n.pool → i ≡ n.index → HasObject ps n → m ≤ (pool_in ps n.pool).size →
-      SlotFits (get_or pools k d) i m
-  fits n k i m d ek ei object h =
+    pub pool_is : (d : Option PoolView) (p : PoolView) → get_or pools j d ≡ Some p → p ≡ pool_in ps k
+    pool_is d p is = let s = slot_is pools ps k d e there in cc (is, ej, s)
+
+    -- the pools with another one in the slot
+    pub replaced : (R : List PoolView → Type 0) (q q0 : PoolView) → q ≡ q0 → ArePools (set ps k q0) → specs_of (set ps k q0) ≡ specs_of ps
+        → R (set ps k q0) → ArePoolSlots (set pools j (Some q)) × R (present (set pools j (Some q)))
+    replaced R q q0 eq are' specs r =
+        let is : present (set pools k (Some q0)) ≡ set ps k q0 = rw (← e) (present_set pools k q0 (rw e there)) in
+        let rooms : HasRooms q0 = rw (here ps k there q0) at (are'.rooms k (omega (arith, there, length-set ps k q0))) in
+        rw (ej, eq) (
+          (
+            rw length-set inv.0,
+            first_set pools k q0 inv.1 (rw e there) rooms,
+            omega (arith, inv.2, ap objects_in_all is, ap objects_in_all e, ap mbufs_in_all specs, mbufs_are ps, mbufs_are (set ps k q0)),
+          ),
+          rw is r,
+        )
+
+  pub in_slot : (n : Number) (j i : ℕ) (d : Option PoolView) (p : PoolView) → j ≡ n.pool → i ≡ n.index → HasObject ps n → get_or pools j d ≡ Some p
+      → InSlot ps n j i p
+  in_slot n j i d p ej ei object is =
       let there : n.pool < length ps = object_pool ps n object in
-      rw (ek, ei) (rw (slot_is pools ps n.pool d e there) (are.rooms n.pool there, object, h))
-
-  pub is_out_there : (n : Number) (k i : ℕ) (d : Option PoolView) → k ≡ n.pool → i ≡ n.index → is_out ps n ≡ true → SlotIsOut (get_or pools k d) i
-  is_out_there n k i d ek ei out =
-      rw (ek, ei) (rw (slot_is pools ps n.pool d e (out_pool ps n.pool n.index out)) (out_there (pool_in ps n.pool).out n.index out))
-
-  -- what is left at the slot
-  becomes : (k : ℕ) (d o : Option PoolView) (f : PoolView → PoolView) → k < length ps → SlotBecomes f (get_or pools k d) o → o ≡ Some (f (pool_in ps k))
-  becomes k d o f h b = rw (slot_is pools ps k d e h) at b
-
-  -- the pools with one replaced
-  replaced : (k : ℕ) (o : Option PoolView) (p : PoolView) → k < length ps → o ≡ Some p → HasRooms p → length p.objects ≡ length (pool_in ps k).objects →
-      ArePoolSlots (set pools k o) × (present (set pools k o) ≡ set ps k p)
-  replaced k o p h eo rooms many =
-      let is = slot_set pools ps k o p e h eo in
-      let (long, first, all) = inv in (
-        (
-          rw length-set long,
-          slot_first pools ps k o p e h eo first rooms,
-          omega (arith, ap objects_in_all is, ap objects_in_all e, as_many ps k p many),
-        ),
-        is,
-      )
-
-  pub front_fits : (n : Number) (at m : ℕ) → HasObject ps n → at + m ≤ 128 → at + m ≤ (pool_in ps n.pool).size
-  front_fits n at m object front =
-      omega (arith, front, (are.rooms n.pool (object_pool ps n object)).header)
-
-  pub front_done : (n : Number) (k i at : ℕ) (bytes : List ℕ) (d o : Option PoolView) → k ≡ n.pool → i ≡ n.index → Small bytes → HasObject ps n →
-      at + length bytes ≤ 128 → SlotBecomes (λ p. with_written p i at bytes) (get_or pools k d) o → ArePoolSlots (set pools k o)
-      × HeaderSet ps n (header_with ps n at bytes) (present (set pools k o))
-  front_done n k i at bytes d o ek ei small object front b =
-      let there : n.pool < length ps = object_pool ps n object in
-      let fit : at + length bytes ≤ (pool_in ps n.pool).size = front_fits n at (length bytes) object front in
-      let left : o ≡ Some (with_written (pool_in ps n.pool) n.index at bytes) =
-      rw (← ei, ← ek) (becomes k d o (λ p. with_written p i at bytes) (rw ek there) b) in
-      let r = replaced n.pool o (with_written (pool_in ps n.pool) n.index at bytes) there left (rooms_written ps n are object at bytes small fit)
-      (length-set (pool_in ps n.pool).objects n.index _) in
-      rw ek (r.0, rw r.1 (front_set ps n at bytes are object small front fit))
-
-  pub room_fits : (n : Number) (at m : ℕ) → HasObject ps n → at + m ≤ room_at (specs_of ps) n.pool → 128 + at + m ≤ (pool_in ps n.pool).size
-  room_fits n at m object h =
-      omega (arith, h, room_is ps n.pool, (are.rooms n.pool (object_pool ps n object)).header)
-
-  pub room_small : (n : Number) → HasObject ps n → room_at (specs_of ps) n.pool ≤ 4096
-  room_small n object = omega (arith, room_is ps n.pool, (are.rooms n.pool (object_pool ps n object)).room)
-
-  pub room_done : (n : Number) (k i at : ℕ) (bytes : List ℕ) (d o : Option PoolView) → k ≡ n.pool → i ≡ n.index → Small bytes → HasObject ps n →
-      128 + at + length bytes ≤ (pool_in ps n.pool).size → SlotBecomes (λ p. with_written p i (128 + at) bytes) (get_or pools k d) o →
-      ArePoolSlots (set pools k o) × RoomWritten ps n at bytes (present (set pools k o))
-  room_done n k i at bytes d o ek ei small object fit b =
-      let there : n.pool < length ps = object_pool ps n object in
-      let left : o ≡ Some (with_written (pool_in ps n.pool) n.index (128 + at) bytes) =
-      rw (← ei, ← ek) (becomes k d o (λ p. with_written p i (128 + at) bytes) (rw ek there) b) in
-      let r = replaced n.pool o (with_written (pool_in ps n.pool) n.index (128 + at) bytes) there left
-      (rooms_written ps n are object (128 + at) bytes small fit) (length-set (pool_in ps n.pool).objects n.index _) in
-      rw ek (r.0, rw r.1 (room_written ps n at bytes are object small fit))
-
-  pub give_done : (n : Number) (k i : ℕ) (d o : Option PoolView) → k ≡ n.pool → i ≡ n.index → is_out ps n ≡ true →
-      SlotBecomes (λ p. put_back p i) (get_or pools k d) o → ArePoolSlots (set pools k o) × Given ps n (present (set pools k o))
-  give_done n k i d o ek ei out b =
-      let there : n.pool < length ps = out_pool ps n.pool n.index out in
+      let same : p ≡ pool_in ps n.pool = pool_is j n.pool ej there d p is in
       let rooms = are.rooms n.pool there in
-      let left : o ≡ Some (put_back (pool_in ps n.pool) n.index) = rw (← ei, ← ek) (becomes k d o (λ p. put_back p i) (rw ek there) b) in
-      let r = replaced n.pool o (put_back (pool_in ps n.pool) n.index) there left
-      (record {
-        pool = pool_out (pool_in ps n.pool) n.index false (put_back (pool_in ps n.pool) n.index).cached rooms.pool;
-        header = rooms.header;
-        room = rooms.room;
-      }) refl in
-      rw ek (r.0, rw r.1 (given ps n are there (out_there (pool_in ps n.pool).out n.index out)))
+      record {
+        slot = ej;
+        index = ei;
+        object = object;
+        is = same;
+        below = rw (same, ei) object;
+        size = rw same (omega (arith, room_is ps n.pool, rooms.header));
+      }
+
+  -- the pools after the pool of n changes
+  pub becomes : (R : List PoolView → Type 0) (n : Number) (j i : ℕ) (p q : PoolView) (f : PoolView → ℕ → PoolView) → InSlot ps n j i p → q ≡ f p i
+      → ArePools (set ps n.pool (f (pool_in ps n.pool) n.index)) → specs_of (set ps n.pool (f (pool_in ps n.pool) n.index)) ≡ specs_of ps
+      → R (set ps n.pool (f (pool_in ps n.pool) n.index)) → ArePoolSlots (set pools j (Some q)) × R (present (set pools j (Some q)))
+  becomes R n j i p q f s left =
+      replaced j n.pool s.slot (object_pool ps n s.object) R q (f (pool_in ps n.pool) n.index) (rw (left, s.is, s.index))
+
+  pub front_done : (n : Number) (j i at : ℕ) (bytes : List ℕ) (p q : PoolView) → InSlot ps n j i p → q ≡ with_written p i at bytes → Small bytes
+      → at + length bytes ≤ 128 → ArePoolSlots (set pools j (Some q)) × HeaderSet ps n (header_with ps n at bytes) (present (set pools j (Some q)))
+  front_done n j i at bytes p q s left small front =
+      let h = front_set ps n at bytes are s.object small front in
+      becomes (HeaderSet ps n (header_with ps n at bytes)) n j i p q (λ x k. with_written x k at bytes) s left h.are h.specs h
+
+  pub room_done : (n : Number) (j i at : ℕ) (bytes : List ℕ) (p q : PoolView) → InSlot ps n j i p → q ≡ with_written p i (128 + at) bytes → Small bytes
+      → at + length bytes ≤ room_at (specs_of ps) n.pool → ArePoolSlots (set pools j (Some q)) × RoomWritten ps n at bytes (present (set pools j (Some q)))
+  room_done n j i at bytes p q s left small fits =
+      let r = room_written ps n at bytes are s.object small fits in
+      becomes (RoomWritten ps n at bytes) n j i p q (λ x k. with_written x k (128 + at) bytes) s left r.are r.specs r
+
+  -- an object that is out
+  pub out_object : (n : Number) → is_out ps n ≡ true → HasObject ps n
+  out_object n out =
+      let p : PoolView = pool_in ps n.pool in
+      omega (arith, slice_get_within p.out n.index true (out_there p.out n.index out), (are.rooms n.pool (out_pool ps n.pool n.index out)).pool.out)
+
+  pub in_row : (n : Number) (j i : ℕ) (p : PoolView) → InSlot ps n j i p → is_out ps n ≡ true → slice_get p.out i ≡ Some true
+  in_row n j i p s out = rw (s.is, s.index) (out_there (pool_in ps n.pool).out n.index out)
+
+  pub give_done : (n : Number) (j i : ℕ) (p q : PoolView) → InSlot ps n j i p → q ≡ put_back p i → is_out ps n ≡ true
+      → ArePoolSlots (set pools j (Some q)) × Given ps n (present (set pools j (Some q)))
+  give_done n j i p q s left out =
+      let g = given ps n are (object_pool ps n s.object) (out_there (pool_in ps n.pool).out n.index out) in
+      becomes (Given ps n) n j i p q put_back s left g.are g.specs g
 
   -- an object is taken
-  pub take_some : (k i : ℕ) (d o : Option PoolView) → k < length ps → SlotGives (get_or pools k d) (Some i) o → ArePoolSlots (set pools k o)
-      × Taken ps (record { pool = k; index = i }) (present (set pools k o))
-  take_some k i d o there b =
-      let rooms = are.rooms k there in
-      let g : (slice_get (pool_in ps k).out i ≡ Some false) × (o ≡ Some (got (pool_in ps k) i)) =
-      rw (slot_is pools ps k d e there) at b in
-      let r = replaced k o (got (pool_in ps k) i) there g.1 (record {
-        pool = pool_out (pool_in ps k) i true (got (pool_in ps k) i).cached rooms.pool;
-        header = rooms.header;
-        room = rooms.room;
-      }) refl in
-      (r.0, rw r.1 (taken ps (record { pool = k; index = i }) are there g.0))
+  pub take_done : (j k : ℕ) → j ≡ k → k < length ps → (i : ℕ) (p q : PoolView) → p ≡ pool_in ps k → slice_get p.out i ≡ Some false → q ≡ got p i
+      → ArePoolSlots (set pools j (Some q)) × Taken ps (record { pool = k; index = i }) (present (set pools j (Some q)))
+  take_done j k ej there i p q is in_pool left =
+      let n : Number = record { pool = k; index = i } in
+      let t = taken ps n are there (rw is at in_pool) in
+      replaced j k ej there (Taken ps n) q (got (pool_in ps k) i) (rw (left, is)) t.are t.specs t
 
-  pub take_none : (k : ℕ) (d o : Option PoolView) → k < length ps → SlotGives (get_or pools k d) None o → ArePoolSlots (set pools k o) × (count_in ps k ≡ 0)
-      × (present (set pools k o) ≡ ps)
-  take_none k d o there b =
-      let g : (count_by not (pool_in ps k).out ≡ 0) × (o ≡ Some (pool_in ps k)) =
-      rw (slot_is pools ps k d e there) at b in
-      let r = replaced k o (pool_in ps k) there g.1 (are.rooms k there) refl in
-      (r.0, g.0, rw r.1 (same ps k))
+  -- nothing changes where none is in
+  pub take_none : (j k : ℕ) → j ≡ k → k < length ps → (p q : PoolView) → p ≡ pool_in ps k → q ≡ p → present (set pools j (Some q)) ≡ ps
+  take_none j k ej there p q is left =
+      let s = same ps k in (replaced j k ej there (λ x. x ≡ ps) q (pool_in ps k) (rw (left, is)) (rw s are) (ap specs_of s) s).1
     where
       same : (ps : List PoolView) (k : ℕ) → set ps k (pool_in ps k) ≡ ps
       same [] k = refl
       same (p ∷ ps) zero = refl
       same (p ∷ ps) (suc k) = rw (same ps k)
+
+  pub index_small : (k i : ℕ) (p : PoolView) → k < length ps → p ≡ pool_in ps k → slice_get p.out i ≡ Some false → i < 65536
+  index_small k i p there is in_pool =
+      let r = are.rooms k there in omega (arith, slice_get_within (pool_in ps k).out i false (rw is at in_pool), r.pool.out, r.pool.count)
+
+-- ---- the slot of an object's pool
+
+module _ (pools : List (Option PoolView)) (ps : List PoolView) (n : Number) (j k : ℕ) (e : present pools ≡ ps) (inv : ArePoolSlots pools)
+    (object : HasObject ps n) (ej : j ≡ k) (ek : k ≡ n.pool) where
+  pub slot_listed : j < length pools
+  slot_listed = (listed pools ps e inv j n.pool (ej ∙ ek) (object_pool ps n object)).0
+
+  pub slot_below : j < 8
+  slot_below = (listed pools ps e inv j n.pool (ej ∙ ek) (object_pool ps n object)).1
+
+  pub slot_filled : (d : Option PoolView) → is_some (get_or pools j d) ≡ true
+  slot_filled d = filled pools ps e inv j n.pool (ej ∙ ek) (object_pool ps n object) d
 
 -- ---- how many objects there are
 

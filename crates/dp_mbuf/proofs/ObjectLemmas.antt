@@ -8,14 +8,17 @@ use Rattle.std.proofs.lemmas.Bool.{cases_eq, cases_Bool, eq-eqb, and_from}
 use Rattle.std.proofs.lemmas.List.{length-set, length-take-le, get_or-set_same, get_or-set_other, get_or_append_left, get_or-take, drop-drop, drop-take}
 use Rattle.std.proofs.lemmas.List.{drop-append-le, length-map, map-set}
 use Rattle.std.proofs.Math.Seq.{drop-append-add}
+use Rattle.std.proofs.lemmas.List.Sums.{sum_by-cons}
 use Rattle.std.proofs.lemmas.Option.{same_Some, slice_get_within}
+use Rattle.dp_model.specs.declared.env.PoolSpec.{PoolSpec}
 use Rattle.dp_model.specs.Environments.{room_at, count_at}
 use Rattle.dp_model.specs.Buffers.{Number, same_number, bytes_of, overwritten}
 use Rattle.dp_mbuf.specs.declared.header.Header.{Header}
 use Rattle.dp_mbuf.specs.Headers.{header_of, header_bytes, word, mbuf_number}
 use Rattle.dp_pool.specs.Pools.{PoolView, object_in, with_written, got, put_back}
 use Rattle.dp_mbuf.specs.Objects.{present, no_pool, pool_in, header_at, header_with, is_out, count_in, spec_of, specs_of, rooms_of, buffers_of, zones_of}
-use Rattle.dp_mbuf.specs.Objects.{HasObject, HasRooms, PoolsFirst, ArePools, HeaderSet, RoomWritten, Taken, Given}
+use Rattle.dp_mbuf.specs.Objects.{HasObject, HasRooms, PoolsFirst, objects_in_all, ArePools, HeaderSet, RoomWritten, Taken, Given}
+use Rattle.dp_mbuf.specs.Mbufs.{mbufs_in_all}
 use Rattle.dp_mbuf.proofs.PoolLemmas.{with_out, count_set, Small, pool_out, pool_written}
 use Rattle.dp_model.specs.Laws.Stored.{number_path, same_is}
 use Rattle.dp_model.specs.Laws.Cases.{one_if}
@@ -169,6 +172,11 @@ count_is [] k = refl
 count_is (p ∷ ps) zero = refl
 count_is (p ∷ ps) (suc k) = count_is ps k
 
+pub mbufs_are : (ps : List PoolView) → mbufs_in_all (specs_of ps) ≡ objects_in_all ps
+mbufs_are [] = refl
+mbufs_are (p ∷ ps) =
+    omega (arith, mbufs_are ps, sum_by-cons (λ (s : PoolSpec). s.count) (spec_of p) (specs_of ps), sum_by-cons (λ (q : PoolView). length q.objects) p ps)
+
 pub length_specs : (ps : List PoolView) → length (specs_of ps) ≡ length ps
 length_specs ps = length-map ps spec_of
 
@@ -242,10 +250,10 @@ object_long ps n are object =
     let r = are.rooms n.pool (object_pool ps n object) in omega (arith, r.pool.sizes n.index object, r.header)
 
 pub front_set : (ps : List PoolView) (n : Number) (at : ℕ) (bytes : List ℕ) → ArePools ps → HasObject ps n → Small bytes → at + length bytes ≤ 128 →
-    at + length bytes ≤ (pool_in ps n.pool).size → HeaderSet ps n (header_with ps n at bytes)
-    (set ps n.pool (with_written (pool_in ps n.pool) n.index at bytes))
-front_set ps n at bytes are object small front fits =
+    HeaderSet ps n (header_with ps n at bytes) (set ps n.pool (with_written (pool_in ps n.pool) n.index at bytes))
+front_set ps n at bytes are object small front =
     let p : PoolView = pool_in ps n.pool in
+    let fits : at + length bytes ≤ p.size = omega (arith, front, (are.rooms n.pool (object_pool ps n object)).header) in
     let old : List ℕ = object_in p n.index in
     record {
       are = are_written ps n are object at bytes small fits;
@@ -281,11 +289,12 @@ rest_written old at new h =
     )
 
 pub room_written : (ps : List PoolView) (n : Number) (at : ℕ) (bytes : List ℕ) → ArePools ps → HasObject ps n → Small bytes →
-    128 + at + length bytes ≤ (pool_in ps n.pool).size → RoomWritten ps n at bytes (set ps n.pool (with_written (pool_in ps n.pool) n.index (128 + at) bytes))
-room_written ps n at bytes are object small fits =
+    at + length bytes ≤ room_at (specs_of ps) n.pool → RoomWritten ps n at bytes (set ps n.pool (with_written (pool_in ps n.pool) n.index (128 + at) bytes))
+room_written ps n at bytes are object small room =
     let p : PoolView = pool_in ps n.pool in
     let old : List ℕ = object_in p n.index in
     let there : n.pool < length ps = object_pool ps n object in
+    let fits : 128 + at + length bytes ≤ p.size = omega (arith, room, room_is ps n.pool, (are.rooms n.pool there).header) in
     let size : length old ≡ p.size = (are.rooms n.pool there).pool.sizes n.index object in
     let fit : 128 + at + length bytes ≤ length old = omega (arith, size, fits) in
     record {
@@ -386,16 +395,6 @@ slot_is pools ps k d e h = rw (← e) (present_at pools k d (rw e h))
 pub slot_below : (pools : List (Option PoolView)) (ps : List PoolView) (k : ℕ) → present pools ≡ ps → k < length ps → k < length pools
 slot_below pools ps k e h =
     omega (arith, present_below pools, rw (← e) at h)
-
-pub slot_set : (pools : List (Option PoolView)) (ps : List PoolView) (k : ℕ) (o : Option PoolView) (p : PoolView) → present pools ≡ ps → k < length ps →
-    o ≡ Some p → present (set pools k o) ≡ set ps k p
-slot_set pools ps k o p e h eo =
-    rw (eo, ← e) (present_set pools k p (rw e h))
-
-pub slot_first : (pools : List (Option PoolView)) (ps : List PoolView) (k : ℕ) (o : Option PoolView) (p : PoolView) → present pools ≡ ps → k < length ps →
-    o ≡ Some p → PoolsFirst pools → HasRooms p → PoolsFirst (set pools k o)
-slot_first pools ps k o p e h eo first rooms =
-    rw eo (first_set pools k p first (rw e h) rooms)
 
 -- a slot that is filled is one of the pools
 none_there : (pools : List (Option PoolView)) (k : ℕ) (d : Option PoolView) (p : PoolView) → AllByRecursion (λ o. o ≡ None) pools → k < length pools

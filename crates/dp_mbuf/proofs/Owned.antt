@@ -1,5 +1,5 @@
 -- The world of an `Mbufs` is well formed.
-use Rattle.std.proofs.Common.{◌≡◌, ℕ, zero, suc, ◌+◌, ◌<◌, ◌≤◌, Bool, true, List, [], ◌∷◌, length, refl, sym, ap, subst, arith, ⊎_elim}
+use Rattle.std.proofs.Common.{◌≡◌, ℕ, zero, suc, ◌+◌, ◌<◌, ◌≤◌, Bool, true, List, [], ◌∷◌, length, sym, ap, subst, arith, ⊎_elim}
 use Rattle.std.specs.Prelude.{◌&&◌, not}
 use Rattle.std.specs.List.{AllByRecursion}
 use Rattle.std.proofs.lemmas.Bool.{cases_eq}
@@ -11,9 +11,9 @@ use Rattle.dp_model.specs.Packets.{Segment, Packet, refs, AreOwned, IsWithin}
 use Rattle.dp_model.specs.Machine.{segments_held}
 use Rattle.dp_model.specs.Stores.{Store, Has, segments_of}
 use Rattle.dp_pool.specs.Pools.{PoolView}
-use Rattle.dp_mbuf.specs.Objects.{spec_of, specs_of, objects_in_all}
+use Rattle.dp_mbuf.specs.Objects.{specs_of, objects_in_all}
 use Rattle.dp_mbuf.specs.Mbufs.{mbufs, indirects, slots_of, shown, Sound, mbufs_in_all}
-use Rattle.dp_mbuf.proofs.ObjectLemmas.{same_or}
+use Rattle.dp_mbuf.proofs.ObjectLemmas.{same_or, mbufs_are}
 use Rattle.dp_mbuf.proofs.Counting.{mbufs-cons, mbufs_first, refs_le, indirects-cons}
 use Rattle.dp_mbuf.proofs.Live.{opened}
 use Rattle.dp_mbuf.proofs.Receiving.{buffer_long, are_bytes}
@@ -146,11 +146,6 @@ few_refs ps v e sound b =
     ))
 
 -- ---- the number of mbufs
-
-pub mbufs_are : (ps : List PoolView) → mbufs_in_all (specs_of ps) ≡ objects_in_all ps
-mbufs_are [] = refl
-mbufs_are (p ∷ ps) =
-    omega (arith, mbufs_are ps, sum_by-cons (λ (s : PoolSpec). s.count) (spec_of p) (specs_of ps), sum_by-cons (λ (q : PoolView). length q.objects) p ps)
 
 pub few_mbufs : (ps : List PoolView) (v : Store) → shown ps ≡ v → objects_in_all ps ≤ 65535 → mbufs_in_all v.pools ≤ 65535
 few_mbufs ps v e few = omega (arith, ap (λ s. mbufs_in_all s.pools) e, mbufs_are ps)

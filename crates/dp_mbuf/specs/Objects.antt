@@ -1,12 +1,12 @@
 -- The objects of all pools: a header each, and the bytes after it.
-use Rattle.std.specs.Prelude.{◌≡◌, ℕ, ◌+◌, ◌-◌, ◌<◌, ◌≤◌, ◌==◌, Bool, true, false, List, [], ◌∷◌, length, map, drop, sum_by, Option, Some, None, slice_get}
+use Rattle.std.specs.Prelude.{◌≡◌, ℕ, ◌+◌, ◌-◌, ◌<◌, ◌≤◌, ◌==◌, Bool, true, false, List, [], ◌∷◌, length, map, drop, sum_by, Option, Some, None}
 use Rattle.std.specs.Prelude.{slice_index_or}
 use Rattle.std.specs.List.{AllByRecursion}
 use Rattle.dp_model.specs.declared.env.PoolSpec.{PoolSpec}
 use Rattle.dp_model.specs.Buffers.{Number, same_number, Buffers, overwritten, written}
 use Rattle.dp_mbuf.specs.declared.limits.TheConstants.{HEADER_SIZE, MAX_MBUFS, MAX_OBJECT_SIZE, MAX_POOLS}
 use Rattle.dp_mbuf.specs.declared.header.Header.{Header}
-use Rattle.dp_pool.specs.Pools.{PoolZones, PoolView, IsPool, object_in, got}
+use Rattle.dp_pool.specs.Pools.{PoolZones, PoolView, IsPool, object_in}
 use Rattle.dp_pool.specs.Queues.{in_count}
 use Rattle.dp_mbuf.specs.Headers.{header_of}
 
@@ -176,16 +176,6 @@ pub record Ended (pools : List PoolView) (n : Number) (pools' : List PoolView) :
 
 -- ---- one slot for a pool
 
--- the slot has a pool of mbufs
-abbrev pub SlotHas : Option PoolView → Type 0
-SlotHas None = ⊥
-SlotHas (Some p) = HasRooms p
-
--- the slot has a pool of mbufs with this object, into which n bytes fit
-abbrev pub SlotFits : Option PoolView → ℕ → ℕ → Type 0
-SlotFits None i n = ⊥
-SlotFits (Some p) i n = HasRooms p × (i < length p.objects) × (n ≤ p.size)
-
 -- how many objects the slot's pool has
 abbrev pub slot_count : Option PoolView → ℕ
 slot_count None = 0
@@ -196,22 +186,6 @@ abbrev pub slot_whole : Option PoolView → Bool
 slot_whole None = true
 slot_whole (Some p) = in_count p.out == length p.objects
 
--- the slot has a pool, and this object of it is out
-abbrev pub SlotIsOut : Option PoolView → ℕ → Type 0
-SlotIsOut None i = ⊥
-SlotIsOut (Some p) i = slice_get p.out i ≡ Some true
-
--- the slot's pool p becomes f p
-abbrev pub SlotBecomes : (PoolView → PoolView) → Option PoolView → Option PoolView → Type 0
-SlotBecomes f None o = ⊥
-SlotBecomes f (Some p) o = o ≡ Some (f p)
-
--- an object of the slot's pool is taken, or none is in
-abbrev pub SlotGives : Option PoolView → Option ℕ → Option PoolView → Type 0
-SlotGives None result o = ⊥
-SlotGives (Some p) None o = (in_count p.out ≡ 0) × (o ≡ Some p)
-SlotGives (Some p) (Some i) o = (slice_get p.out i ≡ Some false) × (o ≡ Some (got p i))
-
 -- afterwards no packet begins at the first n objects of a pool, which stays a pool of mbufs
 pub record FirstsClearedTo (n : ℕ) (p p' : PoolView) : Type 0 where
   pub rooms : HasRooms p'
@@ -220,9 +194,3 @@ pub record FirstsClearedTo (n : ℕ) (p p' : PoolView) : Type 0 where
   pub buffers : rooms_of p' ≡ rooms_of p
   pub out : p'.out ≡ p.out
   pub heads : (i : ℕ) → i < n → (header_of (object_in p' i)).segs ≡ 0
-
--- afterwards no packet begins at any object of the slot's pool
-abbrev pub SlotFirstsCleared : Option PoolView → Option PoolView → Type 0
-SlotFirstsCleared None o = o ≡ None
-SlotFirstsCleared (Some p) None = ⊥
-SlotFirstsCleared (Some p) (Some p') = FirstsClearedTo (length p.objects) p p'

@@ -1,6 +1,6 @@
 //! The header in the first bytes of each object.
 
-ghost use Rattle.std.specs.Prelude.{◌≡◌, ◌<◌, ◌≤◌, ◌+◌, ◌/◌, ◌%◌, [], length};
+ghost use Rattle.std.specs.Prelude.{◌≡◌, ◌<◌, ◌≤◌, ◌+◌, ◌/◌, ◌%◌, [], length, replicate};
 ghost use Rattle.dp_model.specs.Buffers.{overwritten};
 ghost use Rattle.dp_mbuf.specs.Headers.{header_of, word, then_word, with_both, with_segs_and_last, header_bytes};
 
@@ -119,6 +119,15 @@ fn write_bytes(object: &mut [u8], at: usize, bytes: &[u8])
     ensures { object.new ≡ overwritten object.old at bytes.now }
 {
     object[at..at + bytes.len()].copy_from_slice(bytes);
+}
+
+/// Writes `len` zeros at offset `at`.
+#[inline(always)]
+pub(crate) fn write_zeros(object: &mut [u8], at: usize, len: usize)
+    requires { at + len ≤ length object.old }
+    ensures { object.new ≡ overwritten object.old at (replicate len 0) }
+{
+    object[at..at + len].fill(0);
 }
 
 /// Writes the bytes of a header into an object, and then bytes at offset `at`.

@@ -1,22 +1,25 @@
 //! Reads and writes the objects of all pools, each a header and a data room.
 
-ghost use Rattle.std.specs.Prelude.{◌≡◌, ℕ, ◌<◌, ◌≤◌, ◌+◌, [], true, false, length, slice_index, replicate, MatchOption, IfSome};
-ghost use Rattle.std.specs.Prelude.{IsTrue, ◌↔◌, is_some};
+ghost use Rattle.std.specs.Prelude.{◌≡◌, ℕ, ◌<◌, ◌≤◌, ◌+◌, [], true, false, length, slice_index, replicate, MatchOption};
+ghost use Rattle.std.specs.Prelude.{IsTrue, ◌↔◌, is_some, Some};
+ghost use Rattle.std.specs.Borrow.{sem, Lends};
+ghost use Rattle.std.specs.contracts.option.Option.{the_row as option_row};
+ghost use Rattle.dp_pool.specs.contracts.pool.Pool.{the_row as pool_row};
 ghost use Rattle.std.specs.List.{list_all};
 ghost use Rattle.dp_model.specs.Arithmetic.{bytes_in, big_endian};
 ghost use Rattle.dp_model.specs.Buffers.{bytes_of};
 ghost use Rattle.dp_model.specs.Environments.{room_at};
-ghost use Rattle.dp_pool.specs.Pools.{object_in, with_object, with_written, put_back};
-ghost use Rattle.dp_mbuf.specs.Headers.{then_word, with_both, with_segs_and_last};
+ghost use Rattle.dp_pool.specs.Pools.{object_in};
+ghost use Rattle.dp_mbuf.specs.Headers.{then_word};
 ghost use Rattle.dp_mbuf.specs.Objects.{present, pool_in, header_at, header_with, is_out, count_in, specs_of, buffers_of, HasObject, HasRooms, HeadersFirst};
-ghost use Rattle.dp_mbuf.specs.Objects.{PoolsFirst, objects_in_all, HeaderSet, RoomWritten, Taken, Given, SlotHas, SlotFits, SlotIsOut};
-ghost use Rattle.dp_mbuf.specs.Objects.{SlotBecomes, SlotGives, slot_count, slot_whole, AreAllIn, BothWritten, Ended};
-ghost use Rattle.dp_mbuf.specs.Objects.{FirstsCleared, FirstsClearedTo, SlotFirstsCleared};
+ghost use Rattle.dp_mbuf.specs.Objects.{PoolsFirst, objects_in_all, HeaderSet, RoomWritten, Taken, Given};
+ghost use Rattle.dp_mbuf.specs.Objects.{slot_count, slot_whole, AreAllIn, BothWritten, Ended};
+ghost use Rattle.dp_mbuf.specs.Objects.{FirstsCleared, FirstsClearedTo};
 
 use crate::big_endian::write_number;
 use crate::header::{
     Header, bytes_of_header, bytes_of_refs, bytes_of_word, read_header, write_both,
-    write_segs_and_last, write_words,
+    write_segs_and_last, write_words, write_zeros,
 };
 use crate::limits::{HEADER_SIZE, MAX_MBUFS, MAX_POOLS, MAX_ROOM, NEXT, OFFSET, REFS, SEGS, WORDS};
 use crate::mbuf_number::MbufNumber;
@@ -58,107 +61,19 @@ fn pool_at(pools: &[Option<Pool>; MAX_POOLS], k: u16) -> &Pool
     }
 }
 
-// Writes bytes into an object of a slot's pool.
+// The pool of a slot, for writing.
 #[inline(always)]
-fn write_in(slot: &mut Option<Pool>, index: u16, at: u32, bytes: &[u8])
-    requires { SlotFits slot.old index (at + length bytes.now) }
-    ensures becomes { SlotBecomes (λ p. with_written p index at bytes.now) slot.old slot.new }
-    ensures small { (k : ℕ) → slice_index bytes.now k < 256 }
+fn pool_mut(slot: &mut Option<Pool>) -> &mut Pool
+    requires { is_some slot.old ≡ true }
+    ensures* writes_back { sem 𝓛 (Lends (option_row pool_row) pool_row slot.entry result Some) }
+    ensures value { slot.old ≡ Some result.now }
 {
     match slot {
-        Some(pool) => pool.write(u32::from(index), at, bytes),
-        None => proved(false),
-    }
-}
-
-// Writes two numbers into an object of a slot's pool, one after the other.
-#[inline(always)]
-fn write_words_in(slot: &mut Option<Pool>, index: u16, at: usize, x: u16, y: u16)
-    requires { SlotFits slot.old index (at + 4) }
-    ensures { SlotBecomes (λ p. with_written p index at (then_word x (then_word y []))) slot.old slot.new }
-{
-    match slot {
-        Some(pool) => write_words(pool.object_mut(u32::from(index)), at, x, y),
-        None => proved(false),
-    }
-}
-
-// Writes the number of segments and the last mbuf into an object of a slot's pool.
-#[inline(always)]
-fn write_segs_and_last_in(slot: &mut Option<Pool>, index: u16, segs: u16, last: MbufNumber)
-    requires { SlotFits slot.old index HEADER_SIZE }
-    ensures becomes { SlotBecomes (λ p. with_object p index (with_segs_and_last (object_in p index) segs last)) slot.old slot.new }
-    ensures small { (last.pool < WORDS) × (last.index < WORDS) }
-{
-    match slot {
-        Some(pool) => write_segs_and_last(pool.object_mut(u32::from(index)), segs, last),
-        None => proved(false),
-    }
-}
-
-// Writes a header and bytes after it into an object of a slot's pool, which is looked up once.
-#[inline(always)]
-fn write_both_in(slot: &mut Option<Pool>, index: u16, header: &[u8], at: usize, bytes: &[u8])
-    requires fits { SlotFits slot.old index (at + length bytes.now) }
-    requires header { length header.now ≤ HEADER_SIZE }
-    ensures becomes { SlotBecomes (λ p. with_object p index (with_both (object_in p index) header.now at bytes.now)) slot.old slot.new }
-    ensures small { ((k : ℕ) → slice_index header.now k < 256) × ((k : ℕ) → slice_index bytes.now k < 256) }
-{
-    match slot {
-        Some(pool) => write_both(pool.object_mut(u32::from(index)), header, at, bytes),
-        None => proved(false),
-    }
-}
-
-// Writes the low bytes of a number into an object of a slot's pool, big-endian.
-#[inline(always)]
-fn write_number_in(slot: &mut Option<Pool>, index: u16, at: usize, width: Width, n: u64)
-    requires { SlotFits slot.old index (at + bytes_in width) }
-    ensures { SlotBecomes (λ p. with_written p index at (big_endian (bytes_in width) n)) slot.old slot.new }
-{
-    match slot {
-        Some(pool) => write_number(pool.object_mut(u32::from(index)), at, width, n),
-        None => proved(false),
-    }
-}
-
-// Writes zeros into an object of a slot's pool.
-#[inline(always)]
-fn zero_in(slot: &mut Option<Pool>, index: u16, at: usize, len: usize)
-    requires { SlotFits slot.old index (at + len) }
-    ensures { SlotBecomes (λ p. with_written p index at (replicate len 0)) slot.old slot.new }
-{
-    match slot {
-        Some(pool) => pool.object_mut(u32::from(index))[at..at + len].fill(0),
-        None => proved(false),
-    }
-}
-
-// Puts an object of a slot's pool back.
-#[inline(always)]
-fn put_in(slot: &mut Option<Pool>, index: u16)
-    requires { SlotIsOut slot.old index }
-    ensures { SlotBecomes (λ p. put_back p index) slot.old slot.new }
-{
-    match slot {
-        Some(pool) => pool.put(u32::from(index)),
-        None => proved(false),
-    }
-}
-
-// Clears the number of segments in an object of a slot's pool, and puts the object back.
-#[inline(always)]
-fn end_in(slot: &mut Option<Pool>, index: u16)
-    requires fits { SlotFits slot.old index HEADER_SIZE }
-    requires out { SlotIsOut slot.old index }
-    ensures { SlotBecomes (λ p. put_back (with_written p index SEGS (then_word 0 [])) index) slot.old slot.new }
-{
-    match slot {
-        Some(pool) => {
-            pool.clear(u32::from(index), SEGS as u32, 2);
-            pool.put(u32::from(index));
+        Some(pool) => pool,
+        None => {
+            proved(false);
+            unreachable!()
         }
-        None => proved(false),
     }
 }
 
@@ -196,24 +111,6 @@ fn are_whole(pools: &[Option<Pool>]) -> bool
     pools.iter().all(|slot| is_whole(slot))
 }
 
-// Takes an object of a slot's pool.
-#[inline(always)]
-fn get_in(slot: &mut Option<Pool>) -> Option<u16>
-    requires { SlotHas slot.old }
-    ensures { SlotGives slot.old result slot.new }
-{
-    match slot {
-        Some(pool) => {
-            let index = pool.get()?;
-            Some(index as u16)
-        }
-        None => {
-            proved(false);
-            None
-        }
-    }
-}
-
 // Marks each object of a pool: no packet begins there.
 fn clear_firsts(pool: &mut Pool)
     requires { HEADER_SIZE ≤ pool.old.size }
@@ -221,16 +118,6 @@ fn clear_firsts(pool: &mut Pool)
 {
     for index in 0..pool.count() {
         pool.write(index, SEGS as u32, &bytes_of_word(0));
-    }
-}
-
-// Marks each object of a slot's pool: no packet begins there.
-fn clear_firsts_in(slot: &mut Option<Pool>)
-    requires { IfSome slot.old (λ p. HEADER_SIZE ≤ p.size) }
-    ensures { SlotFirstsCleared slot.old slot.new }
-{
-    if let Some(pool) = slot {
-        clear_firsts(pool);
     }
 }
 
@@ -242,7 +129,9 @@ impl Objects {
         ensures { FirstsCleared (present pools) result }
     {
         for slot in pools.iter_mut() {
-            clear_firsts_in(slot);
+            if let Some(pool) = slot {
+                clear_firsts(pool);
+            }
         }
         Objects { pools }
     }
@@ -330,7 +219,8 @@ impl Objects {
         ensures long { HEADER_SIZE ≤ length (object_in (pool_in self.old n.pool) n.index) }
         ensures written { HeaderSet self.old n (header_with self.old n at bytes.now) self.new }
     {
-        write_in(&mut self.pools[usize::from(n.pool())], n.index(), at, bytes);
+        let pool = pool_mut(&mut self.pools[usize::from(n.pool())]);
+        pool.write(u32::from(n.index()), at, bytes);
     }
 
     // Writes two numbers into an object's header, one after the other.
@@ -341,7 +231,8 @@ impl Objects {
         ensures long { HEADER_SIZE ≤ length (object_in (pool_in self.old n.pool) n.index) }
         ensures written { HeaderSet self.old n (header_with self.old n at (then_word x (then_word y []))) self.new }
     {
-        write_words_in(&mut self.pools[usize::from(n.pool())], n.index(), at, x, y);
+        let pool = pool_mut(&mut self.pools[usize::from(n.pool())]);
+        write_words(pool.object_mut(u32::from(n.index())), at, x, y);
     }
 
     /// Writes a header.
@@ -396,8 +287,8 @@ impl Objects {
         requires { HasObject self.old n }
         ensures { HeaderSet self.old n (record (header_at self.old n) { segs = segs; last = last }) self.new }
     {
-        let slot = &mut self.pools[usize::from(n.pool())];
-        write_segs_and_last_in(slot, n.index(), segs, last);
+        let pool = pool_mut(&mut self.pools[usize::from(n.pool())]);
+        write_segs_and_last(pool.object_mut(u32::from(n.index())), segs, last);
     }
 
     /// Writes a header, and bytes into the data room at an offset. `pool` is the pool of `n`, which is at hand where `n` was taken.
@@ -409,9 +300,10 @@ impl Objects {
         ensures both { BothWritten self.old n h at bytes.now self.new }
         ensures small { (k : ℕ) → slice_index bytes.now k < 256 }
     {
-        let slot = &mut self.pools[usize::from(pool)];
+        let pool = pool_mut(&mut self.pools[usize::from(pool)]);
         let from = HEADER_SIZE as usize + at as usize;
-        write_both_in(slot, n.index(), &bytes_of_header(h), from, bytes);
+        let object = pool.object_mut(u32::from(n.index()));
+        write_both(object, &bytes_of_header(h), from, bytes);
     }
 
     /// Writes the low bytes of a number into a data room at an offset, big-endian.
@@ -421,9 +313,9 @@ impl Objects {
         requires fits { at + bytes_in width ≤ room_at (specs_of self.old) n.pool }
         ensures { RoomWritten self.old n at (big_endian (bytes_in width) number) self.new }
     {
-        let slot = &mut self.pools[usize::from(n.pool())];
+        let pool = pool_mut(&mut self.pools[usize::from(n.pool())]);
         let from = HEADER_SIZE as usize + at as usize;
-        write_number_in(slot, n.index(), from, width, number);
+        write_number(pool.object_mut(u32::from(n.index())), from, width, number);
     }
 
     // Writes the low bytes of a number into the data room of a buffer that is another mbuf.
@@ -467,9 +359,9 @@ impl Objects {
         requires fits { at + len ≤ room_at (specs_of self.old) n.pool }
         ensures { RoomWritten self.old n at (replicate len 0) self.new }
     {
-        let slot = &mut self.pools[usize::from(n.pool())];
+        let pool = pool_mut(&mut self.pools[usize::from(n.pool())]);
         let from = HEADER_SIZE as usize + at as usize;
-        zero_in(slot, n.index(), from, len as usize);
+        write_zeros(pool.object_mut(u32::from(n.index())), from, len as usize);
     }
 
     /// Takes an object of a pool, or `None` if none is in.
@@ -478,8 +370,8 @@ impl Objects {
         requires { pool < length self.old }
         ensures { MatchOption result ((count_in self.old pool ≡ 0) × (self.new ≡ self.old)) (λ n. (n.pool ≡ pool) × Taken self.old n self.new) }
     {
-        let index = get_in(&mut self.pools[usize::from(pool)])?;
-        Some(MbufNumber::new(pool, index))
+        let index = pool_mut(&mut self.pools[usize::from(pool)]).get()?;
+        Some(MbufNumber::new(pool, index as u16))
     }
 
     /// Puts an object back.
@@ -488,7 +380,7 @@ impl Objects {
         requires { is_out self.old n ≡ true }
         ensures { Given self.old n self.new }
     {
-        put_in(&mut self.pools[usize::from(n.pool())], n.index());
+        pool_mut(&mut self.pools[usize::from(n.pool())]).put(u32::from(n.index()));
     }
 
     /// Clears an object's number of segments, and puts the object back.
@@ -498,7 +390,9 @@ impl Objects {
         requires out { is_out self.old n ≡ true }
         ensures { Ended self.old n self.new }
     {
-        end_in(&mut self.pools[usize::from(n.pool())], n.index());
+        let pool = pool_mut(&mut self.pools[usize::from(n.pool())]);
+        pool.clear(u32::from(n.index()), SEGS as u32, 2);
+        pool.put(u32::from(n.index()));
     }
 
     /// Returns the pools.

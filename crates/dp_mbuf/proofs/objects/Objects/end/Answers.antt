@@ -1,32 +1,45 @@
 -- An object without a packet goes back to its pool.
-use Rattle.std.proofs.Common.{◌∙◌, arith}
-use Rattle.dp_mbuf.proofs.ObjectCalls.{listed as pool_listed, fits, front_fits, is_out_there}
-use Rattle.dp_mbuf.proofs.ObjectLemmas.{object_pool}
+use Rattle.std.proofs.Common.{◌≡◌, ◌∙◌, sym, arith}
+use Rattle.dp_mbuf.proofs.ObjectCalls.{slot_listed, slot_below, slot_filled, InSlot, in_slot, in_row}
 use Rattle.dp_mbuf.proofs.Ending.{end_done}
 use Rattle.dp_mbuf.proofs.objects.Objects.end.Goals as goal
+use Rattle.dp_mbuf.proofs.objects.Objects.end.Goals.{After-from-2}
+
+-- the pool at hand
+hand : (c : After-from-2) → InSlot c.args.self.now c.args.n c.from.result c.from-2.result c.pool_mut-pool.result.now
+hand c =
+    in_slot _ _ c.self.view_is c.self.invariant c.args.n _ _ _ _ (c.from.ensures ∙ c.pool.ensures) (c.from-2.ensures ∙ c.index.ensures)
+    c.requires.object c.pool_mut-pool.ensures.value
 
 pub listed : goal.listed
-listed c = omega (arith, c.pool.ensures, (pool_listed _ _ c.self.view_is c.self.invariant c.args.n.pool (object_pool _ _ c.requires.object)).0)
+listed c = slot_listed _ _ c.args.n _ _ c.self.view_is c.self.invariant c.requires.object c.from.ensures c.pool.ensures
 
 pub bounds-self-inside-from : goal.bounds-self-inside-from
-bounds-self-inside-from c =
-    omega (arith, c.pool.ensures, (pool_listed _ _ c.self.view_is c.self.invariant c.args.n.pool (object_pool _ _ c.requires.object)).1)
+bounds-self-inside-from c = slot_below _ _ c.args.n _ _ c.self.view_is c.self.invariant c.requires.object c.from.ensures c.pool.ensures
 
-pub end_in-requires-clause-fits : goal.end_in-requires-clause-fits
-end_in-requires-clause-fits c =
-    fits _ _ c.self.view_is c.self.invariant c.args.n _ _ _ _ (c.from.ensures ∙ c.pool.ensures) c.index.ensures c.requires.object
-    (front_fits _ _ c.self.view_is c.self.invariant c.args.n 0 128 c.requires.object (omega arith))
+pub pool_mut-pool-requires : goal.pool_mut-pool-requires
+pool_mut-pool-requires c = slot_filled _ _ c.args.n _ _ c.self.view_is c.self.invariant c.requires.object c.from.ensures c.pool.ensures _
 
-pub end_in-requires-clause-out : goal.end_in-requires-clause-out
-end_in-requires-clause-out c =
-    is_out_there _ _ c.self.view_is c.self.invariant c.args.n _ _ _ (c.from.ensures ∙ c.pool.ensures) c.index.ensures c.requires.out
+pub clear-requires-clause-object : goal.clear-requires-clause-object
+clear-requires-clause-object c = (hand (goal.at.clear-requires-clause-object c).After-from-2).below
+
+pub clear-requires-clause-fits : goal.clear-requires-clause-fits
+clear-requires-clause-fits c = omega (arith, (hand (goal.at.clear-requires-clause-fits c).After-from-2).size)
+
+pub put-requires : goal.put-requires
+put-requires c =
+    let s = hand (goal.at.put-requires c).After-from-2 in
+    let same : c.from-3.result ≡ c.from-2.result = c.from-3.ensures ∙ (c.index-2.ensures ∙ sym s.index) in
+    rw (c.clear.ensures, same) (in_row _ _ c.self.view_is c.self.invariant c.args.n _ _ _ s c.requires.out)
 
 pub invariant_of-self : goal.invariant_of-self
 invariant_of-self c =
-    (end_done _ _ c.self.view_is c.self.invariant c.args.n _ _ _ c.end_in.new.slot (c.from.ensures ∙ c.pool.ensures) c.index.ensures c.requires.object
-    c.requires.out c.end_in.ensures).0
+    let s = hand (goal.at.invariant_of-self c).After-from-2 in
+    (end_done _ _ c.self.view_is c.self.invariant c.args.n _ _ _ _ _ c.put.new.self s c.clear.ensures c.put.ensures
+    (c.from-3.ensures ∙ c.index-2.ensures) c.requires.out).0
 
 pub returns : goal.returns
 returns c =
-    (end_done _ _ c.self.view_is c.self.invariant c.args.n _ _ _ c.end_in.new.slot (c.from.ensures ∙ c.pool.ensures) c.index.ensures c.requires.object
-    c.requires.out c.end_in.ensures).1
+    let s = hand (goal.at.returns c).After-from-2 in
+    (end_done _ _ c.self.view_is c.self.invariant c.args.n _ _ _ _ _ c.put.new.self s c.clear.ensures c.put.ensures
+    (c.from-3.ensures ∙ c.index-2.ensures) c.requires.out).1

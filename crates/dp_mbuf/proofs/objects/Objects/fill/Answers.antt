@@ -1,32 +1,51 @@
 -- A header and bytes after it are written into one object.
-use Rattle.std.proofs.Common.{◌∙◌, refl, sym, arith, length}
-use Rattle.dp_mbuf.proofs.ObjectCalls.{listed as pool_listed, fits, room_fits}
-use Rattle.dp_mbuf.proofs.ObjectLemmas.{object_pool}
+use Rattle.std.proofs.Common.{rules, ◌+◌, ◌∙◌, sym, arith}
+use Rattle.dp_mbuf.proofs.ObjectCalls.{slot_listed, slot_below, slot_filled, InSlot, in_slot}
+use Rattle.dp_mbuf.proofs.SettingFirst.{left_twice}
 use Rattle.dp_mbuf.proofs.Both.{both_done}
 use Rattle.dp_mbuf.proofs.objects.Objects.fill.Goals as goal
+use Rattle.dp_mbuf.proofs.objects.Objects.fill.Goals.{After-from-2}
+
+-- the pool at hand
+hand : (c : After-from-2) → InSlot c.args.self.now c.args.n c.from.result c.from-2.result c.pool_mut-pool.result.now
+hand c =
+    in_slot _ _ c.self.view_is c.self.invariant c.args.n _ _ _ _ (c.from.ensures ∙ sym c.requires.pool) (c.from-2.ensures ∙ c.index.ensures)
+    c.requires.object c.pool_mut-pool.ensures.value
 
 pub listed : goal.listed
-listed c = omega (arith, c.requires.pool, (pool_listed _ _ c.self.view_is c.self.invariant c.args.n.pool (object_pool _ _ c.requires.object)).0)
+listed c = slot_listed _ _ c.args.n _ _ c.self.view_is c.self.invariant c.requires.object c.from.ensures (sym c.requires.pool)
 
 pub bounds-self-inside-from : goal.bounds-self-inside-from
-bounds-self-inside-from c =
-    omega (arith, c.requires.pool, (pool_listed _ _ c.self.view_is c.self.invariant c.args.n.pool (object_pool _ _ c.requires.object)).1)
+bounds-self-inside-from c = slot_below _ _ c.args.n _ _ c.self.view_is c.self.invariant c.requires.object c.from.ensures (sym c.requires.pool)
 
-pub write_both_in-requires-clause-fits : goal.write_both_in-requires-clause-fits
-write_both_in-requires-clause-fits c =
-    fits _ _ c.self.view_is c.self.invariant c.args.n _ _ _ _ (c.from.ensures ∙ sym c.requires.pool) c.index.ensures c.requires.object
-    (room_fits _ _ c.self.view_is c.self.invariant c.args.n c.args.at (length c.args.bytes.now) c.requires.object c.requires.fits)
+pub pool_mut-pool-requires : goal.pool_mut-pool-requires
+pool_mut-pool-requires c = slot_filled _ _ c.args.n _ _ c.self.view_is c.self.invariant c.requires.object c.from.ensures (sym c.requires.pool) _
+
+pub object_mut-object-requires : goal.object_mut-object-requires
+object_mut-object-requires c = (hand (goal.at.object_mut-object-requires c).After-from-2).below
+
+pub write_both-requires-clause-header : goal.write_both-requires-clause-header
+write_both-requires-clause-header c =
+    omega (arith, (hand (goal.at.write_both-requires-clause-header c).After-from-2).size, c.object_mut-object.ensures.size, c.bytes_of_header.ensures.many)
+
+pub write_both-requires-clause-fits : goal.write_both-requires-clause-fits
+write_both-requires-clause-fits c =
+    omega (arith, (hand (goal.at.write_both-requires-clause-fits c).After-from-2).size, c.object_mut-object.ensures.size, c.requires.fits)
 
 pub invariant_of-self : goal.invariant_of-self
 invariant_of-self c =
-    let fit = room_fits _ _ c.self.view_is c.self.invariant c.args.n c.args.at (length c.args.bytes.now) c.requires.object c.requires.fits in
-    (both_done _ _ c.self.view_is c.self.invariant c.args.n c.args.h _ _ _ _ c.args.at c.args.bytes.now _ c.write_both_in.new.slot
-    (c.from.ensures ∙ sym c.requires.pool) c.index.ensures refl c.bytes_of_header.ensures.bytes c.write_both_in.ensures.small.0 c.write_both_in.ensures.small.1
-    c.requires.object fit c.write_both_in.ensures.becomes).0
+    let s = hand (goal.at.invariant_of-self c).After-from-2 in
+    (both_done _ _ c.self.view_is c.self.invariant c.args.n c.args.h _ _ _ c.args.at c.args.bytes.now _ _ s
+    (left_twice c.pool_mut-pool.result.now _ 0 (128 + c.args.at) c.bytes_of_header.result c.args.bytes.now _ _ s.below
+    c.object_mut-object.ensures.value c.object_mut-object.ensures.size c.object_mut-object.ensures.whole
+    c.write_both.ensures (omega (arith, s.size, c.bytes_of_header.ensures.many)) (omega (arith, s.size, c.requires.fits)))
+    c.bytes_of_header.ensures.bytes (search rules) (search rules) c.requires.fits).0
 
 pub returns-clause-both : goal.returns-clause-both
 returns-clause-both c =
-    let fit = room_fits _ _ c.self.view_is c.self.invariant c.args.n c.args.at (length c.args.bytes.now) c.requires.object c.requires.fits in
-    (both_done _ _ c.self.view_is c.self.invariant c.args.n c.args.h _ _ _ _ c.args.at c.args.bytes.now _ c.write_both_in.new.slot
-    (c.from.ensures ∙ sym c.requires.pool) c.index.ensures refl c.bytes_of_header.ensures.bytes c.write_both_in.ensures.small.0 c.write_both_in.ensures.small.1
-    c.requires.object fit c.write_both_in.ensures.becomes).1
+    let s = hand (goal.at.returns-clause-both c).After-from-2 in
+    (both_done _ _ c.self.view_is c.self.invariant c.args.n c.args.h _ _ _ c.args.at c.args.bytes.now _ _ s
+    (left_twice c.pool_mut-pool.result.now _ 0 (128 + c.args.at) c.bytes_of_header.result c.args.bytes.now _ _ s.below
+    c.object_mut-object.ensures.value c.object_mut-object.ensures.size c.object_mut-object.ensures.whole
+    c.write_both.ensures (omega (arith, s.size, c.bytes_of_header.ensures.many)) (omega (arith, s.size, c.requires.fits)))
+    c.bytes_of_header.ensures.bytes (search rules) (search rules) c.requires.fits).1

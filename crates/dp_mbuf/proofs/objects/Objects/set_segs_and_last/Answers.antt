@@ -1,32 +1,46 @@
 -- The words are the header's number of segments and last mbuf.
-use Rattle.std.proofs.Common.{◌∙◌, arith}
-use Rattle.dp_mbuf.proofs.ObjectCalls.{listed as pool_listed, fits, front_fits}
-use Rattle.dp_mbuf.proofs.ObjectLemmas.{object_pool}
-use Rattle.dp_mbuf.proofs.SettingFirst.{segs_and_last_done}
+use Rattle.std.proofs.Common.{◌∙◌, arith, []}
+use Rattle.dp_mbuf.specs.Headers.{then_word}
+use Rattle.dp_mbuf.proofs.ObjectCalls.{slot_listed, slot_below, slot_filled, InSlot, in_slot}
+use Rattle.dp_mbuf.proofs.SettingFirst.{left_twice, segs_and_last_done}
 use Rattle.dp_mbuf.proofs.objects.Objects.set_segs_and_last.Goals as goal
+use Rattle.dp_mbuf.proofs.objects.Objects.set_segs_and_last.Goals.{After-from-2}
+
+-- the pool at hand
+hand : (c : After-from-2) → InSlot c.args.self.now c.args.n c.from.result c.from-2.result c.pool_mut-pool.result.now
+hand c =
+    in_slot _ _ c.self.view_is c.self.invariant c.args.n _ _ _ _ (c.from.ensures ∙ c.pool.ensures) (c.from-2.ensures ∙ c.index.ensures) c.requires
+    c.pool_mut-pool.ensures.value
 
 pub listed : goal.listed
-listed c = omega (arith, c.pool.ensures, (pool_listed _ _ c.self.view_is c.self.invariant c.args.n.pool (object_pool _ _ c.requires)).0)
+listed c = slot_listed _ _ c.args.n _ _ c.self.view_is c.self.invariant c.requires c.from.ensures c.pool.ensures
 
 pub bounds-self-inside-from : goal.bounds-self-inside-from
-bounds-self-inside-from c =
-    omega (arith, c.pool.ensures, (pool_listed _ _ c.self.view_is c.self.invariant c.args.n.pool (object_pool _ _ c.requires)).1)
+bounds-self-inside-from c = slot_below _ _ c.args.n _ _ c.self.view_is c.self.invariant c.requires c.from.ensures c.pool.ensures
 
-pub write_segs_and_last_in-requires : goal.write_segs_and_last_in-requires
-write_segs_and_last_in-requires c =
-    fits _ _ c.self.view_is c.self.invariant c.args.n _ _ _ _ (c.from.ensures ∙ c.pool.ensures) c.index.ensures c.requires
-    (front_fits _ _ c.self.view_is c.self.invariant c.args.n 0 128 c.requires (omega arith))
+pub pool_mut-pool-requires : goal.pool_mut-pool-requires
+pool_mut-pool-requires c = slot_filled _ _ c.args.n _ _ c.self.view_is c.self.invariant c.requires c.from.ensures c.pool.ensures _
+
+pub object_mut-requires : goal.object_mut-requires
+object_mut-requires c = (hand (goal.at.object_mut-requires c).After-from-2).below
+
+pub write_segs_and_last-requires : goal.write_segs_and_last-requires
+write_segs_and_last-requires c = omega (arith, (hand (goal.at.write_segs_and_last-requires c).After-from-2).size, c.object_mut.ensures.size)
 
 pub invariant_of-self : goal.invariant_of-self
 invariant_of-self c =
-    (segs_and_last_done _ _ c.self.view_is c.self.invariant c.args.n _ _ c.args.segs c.args.last _ c.write_segs_and_last_in.new.slot
-    (c.from.ensures ∙ c.pool.ensures)
-    c.index.ensures c.ranges.segs.fits c.write_segs_and_last_in.ensures.small.0 c.write_segs_and_last_in.ensures.small.1 c.requires
-    c.write_segs_and_last_in.ensures.becomes).0
+    let s = hand (goal.at.invariant_of-self c).After-from-2 in
+    (segs_and_last_done _ _ c.self.view_is c.self.invariant c.args.n _ _ c.args.segs c.args.last _ _ s
+    (left_twice c.pool_mut-pool.result.now _ 0 14 (then_word c.args.segs []) (then_word c.args.last.index (then_word c.args.last.pool []))
+    _ _ s.below
+    c.object_mut.ensures.value c.object_mut.ensures.size c.object_mut.ensures.whole c.write_segs_and_last.ensures.object
+    (omega (arith, s.size)) (omega (arith, s.size))) c.ranges.segs.fits c.write_segs_and_last.ensures.small).0
 
 pub returns : goal.returns
 returns c =
-    (segs_and_last_done _ _ c.self.view_is c.self.invariant c.args.n _ _ c.args.segs c.args.last _ c.write_segs_and_last_in.new.slot
-    (c.from.ensures ∙ c.pool.ensures)
-    c.index.ensures c.ranges.segs.fits c.write_segs_and_last_in.ensures.small.0 c.write_segs_and_last_in.ensures.small.1 c.requires
-    c.write_segs_and_last_in.ensures.becomes).1
+    let s = hand (goal.at.returns c).After-from-2 in
+    (segs_and_last_done _ _ c.self.view_is c.self.invariant c.args.n _ _ c.args.segs c.args.last _ _ s
+    (left_twice c.pool_mut-pool.result.now _ 0 14 (then_word c.args.segs []) (then_word c.args.last.index (then_word c.args.last.pool []))
+    _ _ s.below
+    c.object_mut.ensures.value c.object_mut.ensures.size c.object_mut.ensures.whole c.write_segs_and_last.ensures.object
+    (omega (arith, s.size)) (omega (arith, s.size))) c.ranges.segs.fits c.write_segs_and_last.ensures.small).1

@@ -1,30 +1,40 @@
 -- Bytes are written into an object's header.
-use Rattle.std.proofs.Common.{◌∙◌, arith, length}
-use Rattle.dp_mbuf.proofs.ObjectCalls.{are, listed as pool_listed, fits, front_fits, front_done}
-use Rattle.dp_mbuf.proofs.ObjectLemmas.{object_pool, object_long}
+use Rattle.std.proofs.Common.{rules, ◌∙◌, arith}
+use Rattle.dp_mbuf.proofs.ObjectCalls.{are, slot_listed, slot_below, slot_filled, InSlot, in_slot, front_done}
+use Rattle.dp_mbuf.proofs.ObjectLemmas.{object_long}
 use Rattle.dp_mbuf.proofs.objects.Objects.write_front.Goals as goal
+use Rattle.dp_mbuf.proofs.objects.Objects.write_front.Goals.{After-from-2}
+
+-- the pool at hand
+hand : (c : After-from-2) → InSlot c.args.self.now c.args.n c.from.result c.from-2.result c.pool_mut-pool.result.now
+hand c =
+    in_slot _ _ c.self.view_is c.self.invariant c.args.n _ _ _ _ (c.from.ensures ∙ c.pool.ensures) (c.from-2.ensures ∙ c.index.ensures)
+    c.requires.object c.pool_mut-pool.ensures.value
 
 pub listed : goal.listed
-listed c = omega (arith, c.pool.ensures, (pool_listed _ _ c.self.view_is c.self.invariant c.args.n.pool (object_pool _ _ c.requires.object)).0)
+listed c = slot_listed _ _ c.args.n _ _ c.self.view_is c.self.invariant c.requires.object c.from.ensures c.pool.ensures
 
 pub bounds-self-inside-from : goal.bounds-self-inside-from
-bounds-self-inside-from c =
-    omega (arith, c.pool.ensures, (pool_listed _ _ c.self.view_is c.self.invariant c.args.n.pool (object_pool _ _ c.requires.object)).1)
+bounds-self-inside-from c = slot_below _ _ c.args.n _ _ c.self.view_is c.self.invariant c.requires.object c.from.ensures c.pool.ensures
 
-pub write_in-requires : goal.write_in-requires
-write_in-requires c =
-    fits _ _ c.self.view_is c.self.invariant c.args.n _ _ _ _ (c.from.ensures ∙ c.pool.ensures) c.index.ensures c.requires.object
-    (front_fits _ _ c.self.view_is c.self.invariant c.args.n c.args.at (length c.args.bytes.now) c.requires.object c.requires.front)
+pub pool_mut-pool-requires : goal.pool_mut-pool-requires
+pool_mut-pool-requires c = slot_filled _ _ c.args.n _ _ c.self.view_is c.self.invariant c.requires.object c.from.ensures c.pool.ensures _
+
+pub write-requires-clause-object : goal.write-requires-clause-object
+write-requires-clause-object c = (hand (goal.at.write-requires-clause-object c).After-from-2).below
+
+pub write-requires-clause-fits : goal.write-requires-clause-fits
+write-requires-clause-fits c = omega (arith, c.requires.front, (hand (goal.at.write-requires-clause-fits c).After-from-2).size)
 
 pub invariant_of-self : goal.invariant_of-self
 invariant_of-self c =
-    (front_done _ _ c.self.view_is c.self.invariant c.args.n _ _ c.args.at c.args.bytes.now _ c.write_in.new.slot (c.from.ensures ∙ c.pool.ensures)
-    c.index.ensures c.write_in.ensures.small c.requires.object c.requires.front c.write_in.ensures.becomes).0
+    (front_done _ _ c.self.view_is c.self.invariant c.args.n _ _ c.args.at c.args.bytes.now _ c.write.new.self
+    (hand (goal.at.invariant_of-self c).After-from-2) c.write.ensures (search rules) c.requires.front).0
 
 pub returns-clause-long : goal.returns-clause-long
 returns-clause-long c = object_long _ _ (are _ _ c.self.view_is c.self.invariant) c.requires.object
 
 pub returns-clause-written : goal.returns-clause-written
 returns-clause-written c =
-    (front_done _ _ c.self.view_is c.self.invariant c.args.n _ _ c.args.at c.args.bytes.now _ c.write_in.new.slot (c.from.ensures ∙ c.pool.ensures)
-    c.index.ensures c.write_in.ensures.small c.requires.object c.requires.front c.write_in.ensures.becomes).1
+    (front_done _ _ c.self.view_is c.self.invariant c.args.n _ _ c.args.at c.args.bytes.now _ c.write.new.self
+    (hand (goal.at.returns-clause-written c).After-from-2) c.write.ensures (search rules) c.requires.front).1

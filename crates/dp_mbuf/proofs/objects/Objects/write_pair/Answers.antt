@@ -2,33 +2,49 @@
 use Rattle.std.proofs.Common.{◌∙◌, arith, []}
 use Rattle.dp_mbuf.specs.Headers.{then_word}
 use Rattle.dp_mbuf.proofs.HeaderFields.{small_words}
-use Rattle.dp_mbuf.proofs.ObjectCalls.{are, listed as pool_listed, fits, front_fits, front_done}
-use Rattle.dp_mbuf.proofs.ObjectLemmas.{object_pool, object_long}
+use Rattle.dp_mbuf.proofs.ObjectCalls.{are, slot_listed, slot_below, slot_filled, InSlot, in_slot, left_written, front_done}
+use Rattle.dp_mbuf.proofs.ObjectLemmas.{object_long}
 use Rattle.dp_mbuf.proofs.objects.Objects.write_pair.Goals as goal
+use Rattle.dp_mbuf.proofs.objects.Objects.write_pair.Goals.{After-from-2}
+
+-- the pool at hand
+hand : (c : After-from-2) → InSlot c.args.self.now c.args.n c.from.result c.from-2.result c.pool_mut-pool.result.now
+hand c =
+    in_slot _ _ c.self.view_is c.self.invariant c.args.n _ _ _ _ (c.from.ensures ∙ c.pool.ensures) (c.from-2.ensures ∙ c.index.ensures)
+    c.requires.object c.pool_mut-pool.ensures.value
 
 pub listed : goal.listed
-listed c = omega (arith, c.pool.ensures, (pool_listed _ _ c.self.view_is c.self.invariant c.args.n.pool (object_pool _ _ c.requires.object)).0)
+listed c = slot_listed _ _ c.args.n _ _ c.self.view_is c.self.invariant c.requires.object c.from.ensures c.pool.ensures
 
 pub bounds-self-inside-from : goal.bounds-self-inside-from
-bounds-self-inside-from c =
-    omega (arith, c.pool.ensures, (pool_listed _ _ c.self.view_is c.self.invariant c.args.n.pool (object_pool _ _ c.requires.object)).1)
+bounds-self-inside-from c = slot_below _ _ c.args.n _ _ c.self.view_is c.self.invariant c.requires.object c.from.ensures c.pool.ensures
 
-pub write_words_in-requires : goal.write_words_in-requires
-write_words_in-requires c =
-    fits _ _ c.self.view_is c.self.invariant c.args.n _ _ _ _ (c.from.ensures ∙ c.pool.ensures) c.index.ensures c.requires.object
-    (front_fits _ _ c.self.view_is c.self.invariant c.args.n c.args.at 4 c.requires.object c.requires.front)
+pub pool_mut-pool-requires : goal.pool_mut-pool-requires
+pool_mut-pool-requires c = slot_filled _ _ c.args.n _ _ c.self.view_is c.self.invariant c.requires.object c.from.ensures c.pool.ensures _
+
+pub object_mut-requires : goal.object_mut-requires
+object_mut-requires c = (hand (goal.at.object_mut-requires c).After-from-2).below
+
+pub write_words-requires : goal.write_words-requires
+write_words-requires c = omega (arith, c.requires.front, (hand (goal.at.write_words-requires c).After-from-2).size, c.object_mut.ensures.size)
 
 pub invariant_of-self : goal.invariant_of-self
 invariant_of-self c =
-    (front_done _ _ c.self.view_is c.self.invariant c.args.n _ _ c.args.at (then_word c.args.x (then_word c.args.y [])) _ c.write_words_in.new.slot
-    (c.from.ensures ∙ c.pool.ensures) c.index.ensures (small_words c.args.x c.args.y c.ranges.x.fits c.ranges.y.fits) c.requires.object c.requires.front
-    c.write_words_in.ensures).0
+    let s = hand (goal.at.invariant_of-self c).After-from-2 in
+    (front_done _ _ c.self.view_is c.self.invariant c.args.n _ _ c.args.at (then_word c.args.x (then_word c.args.y [])) _ _ s
+    (left_written c.pool_mut-pool.result.now _ c.args.at (then_word c.args.x (then_word c.args.y [])) _ _
+    c.object_mut.ensures.value c.object_mut.ensures.size c.object_mut.ensures.whole c.write_words.ensures
+    (omega (arith, c.requires.front, s.size)))
+    (small_words c.args.x c.args.y c.ranges.x.fits c.ranges.y.fits) c.requires.front).0
 
 pub returns-clause-long : goal.returns-clause-long
 returns-clause-long c = object_long _ _ (are _ _ c.self.view_is c.self.invariant) c.requires.object
 
 pub returns-clause-written : goal.returns-clause-written
 returns-clause-written c =
-    (front_done _ _ c.self.view_is c.self.invariant c.args.n _ _ c.args.at (then_word c.args.x (then_word c.args.y [])) _ c.write_words_in.new.slot
-    (c.from.ensures ∙ c.pool.ensures) c.index.ensures (small_words c.args.x c.args.y c.ranges.x.fits c.ranges.y.fits) c.requires.object c.requires.front
-    c.write_words_in.ensures).1
+    let s = hand (goal.at.returns-clause-written c).After-from-2 in
+    (front_done _ _ c.self.view_is c.self.invariant c.args.n _ _ c.args.at (then_word c.args.x (then_word c.args.y [])) _ _ s
+    (left_written c.pool_mut-pool.result.now _ c.args.at (then_word c.args.x (then_word c.args.y [])) _ _
+    c.object_mut.ensures.value c.object_mut.ensures.size c.object_mut.ensures.whole c.write_words.ensures
+    (omega (arith, c.requires.front, s.size)))
+    (small_words c.args.x c.args.y c.ranges.x.fits c.ranges.y.fits) c.requires.front).1

@@ -1,35 +1,51 @@
 -- Zeros are written after an object's header, in its data room.
-use Rattle.std.proofs.Common.{ℕ, ◌∙◌, arith}
+use Rattle.std.proofs.Common.{ℕ, ◌+◌, ◌≤◌, length, ◌∙◌, arith}
 use Rattle.std.specs.Prelude.{replicate}
 use Rattle.std.proofs.lemmas.List.{length-replicate}
+use Rattle.dp_model.specs.Environments.{room_at}
+use Rattle.dp_mbuf.specs.Objects.{specs_of}
 use Rattle.dp_mbuf.proofs.PoolLemmas.{small_zeros}
-use Rattle.dp_mbuf.proofs.ObjectCalls.{listed as pool_listed, fits, room_fits, room_small, room_done}
-use Rattle.dp_mbuf.proofs.ObjectLemmas.{object_pool}
+use Rattle.dp_mbuf.proofs.ObjectCalls.{slot_listed, slot_below, slot_filled, InSlot, in_slot, left_written, room_done}
 use Rattle.dp_mbuf.proofs.objects.Objects.zero.Goals as goal
+use Rattle.dp_mbuf.proofs.objects.Objects.zero.Goals.{After-from-2}
+
+-- the pool at hand
+hand : (c : After-from-2) → InSlot c.args.self.now c.args.n c.from.result c.from-2.result c.pool_mut-pool.result.now
+hand c =
+    in_slot _ _ c.self.view_is c.self.invariant c.args.n _ _ _ _ (c.from.ensures ∙ c.pool.ensures) (c.from-2.ensures ∙ c.index.ensures)
+    c.requires.object c.pool_mut-pool.ensures.value
 
 pub listed : goal.listed
-listed c = omega (arith, c.pool.ensures, (pool_listed _ _ c.self.view_is c.self.invariant c.args.n.pool (object_pool _ _ c.requires.object)).0)
+listed c = slot_listed _ _ c.args.n _ _ c.self.view_is c.self.invariant c.requires.object c.from.ensures c.pool.ensures
 
 pub bounds-self-inside-from : goal.bounds-self-inside-from
-bounds-self-inside-from c =
-    omega (arith, c.pool.ensures, (pool_listed _ _ c.self.view_is c.self.invariant c.args.n.pool (object_pool _ _ c.requires.object)).1)
+bounds-self-inside-from c = slot_below _ _ c.args.n _ _ c.self.view_is c.self.invariant c.requires.object c.from.ensures c.pool.ensures
 
-pub overflow_add-from : goal.overflow_add-from
-overflow_add-from c = omega (arith, c.requires.fits, room_small _ _ c.self.view_is c.self.invariant c.args.n c.requires.object)
+pub pool_mut-pool-requires : goal.pool_mut-pool-requires
+pool_mut-pool-requires c = slot_filled _ _ c.args.n _ _ c.self.view_is c.self.invariant c.requires.object c.from.ensures c.pool.ensures _
 
-pub zero_in-requires : goal.zero_in-requires
-zero_in-requires c =
-    fits _ _ c.self.view_is c.self.invariant c.args.n _ _ _ _ (c.from.ensures ∙ c.pool.ensures) c.index.ensures c.requires.object
-    (room_fits _ _ c.self.view_is c.self.invariant c.args.n c.args.at c.args.len c.requires.object c.requires.fits)
+pub object_mut-requires : goal.object_mut-requires
+object_mut-requires c = (hand (goal.at.object_mut-requires c).After-from-2).below
+
+pub write_zeros-requires : goal.write_zeros-requires
+write_zeros-requires c = omega (arith, c.requires.fits, (hand (goal.at.write_zeros-requires c).After-from-2).size, c.object_mut.ensures.size)
 
 pub invariant_of-self : goal.invariant_of-self
 invariant_of-self c =
-    let fit = room_fits _ _ c.self.view_is c.self.invariant c.args.n c.args.at c.args.len c.requires.object c.requires.fits in
-    (room_done _ _ c.self.view_is c.self.invariant c.args.n _ _ c.args.at (replicate c.args.len 0) _ c.zero_in.new.slot (c.from.ensures ∙ c.pool.ensures)
-    c.index.ensures (small_zeros c.args.len) c.requires.object (omega (arith, fit, length-replicate {A = ℕ})) c.zero_in.ensures).0
+    let s = hand (goal.at.invariant_of-self c).After-from-2 in
+    let fit : c.args.at + length (replicate c.args.len 0) ≤ room_at (specs_of c.args.self.now) c.args.n.pool =
+    omega (arith, c.requires.fits, length-replicate {A = ℕ}) in
+    (room_done _ _ c.self.view_is c.self.invariant c.args.n _ _ c.args.at (replicate c.args.len 0) _ _ s
+    (left_written c.pool_mut-pool.result.now _ (128 + c.args.at) (replicate c.args.len 0) _ _
+    c.object_mut.ensures.value c.object_mut.ensures.size c.object_mut.ensures.whole c.write_zeros.ensures
+    (omega (arith, fit, s.size))) (small_zeros c.args.len) fit).0
 
 pub returns : goal.returns
 returns c =
-    let fit = room_fits _ _ c.self.view_is c.self.invariant c.args.n c.args.at c.args.len c.requires.object c.requires.fits in
-    (room_done _ _ c.self.view_is c.self.invariant c.args.n _ _ c.args.at (replicate c.args.len 0) _ c.zero_in.new.slot (c.from.ensures ∙ c.pool.ensures)
-    c.index.ensures (small_zeros c.args.len) c.requires.object (omega (arith, fit, length-replicate {A = ℕ})) c.zero_in.ensures).1
+    let s = hand (goal.at.returns c).After-from-2 in
+    let fit : c.args.at + length (replicate c.args.len 0) ≤ room_at (specs_of c.args.self.now) c.args.n.pool =
+    omega (arith, c.requires.fits, length-replicate {A = ℕ}) in
+    (room_done _ _ c.self.view_is c.self.invariant c.args.n _ _ c.args.at (replicate c.args.len 0) _ _ s
+    (left_written c.pool_mut-pool.result.now _ (128 + c.args.at) (replicate c.args.len 0) _ _
+    c.object_mut.ensures.value c.object_mut.ensures.size c.object_mut.ensures.whole c.write_zeros.ensures
+    (omega (arith, fit, s.size))) (small_zeros c.args.len) fit).1
