@@ -26,11 +26,9 @@ pub first_header-last-requires : goal.first_header-last-requires
 first_header-last-requires c = live_object _ _ c.args.packet.now (same_store c.self.view_is) c.self.invariant (c.requires.0, c.requires.1, tt)
 
 pub header-tail-requires : goal.header-tail-requires
-header-tail-requires c = rw c.first_header-last.ensures (last_object _ _ c.args.packet.now (same_store c.self.view_is) c.self.invariant (
-  c.requires.0,
-  c.requires.1,
-  tt,
-))
+header-tail-requires c =
+    let (k, has, _) = c.requires in
+    rw c.first_header-last.ensures (last_object _ _ c.args.packet.now (same_store c.self.view_is) c.self.invariant (k, has, tt))
 
 pub zero-requires-clause-object : goal.zero-requires-clause-object
 zero-requires-clause-object c =
@@ -48,28 +46,23 @@ overflow_add-tail c =
 
 pub set_bounds-requires : goal.set_bounds-requires
 set_bounds-requires c =
-    rw c.first_header-last.ensures (last_object _ _ c.args.packet.now (same_store c.self.view_is) c.self.invariant (c.requires.0, c.requires.1, tt))
+    let (k, has, _) = c.requires in
+    rw c.first_header-last.ensures (last_object _ _ c.args.packet.now (same_store c.self.view_is) c.self.invariant (k, has, tt))
 
 pub invariant_of-self : goal.invariant_of-self
 invariant_of-self c =
+    let (k, has, _) = c.requires in
     let b = (free (goal.at.invariant_of-self c).After-header-tail).0 in
     let set = rw c.first_header-last.ensures at c.set_bounds.ensures in
     let zeros = rw (c.from.ensures, c.from-2.ensures, c.from-3.ensures) at c.zero.ensures in
     (appended_done _ _ c.args.packet.now (same_store c.self.view_is) c.self.invariant _ _ _ c.args.n _
-    (last (goal.at.invariant_of-self c).After-header-tail) (
-      c.requires.0,
-      c.requires.1,
-      tt,
-    ) b refl set zeros).0
+    (last (goal.at.invariant_of-self c).After-header-tail) (k, has, tt) b refl set zeros).0
 
 pub returns-clause-packets : goal.returns-clause-packets
 returns-clause-packets c =
+    let (k, has, _) = c.requires in
     let b = (free (goal.at.returns-clause-packets c).After-header-tail).0 in
     let set = rw c.first_header-last.ensures at c.set_bounds.ensures in
     let zeros = rw (c.from.ensures, c.from-2.ensures, c.from-3.ensures) at c.zero.ensures in
     (appended_done _ _ c.args.packet.now (same_store c.self.view_is) c.self.invariant _ _ _ c.args.n _
-    (last (goal.at.returns-clause-packets c).After-header-tail) (
-      c.requires.0,
-      c.requires.1,
-      tt,
-    ) b refl set zeros).1
+    (last (goal.at.returns-clause-packets c).After-header-tail) (k, has, tt) b refl set zeros).1

@@ -43,22 +43,18 @@ set_bounds-requires c =
 
 pub invariant_of-self : goal.invariant_of-self
 invariant_of-self c =
+    let (k, has, _) = c.requires in
     let b = free (goal.at.invariant_of-self c).After-first_header-head in
     let set = rw c.first_number.ensures at c.set_bounds.ensures in
     let zeros = rw (c.from.ensures, c.from-2.ensures) at c.zero.ensures in
-    (prepended_done _ _ c.args.packet.now (same_store c.self.view_is) c.self.invariant _ _ _ c.args.n _ c.first_header-head.ensures (
-      c.requires.0,
-      c.requires.1,
-      tt,
-    ) b refl set zeros).0
+    (prepended_done _ _ c.args.packet.now (same_store c.self.view_is) c.self.invariant _ _ _ c.args.n _ c.first_header-head.ensures
+    (k, has, tt) b refl set zeros).0
 
 pub returns-clause-packets : goal.returns-clause-packets
 returns-clause-packets c =
+    let (k, has, _) = c.requires in
     let b = free (goal.at.returns-clause-packets c).After-first_header-head in
     let set = rw c.first_number.ensures at c.set_bounds.ensures in
     let zeros = rw (c.from.ensures, c.from-2.ensures) at c.zero.ensures in
-    (prepended_done _ _ c.args.packet.now (same_store c.self.view_is) c.self.invariant _ _ _ c.args.n _ c.first_header-head.ensures (
-      c.requires.0,
-      c.requires.1,
-      tt,
-    ) b refl set zeros).1
+    (prepended_done _ _ c.args.packet.now (same_store c.self.view_is) c.self.invariant _ _ _ c.args.n _ c.first_header-head.ensures
+    (k, has, tt) b refl set zeros).1

@@ -6,11 +6,9 @@ pub first_header-last-requires : goal.first_header-last-requires
 first_header-last-requires c = live_object _ _ c.args.packet.now (same_store c.self.view_is) c.self.invariant (c.requires.0, c.requires.1, tt)
 
 pub header-tail-requires : goal.header-tail-requires
-header-tail-requires c = rw c.first_header-last.ensures (last_object _ _ c.args.packet.now (same_store c.self.view_is) c.self.invariant (
-  c.requires.0,
-  c.requires.1,
-  tt,
-))
+header-tail-requires c =
+    let (k, has, _) = c.requires in
+    rw c.first_header-last.ensures (last_object _ _ c.args.packet.now (same_store c.self.view_is) c.self.invariant (k, has, tt))
 
 pub overflow_sub-tail : goal.overflow_sub-tail
 overflow_sub-tail c =
@@ -18,11 +16,9 @@ overflow_sub-tail c =
     last_fits _ _ c.args.packet.now (same_store c.self.view_is) c.self.invariant _ c.args.n tail c.requires
 
 pub set_bounds-requires : goal.set_bounds-requires
-set_bounds-requires c = rw c.first_header-last.ensures (last_object _ _ c.args.packet.now (same_store c.self.view_is) c.self.invariant (
-  c.requires.0,
-  c.requires.1,
-  tt,
-))
+set_bounds-requires c =
+    let (k, has, _) = c.requires in
+    rw c.first_header-last.ensures (last_object _ _ c.args.packet.now (same_store c.self.view_is) c.self.invariant (k, has, tt))
 
 pub invariant_of-self : goal.invariant_of-self
 invariant_of-self c =
