@@ -4,6 +4,7 @@ pub mod Spelled
 pub mod Putting
 pub mod ObjectLemmas
 pub mod ObjectCalls
+pub mod Slots
 pub mod HeaderFields
 pub mod Counting
 pub mod Links

@@ -155,19 +155,6 @@ module _ (pools : List (Option PoolView)) (ps : List PoolView) (e : present pool
   index_small k i p there is in_pool =
       let r = are.rooms k there in omega (arith, slice_get_within (pool_in ps k).out i false (rw is at in_pool), r.pool.out, r.pool.count)
 
--- ---- the slot of an object's pool
-
-module _ (pools : List (Option PoolView)) (ps : List PoolView) (n : Number) (j k : ℕ) (e : present pools ≡ ps) (inv : ArePoolSlots pools)
-    (object : HasObject ps n) (ej : j ≡ k) (ek : k ≡ n.pool) where
-  pub slot_listed : j < length pools
-  slot_listed = (listed pools ps e inv j n.pool (ej ∙ ek) (object_pool ps n object)).0
-
-  pub slot_below : j < 8
-  slot_below = (listed pools ps e inv j n.pool (ej ∙ ek) (object_pool ps n object)).1
-
-  pub slot_filled : (d : Option PoolView) → is_some (get_or pools j d) ≡ true
-  slot_filled d = filled pools ps e inv j n.pool (ej ∙ ek) (object_pool ps n object) d
-
 -- ---- how many objects there are
 
 no_slot : (pools : List (Option PoolView)) (k : ℕ) (d : Option PoolView) → AllByRecursion (λ o. o ≡ None) pools → k < length pools →

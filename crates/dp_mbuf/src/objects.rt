@@ -213,6 +213,7 @@ impl Objects {
 
     // Writes bytes into an object's header.
     #[inline(always)]
+    #[tactic(auto, using(crate::proofs::Slots::listed, crate::proofs::Slots::below, crate::proofs::Slots::filled, crate::proofs::Slots::object))]
     fn write_front(&mut self, n: MbufNumber, at: u32, bytes: &[u8])
         requires object { HasObject self.old n }
         requires front { at + length bytes.now ≤ HEADER_SIZE }
@@ -225,6 +226,7 @@ impl Objects {
 
     // Writes two numbers into an object's header, one after the other.
     #[inline(always)]
+    #[tactic(auto, using(crate::proofs::Slots::listed, crate::proofs::Slots::below, crate::proofs::Slots::filled, crate::proofs::Slots::object))]
     fn write_pair(&mut self, n: MbufNumber, at: usize, x: u16, y: u16)
         requires object { HasObject self.old n }
         requires front { at + 4 ≤ HEADER_SIZE }
@@ -283,6 +285,7 @@ impl Objects {
 
     /// Sets the number of segments and the last mbuf.
     #[inline(always)]
+    #[tactic(auto, using(crate::proofs::Slots::listed, crate::proofs::Slots::below, crate::proofs::Slots::filled, crate::proofs::Slots::object))]
     pub fn set_segs_and_last(&mut self, n: MbufNumber, segs: u16, last: MbufNumber)
         requires { HasObject self.old n }
         ensures { HeaderSet self.old n (record (header_at self.old n) { segs = segs; last = last }) self.new }
@@ -308,6 +311,7 @@ impl Objects {
 
     /// Writes the low bytes of a number into a data room at an offset, big-endian.
     #[inline(always)]
+    #[tactic(auto, using(crate::proofs::Slots::listed, crate::proofs::Slots::below, crate::proofs::Slots::filled, crate::proofs::Slots::object))]
     pub fn write_number(&mut self, n: MbufNumber, at: u32, width: Width, number: u64)
         requires object { HasObject self.old n }
         requires fits { at + bytes_in width ≤ room_at (specs_of self.old) n.pool }
@@ -354,6 +358,7 @@ impl Objects {
 
     /// Writes zeros into a data room at an offset.
     #[inline(always)]
+    #[tactic(auto, using(crate::proofs::Slots::listed, crate::proofs::Slots::below, crate::proofs::Slots::filled, crate::proofs::Slots::object))]
     pub fn zero(&mut self, n: MbufNumber, at: u32, len: u32)
         requires object { HasObject self.old n }
         requires fits { at + len ≤ room_at (specs_of self.old) n.pool }
@@ -385,6 +390,7 @@ impl Objects {
 
     /// Clears an object's number of segments, and puts the object back.
     #[inline(always)]
+    #[tactic(auto, using(crate::proofs::Slots::listed, crate::proofs::Slots::below, crate::proofs::Slots::filled, crate::proofs::Slots::object))]
     pub fn end(&mut self, n: MbufNumber)
         requires object { HasObject self.old n }
         requires out { is_out self.old n ≡ true }

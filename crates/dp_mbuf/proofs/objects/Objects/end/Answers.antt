@@ -1,6 +1,6 @@
 -- An object without a packet goes back to its pool.
 use Rattle.std.proofs.Common.{◌≡◌, ◌∙◌, sym, arith}
-use Rattle.dp_mbuf.proofs.ObjectCalls.{slot_listed, slot_below, slot_filled, InSlot, in_slot, in_row}
+use Rattle.dp_mbuf.proofs.ObjectCalls.{InSlot, in_slot, in_row}
 use Rattle.dp_mbuf.proofs.Ending.{end_done}
 use Rattle.dp_mbuf.proofs.objects.Objects.end.Goals as goal
 use Rattle.dp_mbuf.proofs.objects.Objects.end.Goals.{After-from-2}
@@ -10,18 +10,6 @@ hand : (c : After-from-2) → InSlot c.args.self.now c.args.n c.from.result c.fr
 hand c =
     in_slot _ _ c.self.view_is c.self.invariant c.args.n _ _ _ _ (c.from.ensures ∙ c.pool.ensures) (c.from-2.ensures ∙ c.index.ensures)
     c.requires.object c.pool_mut-pool.ensures.value
-
-pub listed : goal.listed
-listed c = slot_listed _ _ c.args.n _ _ c.self.view_is c.self.invariant c.requires.object c.from.ensures c.pool.ensures
-
-pub bounds-self-inside-from : goal.bounds-self-inside-from
-bounds-self-inside-from c = slot_below _ _ c.args.n _ _ c.self.view_is c.self.invariant c.requires.object c.from.ensures c.pool.ensures
-
-pub pool_mut-pool-requires : goal.pool_mut-pool-requires
-pool_mut-pool-requires c = slot_filled _ _ c.args.n _ _ c.self.view_is c.self.invariant c.requires.object c.from.ensures c.pool.ensures _
-
-pub clear-requires-clause-object : goal.clear-requires-clause-object
-clear-requires-clause-object c = (hand (goal.at.clear-requires-clause-object c).After-from-2).below
 
 pub clear-requires-clause-fits : goal.clear-requires-clause-fits
 clear-requires-clause-fits c = omega (arith, (hand (goal.at.clear-requires-clause-fits c).After-from-2).size)

@@ -1,6 +1,7 @@
 -- A header and bytes after it are written into one object.
 use Rattle.std.proofs.Common.{rules, ◌+◌, ◌∙◌, sym, arith}
-use Rattle.dp_mbuf.proofs.ObjectCalls.{slot_listed, slot_below, slot_filled, InSlot, in_slot}
+use Rattle.dp_mbuf.proofs.Slots.{listed as slot_listed, below as slot_below, filled as slot_filled}
+use Rattle.dp_mbuf.proofs.ObjectCalls.{InSlot, in_slot}
 use Rattle.dp_mbuf.proofs.SettingFirst.{left_twice}
 use Rattle.dp_mbuf.proofs.Both.{both_done}
 use Rattle.dp_mbuf.proofs.objects.Objects.fill.Goals as goal

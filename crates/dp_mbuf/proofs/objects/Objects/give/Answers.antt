@@ -1,6 +1,7 @@
 -- An object that is out goes back to its pool.
 use Rattle.std.proofs.Common.{◌∙◌}
-use Rattle.dp_mbuf.proofs.ObjectCalls.{slot_listed, slot_below, slot_filled, InSlot, in_slot, out_object, in_row, give_done}
+use Rattle.dp_mbuf.proofs.Slots.{listed as slot_listed, below as slot_below, filled as slot_filled}
+use Rattle.dp_mbuf.proofs.ObjectCalls.{InSlot, in_slot, out_object, in_row, give_done}
 use Rattle.dp_mbuf.proofs.objects.Objects.give.Goals as goal
 use Rattle.dp_mbuf.proofs.objects.Objects.give.Goals.{After-from-2}
 

@@ -1,6 +1,6 @@
 -- Bytes are written into an object's header.
 use Rattle.std.proofs.Common.{rules, ◌∙◌, arith}
-use Rattle.dp_mbuf.proofs.ObjectCalls.{are, slot_listed, slot_below, slot_filled, InSlot, in_slot, front_done}
+use Rattle.dp_mbuf.proofs.ObjectCalls.{are, InSlot, in_slot, front_done}
 use Rattle.dp_mbuf.proofs.ObjectLemmas.{object_long}
 use Rattle.dp_mbuf.proofs.objects.Objects.write_front.Goals as goal
 use Rattle.dp_mbuf.proofs.objects.Objects.write_front.Goals.{After-from-2}
@@ -10,18 +10,6 @@ hand : (c : After-from-2) → InSlot c.args.self.now c.args.n c.from.result c.fr
 hand c =
     in_slot _ _ c.self.view_is c.self.invariant c.args.n _ _ _ _ (c.from.ensures ∙ c.pool.ensures) (c.from-2.ensures ∙ c.index.ensures)
     c.requires.object c.pool_mut-pool.ensures.value
-
-pub listed : goal.listed
-listed c = slot_listed _ _ c.args.n _ _ c.self.view_is c.self.invariant c.requires.object c.from.ensures c.pool.ensures
-
-pub bounds-self-inside-from : goal.bounds-self-inside-from
-bounds-self-inside-from c = slot_below _ _ c.args.n _ _ c.self.view_is c.self.invariant c.requires.object c.from.ensures c.pool.ensures
-
-pub pool_mut-pool-requires : goal.pool_mut-pool-requires
-pool_mut-pool-requires c = slot_filled _ _ c.args.n _ _ c.self.view_is c.self.invariant c.requires.object c.from.ensures c.pool.ensures _
-
-pub write-requires-clause-object : goal.write-requires-clause-object
-write-requires-clause-object c = (hand (goal.at.write-requires-clause-object c).After-from-2).below
 
 pub write-requires-clause-fits : goal.write-requires-clause-fits
 write-requires-clause-fits c = omega (arith, c.requires.front, (hand (goal.at.write-requires-clause-fits c).After-from-2).size)

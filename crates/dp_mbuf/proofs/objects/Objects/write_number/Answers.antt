@@ -5,7 +5,7 @@ use Rattle.dp_model.specs.Environments.{room_at}
 use Rattle.dp_model.specs.Laws.StepsWithin.{length_big_endian}
 use Rattle.dp_mbuf.specs.Objects.{specs_of}
 use Rattle.dp_mbuf.proofs.Spelled.{small_spelled}
-use Rattle.dp_mbuf.proofs.ObjectCalls.{slot_listed, slot_below, slot_filled, InSlot, in_slot, left_written, room_done}
+use Rattle.dp_mbuf.proofs.ObjectCalls.{InSlot, in_slot, left_written, room_done}
 use Rattle.dp_mbuf.proofs.objects.Objects.write_number.Goals as goal
 use Rattle.dp_mbuf.proofs.objects.Objects.write_number.Goals.{After-from-2}
 
@@ -14,18 +14,6 @@ hand : (c : After-from-2) → InSlot c.args.self.now c.args.n c.from.result c.fr
 hand c =
     in_slot _ _ c.self.view_is c.self.invariant c.args.n _ _ _ _ (c.from.ensures ∙ c.pool.ensures) (c.from-2.ensures ∙ c.index.ensures)
     c.requires.object c.pool_mut-pool.ensures.value
-
-pub listed : goal.listed
-listed c = slot_listed _ _ c.args.n _ _ c.self.view_is c.self.invariant c.requires.object c.from.ensures c.pool.ensures
-
-pub bounds-self-inside-from : goal.bounds-self-inside-from
-bounds-self-inside-from c = slot_below _ _ c.args.n _ _ c.self.view_is c.self.invariant c.requires.object c.from.ensures c.pool.ensures
-
-pub pool_mut-pool-requires : goal.pool_mut-pool-requires
-pool_mut-pool-requires c = slot_filled _ _ c.args.n _ _ c.self.view_is c.self.invariant c.requires.object c.from.ensures c.pool.ensures _
-
-pub object_mut-requires : goal.object_mut-requires
-object_mut-requires c = (hand (goal.at.object_mut-requires c).After-from-2).below
 
 pub write_number-requires : goal.write_number-requires
 write_number-requires c = omega (arith, c.requires.fits, (hand (goal.at.write_number-requires c).After-from-2).size, c.object_mut.ensures.size)

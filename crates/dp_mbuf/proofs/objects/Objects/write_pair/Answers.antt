@@ -2,7 +2,7 @@
 use Rattle.std.proofs.Common.{◌∙◌, arith, []}
 use Rattle.dp_mbuf.specs.Headers.{then_word}
 use Rattle.dp_mbuf.proofs.HeaderFields.{small_words}
-use Rattle.dp_mbuf.proofs.ObjectCalls.{are, slot_listed, slot_below, slot_filled, InSlot, in_slot, left_written, front_done}
+use Rattle.dp_mbuf.proofs.ObjectCalls.{are, InSlot, in_slot, left_written, front_done}
 use Rattle.dp_mbuf.proofs.ObjectLemmas.{object_long}
 use Rattle.dp_mbuf.proofs.objects.Objects.write_pair.Goals as goal
 use Rattle.dp_mbuf.proofs.objects.Objects.write_pair.Goals.{After-from-2}
@@ -12,18 +12,6 @@ hand : (c : After-from-2) → InSlot c.args.self.now c.args.n c.from.result c.fr
 hand c =
     in_slot _ _ c.self.view_is c.self.invariant c.args.n _ _ _ _ (c.from.ensures ∙ c.pool.ensures) (c.from-2.ensures ∙ c.index.ensures)
     c.requires.object c.pool_mut-pool.ensures.value
-
-pub listed : goal.listed
-listed c = slot_listed _ _ c.args.n _ _ c.self.view_is c.self.invariant c.requires.object c.from.ensures c.pool.ensures
-
-pub bounds-self-inside-from : goal.bounds-self-inside-from
-bounds-self-inside-from c = slot_below _ _ c.args.n _ _ c.self.view_is c.self.invariant c.requires.object c.from.ensures c.pool.ensures
-
-pub pool_mut-pool-requires : goal.pool_mut-pool-requires
-pool_mut-pool-requires c = slot_filled _ _ c.args.n _ _ c.self.view_is c.self.invariant c.requires.object c.from.ensures c.pool.ensures _
-
-pub object_mut-requires : goal.object_mut-requires
-object_mut-requires c = (hand (goal.at.object_mut-requires c).After-from-2).below
 
 pub write_words-requires : goal.write_words-requires
 write_words-requires c = omega (arith, c.requires.front, (hand (goal.at.write_words-requires c).After-from-2).size, c.object_mut.ensures.size)
