@@ -52,7 +52,7 @@ fn spelled_row(
 ) -> Result<Row, CertError>
     ensures { spec.Gives (λ row. row) result (spec.at_line number (spec.spelled_row version line.now row)) }
 {
-    let spelled = row_line(alloc, &row)?;
+    let spelled = row_line(alloc, &row).map_err(|_| CertError::Memory)?;
     if spelled.as_slice() == line && version.can_have(&row) {
         Ok(row)
     } else {
@@ -109,7 +109,7 @@ fn rows_of(alloc: Global, version: Version, n: usize, text: &[u8]) -> Result<Vec
         }
         let (line, after) = rest.split_at(rest.len().min(307));
         let row = row_of(alloc, version, i + 2, line)?;
-        rows.push(row)?;
+        rows.push(row).map_err(|_| CertError::Memory)?;
         rest = after;
     }
     if rest.is_empty() {

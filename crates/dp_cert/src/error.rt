@@ -3,7 +3,6 @@
 ghost use Rattle.std.specs.Prelude.{◌≡◌};
 ghost use Rattle.dp_cert.specs.Faults.{number_of};
 
-use std::alloc::{AllocError, AllocFailed};
 use thiserror::Error;
 
 /// What is wrong with a line.
@@ -55,24 +54,4 @@ pub enum CertError {
     /// The text is not a certificate.
     #[error("{0}")]
     Fault(Fault),
-}
-
-impl From<AllocError> for CertError {
-    ghost use Rattle.dp_cert.specs.declared.error.CertError.TheVariants.{Memory};
-
-    ghost from_gives = { λ _ e. e ≡ Memory };
-
-    fn from(_e: AllocError) -> CertError {
-        CertError::Memory
-    }
-}
-
-impl<T: Drop> From<AllocFailed<T>> for CertError {
-    ghost use Rattle.dp_cert.specs.declared.error.CertError.TheVariants.{Memory};
-
-    ghost from_gives = { λ _ e. e ≡ Memory };
-
-    fn from(_e: AllocFailed<T>) -> CertError {
-        CertError::Memory
-    }
 }

@@ -1,5 +1,5 @@
 -- Each line adds a row or is the first fault; a line too few or too many is a fault.
-use Rattle.std.proofs.Common.{◌≡◌, ◌<◌, ◌∙◌, take, drop, length, rules, arith}
+use Rattle.std.proofs.Common.{◌≡◌, ◌<◌, ◌++◌, ◌∷◌, [], ◌∙◌, take, drop, length, rules, arith}
 use Rattle.std.proofs.lemmas.Result.{err_from_is_err_and}
 use Rattle.dp_cert.proofs.Rows.{take_min, drop_min}
 use Rattle.dp_cert.proofs.Loop.{goes_on, bad_row, too_few, too_many, all_read}
@@ -23,8 +23,9 @@ loop-i-preserved c =
     let some : 0 < length c.loop-i.rest.now = search rules in
     let front : c.split_at.result.0.now ≡ take 307 c.loop-i.rest.now = c.split_at.ensures.front ∙ rw c.min.ensures (take_min 307 c.loop-i.rest.now) in
     let back : c.split_at.result.1.now ≡ drop 307 c.loop-i.rest.now = c.split_at.ensures.back ∙ rw c.min.ensures (drop_min 307 c.loop-i.rest.now) in
+    let items : c.push.new.self.items ≡ c.loop-i.rows.items ++ c.in_ok-row.row ∷ [] = search rules in
     record {
-      told = rw (c.in_ok-push.ensures.items, back) (goes_on c.args.version c.loop-i.rows.items c.args.n c.loop-i.i c.loop-i.rest.now c.in_ok-row.row _
+      told = rw (items, back) (goes_on c.args.version c.loop-i.rows.items c.args.n c.loop-i.i c.loop-i.rest.now c.in_ok-row.row _
           c.loop-i-test.true some (rw front at c.in_ok-row.ensures) c.loop-i.invariant.told);
       far = omega (arith, c.split_at.ensures.back_len, c.min.ensures, c.loop-i.invariant.far);
     }
