@@ -4,7 +4,7 @@ ghost use Rattle.std.specs.Prelude.{◌≡◌};
 ghost use Rattle.dp_lang.specs.Causes.{number_of, least};
 ghost use Rattle.dp_lang.specs.LineErrors.{least_error, error_at};
 
-use std::alloc::{AllocError, AllocFailed};
+use std::alloc::AllocError;
 use std::fmt;
 use thiserror::Error;
 
@@ -138,16 +138,6 @@ impl From<AllocError> for LineError {
     }
 }
 
-impl<T: Drop> From<AllocFailed<T>> for LineError {
-    ghost use Rattle.dp_lang.specs.declared.cause.LineError.TheVariants.{Memory};
-
-    ghost from_gives = { λ _ e. e ≡ Memory };
-
-    fn from(_e: AllocFailed<T>) -> LineError {
-        LineError::Memory
-    }
-}
-
 /// Why a text was not assembled.
 #[derive(Clone, Copy, Debug, PartialEq, Eq, Error)]
 pub enum AsmError {
@@ -165,16 +155,6 @@ impl From<AllocError> for AsmError {
     ghost from_gives = { λ _ e. e ≡ Memory };
 
     fn from(_e: AllocError) -> AsmError {
-        AsmError::Memory
-    }
-}
-
-impl<T: Drop> From<AllocFailed<T>> for AsmError {
-    ghost use Rattle.dp_lang.specs.declared.cause.AsmError.TheVariants.{Memory};
-
-    ghost from_gives = { λ _ e. e ≡ Memory };
-
-    fn from(_e: AllocFailed<T>) -> AsmError {
         AsmError::Memory
     }
 }
