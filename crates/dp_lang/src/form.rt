@@ -4,7 +4,7 @@ ghost use Rattle.std.specs.Prelude.{◌≡◌, map};
 ghost use Rattle.dp_model.specs.Jumps.{label_of};
 ghost use Rattle.dp_model.specs.Rules.{uses};
 ghost use Rattle.dp_lang.specs.Fields.{fielded_statement};
-ghost use Rattle.dp_lang.specs.Forms.{word_of, kinds_of, form_of, spelled};
+ghost use Rattle.dp_lang.specs.Forms.{word_of, kinds_of, form_of, forms, spelled};
 ghost use Rattle.dp_lang.specs.Views.{label_in, listed, numbered, seen_in, seen_of, used_in};
 
 use crate::argument::{Arguments, Named, Numbered};
@@ -143,7 +143,21 @@ macro_rules! forms {
 
 /// Expands to the list of all forms, in the order of the table.
 macro_rules! list {
-    (; $($name:ident $word:literal $fields:tt;)+) => { [$(Form::$name),+] };
+    (; $($name:ident $word:literal $fields:tt;)+) => { &[$(Form::$name),+] };
+}
+
+/// Expands to a match from a form to the name of its variant.
+macro_rules! variant {
+    ($form:expr ; $($name:ident $word:literal $fields:tt;)+) => {
+        match $form { $(Form::$name => stringify!($name),)+ }
+    };
+}
+
+/// Expands to a match from a form to the names of its fields, in order.
+macro_rules! fields {
+    ($form:expr ; $($name:ident $word:literal { $($field:ident: $kind:ident $(($range:ident))?),* };)+) => {
+        match $form { $(Form::$name => &[$(stringify!($field)),*],)+ }
+    };
 }
 
 /// Expands to a match from a form to its word.
@@ -219,12 +233,11 @@ macro_rules! built {
     };
 }
 
-// All forms, in the order of the table.
-static FORMS: [Form; 32] = forms!(list);
-
 /// All forms, in the order of the table.
-pub fn all_forms() -> &'static [Form] {
-    &FORMS
+pub fn all_forms() -> &'static [Form]
+    ensures { result.now ≡ forms }
+{
+    forms!(list)
 }
 
 impl Form {
@@ -233,6 +246,16 @@ impl Form {
         ensures { result.now ≡ word_of self }
     {
         forms!(word self)
+    }
+
+    /// The name of its variant of `Instr`.
+    pub fn variant(self) -> &'static str {
+        forms!(variant self)
+    }
+
+    /// The names of the fields of that variant, in the order of the text.
+    pub fn fields(self) -> &'static [&'static str] {
+        forms!(fields self)
     }
 
     /// The kinds of its operands, in order.
@@ -247,7 +270,7 @@ impl Form {
     pub fn of_word(word: &[u8]) -> Option<Form>
         ensures { result ≡ form_of word.now }
     {
-        FORMS
+        all_forms()
             .iter()
             .copied()
             .find(|form| form.word().as_bytes() == word)

@@ -34,7 +34,7 @@ mod statement;
 pub use argument::{Arguments, Named, Numbered};
 pub use assembler::assemble;
 pub use cause::{AsmError, Cause, Fault};
-pub use form::{Form, OperandKind, all_forms, arguments_of};
+pub use form::{Form, OperandKind, all_forms, arguments_of, form_of};
 pub use laws::{has_its_ranges, printed_texts_read_back};
 pub use line_numbers::source_lines;
 pub use listing::{Listed, SourceLine, listing_of, source_line};
