@@ -12,6 +12,7 @@ import re
 import shutil
 import subprocess
 import sys
+import textwrap
 import tomllib
 from collections.abc import Iterable
 
@@ -161,9 +162,10 @@ def programs_of(texts: Iterable[bytes]) -> list[list[Instr]]:
 
 def module(programs: list[list[Instr]]) -> str:
     """The module of some programs."""
-    head = (TOP / "crates/dp_compile/src/impls.rt").read_text()
-    head = re.search(r'HEAD: &str =\s+"(.*?)";', head, re.DOTALL)[1]
-    head = re.sub(r"\\u\{(\w+)\}", lambda it: chr(int(it[1], 16)), head)
+    code = (TOP / "crates/dp_compile/src/impls.rt").read_text()
+    head, line, uses = (re.search(rf'{name}: &str =\s+"(.*?)";', code, re.DOTALL)[1] for name in ("HEAD", "VARIANTS", "USES"))
+    head += "".join(line + names.rstrip(",") for names in textwrap.wrap(", ".join(variant for variant, _ in VARIANTS.values()), 61)) + uses
+    head = re.sub(r"\\u\{(\w+)\}", lambda it: chr(int(it[1], 16)), head).replace("\\n", "\n")
     listed = "".join(f"Also<Program{k}, " for k in range(len(programs)))
     return head + "".join(map(impl, range(len(programs)), programs)) + f"\n/// All of them.\npub type Programs = {listed}Nothing{'>' * len(programs)};\n"
 
