@@ -218,6 +218,7 @@ impl MemoryBuilder {
     }
 
     /// Gives the spare zone back, and makes the last pool, whose queue is as long as that zone.
+    #[tactic(auto, using(std::proofs::lemmas::Grind::common_steps))]
     pub fn finish(self, k: usize, spec: PoolSpec) -> (Heap, Zones, Pool)
         requires number { k < MAX_POOLS }
         requires spec { pool_fits spec ≡ true }

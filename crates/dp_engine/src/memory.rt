@@ -42,6 +42,7 @@ impl Model for EngineMemory {
 
 // Lays out the memory of an engine in a region that is large enough. The spare zone, which is taken first, is as long as the last pool's queue; it is
 // given back when that pool is made, so the bytes that are left always suffice.
+#[tactic(auto, using(std::proofs::lemmas::Grind::common_steps))]
 fn lay_out(region: Region, env: &Env) -> (EngineMemory, Parts)
     requires lent { region.lent ≡ [] }
     requires room { bytes_needed env.now ≤ length region.bytes }
@@ -101,6 +102,7 @@ impl EngineMemory {
     }
 
     // Gives the zones of rings back.
+    #[tactic(auto, using(std::proofs::lemmas::Grind::common_steps))]
     fn end_rings(&mut self, rings: [Option<Ring>; 8])
         requires { RingsIn self.old.home rings }
         ensures { Returns (filled rings) self.old self.new }
@@ -117,6 +119,7 @@ impl EngineMemory {
     }
 
     // Gives the zones of pools back.
+    #[tactic(auto, using(std::proofs::lemmas::Grind::common_steps))]
     fn end_pools(&mut self, pools: [Option<Pool>; MAX_POOLS])
         requires { PoolsIn self.old.home pools }
         ensures { Returns (2 * filled pools) self.old self.new }

@@ -13,6 +13,7 @@ type Put = Result<(), PcapError>;
 
 // Writes a packet segment by segment.
 #[inline(always)]
+#[tactic(auto, using(std::proofs::lemmas::Grind::common_steps))]
 fn put_segments<W: Sink>(mbufs: &Mbufs, packet: Handle, time: Time, unit: Unit, w: &mut W) -> Put
     requires live { IsLive mbufs.now.store packet }
     requires nano { time.nano < NANOS_A_SECOND }

@@ -18,6 +18,7 @@ impl<K: CompiledPrograms> Engine<K> {
     /// Writes the packets of a port's transmit list as records of that time, first to last, in the format of classic pcap 2.4, and frees them, even
     /// if the writer fails. Returns how many records were written; an error has how many were written whole before the writer failed.
     #[inline(always)]
+    #[tactic(auto, using(std::proofs::lemmas::Grind::common_steps))]
     pub fn drain<W: Sink>(
         &mut self,
         port: u8,

@@ -1,6 +1,5 @@
 -- A record written segment by segment: the segment is derived once, and each goal is one step from there.
 use Rattle.std.proofs.Common.{◌≡◌, ◌+◌, length, Some, arith, rules, refl, append-nil, []}
-use Rattle.std.proofs.lemmas.Grind.{common_steps}
 use Rattle.std.specs.Prelude.{slice_get}
 use Rattle.dp_model.specs.Packets.{Packet, Segment, packet_bytes, segment_bytes}
 use Rattle.dp_model.specs.Stores.{Has}
@@ -70,6 +69,3 @@ loop-index-preserved g c = record {
       called_piece _ _ _ _ (segment_bytes c.args.mbufs.now.store.buffers) k c.loop-index.index s c.segment_bytes.result.now here bytes
       (c.loop-index.invariant.counted k has) c.in_ok-put_bytes.ensures.counted;
 }
-
-pub returns : goal.returns
-returns g c = grind (arith, common_steps)

@@ -1,6 +1,5 @@
 -- The last pool of a builder: what is free for it is derived once.
 use Rattle.std.proofs.Common.{◌≡◌, ◌+◌, ◌-◌, ◌*◌, ◌%◌, ap, sym, subst, ◌∙◌, arith, List, length}
-use Rattle.std.proofs.lemmas.Grind.{common_steps}
 use Rattle.dp_heap.specs.Elements.{freed}
 use Rattle.dp_heap.specs.Laid.{HeapView}
 use Rattle.dp_zone.specs.Zones.{Reserved}
@@ -54,6 +53,3 @@ returns-clause-same c = (
   c.make-pool.ensures.size ∙ ap (λ (h : HeapView). size_of h.elements) c.give_back.ensures.heap
       ∙ merged_size c.self.inside.spare.offset c.self.inside.heap.elements ∙ ap (λ (v : BuilderView). v.size) c.self.view_is,
 )
-
-pub returns-clause-counted : goal.returns-clause-counted
-returns-clause-counted c = grind (arith, common_steps)

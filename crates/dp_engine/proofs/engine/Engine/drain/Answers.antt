@@ -1,6 +1,5 @@
 -- The drain of a port: its transmit list is found once, and each goal is one step from there. A list without packets stays as it is.
 use Rattle.std.proofs.Common.{◌≡◌, ◌<◌, List, [], length, Some, refl, ap, arith}
-use Rattle.std.proofs.lemmas.Grind.{common_steps}
 use Rattle.std.specs.Prelude.{slice_get}
 use Rattle.std.proofs.KnownBytes.{Appends-nil}
 use Rattle.dp_model.specs.Packets.{Packet}
@@ -72,9 +71,3 @@ returns-then-count-eq0-clause-counted g c =
     let none = none_at e.context e.machine e.memory e.turns e.tallies e.left c.args.self.now c.args.port c.count.result c.self.view_is c.count.ensures.list
     c.if-count-eq0.true in
     called_written c.args.unit c.args.time c.args.port c.args.self.now.world [] _ _ 1 none (omega arith)
-
-pub count-requires : goal.count-requires
-count-requires g c = grind (arith, common_steps)
-
-pub drain_list-requires-clause-there : goal.drain_list-requires-clause-there
-drain_list-requires-clause-there g c = grind (arith, common_steps)
