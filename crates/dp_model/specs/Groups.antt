@@ -6,19 +6,17 @@ use Rattle.std.specs.Option.{option_map_or}
 use Rattle.std.proofs.Math.Bool.{beq}
 use Rattle.dp_model.specs.declared.row.Fact.{Fact}
 use Rattle.dp_model.specs.declared.row.Fact.TheVariants.{Empty, Held}
+pub use Rattle.dp_model.specs.Facts.{share_of_group}
+use Rattle.dp_model.specs.Facts.{loose, sole, first_group}
 use Rattle.dp_model.specs.Buffers.{Number}
 use Rattle.dp_model.specs.Packets.{Segment, Packet, refs}
 
 -- ---- the words
 
--- the share of the registers in group g
-abbrev pub share_of_group : ℕ → ℕ
-share_of_group g = 8 + g
-
 -- the group of a register, if it belongs to one
 abbrev pub group_of : Fact → Option ℕ
 group_of Empty = None
-group_of (Held share head tail first last segs) = if nat_le 8 share then Some (share - 8) else None
+group_of (Held share head tail first last segs) = if nat_le first_group share then Some (share - first_group) else None
 
 -- whether a register belongs to the group
 abbrev pub is_in : ℕ → Fact → Bool
@@ -76,7 +74,7 @@ reshared g share facts = map (reshared_fact g share) facts
 
 -- the new share of the registers that remain in a group: a single one is sole, else the least of them names the group
 abbrev pub share_left : List Fact → ℕ → ℕ
-share_left facts g = if group_size facts g == 1 then 2 else option_map_or share_of_group (least_member facts g) 0
+share_left facts g = if group_size facts g == 1 then sole else option_map_or share_of_group (least_member facts g) loose
 
 -- ---- what a group says
 

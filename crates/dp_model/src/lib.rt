@@ -21,6 +21,7 @@ mod queue;
 mod registers;
 mod row;
 mod rule;
+mod share;
 
 pub use definition_laws::{
     budgets_are_as_they_read, longest_prefixes_agree, numbers_are_as_called, runs_are_as_they_read,
@@ -41,3 +42,4 @@ pub use queue::Queue;
 pub use registers::{NumberRegister, Operand, PacketRegister, Width};
 pub use row::{Fact, Holding, Lead, Row};
 pub use rule::Rule;
+pub use share::{FIRST_GROUP, HEAD_SOLE, LOOSE, SOLE, is_share, share_of_group};

@@ -16,6 +16,7 @@ use Rattle.dp_model.specs.declared.row.Row.{Row}
 use Rattle.dp_model.specs.declared.row.Holding.{Holding}
 use Rattle.dp_model.specs.Rows.{holding, group_at, with_shares, dissolved, is_well_formed_row, is_fact_of_row, held, held_at, with_fact, changed}
 use Rattle.dp_model.specs.Rows.{emptied, shared, chained_share, owns_head}
+use Rattle.dp_model.specs.Facts.{loose, head_sole, sole, first_group}
 use Rattle.dp_model.specs.Groups.{group_of, is_in, group_size, share_of_group, belongs, reshared_fact}
 use Rattle.dp_model.specs.Groups.{reshared, same_registers, least_member, is_group, are_groups}
 use Rattle.dp_model.specs.Laws.Lists.{get_set_other, get_set_same, all_at}
@@ -59,54 +60,51 @@ belongs_other facts g p i f ne = ap (λ o. option_map_or (is_in g) o false) (get
 pub belongs_set : (facts : List Fact) (g p : ℕ) (f f' : Fact) → slice_get facts p ≡ Some f → belongs (slice_set facts p f') g p ≡ is_in g f'
 belongs_set facts g p f f' e = belongs_at (slice_set facts p f') g p f' (get_set_same facts p f' f e)
 
-not_group : (g : ℕ) → (0 == share_of_group g) ≡ false
-not_group g = ne_eqb 0 (8 + g) (λ e. absurd (omega (arith, e)))
-
 -- the share of a sole packet is no group's
-pub sole_no_group : (g : ℕ) → (2 == share_of_group g) ≡ false
-sole_no_group g = ne_eqb 2 (8 + g) (λ e. absurd (omega (arith, e)))
+pub sole_no_group : (g : ℕ) → (sole == share_of_group g) ≡ false
+sole_no_group g = ne_eqb sole (share_of_group g) (λ e. absurd (omega (arith, e)))
 
 -- the share of a loose packet is no group's
-pub loose_no_group : (g : ℕ) → (0 == share_of_group g) ≡ false
-loose_no_group g = not_group g
+pub loose_no_group : (g : ℕ) → (loose == share_of_group g) ≡ false
+loose_no_group g = ne_eqb loose (share_of_group g) (λ e. absurd (omega (arith, e)))
 
 -- nor is that of chained packets
 pub chained_no_group : (a b g : ℕ) → (chained_share a b == share_of_group g) ≡ false
-chained_no_group a b g = ne_eqb (chained_share a b) (8 + g) (λ e. absurd (omega (arith, e, most ((a == 2) && (b == 2)) (owns_head a))))
+chained_no_group a b g = ne_eqb (chained_share a b) (share_of_group g) (λ e. absurd (omega (arith, e, most ((a == sole) && (b == sole)) (owns_head a))))
   where
-    most : (x y : Bool) → cond x 2 (cond y 1 0) ≤ 2
+    most : (x y : Bool) → cond x sole (cond y head_sole loose) ≤ sole
     most true y = omega arith
     most false true = omega arith
     most false false = omega arith
 
 -- two groups have two names
 pub other_group : (m x : ℕ) → m ≢ x → (share_of_group m == share_of_group x) ≡ false
-other_group m x ne = ne_eqb (8 + m) (8 + x) (λ e. ne (omega (arith, e)))
+other_group m x ne = ne_eqb (share_of_group m) (share_of_group x) (λ e. ne (omega (arith, e)))
 
 -- the group of a register is the one to which it belongs
 pub is_in_group : (g : ℕ) (f : Fact) → is_in g f ≡ true → group_of f ≡ Some g
 is_in_group g Empty e = cc
 is_in_group g (Held share head tail first last segs) e =
-    let is : share ≡ 8 + g = eqb-true share (8 + g) e in
-    let above : nat_le 8 share ≡ true = le-leb 8 share (omega (arith, is)) in
-    let less : share - 8 ≡ g = omega (arith, is) in
-    ap (λ t. cond t (Some (share - 8)) None) above ∙ ap Some less
+    let is : share ≡ share_of_group g = eqb-true share (share_of_group g) e in
+    let above : nat_le first_group share ≡ true = le-leb first_group share (omega (arith, is)) in
+    let less : share - first_group ≡ g = omega (arith, is) in
+    ap (λ t. cond t (Some (share - first_group)) None) above ∙ ap Some less
 
 -- and it belongs to its group
 pub group_is : (g : ℕ) (f : Fact) → group_of f ≡ Some g → is_in g f ≡ true
 group_is g Empty e = cc
-group_is g (Held share head tail first last segs) e = go (nat_le 8 share) refl
+group_is g (Held share head tail first last segs) e = go (nat_le first_group share) refl
   where
-    go : (b : Bool) → nat_le 8 share ≡ b → (share == share_of_group g) ≡ true
+    go : (b : Bool) → nat_le first_group share ≡ b → (share == share_of_group g) ≡ true
     go true above =
-        let is : share - 8 ≡ g = same_Some (share - 8) g (sym (ap (λ t. cond t (Some (share - 8)) None) above) ∙ e) in
-        eq-eqb share (8 + g) (omega (arith, is, leb-true 8 share above))
-    go false below = let wrong : None ≡ Some g = sym (ap (λ t. cond t (Some (share - 8)) None) below) ∙ e in cc
+        let is : share - first_group ≡ g = same_Some (share - first_group) g (sym (ap (λ t. cond t (Some (share - first_group)) None) above) ∙ e) in
+        eq-eqb share (share_of_group g) (omega (arith, is, leb-true first_group share above))
+    go false below = let wrong : None ≡ Some g = sym (ap (λ t. cond t (Some (share - first_group)) None) below) ∙ e in cc
 
 -- a fact names one group
 pub is_in_one : (g x : ℕ) (f : Fact) → is_in g f ≡ true → is_in x f ≡ true → g ≡ x
 is_in_one g x Empty e h = cc
-is_in_one g x (Held share head tail first last segs) e h = omega (arith, eqb-true share (8 + g) e, eqb-true share (8 + x) h)
+is_in_one g x (Held share head tail first last segs) e h = omega (arith, eqb-true share (share_of_group g) e, eqb-true share (share_of_group x) h)
 
 -- a register belongs to one group
 pub in_one : (facts : List Fact) (g x i : ℕ) → x ≢ g → belongs facts g i ≡ true → belongs facts x i ≡ false
@@ -170,8 +168,8 @@ kept_at as' bs i g f e at inside =
     sym (ap (λ o. option_map_or (same_registers as' bs) o true) (is_in_group g f inside)) ∙ here
 
 -- a row after a register's group is dissolved, by cases of that group
-pub dissolved_is : (row : Row) (p : ℕ) (o : Option ℕ) → group_at row p ≡ o → dissolved row p ≡ option_map_or (λ g. with_shares row g 0) o row
-dissolved_is row p o e = ap (λ o. option_map_or (λ g. with_shares row g 0) o row) e
+pub dissolved_is : (row : Row) (p : ℕ) (o : Option ℕ) → group_at row p ≡ o → dissolved row p ≡ option_map_or (λ g. with_shares row g loose) o row
+dissolved_is row p o e = ap (λ o. option_map_or (λ g. with_shares row g loose) o row) e
 
 -- the group of a register that belongs to one
 pub group_at_is : (row : Row) (p g : ℕ) → belongs row.facts g p ≡ true → group_at row p ≡ Some g
@@ -198,7 +196,7 @@ dissolved_out row p g = go (group_at row p) refl
     go : (o : Option ℕ) → group_at row p ≡ o → belongs (dissolved row p).facts g p ≡ false
     go None e = ap (λ r. belongs r.facts g p) (dissolved_is row p None e) ∙ group_at_none row p e g
     go (Some x) e = ap (λ r. belongs r.facts g p) (dissolved_is row p (Some x) e)
-        ∙ (belongs_in row.facts g x 0 p (group_at_belongs row p x e) ∙ loose_no_group g)
+        ∙ (belongs_in row.facts g x loose p (group_at_belongs row p x e) ∙ loose_no_group g)
 
 -- what belonged to no group still does not
 pub dissolved_stays : (row : Row) (p q g : ℕ) → belongs row.facts g q ≡ false → belongs (dissolved row p).facts g q ≡ false
@@ -207,8 +205,8 @@ dissolved_stays row p q g out = go (group_at row p) refl
     go : (o : Option ℕ) → group_at row p ≡ o → belongs (dissolved row p).facts g q ≡ false
     go None e = ap (λ r. belongs r.facts g q) (dissolved_is row p None e) ∙ out
     go (Some x) e = ap (λ r. belongs r.facts g q) (dissolved_is row p (Some x) e) ∙ by_cases (belongs row.facts x q)
-        (λ inside. belongs_in row.facts g x 0 q inside ∙ loose_no_group g)
-        (λ outside. belongs_out row.facts g x 0 q outside ∙ out)
+        (λ inside. belongs_in row.facts g x loose q inside ∙ loose_no_group g)
+        (λ outside. belongs_out row.facts g x loose q outside ∙ out)
 
 -- the groups of a well-formed row are as they should be
 pub groups_of_row : (row : Row) → is_well_formed_row row ≡ true → are_groups row.facts ≡ true
