@@ -16,6 +16,7 @@ use Rattle.dp_model.specs.declared.row.Row.{Row}
 use Rattle.dp_model.specs.declared.row.Holding.{Holding}
 use Rattle.dp_model.specs.Rows.{holding, held_at, held, is_empty, emptied, entails_fact, shared, twin, twin_share, joins, after_clone, group_at}
 use Rattle.dp_model.specs.Rows.{with_shares, dissolved, renamed, after_free, is_fact_of_row, is_well_formed_row}
+use Rattle.dp_model.specs.Facts.{is_share}
 use Rattle.dp_model.specs.Groups.{are_groups, share_of_group, is_in, reshared_fact, reshared}
 use Rattle.dp_model.specs.Laws.Lists.{all_at}
 
@@ -64,7 +65,7 @@ few_segs row p h e fits = go (slice_get row.facts p) refl
     go (Some Empty) t = absurd (cc (rw t at e))
     go (Some (Held share head tail first last segs)) t =
         let fact = all_at is_fact_of_row row.facts p (Held share head tail first last segs) fits t in
-        let most = (and_parts ((nat_le share 2 || (nat_le 8 share && nat_le share 15)) && nat_le 1 segs) (nat_le segs 64) fact).1 in
+        let most = (and_parts (is_share share && nat_le 1 segs) (nat_le segs 64) fact).1 in
         let there : Some (record { share = share; head = head; tail = tail; first = first; last = last; segs = segs }) ≡ Some h = rw t at e in
         let same : segs ≡ h.segs = ap (λ o. option_map_or (λ (k : Holding). k.segs) o 0) there in
         subst (λ n. n ≤ 64) same (leb-true segs 64 most)
@@ -76,8 +77,8 @@ loose_fits g (Held share head tail first last segs) e = go (share == share_of_gr
   where
     go : (b : Bool) → (share == share_of_group g) ≡ b → is_fact_of_row (reshared_fact g 0 (Held share head tail first last segs)) ≡ true
     go true t =
-        let (a, most) = and_parts ((nat_le share 2 || (nat_le 8 share && nat_le share 15)) && nat_le 1 segs) (nat_le segs 64) e in
-        let (b, some) = and_parts (nat_le share 2 || (nat_le 8 share && nat_le share 15)) (nat_le 1 segs) a in
+        let (a, most) = and_parts (is_share share && nat_le 1 segs) (nat_le segs 64) e in
+        let (b, some) = and_parts (is_share share) (nat_le 1 segs) a in
         rw (t, some, most) refl
     go false t = rw t e
 

@@ -13,6 +13,7 @@ use Rattle.dp_model.specs.declared.registers.Operand.TheVariants.{Register}
 use Rattle.dp_model.specs.declared.instr.Instr.{Instr}
 use Rattle.dp_model.specs.declared.instr.Instr.TheVariants.{Chain, Exit}
 use Rattle.dp_model.specs.Environments.{Environment}
+use Rattle.dp_model.specs.Facts.{loose}
 use Rattle.dp_model.specs.Groups.{group_of, is_in, keeps_groups, same_registers}
 use Rattle.dp_model.specs.Limits.{max_segments}
 use Rattle.dp_model.specs.Rows.{is_empty, holding, held, held_at, entails_fact, entails_option, entails_share, entry_row, fact_of_ring, bound, entails, leads}
@@ -128,7 +129,7 @@ abbrev pub measured_at : Row → ℕ → Measure → ℕ
 measured_at row p part = option_map_or (measured part) (slice_get row.facts p) 0
 
 abbrev pub share_in : Fact → ℕ
-share_in Empty = 0
+share_in Empty = loose
 share_in (Held share head tail first last segs) = share
 
 abbrev pub segs_in : Fact → ℕ

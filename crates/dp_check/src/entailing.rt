@@ -4,13 +4,13 @@ ghost use Rattle.std.specs.Prelude.{◌≡◌, nat_le};
 ghost use Rattle.dp_model.specs.Groups.{at_each_index, same_registers, keeps_groups};
 ghost use Rattle.dp_model.specs.Rows.{entails_share, entails_holding, entails_fact, entails};
 
-use dp_model::{Fact, Holding, Row};
+use dp_model::{Fact, HEAD_SOLE, Holding, LOOSE, Row, SOLE};
 
 /// Whether a share says all that the other does.
 pub(crate) fn share_entails(share: u8, other: u8) -> bool
     ensures { result ≡ entails_share share other }
 {
-    other == 0 || share == other || (share == 2 && other == 1)
+    other == LOOSE || share == other || (share == SOLE && other == HEAD_SOLE)
 }
 
 /// Whether what is known of a packet says all that the other does.

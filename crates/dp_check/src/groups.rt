@@ -1,13 +1,13 @@
 //! Sharing groups: how a clone, a free, a send and a chain change them.
 
-ghost use Rattle.std.specs.Prelude.{◌≡◌, ◌<◌, ◌&&◌, IsTrue};
-ghost use Rattle.dp_model.specs.Groups.{share_of_group, is_group, same_registers, reshared_fact, reshared, share_left};
+ghost use Rattle.std.specs.Prelude.{◌≡◌, ◌&&◌, IsTrue};
+ghost use Rattle.dp_model.specs.Groups.{is_group, same_registers, reshared_fact, reshared, share_left};
 ghost use Rattle.dp_model.specs.Rows.{is_well_formed_row, group_at, with_shares, dissolved, renamed, after_free, after_leave, after_chained};
 ghost use Rattle.dp_model.specs.Rows.{twin, twin_share, joins, after_clone};
 
 use crate::entailing::same_registers;
 use crate::packet_facts::{emptied, held_at, joined, with_held, with_share};
-use dp_model::{Fact, Holding, PacketRegister, Row};
+use dp_model::{Fact, Holding, LOOSE, PacketRegister, Row, SOLE, share_of_group};
 
 /// Whether the group is one of the first row, named by its least register, and has the same registers in the second row.
 pub fn shares_group(row: &Row, other: &Row, group: u8) -> bool
@@ -49,24 +49,16 @@ fn with_shares(row: &Row, group: u8, share: u8) -> Row
     }
 }
 
-/// The share of the registers of a group.
-fn share_of_group(group: u8) -> u8
-    requires { group < 8 }
-    ensures { result ≡ share_of_group group }
-{
-    8 + group
-}
-
 /// The share of the registers that remain of a group.
 fn share_left(row: &Row, group: u8) -> u8
     ensures { result ≡ share_left row.now.facts group }
 {
     if row.group_size(group) == 1 {
-        return 2;
+        return SOLE;
     }
     match row.least_of(group) {
         Some(register) => share_of_group(register.number()),
-        None => 0,
+        None => LOOSE,
     }
 }
 
@@ -82,7 +74,7 @@ fn dissolved(row: &Row, packet: PacketRegister) -> Row
     ensures { result ≡ dissolved row.now packet }
 {
     match group_at(row, packet) {
-        Some(group) => with_shares(row, group, 0),
+        Some(group) => with_shares(row, group, LOOSE),
         None => *row,
     }
 }
@@ -125,10 +117,10 @@ pub(crate) fn chained(row: &Row, front: PacketRegister, back: PacketRegister) ->
 fn twin_share(into: PacketRegister, from: PacketRegister, holding: Holding) -> u8
     ensures { result ≡ twin_share into from holding }
 {
-    if holding.share == 2 {
+    if holding.share == SOLE {
         share_of_group(into.number().min(from.number()))
     } else {
-        0
+        LOOSE
     }
 }
 

@@ -9,7 +9,7 @@ ghost use Rattle.dp_model.specs.Rows.{shared, owns_head, chained_share, after_ch
 ghost use Rattle.dp_check.specs.Leads.{raised};
 
 use crate::reason::Measure;
-use dp_model::{DEFAULT_HEADROOM, Fact, Holding, PacketRegister, Row};
+use dp_model::{DEFAULT_HEADROOM, Fact, HEAD_SOLE, Holding, LOOSE, PacketRegister, Row, SOLE};
 
 /// What a row says of the packet in a register, if there is one.
 pub(crate) fn held_at(row: &Row, packet: PacketRegister) -> Option<Holding>
@@ -155,7 +155,7 @@ pub(crate) fn allocated(row: &Row, packet: PacketRegister, room: u16) -> Row
 {
     let head = room.min(DEFAULT_HEADROOM);
     let new = Holding {
-        share: 2,
+        share: SOLE,
         head,
         tail: room - head,
         first: 0,
@@ -169,19 +169,19 @@ pub(crate) fn allocated(row: &Row, packet: PacketRegister, room: u16) -> Row
 pub fn owns_head(share: u8) -> bool
     ensures { result ≡ owns_head share }
 {
-    share == 1 || share == 2
+    share == HEAD_SOLE || share == SOLE
 }
 
 /// The share of two chained packets.
 fn chained_share(front: u8, back: u8) -> u8
     ensures { result ≡ chained_share front back }
 {
-    if front == 2 && back == 2 {
-        2
+    if front == SOLE && back == SOLE {
+        SOLE
     } else if owns_head(front) {
-        1
+        HEAD_SOLE
     } else {
-        0
+        LOOSE
     }
 }
 

@@ -98,7 +98,7 @@ pub enum Reason {
         start: u64,
         count: u32,
     },
-    /// J7: what is written may be shared; the wanted share is 1, or 2 at the end of several segments.
+    /// J7: what is written may be shared; head sole is wanted, or sole at the end of several segments.
     NotAlone {
         packet: PacketRegister,
         known: Fact,

@@ -10,7 +10,7 @@ ghost use Rattle.dp_check.specs.Diagnoses.{Is, Says, first_held, measured, measu
 use crate::entailing::{fact_entails, share_entails};
 use crate::reason::Measure::{self, First, Headroom, Last, Tailroom};
 use crate::reason::Reason;
-use dp_model::{Env, Fact, Instr, MAX_SEGMENTS, PacketRegister, Row};
+use dp_model::{Env, Fact, HEAD_SOLE, Instr, LOOSE, MAX_SEGMENTS, PacketRegister, Row, SOLE};
 
 /// The reason, if the environment does not have the pool, the table or the ring that is named.
 pub(crate) fn check_index(env: &Env, instr: Instr) -> Option<Reason>
@@ -239,7 +239,7 @@ fn share_in(fact: Fact) -> u8
 {
     match fact {
         Fact::Held { share, .. } => share,
-        Fact::Empty => 0,
+        Fact::Empty => LOOSE,
     }
 }
 
@@ -268,10 +268,10 @@ pub(crate) fn check_share(row: &Row, instr: Instr) -> Option<Reason>
     match instr {
         Instr::Prepend { packet, .. }
         | Instr::Store { packet, .. }
-        | Instr::StoreX { packet, .. } => check_alone(packet, row.fact(packet), 1),
+        | Instr::StoreX { packet, .. } => check_alone(packet, row.fact(packet), HEAD_SOLE),
         Instr::Append { packet, .. } => {
             let known = row.fact(packet);
-            let wanted = if segs_in(known) == 1 { 1 } else { 2 };
+            let wanted = if segs_in(known) == 1 { HEAD_SOLE } else { SOLE };
             check_alone(packet, known, wanted)
         }
         _ => None,

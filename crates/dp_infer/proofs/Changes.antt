@@ -1,5 +1,5 @@
 -- Edits of rows keep that one row is stronger than the other.
-use Rattle.std.proofs.Common.{◌≡◌, ℕ, zero, suc, ◌≤◌, Bool, true, false, ◌&&◌, ◌||◌, ◌==◌, cond, List, [], ◌∷◌, Option, Some, None, refl, sym, ap, ◌∙◌}
+use Rattle.std.proofs.Common.{◌≡◌, ℕ, zero, suc, ◌≤◌, Bool, true, false, ◌&&◌, ◌==◌, cond, List, [], ◌∷◌, Option, Some, None, refl, sym, ap, ◌∙◌}
 use Rattle.std.proofs.Common.{⊎_elim, subst, arith, ◌+◌, length, min, inl, inr, ◌⊎◌}
 use Rattle.std.specs.Prelude.{nat_le, slice_get, slice_set, option_and_then, ◌≢◌}
 use Rattle.std.specs.List.{list_all, AllZip, position_from}
@@ -9,6 +9,7 @@ use Rattle.std.proofs.lemmas.Bool.Decides.{Decides-eqb}
 use Rattle.dp_model.specs.declared.row.Fact.{Fact}
 use Rattle.dp_model.specs.declared.row.Fact.TheVariants.{Empty, Held}
 use Rattle.dp_model.specs.declared.row.Row.{Row}
+use Rattle.dp_model.specs.Facts.{is_share}
 use Rattle.dp_model.specs.Groups.{are_groups, belongs, group_size, least_member, share_left, is_in, share_of_group, reshared_fact, reshared}
 use Rattle.std.proofs.lemmas.Option.{same_Some}
 use Rattle.dp_model.specs.Laws.Groups.{group_at_is, group_at_belongs, group_at_none, dissolved_out, dissolved_stays, groups_of_row, least_belongs, unnamed}
@@ -38,8 +39,8 @@ facts_fit row e =
 pub fact_segs : (fact : Fact) (x : Holding) → is_fact_of_row fact ≡ true → holding fact ≡ Some x → 1 ≤ x.segs
 fact_segs Empty x fits e = absurd cc
 fact_segs (Held share head tail first last segs) x fits e =
-    let (a, b) = and_parts ((nat_le share 2 || (nat_le 8 share && nat_le share 15)) && nat_le 1 segs) (nat_le segs 64) fits in
-    let (c, d) = and_parts (nat_le share 2 || (nat_le 8 share && nat_le share 15)) (nat_le 1 segs) a in
+    let (a, b) = and_parts (is_share share && nat_le 1 segs) (nat_le segs 64) fits in
+    let (c, d) = and_parts (is_share share) (nat_le 1 segs) a in
     let some = leb-true 1 segs d in
     let same : record { share = share; head = head; tail = tail; first = first; last = last; segs = segs } ≡ x = cc in
     subst (λ (h : Holding). 1 ≤ h.segs) same some

@@ -8,6 +8,7 @@ use Rattle.dp_model.specs.declared.row.Fact.TheVariants.{Empty, Held}
 use Rattle.dp_model.specs.declared.row.Row.{Row}
 use Rattle.dp_model.specs.declared.row.Holding.{Holding}
 use Rattle.dp_model.specs.Rows.{holding, held, entails_share, owns_head, is_fact_of_row, is_well_formed_row}
+use Rattle.dp_model.specs.Facts.{is_share}
 use Rattle.dp_model.specs.Groups.{group_of, is_in, is_group, group_size, same_registers, belongs, share_of_group, are_groups}
 use Rattle.std.proofs.Common.{zero, suc, ◌+◌, ◌-◌, ◌≤◌, cond, ap, sym, ◌∙◌, subst, map, length, ⊎_elim, inl, inr}
 use Rattle.std.specs.Option.{option_map_or}
@@ -15,7 +16,7 @@ use Rattle.dp_model.specs.Laws.Lists.{all_at}
 use Rattle.dp_model.specs.Laws.Groups.{same_at, belongs_at, group_is, belongs_there, size_same, is_in_group, groups_of_row}
 use Rattle.dp_model.specs.Laws.Cases.{by_cases}
 use Rattle.dp_infer.proofs.Sharing.{KeepsGroups, share_same, share_zero, share_is, share_cases, same_from, all_from_each, one_of, and_comm}
-use Rattle.dp_infer.specs.Joins.{is_share, joined_share, joined_fact, common_fact, joined_facts, paired, joined, met}
+use Rattle.dp_infer.specs.Joins.{joined_share, joined_fact, common_fact, joined_facts, paired, joined, met}
 use Rattle.dp_infer.proofs.Stronger.{StrongerFact, AtMost, Stronger, both_are, zip_length}
 use Rattle.dp_infer.proofs.Changes.{AreWellFormed, facts_fit, least_is}
 

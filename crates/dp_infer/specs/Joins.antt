@@ -1,5 +1,5 @@
 -- What is known at a label where control comes from several places.
-use Rattle.std.specs.Prelude.{ℕ, ◌+◌, min, max, Bool, true, false, ◌&&◌, ◌||◌, ◌==◌, nat_le, nat_lt, if◌then◌else◌, List, [], ◌∷◌, length, map, replicate}
+use Rattle.std.specs.Prelude.{ℕ, ◌+◌, min, max, Bool, true, false, ◌&&◌, ◌==◌, nat_lt, if◌then◌else◌, List, [], ◌∷◌, length, map, replicate}
 use Rattle.std.specs.Prelude.{Option, slice_get, slice_set}
 use Rattle.std.specs.Option.{option_map_or}
 use Rattle.dp_model.specs.declared.row.Fact.{Fact}
@@ -9,17 +9,14 @@ use Rattle.dp_model.specs.declared.row.Lead.{Lead}
 use Rattle.dp_model.specs.declared.instr.Instr.{Instr}
 use Rattle.dp_model.specs.Environments.{Environment}
 use Rattle.dp_model.specs.declared.env.Entry.{Entry}
+use Rattle.dp_model.specs.Facts.{loose, head_sole, is_share}
 use Rattle.dp_model.specs.Groups.{group_of, is_group, same_registers, reshared_fact}
 use Rattle.dp_model.specs.Limits.{max_segments}
 use Rattle.dp_model.specs.Rows.{owns_head, entry_row, leads}
 
--- whether a fact of a row may have the share
-abbrev pub is_share : ℕ → Bool
-is_share share = nat_le share 2 || (nat_le 8 share && nat_le share 15)
-
 -- the strongest share that both entail
 abbrev pub joined_share : ℕ → ℕ → ℕ
-joined_share a b = if (a == b) && is_share a then a else if owns_head a && owns_head b then 1 else 0
+joined_share a b = if (a == b) && is_share a then a else if owns_head a && owns_head b then head_sole else loose
 
 -- What both facts say: the lesser of each measure, the greater number of segments, in the ranges of facts. If exactly one is empty the result has no
 -- meaning.
@@ -38,7 +35,7 @@ paired f (x ∷ xs) (y ∷ ys) = f x y ∷ paired f xs ys
 -- what both rows say of a register: loose if its group does not have the same registers in both
 abbrev pub common_fact : List Fact → List Fact → Fact → Fact
 common_fact facts others fact =
-    option_map_or (λ g. if is_group facts g && same_registers facts others g then fact else reshared_fact g 0 fact) (group_of fact) fact
+    option_map_or (λ g. if is_group facts g && same_registers facts others g then fact else reshared_fact g loose fact) (group_of fact) fact
 
 -- what the facts of both rows say
 abbrev pub joined_facts : List Fact → List Fact → List Fact

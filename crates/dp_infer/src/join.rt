@@ -6,14 +6,7 @@ ghost use Rattle.dp_check.specs.Leads.{listed};
 ghost use Rattle.dp_infer.specs.Joins as spec;
 
 use dp_check::{Leads, owns_head, reshared, shares_group};
-use dp_model::{Fact, Holding, Lead, MAX_SEGMENTS, Row};
-
-/// Whether a fact of a row may have the share.
-fn is_share(share: u8) -> bool
-    ensures { result ≡ spec.is_share share }
-{
-    share <= 2 || (share >= 8 && share <= 15)
-}
+use dp_model::{Fact, HEAD_SOLE, Holding, LOOSE, Lead, MAX_SEGMENTS, Row, is_share};
 
 /// The strongest share that both entail.
 fn joined_share(share: u8, other: u8) -> u8
@@ -22,9 +15,9 @@ fn joined_share(share: u8, other: u8) -> u8
     if share == other && is_share(share) {
         share
     } else if owns_head(share) && owns_head(other) {
-        1
+        HEAD_SOLE
     } else {
-        0
+        LOOSE
     }
 }
 
@@ -76,7 +69,7 @@ fn common_fact(row: &Row, other: &Row, fact: Fact) -> Fact
             if shares_group(row, other, group) {
                 fact
             } else {
-                reshared(fact, group, 0)
+                reshared(fact, group, LOOSE)
             }
         }
         None => fact,
