@@ -86,6 +86,13 @@ impl Checked {
     }
 }
 
+/// Where a program is refused: the lowest failing label, from 0, and the first rule that fails there.
+#[derive(Clone, Copy, Debug, PartialEq, Eq)]
+pub struct Fault {
+    pub label: u16,
+    pub rule: Rule,
+}
+
 /// A refused program: the lowest failing label, from 0, the number of its first failing rule, 1 to 11, and what was handed in. It is displayed
 /// as `refused at 4 by J11`.
 #[derive(Drop)]
@@ -108,22 +115,25 @@ impl Display for Refused {
 }
 
 /// The lowest failing label and its first failing rule.
-fn first_fault(program: &Program, cert: &Cert, env: &Env, entry: Entry) -> Option<(u16, Rule)>
+fn first_fault(program: &Program, cert: &Cert, env: &Env, entry: Entry) -> Option<Fault>
     ensures none { IfNone result (IsAccepted (question program.now cert.now env.now entry)) }
-    ensures some { IfSome result (λ f. IsRefused (question program.now cert.now env.now entry) f.0 f.1) }
+    ensures some { IfSome result (λ f. IsRefused (question program.now cert.now env.now entry) f.label f.rule) }
     ensures well_formed { IsTrue (list_all is_well_formed_row cert.now.rows) }
 {
     match first_reason(program.instrs(), cert.rows(), env, entry) {
-        Some(found) => Some((found.label, found.reason.rule())),
+        Some(found) => Some(Fault {
+            label: found.label,
+            rule: found.reason.rule(),
+        }),
         None => None,
     }
 }
 
 /// Returns what `check` finds, without taking the program: the lowest failing label and its first failing rule, or nothing if the program
 /// would be accepted.
-pub fn fault_of(program: &Program, cert: &Cert, env: &Env, entry: Entry) -> Option<(u16, Rule)>
+pub fn fault_of(program: &Program, cert: &Cert, env: &Env, entry: Entry) -> Option<Fault>
     ensures none { IfNone result (IsAccepted (question program.now cert.now env.now entry)) }
-    ensures some { IfSome result (λ f. IsRefused (question program.now cert.now env.now entry) f.0 f.1) }
+    ensures some { IfSome result (λ f. IsRefused (question program.now cert.now env.now entry) f.label f.rule) }
 {
     first_fault(program, cert, env, entry)
 }
@@ -142,9 +152,9 @@ pub fn check(program: Program, cert: Cert, env: &Env, entry: Entry) -> Result<Ch
     ensures cert_back { IfErr result (λ r. r.cert ≡ cert) }
 {
     match first_fault(&program, &cert, env, entry) {
-        Some((label, rule)) => Err(Refused {
-            label,
-            rule: rule.number(),
+        Some(fault) => Err(Refused {
+            label: fault.label,
+            rule: fault.rule.number(),
             program,
             cert,
         }),

@@ -57,32 +57,35 @@ fn bound_gap(bounds: &[u64; 8], others: &[u64; 8]) -> Option<NumberRegister>
     None
 }
 
+/// A group that has other registers in the known facts than in the wanted ones, and a register that belongs to it in one of the two only.
+#[derive(Clone, Copy)]
+struct GroupGap {
+    group: u8,
+    packet: PacketRegister,
+}
+
 /// The group of a register, with the first register that belongs to it in one of the two rows only, if there is one.
-fn group_of_gap(
-    facts: &[Fact; 8],
-    others: &[Fact; 8],
-    member: usize,
-) -> Option<(u8, PacketRegister)>
+fn group_of_gap(facts: &[Fact; 8], others: &[Fact; 8], member: usize) -> Option<GroupGap>
     requires { member < 8 }
     ensures none { IfNone result (Is (slice_get others.now member) (λ other. is_kept facts.now others.now other ≡ true)) }
     ensures group { IfSome result (λ found. Is (slice_get others.now member)
-        (λ other. (is_kept facts.now others.now other ≡ false) × (group_of other ≡ Some found.0))) }
-    ensures first { IfSome result (λ found. first_outside found.0 facts.now others.now ≡ Some found.1) }
-    ensures some { IfSome result (λ found. Is (slice_get facts.now found.1)
-        (λ known. Is (slice_get others.now found.1) (λ wanted. beq (is_in found.0 known) (is_in found.0 wanted) ≡ false))) }
+        (λ other. (is_kept facts.now others.now other ≡ false) × (group_of other ≡ Some found.group))) }
+    ensures first { IfSome result (λ found. first_outside found.group facts.now others.now ≡ Some found.packet) }
+    ensures some { IfSome result (λ found. Is (slice_get facts.now found.packet)
+        (λ known. Is (slice_get others.now found.packet) (λ wanted. beq (is_in found.group known) (is_in found.group wanted) ≡ false))) }
 {
     let group = others[member].group()?;
     let packet = member_gap(facts, others, group)?;
-    Some((group, packet))
+    Some(GroupGap { group, packet })
 }
 
 /// The first group of the wanted facts that has other registers in the known ones, and a register in which they differ.
-fn groups_gap(facts: &[Fact; 8], others: &[Fact; 8]) -> Option<(u8, PacketRegister)>
+fn groups_gap(facts: &[Fact; 8], others: &[Fact; 8]) -> Option<GroupGap>
     ensures none { IfNone result (keeps_groups facts.now others.now ≡ true) }
-    ensures group { IfSome result (λ found. first_regrouped facts.now others.now ≡ Some found.0) }
-    ensures first { IfSome result (λ found. first_outside found.0 facts.now others.now ≡ Some found.1) }
-    ensures some { IfSome result (λ found. Is (slice_get facts.now found.1)
-        (λ known. Is (slice_get others.now found.1) (λ wanted. beq (is_in found.0 known) (is_in found.0 wanted) ≡ false))) }
+    ensures group { IfSome result (λ found. first_regrouped facts.now others.now ≡ Some found.group) }
+    ensures first { IfSome result (λ found. first_outside found.group facts.now others.now ≡ Some found.packet) }
+    ensures some { IfSome result (λ found. Is (slice_get facts.now found.packet)
+        (λ known. Is (slice_get others.now found.packet) (λ wanted. beq (is_in found.group known) (is_in found.group wanted) ≡ false))) }
 {
     for member in 0..8 {
         if let Some(found) = group_of_gap(facts, others, member) {
@@ -107,7 +110,7 @@ pub(crate) fn gap(row: &Row, there: &Row) -> Gap
             wanted: there.fact(packet),
         };
     }
-    if let Some((group, packet)) = groups_gap(&row.facts, &there.facts) {
+    if let Some(GroupGap { group, packet }) = groups_gap(&row.facts, &there.facts) {
         return Gap::Group {
             group,
             packet,

@@ -27,7 +27,7 @@ mod requirements;
 mod rules;
 mod transfer;
 
-pub use checked::{Checked, Refused, check, fault_of};
+pub use checked::{Checked, Fault, Refused, check, fault_of};
 pub use diagnosis::{Diagnosis, diagnose};
 pub use entailing::{entails, fact_entails};
 pub use groups::{reshared, shares_group};

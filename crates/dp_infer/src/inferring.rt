@@ -14,9 +14,9 @@ ghost use Rattle.dp_infer.specs.Inference.{Certifies, HasNone, SaysMost, AreRefu
 use crate::join::{joined, pass_on};
 use crate::widening::widen;
 use dp_cert::Cert;
-use dp_check::{Checked, Refused, check, fault_of, leads_of};
+use dp_check::{Checked, Fault, Refused, check, fault_of, leads_of};
 use dp_lang::Program;
-use dp_model::{Entry, Env, Fact, Instr, Row, Rule};
+use dp_model::{Entry, Env, Fact, Instr, Row};
 use std::alloc::{AllocError, Global};
 use thiserror::Error;
 
@@ -144,27 +144,37 @@ fn widened_rows(
     Ok(Cert::new(rows))
 }
 
-/// Infers the last certificate; and, if the program is refused with it, finds the lowest failing label and its first failing rule.
+/// A certificate that was tried, and where the program is refused with it, if it is.
+#[derive(Drop)]
+struct Tried {
+    cert: Cert,
+    fault: Option<Fault>,
+}
+
+/// Infers the last certificate, and tries it.
 fn last_tried(
     alloc: Global,
     program: &Program,
     env: &Env,
     entry: Entry,
-) -> Result<(Cert, Option<(u16, Rule)>), AllocError>
-    ensures accepted { IfOk result (λ b. IfNone b.1 (Certifies program.now env.now entry b.0.rows)) }
-    ensures most { IfOk result (λ b. SaysMost program.now env.now entry b.0.rows) }
-    ensures version { IfOk result (λ b. b.0.version ≡ version_for b.0.rows) }
-    ensures none { IfOk result (λ b. IfSome b.1 (λ f. HasNone program.now env.now entry)) }
-    ensures refused { IfOk result (λ b. IfSome b.1 (λ f. AreRefused program.now env.now entry b.0.rows f.0 (number_of f.1))) }
-    ensures last { IfOk result (λ b. AreLast program.now env.now entry b.0.rows) }
+) -> Result<Tried, AllocError>
+    ensures accepted { IfOk result (λ tried. IfNone tried.fault (Certifies program.now env.now entry tried.cert.rows)) }
+    ensures most { IfOk result (λ tried. SaysMost program.now env.now entry tried.cert.rows) }
+    ensures version { IfOk result (λ tried. tried.cert.version ≡ version_for tried.cert.rows) }
+    ensures none { IfOk result (λ tried. IfSome tried.fault (λ f. HasNone program.now env.now entry)) }
+    ensures refused { IfOk result (λ tried. IfSome tried.fault (λ f. AreRefused program.now env.now entry tried.cert.rows f.label (number_of f.rule))) }
+    ensures last { IfOk result (λ tried. AreLast program.now env.now entry tried.cert.rows) }
 {
     let cert = cert_of_rows(alloc, program, env, entry)?;
     match fault_of(program, &cert, env, entry) {
-        None => Ok((cert, None)),
+        None => Ok(Tried { cert, fault: None }),
         Some(_) => {
             let widened_to_end = widened_rows(alloc, program, env, entry)?;
             let fault = fault_of(program, &widened_to_end, env, entry);
-            Ok((widened_to_end, fault))
+            Ok(Tried {
+                cert: widened_to_end,
+                fault,
+            })
         }
     }
 }
@@ -178,12 +188,12 @@ fn inferred(alloc: Global, program: &Program, env: &Env, entry: Entry) -> Result
     ensures last { IfOk result (λ cert. AreLast program.now env.now entry cert.rows) }
     ensures of_last { IfErr result (λ e. IsOfLast program.now env.now entry e) }
 {
-    let (cert, fault) = last_tried(alloc, program, env, entry)?;
+    let Tried { cert, fault } = last_tried(alloc, program, env, entry)?;
     match fault {
         None => Ok(cert),
-        Some((label, rule)) => Err(InferError::NoCert {
-            label,
-            rule: rule.number(),
+        Some(fault) => Err(InferError::NoCert {
+            label: fault.label,
+            rule: fault.rule.number(),
         }),
     }
 }
@@ -289,7 +299,7 @@ fn last_cert(alloc: Global, program: &Program, env: &Env, entry: Entry) -> Resul
     ensures version { IfOk result (λ cert. cert.version ≡ version_for cert.rows) }
     ensures last { IfOk result (λ cert. AreLast program.now env.now entry cert.rows) }
 {
-    let (cert, _) = last_tried(alloc, program, env, entry)?;
+    let Tried { cert, fault: _ } = last_tried(alloc, program, env, entry)?;
     Ok(cert)
 }
 

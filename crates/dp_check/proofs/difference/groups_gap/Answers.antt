@@ -19,4 +19,4 @@ loop-member-preserved c = record {
 pub returns-in-Some-clause-group : goal.returns-in-Some-clause-group
 returns-in-Some-clause-group c =
     ap (option_and_then group_of) c.loop-member.invariant.first
-    ∙ first_unpassed (is_kept c.args.facts.now c.args.others.now) group_of c.args.others.now c.loop-member.member c.in-Some.found.0 c.in-Some.ensures.group
+    ∙ first_unpassed (is_kept c.args.facts.now c.args.others.now) group_of c.args.others.now c.loop-member.member c.in-Some.found.group c.in-Some.ensures.group

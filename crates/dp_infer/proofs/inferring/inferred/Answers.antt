@@ -8,9 +8,9 @@ use Rattle.dp_infer.proofs.inferring.inferred.Goals as goal
 
 pub returns-in-Some-clause-of_last : goal.returns-in-Some-clause-of_last
 returns-in-Some-clause-of_last c =
-    let rows = c.in_ok-cert.cert.rows in
-    let tried : AreRefused c.args.program.now c.args.env.now c.args.entry rows c.in-Some.label (number_of c.in-Some.rule) =
+    let rows = c.in_ok-cert.field-0.cert.rows in
+    let tried : AreRefused c.args.program.now c.args.env.now c.args.entry rows c.in-Some.fault.label (number_of c.in-Some.fault.rule) =
     rw c.in-Some.is at c.in_ok-cert.ensures.refused in
-    let refused = subst (λ (n : ℕ). IsRefusedWith (question c.args.program.now (certificate_of rows) c.args.env.now c.args.entry) c.in-Some.label n)
+    let refused = subst (λ (n : ℕ). IsRefusedWith (question c.args.program.now (certificate_of rows) c.args.env.now c.args.entry) c.in-Some.fault.label n)
     (sym c.number.ensures) tried.refused in
     (rows, c.in_ok-cert.ensures.last, refused)

@@ -5,5 +5,6 @@ use Rattle.dp_infer.proofs.inferring.last_cert.Goals as goal
 
 pub returns-clause-best : goal.returns-clause-best
 returns-clause-best c =
-    one_or_other c.in_ok-cert.field-0-1 (Certifies c.args.program.now c.args.env.now c.args.entry c.in_ok-cert.cert.rows)
+    let tried = c.in_ok-cert.field-0 in
+    one_or_other tried.fault (Certifies c.args.program.now c.args.env.now c.args.entry tried.cert.rows)
     (HasNone c.args.program.now c.args.env.now c.args.entry) c.in_ok-cert.ensures.accepted c.in_ok-cert.ensures.none
