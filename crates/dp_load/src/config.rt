@@ -73,7 +73,8 @@ fn env_of(alloc: Global, setup: &Setup<'_>) -> Result<Env, PipeError>
     }
 }
 
-fn kept_text(alloc: Global, text: Option<&str>) -> Result<Option<String>, AllocError>
+/// A copy of a text, if there is one.
+pub(crate) fn kept_text(alloc: Global, text: Option<&str>) -> Result<Option<String>, AllocError>
     ensures { IfOk result (λ kept. option_map string_bytes kept ≡ option_map (λ t. t.now) text.entry) }
 {
     match text {

@@ -7,6 +7,7 @@ ghost use Rattle.dp_load.specs.Pipelines.{input_of, output_of};
 ghost use Rattle.dp_load.specs.Singles.{HasOnePort, IsSinglePlan, single_node};
 ghost use Rattle.dp_load.specs.Views.{node_names};
 
+use crate::config::kept_text;
 use crate::error::PipeError;
 use crate::file_names::{NodeNames, PortNames};
 use crate::files::Files;
@@ -28,16 +29,6 @@ pub struct SingleFiles<'a> {
     pub output: &'a str,
 }
 
-/// A copy of a name, if there is one.
-fn copied(alloc: Global, name: Option<&str>) -> Result<Option<String>, AllocError>
-    ensures { IfOk result (λ copy. option_map string_bytes copy ≡ option_map (λ name. name.now) name.entry) }
-{
-    match name {
-        Some(name) => Ok(Some(String::from_str(alloc, name)?)),
-        None => Ok(None),
-    }
-}
-
 /// The names of the port.
 fn names_of(alloc: Global, files: SingleFiles<'_>) -> Result<PortNames, AllocError>
     ensures node { IfOk result (λ names. string_bytes names.files.node ≡ files.entry.program.now) }
@@ -48,7 +39,7 @@ fn names_of(alloc: Global, files: SingleFiles<'_>) -> Result<PortNames, AllocErr
     Ok(PortNames {
         files: NodeNames {
             node: String::from_str(alloc, files.program)?,
-            cert: copied(alloc, files.cert)?,
+            cert: kept_text(alloc, files.cert)?,
         },
         input: String::from_str(alloc, files.input)?,
         output: String::from_str(alloc, files.output)?,
