@@ -94,13 +94,9 @@ fn say_cause(error: PipeError, err: &mut Text) {
 
 impl<'a> Fault<'a> {
     /// The fault of a file that was not read.
-    pub fn of_unread(file: Unread<'a>) -> Fault<'a> {
-        let because = Because {
-            file: None,
-            reason: FaultReason::Read(file.error),
-            help: None,
-        };
-        Fault::File(file.name, because)
+    pub fn of_unread(unread: Unread<'a>) -> Fault<'a> {
+        let (file, reason, help) = (None, FaultReason::Read(unread.error), None);
+        Fault::File(unread.name, Because { file, reason, help })
     }
 
     /// The fault of a pipeline that is not loaded. A file that was not read is not named.

@@ -26,10 +26,8 @@ enum Wanted {
 impl Wanted {
     /// Whether a value is what it must be.
     fn is_met_by(self, value: &Value) -> bool {
-        let n = match value {
-            Value::Integer(n) => u32::try_from(*n).unwrap_or(u32::MAX),
-            _ => u32::MAX,
-        };
+        let n = value.as_integer().unwrap_or(-1);
+        let n = u32::try_from(n).unwrap_or(u32::MAX);
         match (self, value) {
             (Wanted::Number(least, most), _) => least <= n && n <= most,
             (Wanted::Region, _) => MIN_REGION <= n && n <= MAX_REGION && n % CACHE_LINE == 0,
@@ -44,9 +42,9 @@ impl Wanted {
     /// Says what a value must be, and ends the line.
     fn say(self, err: &mut Text) {
         match self {
-            Wanted::Number(least, most) => {
-                err.say(format_args!("a whole number from {least} to {most}\n"));
-            }
+            Wanted::Number(low, high) => err.say(format_args!(
+                "a whole number from {low} to {high}\n"
+            )),
             Wanted::Region => err.say("a multiple of 64 from 4096 to 1073741824\n"),
             Wanted::PowerOfTwo => err.say("a power of two from 2 to 65536\n"),
             Wanted::Text => err.say("a text in quotes\n"),
@@ -110,27 +108,6 @@ fn key_in(line: &str) -> Option<&str> {
     Some(key.trim().trim_matches('"'))
 }
 
-/// The line that assigns a value to a key of a part, or else the header of the part. The part is the one with this index among its kind.
-fn line_of_key<'a>(text: &'a str, part: Part, index: usize, key: &str) -> Option<SourceLine<'a>> {
-    let (mut headers, mut is_inside, mut header) = (0usize, part == Part::Top, None);
-    for (k, line) in text.lines().enumerate() {
-        let (number, text) = (k.saturating_add(1), line.trim());
-        let array = array_header(text);
-        if text.starts_with('[') {
-            let is_one = array == Some(array_of(part));
-            is_inside = is_one && headers == index;
-            headers = headers.saturating_add(usize::from(is_one));
-            if is_inside {
-                header = Some(SourceLine { number, text });
-            }
-        }
-        if is_inside && key_in(text) == Some(key) || part == Part::Top && array == Some(key) {
-            return Some(SourceLine { number, text });
-        }
-    }
-    header
-}
-
 /// How often a line has a text in quotes.
 fn count_quoted(line: &str, text: &str) -> usize {
     let double = line.split('"').filter(|piece| *piece == text).count();
@@ -140,10 +117,8 @@ fn count_quoted(line: &str, text: &str) -> usize {
 
 /// The values of an array at a key.
 fn array_at<'a>(table: &'a Table, key: &str) -> &'a [Value] {
-    match table.get(key) {
-        Some(Value::Array(elements)) => elements.as_slice(),
-        _ => &[],
-    }
+    let array = table.get(key).and_then(Value::as_array);
+    array.map_or(&[], |values| values.as_slice())
 }
 
 /// Says what helps with a route that is not one.
@@ -151,14 +126,13 @@ fn say_syntax(words: &str, err: &mut Text) {
     let (_address, after) = words.split_once('/').unwrap_or(("", ""));
     let (depth, hop) = after.split_once(' ').unwrap_or((after, ""));
     let hop = hop.trim();
-    if depth == "0" {
-        err.say(format_args!(
+    match depth {
+        "0" => err.say(format_args!(
             "DEPTH is 1 to 32, and all addresses are two routes: \"0.0.0.0/1 {hop}\", \"128.0.0.0/1 {hop}\"\n"
-        ));
-    } else {
-        err.say(
+        )),
+        _ => err.say(
             "a route is A.B.C.D/DEPTH HOP, as 10.1.0.0/16 3: DEPTH 1 to 32, HOP at most 16777215\n",
-        );
+        ),
     }
 }
 
@@ -169,10 +143,7 @@ fn say_route_help(table: &Table, words: &str, error: RouteError, err: &mut Text)
         RouteError::Refused(LpmError::GroupsFull) => ("groups", MAX_GROUPS),
         _ => return say_syntax(words, err),
     };
-    let number = match table.get(key) {
-        Some(Value::Integer(number)) => *number,
-        _ => 0,
-    };
+    let number = table.get(key).and_then(Value::as_integer).unwrap_or(0);
     err.say(format_args!("{key} = {number} is too small for it: "));
     if number < i64::from(most) {
         err.say(format_args!("raise {key}, to at most {most}\n"));
@@ -218,6 +189,27 @@ impl<'a> PipelineFile<'a> {
         array_at(self.top, array_of(part)).len()
     }
 
+    /// The line that assigns a value to a key of a part, or else the header of the part. The part is the one with this index among its kind.
+    fn line_of(self, part: Part, index: usize, key: &str) -> Option<SourceLine<'a>> {
+        let (mut headers, mut is_inside, mut header) = (0usize, part == Part::Top, None);
+        for (k, line) in self.text.lines().enumerate() {
+            let (number, text) = (k.saturating_add(1), line.trim());
+            let array = array_header(text);
+            if text.starts_with('[') {
+                let is_one = array == Some(array_of(part));
+                is_inside = is_one && headers == index;
+                headers = headers.saturating_add(usize::from(is_one));
+                if is_inside {
+                    header = Some(SourceLine { number, text });
+                }
+            }
+            if is_inside && key_in(text) == Some(key) || part == Part::Top && array == Some(key) {
+                return Some(SourceLine { number, text });
+            }
+        }
+        header
+    }
+
     /// Says which key of a part is at fault: the first that is not known, else one that is missing or has another value. Returns whether one is.
     fn say_key(self, err: &mut Text, part: Part, index: usize) -> bool {
         let Some(table) = self.table(part, index) else {
@@ -225,11 +217,7 @@ impl<'a> PipelineFile<'a> {
         };
         for key in table.keys() {
             if let Some(nearest) = unknown(part, table, key.as_str()) {
-                say_place(
-                    err,
-                    self.name,
-                    line_of_key(self.text, part, index, key.as_str()),
-                );
+                say_place(err, self.name, self.line_of(part, index, key.as_str()));
                 err.say(format_args!("  help: there is no key '{key}' here"));
                 nearest.say(err);
                 return true;
@@ -241,7 +229,7 @@ impl<'a> PipelineFile<'a> {
                 None => (*is_optional, ["the key ", " is missing: it"]),
             };
             if *of == part && !is_met {
-                say_place(err, self.name, line_of_key(self.text, part, index, name));
+                say_place(err, self.name, self.line_of(part, index, name));
                 err.say(format_args!("  help: {}'{name}'{} has to be ", missing[0], missing[1]));
                 wanted.say(err);
                 return true;
@@ -259,13 +247,12 @@ impl<'a> PipelineFile<'a> {
             EnvError::BadNumber | EnvError::TooMany => (Part::Top, 0, ""),
         };
         let index = usize::from(place);
-        if part == Part::Top {
-            say_place(err, self.name, None);
-        } else if self.say_key(err, part, index) {
-            return;
-        } else {
-            say_place(err, self.name, line_of_key(self.text, part, index, key));
-        }
+        let line = match part {
+            Part::Top => None,
+            _ if self.say_key(err, part, index) => return,
+            _ => self.line_of(part, index, key),
+        };
+        say_place(err, self.name, line);
         let (pools, tables) = (self.count(Part::Pool), self.count(Part::Table));
         let (rings, ports) = (self.count(Part::Ring), self.count(Part::Port));
         match error {
@@ -287,7 +274,7 @@ impl<'a> PipelineFile<'a> {
 
     /// The line on which a route of a table stands in quotes after this number of equal ones, or else that of all its routes.
     fn line_of_route(self, index: usize, words: &str, equal: usize) -> Option<SourceLine<'a>> {
-        let first = line_of_key(self.text, Part::Table, index, "routes")?;
+        let first = self.line_of(Part::Table, index, "routes")?;
         let (before, mut left) = (first.number.saturating_sub(1), equal);
         for (k, line) in self.text.lines().enumerate().skip(before) {
             let count = count_quoted(line, words);
@@ -305,14 +292,9 @@ impl<'a> PipelineFile<'a> {
             return;
         };
         let own = array_at(table, "routes");
-        let words = match own.get(route) {
-            Some(Value::String(words)) => words.as_str(),
-            _ => "",
-        };
-        let equal = own
-            .iter()
-            .take(route)
-            .filter(|one| one.as_str() == Some(words));
+        let words = own.get(route).and_then(Value::as_str).unwrap_or("");
+        let before = own.iter().take(route);
+        let equal = before.filter(|one| one.as_str() == Some(words));
         let line = self.line_of_route(index, words, equal.count());
         let place = route.checked_sub(own.len());
         let (file, line, words) = match route_in(self.routes, index, place) {
@@ -371,10 +353,9 @@ pub fn say_pipeline_help(
         Ok(top) => top,
         Err(error) if error.is_memory() => return,
         Err(error) => {
-            let line = match error.span() {
-                Some(span) => line_of_offset(text, span.start),
-                None => None,
-            };
+            let line = error
+                .span()
+                .and_then(|span| line_of_offset(text, span.start));
             say_place(err, file, line);
             return err.say(format_args!("  help: {}\n", error.message()));
         }

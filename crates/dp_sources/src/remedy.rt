@@ -57,14 +57,13 @@ fn inferred(alloc: Global, sources: &Sources, env: &Env, of: Asked<'_>) -> Optio
 fn say_cure(of: Subject<'_>, asked: Asked<'_>, is_inferred: bool, is_read: bool, err: &mut Text) {
     let (program, cert) = (asked.program, asked.cert.unwrap_or(""));
     let (kind, index) = which(asked.node);
-    let (accepted, none) = if is_read {
-        (
+    let (mut accepted, mut none) = ("", "none is inferred: leave out the key cert, and ");
+    if is_read {
+        (accepted, none) = (
             "the program itself is accepted with an inferred certificate: ",
             "",
-        )
-    } else {
-        ("", "none is inferred: leave out the key cert, and ")
-    };
+        );
+    }
     match of {
         Subject::Pipeline { file, .. } if is_inferred => err.say(format_args!(
             "  help: {accepted}leave out the key cert, or dpv infer {file} {kind}{index} > {cert}\n"
@@ -115,52 +114,44 @@ fn say_certificate(
 }
 
 /// Says what helps, after it was said why a node is not loaded or has no verdict: the line of its program or certificate that is at fault and a cure;
-/// that the given certificate does not fit; who explains why there is none; or in which folder a missing file is.
+/// that the given certificate does not fit; who explains why there is none; or in which folder a missing file is. It is none if nothing is known to help.
 pub fn say_remedy(
     alloc: Global,
     subject: Subject<'_>,
     sources: &Sources,
     error: PipeError,
     err: &mut Text,
-) {
+) -> Option<()> {
     let (PipeError::File(node)
     | PipeError::Asm(node, _)
     | PipeError::BadCert(node, _)
     | PipeError::Refused { node, .. }
     | PipeError::NotInferred { node, .. }) = error
     else {
-        return;
+        return None;
     };
-    let Some(asked) = subject.node(node) else {
-        return
-    };
+    let asked = subject.node(node)?;
     match (error, subject) {
         (PipeError::File(_), Subject::Pipeline { file, .. }) => {
-            if let Some(unread) = subject.unread(node, sources)
-                && let ReadError::IsBeside(_) = unread.error
-                && let Some(folder) = folder_of(file)
-            {
+            let (unread, folder) = (subject.unread(node, sources)?, folder_of(file)?);
+            if let ReadError::IsBeside(_) = unread.error {
                 err.say(format_args!("  help: run dpv in {folder}\n"));
             }
         }
         (PipeError::Asm(_, fault), _) => {
-            if let Some(text) = sources.get(asked.program) {
-                say_program_help(asked.program, text, fault, err);
-            }
+            say_program_help(asked.program, sources.get(asked.program)?, fault, err);
         }
         (PipeError::NotInferred { .. }, Subject::Pipeline { file, .. }) => {
-            let begins = match asked.cert {
-                Some(_) => "leave out the key cert, and ",
-                None => "",
-            };
+            let begins = asked.cert.map_or("", |_| "leave out the key cert, and ");
             let (kind, index) = which(node);
             err.say(format_args!(
                 "  help: {begins}dpv explain {file} {kind}{index} explains why\n"
             ));
         }
         (PipeError::BadCert(_, _) | PipeError::Refused { .. }, _) => {
-            say_certificate(alloc, subject, sources, asked, error, err);
+            return say_certificate(alloc, subject, sources, asked, error, err);
         }
         _ => {}
     }
+    Some(())
 }

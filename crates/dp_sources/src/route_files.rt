@@ -38,11 +38,8 @@ impl RouteFile {
     /// The number of its first line that has a route with a character that is not printable ASCII.
     pub fn strange_line(&self) -> Option<usize> {
         for (k, line) in self.text().lines().enumerate() {
-            let is_printable = line
-                .as_bytes()
-                .iter()
-                .all(|byte| matches!(*byte, b' '..=b'~'));
-            if has_route(line) && !is_printable {
+            let mut bytes = line.as_bytes().iter();
+            if has_route(line) && !bytes.all(|byte| matches!(*byte, b' '..=b'~')) {
                 return Some(k.saturating_add(1));
             }
         }

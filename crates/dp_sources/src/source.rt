@@ -95,12 +95,7 @@ impl Files for Lent<'_> {
     ghost contents = { λ lent. Some (files_of lent.0.now) };
 
     fn fetch(&mut self, alloc: Global, name: &str) -> Result<Vec<u8>, FetchFault> {
-        let Some(bytes) = self.0.get(name) else {
-            return Err(FetchFault::Missing);
-        };
-        match bytes.to_vec(alloc) {
-            Ok(bytes) => Ok(bytes),
-            Err(_) => Err(FetchFault::Memory),
-        }
+        let bytes = self.0.get(name).ok_or(FetchFault::Missing)?;
+        bytes.to_vec(alloc).map_err(|_| FetchFault::Memory)
     }
 }

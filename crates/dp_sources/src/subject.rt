@@ -144,8 +144,9 @@ pub fn folder_with<'a, R: Files>(
 ///
 /// `AllocError` if memory is refused.
 pub fn read<R: Files>(rt: &R, alloc: Global, name: &str) -> Result<Source, AllocError> {
-    let (name_kept, mut bytes) = (String::from_str(alloc, name)?, Vec::new(alloc));
-    let read = match fs::open(rt, name) {
+    let (path, name) = (name, String::from_str(alloc, name)?);
+    let mut bytes = Vec::new(alloc);
+    let read = match fs::open(rt, path) {
         Ok(file) => file.take(MAX_FILE as u64 + 1).read_to_end(&mut bytes),
         Err(error) => Err(error),
     };
@@ -155,11 +156,7 @@ pub fn read<R: Files>(rt: &R, alloc: Global, name: &str) -> Result<Source, Alloc
         Err(error) if error.kind() == ErrorKind::OutOfMemory => return Err(AllocError),
         Err(error) => Some(ReadError::System(error)),
     };
-    Ok(Source {
-        name: name_kept,
-        bytes,
-        error,
-    })
+    Ok(Source { name, bytes, error })
 }
 
 /// Reads a file of a subject, which may be in the folder of the pipeline file, unless it is among the sources.
