@@ -153,13 +153,6 @@ pub struct Flushed {
     pub failure: Option<Error>,
 }
 
-/// The error of a port's output, if that is incomplete.
-fn failure_at(lost: &[Option<Incomplete>], port: u8) -> Option<Error>
-    ensures { result ≡ option_map (λ incomplete. incomplete.failure) (spec.loss_at lost.now port) }
-{
-    Some(loss_at(lost, usize::from(port))?.failure)
-}
-
 /// The result of a run that stopped for this cause.
 fn stopped(cause: RunCause, report: Report, lost: &[Option<Incomplete>]) -> Flushed
     ensures cause { answer_of result.answer ≡ Err cause }
@@ -167,13 +160,11 @@ fn stopped(cause: RunCause, report: Report, lost: &[Option<Incomplete>]) -> Flus
     ensures failure { result.failure ≡ spec.failure_of lost.now (Err cause) }
 {
     let failure = match cause {
-        RunCause::Out(port) => failure_at(lost, port),
+        RunCause::Out(port) => loss_at(lost, usize::from(port)).map(|loss| loss.failure),
         _ => None,
     };
-    Flushed {
-        answer: Err(RunFault { cause, report }),
-        failure,
-    }
+    let answer = Err(RunFault { cause, report });
+    Flushed { answer, failure }
 }
 
 /// The result of a run that reached its end: it still stopped if an output is incomplete.
@@ -203,19 +194,8 @@ pub fn flush_outputs<O: Outlet>(outs: &mut [O], answer: Result<Report, RunFault>
     let lost = all.as_slice();
     match answer {
         Ok(report) => ended(lowered_report(report, lost), lost),
-        Err(fault) => {
-            let RunFault { cause, report } = fault;
-            stopped(cause, lowered_report(report, lost), lost)
-        }
+        Err(fault) => stopped(fault.cause, lowered_report(fault.report, lost), lost),
     }
-}
-
-/// The number of ports of a pipeline, at most eight.
-fn count_ports(pipeline: &Pipeline) -> usize
-    ensures count { result ≡ length pipeline.now.env.ports }
-    ensures few { result ≤ 8 }
-{
-    pipeline.env().ports().len()
 }
 
 /// Runs a pipeline from captures to captures under a watcher, one input and one output for each port, and then writes out the bytes that its outputs
@@ -235,7 +215,7 @@ pub fn run_captures<K: CompiledPrograms, V: Watch, I: Inlet, O: Outlet>(
         (kind O.contents O.calls O.is_broken O.failures) O.taken outs.old outs.new result }
 {
     // This shows that `flush_outputs` gets at most eight outputs.
-    let _ports = count_ports(&pipeline);
+    let _ports = pipeline.env().ports().len();
     let answer = run_watched::<K, I, O, V>(alloc, pipeline, ins, outs, pattern, watch);
     flush_outputs(outs, answer)
 }

@@ -34,12 +34,8 @@ static BEGINNINGS: [(&[u8], Format); 6] = [
 impl Format {
     /// The format of a file that begins with these bytes, if it is one of these.
     pub fn of(bytes: &[u8]) -> Option<Format> {
-        for (beginning, format) in &BEGINNINGS {
-            if bytes.starts_with(beginning) {
-                return Some(*format);
-            }
-        }
-        None
+        let found = BEGINNINGS.iter().find(|one| bytes.starts_with(one.0))?;
+        Some(found.1)
     }
 }
 
@@ -54,10 +50,8 @@ impl fmt::Display for Format {
             Format::Zstd => "zstd",
             Format::Lz4 => "lz4",
         };
-        write!(
-            f,
-            "it is compressed by {tool}; {tool} -dc IN > OUT unpacks it"
-        )
+        write!(f, "it is compressed by {tool}; ")?;
+        write!(f, "{tool} -dc IN > OUT unpacks it")
     }
 }
 
@@ -90,10 +84,8 @@ impl fmt::Display for LinkType {
         if upper == 0 {
             return f.write_str(", and not 1 ETHERNET");
         }
-        write!(
-            f,
-            " with {upper} in the upper 16 bits, and not 1 ETHERNET alone"
-        )
+        write!(f, " with {upper} in the upper 16 bits")?;
+        f.write_str(", and not 1 ETHERNET alone")
     }
 }
 
@@ -204,19 +196,15 @@ pub fn problem_of<'a, I: Inlet>(
     cause: RunCause,
     failure: Option<Error>,
 ) -> Option<CaptureProblem<'a>> {
-    let (port, reason) = match (cause, failure) {
-        (RunCause::In(port, error), _) => (
-            port,
-            reason_of_input(error, ins.get(usize::from(port))),
-        ),
-        (RunCause::Out(port), Some(error)) => (port, CaptureReason::System(error)),
-        (RunCause::Out(port), None) => (port, CaptureReason::Capture(PcapError::Write)),
-        (RunCause::Memory | RunCause::NoRoom, _) => return None,
+    let unknown = CaptureReason::Capture(PcapError::Write);
+    let (port, reason) = match cause {
+        RunCause::In(k, error) => (k, reason_of_input(error, ins.get(usize::from(k)))),
+        RunCause::Out(k) => (k, failure.map_or(unknown, CaptureReason::System)),
+        RunCause::Memory | RunCause::NoRoom => return None,
     };
-    let file = match (names.get(usize::from(port)), cause) {
-        (Some(names), RunCause::In(..)) => Some(names.input.as_str()),
-        (Some(names), _) => Some(names.output.as_str()),
-        (None, _) => None,
-    };
+    let file = names.get(usize::from(port)).map(|names| match cause {
+        RunCause::In(..) => names.input.as_str(),
+        _ => names.output.as_str(),
+    });
     Some(CaptureProblem { file, reason })
 }

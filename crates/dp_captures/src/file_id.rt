@@ -38,7 +38,11 @@ impl FileId {
     }
 }
 
-/// The plain file that a name means, if there is one; or that there is no memory for the name.
+/// The plain file that a name means, if there is one.
+///
+/// # Errors
+///
+/// `AllocError` if there is no memory for the name.
 pub fn plain_file<R: Files>(rt: &R, name: &str) -> Result<Option<FileId>, AllocError> {
     match fs::metadata(rt, name) {
         Ok(metadata) => Ok(FileId::plain(&metadata)),

@@ -95,12 +95,7 @@ fn keep_inputs<'a, F: Read>(
 
 /// Whether an output is standard output.
 fn take_stdout(names: &[CaptureNames]) -> bool {
-    for port in names {
-        if port.output_place == Place::Stream {
-            return true;
-        }
-    }
-    false
+    names.iter().any(|port| port.output_place == Place::Stream)
 }
 
 /// The files of a run that no output may be: those that it reads, its inputs, and those to which texts go.

@@ -107,11 +107,6 @@ fn failed_before() -> Error {
     Error::other("the writer failed before")
 }
 
-/// The error of a writer that took none of the bytes that it was given.
-fn took_nothing() -> Error {
-    Error::new(ErrorKind::WriteZero, "it takes no more bytes")
-}
-
 impl<W: Write> Write for Guarded<W> {
     ghost use Rattle.std.specs.Prelude.{◌≡◌, ◌≢◌, ◌+◌, ◌<◌, ◌^◌, ◌++◌, ◌∷◌, [], ℕ, List, Some, true, false, length, take, IsErr, IfOk, IfErr, OnErr};
     ghost use Rattle.std.specs.Io.{WritesAtMost};
@@ -140,7 +135,8 @@ impl<W: Write> Write for Guarded<W> {
             Ok(taken) => {
                 self.pass(&buf[..taken]);
                 if taken == 0 && !buf.is_empty() {
-                    self.fail(took_nothing());
+                    let error = Error::new(ErrorKind::WriteZero, "it takes no more bytes");
+                    self.fail(error);
                 }
                 Ok(taken)
             }
@@ -164,12 +160,10 @@ impl<W: Write> Write for Guarded<W> {
         if self.has_failed {
             return Err(failed_before());
         }
-        match self.inner.flush() {
-            Ok(()) => Ok(()),
-            Err(error) => {
-                self.fail(error);
-                Err(error)
-            }
+        if let Err(error) = self.inner.flush() {
+            self.fail(error);
+            return Err(error);
         }
+        Ok(())
     }
 }

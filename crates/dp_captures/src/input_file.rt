@@ -31,26 +31,6 @@ pub struct InputFile<F> {
     reads: GhostCount,
 }
 
-/// An input that was not read yet.
-fn unread<F>(source: Source<F>, id: Option<FileId>) -> InputFile<F>
-    ensures source { result.source ≡ source }
-    ensures unread { result.reads.count ≡ 0 }
-{
-    InputFile {
-        source,
-        id,
-        reads: GhostCount::new(),
-    }
-}
-
-/// A file as an input.
-fn of_file<F: OpenFile + Drop>(file: F) -> Result<InputFile<F>>
-    ensures { IfOk result (λ input. (input.source ≡ Source.File file) × (input.reads.count ≡ 0)) }
-{
-    let id = FileId::plain(&file.metadata()?);
-    Ok(unread(Source::File(file), id))
-}
-
 /// Opens an input. A capture without records is its header alone, with times in microseconds.
 ///
 /// # Errors
@@ -65,14 +45,20 @@ pub fn open_input_file<R: Files>(
     ensures place { IfOk result (λ input. source_place input.source ≡ place) }
     ensures unread { IfOk result IsUnread }
 {
-    match place {
-        Place::File => of_file(fs::open(rt, name)?),
-        Place::Stream => Ok(unread(Source::Stream(stdin), plain_file(rt, "/dev/stdin")?)),
+    let (source, id) = match place {
+        Place::File => {
+            let file = fs::open(rt, name)?;
+            let id = FileId::plain(&file.metadata()?);
+            (Source::File(file), id)
+        }
+        Place::Stream => (Source::Stream(stdin), plain_file(rt, "/dev/stdin")?),
         Place::Nowhere => {
             let header = b"\xd4\xc3\xb2\xa1\x02\0\x04\0\0\0\0\0\0\0\0\0\0\0\x04\0\x01\0\0\0";
-            Ok(unread(Source::Nowhere(header), None))
+            (Source::Nowhere(header), None)
         }
-    }
+    };
+    let reads = GhostCount::new();
+    Ok(InputFile { source, id, reads })
 }
 
 impl<F: Read> Read for InputFile<F> {

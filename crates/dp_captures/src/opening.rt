@@ -193,10 +193,8 @@ pub fn open_captures<'a, R: Files>(
 
 /// Removes this file if it is empty. Its name may be that of a link to it, which stays.
 fn remove_if_empty<R: Files>(rt: &R, alloc: Global, name: &str, id: FileId) {
-    let Ok(path) = rt.canonicalize(alloc, name) else {
-        return;
-    };
-    if let Ok(metadata) = fs::metadata(rt, &path)
+    if let Ok(path) = rt.canonicalize(alloc, name)
+        && let Ok(metadata) = fs::metadata(rt, &path)
         && metadata.len() == 0
         && FileId::of(&metadata).is_same(id)
     {
@@ -208,11 +206,8 @@ fn remove_if_empty<R: Files>(rt: &R, alloc: Global, name: &str, id: FileId) {
 fn made_in_vain<F: Write + OpenFile + Drop>(output: &OutputOf<F>) -> Option<FileId> {
     let guarded = output.get_ref().get_ref();
     let file = guarded.get_ref();
-    if file.is_new && (!file.is_emptied || guarded.failure().is_some()) {
-        file.id
-    } else {
-        None
-    }
+    let is_vain = file.is_new && (!file.is_emptied || guarded.failure().is_some());
+    if is_vain { file.id } else { None }
 }
 
 /// Removes the outputs that were made when they were opened and are still empty, as those of a run that ended before its headers were written. Files

@@ -36,29 +36,6 @@ pub struct OutputFile<F> {
     writes: GhostCount,
 }
 
-/// An output that was not written yet.
-fn unwritten<F>(destination: Destination<F>, id: Option<FileId>, is_new: bool) -> OutputFile<F>
-    ensures destination { result.destination ≡ destination }
-    ensures unwritten { IsUnwritten result }
-{
-    OutputFile {
-        destination,
-        id,
-        is_new,
-        is_emptied: false,
-        writes: GhostCount::new(),
-    }
-}
-
-/// A file as an output. Its content is kept.
-fn of_file<F: OpenFile + Drop>(file: F, is_new: bool) -> Result<OutputFile<F>>
-    ensures file { IfOk result (λ output. output.destination ≡ Destination.File file) }
-    ensures unwritten { IfOk result IsUnwritten }
-{
-    let id = FileId::plain(&file.metadata()?);
-    Ok(unwritten(Destination::File(file), id, is_new))
-}
-
 /// Opens a file to be written, and makes it if it does not exist. Returns whether it was made.
 fn open_or_make<R: Files>(rt: &R, name: &str) -> Result<(R::File, bool)> {
     if let Ok(file) = OpenOptions::new()
@@ -77,7 +54,7 @@ fn open_or_make<R: Files>(rt: &R, name: &str) -> Result<(R::File, bool)> {
     Ok((file, is_new))
 }
 
-/// Opens an output, and creates it if it does not exist.
+/// Opens an output, and creates it if it does not exist. Its content is kept.
 ///
 /// # Errors
 ///
@@ -91,17 +68,25 @@ pub fn open_output_file<R: Files>(
     ensures place { IfOk result (λ output. destination_place output.destination ≡ place) }
     ensures unwritten { IfOk result IsUnwritten }
 {
-    match place {
+    let (destination, id, is_new) = match place {
         Place::File => {
             let (file, is_new) = open_or_make(rt, name)?;
-            of_file(file, is_new)
+            let id = FileId::plain(&file.metadata()?);
+            (Destination::File(file), id, is_new)
         }
         Place::Stream => {
             let id = plain_file(rt, "/dev/stdout")?;
-            Ok(unwritten(Destination::Stream(stdout), id, false))
+            (Destination::Stream(stdout), id, false)
         }
-        Place::Nowhere => Ok(unwritten(Destination::Nowhere, None, false)),
-    }
+        Place::Nowhere => (Destination::Nowhere, None, false),
+    };
+    Ok(OutputFile {
+        destination,
+        id,
+        is_new,
+        is_emptied: false,
+        writes: GhostCount::new(),
+    })
 }
 
 impl<F: OpenFile> OutputFile<F> {

@@ -67,7 +67,7 @@ impl fmt::Display for Totals<'_> {
 }
 
 /// What was seen of a file that is read as a capture, besides its bytes.
-#[derive(Clone, Copy)]
+#[derive(Clone, Copy, Default)]
 pub struct Seen {
     /// The error with which its last read failed.
     pub failure: Option<Error>,
@@ -97,11 +97,7 @@ impl<R: Read> Watched<R> {
         Watched {
             inner,
             is_begun: false,
-            seen: Seen {
-                failure: None,
-                format: None,
-                link: None,
-            },
+            seen: Seen::default(),
             progress,
             of: Offers::new().and(name.as_bytes()),
         }
@@ -144,18 +140,13 @@ impl<R: Read> Read for Watched<R> {
         ensures bound { ReadsAtMost result buf.new }
         ensures bytes { ReadConsumes (R.remaining self.old.inner) (R.remaining self.new.inner) result buf.new }
     {
-        match self.inner.read(buf) {
-            Ok(taken) => {
-                self.note(&buf[..taken]);
-                Ok(taken)
-            }
-            Err(error) => {
-                if error.kind() != ErrorKind::Interrupted {
-                    self.seen.failure = Some(error);
-                }
-                Err(error)
-            }
+        let read = self.inner.read(buf);
+        match read {
+            Ok(taken) => self.note(&buf[..taken]),
+            Err(error) if error.kind() == ErrorKind::Interrupted => {}
+            Err(error) => self.seen.failure = Some(error),
         }
+        read
     }
 }
 

@@ -169,9 +169,7 @@ fn add_words<'a>(
 {
     for word in words {
         let one = added(direction, form, word, given.as_slice())?;
-        if given.push(one).is_err() {
-            return Err(WordProblem::Memory);
-        }
+        given.push(one).map_err(|_| WordProblem::Memory)?;
     }
     Ok(())
 }
@@ -216,16 +214,12 @@ impl fmt::Display for WordProblem<'_> {
             Direction::Out => ("output", "out", "write standard output"),
         };
         if other.port != port {
-            return write!(
-                f,
-                "error: '{earlier}' and '{word}' both {stream}: one port alone can"
-            );
+            write!(f, "error: '{earlier}' and '{word}' both {stream}: ")?;
+            return f.write_str("one port alone can");
         }
-        write!(
-            f,
-            "error: '{word}' gives port {port} another {capture} than '{earlier}': "
-        )?;
-        write!(f, "one --{option} or --no-{option} for each port")
+        write!(f, "error: '{word}' gives port {port} another {capture}")?;
+        write!(f, " than '{earlier}': one --{option} or --no-{option}")?;
+        f.write_str(" for each port")
     }
 }
 
