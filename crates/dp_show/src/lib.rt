@@ -5,18 +5,14 @@
 //! takes; its contract says that they add up to what `need` of dp_engine returns. Tables and programs lie outside the region and are not counted.
 #![tactic(auto)]
 
-mod compile;
 mod counted;
 mod listing;
 mod picture;
 mod pipeline;
 mod showing;
-mod size_table;
 mod sizes;
 mod texts;
 
-pub use compile::compile_reply;
 pub use counted::{Counted, counts_in};
-pub use showing::{Form, show};
-pub use size_table::say_sizes;
-pub use sizes::{PoolSize, Sizes, sizes_of};
+pub use showing::{Form, compile_reply, show};
+pub use sizes::{PoolSize, Sizes, say_sizes, sizes_of};

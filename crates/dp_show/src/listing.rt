@@ -33,10 +33,8 @@ fn say_fact(out: &mut Text, now: Fact, before: Fact) {
 
 /// The greatest value of a number register, if it changed.
 fn changed(row: &Row, before: &Row, k: usize) -> Option<u64> {
-    match (row.bounds.get(k), before.bounds.get(k)) {
-        (Some(now), Some(then)) if now != then => Some(*now),
-        _ => None,
-    }
+    let (now, then) = (*row.bounds.get(k)?, *before.bounds.get(k)?);
+    (now != then).then_some(now)
 }
 
 /// Says which registers have this greatest value: those from one to another.
@@ -133,27 +131,19 @@ pub fn say_listing(alloc: Global, out: &mut Text, judged: &Judged<'_>, source: &
         label_width = labels_width(written).max(label_width);
         text_width = written.text.len().max(text_width);
     }
+    let width = digits(source.len().saturating_sub(1));
     let mut before = None;
     for (number, (written, row)) in source.iter().zip(judged.cert.rows()).enumerate() {
         let is_refused = is_refused_in(verdict, number, number.saturating_add(1));
         out.say(if is_refused { "> " } else { "  " });
-        say_blanks(
-            out,
-            " ",
-            digits(number),
-            digits(source.len().saturating_sub(1)),
-        );
+        say_blanks(out, " ", digits(number), width);
         out.say(format_args!("{number}  "));
         for label in written.labels.as_slice() {
             out.say(format_args!("{label}: "));
         }
+        let there = labels_width(written);
         if label_width > 0 {
-            say_blanks(
-                out,
-                " ",
-                labels_width(written),
-                label_width.saturating_add(1),
-            );
+            say_blanks(out, " ", there, label_width.saturating_add(1));
         }
         out.say(written.text);
         say_blanks(out, " ", written.text.len(), text_width.saturating_add(2));

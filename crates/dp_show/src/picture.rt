@@ -17,12 +17,10 @@ const ATTRIBUTES: &str = "  labelloc=t;\n  fontname=monospace;\n  \
 
 /// The attributes of a box: red if one of its instructions is refused, grey if control never reaches it.
 pub fn attributes(is_live: bool, is_refused: bool) -> &'static str {
-    if is_refused {
-        ", color=red, penwidth=2"
-    } else if is_live {
-        ""
-    } else {
-        ", color=grey, fontcolor=grey"
+    match (is_refused, is_live) {
+        (true, _) => ", color=red, penwidth=2",
+        (false, true) => "",
+        (false, false) => ", color=grey, fontcolor=grey",
     }
 }
 
@@ -30,10 +28,7 @@ pub fn attributes(is_live: bool, is_refused: bool) -> &'static str {
 fn logarithm(count: u64) -> u64
     ensures { result ≤ 63 }
 {
-    if count == 0 {
-        return 0;
-    }
-    u64::from(count.ilog2())
+    u64::from(count.max(1).ilog2())
 }
 
 /// A program to be drawn.
@@ -58,42 +53,29 @@ impl Picture<'_> {
     /// The number of the instruction whose label an instruction names.
     fn target(self, number: usize) -> Option<usize> {
         let instr = self.judged.program.instrs().get(number)?;
-        let label = arguments_of(instr).label()?;
-        Some(usize::from(label))
+        arguments_of(instr).label().map(usize::from)
     }
 
     /// Whether control can go from an instruction to the next.
     fn goes_on(self, number: usize) -> bool {
-        match self.judged.program.instrs().get(number) {
-            None | Some(Instr::Jmp { .. } | Instr::Exit) => false,
-            Some(_) => true,
-        }
+        let instr = self.judged.program.instrs().get(number);
+        !matches!(instr, None | Some(Instr::Jmp { .. } | Instr::Exit))
     }
 
     /// Whether control can reach an instruction.
     fn is_live(self, number: usize) -> bool {
-        match self.judged.cert.rows().get(number) {
-            Some(row) => row.live,
-            None => true,
-        }
+        let row = self.judged.cert.rows().get(number);
+        row.is_none_or(|row| row.live)
     }
 
     /// Whether a box ends with this instruction.
     fn ends(self, last: usize) -> bool {
         let next = last.saturating_add(1);
-        if next >= self.len()
+        next >= self.len()
             || !self.goes_on(last)
             || (self.all && self.target(last).is_some())
             || (!self.all && self.is_live(last) != self.is_live(next))
-        {
-            return true;
-        }
-        for other in 0..self.len() {
-            if self.target(other) == Some(next) {
-                return true;
-            }
-        }
-        false
+            || (0..self.len()).any(|other| self.target(other) == Some(next))
     }
 
     /// The instruction to which this one jumps, if it is the first one of its box that does, and how often all of them did.
@@ -167,13 +149,10 @@ impl Picture<'_> {
 
     /// Says an arrow, and if it is counted its count, and its width by the logarithm of that, from 1 to 8 points.
     fn say_arrow(self, out: &mut Text, style: &str, from: usize, to: usize, count: u64) {
-        let mut most = 0;
-        for counted in self.counts {
-            most = counted.ran.max(most);
-        }
+        let most = self.counts.iter().map(|counted| counted.ran).max();
         out.say(format_args!("  L{from} -> L{to} [style={style}"));
         if !self.counts.is_empty() {
-            let tenths = 10 + (70 * logarithm(count) / logarithm(most).max(1)).min(70);
+            let tenths = 10 + (70 * logarithm(count) / logarithm(most.unwrap_or(0)).max(1)).min(70);
             let (whole, part) = (tenths / 10, tenths % 10);
             out.say(format_args!(", label=\" {count}\", penwidth={whole}.{part}"));
         }

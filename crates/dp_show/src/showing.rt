@@ -1,13 +1,14 @@
-//! `dpv show` and `dpv show-one`: a program, or the picture of a pipeline.
+//! `dpv show` and `dpv show-one`: a program, or the picture of a pipeline; and `dpv compile`, its programs as a Rattle module.
 
 use crate::counted::{Counted, say_fault};
 use crate::listing::say_listing;
 use crate::picture::Picture;
 use crate::pipeline::say_pipeline;
+use dp_compile::Module;
 use dp_console::{FAULT, REFUSED, Reply};
 use dp_counts::ReadCount;
 use dp_lang::listing_of;
-use dp_load::{NodeName, PipeError};
+use dp_load::{NodeName, PipeError, Pipeline};
 use dp_model::Entry;
 use dp_sources::{MAX_NODES, Sources, Subject, entry_at};
 use dp_verdict::{Judged, judge, no_node, unloaded};
@@ -111,5 +112,15 @@ pub fn show(
     if which.is_none() {
         say_pipeline(&mut reply.out, subject, nodes.as_slice());
     }
+    reply
+}
+
+/// The Rattle module of a pipeline's programs, each once, without those that are too long. If memory is refused, the reply is not whole.
+pub fn compile_reply(alloc: Global, pipeline: &Pipeline) -> Reply {
+    let (mut reply, mut module) = (Reply::new(alloc), Module::new(alloc));
+    for k in 0..pipeline.nodes() {
+        reply.out.has_failed |= module.add(pipeline.node(k).program()).is_err();
+    }
+    module.say_to(&mut reply.out);
     reply
 }

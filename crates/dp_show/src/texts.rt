@@ -11,10 +11,8 @@ pub fn words_of(text: &Text) -> &str {
 
 /// Whether a program is refused at one of these labels.
 pub fn is_refused_in(verdict: Verdict, first: usize, end: usize) -> bool {
-    match verdict.refused {
-        Some(at) => first <= usize::from(at.label) && usize::from(at.label) < end,
-        None => false,
-    }
+    let label = verdict.refused.map(|at| usize::from(at.label));
+    label.is_some_and(|label| first <= label && label < end)
 }
 
 /// Fills a column: says a blank for each unit that a width has more than what is there.
