@@ -55,12 +55,9 @@ impl Snapshot {
 
     /// Adds the result of the last allocation call, if there was one: it was made if a register has a new packet.
     pub fn say_call(&self, before: &Snapshot, out: &mut Text) {
-        let (call, mut answer) = (self.calls, "refused");
-        for k in 0..8usize {
-            if self.packets[k].is_some() && before.packets[k].is_none() {
-                answer = "made";
-            }
-        }
+        let mut packets = self.packets.iter().zip(&before.packets);
+        let is_made = packets.any(|(now, before)| now.is_some() && before.is_none());
+        let (call, answer) = (self.calls, if is_made { "made" } else { "refused" });
         if call > before.calls {
             out.say(format_args!("      allocation call {call}: {answer}\n"));
         }
@@ -96,11 +93,9 @@ fn say_numbers(before: &[u64; 8], now: &[u64; 8], out: &mut Text) {
 /// Adds a register's packet: its shape, and a line for each segment.
 fn say_packet(view: &View<'_>, p: PacketRegister, look: Option<Look>, out: &mut Text) {
     let k = p.number();
-    let Some(look) = look else {
-        out.say(format_args!("      p{k}: none\n"));
-        return;
+    let Some((shape, ..)) = look else {
+        return out.say(format_args!("      p{k}: none\n"));
     };
-    let shape = look.0;
     out.say(format_args!("      p{k}: "));
     say_count(shape.segments as usize, "segment", out);
     out.say(", ");
@@ -146,8 +141,7 @@ fn say_counts(before: &[u32; 8], now: &[u32; 8], words: (&str, &str, &str), out:
     for k in 0..8usize {
         let count = now[k];
         if count != before[k] {
-            out.say(format_args!("      {kind} {k}{list}"));
-            out.say(format_args!(": {count} {state}\n"));
+            out.say(format_args!("      {kind} {k}{list}: {count} {state}\n"));
         }
     }
 }
@@ -183,8 +177,7 @@ pub fn bytes_before(view: &View<'_>, instr: Instr) -> Option<BytesBefore> {
 fn bytes_at(view: &View<'_>, p: PacketRegister, offset: u64, width: Width) -> Option<BytesBefore> {
     let (offset, count) = (offset as usize, usize::from(width.bytes()));
     let mut bytes = [0; 8];
-    let segment = view.segment(p, 0)?;
-    let rest = segment.bytes.get(offset..)?;
+    let rest = view.segment(p, 0)?.bytes.get(offset..)?;
     for (to, from) in bytes.iter_mut().zip(rest) {
         *to = *from;
     }

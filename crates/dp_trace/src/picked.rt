@@ -1,5 +1,7 @@
 //! Which records of a trace are printed.
 
+use crate::summary::after;
+
 /// Selects records of a trace by their outcome or by their number.
 #[derive(Clone, Copy)]
 pub enum Only {
@@ -52,10 +54,7 @@ fn bytes_in(text: &str) -> Option<([u8; 16], usize)> {
             digits = digits.saturating_add(1);
         }
     }
-    if digits == 0 || digits % 2 == 1 {
-        return None;
-    }
-    Some((bytes, digits / 2))
+    (digits > 0 && digits % 2 == 0).then_some((bytes, digits / 2))
 }
 
 /// Parses an address A.B.C.D.
@@ -79,22 +78,14 @@ pub fn pattern_in(word: &str) -> Option<Pattern> {
 }
 
 impl Pattern {
-    /// Whether a record has the bytes at this offset.
-    fn is_at(&self, record: &[u8], offset: usize) -> bool {
-        match (record.get(offset..), self.0.get(..self.1)) {
-            (Some(rest), Some(bytes)) => rest.starts_with(bytes),
-            _ => false,
-        }
-    }
-
     /// Whether a record has the bytes.
     pub fn is_in(&self, record: &[u8]) -> bool {
+        let bytes = self.0.get(..self.1).unwrap_or(&[]);
+        let (source, destination) = (after(record, 26), after(record, 30));
         match self.2 {
-            Some(offset) => self.is_at(record, offset),
-            None => {
-                record.get(12..14) == Some(&[8, 0])
-                    && (self.is_at(record, 26) || self.is_at(record, 30))
-            }
+            Some(offset) => after(record, offset).starts_with(bytes),
+            None if !after(record, 12).starts_with(&[8, 0]) => false,
+            None => source.starts_with(bytes) || destination.starts_with(bytes),
         }
     }
 }

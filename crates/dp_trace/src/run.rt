@@ -36,12 +36,8 @@ impl NodeTexts<'_> {
         if let Ok(number) = word.parse() {
             return Some(number);
         }
-        for named in self.labels.as_slice() {
-            if named.name == word {
-                return Some(named.label);
-            }
-        }
-        None
+        let named = self.labels.iter().find(|named| named.name == word)?;
+        Some(named.label)
     }
 }
 
@@ -138,13 +134,11 @@ impl<'a, W: Write + Drop> Tracer for Printing<'a, W> {
         if self.record.end(turn, &view) && matches!(self.run.printed, Printed::Whole) {
             self.run.shown = self.run.shown.saturating_add(1);
             let text = &self.record.text;
-            self.run.printed = if text.has_failed {
-                Printed::NoMemory
+            if text.has_failed {
+                self.run.printed = Printed::NoMemory;
             } else if self.out.write_all(text.bytes.as_slice()).is_err() {
-                Printed::Failed
-            } else {
-                Printed::Whole
-            };
+                self.run.printed = Printed::Failed;
+            }
         }
     }
 }
