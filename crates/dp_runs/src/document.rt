@@ -143,10 +143,7 @@ impl Printing<'_, '_> {
                 to.end_list();
             }
         }
-        let truncated = match self.notes {
-            Some(notes) => notes.truncated,
-            None => [0; 8],
-        };
+        let truncated = self.notes.map_or([0; 8], |notes| notes.truncated);
         write_pools(report, ran.refusals.pools, to);
         write_ports(report, ran.refusals.lists, truncated, to);
         to.item("refused", Item::Number(report.refused));

@@ -63,10 +63,8 @@ impl Noted<'_> {
             let word = word(calls, "call", "calls");
             return out.say(format_args!(": --refuse refused {calls} {word}\n"));
         }
-        let is_most = match self.env.pools().get(pool as usize) {
-            Some(own) => own.count >= MAX_BUFFERS,
-            None => true,
-        };
+        let own = self.env.pools().get(pool as usize);
+        let is_most = own.is_none_or(|own| own.count >= MAX_BUFFERS);
         self.end(is_most, format_args!("the count of pool {pool}"), "", out);
     }
 
@@ -127,9 +125,8 @@ impl Noted<'_> {
             if *left > 0 {
                 let were = word(*left, "packet was", "packets were");
                 out.say(format_args!("ring {k}: {left} {were} left at the end: "));
-                out.say(
-                    "a turn runs 32 packets from rings at most; let programs put fewer into rings for each record\n",
-                );
+                out.say("a turn runs 32 packets from rings at most; ");
+                out.say("let programs put fewer into rings for each record\n");
             }
         }
     }
@@ -181,10 +178,8 @@ impl Notes {
         for (port, records) in self.truncated.into_iter().enumerate() {
             if records > 0 {
                 let were = word(records, "record was", "records were");
-                out.say(format_args!(
-                    "port {port}: {records} {were} cut by the capture's snap length: "
-                ));
-                out.say("capture with a larger -s\n");
+                out.say(format_args!("port {port}: {records} {were} cut by the capture's "));
+                out.say("snap length: capture with a larger -s\n");
             }
         }
     }

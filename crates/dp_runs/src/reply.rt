@@ -53,10 +53,8 @@ impl fmt::Display for StopText {
         match self.0 {
             RunCause::Memory => write!(f, "fault: memory"),
             RunCause::NoRoom => write!(f, "fault: region"),
-            RunCause::In(port, error) => {
-                write!(f, "fault: input {port} cause {}", error.number())
-            }
-            RunCause::Out(port) => write!(f, "fault: output {port}"),
+            RunCause::In(k, error) => write!(f, "fault: input {k} cause {}", error.number()),
+            RunCause::Out(k) => write!(f, "fault: output {k}"),
         }
     }
 }

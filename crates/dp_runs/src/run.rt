@@ -104,10 +104,8 @@ pub fn problem_of_run<'a, I: Inlet>(
     ins: &[I],
     ran: &Ran,
 ) -> Option<CaptureProblem<'a>> {
-    match &ran.flushed.answer {
-        Ok(_) => None,
-        Err(fault) => problem_of(names, ins, fault.cause, ran.flushed.failure),
-    }
+    let fault = ran.flushed.answer.as_ref().err()?;
+    problem_of(names, ins, fault.cause, ran.flushed.failure)
 }
 
 /// Prints a reply on two writers, as a console does, and returns the exit status: the reply's; 4 if memory was refused for it, which is reported; or 3
