@@ -13,7 +13,7 @@ use crate::numbers::{
 };
 use crate::packed::{Unread, files_in};
 use crate::refusal::Refusal;
-use crate::running::Running;
+use crate::running::{Counts, Running};
 use dp_copies::{clones_are_copies, uses_are_copied};
 use dp_engine::{Outcome, Pass, SentRecord};
 use dp_load::{How, Listed, PipeError, Pipeline, load};
@@ -39,19 +39,19 @@ pub enum OpenError {
     Open(RunCause),
 }
 
-// The numbers of ports, rings and tables of a pipeline.
-fn counts_of(pipeline: &Pipeline) -> (u32, u32, u8)
-    ensures ports { (result.0 ≡ length pipeline.now.env.ports) × (result.0 ≤ 8) }
-    ensures rings { (result.1 ≡ length pipeline.now.env.rings) × (result.1 ≤ 8) }
-    ensures tables { result.2 ≡ length pipeline.now.tables }
+// How many ports, rings and tables a pipeline has.
+fn counts_of(pipeline: &Pipeline) -> Counts
+    ensures ports { (result.ports ≡ length pipeline.now.env.ports) × (result.ports ≤ 8) }
+    ensures rings { (result.rings ≡ length pipeline.now.env.rings) × (result.rings ≤ 8) }
+    ensures tables { result.tables ≡ length pipeline.now.tables }
     ensures plan { IsPlan pipeline.now }
 {
     let env = pipeline.env();
-    (
-        env.ports().len() as u32,
-        env.rings().len() as u32,
-        env.tables(),
-    )
+    Counts {
+        ports: env.ports().len() as u32,
+        rings: env.rings().len() as u32,
+        tables: env.tables(),
+    }
 }
 
 // Opens the engine of a pipeline.
@@ -59,9 +59,9 @@ fn running_of(alloc: Global, pipeline: Pipeline) -> Result<Running, RunCause>
     ensures ok { IfOk result (HasServedCalls pipeline []) }
     ensures err { IfErr result (IsUnopened pipeline) }
 {
-    let (ports, rings, tables) = counts_of(&pipeline);
+    let counts = counts_of(&pipeline);
     match engine_of(alloc, pipeline, Vec::new(alloc)) {
-        Ok(engine) => Ok(Running::of(engine, ports, rings, tables)),
+        Ok(engine) => Ok(Running::of(engine, counts)),
         Err(cause) => Err(cause),
     }
 }
@@ -208,7 +208,7 @@ pub(crate) fn passed(
     };
     let missing = host.missing;
     match &mut host.running {
-        Some(running) => match running.pass(port, frame, time, records, bytes) {
+        Some(running) => match running.pass(port, time, frame, records, bytes) {
             Ok(pass) => {
                 *filled = room_of(pass);
                 outcome_number(pass.turn.outcome)

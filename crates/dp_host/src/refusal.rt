@@ -1,4 +1,5 @@
 //! Why a call is refused. A refused call changes nothing.
+ghost use Rattle.std.specs.Prelude.{◌≡◌};
 
 /// Why a call is refused.
 #[derive(Clone, Copy, Debug, PartialEq, Eq)]
@@ -40,7 +41,6 @@ pub enum Refusal {
 }
 
 impl Refusal {
-    ghost use Rattle.std.specs.Prelude.{◌≡◌};
     ghost use Rattle.dp_host.specs.Hosts.{refusal_number};
 
     /// The number of the refusal, from 16.

@@ -26,12 +26,18 @@ pub const MAX_ENGINE_TURNS: u64 = 1_099_511_627_776;
 /// The depth of the deepest route, in bits of the address.
 pub const MAX_DEPTH: u32 = 32;
 
-/// An engine, its numbers of ports, rings and tables, and the size that a batch needs.
+/// How many ports, rings and tables an engine has.
+#[derive(Drop)]
+pub struct Counts {
+    pub ports: u32,
+    pub rings: u32,
+    pub tables: u8,
+}
+
+/// An engine, its counts, and the size that a batch needs.
 pub struct Running {
     engine: Engine,
-    ports: u32,
-    rings: u32,
-    tables: u8,
+    counts: Counts,
     room: BatchSize,
 }
 
@@ -44,9 +50,9 @@ impl Model for Running {
 
     ghost view = { λ r. r.engine };
 
-    ghost invariant = { λ r. (r.ports ≡ length r.engine.setting.env.ports) × (r.ports ≤ 8)
-        × (r.rings ≡ length r.engine.setting.env.rings) × (r.rings ≤ 8)
-        × (r.tables ≡ length r.engine.tables)
+    ghost invariant = { λ r. (r.counts.ports ≡ length r.engine.setting.env.ports) × (r.counts.ports ≤ 8)
+        × (r.counts.rings ≡ length r.engine.setting.env.rings) × (r.counts.rings ≤ 8)
+        × (r.counts.tables ≡ length r.engine.tables)
         × (r.room ≡ max_batch r.engine.setting.env) };
 }
 
@@ -66,21 +72,19 @@ fn refusal_of(fault: RouteFault) -> Refusal
 }
 
 impl Running {
-    /// Wraps an engine with this many ports, rings and tables.
-    pub fn of(engine: Engine, ports: u32, rings: u32, tables: u8) -> Running
-        requires ports { ports ≡ length engine.setting.env.ports }
-        requires few_ports { ports ≤ 8 }
-        requires rings { rings ≡ length engine.setting.env.rings }
-        requires few_rings { rings ≤ 8 }
-        requires tables { tables ≡ length engine.tables }
+    /// Wraps an engine that has these counts.
+    pub fn of(engine: Engine, counts: Counts) -> Running
+        requires ports { counts.ports ≡ length engine.setting.env.ports }
+        requires few_ports { counts.ports ≤ 8 }
+        requires rings { counts.rings ≡ length engine.setting.env.rings }
+        requires few_rings { counts.rings ≤ 8 }
+        requires tables { counts.tables ≡ length engine.tables }
         ensures { result ≡ engine }
     {
         let room = engine.batch_size();
         Running {
             engine,
-            ports,
-            rings,
-            tables,
+            counts,
             room,
         }
     }
@@ -96,8 +100,8 @@ impl Running {
     pub fn pass(
         &mut self,
         port: u32,
-        frame: &[u8],
         time: u64,
+        frame: &[u8],
         records: &mut [SentRecord],
         bytes: &mut [u8],
     ) -> Result<Pass, Refusal>
@@ -107,7 +111,7 @@ impl Running {
             × (pass_fault self.old port (length frame.now) (length records.old) (length bytes.old) ≡ Some why)) }
         ensures taken { OnOk result (pass_fault self.old port (length frame.now) (length records.old) (length bytes.old) ≡ None) }
     {
-        if port >= self.ports {
+        if port >= self.counts.ports {
             return Err(Refusal::NoPort);
         }
         if frame.len() > MAX_RECORD {
@@ -129,7 +133,7 @@ impl Running {
         ensures ok { OnOk result (AddsRoute table ip depth hop self.old.tables self.new.tables) }
         ensures err { IfErr result (λ why. RefusesChange (λ t. add_fault t ip depth hop) table self.old.tables why × (self.new ≡ self.old)) }
     {
-        if table >= u32::from(self.tables) {
+        if table >= u32::from(self.counts.tables) {
             return Err(Refusal::NoTable);
         }
         if depth > MAX_DEPTH {
@@ -148,7 +152,7 @@ impl Running {
         ensures ok { OnOk result (DeletesRoute table ip depth self.old.tables self.new.tables) }
         ensures err { IfErr result (λ why. RefusesChange (λ t. delete_fault t ip depth) table self.old.tables why × (self.new ≡ self.old)) }
     {
-        if table >= u32::from(self.tables) {
+        if table >= u32::from(self.counts.tables) {
             return Err(Refusal::NoTable);
         }
         if depth > MAX_DEPTH {
@@ -165,7 +169,7 @@ impl Running {
         ensures ok { IfOk result (λ hop. HasTable table self.now.tables (λ t. hop_for t.routes ip ≡ Some hop)) }
         ensures err { IfErr result (λ why. RefusesLookup table ip self.now.tables why) }
     {
-        if table >= u32::from(self.tables) {
+        if table >= u32::from(self.counts.tables) {
             return Err(Refusal::NoTable);
         }
         match self.engine.route(table as u8, ip) {
@@ -186,7 +190,7 @@ impl Running {
         ensures some { IfSome result (AreWaiting self.now.world.rings ring) }
         ensures none { IfNone result (length self.now.setting.env.rings ≤ ring) }
     {
-        if ring >= self.rings {
+        if ring >= self.counts.rings {
             return None;
         }
         self.engine.waiting(ring as u8)
@@ -206,9 +210,7 @@ impl Running {
     {
         let Running {
             engine,
-            ports: _,
-            rings: _,
-            tables: _,
+            counts: _,
             room: _,
         } = self;
         let (report, region) = engine.finish();
