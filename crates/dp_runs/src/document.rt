@@ -53,12 +53,9 @@ fn write_ports(report: &Report, full: [u64; 8], truncated: [u64; 8], to: &mut Do
 fn write_rings(report: &Report, full: [u64; 8], to: &mut Document) {
     to.begin_list("rings");
     for (k, (left, full)) in report.rings.as_slice().iter().zip(full).enumerate() {
-        let members = [
-            ("full", Item::Number(full)),
-            ("left", Item::Number(*left)),
-            ("ring", Item::Number(k as u64)),
-        ];
-        to.object("", &members);
+        let ring = Item::Number(k as u64);
+        let (full, left) = (Item::Number(full), Item::Number(*left));
+        to.object("", &[("full", full), ("left", left), ("ring", ring)]);
     }
     to.end_list();
 }
