@@ -5,66 +5,48 @@ ghost use Rattle.std.specs.Prelude.{◌≡◌};
 #[derive(Clone, Copy, Debug, PartialEq, Eq)]
 pub enum Refusal {
     /// The pipeline was not loaded.
-    NotOpen,
+    NotOpen = 16,
     /// The engine was closed.
-    Closed,
+    Closed = 17,
     /// There is no such port.
-    NoPort,
+    NoPort = 18,
     /// There is no such pool.
-    NoPool,
+    NoPool = 19,
     /// There is no such ring.
-    NoRing,
+    NoRing = 20,
     /// The frame has more than 262,144 bytes.
-    TooLong,
+    TooLong = 21,
     /// The engine has taken 2^40 turns.
-    NoTurns,
+    NoTurns = 22,
     /// The batch is smaller than one turn may need.
-    BatchTooSmall,
+    BatchTooSmall = 23,
     /// There is no such table.
-    NoTable,
+    NoTable = 24,
     /// The depth is not from 1 to 32.
-    BadDepth,
+    BadDepth = 25,
     /// The hop is above 16,777,215.
-    BadHop,
+    BadHop = 26,
     /// The table has as many routes as it was made for.
-    RulesFull,
+    RulesFull = 27,
     /// The route is deeper than 24 bits, and no group is left for it.
-    GroupsFull,
+    GroupsFull = 28,
     /// The table has no such route.
-    NoRule,
+    NoRule = 29,
     /// No route of the table is for the address.
-    NoRoute,
+    NoRoute = 30,
     /// The text is not a program.
-    NoProgram,
+    NoProgram = 31,
     /// Memory was refused.
-    NoMemory,
+    NoMemory = 32,
 }
 
 impl Refusal {
     ghost use Rattle.dp_host.specs.Hosts.{refusal_number};
 
-    /// The number of the refusal, from 16.
+    /// The number of the refusal, from 16: that of its variant.
     pub fn number(self) -> u32
         ensures { result ≡ refusal_number self }
     {
-        match self {
-            Refusal::NotOpen => 16,
-            Refusal::Closed => 17,
-            Refusal::NoPort => 18,
-            Refusal::NoPool => 19,
-            Refusal::NoRing => 20,
-            Refusal::TooLong => 21,
-            Refusal::NoTurns => 22,
-            Refusal::BatchTooSmall => 23,
-            Refusal::NoTable => 24,
-            Refusal::BadDepth => 25,
-            Refusal::BadHop => 26,
-            Refusal::RulesFull => 27,
-            Refusal::GroupsFull => 28,
-            Refusal::NoRule => 29,
-            Refusal::NoRoute => 30,
-            Refusal::NoProgram => 31,
-            Refusal::NoMemory => 32,
-        }
+        self as u32
     }
 }
