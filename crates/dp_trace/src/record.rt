@@ -103,8 +103,10 @@ impl<'a> Record<'a> {
         let event = Event(self.node, ran, from, self.text.bytes.len());
         self.text.has_failed |= self.events.push(event).is_err();
         self.before = now;
-        let instr = self.instr(next);
-        self.next = instr.and_then(|instr| bytes_before(view, instr));
+        self.next = match self.instr(next) {
+            Some(instr) => bytes_before(view, instr),
+            None => None,
+        };
     }
 
     /// A node run begins: its registers are empty until its packet comes.
