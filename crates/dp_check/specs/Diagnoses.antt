@@ -1,6 +1,6 @@
 -- The diagnosis of a refused program: what is known, and what the rule wants.
-use Rattle.std.specs.Prelude.{◌≡◌, ◌≢◌, ◌⊎◌, ℕ, ◌+◌, ◌<◌, ◌≤◌, Bool, true, false, not, ◌&&◌, if◌then◌else◌, nat_lt, nat_le, List, [], ◌∷◌, length, replicate}
-use Rattle.std.specs.Prelude.{Option, Some, None, MatchOption, slice_get}
+use Rattle.std.specs.Prelude.{◌≡◌, ◌≢◌, ◌⊎◌, ℕ, ◌+◌, ◌<◌, ◌≤◌, Bool, true, false, not, ◌&&◌, if◌then◌else◌, ◌==◌, nat_lt, nat_le, List, [], ◌∷◌}
+use Rattle.std.specs.Prelude.{length, replicate, Option, Some, None, MatchOption, slice_get}
 use Rattle.std.specs.List.{find, position_from}
 use Rattle.std.proofs.Math.Bool.{beq}
 use Rattle.std.specs.Option.{option_and_then, option_map_or}
@@ -13,16 +13,17 @@ use Rattle.dp_model.specs.declared.registers.Operand.TheVariants.{Register}
 use Rattle.dp_model.specs.declared.instr.Instr.{Instr}
 use Rattle.dp_model.specs.declared.instr.Instr.TheVariants.{Chain, Exit}
 use Rattle.dp_model.specs.Environments.{Environment}
-use Rattle.dp_model.specs.Facts.{loose}
+use Rattle.dp_model.specs.Facts.{loose, head_sole, sole}
 use Rattle.dp_model.specs.Groups.{group_of, is_in, keeps_groups, same_registers}
 use Rattle.dp_model.specs.Limits.{max_segments}
 use Rattle.dp_model.specs.Rows.{is_empty, holding, held, held_at, entails_fact, entails_option, entails_share, entry_row, fact_of_ring, bound, entails, leads}
-use Rattle.dp_model.specs.Rules.{Question, is_held, is_empty_at, holds_with, uses, indices_exist, targets_fit, bytes_fit, share_fits, may_leave}
+use Rattle.dp_model.specs.Rules.{Question, is_held, is_empty_at, holds_with, uses, indices_exist, targets_fit, size_of, bytes_fit, share_fits, may_leave}
 use Rattle.dp_model.specs.Rules.{row_passes, IsRefused}
 use Rattle.dp_model.specs.declared.rule.Rule.{Rule}
 use Rattle.dp_model.specs.declared.rule.Rule.TheVariants.{J1, J2, J3, J4, J5, J6, J7, J8, J9, J10, J11}
-use Rattle.dp_check.specs.declared.reason.Measure.{Measure}
-use Rattle.dp_check.specs.declared.reason.Measure.TheVariants as measure
+use Rattle.dp_model.specs.declared.needs.Measure.{Measure}
+use Rattle.dp_model.specs.declared.needs.Written.{Written}
+use Rattle.dp_model.specs.declared.needs.Written.TheVariants.{Head, Tail}
 use Rattle.dp_check.specs.declared.reason.Gap.{Gap}
 use Rattle.dp_check.specs.declared.reason.Gap.TheVariants as gap
 use Rattle.dp_check.specs.declared.reason.Reason.{Reason}
@@ -119,10 +120,8 @@ IsGap a b (gap.Number r known wanted) =
 -- what a fact says of a measure
 abbrev pub measured : Measure → Fact → ℕ
 measured part Empty = 0
-measured measure.Headroom (Held share head tail first last segs) = head
-measured measure.Tailroom (Held share head tail first last segs) = tail
-measured measure.First (Held share head tail first last segs) = first
-measured measure.Last (Held share head tail first last segs) = last
+measured part (Held share head tail first last segs) =
+    size_of part (record { share = share; head = head; tail = tail; first = first; last = last; segs = segs })
 
 -- what a row says of a measure of the packet in a register
 abbrev pub measured_at : Row → ℕ → Measure → ℕ
@@ -135,6 +134,16 @@ share_in (Held share head tail first last segs) = share
 abbrev pub segs_in : Fact → ℕ
 segs_in Empty = 0
 segs_in (Held share head tail first last segs) = segs
+
+-- the greatest value of an index, if there is one
+abbrev pub start_of : Row → Option ℕ → ℕ
+start_of row None = 0
+start_of row (Some r) = bound row (Register r)
+
+-- the share that is wanted of a packet with at most this many segments, where this part is written
+abbrev pub wanted_of : Written → ℕ → ℕ
+wanted_of Head segs = head_sole
+wanted_of Tail segs = if segs == 1 then head_sole else sole
 
 -- ---- what a rule asks for at an instruction: it holds exactly if that is there
 

@@ -4,8 +4,8 @@ use Rattle.dp_model.specs.declared.row.Holding.{Holding}
 use Rattle.dp_model.specs.declared.row.Lead.{Lead}
 use Rattle.dp_check.specs.declared.transfer.Leads.{Leads}
 use Rattle.dp_check.specs.declared.transfer.Leads.TheVariants.{Ends, One, Two}
-use Rattle.dp_check.specs.declared.reason.Measure.{Measure}
-use Rattle.dp_check.specs.declared.reason.Measure.TheVariants as measure
+use Rattle.dp_model.specs.declared.needs.Measure.{Measure}
+use Rattle.dp_model.specs.declared.needs.Measure.TheVariants as measure
 
 -- the greatest label of 16 bits: it has no next instruction
 abbrev pub last_label : ℕ

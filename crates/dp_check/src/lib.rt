@@ -29,9 +29,10 @@ mod transfer;
 
 pub use checked::{Checked, Fault, Refused, check, fault_of};
 pub use diagnosis::{Diagnosis, diagnose};
+pub use dp_model::Measure;
 pub use entailing::{entails, fact_entails};
 pub use groups::{reshared, shares_group};
 pub use laws::raised_certificates_get_the_same_answer;
 pub use packet_facts::owns_head;
-pub use reason::{Gap, Measure, Reason};
+pub use reason::{Gap, Reason};
 pub use transfer::{Leads, leads_of};

@@ -8,8 +8,9 @@ ghost use Rattle.dp_model.specs.Rows.{held, held_at, with_fact, emptied, changed
 ghost use Rattle.dp_model.specs.Rows.{shared, owns_head, chained_share, after_chain, chained, after_alloc};
 ghost use Rattle.dp_check.specs.Leads.{raised};
 
-use crate::reason::Measure;
-use dp_model::{DEFAULT_HEADROOM, Fact, HEAD_SOLE, Holding, LOOSE, PacketRegister, Row, SOLE};
+use dp_model::{
+    DEFAULT_HEADROOM, Fact, HEAD_SOLE, Holding, LOOSE, Measure, PacketRegister, Row, SOLE,
+};
 
 /// What a row says of the packet in a register, if there is one.
 pub(crate) fn held_at(row: &Row, packet: PacketRegister) -> Option<Holding>

@@ -3,20 +3,7 @@
 ghost use Rattle.std.specs.Prelude.{◌≡◌};
 ghost use Rattle.dp_check.specs.Diagnoses.{rule_of};
 
-use dp_model::{Fact, NumberRegister, PacketRegister, Rule};
-
-/// What an instruction takes of a packet, in bytes.
-#[derive(Clone, Copy, Debug, PartialEq, Eq)]
-pub enum Measure {
-    /// The room before the first segment's data.
-    Headroom,
-    /// The room after the last segment's data.
-    Tailroom,
-    /// The length of the first segment.
-    First,
-    /// The length of the last segment.
-    Last,
-}
+use dp_model::{Fact, Measure, NumberRegister, PacketRegister, Rule};
 
 /// A part of a row that another row wants and this row does not entail.
 #[derive(Clone, Copy, Debug, PartialEq, Eq)]

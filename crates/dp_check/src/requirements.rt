@@ -1,16 +1,18 @@
 //! Tests what an instruction needs, rule by rule, and says what is missing.
 
-ghost use Rattle.std.specs.Prelude.{◌≡◌, ℕ, ◌+◌, ◌<◌, ◌≤◌, true, false, length, IfSome, IfNone, MatchOption, slice_get};
+ghost use Rattle.std.specs.Prelude.{◌≡◌, ℕ, ◌+◌, ◌<◌, ◌≤◌, true, false, length, IfSome, IfNone, MatchOption, option_to_list, slice_get};
 ghost use Rattle.std.specs.List.{list_all};
 ghost use Rattle.dp_model.specs.declared.rule.Rule.TheVariants.{J3, J4, J5, J6, J7, J8, J9, J10};
 ghost use Rattle.dp_model.specs.Rows.{entails_share, is_empty};
 ghost use Rattle.dp_model.specs.Rules.{Question, indices_exist, is_held, uses, targets_fit, bytes_fit, share_fits, segments_fit, may_leave, may_end};
-ghost use Rattle.dp_check.specs.Diagnoses.{Is, Says, first_held, measured, measured_at, rule_of, segs_in, share_in};
+ghost use Rattle.dp_check.specs.Diagnoses.{Is, Says, first_held, measured, measured_at, rule_of, segs_in, share_in, start_of, wanted_of};
 
 use crate::entailing::{fact_entails, share_entails};
-use crate::reason::Measure::{self, First, Headroom, Last, Tailroom};
 use crate::reason::Reason;
-use dp_model::{Env, Fact, HEAD_SOLE, Instr, LOOSE, MAX_SEGMENTS, PacketRegister, Row, SOLE};
+use dp_model::{
+    Env, Fact, HEAD_SOLE, Instr, LOOSE, MAX_SEGMENTS, Measure, NumberRegister, PacketRegister, Row,
+    SOLE, Target, Written,
+};
 
 /// The reason, if the environment does not have the pool, the table or the ring that is named.
 pub(crate) fn check_index(env: &Env, instr: Instr) -> Option<Reason>
@@ -47,11 +49,12 @@ pub(crate) fn check_index(env: &Env, instr: Instr) -> Option<Reason>
     }
 }
 
-/// The reason, if a packet register is empty.
-fn check_register(row: &Row, packet: PacketRegister) -> Option<Reason>
-    ensures { MatchOption result (is_held row.now packet ≡ true)
-        (λ reason. (is_held row.now packet ≡ false) × (reason ≡ Reason.NotHeld packet)) }
+/// The reason, if a packet register is named and is empty.
+fn check_register(row: &Row, named: Option<PacketRegister>) -> Option<Reason>
+    ensures { MatchOption result (list_all (is_held row.now) (option_to_list named) ≡ true)
+        (λ reason. Is named (λ packet. (is_held row.now packet ≡ false) × (reason ≡ Reason.NotHeld packet))) }
 {
+    let packet = named?;
     match row.fact(packet) {
         Fact::Held { .. } => None,
         Fact::Empty => Some(Reason::NotHeld { packet }),
@@ -64,28 +67,10 @@ pub(crate) fn check_held(row: &Row, instr: Instr) -> Option<Reason>
     ensures some { IfSome result (λ reason. (list_all (is_held row.now) (uses instr) ≡ false) × (rule_of reason ≡ J4)) }
     ensures says { (question : Question) (label : ℕ) → IfSome result (Says question label instr row.now) }
 {
-    match instr {
-        Instr::Free { packet }
-        | Instr::Prepend { packet, .. }
-        | Instr::Adj { packet, .. }
-        | Instr::Append { packet, .. }
-        | Instr::Trim { packet, .. }
-        | Instr::IfHead { packet, .. }
-        | Instr::IfTail { packet, .. }
-        | Instr::IfLen { packet, .. }
-        | Instr::IfLast { packet, .. }
-        | Instr::Load { packet, .. }
-        | Instr::Store { packet, .. }
-        | Instr::LoadX { packet, .. }
-        | Instr::StoreX { packet, .. }
-        | Instr::Tx { packet, .. }
-        | Instr::Enq { packet, .. } => check_register(row, packet),
-        Instr::Clone { from, .. } => check_register(row, from),
-        Instr::Chain { front, back } => match check_register(row, front) {
-            Some(reason) => Some(reason),
-            None => check_register(row, back),
-        },
-        _ => None,
+    let needs = instr.needs();
+    match check_register(row, needs.packet) {
+        Some(reason) => Some(reason),
+        None => check_register(row, needs.other),
     }
 }
 
@@ -95,26 +80,23 @@ pub(crate) fn check_target(row: &Row, instr: Instr) -> Option<Reason>
     ensures some { IfSome result (λ reason. (targets_fit row.now instr ≡ false) × (rule_of reason ≡ J5)) }
     ensures says { (question : Question) (label : ℕ) → IfSome result (Says question label instr row.now) }
 {
-    match instr {
-        Instr::Alloc { into, .. } | Instr::Clone { into, .. } => {
-            let known = row.fact(into);
+    let needs = instr.needs();
+    match needs.target? {
+        Target::Vacant(packet) => {
+            let known = row.fact(packet);
             if known.is_empty() {
                 None
             } else {
-                Some(Reason::NotEmpty {
-                    packet: into,
-                    known,
-                })
+                Some(Reason::NotEmpty { packet, known })
             }
         }
-        Instr::Chain { front, back } => {
-            if front.number() == back.number() {
-                Some(Reason::OneRegister { packet: front })
+        Target::Distinct(packet, other) => {
+            if packet.number() == other.number() {
+                Some(Reason::OneRegister { packet })
             } else {
                 None
             }
         }
-        _ => None,
     }
 }
 
@@ -131,10 +113,10 @@ fn measured(part: Measure, fact: Fact) -> u16
             last,
             ..
         } => match part {
-            Headroom => head,
-            Tailroom => tail,
-            First => first,
-            Last => last,
+            Measure::Headroom => head,
+            Measure::Tailroom => tail,
+            Measure::First => first,
+            Measure::Last => last,
         },
     }
 }
@@ -163,6 +145,16 @@ fn check_measure(
     })
 }
 
+/// The greatest value of an index, if there is one.
+fn start_of(row: &Row, index: Option<NumberRegister>) -> u64
+    ensures { result ≡ start_of row.now index }
+{
+    match index {
+        Some(index) => row.bound_of(index),
+        None => 0,
+    }
+}
+
 /// The reason, if bytes or room that the instruction takes are not there.
 pub(crate) fn check_bytes(row: &Row, instr: Instr) -> Option<Reason>
     requires held { list_all (is_held row.now) (uses instr) ≡ true }
@@ -170,57 +162,11 @@ pub(crate) fn check_bytes(row: &Row, instr: Instr) -> Option<Reason>
     ensures some { IfSome result (λ reason. (bytes_fit row.now instr ≡ false) × (rule_of reason ≡ J6)) }
     ensures says { (question : Question) (label : ℕ) → IfSome result (Says question label instr row.now) }
 {
-    match instr {
-        Instr::Prepend { packet, count } => check_measure(
-            row,
-            packet,
-            Headroom,
-            0,
-            u32::from(count),
-        ),
-        Instr::Adj { packet, count } => check_measure(row, packet, First, 0, u32::from(count)),
-        Instr::Append { packet, count } => check_measure(
-            row,
-            packet,
-            Tailroom,
-            0,
-            u32::from(count),
-        ),
-        Instr::Trim { packet, count } => check_measure(row, packet, Last, 0, u32::from(count)),
-        Instr::Load {
-            packet,
-            offset,
-            width,
-            ..
-        }
-        | Instr::Store {
-            packet,
-            offset,
-            width,
-            ..
-        } => {
-            let count = u32::from(offset) + u32::from(width.bytes());
-            check_measure(row, packet, First, 0, count)
-        }
-        Instr::LoadX {
-            packet,
-            index,
-            offset,
-            width,
-            ..
-        }
-        | Instr::StoreX {
-            packet,
-            index,
-            offset,
-            width,
-            ..
-        } => {
-            let count = u32::from(offset) + u32::from(width.bytes());
-            check_measure(row, packet, First, row.bound_of(index), count)
-        }
-        _ => None,
-    }
+    let needs = instr.needs();
+    let bytes = needs.bytes?;
+    let packet = needs.packet?;
+    let start = start_of(row, bytes.index);
+    check_measure(row, packet, bytes.part, start, bytes.count)
 }
 
 /// The maximum number of segments that a fact lets the packet have.
@@ -258,6 +204,16 @@ fn check_alone(packet: PacketRegister, known: Fact, wanted: u8) -> Option<Reason
     })
 }
 
+/// The share that is wanted of a packet with this part written.
+fn wanted_of(part: Written, known: Fact) -> u8
+    ensures { result ≡ wanted_of part (segs_in known) }
+{
+    match part {
+        Written::Head => HEAD_SOLE,
+        Written::Tail => if segs_in(known) == 1 { HEAD_SOLE } else { SOLE },
+    }
+}
+
 /// The reason, if a packet that is written may be shared.
 pub(crate) fn check_share(row: &Row, instr: Instr) -> Option<Reason>
     requires held { list_all (is_held row.now) (uses instr) ≡ true }
@@ -265,17 +221,11 @@ pub(crate) fn check_share(row: &Row, instr: Instr) -> Option<Reason>
     ensures some { IfSome result (λ reason. (share_fits row.now instr ≡ false) × (rule_of reason ≡ J7)) }
     ensures says { (question : Question) (label : ℕ) → IfSome result (Says question label instr row.now) }
 {
-    match instr {
-        Instr::Prepend { packet, .. }
-        | Instr::Store { packet, .. }
-        | Instr::StoreX { packet, .. } => check_alone(packet, row.fact(packet), HEAD_SOLE),
-        Instr::Append { packet, .. } => {
-            let known = row.fact(packet);
-            let wanted = if segs_in(known) == 1 { HEAD_SOLE } else { SOLE };
-            check_alone(packet, known, wanted)
-        }
-        _ => None,
-    }
+    let needs = instr.needs();
+    let part = needs.written?;
+    let packet = needs.packet?;
+    let known = row.fact(packet);
+    check_alone(packet, known, wanted_of(part, known))
 }
 
 /// The reason, if two packets can have too many segments together.

@@ -7,8 +7,7 @@ ghost use Rattle.dp_check.specs.Leads.{last_label, listed};
 use crate::bounds::{with_bits, with_bound, with_left_shift, with_right_shift};
 use crate::groups::{chained, cloned, freed, sent};
 use crate::packet_facts::{allocated, appended, cut_after, cut_in_front, prepended, with_least};
-use crate::reason::Measure;
-use dp_model::{Env, Instr, Lead, MAX_HOP, Row, by_instr};
+use dp_model::{Env, Instr, Lead, MAX_HOP, Measure, Row, by_instr};
 
 /// The successors of an instruction.
 #[derive(Clone, Copy, Debug, PartialEq, Eq)]

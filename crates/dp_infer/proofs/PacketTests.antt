@@ -1,5 +1,5 @@
 -- A test of a packet passes where more is known of it.
-use Rattle.std.proofs.Common.{◌≡◌, ℕ, zero, suc, ◌+◌, ◌≤◌, Bool, true, false, ◌&&◌, ◌||◌, ◌==◌, List, [], ◌∷◌, Option, Some, None, refl, arith, ⊎_elim}
+use Rattle.std.proofs.Common.{◌≡◌, ℕ, zero, suc, ◌≤◌, Bool, true, false, ◌&&◌, ◌||◌, ◌==◌, List, [], ◌∷◌, Option, Some, None, refl, arith, ⊎_elim}
 use Rattle.std.specs.Prelude.{nat_le, is_some, slice_get}
 use Rattle.std.specs.List.{AllZip, list_all}
 use Rattle.std.specs.Option.{option_map_or}
@@ -10,8 +10,13 @@ use Rattle.dp_model.specs.declared.row.Fact.TheVariants.{Empty, Held}
 use Rattle.dp_model.specs.declared.row.Row.{Row}
 use Rattle.dp_model.specs.declared.registers.Operand.TheVariants.{Register}
 use Rattle.dp_model.specs.declared.row.Holding.{Holding}
-use Rattle.dp_model.specs.Rows.{holding, held_at, bound, is_empty, entails_option}
-use Rattle.dp_model.specs.Rules.{holds_with, is_held, is_empty_at}
+use Rattle.dp_model.specs.Rows.{holding, held_at, is_empty, entails_option}
+use Rattle.dp_model.specs.declared.needs.Bytes.{Bytes}
+use Rattle.dp_model.specs.declared.needs.Measure.{Measure}
+use Rattle.dp_model.specs.declared.needs.Measure.TheVariants.{Headroom, Tailroom, First, Last}
+use Rattle.dp_model.specs.declared.needs.Written.{Written}
+use Rattle.dp_model.specs.declared.needs.Written.TheVariants.{Head, Tail}
+use Rattle.dp_model.specs.Rules.{holds_with, is_held, is_empty_at, size_of, beyond, has_bytes, owns}
 use Rattle.dp_infer.proofs.Sharing.{sole_more, owns_more}
 use Rattle.dp_infer.proofs.Stronger.{StrongerHolding, StrongerOption, StrongerFact, Stronger, both_are, stronger_option, option_test, option_further}
 use Rattle.dp_infer.proofs.Registers.{bound_at, held_both}
@@ -32,11 +37,12 @@ pub holds_keeps : (a b : Row) (p : ℕ) (test test' : Holding → Bool) → Stro
 holds_keeps a b p test test' s fits each e =
     holds_go test test' (held_at a p) (held_at b p) (held_both a b p s) (λ h k is. each h k (facts_segs a.facts p h (facts_fit a fits) is)) e
 
--- a measure that the stronger row says at least as much of
-pub least_keeps : (a b : Row) (p n : ℕ) (size : Holding → ℕ) → ((h k : Holding) → StrongerHolding h k → size k ≤ size h) → Stronger a b → AreWellFormed a →
-    holds_with b p (λ h. nat_le n (size h)) ≡ true → holds_with a p (λ h. nat_le n (size h)) ≡ true
-least_keeps a b p n size more s fits e = holds_keeps a b p (λ h. nat_le n (size h)) (λ h. nat_le n (size h)) s fits
-    (λ h k some m t. le-leb n (size h) (omega (arith, leb-true n (size k) t, more h k m))) e
+-- where the packet is in the register, if there is one
+pub packet_keeps : (a b : Row) (o : Option ℕ) (test test' : Holding → Bool) → Stronger a b → AreWellFormed a
+    → ((h k : Holding) → 1 ≤ h.segs → StrongerHolding h k → test' k ≡ true → test h ≡ true)
+    → option_map_or (λ p. holds_with b p test') o true ≡ true → option_map_or (λ p. holds_with a p test) o true ≡ true
+packet_keeps a b None test test' s fits each e = e
+packet_keeps a b (Some p) test test' s fits each e = holds_keeps a b p test test' s fits each e
 
 pub below_keeps : (m m' n : ℕ) → m ≤ m' → nat_le m' n ≡ true → nat_le m n ≡ true
 below_keeps m m' n le e = le-leb m n (omega (arith, leb-true m' n e))
@@ -81,21 +87,27 @@ all_empty_keeps x y o e = absurd o
 
 -- ---- bytes, sole buffers and rings
 
--- at an offset with a register added
-pub from_keeps : (a b : Row) (p x off n : ℕ) → Stronger a b → AreWellFormed a
-    → holds_with b p (λ h. nat_le (bound b (Register x) + off + n) h.first) ≡ true → holds_with a p (λ h. nat_le (bound a (Register x) + off + n) h.first)
-    ≡ true
-from_keeps a b p x off n s fits e =
-    holds_keeps a b p (λ h. nat_le (bound a (Register x) + off + n) h.first) (λ h. nat_le (bound b (Register x) + off + n) h.first) s fits
-    (λ h k some m t. le-leb (bound a (Register x) + off + n) h.first (omega (
-      arith,
-      bound_at a b (Register x) s,
-      m.first,
-      leb-true (bound b (Register x) + off + n) k.first t,
-    ))) e
+size_more : (part : Measure) (h k : Holding) → StrongerHolding h k → size_of part k ≤ size_of part h
+size_more Headroom h k m = m.head
+size_more Tailroom h k m = m.tail
+size_more First h k m = m.first
+size_more Last h k m = m.last
+
+beyond_less : (a b : Row) (index : Option ℕ) (n : ℕ) → Stronger a b → beyond a index n ≤ beyond b index n
+beyond_less a b None n s = omega arith
+beyond_less a b (Some r) n s = omega (arith, bound_at a b (Register r) s)
+
+-- there are as many bytes, or as much room
+pub bytes_test : (a b : Row) (n : Bytes) → Stronger a b → (h k : Holding) → 1 ≤ h.segs → StrongerHolding h k → has_bytes b n k ≡ true → has_bytes a n h ≡ true
+bytes_test a b n s h k some m t = le-leb (beyond a n.index n.count) (size_of n.part h) (omega (
+  arith,
+  beyond_less a b n.index n.count s,
+  size_more n.part h k m,
+  leb-true (beyond b n.index n.count) (size_of n.part k) t,
+))
 
 -- the last buffer is referred to once
-pub append_test : (h k : Holding) → 1 ≤ h.segs → StrongerHolding h k → ((k.share == 2) || ((k.share == 1) && (k.segs == 1))) ≡ true →
+append_test : (h k : Holding) → 1 ≤ h.segs → StrongerHolding h k → ((k.share == 2) || ((k.share == 1) && (k.segs == 1))) ≡ true →
     ((h.share == 2) || ((h.share == 1) && (h.segs == 1))) ≡ true
 append_test h k some m e = ⊎_elim
     (λ two. rw (eq-eqb h.share 2 (sole_more h.share k.share m.share (eqb-true k.share 2 two))) refl)
@@ -107,6 +119,11 @@ append_test h k some m e = ⊎_elim
     (λ is. rw is refl)
     (or_cases (h.share == 1) (h.share == 2) (owns_more h.share k.share m.share (rw first refl))))
     (or_cases (k.share == 2) ((k.share == 1) && (k.segs == 1)) e)
+
+-- the part that is written has one reference
+pub owned_test : (part : Written) (h k : Holding) → 1 ≤ h.segs → StrongerHolding h k → owns part k ≡ true → owns part h ≡ true
+owned_test Head h k some m t = owns_more h.share k.share m.share t
+owned_test Tail h k some m t = append_test h k some m t
 
 pub ring_keeps : (a b : Row) (p : ℕ) (declared : Option Fact) → Stronger a b
     → option_map_or (λ fact. entails_option (held_at b p) (holding fact)) declared false ≡ true →

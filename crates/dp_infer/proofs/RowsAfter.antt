@@ -1,7 +1,8 @@
 -- An instruction on a stronger row needs no more, and leads to rows that are stronger.
-use Rattle.std.proofs.Common.{◌≡◌, true, Bool, ℕ, suc, ◌+◌, ◌-◌, ◌*◌, ◌^◌, ◌<◌, ◌≤◌, ◌||◌, ◌&&◌, ◌==◌, max, List, [], ◌∷◌, length, Some, refl, arith}
+use Rattle.std.proofs.Common.{◌≡◌, true, Bool, ℕ, suc, ◌+◌, ◌-◌, ◌*◌, ◌^◌, ◌<◌, ◌≤◌, max, List, [], ◌∷◌, length, Option, Some, None, refl, arith}
 use Rattle.std.specs.Prelude.{nat_le, nat_lt}
 use Rattle.std.specs.List.{AllZip, list_all}
+use Rattle.std.specs.Option.{option_map_or}
 use Rattle.std.proofs.lemmas.Bool.{lt-ltb, and_parts}
 use Rattle.dp_model.specs.declared.row.Row.{Row}
 use Rattle.dp_model.specs.declared.row.Lead.{Lead}
@@ -14,45 +15,46 @@ use Rattle.dp_model.specs.Environments.{Environment, room_at}
 use Rattle.dp_model.specs.declared.row.Holding.{Holding}
 use Rattle.dp_model.specs.Jumps.{label_of}
 use Rattle.dp_model.specs.Rows.{holding, bound, with_fact, with_bound, changed, after_clone, after_prepend, after_adj, after_append, after_trim}
-use Rattle.dp_model.specs.Rows.{after_alloc, onward, fork, leads, after_free, after_leave, after_chained, fact_of_ring, owns_head}
-use Rattle.dp_model.specs.Rules.{holds_with, targets_fit, bytes_fit, share_fits, segments_fit, may_leave, may_end}
+use Rattle.dp_model.specs.Rows.{after_alloc, onward, fork, leads, after_free, after_leave, after_chained, fact_of_ring}
+use Rattle.dp_model.specs.declared.needs.Bytes.{Bytes}
+use Rattle.dp_model.specs.declared.needs.Target.{Target}
+use Rattle.dp_model.specs.declared.needs.Target.TheVariants.{Vacant, Distinct}
+use Rattle.dp_model.specs.declared.needs.Written.{Written}
+use Rattle.dp_model.specs.Needs.{needs}
+use Rattle.dp_model.specs.Rules.{holds_with, packet_passes, target_fits, targets_fit, has_bytes, bytes_fit, owns, share_fits, segments_fit, may_leave, may_end}
 use Rattle.dp_model.specs.Laws.Calculations.{Calculation, Sets, Jumps, GoesTo, Finds, Handles_packets, calculates, calculation_of}
 use Rattle.dp_model.specs.Laws.Groups.{sole_no_group}
 use Rattle.dp_infer.proofs.Stronger.{StrongerHolding, Stronger, holding_same, both_are}
 use Rattle.dp_infer.proofs.Registers.{bound_at, bound_set, fact_set}
 use Rattle.dp_infer.proofs.Changes.{AreWellFormed, changed_keeps, single_more, clone_keeps, free_keeps, leave_keeps', chain_keeps}
-use Rattle.dp_infer.proofs.Sharing.{keeps_out, owns_more}
-use Rattle.dp_infer.proofs.PacketTests.{holds_keeps, least_keeps, below_keeps, empty_at_keeps, all_empty_keeps, from_keeps, append_test, ring_keeps}
+use Rattle.dp_infer.proofs.Sharing.{keeps_out}
+use Rattle.dp_infer.proofs.PacketTests.{holds_keeps, packet_keeps, bytes_test, owned_test, below_keeps, empty_at_keeps, all_empty_keeps, ring_keeps}
 
 -- ---- what the rules ask
 
+target_keeps : (a b : Row) (o : Option Target) → Stronger a b → option_map_or (target_fits b) o true ≡ true → option_map_or (target_fits a) o true ≡ true
+target_keeps a b None s e = e
+target_keeps a b (Some (Vacant p)) s e = empty_at_keeps a b p s e
+target_keeps a b (Some (Distinct p q)) s e = e
+
 pub targets_keep : (a b : Row) (i : Instr) → Stronger a b → targets_fit b i ≡ true → targets_fit a i ≡ true
-targets_keep a b (Alloc p pool l) s e = empty_at_keeps a b p s e
-targets_keep a b (Clone p q pool l) s e = empty_at_keeps a b p s e
-targets_keep a b (Chain p q) s e = e
-targets_keep a b _ s e = refl
+targets_keep a b i s e = target_keeps a b (needs i).target s e
+
+bytes_enough : (a b : Row) (i : Instr) (o : Option Bytes) → Stronger a b → AreWellFormed a
+    → option_map_or (λ n. packet_passes b i (has_bytes b n)) o true ≡ true → option_map_or (λ n. packet_passes a i (has_bytes a n)) o true ≡ true
+bytes_enough a b i None s fits e = e
+bytes_enough a b i (Some n) s fits e = packet_keeps a b (needs i).packet (has_bytes a n) (has_bytes b n) s fits (bytes_test a b n s) e
 
 pub bytes_keep : (a b : Row) (i : Instr) → Stronger a b → AreWellFormed a → bytes_fit b i ≡ true → bytes_fit a i ≡ true
-bytes_keep a b (Prepend p n) s fits e = least_keeps a b p n (λ h. h.head) (λ h k m. m.head) s fits e
-bytes_keep a b (Adj p n) s fits e = least_keeps a b p n (λ h. h.first) (λ h k m. m.first) s fits e
-bytes_keep a b (Append p n) s fits e = least_keeps a b p n (λ h. h.tail) (λ h k m. m.tail) s fits e
-bytes_keep a b (Trim p n) s fits e = least_keeps a b p n (λ h. h.last) (λ h k m. m.last) s fits e
-bytes_keep a b (Load r p off w) s fits e = least_keeps a b p (off + bytes_in w) (λ h. h.first) (λ h k m. m.first) s fits e
-bytes_keep a b (Store p off w r) s fits e = least_keeps a b p (off + bytes_in w) (λ h. h.first) (λ h k m. m.first) s fits e
-bytes_keep a b (LoadX r p x off w) s fits e = from_keeps a b p x off (bytes_in w) s fits e
-bytes_keep a b (StoreX p x off w r) s fits e = from_keeps a b p x off (bytes_in w) s fits e
-bytes_keep a b _ s fits e = refl
+bytes_keep a b i s fits e = bytes_enough a b i (needs i).bytes s fits e
+
+part_owned : (a b : Row) (i : Instr) (o : Option Written) → Stronger a b → AreWellFormed a
+    → option_map_or (λ part. packet_passes b i (owns part)) o true ≡ true → option_map_or (λ part. packet_passes a i (owns part)) o true ≡ true
+part_owned a b i None s fits e = e
+part_owned a b i (Some part) s fits e = packet_keeps a b (needs i).packet (owns part) (owns part) s fits (owned_test part) e
 
 pub share_keeps : (a b : Row) (i : Instr) → Stronger a b → AreWellFormed a → share_fits b i ≡ true → share_fits a i ≡ true
-share_keeps a b (Prepend p n) s fits e = holds_keeps a b p (λ h. owns_head h.share) (λ h. owns_head h.share) s fits
-    (λ h k some m t. owns_more h.share k.share m.share t) e
-share_keeps a b (Store p off w r) s fits e = holds_keeps a b p (λ h. owns_head h.share) (λ h. owns_head h.share) s fits
-    (λ h k some m t. owns_more h.share k.share m.share t) e
-share_keeps a b (StoreX p x off w r) s fits e = holds_keeps a b p (λ h. owns_head h.share) (λ h. owns_head h.share) s fits
-    (λ h k some m t. owns_more h.share k.share m.share t) e
-share_keeps a b (Append p n) s fits e =
-    holds_keeps a b p (λ h. (h.share == 2) || ((h.share == 1) && (h.segs == 1))) (λ h. (h.share == 2) || ((h.share == 1) && (h.segs == 1))) s fits append_test e
-share_keeps a b _ s fits e = refl
+share_keeps a b i s fits e = part_owned a b i (needs i).written s fits e
 
 pub segments_keep : (a b : Row) (i : Instr) → Stronger a b → AreWellFormed a → segments_fit b i ≡ true → segments_fit a i ≡ true
 segments_keep a b (Chain p q) s fits e =

@@ -11,6 +11,7 @@ pub mod Laws
 pub mod Limits
 pub mod Machine
 pub mod Meaning
+pub mod Needs
 pub mod Packets
 pub mod Prefixes
 pub mod Rows

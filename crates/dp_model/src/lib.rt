@@ -16,6 +16,7 @@ mod env;
 mod instr;
 mod laws;
 mod limits;
+mod needs;
 mod packet;
 mod queue;
 mod registers;
@@ -37,6 +38,7 @@ pub use limits::{
     DEFAULT_HEADROOM, MAX_BUFFERS, MAX_CACHED, MAX_HOP, MAX_RING, MAX_ROOM, MAX_SEGMENTS,
     MIN_PORT_ROOM,
 };
+pub use needs::{Bytes, Measure, Needs, Target, Written};
 pub use packet::Packet;
 pub use queue::Queue;
 pub use registers::{NumberRegister, Operand, PacketRegister, Width};

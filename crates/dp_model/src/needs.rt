@@ -1,0 +1,129 @@
+//! What each instruction needs of the row before it: one table.
+
+ghost use Rattle.std.specs.Prelude.{◌≡◌};
+ghost use Rattle.dp_model.specs.Needs.{amount, bytes_at, needs, packet_in};
+
+use crate::by_instr;
+use crate::instr::Instr;
+use crate::needs::Measure::{First, Headroom, Last, Tailroom};
+use crate::registers::{NumberRegister, PacketRegister, Width};
+
+/// What an instruction takes of a packet, in bytes.
+#[derive(Clone, Copy, Debug, PartialEq, Eq)]
+pub enum Measure {
+    /// The room before the first segment's data.
+    Headroom,
+    /// The room after the last segment's data.
+    Tailroom,
+    /// The length of the first segment.
+    First,
+    /// The length of the last segment.
+    Last,
+}
+
+/// So many bytes of a packet, or so much room in it: `count`, beyond the greatest value of the index if there is one.
+#[derive(Clone, Copy, Debug, PartialEq, Eq)]
+pub struct Bytes {
+    pub part: Measure,
+    pub index: Option<NumberRegister>,
+    pub count: u32,
+}
+
+/// What is needed of the register that gets a packet, or of the registers of two packets.
+#[derive(Clone, Copy, Debug, PartialEq, Eq)]
+pub enum Target {
+    /// This register is empty.
+    Vacant(PacketRegister),
+    /// These registers differ.
+    Distinct(PacketRegister, PacketRegister),
+}
+
+/// Which part of a packet is written, and so must have one reference.
+#[derive(Clone, Copy, Debug, PartialEq, Eq)]
+pub enum Written {
+    /// The first segment.
+    Head,
+    /// The last segment.
+    Tail,
+}
+
+/// What an instruction needs of the row before it.
+#[derive(Clone, Copy, Debug, PartialEq, Eq)]
+pub struct Needs {
+    /// This register holds a packet.
+    pub packet: Option<PacketRegister>,
+    /// This one does too.
+    pub other: Option<PacketRegister>,
+    /// This holds of the target, or of the two registers.
+    pub target: Option<Target>,
+    /// The first packet has these bytes, or this room.
+    pub bytes: Option<Bytes>,
+    /// This part of the first packet has one reference.
+    pub written: Option<Written>,
+}
+
+/// What an instruction that handles no packet needs.
+const NOTHING: Needs = Needs {
+    packet: None,
+    other: None,
+    target: None,
+    bytes: None,
+    written: None,
+};
+
+/// A packet in this register.
+fn packet_in(packet: PacketRegister) -> Needs
+    ensures { result ≡ packet_in packet }
+{
+    Needs {
+        packet: Some(packet),
+        ..NOTHING
+    }
+}
+
+/// So much of this part.
+fn amount(part: Measure, count: u16) -> Option<Bytes>
+    ensures { result ≡ amount part count }
+{
+    Some(Bytes {
+        part,
+        index: None,
+        count: u32::from(count),
+    })
+}
+
+/// The bytes of a load or a store at this offset.
+fn bytes_at(index: Option<NumberRegister>, offset: u16, width: Width) -> Option<Bytes>
+    ensures { result ≡ bytes_at index offset width }
+{
+    Some(Bytes {
+        part: First,
+        index,
+        count: u32::from(offset) + u32::from(width.bytes()),
+    })
+}
+
+impl Instr {
+    /// What the instruction needs of the row before it.
+    #[inline(always)]
+    pub fn needs(self) -> Needs
+        ensures { result ≡ needs self }
+    {
+        by_instr! { self;
+            Alloc: { into, .. } => Needs { target: Some(Target::Vacant(into)), ..NOTHING };
+            Clone: { into, from, .. } => Needs { target: Some(Target::Vacant(into)), ..packet_in(from) };
+            Free | IfHead | IfTail | IfLen | IfLast | Tx | Enq: { packet, .. } => packet_in(packet);
+            Prepend: { packet, count } => Needs { bytes: amount(Headroom, count), written: Some(Written::Head), ..packet_in(packet) };
+            Adj: { packet, count } => Needs { bytes: amount(First, count), ..packet_in(packet) };
+            Append: { packet, count } => Needs { bytes: amount(Tailroom, count), written: Some(Written::Tail), ..packet_in(packet) };
+            Trim: { packet, count } => Needs { bytes: amount(Last, count), ..packet_in(packet) };
+            Chain: { front, back } => Needs { other: Some(back), target: Some(Target::Distinct(front, back)), ..packet_in(front) };
+            Load: { packet, offset, width, .. } => Needs { bytes: bytes_at(None, offset, width), ..packet_in(packet) };
+            Store: { packet, offset, width, .. } => Needs { bytes: bytes_at(None, offset, width), written: Some(Written::Head), ..packet_in(packet) };
+            LoadX: { packet, index, offset, width, .. } => Needs { bytes: bytes_at(Some(index), offset, width), ..packet_in(packet) };
+            StoreX: { packet, index, offset, width, .. } =>
+                Needs { bytes: bytes_at(Some(index), offset, width), written: Some(Written::Head), ..packet_in(packet) };
+            Set | Mov | Add | Sub | And | Or | Xor | Shl | Shr | Jmp | Jeq | Jlt | Lookup | Exit: { .. } => NOTHING;
+        }
+    }
+}
