@@ -16,11 +16,11 @@ use Rattle.dp_model.specs.Meaning.{IsShared, FactHolds, Known}
 use Rattle.dp_model.specs.Laws.Groups.{sole_no_group, loose_no_group, dissolved_is, least_belongs}
 use Rattle.dp_model.proofs.Sharing.{groups_gone, groups_renamed}
 use Rattle.dp_model.specs.Laws.Cases.{by_cases}
+use Rattle.dp_model.specs.Laws.References.{says_nothing, says_each}
 
 -- a group's share says nothing of one packet alone
 far_shared : (live : List Segment) (n : ℕ) (k : Packet) → 3 ≤ n → IsShared live n k
-far_shared live (suc (suc (suc n))) k le = tt
-far_shared live x k le = absurd (omega arith)
+far_shared live n k le = record { first = λ e. absurd (omega (arith, e)); each = λ e. absurd (omega (arith, e)) }
 
 pub of_group : (live : List Segment) (m : ℕ) (k : Packet) → IsShared live (share_of_group m) k
 of_group live m k = far_shared live (8 + m) k (omega arith)
@@ -71,7 +71,7 @@ known_dissolved c row s p known = go (group_at row p) refl
     go None e = subst (λ r. Known c r s) (sym (dissolved_is row p None e)) known
     go (Some g) e =
         subst (λ r. Known c r s) (sym (dissolved_is row p (Some g) e))
-        (known_reshared c row s g 0 known (λ i k inside at. tt) (groups_gone (live s) row.facts s.packets g 0 loose_no_group known.row_holds.groups))
+        (known_reshared c row s g 0 known (λ i k inside at. says_nothing) (groups_gone (live s) row.facts s.packets g 0 loose_no_group known.row_holds.groups))
 
 -- ---- names: what remains of a group gets its least register's name, or that of a register that belongs to no group
 pub known_renamed : (c : Setting) (row : Row) (s : State) (g : ℕ) → Known c row s →
@@ -96,11 +96,13 @@ known_renamed c row s g known free = by_cases (group_size row.facts g == 1) alon
     alone : (group_size row.facts g == 1) ≡ true → Known c (renamed row g) s
     alone e =
         subst (λ n. Known c (with_shares row g n) s) (sym (ap (λ b. cond b 2 (option_map_or share_of_group (least_member row.facts g) 0)) e))
-        (known_reshared c row s g 2 known (sole (eqb-true (group_size row.facts g) 1 e))
+        (known_reshared c row s g 2 known (λ i k inside at. says_each (sole (eqb-true (group_size row.facts g) 1 e) i k inside at))
         (groups_gone (live s) row.facts s.packets g 2 sole_no_group known.row_holds.groups))
 
     several : (o : Option ℕ) → least_member row.facts g ≡ o → Known c (with_shares row g (option_map_or share_of_group o 0)) s
-    several None e = known_reshared c row s g 0 known (λ i k inside at. tt) (groups_gone (live s) row.facts s.packets g 0 loose_no_group known.row_holds.groups)
+    several None e =
+        known_reshared c row s g 0 known (λ i k inside at. says_nothing)
+        (groups_gone (live s) row.facts s.packets g 0 loose_no_group known.row_holds.groups)
     several (Some m) e =
         known_reshared c row s g (share_of_group m) known (λ i k inside at. of_group (live s) m k)
         (groups_renamed (live s) row.facts s.packets g m (free m (least_belongs row.facts g m e)) known.row_holds.groups)

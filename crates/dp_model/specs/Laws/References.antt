@@ -74,11 +74,29 @@ sole_kept live live' k (s ∷ rest) keeps part h =
 
 -- so facts about its share stay true
 pub share_kept : (live live' : List Segment) (share : ℕ) (packet : Packet) → Keeps live live' packet → IsShared live share packet → IsShared live' share packet
-share_kept live live' zero packet keeps h = tt
-share_kept live live' (suc zero) [] keeps h = tt
-share_kept live live' (suc zero) (s ∷ rest) keeps h = keeps s.buffer (refs_first s rest) h
-share_kept live live' (suc (suc zero)) packet keeps h = sole_kept live live' packet packet keeps (λ b m. m) h
-share_kept live live' (suc (suc (suc share))) packet keeps h = tt
+share_kept live live' share packet keeps h = record {
+  first = λ e. first_kept packet keeps (h.first e);
+  each = λ e. sole_kept live live' packet packet keeps (λ b m. m) (h.each e);
+}
+  where
+    first_kept : (packet : Packet) → Keeps live live' packet → IsHeadSole live packet → IsHeadSole live' packet
+    first_kept [] keeps h = tt
+    first_kept (s ∷ rest) keeps h = keeps s.buffer (refs_first s rest) h
+
+-- where each buffer has one reference, the first has
+pub sole_first : (live : List Segment) (k : Packet) → IsSole live k → IsHeadSole live k
+sole_first live [] h = tt
+sole_first live (s ∷ rest) h = h.0
+
+-- what each share takes: loose takes nothing, head sole the first buffer's one reference, sole that of each
+pub says_nothing : {live : List Segment} {k : Packet} → IsShared live 0 k
+says_nothing = record { first = λ e. absurd (omega (arith, e)); each = λ e. absurd (omega (arith, e)) }
+
+pub says_first : {live : List Segment} {k : Packet} → IsHeadSole live k → IsShared live 1 k
+says_first h = record { first = λ e. h; each = λ e. absurd (omega (arith, e)) }
+
+pub says_each : {live : List Segment} {k : Packet} → IsSole live k → IsShared live 2 k
+says_each h = record { first = λ e. absurd (omega (arith, e)); each = λ e. h }
 
 -- there is no reference to a free number
 pub free_zero : (live : List Segment) (n : Number) → is_free live n ≡ true → refs live n ≡ 0
