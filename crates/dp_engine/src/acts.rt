@@ -1,14 +1,14 @@
 //! Instructions whose effect depends on what a call of the machine returned: allocation, packets that leave, and look-ups.
-ghost use Rattle.std.specs.Prelude.{◌≡◌, ◌+◌, ◌^◌, ◌<◌, Bool, List, [], option_map, slice_index, IfSome, IsSome};
+ghost use Rattle.std.specs.Prelude.{◌≡◌, ◌+◌, ◌^◌, ◌<◌, Bool, List, [], slice_index, IsSome};
 ghost use Rattle.dp_model.specs.declared.instr.Instr.TheVariants.{Alloc, Clone, Lookup};
 ghost use Rattle.dp_model.specs.declared.queue.Queue.TheVariants.{Tx};
 ghost use Rattle.dp_model.specs.Machine.{Move, Acts, Leaves};
 ghost use Rattle.dp_engine.specs.Steps.{setting_in, move_to, label_after, FitsIn, IsOnOrTo};
 
-use crate::control::{Control, branch};
 use crate::machine::Machine;
 use crate::route_lookup::hop_in;
 use crate::setting::Setting;
+use crate::watch::{Way, branch};
 use dp_model::{NumberRegister, PacketRegister, Queue};
 
 // Allocates a packet, or goes to the label if that is refused.
@@ -20,14 +20,14 @@ pub(crate) fn alloc(
     pool: u8,
     refused: u16,
     label: usize,
-) -> Option<Control>
+) -> Way
     requires has { (move : Move) × Acts (setting_in setting.now) label m.old.state (Alloc into pool refused) move }
     requires few { m.old.state.world.calls + 1 < 2 ^ 64 }
     requires pools { m.old.pools ≡ setting.now.env.pools }
     ensures acts { (answers : List Bool) × Acts (setting_in setting.now) label m.old.state (Alloc into pool refused)
-        (move_to (option_map (label_after label) result) answers m.new.state) }
-    ensures goes { IsSome result }
-    ensures names { IfSome result (IsOnOrTo refused) }
+        (move_to (label_after label result) answers m.new.state) }
+    ensures goes { IsSome (label_after label result) }
+    ensures names { IsOnOrTo refused result }
     ensures pools { m.new.pools ≡ m.old.pools }
     ensures frames { m.new.frames ≡ m.old.frames }
 {
@@ -44,14 +44,14 @@ pub(crate) fn clone_of(
     pool: u8,
     refused: u16,
     label: usize,
-) -> Option<Control>
+) -> Way
     requires has { (move : Move) × Acts (setting_in setting.now) label m.old.state (Clone into from pool refused) move }
     requires few { m.old.state.world.calls + 1 < 2 ^ 64 }
     requires pools { m.old.pools ≡ setting.now.env.pools }
     ensures acts { (answers : List Bool) × Acts (setting_in setting.now) label m.old.state (Clone into from pool refused)
-        (move_to (option_map (label_after label) result) answers m.new.state) }
-    ensures goes { IsSome result }
-    ensures names { IfSome result (IsOnOrTo refused) }
+        (move_to (label_after label result) answers m.new.state) }
+    ensures goes { IsSome (label_after label result) }
+    ensures names { IsOnOrTo refused result }
     ensures pools { m.new.pools ≡ m.old.pools }
     ensures frames { m.new.frames ≡ m.old.frames }
 {
@@ -67,12 +67,12 @@ pub(crate) fn leave(
     queue: Queue,
     full: u16,
     label: usize,
-) -> Option<Control>
+) -> Way
     requires fits { FitsIn _setting.now.env m.old.frames }
     requires has { (move : Move) × Leaves _setting.now.env label m.old.state packet queue full move }
-    ensures acts { Leaves _setting.now.env label m.old.state packet queue full (move_to (option_map (label_after label) result) [] m.new.state) }
-    ensures goes { IsSome result }
-    ensures names { IfSome result (IsOnOrTo full) }
+    ensures acts { Leaves _setting.now.env label m.old.state packet queue full (move_to (label_after label result) [] m.new.state) }
+    ensures goes { IsSome (label_after label result) }
+    ensures names { IsOnOrTo full result }
     ensures pools { m.new.pools ≡ m.old.pools }
     ensures frames { m.new.frames ≡ m.old.frames }
 {
@@ -88,13 +88,13 @@ pub(crate) fn send(
     port: NumberRegister,
     full: u16,
     label: usize,
-) -> Option<Control>
+) -> Way
     requires fits { FitsIn setting.now.env m.old.frames }
     requires has { (move : Move) × Leaves setting.now.env label m.old.state packet (Tx (slice_index m.old.state.numbers port)) full move }
     ensures acts { Leaves setting.now.env label m.old.state packet (Tx (slice_index m.old.state.numbers port)) full
-        (move_to (option_map (label_after label) result) [] m.new.state) }
-    ensures goes { IsSome result }
-    ensures names { IfSome result (IsOnOrTo full) }
+        (move_to (label_after label result) [] m.new.state) }
+    ensures goes { IsSome (label_after label result) }
+    ensures names { IsOnOrTo full result }
     ensures pools { m.new.pools ≡ m.old.pools }
     ensures frames { m.new.frames ≡ m.old.frames }
 {
@@ -118,20 +118,20 @@ pub(crate) fn look_up(
     address: NumberRegister,
     missed: u16,
     label: usize,
-) -> Option<Control>
+) -> Way
     requires has { (move : Move) × Acts (setting_in setting.now) label m.old.state (Lookup into table address missed) move }
     ensures acts { (answers : List Bool) × Acts (setting_in setting.now) label m.old.state (Lookup into table address missed)
-        (move_to (option_map (label_after label) result) answers m.new.state) }
-    ensures goes { IsSome result }
-    ensures names { IfSome result (IsOnOrTo missed) }
+        (move_to (label_after label result) answers m.new.state) }
+    ensures goes { IsSome (label_after label result) }
+    ensures names { IsOnOrTo missed result }
     ensures pools { m.new.pools ≡ m.old.pools }
     ensures frames { m.new.frames ≡ m.old.frames }
 {
     match hop_in(setting.tables(), table, m.number(address)) {
         Some(hop) => {
             m.set(into, u64::from(hop));
-            Some(Control::On)
+            Way::On
         }
-        None => Some(Control::To(missed)),
+        None => Way::To(missed),
     }
 }

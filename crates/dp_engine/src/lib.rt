@@ -39,7 +39,6 @@ mod batch;
 mod builder;
 mod compiled_programs;
 mod context;
-mod control;
 mod copying;
 mod engine;
 mod machine;

@@ -1,4 +1,7 @@
-//! Watchers of node runs.
+//! Where control goes after an instruction, and watchers of node runs.
+ghost use Rattle.std.specs.Prelude.{◌≡◌, ◌+◌, Some, if◌then◌else◌};
+ghost use Rattle.dp_engine.specs.Steps.{label_after, IsOnOrTo};
+
 use crate::view::View;
 use dp_model::Entry;
 
@@ -13,6 +16,15 @@ pub enum Way {
     Out,
     /// Nowhere: its jump is the first backward one beyond the budget, so the node run is cut.
     Cut,
+}
+
+// Jumps to the label if the test passes, else goes on.
+#[inline(always)]
+pub(crate) fn branch(test: bool, to: u16, label: usize) -> Way
+    ensures leads { label_after label result ≡ Some (if test then to else label + 1) }
+    ensures names { IsOnOrTo to result }
+{
+    if test { Way::To(to) } else { Way::On }
 }
 
 /// Watches node runs, instruction by instruction.
