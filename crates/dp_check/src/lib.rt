@@ -9,9 +9,9 @@
 //! What not to do: do not use a `Checked` in another environment or at another entry than its own (`env`, `entry`). `leads_of` and `entails` are
 //! parts of the rules, public for the inferrer; they decide nothing.
 //!
-//! Where each rule is: `diagnosis.rt` has J1 and J2 and goes through the labels, `rules.rt` applies J3 to J11 to one label, `requirements.rt` has
-//! what each kind of instruction needs for J3 to J10, and `transfer.rt` where it leads and which facts hold there. The definitions are in dp_model,
-//! `specs/Rules.antt` and `specs/Rows.antt`.
+//! Where each rule is: `diagnosis.rt` has J1 and J2 and goes through the labels, `rules.rt` applies J3 to J11 to one label, `requirements.rt` tests
+//! what an instruction needs for J3 to J10, by the table `needs` of dp_model for J4 to J7, and `transfer.rt` has where it leads and which facts hold
+//! there. The definitions are in dp_model, `specs/Rules.antt`, `specs/Needs.antt` and `specs/Rows.antt`.
 #![tactic(auto)]
 
 mod bounds;

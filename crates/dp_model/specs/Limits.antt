@@ -21,10 +21,6 @@ max_ring = 65536
 abbrev pub max_segments : ℕ
 max_segments = 64
 
--- the maximum length of a packet: what its segments have room for
-abbrev pub max_packet : ℕ
-max_packet = max_segments * max_room
-
 -- the headroom of a new or received packet
 abbrev pub default_headroom : ℕ
 default_headroom = 128
