@@ -3,7 +3,7 @@ import re
 from pathlib import Path as File
 
 from .headers import Headers
-from .syntax import Path, Place, Row, require
+from .syntax import THIS, Path, Place, Row, require
 
 WORD = re.compile(
     r"(?P<blank>[ \t\r]+|\#[^\n]*)|(?P<line>\n)"
@@ -24,7 +24,14 @@ CURES = {
     "!": "write `not`", ";": "no sign ends a statement", "&": "write `and`", "|": "write `or`", "-": "write x -= 1", "+": "write x += 1",
     ":": "an IPv6 address has eight groups, or :: for groups of 0", '"': "a text ends in its line", "lookup": "let x = lookup ..",
     "else": "an `else` comes after its statement", "the end of the text": "a block ends with }", "true": "write 1",
+    "[": "a list is within braces, x in {1, 2}; a byte of a header is a field", "'": "a text is within double quotes",
+    ".": "a field has no parts, and tcp.flags & 2 is a bit of one; an IPv4 address has four parts",
     "\ufeff": "save the file without this byte-order mark, which editors do not show",
+}  # fmt: skip
+# The cures where a word is wanted, and the next one, or any other, is in its place.
+CURES_OF_WANTED = {
+    "{,": "a list is within braces: x in {1, 2}", "{": "what belongs to it is within braces: { .. }",
+    "}": "a comma is between two items, and } after the last one",
 }  # fmt: skip
 
 
@@ -83,7 +90,8 @@ class Lexer:
     def take(self, wanted: str = "") -> Place:
         """The next word, which must be this one."""
         place = self.place()
-        require_word(not wanted or self.sees(wanted), place, f"{wanted!r} is wanted here, and this is {place.word!r}")
+        cure = CURES.get(place.word) or CURES_OF_WANTED.get(wanted + place.word) or CURES_OF_WANTED.get(wanted, "")
+        require(not wanted or self.sees(wanted), place, f"{wanted!r} is wanted here, and this is {place.word!r}", cure)
         self.next = min(self.next + 1, len(self.words) - 1)
         return place
 
@@ -95,7 +103,8 @@ class Lexer:
         """The next word, which must be a name."""
         at = self.place()
         is_name, is_now = self.kind == "name" and (at.word not in RESERVED or may_be_reserved), "a reserved word" if at.word in RESERVED else "none"
-        require(is_name, at, f"the name of {what} is wanted here, and {at.word!r} is {is_now}")
+        cure = "drop, which drops all packets" if at.word == THIS else "take another name" if at.word in RESERVED else ""
+        require(is_name, at, f"the name of {what} is wanted here, and {at.word!r} is {is_now}", cure)
         return self.take()
 
     def header_name(self) -> Place:

@@ -38,6 +38,8 @@ STATEMENTS: dict[str, tuple[type[Node], str]] = {
 }  # fmt: skip
 
 
+# The cure where a constant is wanted, and a number is none.
+EACH = "if x == 1 { .. } else if x == 2 { .. } has a case for each number that matters"
 # What is no number, and the cures where one is wanted.
 NO_NUMBERS = {"a set": "x in {}", "a packet": "send {} to ..", "a def": "{}(..) is a statement", "a table": "let x = lookup {} ..", "a pool": "", "a ring": ""}
 # The words that begin a declaration where a name or a text is after them; elsewhere they are names.
@@ -139,8 +141,8 @@ def combined(sign: str, left: Node, right: Node) -> Node:
     """An operation, evaluated at once if both sides are constant."""
     left, right = as_number(left), as_number(right)
     by = right.value if isinstance(right, Number) else None
-    require(sign not in ("<<", ">>") or by is not None and by < 64, right.at, "a shift goes by a constant from 0 to 63")
-    require(sign != "*" or isinstance(left, Number) or by is not None, right.at, "one side of a product is a constant")
+    require(sign not in ("<<", ">>") or by is not None and by < 64, right.at, "a shift goes by a constant from 0 to 63", EACH if by is None else "")
+    require(sign != "*" or isinstance(left, Number) or by is not None, right.at, "one side of a product is a constant", EACH)
     if isinstance(left, Number) and by is not None:
         value = OPERATORS[sign](left.value, by)
         return Number(left.at, value & BIGGEST, wraps=left.wraps or value != value & BIGGEST)
@@ -157,7 +159,8 @@ def substituted(formula: Node, value: Node) -> Node:
 def constant_of(node: Node) -> int:
     """The value of a number that must be constant."""
     if not isinstance(node, Number):
-        raise SourceError(node.at, f"a constant is wanted here, and {node.at.word!r} is none")
+        cure = f"const {node.at.word} = .. makes one" if isinstance(node, Name) and node.at.word != PORT else EACH
+        raise SourceError(node.at, f"a constant is wanted here, and {node.at.word!r} is none", cure)
     return node.value
 
 
@@ -197,6 +200,8 @@ class Parser(Lexer):
             require(kind == what, self.place(), f"{self.place().word} is a {kind}, and a {what} is wanted here")
             self.take()
             return number
+        is_known = what not in ("table", "pool", "ring") or self.kind != "name" or self.place().word in {*self.names, *RESERVED}
+        require(is_known, self.place(), f"there is no {what} {self.place().word}", f"{what} {self.place().word} = 0, before it, names one")
         at, value, limit = self.place(), self.constant(), limit or LIMITS[what]
         require(least <= value <= limit, at, f"the {what} is from {least} to {limit:,}, and this is {value:,}")
         return value
@@ -343,6 +348,7 @@ class Parser(Lexer):
                 return node
         if self.may("length"):
             return Length(at)
+        require(not self.sees("-"), at, "a number or a condition is wanted here, and this is '-'", "numbers are unsigned: 0 - 1 is 2^64 - 1")
         require_word(self.kind == "name", at, f"a number or a condition is wanted here, and this is {at.word!r}")
         return self.named(at)
 
@@ -401,7 +407,7 @@ class Parser(Lexer):
         """Refuses names that are not numbers."""
         numbers = [word for word, what in self.names.items() if what in ("a variable", "a constant")]
         for at in self.unknown:
-            cure = "write 1" if at.word == "true" else f"let {at.word} = .. makes one, to the end of its block"
+            cure = "write 1" if at.word == "true" else f"let {at.word} = .. makes one, to the end of its block, and const {at.word} = .. a constant"
             if near := get_close_matches(at.word, numbers, 1):
                 cure = f"did you mean {near[0]}? else {cure}"
             raise SourceError(at, f"{at.word} is no variable here", cure)
@@ -598,6 +604,7 @@ class Parser(Lexer):
         """An assignment to a variable or field."""
         first, fault = self.place(), f"no statement begins with {self.place().word!r}"
         is_name = self.kind == "name" and first.word not in RESERVED - {PORT}
+        require(not self.sees("}"), first, fault, "no block is open here: a { is missing before, or this } is one too many")
         require_word(is_name, first, f"a field is wanted here, and {first.word!r} is none" if mends else fault)
         target = self.operand()
         is_assigned = not isinstance(target, Name) or self.sees(*ASSIGNMENTS, "-", "+")
