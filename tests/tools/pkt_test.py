@@ -255,6 +255,8 @@ class Errors(unittest.TestCase):
             "need ipv6.src < ::1": "x.pkt:1:6: IPv6 addresses are compared with == and !=",
             "let x = ipv6.src": "x.pkt:1:9: an IPv6 address is only compared with == and !=",
             "need ipv6.src == 1::2::3": "x.pkt:1:18: 1::2::3 is no IPv6 address",
+            "if ipv4 { drop }\nelif ipv6 { drop }": "x.pkt:2:1: no statement begins with 'elif'\n    elif ipv6 { drop }\n    ^^^^\n  help: write `else if`",
+            "if eth.src == 02:00:00:00:00 { drop }": "help: an Ethernet address has six groups",
             "header o { k:32 } length v * 4 for v:8 in 1..9\nheader p { x:32 } after o if o.k == 3\nneed tcp.dport == 1 and p.x == 3":
                 "x.pkt:3:1: p is after two headers whose lengths vary",
         }

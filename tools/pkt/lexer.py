@@ -22,8 +22,8 @@ RESERVED = frozenset(
 CURES = {
     "=": "compare with ==", "/": "a prefix comes after `in`; there is no division, and >> n divides by 2^n; a comment begins with #",
     "!": "write `not`", ";": "no sign ends a statement", "&": "write `and`", "|": "write `or`", "-": "write x -= 1", "+": "write x += 1",
-    ":": "an IPv6 address has eight groups, or :: for groups of 0", '"': "a text ends in its line", "lookup": "let x = lookup ..",
-    "else": "an `else` comes after its statement", "the end of the text": "a block ends with }", "true": "write 1",
+    ":": "an Ethernet address has six groups, and an IPv6 address eight, or :: for groups of 0", '"': "a text ends in its line",
+    "lookup": "let x = lookup ..", "elif": "write `else if`", "else": "an `else` comes after its statement", "the end of the text": "a block ends with }", "true": "write 1",
     "[": "a list is within braces, x in {1, 2}; a byte of a header is a field", "'": "a text is within double quotes",
     ".": "a field has no parts, and tcp.flags & 2 is a bit of one; an IPv4 address has four parts",
     "\ufeff": "save the file without this byte-order mark, which editors do not show",

@@ -9,7 +9,7 @@ from pathlib import Path as File
 from typing import NamedTuple
 
 from .headers import Header, Headers, Span, check
-from .lexer import RESERVED, Lexer, require_word
+from .lexer import CURES, RESERVED, Lexer, require_word
 from .syntax import (
     BIGGEST, PORT, PRIME, THIS, And, Assign, Binary, Block, Chain, Clone, Compare, Count, Cut, Drop, Field, Found, Free, If, Inline, Length, Let, Lookup, Mend,
     Name, Need, New, Node, Not, Number, Numeric, Or, Path, Place, Pop, Push, Pushed, Row, Send, SourceError, Truncate, While, Wide, goes_on, parts, require,
@@ -608,7 +608,8 @@ class Parser(Lexer):
         require_word(is_name, first, f"a field is wanted here, and {first.word!r} is none" if mends else fault)
         target = self.operand()
         is_assigned = not isinstance(target, Name) or self.sees(*ASSIGNMENTS, "-", "+")
-        require(is_assigned, first, fault, f"statements begin with {', '.join(STATEMENTS)}, mend, or are assignments")
+        cure = CURES.get(first.word) or f"statements begin with {', '.join(STATEMENTS)}, mend, or are assignments"
+        require(is_assigned, first, fault, cure)
         kind = Mend if mends else Assign
         if isinstance(target, Wide) and isinstance(target.high, Field):
             self.take("=")
