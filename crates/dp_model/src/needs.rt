@@ -1,4 +1,4 @@
-//! What each instruction needs of the row before it: one table.
+//! What rules J4 to J7 ask of the row before each instruction: one table.
 
 ghost use Rattle.std.specs.Prelude.{◌≡◌};
 ghost use Rattle.dp_model.specs.Needs.{amount, bytes_at, needs, packet_in};
@@ -8,7 +8,7 @@ use crate::instr::Instr;
 use crate::needs::Measure::{First, Headroom, Last, Tailroom};
 use crate::registers::{NumberRegister, PacketRegister, Width};
 
-/// What an instruction takes of a packet, in bytes.
+/// A room or a length of a packet, in bytes.
 #[derive(Clone, Copy, Debug, PartialEq, Eq)]
 pub enum Measure {
     /// The room before the first segment's data.
@@ -21,11 +21,14 @@ pub enum Measure {
     Last,
 }
 
-/// So many bytes of a packet, or so much room in it: `count`, beyond the greatest value of the index if there is one.
+/// The bytes or the room that a packet must have.
 #[derive(Clone, Copy, Debug, PartialEq, Eq)]
 pub struct Bytes {
+    /// Which room or which length.
     pub part: Measure,
+    /// The register whose greatest value is added, if there is one.
     pub index: Option<NumberRegister>,
+    /// In bytes, 0 to 65,543: a count, or an offset and a width.
     pub count: u32,
 }
 
@@ -47,7 +50,7 @@ pub enum Written {
     Tail,
 }
 
-/// What an instruction needs of the row before it.
+/// What rules J4 to J7 ask of the row before an instruction.
 #[derive(Clone, Copy, Debug, PartialEq, Eq)]
 pub struct Needs {
     /// This register holds a packet.
@@ -81,7 +84,7 @@ fn packet_in(packet: PacketRegister) -> Needs
     }
 }
 
-/// So much of this part.
+/// This number of bytes of this part.
 fn amount(part: Measure, count: u16) -> Option<Bytes>
     ensures { result ≡ amount part count }
 {
