@@ -9,7 +9,8 @@ use Rattle.dp_model.specs.declared.instr.Instr.{Instr}
 use Rattle.std.proofs.lemmas.List.{get_or-set_same, get_or-set_other}
 use Rattle.std.proofs.lemmas.Bool.{cases_eq}
 use Rattle.dp_model.specs.Laws.Lists.{get_replicate}
-use Rattle.dp_model.specs.Jumps.{label_of, IsForward}
+use Rattle.dp_model.specs.Jumps.{IsForward}
+use Rattle.dp_model.specs.Needs.{label_of}
 use Rattle.dp_cost.specs.Costs.{goes_on, LeadsTo, jumps_back, HasWay, IsLongest, way_at, way_from}
 
 -- what never jumps back names later labels alone
@@ -29,6 +30,17 @@ pub within : {X : Type 0} (xs : List X) (k : ℕ) (x : X) → slice_get xs k ≡
 within [] k x there = absurd cc
 within (y ∷ xs) zero x there = omega arith
 within (y ∷ xs) (suc k) x there = let less = within xs k x there in omega (arith, less)
+
+-- what fails of each element before one, and of that one, fails of each before the next
+pub one_more : {X : Type 0} (f : ℕ → X → Bool) (xs : List X) (n : ℕ) (x : X) → slice_get xs n ≡ Some x → f n x ≡ false
+    → ((k : ℕ) (y : X) → k < n → slice_get xs k ≡ Some y → f k y ≡ false) → (k : ℕ) (y : X) → k < n + 1 → slice_get xs k ≡ Some y → f k y ≡ false
+one_more f xs n x here fails before k y less there =
+    ⊎_elim
+    (λ same.
+    subst (λ m. f m y ≡ false) (sym same)
+    (subst (λ z. f n z ≡ false) (same_Some x y (sym here ∙ subst (λ m. slice_get xs m ≡ Some y) same there)) fails))
+    (λ other. before k y (omega (arith, less, other)) there)
+    (cases_eq k n)
 
 -- so a way is no longer than what is left of the program
 pub way_short : (program : List Instr) (n label : ℕ) → IsForward program → HasWay program n label → n ≤ length program

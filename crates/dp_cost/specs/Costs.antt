@@ -4,7 +4,8 @@ use Rattle.std.specs.Prelude.{slice_get, slice_index}
 use Rattle.std.specs.Option.{option_map_or}
 use Rattle.dp_model.specs.declared.instr.Instr.{Instr}
 use Rattle.dp_model.specs.declared.instr.Instr.TheVariants.{Jmp, Exit}
-use Rattle.dp_model.specs.Jumps.{label_of, IsForward}
+use Rattle.dp_model.specs.Jumps.{IsForward}
+use Rattle.dp_model.specs.Needs.{label_of}
 use Rattle.dp_model.specs.Limits.{max_ring_runs}
 use Rattle.dp_model.specs.Runs.{max_steps}
 use Rattle.dp_cost.specs.declared.costs.Cost.{Cost}

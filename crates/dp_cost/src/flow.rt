@@ -1,18 +1,18 @@
 //! Where control can go from an instruction.
 
 ghost use Rattle.std.specs.Prelude.{◌≡◌, ◌≤◌, length, IfNone, IfSome};
-ghost use Rattle.dp_model.specs.Jumps.{label_of, IsForward};
+ghost use Rattle.dp_model.specs.Jumps.{IsForward};
+ghost use Rattle.dp_model.specs.Needs.{label_of};
 ghost use Rattle.dp_lang.specs.declared.program.TheConstants.{MAX_INSTRS};
 ghost use Rattle.dp_cost.specs.Costs as spec;
 
-use dp_lang::arguments_of;
 use dp_model::Instr;
 
 /// The label that an instruction names.
 pub(crate) fn target(instr: &Instr) -> Option<u16>
     ensures { result ≡ label_of instr.now }
 {
-    arguments_of(instr).label()
+    instr.needs().label
 }
 
 /// Whether control can go from an instruction to the next.

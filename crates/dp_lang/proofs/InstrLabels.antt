@@ -8,7 +8,7 @@ use Rattle.dp_model.specs.declared.instr.Instr.{Instr}
 use Rattle.dp_model.specs.declared.instr.Instr.TheVariants as instr
 use Rattle.dp_model.specs.declared.registers.Operand.{Operand}
 use Rattle.dp_model.specs.declared.registers.Operand.TheVariants as operand
-use Rattle.dp_model.specs.Jumps.{label_of}
+use Rattle.dp_model.specs.Needs.{label_of}
 use Rattle.dp_lang.specs.Arguments.{Argument, packet, register, constant, label}
 use Rattle.dp_lang.specs.Forms.{spelled, either}
 use Rattle.dp_lang.specs.Programs.{leads_below}

@@ -6,7 +6,7 @@ use Rattle.std.specs.Fmt.{decimal}
 use Rattle.dp_model.specs.declared.instr.Instr.{Instr}
 use Rattle.dp_lang.specs.Arguments.{Argument, packet, register, constant, label}
 use Rattle.dp_lang.specs.Forms.{word_of, Statement, spelled}
-use Rattle.dp_model.specs.Jumps.{label_of}
+use Rattle.dp_model.specs.Needs.{label_of}
 
 -- the printed label of an instruction: L and its number
 abbrev pub label_name : ℕ → List ℕ

@@ -1,7 +1,7 @@
 -- The values of the assembler and the printer, as contracts see them.
 use Rattle.std.specs.Prelude.{◌≡◌, ℕ, List, [], ◌∷◌, map, Option, Some, None, Result, Ok, Err}
 use Rattle.dp_model.specs.Arithmetic.{bytes_in}
-use Rattle.dp_model.specs.Jumps.{label_of}
+use Rattle.dp_model.specs.Needs.{label_of}
 use Rattle.dp_model.specs.Rules.{uses}
 use Rattle.dp_model.specs.declared.instr.Instr.{Instr}
 use Rattle.dp_lang.specs.Arguments.{Argument, packet, register, constant, label}

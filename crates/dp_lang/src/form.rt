@@ -1,7 +1,7 @@
 //! The table of forms: for each instruction its word, its fields, and the kind of each operand.
 
 ghost use Rattle.std.specs.Prelude.{◌≡◌, map};
-ghost use Rattle.dp_model.specs.Jumps.{label_of};
+ghost use Rattle.dp_model.specs.Needs.{label_of};
 ghost use Rattle.dp_model.specs.Rules.{uses};
 ghost use Rattle.dp_lang.specs.Fields.{fielded_statement};
 ghost use Rattle.dp_lang.specs.Forms.{word_of, kinds_of, form_of, forms, spelled};

@@ -7,7 +7,7 @@ use Rattle.std.proofs.lemmas.Option.{slice_get_within}
 use Rattle.dp_model.specs.declared.env.PortSpec.{PortSpec}
 use Rattle.dp_model.specs.declared.instr.Instr.{Instr}
 use Rattle.dp_model.specs.Packets.{Packet}
-use Rattle.dp_model.specs.Jumps.{label_of}
+use Rattle.dp_model.specs.Needs.{label_of}
 use Rattle.dp_model.specs.Machine.{Setting, World, State, Next, At, Ended, Move, Acts, Step, with_jump}
 use Rattle.dp_model.specs.Machine.{cut_off, budgeted, with_step}
 use Rattle.dp_model.specs.Runs.{StepsTo, first_state, NodeRun, max_steps, ConsumedAtMost, Outcome, Got, NoBuffer, Oversize, Arrives}

@@ -12,34 +12,34 @@ use Rattle.dp_model.specs.Packets.{Segment, Packet, refs, IsSole}
 use Rattle.dp_model.specs.Groups.{is_in, group_size, least_member, share_of_group, belongs, buffers_of, GroupHolds, reshared_fact, reshared}
 use Rattle.dp_model.specs.Rows.{group_at, with_shares, dissolved, renamed}
 use Rattle.dp_model.specs.Machine.{Setting, State, live, Holds}
-use Rattle.dp_model.specs.Meaning.{IsShared, FactHolds, Known}
+use Rattle.dp_model.specs.Meaning.{HasShare, FactHolds, Known}
 use Rattle.dp_model.specs.Laws.Groups.{sole_no_group, loose_no_group, dissolved_is, least_belongs}
 use Rattle.dp_model.proofs.Sharing.{groups_gone, groups_renamed}
 use Rattle.dp_model.specs.Laws.Cases.{by_cases}
 use Rattle.dp_model.specs.Laws.References.{says_nothing, says_each}
 
 -- a group's share says nothing of one packet alone
-far_shared : (live : List Segment) (n : ℕ) (k : Packet) → 3 ≤ n → IsShared live n k
+far_shared : (live : List Segment) (n : ℕ) (k : Packet) → 3 ≤ n → HasShare live n k
 far_shared live n k le = record { first = λ e. absurd (omega (arith, e)); each = λ e. absurd (omega (arith, e)) }
 
-pub of_group : (live : List Segment) (m : ℕ) (k : Packet) → IsShared live (share_of_group m) k
+pub of_group : (live : List Segment) (m : ℕ) (k : Packet) → HasShare live (share_of_group m) k
 of_group live m k = far_shared live (8 + m) k (omega arith)
 
 -- ---- the registers of a group get another share
 fact_reshared : (pools : List PoolSpec) (live : List Segment) (g share : ℕ) (f : Fact) (o : Option Packet) → FactHolds pools live f o →
-    ((k : Packet) → is_in g f ≡ true → o ≡ Some k → IsShared live share k) → FactHolds pools live (reshared_fact g share f) o
+    ((k : Packet) → is_in g f ≡ true → o ≡ Some k → HasShare live share k) → FactHolds pools live (reshared_fact g share f) o
 fact_reshared pools live g share Empty o h each = h
 fact_reshared pools live g share (Held old head tail first last segs) None h each = h
 fact_reshared pools live g share (Held old head tail first last segs) (Some k) m each =
     record { some = m.some; share = shares (old == share_of_group g) refl; head = m.head; tail = m.tail; first = m.first; last = m.last; segs = m.segs }
   where
-    shares : (b : Bool) → (old == share_of_group g) ≡ b → IsShared live (cond (old == share_of_group g) share old) k
-    shares true e = subst (λ t. IsShared live (cond t share old) k) (sym e) (each k e refl)
-    shares false e = subst (λ t. IsShared live (cond t share old) k) (sym e) m.share
+    shares : (b : Bool) → (old == share_of_group g) ≡ b → HasShare live (cond (old == share_of_group g) share old) k
+    shares true e = subst (λ t. HasShare live (cond t share old) k) (sym e) (each k e refl)
+    shares false e = subst (λ t. HasShare live (cond t share old) k) (sym e) m.share
 
 facts_reshared : (pools : List PoolSpec) (live : List Segment) (g share : ℕ) (facts : List Fact) (packets : List (Option Packet)) →
     AllZip (FactHolds pools live) facts packets → ((i : ℕ) (k : Packet) → belongs facts g i ≡ true → slice_get packets i ≡ Some (Some k) →
-    IsShared live share k) → AllZip (FactHolds pools live) (reshared g share facts) packets
+    HasShare live share k) → AllZip (FactHolds pools live) (reshared g share facts) packets
 facts_reshared pools live g share [] packets h each = h
 facts_reshared pools live g share (f ∷ facts) [] h each = h
 facts_reshared pools live g share (f ∷ facts) (o ∷ packets) h each = (
@@ -48,7 +48,7 @@ facts_reshared pools live g share (f ∷ facts) (o ∷ packets) h each = (
 )
 
 pub known_reshared : (c : Setting) (row : Row) (s : State) (g share : ℕ) → Known c row s →
-    ((i : ℕ) (k : Packet) → belongs row.facts g i ≡ true → Holds s i k → IsShared (live s) share k) →
+    ((i : ℕ) (k : Packet) → belongs row.facts g i ≡ true → Holds s i k → HasShare (live s) share k) →
     ((x : ℕ) → GroupHolds (live s) (reshared g share row.facts) s.packets x) → Known c (with_shares row g share) s
 known_reshared c row s g share known shares groups =
     let r = known.row_holds in

@@ -1,5 +1,5 @@
 -- Runs and stretches, one after the other, that are one.
-use Rattle.std.proofs.Common.{◌≡◌, ℕ, zero, suc, List, [], ◌∷◌, ◌++◌, length, replicate, refl, sym, ◌∙◌, ap, subst, arith, append_assoc}
+use Rattle.std.proofs.Common.{◌≡◌, ℕ, zero, suc, List, [], ◌∷◌, ◌++◌, length, replicate, sym, ◌∙◌, ap, subst, arith, append_assoc}
 use Rattle.std.proofs.lemmas.List.{length-map, length-replicate}
 use Rattle.dp_model.specs.Machine.{Setting, World}
 use Rattle.dp_model.specs.Runs.{Nodes, Arrival, Observed, Run, joined, records_at, with_empty_outboxes}
@@ -7,7 +7,6 @@ use Rattle.dp_model.specs.Safety.{IsAtRest, IsPipeline}
 use Rattle.dp_model.specs.Starts.{IsStart}
 use Rattle.dp_model.specs.Meaning.{TablesFit}
 use Rattle.dp_model.specs.Laws.Runs.{joined_none_left, joined_assoc, start_rest}
-use Rattle.dp_model.specs.Laws.Lists.{all_right}
 use Rattle.dp_model.specs.Uses.{Stretch, Uses, AllFit, with_tables, shown_then, joined_stretch}
 use Rattle.dp_model.proofs.SafeTurns.{turn_rest}
 use Rattle.dp_model.proofs.SafeWhole.{drained_rest}

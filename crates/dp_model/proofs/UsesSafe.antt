@@ -1,10 +1,10 @@
 -- Uses in stretches keep what runs keep.
-use Rattle.std.proofs.Common.{◌≡◌, ℕ, ◌+◌, Bool, List, [], ◌∷◌, ◌++◌, length, refl, sym, ◌∙◌, ap, subst, arith, length-append}
+use Rattle.std.proofs.Common.{◌≡◌, ◌+◌, List, [], ◌∷◌, ◌++◌, length, sym, ◌∙◌, ap, subst, arith, length-append}
 use Rattle.std.specs.List.{AllByRecursion}
 use Rattle.dp_model.specs.Prefixes.{Route}
 use Rattle.dp_model.specs.Machine.{Setting, World, live, segments_listed}
 use Rattle.dp_model.specs.Meaning.{TablesFit}
-use Rattle.dp_model.specs.Runs.{between, Nodes, Run, with_empty_rings}
+use Rattle.dp_model.specs.Runs.{between, Nodes, with_empty_rings}
 use Rattle.dp_model.specs.Starts.{IsStart}
 use Rattle.dp_model.specs.Safety.{IsAtRest, Beginning, IsSafeBeginning, IsPipeline}
 use Rattle.dp_model.specs.Laws.Lists.{all_right}

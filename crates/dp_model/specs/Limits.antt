@@ -1,5 +1,5 @@
 -- The limits and sizes that the definitions cite.
-use Rattle.std.specs.Prelude.{ℕ, ◌+◌, ◌*◌}
+use Rattle.std.specs.Prelude.{ℕ, ◌+◌}
 
 -- the maximum number of buffers of a pool, and of all pools together: their indexes have 16 bits
 abbrev pub max_buffers : ℕ

@@ -6,7 +6,7 @@ ghost use Rattle.dp_model.specs.Buffers.{Number, Buffers, bytes_of};
 ghost use Rattle.dp_model.specs.Environments.{Environment, count_at, fault_of};
 ghost use Rattle.dp_model.specs.Limits.{max_buffers, max_ring_runs};
 ghost use Rattle.dp_model.specs.Machine.{Setting, State, World, At, Move, Acts, Step, live, without_packet, without_packets, jump_budget};
-ghost use Rattle.dp_model.specs.Jumps.{label_of};
+ghost use Rattle.dp_model.specs.Needs.{label_of};
 ghost use Rattle.dp_model.specs.Laws.{AreChecked};
 ghost use Rattle.dp_model.specs.Meaning.{TablesFit};
 ghost use Rattle.dp_model.specs.Packets.{Segment, Packet, refs, is_free, available};

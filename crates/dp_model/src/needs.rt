@@ -1,7 +1,7 @@
-//! What rules J4 to J7 ask of the row before each instruction: one table.
+//! What rules J4 to J7 ask of the row before each instruction, and the label that it names: one table.
 
-ghost use Rattle.std.specs.Prelude.{◌≡◌};
-ghost use Rattle.dp_model.specs.Needs.{amount, bytes_at, needs, packet_in};
+ghost use Rattle.std.specs.Prelude.{◌≡◌, Some};
+ghost use Rattle.dp_model.specs.Needs.{amount, bytes_at, needs, nothing, packet_in};
 
 use crate::by_instr;
 use crate::instr::Instr;
@@ -50,7 +50,7 @@ pub enum Written {
     Tail,
 }
 
-/// What rules J4 to J7 ask of the row before an instruction.
+/// What rules J4 to J7 ask of the row before an instruction, and the label that it names.
 #[derive(Clone, Copy, Debug, PartialEq, Eq)]
 pub struct Needs {
     /// This register holds a packet.
@@ -63,15 +63,18 @@ pub struct Needs {
     pub bytes: Option<Bytes>,
     /// This part of the first packet has one reference.
     pub written: Option<Written>,
+    /// The label that the instruction names: where it jumps to, or what it does if it is refused.
+    pub label: Option<u16>,
 }
 
-/// What an instruction that handles no packet needs.
+/// What an instruction that handles no packet and names no label needs.
 const NOTHING: Needs = Needs {
     packet: None,
     other: None,
     target: None,
     bytes: None,
     written: None,
+    label: None,
 };
 
 /// A packet in this register.
@@ -106,16 +109,38 @@ fn bytes_at(index: Option<NumberRegister>, offset: u16, width: Width) -> Option<
     })
 }
 
+/// A packet in this register, and this label.
+fn or_else(packet: PacketRegister, label: u16) -> Needs
+    ensures { result ≡ record (packet_in packet) { label = Some label } }
+{
+    Needs {
+        label: Some(label),
+        ..packet_in(packet)
+    }
+}
+
+/// This label alone.
+fn to_label(label: u16) -> Needs
+    ensures { result ≡ record nothing { label = Some label } }
+{
+    Needs {
+        label: Some(label),
+        ..NOTHING
+    }
+}
+
 impl Instr {
-    /// What the instruction needs of the row before it.
+    /// What the instruction needs of the row before it, and the label that it names.
     #[inline(always)]
     pub fn needs(self) -> Needs
         ensures { result ≡ needs self }
     {
         by_instr! { self;
-            Alloc: { into, .. } => Needs { target: Some(Target::Vacant(into)), ..NOTHING };
-            Clone: { into, from, .. } => Needs { target: Some(Target::Vacant(into)), ..packet_in(from) };
-            Free | IfHead | IfTail | IfLen | IfLast | Tx | Enq: { packet, .. } => packet_in(packet);
+            Alloc: { into, refused, .. } => Needs { target: Some(Target::Vacant(into)), ..to_label(refused) };
+            Clone: { into, from, refused, .. } => Needs { target: Some(Target::Vacant(into)), ..or_else(from, refused) };
+            Free: { packet } => packet_in(packet);
+            IfHead | IfTail | IfLen | IfLast: { packet, less, .. } => or_else(packet, less);
+            Tx | Enq: { packet, full, .. } => or_else(packet, full);
             Prepend: { packet, count } => Needs { bytes: amount(Headroom, count), written: Some(Written::Head), ..packet_in(packet) };
             Adj: { packet, count } => Needs { bytes: amount(First, count), ..packet_in(packet) };
             Append: { packet, count } => Needs { bytes: amount(Tailroom, count), written: Some(Written::Tail), ..packet_in(packet) };
@@ -126,7 +151,11 @@ impl Instr {
             LoadX: { packet, index, offset, width, .. } => Needs { bytes: bytes_at(Some(index), offset, width), ..packet_in(packet) };
             StoreX: { packet, index, offset, width, .. } =>
                 Needs { bytes: bytes_at(Some(index), offset, width), written: Some(Written::Head), ..packet_in(packet) };
-            Set | Mov | Add | Sub | And | Or | Xor | Shl | Shr | Jmp | Jeq | Jlt | Lookup | Exit: { .. } => NOTHING;
+            Jmp: { to } => to_label(to);
+            Jeq: { equal, .. } => to_label(equal);
+            Jlt: { below, .. } => to_label(below);
+            Lookup: { missed, .. } => to_label(missed);
+            Set | Mov | Add | Sub | And | Or | Xor | Shl | Shr | Exit: { .. } => NOTHING;
         }
     }
 }

@@ -16,7 +16,7 @@ use Rattle.dp_model.specs.Limits.{max_hop}
 use Rattle.dp_model.specs.Arithmetic.{wrapped, value, all_ones, ones_within, greatest}
 use Rattle.dp_model.specs.Environments.{Environment}
 use Rattle.dp_model.specs.Prefixes.{Route, hop_for}
-use Rattle.dp_model.specs.Jumps.{label_of}
+use Rattle.dp_model.specs.Needs.{label_of}
 use Rattle.dp_model.specs.Rows.{leads, onward, fork, bound, with_bound}
 use Rattle.dp_model.specs.Rules.{indices_exist}
 use Rattle.dp_model.specs.Machine.{Setting, State, Move, Acts, moves_to, calculated, sets, jumps, finds}

@@ -11,7 +11,7 @@ use Rattle.dp_model.specs.Arithmetic.{bytes_in}
 use Rattle.dp_model.specs.Buffers.{Number, Buffers, ChangesOnly}
 use Rattle.dp_model.specs.Packets.{Packet, headroom, tailroom, first_len, last_len, AreFresh, IsHeadSole, IsTailSole, allocated, cloned, at_front, at_end}
 use Rattle.dp_model.specs.Packets.{more_before, less_before, more_after, less_after, zeroed_before, zeroed_after, stored}
-use Rattle.dp_model.specs.Jumps.{label_of}
+use Rattle.dp_model.specs.Needs.{label_of}
 use Rattle.dp_model.specs.Machine.{Setting, State, live, Next, At, Ended, Move, Acts, Holds, IsEmpty, branches, goes_on, moves_to, is_denied}
 use Rattle.dp_model.specs.Machine.{with_call, with_packet, without_packet, with_buffers, packets_in, with_queue, Leaves}
 use Rattle.dp_model.specs.Limits.{max_segments}

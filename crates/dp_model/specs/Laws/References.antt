@@ -8,7 +8,7 @@ use Rattle.std.proofs.lemmas.Bool.{and_parts, not-true, or_parts}
 use Rattle.dp_model.specs.Buffers.{Number, same_number}
 use Rattle.dp_model.specs.Packets.{Segment, Packet, refs, IsSole, IsHeadSole, is_free}
 use Rattle.dp_model.specs.Machine.{segments_held, segments_listed, State, live}
-use Rattle.dp_model.specs.Meaning.{IsShared}
+use Rattle.dp_model.specs.Meaning.{HasShare}
 use Rattle.dp_model.specs.Laws.Cases.{one_if}
 use Rattle.dp_model.specs.Laws.Lists.{get_set_other}
 use Rattle.dp_model.specs.Laws.Stored.{same_number_refl}
@@ -73,7 +73,7 @@ sole_kept live live' k (s ∷ rest) keeps part h =
     (keeps s.buffer (part s.buffer (refs_first s rest)) h.0, sole_kept live live' k rest keeps (λ b m. part b (omega (arith, refs-cons s rest b))) h.1)
 
 -- so facts about its share stay true
-pub share_kept : (live live' : List Segment) (share : ℕ) (packet : Packet) → Keeps live live' packet → IsShared live share packet → IsShared live' share packet
+pub share_kept : (live live' : List Segment) (share : ℕ) (packet : Packet) → Keeps live live' packet → HasShare live share packet → HasShare live' share packet
 share_kept live live' share packet keeps h = record {
   first = λ e. first_kept packet keeps (h.first e);
   each = λ e. sole_kept live live' packet packet keeps (λ b m. m) (h.each e);
@@ -89,13 +89,13 @@ sole_first live [] h = tt
 sole_first live (s ∷ rest) h = h.0
 
 -- what each share takes: loose takes nothing, head sole the first buffer's one reference, sole that of each
-pub says_nothing : {live : List Segment} {k : Packet} → IsShared live 0 k
+pub says_nothing : {live : List Segment} {k : Packet} → HasShare live 0 k
 says_nothing = record { first = λ e. absurd (omega (arith, e)); each = λ e. absurd (omega (arith, e)) }
 
-pub says_first : {live : List Segment} {k : Packet} → IsHeadSole live k → IsShared live 1 k
+pub says_first : {live : List Segment} {k : Packet} → IsHeadSole live k → HasShare live 1 k
 says_first h = record { first = λ e. h; each = λ e. absurd (omega (arith, e)) }
 
-pub says_each : {live : List Segment} {k : Packet} → IsSole live k → IsShared live 2 k
+pub says_each : {live : List Segment} {k : Packet} → IsSole live k → HasShare live 2 k
 says_each h = record { first = λ e. absurd (omega (arith, e)); each = λ e. h }
 
 -- there is no reference to a free number
