@@ -541,6 +541,31 @@ send port"""
             here, there = (udp(1, 4789, bytes([8, 0, 0, 0, 0, 0, 9, 0]) + eth(ipv4(1, bytes(8), ttl=it)), summed=summed) for it in (64, 63))
             self.assertEqual(sent(tunnel, here)[0], [there])
 
+    def test_headers_behind_one_after_options(self) -> None:
+        """A header after TCP or UDP after IPv4 options has one copy, at an offset in a register, and not one for each length."""
+        relay = """
+header bootp { op:8 htype:8 hlen:8 hops:8 xid:32 secs:16 flags:16 ciaddr:32 yiaddr:32 siaddr:32 giaddr:32 } after udp if udp.dport == 67
+header cookie { rest:8 } after bootp if bootp.secs == 5
+if bootp.op == 1 {
+    need bootp.hops < 16
+    mend bootp.hops += 1
+    if bootp.giaddr == 0 { mend bootp.giaddr = 192.0.2.254 }
+    if cookie.rest == 9 { cookie.rest = 8 }
+}
+send port"""
+        self.assertLess(count(relay), 300)
+
+        def data(hops: int, giaddr: int, secs: int = 0, rest: int = 9) -> bytes:
+            return struct.pack(">BBBBIHHIIII", 1, 1, 6, hops, 7, secs, 0, 0, 0, 0, giaddr) + bytes([rest, 3])
+
+        for options in (b"", bytes(4), bytes(24), bytes(40)):
+            for summed in (True, False):
+                frames = [udp(68, 67, it, options=options, summed=summed) for it in (data(3, 0), data(3, 5), data(16, 5), data(3, 0)[:27], data(3, 5)[:28])]
+                wanted = [udp(68, 67, it, options=options, summed=summed) for it in (data(4, 0xC00002FE), data(4, 5), data(3, 0)[:27], data(4, 5)[:28])]
+                self.assertEqual(sent(relay, *frames)[0], wanted)
+            last = udp(68, 67, data(3, 5, 5), options=options, summed=False)
+            self.assertEqual(sent(relay, last, last[:-2])[0], [udp(68, 67, data(4, 5, 5, 8), options=options, summed=False), last[:-2].replace(b"\1\1\6\3", b"\1\1\6\4")])
+
     def test_pushed_headers(self) -> None:
         inner = ipv4(1, bytes(8))
         source = """need ipv4

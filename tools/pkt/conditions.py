@@ -236,9 +236,10 @@ def at_place(way: Way, header: Header, at: int, found: Join[Way], missing: Join[
 def search_behind(way: Way, header: Header, before: Header, found: Join[Way], missing: Join[Way]) -> None:
     """Looks for a header after one that was found and has a variable length."""
     base = way.begins(before.name)
-    if not before.bits and not way.is_far(before.name):
-        return at_place(way, header, base + before.size, found, missing)
-    is_one = before.bits and not way.is_far(before.name) and (way.far == NEAR or way.far.base == base)
+    if not before.bits:
+        look = behind_far if way.is_far(before.name) else at_place
+        return look(way, header, base + before.size, found, missing)
+    is_one = not way.is_far(before.name) and (way.far == NEAR or way.far.base == base)
     require(is_one, way.at, f"{header.name} is after two headers whose lengths vary", f"`need` one length of {before.name} before")
     if way.far != NEAR and header.size <= way.far.size and may_be_far(way, header, before):
         way.found[header.name] = FAR
@@ -284,11 +285,30 @@ def if_length(way: Way, span: Span, value: int) -> Way:
 
 
 def may_be_far(way: Way, header: Header, before: Header) -> bool:
-    """Whether a header may be at an offset in a register: few zeros can be appended, and no header after it is used."""
-    this, most = way.packets[way.held[THIS]], max(before.sizes.values())
-    is_short = most - min(before.sizes.values()) <= MAX_PADDING + 4 and way.begins(before.name) + most + header.size + MAX_PADDING <= MAX_BYTES
+    """Whether a header may be at an offset in a register, and those after it that are used too: few zeros can be appended, and between them no
+    length varies."""
+    this, most, behind = way.packets[way.held[THIS]], max(before.sizes.values()), way.headers.after(header.name) & way.unit.used_headers
+    end = way.begins(before.name) + most + sum(way.headers[name].size for name in {header.name} | behind)
+    is_short = most - min(before.sizes.values()) <= MAX_PADDING + 4 and end + MAX_PADDING <= MAX_BYTES
     may_append = is_short and this.sharers <= {SOMEBODY_THE_REST} and this.segments == 1
-    return may_append and header.name not in way.unit.near and not way.headers.after(header.name) & way.unit.used_headers
+    is_even = not any(way.headers[name].bits and way.headers.after(name) & behind for name in {header.name} | behind)
+    return may_append and is_even and way.unit.near.isdisjoint({header.name} | behind)
+
+
+def behind_far(way: Way, header: Header, at: int, found: Join[Way], missing: Join[Way]) -> None:
+    """Looks for a header so many bytes after the offset in a register, at each value of which all its bytes have to be."""
+    far, ready, end = way.far, Join[Way](), at + header.size
+    if end > far.size:
+        sizes = [way.headers[far.before].sizes[value] for value in far.lengths]
+        for size in sizes:
+            way.emit("iflen", f"p{way.held[THIS]}", far.base + size + end + far.padding, to=missing)
+            if size != sizes[-1]:
+                way.emit("jlt", f"r{far.register}", size + 1, to=ready)
+    way.jump(ready)
+    for s in ready.begin():
+        s.far = replace(s.far, size=max(end, far.size))
+        s.found[header.name] = Start(True, at)
+        s.jump(found)
 
 
 def at_register(way: Way, header: Header, before: Header, left: dict[int, int], found: Join[Way], missing: Join[Way]) -> None:
@@ -427,4 +447,4 @@ def go_far(way: Way, before: Header, left: dict[int, int]) -> Far:
         inside = way.emit("jlt", place, greatest + 1, to=Join())
         way.drop()
         way.last, way.bounds[place.r] = inside.last, greatest
-    return Far(padding, base, 0, tuple(left), place.r)
+    return Far(padding, base, 0, tuple(left), place.r, before.name)

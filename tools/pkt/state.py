@@ -54,13 +54,15 @@ class Packet:
 
 @dataclass(frozen=True)
 class Far:
-    """Headers at an offset in a register: the zeros after the packet, the base of the offset, the bytes that are there, the possible lengths."""
+    """Headers at an offset in a register: the zeros after the packet, the base of the offset, the bytes that are there, the possible values that
+    give the length of the header before them, and its name."""
 
     padding: int = 0
     base: int = 0
     size: int = 0
     lengths: tuple[int, ...] = ()
     register: int | None = None
+    before: str = ""
 
 
 NEAR = Far()
