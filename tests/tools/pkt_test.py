@@ -579,6 +579,32 @@ send port"""
         self.assertEqual(sent(source, eth(inner))[0], [wanted])
         self.assertEqual(sent("need gre\npop ipv4/gre\nsend port", wanted)[0], [wanted[:14] + inner])
 
+    def test_pushed_values_that_need_many_registers(self) -> None:
+        """Where eight registers are too few, each value is calculated when it is written."""
+        source = """need ipv4
+let size = ipv4.len
+let tos = ipv4.tos
+let hops = ipv4.ttl
+let id = ipv4.id
+let to = eth.dst
+let me = eth.src
+cut 14
+push eth { dst = me src = to type = 0x0800 } ipv4 { tos = tos len = size + 20 id = id ttl = hops proto = 4 src = 1.2.3.4 dst = 5.6.7.8 }
+send port"""
+        inner = ipv4(1, bytes(8))
+        outer = struct.pack(">BBHHHBBH", 0x45, 0, len(inner) + 20, 1, 0, 64, 4, 0) + bytes([1, 2, 3, 4, 5, 6, 7, 8])
+        outer = outer[:10] + struct.pack(">H", checksum(outer)) + outer[12:]
+        self.assertEqual(sent(source, eth(inner))[0], [eth(b"")[6:12] + eth(b"")[:6] + b"\x08\0" + outer + inner])
+        fields = "tos = ipv4.tos ttl = ipv4.ttl id = ipv4.id len = ipv4.len + 50"
+        source = f"push eth {{ dst = 1 src = 2 }} ipv4 {{ {fields} }} udp {{ sport = ipv4.src ^ ipv4.dst & 0xffff len = ipv4.len + 30 }} vxlan {{ vni = 5 }}\nsend port"
+        outer = struct.pack(">BBHHHBBHQ", 0x45, 0, len(inner) + 50, 1, 0, 64, 17, 0, 0)
+        outer = outer[:10] + struct.pack(">H", checksum(outer)) + outer[12:]
+        rest = struct.pack(">HHHHII", (0x0A000001 ^ 0x0207) & 0xFFFF, 4789, len(inner) + 30, 0, 0x08000000, 0x500)
+        self.assertEqual(sent(source, eth(inner))[0], [struct.pack(">HIHIH", 0, 1, 0, 2, 0x0800) + outer + rest + eth(inner)])
+
+    def test_a_pushed_product_with_0(self) -> None:
+        self.assertEqual(sent("push ipv4 { len = eth.type * 0 ttl = 64 }\nsend port", eth(b""))[0], [bytes.fromhex("4500000000000000400 07aff".replace(" ", "")) + bytes(8) + eth(b"")])
+
     def test_constants_beside_a_field_that_is_pushed(self) -> None:
         frame = eth(b"x" * 46)
         self.assertEqual(sent("header h { a:20 b:4 = 5 }\npush h { a = eth.type }\nsend port", frame)[0], [b"\0\x80\x05" + frame])

@@ -3,13 +3,13 @@ from . import conditions, registers
 from .headers import Header, Span
 from .registers import Value
 from .state import EVERYTHING, Needs
-from .syntax import Field, Mend, Pushed, require
+from .syntax import Field, Mend, Node, Pushed, require
 from .ways import Join, Way, paths
 
 # The variables with the difference of the words of the field that is mended, and with that of the checksums that were updated so far.
 DIFFERENCE, CHANGES = "$difference", "$changes"
-# The fields of pushed headers that are not constant, each with its value.
-Others = list[tuple[Span, Value]]
+# The fields of pushed headers that are not constant, each with its value, or the number that is calculated when it is written.
+Others = list[tuple[Span, Value | Node]]
 
 
 def without_sum(way: Way, target: Field) -> str:
@@ -265,8 +265,10 @@ def sum_of(way: Way, header: Header, at: int, data: bytes, others: Others) -> Va
         return Value(0xFFFF - (total and (total - 1) % 0xFFFF + 1))
     result = registers.own(way, Value(total))
     for span, value in inside:
-        way.pins[value.r] += 1
-        part, shift = registers.shifted(way, Value(register=value.r), span, 0), -(span.end - 8 * at) % 16
+        if isinstance(value, Value):
+            way.pins[value.r] += 1
+        part = registers.evaluate(way, value) if isinstance(value, Node) else Value(register=value.r)
+        part, shift = registers.shifted(way, part, span, 0), -(span.end - 8 * at) % 16
         if shift or registers.bound_of(way, part) >> 34:
             part = registers.own(way, part)
             halve(way, part)

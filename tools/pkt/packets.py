@@ -1,4 +1,5 @@
 """Lowering of changes of packets: freeing, chaining, and changing their length."""
+from collections.abc import Sequence
 from itertools import combinations
 
 from . import checksums, conditions, registers
@@ -6,8 +7,8 @@ from .checksums import Others
 from .conditions import MAX_BYTES
 from .headers import Span, Start, asked_of
 from .registers import Value
-from .state import NEAR, SOMEBODY, SOMEBODY_THE_REST
-from .syntax import THIS, Chain, Cut, Free, Node, Number, Pop, Push, Pushed, Truncate, require
+from .state import ALL, NEAR, SOMEBODY, SOMEBODY_THE_REST
+from .syntax import THIS, Chain, Cut, Field, Free, Name, Node, Number, Pop, Push, Pushed, Truncate, parts, require
 from .ways import Join, Way, pieces
 
 MAX_BUFFER, MAX_SEGMENTS = 4_096, 64
@@ -138,9 +139,40 @@ def do_push(way: Way, it: Push, _: Join[Way]) -> None:
     else:
         size = sum(way.headers[pushed.header].size for pushed in it.headers)
         require(size <= MAX_BUFFER, way.at, f"these headers have {size:,} bytes, and a buffer has at most {MAX_BUFFER:,}", "push fewer")
+        if way.unit.is_in_turn:
+            return push_in_turn(way, it)
         data, others = values_of(way, it.headers)
         others += checksums.sums_of(way, it.headers, data, others)
         write_headers(way, data, others, 0, prepend(way, it.packet, len(data)))
+
+
+def push_in_turn(way: Way, it: Push) -> None:
+    """Pushes headers whose values are calculated one after another when they are written, so few registers are in use. What they are read from is
+    further back then; fields at an offset in a register are read before."""
+    data, others = values_of(way, it.headers, is_late=True)
+    found, known, at = dict(way.found), dict(enumerate(data)), 0
+    packet = prepend(way, it.packet, len(data))
+    if it.packet == THIS:
+        way.found = {name: place._replace(byte=place.byte + len(data)) for name, place in found.items() if place and not place.is_far}
+    write_headers(way, data, [], 0, packet)
+    for pushed in it.headers:
+        end = at + way.headers[pushed.header].size
+        own = [(span.moved(-at), value) for span, value in others if 8 * at <= span.bit < 8 * end]
+        for span, value in own + checksums.sums_of(way, (pushed,), data[at:end], own):
+            place = span.moved(at)
+            registers.store(way, place, registers.evaluate(way, value) if isinstance(value, Node) else value, packet, known)
+            known = {k: byte for k, byte in known.items() if k not in place.bytes}
+        at = end
+        forget_variables(way, [value for span, value in others if span.bit >= 8 * at])
+    if it.packet == THIS:
+        way.found = {}
+
+
+def forget_variables(way: Way, later: Sequence[object]) -> None:
+    """Forgets the variables that no later statement needs, and none of these values."""
+    wanted = way.unit.needs | {part.name for part in parts(tuple(later)) if isinstance(part, Name)}
+    if ALL not in wanted:
+        way.variables = {name: r for name, r in way.variables.items() if name in wanted or name.startswith("$")}
 
 
 def push_tag(way: Way, pushed: Pushed, before: str) -> None:
@@ -158,8 +190,8 @@ def push_tag(way: Way, pushed: Pushed, before: str) -> None:
     write_headers(way, whole, [(span.moved(width), value) for span, value in others], front, p, over_zeros=False)
 
 
-def values_of(way: Way, pushed: tuple[Pushed, ...]) -> tuple[bytes, Others]:
-    """The constant bytes of headers, and the other fields with their values."""
+def values_of(way: Way, pushed: tuple[Pushed, ...], is_late: bool = False) -> tuple[bytes, Others]:
+    """The constant bytes of headers, and the other fields with their values. Late ones are calculated when they are written, if that is possible."""
     left, whole, others = 8 * sum(way.headers[it.header].size for it in pushed), 0, Others()
     size = left // 8
     for it, inner in zip(pushed, (*pushed[1:], pushed[-1])):
@@ -175,7 +207,8 @@ def values_of(way: Way, pushed: tuple[Pushed, ...]) -> tuple[bytes, Others]:
                 whole &= ~(span.largest << left - span.end)
             whole |= (constant & span.largest) << left - span.end
             if isinstance(value, Node) and not isinstance(value, Number):
-                others.append((span.moved(at), registers.evaluate(way, value)))
+                is_near = not any(way.is_far(part.header) for part in parts(value) if isinstance(part, Field))
+                others.append((span.moved(at), value if is_late and is_near else registers.in_register(way, registers.evaluate(way, value))))
         left -= 8 * header.size
     return whole.to_bytes(size, "big"), others
 

@@ -3,7 +3,7 @@ from dataclasses import dataclass
 
 from .headers import Span, Start
 from .state import ALL, SOMEBODY_THE_REST
-from .syntax import BIGGEST, THIS, Binary, Bits, Field, Name, Node, Number, parts, require
+from .syntax import BIGGEST, THIS, Binary, Bits, Field, Name, Node, NoRegister, Number, parts, require
 from .ways import Way, pieces
 
 INSTRUCTIONS = {"+": "add", "-": "sub", "&": "and", "|": "or", "^": "xor", "<<": "shl", ">>": "shr"}
@@ -35,8 +35,9 @@ def fresh(way: Way) -> Value:
     """A register for an operand; if all are in use, a loaded value that is not needed is forgotten."""
     free = sorted({*range(8)} - way.used())
     names = ", ".join(sorted(it for it in way.variables if not it.startswith("$")))
-    require(free, way.at, f"this needs a ninth number: {names} are held, and what is calculated here",
-            "variables end with their block, and port where it is no more used")
+    if not free:
+        raise NoRegister(way.at, f"this needs a ninth number: {names} are held, and what is calculated here",
+                         "variables end with their block, and port where it is no more used")
     needed = {span_of(way, it) for it in way.unit.needs if isinstance(it, Field) and way.found.get(it.header) is not None}
     wanted = {r for it, r in way.loaded.items() if it in needed}
     register = min(free, key=lambda r: (r in way.loaded.values()) + (r in wanted))

@@ -12,9 +12,8 @@ from .parser import Program
 from .registers import Value
 from .state import NEAR, NOTHING, SOMEBODY, Far, Needs, Packet
 from .syntax import (
-    BIGGEST, PORT, THIS, Assign, Block, Chain, Clone, Count, Cut, Drop, Field, Found, Free, If, Inline, Length, Let, Lookup, Mend, Name,
-    Name, Need, New, Node, Number, Pop, Push,
-    Send, Truncate, While, has, parts, require,
+    BIGGEST, PORT, THIS, Assign, Block, Chain, Clone, Count, Cut, Drop, Field, Found, Free, If, Inline, Length, Let, Lookup, Mend, Name, Need, New, Node,
+    NoRegister, Number, Pop, Push, Send, Truncate, While, has, parts, require,
 )
 from .ways import Join, Unit, Way, paths
 
@@ -23,8 +22,16 @@ UNREACHED = "control never comes here: what was asked before decides it"
 
 
 def compile_program(program: Program) -> Graph:
+    """The instructions of a program. Only where eight registers are too few, the values of pushed headers are calculated in turn."""
+    try:
+        return compile_unit(program, Unit(program))
+    except NoRegister:
+        return compile_unit(program, Unit(program, is_in_turn=True))
+
+
+def compile_unit(program: Program, unit: Unit) -> Graph:
     """The instructions of a program."""
-    unit, first = Unit(program), Instruction()
+    first = Instruction()
     way, at = Way(unit=unit, last=first), 0
     for name in program.given:
         way.found[name] = Start(False, at)

@@ -36,6 +36,10 @@ class SourceError(Exception):
         self.at, self.message, self.cure, self.row = at, OWN.sub("", message), cure, row
 
 
+class NoRegister(SourceError):
+    """A place of the source where all registers are in use."""
+
+
 def require(holds: object, at: Place, message: str, cure: str = "") -> None:
     """Raises an error of the source unless something holds."""
     if not holds:

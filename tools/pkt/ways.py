@@ -19,10 +19,12 @@ TOO_MUCH = "`need` what most packets have, or find it out once for all; a prefix
 
 
 class Unit:
-    """What all paths of a program share: facts `needs` after the current statement, statements `reached`, headers `near` that need a constant place."""
+    """What all paths of a program share: facts `needs` after the current statement, statements `reached`, headers `near` that need a constant place,
+    and whether the values of pushed headers are calculated in turn."""
 
-    def __init__(self, program: Program) -> None:
+    def __init__(self, program: Program, is_in_turn: bool = False) -> None:
         self.program, self.headers, self.needs, self.blocks, self.reached = program, program.headers, NOTHING, 0, set[int]()
+        self.is_in_turn = is_in_turn
         self.known: dict[int, tuple[Any, Needs]] = {}
         self.known_from: dict[int, tuple[Any, list[Needs]]] = {}
         self.appended = 0
