@@ -276,6 +276,89 @@ class Errors(unittest.TestCase):
         self.assertRegex(said, r"the program has 1\d\d\d instructions, and 1,024 are possible; this line takes \d")
 
 
+class Slips(unittest.TestCase):
+    """Usual slips of those who know other languages: the place, the cure, and that the text compiles when the cure was applied."""
+
+    SLIPS = (
+        ("if (tcp.dport == 80 && ipv4) { drop; }\nsend port", "1:22", "write `and`", "if tcp.dport == 80 and ipv4 { drop }\nsend port"),
+        ("// don't\nsend port", "1:1: no statement begins with '/'", "a comment begins with #", "# don't\nsend port"),
+        ("int x = 5;\nsend port", "1:1: no statement begins with 'int'", "let x = .. makes a variable", "let x = 5\nsend port"),
+        ("return send(port);", "1:1", "send port, ends the program", "send port"),
+        ("if ipv4->ttl < 2 { drop }\nsend port", "1:9", "a field has a point", "if ipv4.ttl < 2 { drop }\nsend port"),
+        ("let x = ipv4.len % 8\nsend port", "1:18: no word begins with '%'", "x & 7 is the rest of x by 8", "let x = ipv4.len & 7\nsend port"),
+        ("let x = ipv4.ttl > 5 ? 1 : 0\nsend port", "1:18", "if c { x = 1 } else { x = 0 }", "let x = 0\nif ipv4.ttl > 5 { x = 1 }\nsend port"),
+        ("switch ipv4.proto { }\nsend port", "1:1", "if x == 1 { .. } else if x == 2 { .. }",
+         "if ipv4.proto == 1 { drop } else if ipv4.proto == 2 { drop }\nsend port"),
+        ("while vlan { pop vlan break }\nsend port", "1:23", "the condition of `while` ends a loop", "while vlan { pop vlan }\nsend port"),
+        ("need tcp.dport == 0b11\nsend port", "1:19: 0b11 is no number", "decimal, or hexadecimal", "need tcp.dport == 0x3\nsend port"),
+        ("need tcp.dport == 0X50\nsend port", "1:19: 0X50 is no number", "as 0x1f", "need tcp.dport == 0x50\nsend port"),
+        ("need tcp.dport == 80u\nsend port", "1:19: 80u is no number", "only digits", "need tcp.dport == 80\nsend port"),
+        ("need tcp.flags & SYN\nsend port", "1:18: SYN is no variable here", "const SYN = 2", "const SYN = 2\nneed tcp.flags & SYN\nsend port"),
+        ("need eth.type == ETH_P_IP\nsend port", "1:18", "const ETH_P_IP = 0x0800", "const ETH_P_IP = 0x0800\nneed eth.type == ETH_P_IP\nsend port"),
+        ("need ntohs(tcp.dport) == 80\nsend port", "1:6: ntohs", "a field is a number already: leave ntohs out", "need tcp.dport == 80\nsend port"),
+        ("need 1 < ipv4.ttl < 5\nsend port", "1:6", "as in 1 < x and x < 5", "need 1 < ipv4.ttl and ipv4.ttl < 5\nsend port"),
+        ("let x = (ipv4.ttl + 1\nsend port", "2:1", "the ( in line 1, column 9 is open", "let x = (ipv4.ttl + 1)\nsend port"),
+        ("need hdr.ipv4.ttl > 1\nsend port", "1:6: there is no header hdr", "write ipv4 without hdr.", "need ipv4.ttl > 1\nsend port"),
+        ("if ipv4.isValid() { drop }\nsend port", "1:9", "if ipv4 { .. }", "if ipv4 { drop }\nsend port"),
+        ("ipv4.dstAddr = 1\nsend port", "1:6: ipv4 has no field dstAddr", "did you mean ipv4.dst?", "ipv4.dst = 1\nsend port"),
+        ("ipv6.ttl -= 1\nsend port", "1:6", "did you mean ipv6.hops?", "ipv6.hops -= 1\nsend port"),
+        ("need udp.port == 53\nsend port", "1:10", "udp.sport or udp.dport", "need udp.sport == 53 or udp.dport == 53\nsend port"),
+        ("need tcp.syn\nsend port", "1:10", "did you mean tcp.flags & 2?", "need tcp.flags & 2\nsend port"),
+        ("need ip.src == 10.0.0.1\nsend port", "1:6: there is no header ip", "did you mean ipv4?", "need ipv4.src == 10.0.0.1\nsend port"),
+        ("need dns.id == 5\nsend port", "1:6", "header dns { a:8 } after udp if udp.dport == 7",
+         "header dns { id:16 } after udp if udp.dport == 53\nneed dns.id == 5\nsend port"),
+        ("need dport == 53\nsend port", "1:6: dport is no variable here", "did you mean tcp.dport or udp.dport or l4.dport?", "need l4.dport == 53\nsend port"),
+        ("push vlan\nsend port", "2:1", "push vlan { pcp = 1 }", "push vlan { pcp = 1 }\nsend port"),
+        ("push vlan { vid: 5 }\nsend port", "1:16", "an = is before the value", "push vlan { vid = 5 }\nsend port"),
+        ("tcp dport 80 drop", "1:1: tcp cannot be assigned to", "if tcp.dport == 80 { drop }", "if tcp.dport == 80 { drop }"),
+        ("need tcp.dport in 80-90\nsend port", "1:19", "a range has two points", "need tcp.dport in 80..90\nsend port"),
+        ("need tcp.dport == {80, 443}\nsend port", "1:19", "x in {1, 2}", "need tcp.dport in {80, 443}\nsend port"),
+        ("need tcp.dport == 80..90\nsend port", "1:21: no statement begins with '..'", "a range comes after `in`", "need tcp.dport in 80..90\nsend port"),
+        ("if tcp.dport not in {80} { drop }\nsend port", "1:14", "not x in {1, 2}", "if not tcp.dport in {80} { drop }\nsend port"),
+        ("if ipv4.src in 10/8 { drop }\nsend port", "1:16: the first 8 of 32 bits of 10 are all 0", "as in 10.0.0.0/8",
+         "if ipv4.src in 10.0.0.0/8 { drop }\nsend port"),
+        ("need eth.dst == 02-00-00-00-00-01\nsend port", "1:17: 02-00-00-00-00-01 is no number", "02:00:00:00:00:01",
+         "need eth.dst == 02:00:00:00:00:01\nsend port"),
+        ("need eth.dst == 0200.0000.0001\nsend port", "1:17", "an Ethernet address has colons", "need eth.dst == 02:00:00:00:00:01\nsend port"),
+        ("if ipv4.ttl == 1:\n    drop\nsend port", "1:17", "within braces", "if ipv4.ttl == 1 { drop }\nsend port"),
+        ("if ipv4.ttl == 1 AND tcp { drop }\nsend port", "1:18", "write and, in small letters", "if ipv4.ttl == 1 and tcp { drop }\nsend port"),
+        ("reject", "1:1", "write drop", "drop"),
+        ("Drop", "1:1", "write drop, in small letters", "drop"),
+        ("drop bad\nsend port", "1:6", 'drop "why"', 'need tcp else drop "bad"\nsend port'),
+        ("send port 1", "1:11: no statement begins with '1'", "send 1 is one", "ports 2\nsend 1"),
+        ("ports = 4\nsend 0", "1:7: the number of ports is wanted here", "leave the = out", "ports 4\nsend 0"),
+        ("ring SLOW = 0\nsend SLOW", "2:6: SLOW is a ring", "queue SLOW", "ring SLOW = 0\nqueue SLOW"),
+        ("let h = lookup ipv4.dst\nsend 0", "1:16", "table ROUTES = 0", "table ROUTES = 0\nlet h = lookup ROUTES ipv4.dst\nsend 0"),
+        ("let h = lookup 0 ipv4.dst else { h = 0 }\nsend 0", "1:34", "the `else` part has no h", "let h = lookup 0 ipv4.dst else { drop }\nsend 0"),
+        ("clone this from 1\nsend port", "1:7", "the new packet has a name of its own", "clone c from 1\nsend port"),
+        ("clone c from 1\nc.truncate(64)\nsend port", "2:1", "truncate c 64", "clone c from 1\ntruncate c 64\nsend port"),
+        ("if ipv4 { const X = 5 }\nsend port", "1:11: no statement begins with 'const'", "outside of all blocks", "const X = 5\nsend port"),
+        ("const X = ipv4.ttl\nsend port", "1:11", "let X = ..", "let X = ipv4.ttl\nsend port"),
+        ("need ipv4 drop\nsend port", "2:1", "`need c` drops by itself", "need ipv4 else drop\nsend port"),
+        ("header h { a:8, b:8 }\nsend port", "1:15", "blanks before the next one", "header h { a:8 b:8 }\nsend port"),
+        ("header h { a:0 b:8 }\nsend port", "1:8: the field a has no bits", "1 to 64 bits", "header h { a:1 b:7 }\nsend port"),
+        ("header h { a:3 }\nsend port", "1:8", "rest:5", "header h { a:3 rest:5 }\nsend port"),
+        ("header h { a:8 } after udp if dport == 5\nsend port", "1:31", "after udp if udp.dport == 1",
+         "header h { a:8 } after udp if udp.dport == 1\nsend port"),
+        ("count(dns)\nsend port", "1:1: no statement begins with 'count'", "without quotes and parentheses", "count dns\nsend port"),
+        ("need tcp.dport in {80, 443,}\nsend port", "1:28", "no comma at its end", "need tcp.dport in {80, 443}\nsend port"),
+        ("f(1)\ndef f(x) { drop }", "1:1: no statement begins with 'f'", "def f() { .. }, before it", "def f(x) { drop }\nf(1)"),
+        ("need ipv6.src_hi in 2001:db8::/32\nsend port", "1:21", "name the whole field", "need ipv6.src in 2001:db8::/32\nsend port"),
+        ("drop \u201cwhy\u201d", "1:6: no word begins with '\u201c'", "plain double quotes", 'drop "why"'),
+        ("def f() { drop ? }\nsend port", "1:16: no word begins with '?'", "if c {", "def f() { drop }\nsend port"),
+    )
+
+    def test_each_cure_helps(self) -> None:
+        for source, place, cure, mended in self.SLIPS:
+            with self.subTest(source):
+                with self.assertRaises(SourceError) as caught:
+                    compile_text(source)
+                said = error_text(caught.exception, "x.pkt", source)
+                self.assertIn("x.pkt:" + place, said)
+                self.assertIn(cure, said.partition("\n  help: ")[2])
+                self.assertGreater(count(mended), 0)
+
+
 class Limits(unittest.TestCase):
     """Texts of any size end soon, in a program or in an error with a place, without deep calls."""
 
@@ -560,11 +643,13 @@ send port"""
 
         for options in (b"", bytes(4), bytes(24), bytes(40)):
             for summed in (True, False):
-                frames = [udp(68, 67, it, options=options, summed=summed) for it in (data(3, 0), data(3, 5), data(16, 5), data(3, 0)[:27], data(3, 5)[:28])]
-                wanted = [udp(68, 67, it, options=options, summed=summed) for it in (data(4, 0xC00002FE), data(4, 5), data(3, 0)[:27], data(4, 5)[:28])]
+                before = data(3, 0), data(3, 5), data(16, 5), data(3, 0)[:27], data(3, 5)[:28]
+                after = data(4, 0xC00002FE), data(4, 5), data(3, 0)[:27], data(4, 5)[:28]
+                frames, wanted = ([udp(68, 67, it, options=options, summed=summed) for it in some] for some in (before, after))
                 self.assertEqual(sent(relay, *frames)[0], wanted)
             last = udp(68, 67, data(3, 5, 5), options=options, summed=False)
-            self.assertEqual(sent(relay, last, last[:-2])[0], [udp(68, 67, data(4, 5, 5, 8), options=options, summed=False), last[:-2].replace(b"\1\1\6\3", b"\1\1\6\4")])
+            wanted = [udp(68, 67, data(4, 5, 5, 8), options=options, summed=False), last[:-2].replace(b"\1\1\6\3", b"\1\1\6\4")]
+            self.assertEqual(sent(relay, last, last[:-2])[0], wanted)
 
     def test_pushed_headers(self) -> None:
         inner = ipv4(1, bytes(8))
@@ -596,14 +681,16 @@ send port"""
         outer = outer[:10] + struct.pack(">H", checksum(outer)) + outer[12:]
         self.assertEqual(sent(source, eth(inner))[0], [eth(b"")[6:12] + eth(b"")[:6] + b"\x08\0" + outer + inner])
         fields = "tos = ipv4.tos ttl = ipv4.ttl id = ipv4.id len = ipv4.len + 50"
-        source = f"push eth {{ dst = 1 src = 2 }} ipv4 {{ {fields} }} udp {{ sport = ipv4.src ^ ipv4.dst & 0xffff len = ipv4.len + 30 }} vxlan {{ vni = 5 }}\nsend port"
+        source = f"push eth {{ dst = 1 src = 2 }} ipv4 {{ {fields} }}\n"
+        source += "udp { sport = ipv4.src ^ ipv4.dst & 0xffff len = ipv4.len + 30 } vxlan { vni = 5 }\nsend port"
         outer = struct.pack(">BBHHHBBHQ", 0x45, 0, len(inner) + 50, 1, 0, 64, 17, 0, 0)
         outer = outer[:10] + struct.pack(">H", checksum(outer)) + outer[12:]
         rest = struct.pack(">HHHHII", (0x0A000001 ^ 0x0207) & 0xFFFF, 4789, len(inner) + 30, 0, 0x08000000, 0x500)
         self.assertEqual(sent(source, eth(inner))[0], [struct.pack(">HIHIH", 0, 1, 0, 2, 0x0800) + outer + rest + eth(inner)])
 
     def test_a_pushed_product_with_0(self) -> None:
-        self.assertEqual(sent("push ipv4 { len = eth.type * 0 ttl = 64 }\nsend port", eth(b""))[0], [bytes.fromhex("4500000000000000400 07aff".replace(" ", "")) + bytes(8) + eth(b"")])
+        frame = bytes.fromhex("450000000000000040007aff") + bytes(8) + eth(b"")
+        self.assertEqual(sent("push ipv4 { len = eth.type * 0 ttl = 64 }\nsend port", eth(b""))[0], [frame])
 
     def test_constants_beside_a_field_that_is_pushed(self) -> None:
         frame = eth(b"x" * 46)

@@ -32,7 +32,7 @@ def parse(source: str, folder: pathlib.Path | None = None) -> Program:
     try:
         return parser.program()
     except SourceError as error:
-        raise placed(error, parser.rows) from None
+        raise placed(parser.clearer(error), parser.rows) from None
 
 
 def placed(error: SourceError, rows: list[Row]) -> SourceError:

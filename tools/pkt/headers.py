@@ -144,19 +144,23 @@ def check(header: Header, headers: Headers) -> None:
     """Refuses a meaningless declaration."""
     at, size = header.at, header.size
     for name, span in header.fields.items():
-        require(1 <= span.bits <= 64 and len(span.bytes) <= 8, at, f"the field {name} does not lie within 8 bytes", "split it into two")
-        require(span.end <= 8 * size, at, f"the field {name} goes past the end of the header")
+        require(span.bits, at, f"the field {name} has no bits", "a field has 1 to 64 bits, or 128")
+        require(span.bits <= 64 and len(span.bytes) <= 8, at, f"the field {name} does not lie within 8 bytes", "split it into two")
+        require(span.end <= 8 * size, at, f"the field {name} goes past the end of the header", f"the header has {8 * size} bits, and the first one is 0")
     for other, condition in header.follows.items():
         for it in parts(condition):
             is_own = not isinstance(it, Name) and (not isinstance(it, Field) or it.header == other)
-            require(is_own, it.at, f"the condition after {other} is about fields of {other} and constants")
-    require(min(header.sizes.values()) >= size, at, f"a length of {header.name} is less than the {size} bytes of its fields")
+            field = it.name if isinstance(it, Name) and it.name in headers[other].fields else next(iter(headers[other].fields))
+            require(is_own, it.at, f"the condition after {other} is about fields of {other} and constants",
+                    f"after {other} if {other}.{field} == 1 says where {header.name} is; what else matters is asked where {header.name} is used")
+    require(min(header.sizes.values()) >= size, at, f"a length of {header.name} is less than the {size} bytes of its fields",
+            "the range after `in` begins with a greater number")
     automatic = [name for name, value in header.defaults.items() if value is None]
     require(len(automatic) < 2, at, f"{' and '.join(automatic)} are both `auto`, and each would count the other", "leave one of them out")
     is_plain = header.sum not in automatic or not (header.payload or header.over)
     require(is_plain, at, f"{header.sum} covers more than the header, and `auto` is of the header alone", "leave `= auto` out")
     is_word = not header.sum or header.fields[header.sum].bits == 16 and header.fields[header.sum].bit % 16 == 0
-    require(is_word, at, f"the checksum {header.sum} is one 16-bit word of the header")
+    require(is_word, at, f"the checksum {header.sum} is one 16-bit word of the header", "it has 16 bits, and an even number of bytes before it")
     if header.next:
         check_tag(header, header.fields[header.next], headers)
 

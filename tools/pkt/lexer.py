@@ -1,46 +1,35 @@
 """The lexer: the words of a text, and reading them one after another."""
 import re
+from itertools import pairwise
 from pathlib import Path as File
 
+from .cures import cure_of, field_meant, header_meant
 from .headers import Headers
-from .syntax import THIS, Path, Place, Row, require
+from .syntax import Path, Place, Row, SourceError, require
 
 WORD = re.compile(
     r"(?P<blank>[ \t\r]+|\#[^\n]*)|(?P<line>\n)"
     r"|(?P<ip6>(?:(?:[0-9a-fA-F]{1,4}:){6}|[0-9a-fA-F:]*::(?:[0-9a-fA-F]{1,4}:)*)\d+\.\d+\.\d+\.\d+(?!\d|\.\d)"
     r"|(?:[0-9a-fA-F]{1,4}:){7}[0-9a-fA-F]{1,4}(?![\w:])|[0-9a-fA-F:]*::[0-9a-fA-F:]*)"
+    r"|(?P<foreign>[0-9a-fA-F]{2}(?:-[0-9a-fA-F]{2}){5}(?![\w-])|[0-9a-fA-F]{4}\.[0-9a-fA-F]{4}\.[0-9a-fA-F]{4}(?![\w.]))"
     r"|(?P<ethernet>[0-9a-fA-F]{2}(?::[0-9a-fA-F]{2}){5}(?![0-9a-fA-F:]))"
     r"|(?P<ip>\d+\.\d+\.\d+\.\d+(?!\d|\.\d))|(?P<number>0x[0-9a-fA-F]+|\d+)|(?P<name>[A-Za-z_]\w*)|(?P<string>\"[^\"\n]*\")"
     r"|(?P<sign>\.\.|<<=|>>=|<<|>>|==|!=|<=|>=|[-+*&|^]=|[-+*&|^~<>=(){}.,:/@])|(?P<wrong>.)",
     re.ASCII,
 )
+# The kinds of words that are none, and of numbers.
+WRONG, NUMBERS = ("wrong", "foreign"), ("number", "ip", "ip6", "ethernet")
 RESERVED = frozenset(
     "after and auto chain clone const cut drop else free given header if in length let lookup mend need new next not on optional or otherwise over"
     " pop port ports push queue segments send sum this truncate while".split()
 )
-# The cures for these words out of place.
-CURES = {
-    "=": "compare with ==", "/": "a prefix comes after `in`; there is no division, and >> n divides by 2^n; a comment begins with #",
-    "!": "write `not`", ";": "no sign ends a statement", "&": "write `and`", "|": "write `or`", "-": "write x -= 1", "+": "write x += 1",
-    ":": "an Ethernet address has six groups, and an IPv6 address eight, or :: for groups of 0", '"': "a text ends in its line",
-    "lookup": "let x = lookup ..", "elif": "write `else if`", "else": "an `else` comes after its statement", "the end of the text": "a block ends with }", "true": "write 1",
-    "[": "a list is within braces, x in {1, 2}; a byte of a header is a field", "'": "a text is within double quotes",
-    ".": "a field has no parts, and tcp.flags & 2 is a bit of one; an IPv4 address has four parts",
-    "\ufeff": "save the file without this byte-order mark, which editors do not show",
-}  # fmt: skip
-# The cures where a word is wanted, and the next one, or any other, is in its place.
-CURES_OF_WANTED = {
-    "{,": "a list is within braces: x in {1, 2}", "{": "what belongs to it is within braces: { .. }",
-    "}": "a comma is between two items, and } after the last one",
-}  # fmt: skip
 
 
 def words_of(text: str, line: int = 1) -> list[tuple[str, Place]]:
-    """The words of a text that begins in this line, each with its kind, and one for its end."""
+    """The words of a text that begins in this line, each with its kind, and one for its end. What is no word is one too, for an error."""
     found, begin = [], 0
     for match in WORD.finditer(text):
         kind, at = str(match.lastgroup), Place(line, match.start() - begin + 1, match.group())
-        require_word(kind != "wrong", at, f"no word begins with {at.word!r}")
         if kind == "line":
             line, begin = line + 1, match.end()
         elif kind != "blank":
@@ -48,9 +37,17 @@ def words_of(text: str, line: int = 1) -> list[tuple[str, Place]]:
     return [*found, ("end", Place(line, len(text) - begin + 1, "the end of the text"))]
 
 
-def require_word(holds: object, at: Place, message: str) -> None:
+def require_word(holds: object, at: Place, message: str, kind: str = "") -> None:
     """Raises an error, with the cure for the word at its place."""
-    require(holds, at, message, CURES.get(at.word, ""))
+    if not holds:
+        raise SourceError(at, message, cure_of(at.word, RESERVED, kind=kind))
+
+
+def no_word(kind: str, at: Place) -> SourceError:
+    """The error for what is no word."""
+    if kind == "foreign":
+        return SourceError(at, f"{at.word} is no number", "an Ethernet address has colons, as in 02:00:00:00:00:01")
+    return SourceError(at, f"no word begins with {at.word!r}", cure_of(at.word))
 
 
 class Lexer:
@@ -87,40 +84,62 @@ class Lexer:
         """Whether the next two words are a header and this sign."""
         return self.place().word in self.headers and self.place(1).word == sign
 
-    def take(self, wanted: str = "") -> Place:
+    def take(self, wanted: str = "", cure: str = "") -> Place:
         """The next word, which must be this one."""
         place = self.place()
-        cure = CURES.get(place.word) or CURES_OF_WANTED.get(wanted + place.word) or CURES_OF_WANTED.get(wanted, "")
-        require(not wanted or self.sees(wanted), place, f"{wanted!r} is wanted here, and this is {place.word!r}", cure)
+        if self.kind in WRONG:
+            raise no_word(self.kind, place)
+        if wanted and not self.sees(wanted):
+            # A colon right before a word is one of an address.
+            is_in_address = place.word == ":" and self.place(1)[:2] == (place.line, place.column + 1)
+            cure = cure or cure_of(place.word, RESERVED, "" if is_in_address else wanted, self.kind)
+            raise SourceError(place, f"{wanted!r} is wanted here, and this is {place.word!r}", cure)
         self.next = min(self.next + 1, len(self.words) - 1)
         return place
+
+    def clearer(self, error: SourceError) -> SourceError:
+        """The error itself, or what is wrong with the word where the parser is: it is none, or letters come right after a number."""
+        if self.kind in WRONG:
+            return no_word(self.kind, self.place())
+        for (other, before), (kind, at) in pairwise(self.words[max(self.next - 2, 0) : self.next + 1]):
+            is_joined = at[:2] == (before.line, before.column + len(before.word)) and other in NUMBERS and kind == "name"
+            if is_joined and error.at == at:
+                whole = before._replace(word=before.word + at.word)
+                return SourceError(whole, f"{whole.word} is no number", "a number is decimal, or hexadecimal as 0x1f, and has only digits")
+        return error
 
     def may(self, word: str) -> bool:
         """Whether the next word is this one; takes it then."""
         return bool(self.sees(word) and self.take())
 
-    def name(self, what: str, may_be_reserved: bool = False) -> Place:
+    def name(self, what: str, may_be_reserved: bool = False, cure: str = "") -> Place:
         """The next word, which must be a name."""
         at = self.place()
         is_name, is_now = self.kind == "name" and (at.word not in RESERVED or may_be_reserved), "a reserved word" if at.word in RESERVED else "none"
-        cure = "drop, which drops all packets" if at.word == THIS else "take another name" if at.word in RESERVED else ""
+        cure = cure or ("take another name" if at.word in RESERVED else cure_of(at.word))
         require(is_name, at, f"the name of {what} is wanted here, and {at.word!r} is {is_now}", cure)
         return self.take()
 
     def header_name(self) -> Place:
         """The name of a header."""
         at = self.place()
-        require(self.kind == "name" and at.word in self.headers, at, f"a header is wanted here, and {at.word!r} is none", self.known_headers())
+        if self.kind != "name" or at.word not in self.headers:
+            raise SourceError(at, f"a header is wanted here, and {at.word!r} is none", self.known_headers(at.word))
         return self.take()
 
-    def known_headers(self) -> str:
-        """The known headers, for an error."""
-        return f"the known headers are {', '.join(self.headers)}"
+    def known_headers(self, word: str) -> str:
+        """The headers, and the one that may be meant by a word, for an error."""
+        near = header_meant(word, self.headers)
+        declared = f"; header {word} {{ a:8 }} after udp if udp.dport == 7, before it, declares one"
+        return f"{f'did you mean {near}? ' if near else ''}the known headers are {', '.join(self.headers)}{'' if near else declared}"
 
     def field_name(self, header: str) -> str:
         """The name of a field of a header."""
         name, fields = self.name("a field", may_be_reserved=True), {**self.headers[header].fields, **self.headers[header].wide}
-        require(name.word in fields, name, f"{header} has no field {name.word}", f"its fields are {', '.join(fields)}")
+        if name.word not in fields:
+            near = name.word if name.word in self.headers else field_meant(header, name.word, fields)
+            cure = f"{f'did you mean {near}? ' if near else ''}its fields are {', '.join(fields)}"
+            raise SourceError(name, f"{header} has no field {name.word}", cure)
         return name.word
 
     def path(self) -> Path:
@@ -132,4 +151,5 @@ class Lexer:
             cure = f"it follows {', '.join(before)}" if before else "it follows no other"
             require(before.keys() & {*names}, at, f"{at.word} cannot follow {names[-1]}", cure)
             names.append(at.word)
+        require(not self.sees("."), self.place(), "a path has headers, and no fields", f"{names[-1]} alone, or its field alone")
         return tuple(names)

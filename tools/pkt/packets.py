@@ -16,7 +16,8 @@ MAX_BUFFER, MAX_SEGMENTS = 4_096, 64
 
 def register_of(way: Way, name: str) -> int:
     """The register of a packet."""
-    require(name in way.held, way.at, f"{name} may be gone here: it was sent, chained or freed on a way that leads here")
+    require(name in way.held, way.at, f"{name} may be gone here: it was sent, chained or freed on a way that leads here",
+            "use it before that, or have clone or new make another one")
     return way.held[name]
 
 

@@ -4,12 +4,12 @@ import operator
 from collections.abc import Callable, Iterator
 from contextlib import contextmanager
 from dataclasses import dataclass, field, replace
-from difflib import get_close_matches
 from pathlib import Path as File
 from typing import NamedTuple
 
+from .cures import CURES, FIELD, cure_of, number_meant
 from .headers import Header, Headers, Span, check
-from .lexer import CURES, RESERVED, Lexer, require_word
+from .lexer import RESERVED, Lexer, require_word
 from .syntax import (
     BIGGEST, PORT, PRIME, THIS, And, Assign, Binary, Block, Chain, Clone, Compare, Count, Cut, Drop, Field, Found, Free, If, Inline, Length, Let, Lookup, Mend,
     Name, Need, New, Node, Not, Number, Numeric, Or, Path, Place, Pop, Push, Pushed, Row, Send, SourceError, Truncate, While, Wide, goes_on, parts, require,
@@ -40,8 +40,19 @@ STATEMENTS: dict[str, tuple[type[Node], str]] = {
 
 # The cure where a constant is wanted, and a number is none.
 EACH = "if x == 1 { .. } else if x == 2 { .. } has a case for each number that matters"
+# The cures where the number of one of these is wanted.
+NUMBERED = {"table": "table ROUTES = 0, and let x = lookup ROUTES ipv4.dst", "pool": "pool CLONES = 1, and clone c from CLONES"}
 # What is no number, and the cures where one is wanted.
-NO_NUMBERS = {"a set": "x in {}", "a packet": "send {} to ..", "a def": "{}(..) is a statement", "a table": "let x = lookup {} ..", "a pool": "", "a ring": ""}
+NO_NUMBERS = {
+    "a set": "x in {}", "a packet": "send {} to ..", "a def": "{}(..) is a statement", "a table": "let x = lookup {} ..", "a pool": "clone c from {}",
+    "a ring": "queue {}",
+}  # fmt: skip
+# The cures for signs where a statement is wanted.
+NO_STATEMENTS = {
+    "}": "no block is open here: a { is missing before, or this } is one too many", "{": "a block comes after a condition, `else` or a `def`",
+    "(": 'no parentheses are after drop, send and count: drop "why"',
+    **dict.fromkeys(COMPARISONS, "a condition is no number: if c { x = 1 } else { x = 0 }"),
+}  # fmt: skip
 # The words that begin a declaration where a name or a text is after them; elsewhere they are names.
 WORDS = ("set", "def", "include", "table", "pool", "ring", "extend")
 
@@ -81,15 +92,19 @@ class Program:
 
 def as_side(node: Node) -> Node:
     """A side of a comparison."""
-    require(isinstance(node, Numeric), node.at, "a condition is where a number is wanted", "`and`, `or` and `not` join conditions; `if` decides by them")
+    cure = "`and`, `or` and `not` join conditions, as in 1 < x and x < 5; `if` decides by them"
+    if isinstance(node, Found):
+        cure = f"{node.path[-1]} alone asks whether the header is there; its fields are numbers"
+    require(isinstance(node, Numeric), node.at, "a condition is where a number is wanted", cure)
     return node
 
 
 def as_number(node: Node) -> Node:
     """A node that must be a number of at most 64 bits, other than the length."""
     is_one = not isinstance(node, Wide)
-    require(is_one, node.at, "an IPv6 address is only compared with == and !=, looked for by `in`, and assigned", "its halves are numbers, as ipv6.src_hi")
-    require(not isinstance(node, Length), node.at, "the length is only compared with a constant", "the machine has no length as a number")
+    require(is_one, node.at, "an IPv6 address is only compared with == and !=, looked for by `in`, and assigned", "its halves are numbers, as ipv6.src_hi; "
+            "const A = 2001:db8::1 names an address")
+    require(not isinstance(node, Length), node.at, "the length is only compared with a constant", "no instruction has it as a number, but ipv4.len is one")
     return as_side(node)
 
 
@@ -156,10 +171,10 @@ def substituted(formula: Node, value: Node) -> Node:
     return value if isinstance(formula, Name) else formula
 
 
-def constant_of(node: Node) -> int:
+def constant_of(node: Node, cure: str = "") -> int:
     """The value of a number that must be constant."""
     if not isinstance(node, Number):
-        cure = f"const {node.at.word} = .. makes one" if isinstance(node, Name) and node.at.word != PORT else EACH
+        cure = cure or (f"const {node.at.word} = .. makes one" if isinstance(node, Name) and node.at.word != PORT else EACH)
         raise SourceError(node.at, f"a constant is wanted here, and {node.at.word!r} is none", cure)
     return node.value
 
@@ -180,6 +195,7 @@ class Parser(Lexer):
         self.unknown: list[Place] = []
         self.depth = self.statements = self.operators = 0
         self.given: set[str] = set()
+        self.looked_up = ""
 
     def condition(self) -> Node:
         """A condition."""
@@ -202,7 +218,8 @@ class Parser(Lexer):
             return number
         is_known = what not in ("table", "pool", "ring") or self.kind != "name" or self.place().word in {*self.names, *RESERVED}
         require(is_known, self.place(), f"there is no {what} {self.place().word}", f"{what} {self.place().word} = 0, before it, names one")
-        at, value, limit = self.place(), self.constant(), limit or LIMITS[what]
+        require(not self.sees("="), self.place(), f"the {what} is wanted here, and this is '='", "leave the = out")
+        at, value, limit = self.place(), constant_of(self.number(), NUMBERED.get(what, "")), limit or LIMITS[what]
         require(least <= value <= limit, at, f"the {what} is from {least} to {limit:,}, and this is {value:,}")
         return value
 
@@ -297,7 +314,8 @@ class Parser(Lexer):
             return And(left.at, self.compared(">=", left, item.number), self.compared("<=", left, item.last))
         if item.depth is not None:
             bits = self.prefix_bits(left, item.number)
-            require(item.depth <= bits, item.at, f"the prefix has at most {bits} bits, and this is {item.depth}")
+            require(item.depth <= bits, item.at, f"the prefix has at most {bits} bits, and this is {item.depth}", "a prefix is as in 10.0.0.0/8")
+            self.refuse_short(item, bits)
             return in_prefix(left, item.number, item.depth, bits)
         return self.compared("==", left, item.number)
 
@@ -309,10 +327,18 @@ class Parser(Lexer):
             constant_of(right)
         require(bits or of_address, right.at, "how many bits has this number? A prefix counts from the first one", "compare with >> and ==")
         fits = not bits or not of_address or bits == of_address
-        require(fits, right.at, f"the address has {of_address} bits, and the field before `in` {bits}", "write the prefix as wide as the field")
+        cure = "name the whole field, as in ipv6.src" if of_address == 128 else "write the prefix as wide as the field"
+        require(fits, right.at, f"the address has {of_address} bits, and the field before `in` {bits}", cure)
         if isinstance(left, Field):
             self.require_fits(left, right)
         return bits or of_address
+
+    def refuse_short(self, item: Item, bits: int) -> None:
+        """Refuses a prefix of a number that has no bits so far in front, as in 10/8."""
+        depth, value = item.depth or 0, item.number
+        is_short = isinstance(value, Number) and not value.width and value.value and 0 < depth < bits and value.value >> bits - depth == 0
+        fault = f"the first {depth} of {bits} bits of {item.number.at.word} are all 0"
+        require(not is_short, item.number.at, fault, "a prefix begins with an address, as in 10.0.0.0/8, or has all its digits, as in 0x0a000000/8")
 
     def span_of(self, it: Field) -> Span:
         """The bits of a field within its header."""
@@ -322,8 +348,9 @@ class Parser(Lexer):
         """Refuses a constant that no value of a field is."""
         if isinstance(it, Field) and isinstance(value, Number):
             span, name = self.span_of(it), f"{it.header}.{it.name}"
-            require(value.value <= span.largest, value.at, f"{name} has {span.bits} bits, and is at most {span.largest:,}: this is {value.value:,}",
-                    f"{value.value & span.largest} are its lowest {span.bits} bits")
+            cure = f"{value.value & span.largest} are its lowest {span.bits} bits"
+            cure = "it is below 0, and was cut to 64 bits; a range has two points: x in 1..5" if value.wraps else cure
+            require(value.value <= span.largest, value.at, f"{name} has {span.bits} bits, and is at most {span.largest:,}: this is {value.value:,}", cure)
 
     def compared(self, sign: str, left: Node, right: Node) -> Node:
         """A comparison of sides that fit one another."""
@@ -344,12 +371,13 @@ class Parser(Lexer):
                 if self.take().word == "~":
                     return combined("^", self.operand(), Number(at, BIGGEST))
                 node = self.operation()
-                self.take(")")
+                self.take(")", "" if self.sees(",") else f"the ( in line {at.line}, column {at.column} is open")
                 return node
         if self.may("length"):
             return Length(at)
         require(not self.sees("-"), at, "a number or a condition is wanted here, and this is '-'", "numbers are unsigned: 0 - 1 is 2^64 - 1")
-        require_word(self.kind == "name", at, f"a number or a condition is wanted here, and this is {at.word!r}")
+        require(self.kind != "end", at, f"a number or a condition is wanted here, and this is {at.word!r}", "what is before it is not whole")
+        require_word(self.kind == "name", at, f"a number or a condition is wanted here, and this is {at.word!r}", self.kind)
         return self.named(at)
 
     def named(self, at: Place) -> Node:
@@ -358,13 +386,23 @@ class Parser(Lexer):
             return self.field() if self.place(1).word == "." else Found(at, self.path())
         if at.word in self.constants:
             return replace(self.constants[at.word], at=self.take())
-        require(self.place(1).word != ".", at, f"there is no header {at.word}", self.known_headers())
+        if self.place(1).word == ".":
+            raise SourceError(at, f"there is no header {at.word}", self.cure_of_header(at.word))
         is_number = self.names.get(at.word) not in NO_NUMBERS
         require(is_number, at, f"{at.word} is {self.names.get(at.word)}, and no number", NO_NUMBERS.get(self.names.get(at.word, ""), "").format(at.word))
-        require_word(at.word not in RESERVED - {PORT}, at, f"a number or a condition is wanted here, and this is {at.word!r}")
+        cure = CURES.get(at.word) or f"a number or a condition is missing before `{at.word}`"
+        require(at.word not in RESERVED - {PORT}, at, f"a number or a condition is wanted here, and this is {at.word!r}", cure)
         if self.names.get(at.word) != "a variable":
             self.unknown.append(at)
         return Name(self.take(), at.word if at.word == PORT else at.word + self.suffix)
+
+    def cure_of_header(self, word: str) -> str:
+        """The cure for a name before a point that is no header."""
+        if self.names.get(word) == "a packet":
+            return f"fields are those of the packet of the program; truncate {word} 64, send {word} to 1 and free {word} are statements"
+        if self.place(2).word in self.headers:
+            return f"write {self.place(2).word} without {word}."
+        return "port is where the packet came from, and length how many bytes it has" if word in ("meta", "packet", "pkt", "skb") else self.known_headers(word)
 
     def ipv6(self) -> Wide:
         """An IPv6 address."""
@@ -380,7 +418,7 @@ class Parser(Lexer):
         kind, at = self.kind, self.take()
         if kind == "ip":
             digits = [int(part[-4:]) + 256 * (len(part.lstrip("0")) > 3) for part in at.word.split(".")]
-            require(max(digits) <= 255, at, "a part of an address is at most 255")
+            require(max(digits) <= 255, at, "a part of an address is at most 255", "write each of the four parts as 0 to 255")
             return int.from_bytes(bytes(digits), "big")
         is_hex = kind == "ethernet" or at.word.startswith("0x")
         digits = at.word.replace(":", "").removeprefix("0x").lstrip("0") or "0"
@@ -407,18 +445,18 @@ class Parser(Lexer):
         """Refuses names that are not numbers."""
         numbers = [word for word, what in self.names.items() if what in ("a variable", "a constant")]
         for at in self.unknown:
-            cure = "write 1" if at.word == "true" else f"let {at.word} = .. makes one, to the end of its block, and const {at.word} = .. a constant"
-            if near := get_close_matches(at.word, numbers, 1):
-                cure = f"did you mean {near[0]}? else {cure}"
+            fields = [(header, name) for header, it in self.headers.items() for name in (*it.fields, *it.wide)]
+            cure = f"the `else` part has no {at.word}, and ends the program" if at.word == self.looked_up else number_meant(at.word, fields, numbers)
             raise SourceError(at, f"{at.word} is no variable here", cure)
 
     def packet(self) -> str:
         """The name of a new packet."""
-        return self.name("a packet").word + self.suffix
+        return self.name("a packet", cure="clone c from 1: the new packet has a name of its own").word + self.suffix
 
     def packet_held(self) -> str:
         """A packet that exists."""
-        at = self.name("a packet")
+        is_freed = self.words[self.next - 1][1].word == "free"
+        at = self.name("a packet", cure="drop, which drops all packets" if is_freed else "the name is that of a packet that clone or new made")
         cure = f"`clone {at.word} from 0` or `new {at.word} from 0` makes one, to the end of its block"
         require(self.names.get(at.word) == "a packet", at, f"there is no packet {at.word} here", cure)
         return at.word + self.suffix
@@ -434,7 +472,7 @@ class Parser(Lexer):
     def packet_first(self) -> str:
         """A packet named before a count, or the packet of the program."""
         word = self.place().word
-        is_number = word in self.constants or word in self.headers or self.names.get(word) == "a variable"
+        is_number = word in self.constants or word in self.headers or self.names.get(word) == "a variable" or word == "length"
         return self.packet_held() if not self.may(THIS) and self.kind == "name" and not is_number else THIS
 
     def packet_on(self) -> str:
@@ -450,7 +488,7 @@ class Parser(Lexer):
             self.take("{")
             with self.nested("blocks"):
                 while not self.may("}"):
-                    found += self.statement(tuple(found[-1:]))
+                    found += self.statement(tuple(found[-2:]))
         self.names = outside
         return tuple(found)
 
@@ -479,7 +517,7 @@ class Parser(Lexer):
         require(self.statements <= MAX_STATEMENTS, at, f"more than {MAX_STATEMENTS:,} statements", "a program has at most 1,024 instructions")
         if self.starts("count"):
             self.take()
-            all_of: Block = (Count(at, self.name("a counter").word),)
+            all_of: Block = (Count(at, self.name("a counter", cure=CURES["count"]).word),)
         elif self.kind == "name" and at.word in self.functions and self.place(1).word == "(":
             all_of = (self.call(at),)
         elif self.kind == "name" and self.sees(*STATEMENTS):
@@ -491,7 +529,10 @@ class Parser(Lexer):
         if isinstance(it, Drop) and self.kind == "string":
             self.take()
         self.refuse_unknown()
-        require(goes_on(before), at, "control never comes here: the statement before it ends the program", "delete it, or move it up")
+        cure = "delete it, move it up, or end the block before it with }" if self.depth else "delete it, or move it up"
+        if [type(part) for part in before] == [Need, Drop] and before[0].at.line == before[1].at.line:
+            cure = "`need c` drops by itself what is otherwise; `need c else drop` says it"
+        require(goes_on(before), at, "control never comes here: the statement before it ends the program", cure)
         if isinstance(it, (Lookup, Need, Clone, New)) and it.fallback is not None:
             require(not goes_on(it.fallback), at, "what is after this `else` has to end the program", "end it with drop or send")
         if isinstance(it, (Let, Lookup, Clone, New)):
@@ -558,10 +599,14 @@ class Parser(Lexer):
 
     def let(self, at: Place) -> Node:
         """A variable, for a number or what a table has."""
-        name = self.name("a variable").word + self.suffix
-        self.take("=")
+        at_name = self.name("a variable")
+        name = at_name.word + self.suffix
+        self.take("=", f"let {at_name.word} = 0")
         if self.may("lookup"):
-            return Lookup(at, name, *self.slots("table number fallback"))
+            self.looked_up, outside = name, self.looked_up
+            found = Lookup(at, name, *self.slots("table number fallback"))
+            self.looked_up = outside
+            return found
         return Let(at, name, self.number())
 
     def pushed(self) -> tuple[Pushed, ...]:
@@ -574,7 +619,7 @@ class Parser(Lexer):
     def pushed_header(self) -> Pushed:
         """One pushed header, with its fields."""
         header, values = self.header_name(), dict[str, Node | None]()
-        self.take("{")
+        self.take("{", f"the fields are within braces: push {header.word} {{ {next(iter(self.headers[header.word].fields))} = 1 }}")
         while not self.may("}"):
             at, name = self.place(), self.field_name(header.word)
             require(name not in values, at, f"{name} is given twice")
@@ -593,32 +638,45 @@ class Parser(Lexer):
         """Refuses a pushed header without a field that it needs, or with a checksum that `auto` is not."""
         header = self.headers[at.word]
         for name in header.needed:
-            require(name in values, at, f"{at.word}.{name} is not named, and would be 0", f"{name} = .. has what comes after it")
+            require(name in values, at, f"{at.word}.{name} is not named, and would be 0", f"name it with its number, as in {name} = 100")
         automatic = [name for name, value in (header.defaults | values).items() if value is None]
         require(len(automatic) < 2, at, f"{' and '.join(automatic)} are both `auto`, and each would count the other", "give one of them a value")
         is_plain = header.sum not in automatic or not (header.payload or header.over)
         cure = f"{header.sum} = 0 where that means that there is none" if header.optional else "push the header, and assign the checksum"
         require(is_plain, at, f"{at.word}.{header.sum} covers more than the header, and `auto` is of the header alone", cure)
 
+    def cure_of_statement(self, first: Place) -> str:
+        """The cure for a name that was taken and begins no statement."""
+        before = self.words[self.next - 2][1]
+        if before.word == "drop" and before.line == first.line:
+            return 'a reason is within double quotes: drop "why"'
+        other = f"statements begin with {', '.join(STATEMENTS)}, mend, or are assignments"
+        by_sign = {":": f"write {first.word} = ..", "(": f"def {first.word}() {{ .. }}, before it, gives a block this name"}
+        return cure_of(first.word, RESERVED) or by_sign.get(self.place().word, other)
+
     def assignment(self, at: Place, mends: bool) -> Block:
         """An assignment to a variable or field."""
         first, fault = self.place(), f"no statement begins with {self.place().word!r}"
         is_name = self.kind == "name" and first.word not in RESERVED - {PORT}
-        require(not self.sees("}"), first, fault, "no block is open here: a { is missing before, or this } is one too many")
-        require_word(is_name, first, f"a field is wanted here, and {first.word!r} is none" if mends else fault)
+        cure = "mend ipv4.ttl = 64" if mends else NO_STATEMENTS.get(first.word, "a declaration is outside of all blocks")
+        require(first.word not in NO_STATEMENTS and not self.declares(), first, fault, cure)
+        require_word(is_name, first, f"a field is wanted here, and {first.word!r} is none" if mends else fault, self.kind)
         target = self.operand()
         is_assigned = not isinstance(target, Name) or self.sees(*ASSIGNMENTS, "-", "+")
-        cure = CURES.get(first.word) or f"statements begin with {', '.join(STATEMENTS)}, mend, or are assignments"
-        require(is_assigned, first, fault, cure)
+        require(is_assigned, first, fault, self.cure_of_statement(first))
         kind = Mend if mends else Assign
         if isinstance(target, Wide) and isinstance(target.high, Field):
-            self.take("=")
+            self.take("=", "an IPv6 address is assigned whole, by =; its halves are numbers, as ipv6.src_lo")
             value = as_wide(self.operation(NUMBERS))
             return kind(at, target.high, value.high), kind(at, target.low, value.low)
         if not isinstance(target, Field) and (mends or not isinstance(target, Name)):
-            raise SourceError(first, "`mend` assigns to a field" if mends else f"{first.word} cannot be assigned to")
-        sign = self.take()
-        require_word(sign.word in ASSIGNMENTS, sign, f"an assignment is wanted here, and this is {sign.word!r}")
+            is_constant = not isinstance(target, Found)
+            cure = "mend ipv4.ttl = 64" if mends else f"let y = {first.word} makes a variable" if is_constant else CURES["rule"]
+            raise SourceError(first, "`mend` assigns to a field" if mends else f"{first.word} cannot be assigned to", cure)
+        sign = self.place()
+        cure = CURES.get(sign.word) or f"{f'{target.header}.{target.name}' if isinstance(target, Field) else first.word} = 1"
+        require(sign.word in ASSIGNMENTS, sign, f"an assignment is wanted here, and this is {sign.word!r}", cure)
+        self.take()
         value = self.number()
         require(target != Name(at, PORT), at, "port is where the packet came from, and is not assigned to", "let x = port")
         self.require_fits(target, value)
@@ -632,9 +690,9 @@ class Parser(Lexer):
             if not self.declares():
                 path = self.rows[at.line].path
                 require(path is None, at, "an included file has only declarations", "def f() { .. } has statements, and f() uses them")
-                program.statements += self.statement(program.statements[-1:])
+                program.statements += self.statement(program.statements[-2:])
                 continue
-            require(at.word not in said & {"ports", "segments", "otherwise"}, at, f"{at.word} is declared twice")
+            require(at.word not in said & {"ports", "segments", "otherwise"}, at, f"{at.word} is declared twice", "one of them is enough")
             said.add(self.take().word)
             DECLARATIONS[at.word](self, program)
         program.rows = self.rows
@@ -655,7 +713,7 @@ class Parser(Lexer):
         """A name for a number of a table, a pool or a ring."""
         at = self.name(f"a {what}")
         self.declare(at, at.word, f"a {what}")
-        self.take("=")
+        self.take("=", f"{what} {at.word} = 0")
         self.numbered[at.word] = what, self.limited(what)
 
     def declare_table(self, _: Program) -> None:
@@ -670,13 +728,13 @@ class Parser(Lexer):
     def declare_port(self, _: Program) -> None:
         at = self.name("a port")
         self.declare(at, at.word, "a port")
-        self.take("=")
+        self.take("=", f"port {at.word} = 0")
         self.constants[at.word] = Number(at, self.limited("port"))
 
     def declare_set(self, _: Program) -> None:
         at = self.name("a set")
         self.declare(at, at.word, "a set")
-        self.take("=")
+        self.take("=", f"set {at.word} = {{80, 443}}")
         require(self.sees("{"), self.place(), f"'{{' is wanted here, and this is {self.place().word!r}", "set WEB = {80, 443}")
         self.sets[at.word] = self.listed()
         for item in self.sets[at.word]:
@@ -689,7 +747,8 @@ class Parser(Lexer):
         self.take("(")
         while not self.may(")"):
             name = self.name("a parameter")
-            require(name.word not in self.names and name.word not in parameters, name, f"{name.word} is {self.names.get(name.word, 'a parameter')} already")
+            is_new = name.word not in self.names and name.word not in parameters
+            require(is_new, name, f"{name.word} is {self.names.get(name.word, 'a parameter')} already", "take another name")
             parameters.append(name.word)
             self.may(",")
         self.functions[at.word] = Function(tuple(parameters), self.next)
@@ -733,10 +792,10 @@ class Parser(Lexer):
     def declare_const(self, _: Program) -> None:
         at = self.name("a constant")
         self.declare(at, at.word, "a constant")
-        self.take("=")
+        self.take("=", f"const {at.word} = 1")
         value = self.operation(NUMBERS)
         if not isinstance(value, Wide) or not isinstance(value.high, Number):
-            constant_of(as_number(value))
+            constant_of(as_number(value), f"let {at.word} = .. has a number that the packet gives")
         is_whole = not isinstance(value, Number) or not value.wraps
         require(is_whole, value.at, f"{at.word} is not from 0 to 2^64 - 1, and would be cut to 64 bits", "~0 has all 64 bits")
         self.constants[at.word] = value  # type: ignore[assignment]
@@ -749,6 +808,7 @@ class Parser(Lexer):
 
     def declare_given(self, program: Program) -> None:
         at, program.is_for_ring = self.place(), True
+        require(not self.sees("ports", "segments"), at, f"`given` has no {at.word}", f"{at.word} 4 is a declaration of its own")
         what = at.word if self.sees("shared", "length") or at.word == "headroom" else "a path"
         require(what not in self.given, at, f"`given` has {what} already", "one of each is enough")
         self.given.add(what)
@@ -761,7 +821,8 @@ class Parser(Lexer):
         else:
             program.given = self.path()
             is_fixed = not self.headers[program.given[0]].follows and not any(self.headers[name].bits for name in program.given[:-1])
-            require(is_fixed, at, "a given path begins at byte 0, and each header but the last has one length")
+            cure = "as in given eth/ipv4; `need` asks for the rest"
+            require(is_fixed, at, "a given path begins at byte 0, and each header but the last has one length", cure)
 
     def declare_header(self, _: Program) -> None:
         at = self.name("a header")
@@ -782,11 +843,11 @@ class Parser(Lexer):
         self.take("{")
         total = 0
         while not self.may("}"):
-            name = self.name("a field", may_be_reserved=True)
-            require(name.word not in header.fields, name, f"{name.word} is there twice")
+            name = self.name("a field", may_be_reserved=True, cure=FIELD)
+            require(name.word not in header.fields, name, f"{name.word} is there twice", "take another name")
             alias = self.constant() if self.may("@") else None
             self.take(":")
-            bits, first = self.constant(), total if alias is None else alias
+            bits, first = constant_of(self.number(), FIELD), total if alias is None else alias
             total += bits if alias is None else 0
             if bits == 128:
                 self.halves(header, name, first)
@@ -799,7 +860,8 @@ class Parser(Lexer):
                     continue
                 header.defaults[name.word] = default = None if self.may("auto") else self.constant()
                 require(not default or default <= header.fields[name.word].largest, at, f"{name.word} has {bits} bits, and {default} needs more")
-        require(total and total % 8 == 0, header.at, f"the {total} bits of {header.name} do not make whole bytes")
+        cure = f"a last field, as rest:{-total % 8}, fills them" if total else "a header has at least one field"
+        require(total and total % 8 == 0, header.at, f"the {total} bits of {header.name} do not make whole bytes", cure)
         header.size = total // 8
         header.sizes = {0: header.size}
 
