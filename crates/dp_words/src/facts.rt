@@ -18,7 +18,7 @@ pub fn measure_words(part: Measure) -> (&'static str, &'static str) {
 #[derive(Clone, Copy, PartialEq, Eq)]
 pub enum Part {
     Share(u8),
-    Bytes(Measure, u16),
+    Bytes(Measure, u64),
     Segments(u8),
 }
 
@@ -28,10 +28,10 @@ impl fmt::Display for Part {
             Part::Share(0) => return f.write_str("loose"),
             Part::Share(1) => return f.write_str("head sole"),
             Part::Share(2) => return f.write_str("sole"),
-            Part::Share(share) => ("in group p", u16::from(share.saturating_sub(8)), ""),
+            Part::Share(share) => ("in group p", u64::from(share.saturating_sub(8)), ""),
             Part::Bytes(measure, bytes) => (measure_words(measure).0, bytes, ""),
             Part::Segments(1) => ("at most ", 1, " segment"),
-            Part::Segments(segs) => ("at most ", u16::from(segs), " segments"),
+            Part::Segments(segs) => ("at most ", u64::from(segs), " segments"),
         };
         write!(f, "{before}{number}{after}")
     }
@@ -42,10 +42,10 @@ pub fn parts_of(fact: Fact) -> Option<[Part; 6]> {
     let held = fact.holding()?;
     Some([
         Part::Share(held.share),
-        Part::Bytes(Measure::Headroom, held.head),
-        Part::Bytes(Measure::Tailroom, held.tail),
-        Part::Bytes(Measure::First, held.first),
-        Part::Bytes(Measure::Last, held.last),
+        Part::Bytes(Measure::Headroom, u64::from(held.head)),
+        Part::Bytes(Measure::Tailroom, u64::from(held.tail)),
+        Part::Bytes(Measure::First, u64::from(held.first)),
+        Part::Bytes(Measure::Last, u64::from(held.last)),
         Part::Segments(held.segs),
     ])
 }
@@ -57,7 +57,7 @@ pub struct FactText(pub Fact);
 impl fmt::Display for FactText {
     fn fmt<W: fmt::Write>(&self, f: &mut fmt::Formatter<W>) -> fmt::Result {
         let Some(parts) = parts_of(self.0) else {
-            return write!(f, "empty");
+            return f.write_str("empty");
         };
         let mut mark = "";
         for k in 0..6 {

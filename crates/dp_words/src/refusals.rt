@@ -1,10 +1,11 @@
 //! Says in words why a program is refused: the rule, what is known, what is wanted, and what helps.
 
 use crate::facts::{FactText, Part, measure_words};
+use Value::{Bytes, Index, Number};
 use dp_check::{Gap, Measure, Reason};
 use dp_lang::Listed;
-use dp_model::{Fact, Rule};
-use std::fmt;
+use dp_model::{Fact, PacketRegister, Rule};
+use std::fmt::{self, Display};
 
 /// The maximum number of bytes for which an instruction can test.
 const MAX_TESTED: u64 = u16::MAX as u64;
@@ -13,29 +14,65 @@ const MAX_TESTED: u64 = u16::MAX as u64;
 const GIVEN: &str =
     "let the ring declare what given states in its source (share = 2 and head = 128 where it states nothing), or state what the ring declares";
 
-/// Words and a number. In them `#` stands for the register of a reason, and `@` for that number.
-type Words = (&'static str, u64);
+/// A value in words.
+#[derive(Clone, Copy)]
+enum Value {
+    None,
+    Letter(char),
+    Index(u8),
+    Number(u64),
+    Fact(Fact),
+    /// So many bytes of a packet, after an index that can be as great as the first number.
+    Bytes(Measure, u64, u32),
+    /// The segments of a packet, and those of the packet in another register.
+    Segments(u8, PacketRegister, u8),
+    /// A test of a register for at least so many bytes.
+    Test(Measure, PacketRegister, u64),
+}
 
-/// Writes words for a reason.
+impl Display for Value {
+    fn fmt<W: fmt::Write>(&self, f: &mut fmt::Formatter<W>) -> fmt::Result {
+        match *self {
+            Value::None => Ok(()),
+            Value::Letter(letter) => f.write_char(letter),
+            Index(index) => index.fmt(f),
+            Number(number) => number.fmt(f),
+            Value::Fact(fact) => FactText(fact).fmt(f),
+            Bytes(part, 0, count) => Part::Bytes(part, u64::from(count)).fmt(f),
+            Bytes(part, start, count) => write!(f, "{} + {count}", Part::Bytes(part, start)),
+            Value::Segments(known, other, more) => {
+                let (known, more) = (Part::Segments(known), Part::Segments(more));
+                write!(f, "{known}, p{} {more}", other.number())
+            }
+            Value::Test(part, packet, most) => {
+                let (_, test) = measure_words(part);
+                write!(f, "{test} p{},{most},L", packet.number())
+            }
+        }
+    }
+}
+
+/// Writes words, with the first value for each `#` and the second one for each `@`.
 fn write_words<W: fmt::Write>(
     f: &mut fmt::Formatter<W>,
-    reason: Reason,
-    (words, number): Words,
+    words: &str,
+    first: Value,
+    second: Value,
 ) -> fmt::Result {
-    let register = register_of(reason);
-    for c in words.chars() {
-        match c {
-            '#' => write!(f, "{register}")?,
-            '@' => write!(f, "{number}")?,
-            _ => f.write_char(c)?,
-        }
+    for letter in words.chars() {
+        let value = match letter {
+            '#' => first,
+            '@' => second,
+            _ => Value::Letter(letter),
+        };
+        value.fmt(f)?;
     }
     Ok(())
 }
 
-/// The number of the register that a reason is about, the first if there are two; 0 if it is about none.
-fn register_of(reason: Reason) -> u8 {
-    match reason {
+/// The register that a reason is about, the first if there are two; 0 if it is about none.
+fn register_of(reason: Reason) -> Value {
+    Index(match reason {
         Reason::NotHeld { packet }
         | Reason::NotEmpty { packet, .. }
         | Reason::OneRegister { packet }
@@ -51,40 +88,33 @@ fn register_of(reason: Reason) -> u8 {
             Gap::Dead => 0,
         },
         _ => 0,
-    }
+    })
 }
 
 /// Whether the row of a successor wants a packet register to be empty.
 fn wants_none(gap: Gap) -> bool {
-    matches!(
-        gap,
-        Gap::Packet {
-            wanted: Fact::Empty,
-            ..
-        }
-    )
+    matches!(gap, Gap::Packet { wanted, .. } if wanted.holding().is_none())
 }
 
 /// A rule in words.
 #[derive(Clone, Copy)]
 pub struct RuleText(pub Rule);
 
-impl fmt::Display for RuleText {
+impl Display for RuleText {
     fn fmt<W: fmt::Write>(&self, f: &mut fmt::Formatter<W>) -> fmt::Result {
-        let words = match self.0 {
-            Rule::J1 => "the certificate has a row for each instruction",
-            Rule::J2 => "what is known at the entry is enough for the first row",
-            Rule::J3 => "the pool, the table, the ring and each label exist",
-            Rule::J4 => "each packet register that is used holds a packet",
-            Rule::J5 => "the target of alloc and clone is empty, and those of chain differ",
-            Rule::J6 => "the packet has the bytes or the room that the instruction needs",
-            Rule::J7 => "what it writes is not shared",
-            Rule::J8 => "chained packets have at most 64 segments",
-            Rule::J9 => "the port exists, and the packet satisfies what the ring declares",
-            Rule::J10 => "at exit no register holds a packet",
-            Rule::J11 => "the facts after the instruction satisfy the row of each successor",
-        };
-        write!(f, "J{}: {words}", self.0.number())
+        f.write_str(match self.0 {
+            Rule::J1 => "J1: the certificate has a row for each instruction",
+            Rule::J2 => "J2: what is known at the entry is enough for the first row",
+            Rule::J3 => "J3: the pool, the table, the ring and each label exist",
+            Rule::J4 => "J4: each packet register that is used holds a packet",
+            Rule::J5 => "J5: the target of alloc and clone is empty, and those of chain differ",
+            Rule::J6 => "J6: the packet has the bytes or the room that the instruction needs",
+            Rule::J7 => "J7: what it writes is not shared",
+            Rule::J8 => "J8: chained packets have at most 64 segments",
+            Rule::J9 => "J9: the port exists, and the packet satisfies what the ring declares",
+            Rule::J10 => "J10: at exit no register holds a packet",
+            Rule::J11 => "J11: the facts after the instruction satisfy the row of each successor",
+        })
     }
 }
 
@@ -92,49 +122,44 @@ impl fmt::Display for RuleText {
 #[derive(Clone, Copy)]
 pub struct KnownText(pub Reason);
 
-impl fmt::Display for KnownText {
+/// What is known: words, in which `#` stands for the register of the reason, and `@` for the value.
+fn known(reason: Reason) -> (&'static str, Value) {
+    match reason {
+        Reason::RowCount { known, .. } => ("@ rows", Number(known as u64)),
+        Reason::NoEntry => ("no such port or ring", Value::None),
+        Reason::EntryRow(gap) | Reason::Successor { gap, .. } => match gap {
+            Gap::Dead => ("control comes there", Value::None),
+            Gap::Packet { known, .. } | Gap::Group { known, .. } => ("p# @", Value::Fact(known)),
+            Gap::Number { known, .. } => ("r# <= @", Number(known)),
+        },
+        Reason::NoPool { known, .. } => ("the number of pools is @", Number(known as u64)),
+        Reason::NoTable { known, .. } => ("the number of tables is @", Number(u64::from(known))),
+        Reason::NoRing { known, .. } => ("the number of rings is @", Number(known as u64)),
+        Reason::NoInstruction { known, .. } => (
+            "the number of instructions is @",
+            Number(known as u64),
+        ),
+        Reason::NotHeld { .. } => ("p# empty", Value::None),
+        Reason::OneRegister { .. } => ("both are p#", Value::None),
+        Reason::NotEmpty { known, .. }
+        | Reason::LeftOver { known, .. }
+        | Reason::NotAlone { known, .. }
+        | Reason::LessThanRing { known, .. } => ("p# @", Value::Fact(known)),
+        Reason::TooLittle { part, known, .. } => ("p# @", Bytes(part, 0, u32::from(known))),
+        Reason::TooLong {
+            back,
+            known,
+            more,
+            ..
+        } => ("p# @", Value::Segments(known, back, more)),
+        Reason::NoPort { known, .. } => ("r# <= @", Number(known)),
+    }
+}
+
+impl Display for KnownText {
     fn fmt<W: fmt::Write>(&self, f: &mut fmt::Formatter<W>) -> fmt::Result {
-        let register = register_of(self.0);
-        let words = match self.0 {
-            Reason::RowCount { known, .. } => ("@ rows", known as u64),
-            Reason::NoEntry => ("no such port or ring", 0),
-            Reason::EntryRow(gap) | Reason::Successor { gap, .. } => match gap {
-                Gap::Dead => ("control comes there", 0),
-                Gap::Packet { known, .. } | Gap::Group { known, .. } => {
-                    return write!(f, "p{register} {}", FactText(known));
-                }
-                Gap::Number { known, .. } => ("r# <= @", known),
-            },
-            Reason::NoPool { known, .. } => ("the number of pools is @", known as u64),
-            Reason::NoTable { known, .. } => ("the number of tables is @", u64::from(known)),
-            Reason::NoRing { known, .. } => ("the number of rings is @", known as u64),
-            Reason::NoInstruction { known, .. } => (
-                "the number of instructions is @",
-                known as u64,
-            ),
-            Reason::NotHeld { .. } => ("p# empty", 0),
-            Reason::OneRegister { .. } => ("both are p#", 0),
-            Reason::NotEmpty { known, .. }
-            | Reason::LeftOver { known, .. }
-            | Reason::NotAlone { known, .. }
-            | Reason::LessThanRing { known, .. } => {
-                return write!(f, "p{register} {}", FactText(known));
-            }
-            Reason::TooLittle { part, known, .. } => {
-                return write!(f, "p{register} {}", Part::Bytes(part, known));
-            }
-            Reason::TooLong {
-                back,
-                known,
-                more,
-                ..
-            } => {
-                let (known, more) = (Part::Segments(known), Part::Segments(more));
-                return write!(f, "p{register} {known}, p{} {more}", back.number());
-            }
-            Reason::NoPort { known, .. } => ("r# <= @", known),
-        };
-        write_words(f, self.0, words)
+        let (words, value) = known(self.0);
+        write_words(f, words, register_of(self.0), value)
     }
 }
 
@@ -147,70 +172,63 @@ pub struct WantedText<'s, 't> {
     pub source: &'s [Listed<'t>],
 }
 
-impl fmt::Display for WantedText<'_, '_> {
-    fn fmt<W: fmt::Write>(&self, f: &mut fmt::Formatter<W>) -> fmt::Result {
-        let register = register_of(self.reason);
-        if let Reason::Successor { to, .. } = self.reason {
-            match label_at(self.source, usize::from(to)) {
-                Some(label) => write!(f, "at {to}, {label}: ")?,
-                None => write!(f, "at {to}: ")?,
-            }
-        }
-        let words = match self.reason {
-            Reason::RowCount { wanted, .. } => ("@ rows", wanted as u64),
-            Reason::NoEntry => ("a port or ring of the environment", 0),
-            Reason::EntryRow(gap) | Reason::Successor { gap, .. } => match gap {
-                Gap::Dead => ("that control never comes there", 0),
-                Gap::Packet { wanted, .. } | Gap::Group { wanted, .. } => {
-                    return write!(f, "p{register} {}", FactText(wanted));
-                }
-                Gap::Number { wanted, .. } => ("r# <= @", wanted),
-            },
-            Reason::NoPool { pool, .. } => ("a pool with the number @, from 0", u64::from(pool)),
-            Reason::NoTable { table, .. } => (
-                "a table with the number @, from 0",
-                u64::from(table),
-            ),
-            Reason::NoRing { ring, .. } => ("a ring with the number @, from 0", u64::from(ring)),
-            Reason::NoInstruction { to, .. } => (
-                "an instruction with the number @, from 0",
-                u64::from(to),
-            ),
-            Reason::NotHeld { .. } => ("a packet in p#", 0),
-            Reason::NotEmpty { .. } | Reason::LeftOver { .. } => ("p# empty", 0),
-            Reason::OneRegister { .. } => ("two registers", 0),
-            Reason::TooLittle {
-                part,
-                start,
-                count,
-                ..
-            } => {
-                write!(f, "p{register} {}", measure_words(part).0)?;
-                if start > 0 {
-                    write!(f, "{start} + ")?;
-                }
-                ("@", u64::from(count))
-            }
-            Reason::NotAlone { wanted: 2, .. } => ("p# sole", 0),
-            Reason::NotAlone { .. } => ("p# sole or head sole", 0),
-            Reason::TooLong { .. } => ("at most 64 together", 0),
-            Reason::NoPort { ports, .. } => ("r# below @, the number of ports", ports as u64),
-            Reason::LessThanRing { wanted, .. } => {
-                return write!(f, "p{register} {}", FactText(wanted));
-            }
-        };
-        write_words(f, self.reason, words)
+/// What is wanted: words and a value, as of what is known.
+fn wanted(reason: Reason) -> (&'static str, Value) {
+    match reason {
+        Reason::RowCount { wanted, .. } => ("@ rows", Number(wanted as u64)),
+        Reason::NoEntry => ("a port or ring of the environment", Value::None),
+        Reason::EntryRow(gap) | Reason::Successor { gap, .. } => match gap {
+            Gap::Dead => ("that control never comes there", Value::None),
+            Gap::Packet { wanted, .. } | Gap::Group { wanted, .. } => ("p# @", Value::Fact(wanted)),
+            Gap::Number { wanted, .. } => ("r# <= @", Number(wanted)),
+        },
+        Reason::NoPool { pool, .. } => ("a pool with the number @, from 0", Index(pool)),
+        Reason::NoTable { table, .. } => ("a table with the number @, from 0", Index(table)),
+        Reason::NoRing { ring, .. } => ("a ring with the number @, from 0", Index(ring)),
+        Reason::NoInstruction { to, .. } => (
+            "an instruction with the number @, from 0",
+            Number(u64::from(to)),
+        ),
+        Reason::NotHeld { .. } => ("a packet in p#", Value::None),
+        Reason::NotEmpty { .. } | Reason::LeftOver { .. } => ("p# empty", Value::None),
+        Reason::OneRegister { .. } => ("two registers", Value::None),
+        Reason::TooLittle {
+            part,
+            start,
+            count,
+            ..
+        } => ("p# @", Bytes(part, start, count)),
+        Reason::NotAlone { wanted: 2, .. } => ("p# sole", Value::None),
+        Reason::NotAlone { .. } => ("p# sole or head sole", Value::None),
+        Reason::TooLong { .. } => ("at most 64 together", Value::None),
+        Reason::NoPort { ports, .. } => ("r# below @, the number of ports", Number(ports as u64)),
+        Reason::LessThanRing { wanted, .. } => ("p# @", Value::Fact(wanted)),
     }
 }
 
-/// The first label of an instruction, if its text has one.
-fn label_at<'a>(source: &[Listed<'a>], number: usize) -> Option<&'a str> {
-    let listed = source.get(number)?;
-    listed.labels.as_slice().first().copied()
+/// The first label of an instruction, after a mark; nothing if its text has none.
+fn label_at<'a>(source: &[Listed<'a>], number: u16) -> (&'static str, &'a str) {
+    if let Some(listed) = source.get(usize::from(number))
+        && let Some(label) = listed.labels.as_slice().first()
+    {
+        return (", ", *label);
+    }
+    ("", "")
+}
+
+impl Display for WantedText<'_, '_> {
+    fn fmt<W: fmt::Write>(&self, f: &mut fmt::Formatter<W>) -> fmt::Result {
+        if let Reason::Successor { to, .. } = self.reason {
+            let (mark, label) = label_at(self.source, to);
+            write!(f, "at {to}{mark}{label}: ")?;
+        }
+        let (words, value) = wanted(self.reason);
+        write_words(f, words, register_of(self.reason), value)
+    }
 }
 
 /// The node for which a program of the language pkt was built.
-#[derive(Clone, Copy, PartialEq, Eq)]
+#[derive(Clone, Copy)]
 pub enum BuiltFor {
     /// A port, whose packets have at most this many segments.
     Port(u32),
@@ -230,9 +248,9 @@ pub struct HintText {
 }
 
 impl HintText {
-    /// What helps; nothing if a test of a measure does.
-    fn words(&self) -> Option<&'static str> {
-        Some(match self.reason {
+    /// What helps.
+    fn words(&self) -> &'static str {
+        match self.reason {
             Reason::RowCount { .. } | Reason::EntryRow(_) => "let dpv infer write the certificate",
             Reason::NoEntry => "name a port or ring that is there",
             Reason::NoPool { .. } | Reason::NoTable { .. } | Reason::NoRing { .. } =>
@@ -241,15 +259,25 @@ impl HintText {
             Reason::NotHeld { .. } => "put a packet into p# before it, by alloc or clone",
             Reason::NotEmpty { .. } => "free p# before it, or take another register",
             Reason::OneRegister { .. } => "clone the packet, and chain the clone",
-            Reason::TooLittle { packet, part, .. } => match self.built_for {
+            Reason::TooLittle {
+                packet,
+                part,
+                start,
+                count,
+                ..
+            } => match self.built_for {
                 Some(_) if part == Measure::Headroom && packet.number() > 0 =>
                     "let new take its packet from a pool whose room is at least 128",
                 Some(BuiltFor::Ring) => GIVEN,
                 Some(BuiltFor::Port(segs)) if segs > 1 =>
                     "write segments @ in its source, as the port takes packets of @ segments, and build it again",
-                _ => return None,
+                _ if start == 0 => "@ before it",
+                _ if start.saturating_add(u64::from(count)) > MAX_TESTED =>
+                    "bound the index before it by jlt or and: it can be #",
+                _ =>
+                    "bound the index before it by jlt or and: it can be #; @ would do, too, but sends each shorter packet to L",
             },
-            Reason::NotAlone { .. } if self.built_for == Some(BuiltFor::Ring) => GIVEN,
+            Reason::NotAlone { .. } if matches!(self.built_for, Some(BuiltFor::Ring)) => GIVEN,
             Reason::NotAlone { known, .. } => match known {
                 Fact::Held { share: 1, .. } => "append before chain",
                 Fact::Held { share, .. } if share >= 8 =>
@@ -268,56 +296,35 @@ impl HintText {
             _ if self.inferred =>
                 "test or bound it again before control goes there, or leave the loop with what it began with",
             _ => "let dpv infer write the certificate, or test for more before it",
-        })
+        }
     }
 
-    /// The number in these words: of the ports, or of the segments of the packets of a port.
-    fn number(&self) -> u64 {
+    /// The values in these words: the register, and the number of ports or of segments of a port; of a test for bytes their index, and the test.
+    fn values(&self) -> (Value, Value) {
+        let register = register_of(self.reason);
         match self.reason {
-            Reason::NoPort { ports, .. } => ports as u64,
-            _ => match self.built_for {
-                Some(BuiltFor::Port(segs)) => u64::from(segs),
-                _ => 0,
+            Reason::NoPort { ports, .. } => (register, Number(ports as u64)),
+            Reason::TooLittle {
+                packet,
+                part,
+                start,
+                count,
+                ..
+            } => match self.built_for {
+                Some(BuiltFor::Port(segs)) if segs > 1 => (register, Number(u64::from(segs))),
+                _ => {
+                    let most = start.saturating_add(u64::from(count));
+                    (Number(start), Value::Test(part, packet, most))
+                }
             },
+            _ => (register, Value::None),
         }
     }
 }
 
-/// Writes which test of a measure helps, with the greatest number of bytes; if these begin at an index, what bounds that.
-fn write_test<W: fmt::Write>(f: &mut fmt::Formatter<W>, reason: Reason) -> fmt::Result {
-    let Reason::TooLittle {
-        packet,
-        part,
-        start,
-        count,
-        ..
-    } = reason
-    else {
-        return Ok(());
-    };
-    let most = start.saturating_add(u64::from(count));
-    let (test, register) = (measure_words(part).1, packet.number());
-    if start == 0 {
-        return write!(f, "{test} p{register},{most},L before it");
-    }
-    write!(
-        f,
-        "bound the index before it by jlt or and: it can be {start}"
-    )?;
-    if most > MAX_TESTED {
-        return Ok(());
-    }
-    write!(
-        f,
-        "; {test} p{register},{most},L would do, too, but sends each shorter packet to L"
-    )
-}
-
-impl fmt::Display for HintText {
+impl Display for HintText {
     fn fmt<W: fmt::Write>(&self, f: &mut fmt::Formatter<W>) -> fmt::Result {
-        match self.words() {
-            Some(words) => write_words(f, self.reason, (words, self.number())),
-            None => write_test(f, self.reason),
-        }
+        let (first, second) = self.values();
+        write_words(f, self.words(), first, second)
     }
 }
