@@ -4,6 +4,7 @@ use Rattle.std.proofs.lemmas.Slice.{between_to_end}
 use Rattle.dp_pcap.proofs.Offering.{more_offered}
 use Rattle.std.proofs.KnownBytes.{Appends-trans}
 use Rattle.dp_pcap.proofs.Pieces.{take_more-rest}
+use Rattle.std.proofs.lemmas.Grind.{common_steps}
 use Rattle.dp_pcap.proofs.writing.put_rest.Goals as goal
 
 pub loop-at-preserved : goal.loop-at-preserved
@@ -20,3 +21,6 @@ loop-at-preserved g c =
       offered = more_offered _ _ _ c.args.piece.now _ c.loop-at.at _ c.loop-at.invariant.offered pushed.offered
           (between_to_end c.args.piece.now c.loop-at.at (length c.args.piece.now) (omega arith)) (omega (arith, pushed.some (search rules)));
     }
+
+pub returns : goal.returns
+returns g c = grind (arith, common_steps)
