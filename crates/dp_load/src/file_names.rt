@@ -1,7 +1,7 @@
 //! The file names in a pipeline file.
 
 /// The files of a node: its program, and its certificate if one is named.
-#[derive(Debug, Drop)]
+#[derive(Drop)]
 pub(crate) struct NodeNames {
     /// The program file.
     pub node: String,
@@ -10,7 +10,7 @@ pub(crate) struct NodeNames {
 }
 
 /// The files of a port: those of its node, and its captures.
-#[derive(Debug, Drop)]
+#[derive(Drop)]
 pub(crate) struct PortNames {
     /// Its node's files.
     pub files: NodeNames,
