@@ -1,5 +1,5 @@
 -- The lines of statements.
-use Rattle.std.proofs.Common.{◌≡◌, List, [], ◌∷◌, map, Ok, refl, ap, sym, subst, ◌∙◌}
+use Rattle.std.proofs.Common.{◌≡◌, List, [], ◌∷◌, map, Ok, refl, ap, sym, ◌∙◌}
 use Rattle.std.specs.Prelude.{ℕ, Result}
 use Rattle.std.specs.List.{slice_split}
 use Rattle.dp_lang.specs.declared.cause.Fault.{Fault}
@@ -15,10 +15,8 @@ firsts : (statements : List Statement) → map (λ s. s.0) (map view.with_line s
 firsts [] = refl
 firsts (s ∷ statements) = ap (λ lines. s.line ∷ lines) (firsts statements)
 
-pub lines_are : (text : List ℕ) (parts : List (List ℕ)) (source : ProgramSource) (lines : List ℕ) → parts ≡ slice_split is_newline text
-    → lines_of 1 nothing parts ≡ Ok (view.source source) → lines ≡ map (λ s. s.line) source.statements.items → source_lines text ≡ Ok lines
-lines_are text parts source lines e f g =
-    let read : lines_of 1 nothing (slice_split is_newline text) ≡ Ok (view.source source) =
-    subst (λ (p : List (List ℕ)). lines_of 1 nothing p ≡ Ok (view.source source)) e f in
+pub lines_are : (text : List ℕ) (source : ProgramSource) (lines : List ℕ) → lines_of 1 nothing (slice_split is_newline text) ≡ Ok (view.source source)
+    → lines ≡ map (λ s. s.line) source.statements.items → source_lines text ≡ Ok lines
+lines_are text source lines read are =
     let then_lines : Result reading.ProgramSource Fault → Result (List ℕ) Fault = λ r. r >>= (λ source. Ok (map (λ s. s.0) source.statements)) in
-    ap then_lines read ∙ ap Ok (firsts source.statements.items ∙ sym g)
+    ap then_lines read ∙ ap Ok (firsts source.statements.items ∙ sym are)

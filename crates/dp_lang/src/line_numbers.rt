@@ -4,9 +4,8 @@ ghost use Rattle.std.specs.Prelude.{◌≡◌, map, IfOk};
 ghost use Rattle.dp_lang.specs.SourceLines as spec;
 ghost use Rattle.dp_lang.specs.Views.{Gives};
 
-use crate::assembler::read_lines;
+use crate::assembler::read_text;
 use crate::cause::AsmError;
-use crate::lines;
 use crate::statement::Statement;
 use std::alloc::{AllocError, Global};
 
@@ -26,7 +25,6 @@ fn lines_of(alloc: Global, statements: &[Statement<'_>]) -> Result<Vec<usize>, A
 pub fn source_lines(alloc: Global, text: &[u8]) -> Result<Vec<usize>, AsmError>
     ensures { Gives (λ lines. lines.items) result (spec.source_lines text.now) }
 {
-    let lines = lines::split(alloc, text, b'\n')?;
-    let source = read_lines(alloc, &lines)?;
+    let source = read_text(alloc, text)?;
     Ok(lines_of(alloc, &source.statements)?)
 }

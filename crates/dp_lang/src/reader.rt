@@ -46,7 +46,7 @@ fn each_argument<'a>(
     let mut fault = None;
     for (i, kind) in kinds.iter().enumerate() {
         match argument_of(*kind, lines::trim(parts[i])) {
-            Ok(argument) => arguments.push(argument).map_err(|_| LineError::Memory)?,
+            Ok(argument) => arguments.push(argument)?,
             Err(cause) => fault = Some(or_less(fault, cause)),
         }
     }
@@ -187,10 +187,7 @@ pub fn add_line<'a>(
         if source.statements.len() == MAX_INSTRS {
             return Err(LineError::Cause(Cause::Size));
         }
-        source
-            .statements
-            .push(statement)
-            .map_err(|_| LineError::Memory)?;
+        source.statements.push(statement)?;
     }
     Ok(())
 }

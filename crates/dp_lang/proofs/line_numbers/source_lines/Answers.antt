@@ -5,7 +5,5 @@ use Rattle.dp_lang.proofs.line_numbers.source_lines.Goals as goal
 
 pub returns : goal.returns
 returns c =
-    lines_are c.args.text.now (map (λ line. line.now) c.deref.result.now) c.in_ok-source.source _
-    (ap (λ lines. map (λ line. line.now) lines) c.deref.ensures.value ∙ c.in_ok-lines.ensures)
-    c.in_ok-source.ensures
-    (c.in_ok-lines_of.ensures ∙ ap (λ statements. map (λ s. s.line) statements) c.deref-2.ensures.value)
+    lines_are c.args.text.now c.in_ok-source.source _ c.in_ok-source.ensures
+    (c.in_ok-lines_of.ensures ∙ ap (λ statements. map (λ s. s.line) statements) c.deref.ensures.value)

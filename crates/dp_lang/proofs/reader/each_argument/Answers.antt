@@ -6,7 +6,7 @@ use Rattle.dp_lang.specs.declared.form.OperandKind.TheVariants as kinds
 use Rattle.dp_lang.specs.Views.{argument}
 use Rattle.dp_lang.proofs.Loops.{ok_goes_on, err_goes_on}
 use Rattle.dp_lang.proofs.reader.each_argument.Goals as goal
-use Rattle.dp_lang.proofs.reader.each_argument.Goals.{in-Ok+in_ok-map_err-in-Ok, in-Err}
+use Rattle.dp_lang.proofs.reader.each_argument.Goals.{in-Ok+in_ok-push-in-Ok, in-Err}
 
 pub loop-i-preserved : goal.loop-i-preserved
 loop-i-preserved c =
@@ -16,7 +16,7 @@ loop-i-preserved c =
     let lt : i < length ps = omega arith in
     let front = map argument c.loop-i.arguments.items in
     elim c.match-argument_of.branch [
-      | in-Ok+in_ok-map_err-in-Ok w ↦
+      | in-Ok+in_ok-push-in-Ok w ↦
           let items : w.push.new.self.items ≡ c.loop-i.arguments.items ++ w.in-Ok.argument ∷ [] = search rules in
           rw (w.arguments-is, w.fault-is, items, map_push argument c.loop-i.arguments.items w.in-Ok.argument)
           (ok_goes_on ks ps i kinds.Packet (record { ref_ptr = (0, 0); now = [] }) c.loop-i.fault front (argument w.in-Ok.argument) _ c.loop-i-test.true lt
