@@ -489,6 +489,17 @@ class Layout(unittest.TestCase):
             self.assertLess(max(sizes), most)
             self.assertLess(max(sizes) - min(sizes), 5)
 
+    def test_rules_behind_tags_look_once_for_their_headers(self) -> None:
+        tags, rules = "if qinq {}\nif vlan {}\n", "".join(f"if ipv4.dst == 192.0.2.{k} and tcp.dport == {k} {{ drop }}\n" for k in range(20))
+        self.assertLess(count("if vlan {}\n" + rules + "send port"), 430)
+        self.assertLess(count(tags + rules + "send port"), 760)
+        frames = [tcp(2, port, options, dst=f"192.0.2.{end}") for port, end in ((7, 7), (7, 8), (19, 19)) for options in (b"", bytes(8))]
+        given = [change(it) for it in frames for change in (lambda it: it, tagged, lambda it: tagged(it, 5, 0x88A8), lambda it: tagged(tagged(it), 5, 0x88A8))]
+        self.assertEqual(sent(tags + rules + "send port", *given)[0], given[8:16])
+        again = "if ipv4.ttl == 64 { ipv4.tos = 1 }\nif vlan.vid == 7 { drop }\nsend port"
+        few = "".join(rules.splitlines(keepends=True)[:4])
+        self.assertEqual(len(sent("if port == 1 { if vlan { } }\n" + few + again, *given)[0]), 18)
+
     def test_a_header_is_not_looked_for_early_where_that_matters(self) -> None:
         rules = "if ipv4.dst == 1.2.3.4 and udp.dport == 53 { drop }\n"
         frame = udp(5, 53, dst="192.0.2.7")

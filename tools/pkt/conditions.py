@@ -8,7 +8,7 @@ from .headers import Header, Span, Start
 from .parser import COMPARISONS, substituted
 from . import registers
 from .registers import Value
-from .state import EVERYTHING, FAR, NEAR, SOMEBODY_THE_REST, Far, Needs
+from .state import ALL, EVERYTHING, FAR, NEAR, SOMEBODY_THE_REST, Far, Needs
 from .syntax import THIS, And, Bits, Compare, Field, Found, Length, Node, Not, Number, Or, parts, require
 from .ways import Join, Way, paths
 
@@ -164,12 +164,12 @@ def look_for(way: Way, name: str, yes: Join[Way], no: Join[Way]) -> None:
         s.jump(no)
 
 
-def find_early(way: Way, condition: Node, names: list[str]) -> list[Way]:
+def find_early(way: Way, condition: Node, names: list[str], later: Needs) -> list[Way]:
     """Looks for headers that later conditions use, once the first header of this condition was found. Ends this path."""
     while isinstance(condition, (And, Or, Not)):
         condition = condition.condition if isinstance(condition, Not) else condition.left
     first = list(condition.path) if isinstance(condition, Found) else headers_of(way, condition)
-    names = [name for name in names if name not in way.found and name not in first and may_be_early(way, name, first)]
+    names = [name for name in names if name not in way.found and name not in first and may_be_early(way, name, first, later)]
     if not names:
         return [way]
     absent = Join[Way]()
@@ -182,10 +182,10 @@ def find_early(way: Way, condition: Node, names: list[str]) -> list[Way]:
     return ways + list(absent.begin())
 
 
-def may_be_early(way: Way, name: str, first: list[str]) -> bool:
-    """Whether no statement can tell that a header was looked for here: all that it may follow are known, or looked for with it."""
+def may_be_early(way: Way, name: str, first: list[str], later: Needs) -> bool:
+    """Whether no statement can tell that a header was looked for here: all that it may follow are known, looked for with it, or not later."""
     header, search = way.headers[name], way.headers.looked_for(name)
-    is_settled = all(other in way.found for other in header.before - search if other in way.unit.used_headers)
+    is_settled = all(other in way.found or later.isdisjoint({ALL, (other, False)}) for other in header.before - search if other in way.unit.used_headers)
     is_long = any(way.headers[other].bits and other not in first and other not in way.found for other in search - {name})
     return is_settled and not is_long and way.unit.is_early(name)
 

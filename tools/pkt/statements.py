@@ -59,7 +59,8 @@ def block(ways: list[Way], text: Block, after: Join[Way]) -> None:
         # Headers that the conditions of at least two statements in a row use are looked for before the first.
         if isinstance(it, (If, Need)) and not early:
             early = ways[0].unit.used_in_row(text, number)
-        ways = [s for way in ways for s in with_early(way, it, early)]
+        later = end.needs | ways[0].unit.needs_of(text, number)
+        ways = [s for way in ways for s in with_early(way, it, early, later)]
         early = early - ways[0].unit.used_in(it) if isinstance(it, (If, Need)) else Counter()
         ready = Join[Way](end.needs | ways[0].unit.needs_of(text, number + 1))
         for way in ways:
@@ -145,11 +146,11 @@ def otherwise(way: Way) -> None:
         way.drop()
 
 
-def with_early(way: Way, it: Node, early: Counter[str]) -> list[Way]:
+def with_early(way: Way, it: Node, early: Counter[str], later: Needs) -> list[Way]:
     """The paths on which the headers that are often used later were looked for."""
     names = way.headers.in_order(name for name, count in early.items() if count > 1)
     way.at = it.at
-    return conditions.find_early(way, it.condition, names) if names and isinstance(it, (If, Need)) else [way]
+    return conditions.find_early(way, it.condition, names, later) if names and isinstance(it, (If, Need)) else [way]
 
 
 def do_if(way: Way, it: If | Need, after: Join[Way]) -> None:
