@@ -1131,6 +1131,12 @@ class Page(unittest.TestCase):
         text = self.page[self.page.index("## Examples of statements") :]
         self.assertLess(count(text.split("```")[1]), 400)
 
+    def test_a_header_between_two(self) -> None:
+        text = next(it for it in self.page.split("```") if "let to = eth.dst" in it)
+        (frame,) = sent(f"need ipv4\n{text}\nsend port", eth(ipv4(1, bytes(8))))[0]
+        self.assertEqual(frame[34:], ipv4(1, bytes(8)))
+        self.assertEqual((checksum(frame[14:34]), frame[12:14], len(frame)), (0, b"\x08\0", 62))
+
     def test_the_first_program(self) -> None:
         program = (TOP / "examples/nat/nat.pkt").read_text()
         self.assertIn(f"```\n{program}```\n", self.page)
