@@ -123,13 +123,13 @@ fn push_place<'a>(
 
 /// Adds the places of a report.
 fn push_reported(places: &mut Vec<DropPlace<'_>>, report: &Report) -> Result<(), AllocError> {
-    for (k, port) in (0..8u8).zip(report.ports.as_slice()) {
-        let node = Entry::Port(k);
+    for (k, port) in report.ports.as_slice().iter().enumerate() {
+        let node = Entry::Port(k as u8);
         push_place(places, node, DropCause::Oversize, port.oversize)?;
         push_place(places, node, DropCause::NoBuffers, port.nobuf)?;
     }
-    for (k, left) in (0..8u8).zip(report.rings.as_slice()) {
-        push_place(places, Entry::Ring(k), DropCause::Left, *left)?;
+    for (k, left) in report.rings.as_slice().iter().enumerate() {
+        push_place(places, Entry::Ring(k as u8), DropCause::Left, *left)?;
     }
     Ok(())
 }
@@ -216,6 +216,24 @@ fn origin_of<'a>(
     }
 }
 
+/// The counts of an instruction, which belong to this line.
+fn counts_of<'a>(
+    counts: &Counts,
+    source: &NodeSource<'a>,
+    (label, instr): (usize, &Instr),
+    origin: Origin<'a>,
+) -> LineCounts<'a> {
+    let StepCounts { ran, taken, cut } = counts.step(source.node, label);
+    let is_sent = matches!(*instr, Instr::Tx { .. } | Instr::Enq { .. });
+    let passed = ran.wrapping_sub(taken).wrapping_sub(cut);
+    LineCounts {
+        origin,
+        came: ran,
+        sent: if is_sent { passed } else { 0 },
+        dropped: dropped_at(counts, source, label, instr),
+    }
+}
+
 /// Adds the counts of an instruction to those of its line.
 fn add_counts<'a>(lines: &mut Vec<LineCounts<'a>>, more: LineCounts<'a>) -> Result<(), AllocError> {
     for line in lines.as_mut_slice() {
@@ -248,15 +266,10 @@ pub fn lines_counted<'a>(
             && let Some(instr) = source.instrs.as_slice().get(step.label)
         {
             let origin = origin_of(source, (k.saturating_add(1), line.text), before);
-            let StepCounts { ran, taken, cut } = counts.step(source.node, step.label);
-            let passed = ran.wrapping_sub(taken).wrapping_sub(cut);
-            let is_sent = matches!(*instr, Instr::Tx { .. } | Instr::Enq { .. });
-            let more = LineCounts {
-                origin,
-                came: if Some(origin) == before { 0 } else { ran },
-                sent: if is_sent { passed } else { 0 },
-                dropped: dropped_at(counts, source, step.label, instr),
-            };
+            let mut more = counts_of(counts, source, (step.label, instr), origin);
+            if Some(origin) == before {
+                more.came = 0;
+            }
             add_counts(&mut lines, more)?;
             before = Some(origin);
         }
@@ -267,6 +280,18 @@ pub fn lines_counted<'a>(
         line.origin.line.unwrap_or(usize::MAX),
     ))?;
     Ok(lines)
+}
+
+/// Adds a count to the one with its name.
+fn add_named<'a>(all: &mut Vec<NamedCount<'a>>, more: NamedCount<'a>) -> Result<(), AllocError> {
+    for own in all.as_mut_slice() {
+        if own.node == more.node && own.name == more.name {
+            own.packets = own.packets.wrapping_add(more.packets);
+            return Ok(());
+        }
+    }
+    all.push(more)?;
+    Ok(())
 }
 
 /// The counts that have names, in the order of the programs and of the first instruction with each name. A name that stands several times in a program is
@@ -280,7 +305,7 @@ pub fn named_counts<'a>(
     counts: &Counts,
     sources: &[NodeSource<'a>],
 ) -> Result<Vec<NamedCount<'a>>, AllocError> {
-    let mut all: Vec<NamedCount<'a>> = Vec::new(alloc);
+    let mut all = Vec::new(alloc);
     for source in sources {
         let node = source.node;
         for line in source.lines.as_slice() {
@@ -289,15 +314,12 @@ pub fn named_counts<'a>(
                 && let Some((name, _rest)) = counter_in(comment)
             {
                 let packets = counts.step(node, step.label).ran;
-                let mut own = all.as_mut_slice().iter_mut();
-                match own.find(|own| own.node == node && own.name == name) {
-                    Some(own) => own.packets = own.packets.wrapping_add(packets),
-                    None => all.push(NamedCount {
-                        node,
-                        name,
-                        packets,
-                    })?,
-                }
+                let more = NamedCount {
+                    node,
+                    name,
+                    packets,
+                };
+                add_named(&mut all, more)?;
             }
         }
     }

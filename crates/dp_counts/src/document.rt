@@ -1,8 +1,8 @@
 //! The counts of a run as parts of a document.
 
-use crate::by_line::{DropCause, DropPlace, LineCounts, NamedCount, Origin};
+use crate::by_line::{DropCause, DropPlace, LineCounts, NamedCount};
 use crate::counts::Counts;
-use crate::listing::{Total, total_of};
+use crate::listing::{Total, first_eight, total_of};
 use crate::source::{NodeSource, Role, words_of};
 use dp_console::{Document, Item};
 use dp_model::{Entry, Env};
@@ -25,13 +25,29 @@ fn name_of(node: Entry) -> Item<'static> {
 /// The comment of a line of a program, or `null`, and its code.
 fn parts_of(line: &[u8]) -> (Item<'_>, Item<'_>) {
     let words = words_of(line);
-    let comment = words.comment().map_or(Item::Null, Item::Text);
+    let comment = match words.comment() {
+        Some(comment) => Item::Text(comment),
+        None => Item::Null,
+    };
     (comment, Item::Text(words.code()))
 }
 
 /// The number of a line, or `null`.
 fn number_of(line: Option<usize>) -> Item<'static> {
-    line.map_or(Item::Null, |line| Item::Number(line as u64))
+    match line {
+        Some(line) => Item::Number(line as u64),
+        None => Item::Null,
+    }
+}
+
+/// How often the jump of an instruction was taken, and what ended there; each `null` where it cannot be.
+fn outcome_of(role: Role, taken: u64) -> (Item<'static>, Item<'static>) {
+    match role {
+        Role::Plain => (Item::Null, Item::Null),
+        Role::Frees => (Item::Null, Item::Text("freed")),
+        Role::Ends => (Item::Null, Item::Text("ended")),
+        _ => (Item::Number(taken), Item::Null),
+    }
 }
 
 /// The counts of a run: its programs, in UTF-8, with their counts, the sums for each table and each ring, and the least free buffers of each pool.
@@ -57,12 +73,7 @@ impl CountsDocument<'_, '_> {
         for line in source.lines.as_slice() {
             if let Some(step) = line.step {
                 let counts = self.counts.step(source.node, step.label);
-                let (taken, ends) = match step.role {
-                    Role::Plain => (Item::Null, Item::Null),
-                    Role::Frees => (Item::Null, Item::Text("freed")),
-                    Role::Ends => (Item::Null, Item::Text("ended")),
-                    _ => (Item::Number(counts.taken), Item::Null),
-                };
+                let (taken, ends) = outcome_of(step.role, counts.taken);
                 let (comment, text) = parts_of(line.text);
                 let members = [
                     ("comment", comment),
@@ -94,8 +105,8 @@ impl CountsDocument<'_, '_> {
     /// Writes how few buffers of each pool were free.
     fn write_pools(self, to: &mut Document) {
         let free = self.counts.levels().free;
-        for (k, (pool, free)) in self.env.pools().iter().zip(free).enumerate() {
-            let (count, least) = (u64::from(pool.count), u64::from(free.min(pool.count)));
+        for (k, pool) in first_eight(self.env.pools()).iter().enumerate() {
+            let (count, least) = (u64::from(pool.count), u64::from(free[k].min(pool.count)));
             write_numbers(
                 to,
                 &[("count", count), ("least", least), ("pool", k as u64)],
@@ -106,10 +117,10 @@ impl CountsDocument<'_, '_> {
     /// Writes how full each ring was.
     fn write_rings(self, to: &mut Document) {
         let waited = self.counts.levels().waited;
-        for (k, (ring, waited)) in self.env.rings().iter().zip(waited).enumerate() {
+        for (k, ring) in first_eight(self.env.rings()).iter().enumerate() {
             let capacity = ("capacity", u64::from(ring.count.saturating_sub(1)));
             let full = total_of(self.counts, Total::Full(k as u8), self.sources);
-            let most = ("most", u64::from(waited));
+            let most = ("most", u64::from(waited[k]));
             write_numbers(to, &[capacity, ("full", full), most, ("ring", k as u64)]);
         }
     }
@@ -143,28 +154,41 @@ impl CountsDocument<'_, '_> {
     }
 }
 
-impl<'a> Origin<'a> {
-    /// Its file, its line, its comment and its code. What `dpv build` wrote a program from is code alone.
+impl<'a> DropCause<'a> {
+    /// Its word.
+    fn word(self) -> &'static str {
+        match self {
+            DropCause::Oversize => "oversize",
+            DropCause::NoBuffers => "nobuf",
+            DropCause::Left => "left",
+            DropCause::Freed(_) => "freed",
+        }
+    }
+
+    /// The file, the line, the comment and the code that control came from, each `null` if there is none. What `dpv build` wrote a program from is code
+    /// alone.
     fn items(self) -> [Item<'a>; 4] {
-        let (comment, code) = if self.is_built {
-            (Item::Null, Item::Text(self.text))
-        } else {
-            parts_of(self.text.as_bytes())
+        let DropCause::Freed(origin) = self else {
+            return [Item::Null; 4];
         };
-        [Item::Text(self.file), number_of(self.line), comment, code]
+        let (comment, code) = if origin.is_built {
+            (Item::Null, Item::Text(origin.text))
+        } else {
+            parts_of(origin.text.as_bytes())
+        };
+        [
+            Item::Text(origin.file),
+            number_of(origin.line),
+            comment,
+            code,
+        ]
     }
 }
 
 impl DropPlace<'_> {
     /// Adds the place to a document, as a member of this name.
     pub fn write(self, name: &str, to: &mut Document) {
-        let (why, origin) = match self.cause {
-            DropCause::Oversize => ("oversize", None),
-            DropCause::NoBuffers => ("nobuf", None),
-            DropCause::Left => ("left", None),
-            DropCause::Freed(origin) => ("freed", Some(origin)),
-        };
-        let [file, line, comment, text] = origin.map_or([Item::Null; 4], Origin::items);
+        let [file, line, comment, text] = self.cause.items();
         let members = [
             ("comment", comment),
             ("file", file),
@@ -172,7 +196,7 @@ impl DropPlace<'_> {
             ("node", name_of(self.node)),
             ("packets", Item::Number(self.packets)),
             ("text", text),
-            ("why", Item::Text(why)),
+            ("why", Item::Text(self.cause.word())),
         ];
         to.object(name, &members);
     }

@@ -15,12 +15,13 @@ fn print_columns<O: Write>(role: Role, counts: StepCounts, out: &mut O) -> io::R
     ensures { OnOk result (Appends (O.contents out.old) (O.contents out.new) (spec.columns_of role counts)) }
 {
     let StepCounts { ran, taken, .. } = counts;
-    match role {
-        Role::Frees if ran > 0 => write!(out, "{ran:>10}     freed  "),
-        Role::Ends if ran > 0 => write!(out, "{ran:>10}     ended  "),
-        Role::Plain | Role::Frees | Role::Ends => write!(out, "{ran:>10}            "),
-        _ => write!(out, "{ran:>10}{taken:>10}  "),
-    }
+    let word = match role {
+        Role::Frees if ran > 0 => "     freed  ",
+        Role::Ends if ran > 0 => "     ended  ",
+        Role::Plain | Role::Frees | Role::Ends => "            ",
+        _ => return write!(out, "{ran:>10}{taken:>10}  "),
+    };
+    write!(out, "{ran:>10}{word}")
 }
 
 // Prints a text after two empty columns.
@@ -175,7 +176,7 @@ pub fn print_tables<O: Write>(
 }
 
 // The rings or pools that a pipeline can have: the first eight.
-fn first_eight<T>(parts: &[T]) -> &[T]
+pub(crate) fn first_eight<T>(parts: &[T]) -> &[T]
     ensures same { result.now ≡ take 8 parts.now }
     ensures few { length result.now ≤ 8 }
 {

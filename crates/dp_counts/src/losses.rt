@@ -85,9 +85,10 @@ impl Losses {
     pub fn add(&mut self, node: Entry, program: &Program) {
         if is_one_of_eight(node) {
             let place = MAX_INSTRS * usize::from(number_of(node));
-            let requests = self.requests.as_mut_slice().iter_mut().skip(place);
-            for (request, instr) in requests.zip(program.instrs()) {
-                *request = Request::of(instr);
+            for (label, instr) in program.instrs().iter().enumerate() {
+                if let Some(request) = self.requests.get_mut(place + label) {
+                    *request = Request::of(instr);
+                }
             }
         }
     }

@@ -71,9 +71,9 @@ pub(crate) fn words_of(line: &[u8]) -> Words<'_> {
 
 /// The instruction in the line of this number, from 1; `places` has the line of each instruction.
 fn step_at(instrs: &[Instr], places: &[usize], number: usize) -> Option<Step> {
-    for (label, (instr, place)) in instrs.iter().zip(places).enumerate() {
+    for (label, place) in places.iter().enumerate() {
         if *place == number {
-            let role = Role::of(instr);
+            let role = Role::of(instrs.get(label)?);
             return Some(Step { label, role });
         }
     }
