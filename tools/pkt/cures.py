@@ -17,7 +17,6 @@ CURES = {
     "|": "write `or`",
     "-": "write x -= 1",
     "+": "write x += 1",
-    "*": "a number is missing before it",
     "%": "there is no division, and x & 7 is the rest of x by 8",
     ">": "a number is missing before it; a field has a point, as in ipv4.ttl",
     ":": "an Ethernet address has six groups, and an IPv6 address eight, or :: for groups of 0",
@@ -64,6 +63,8 @@ SLIPS = {
     "a rule is as if tcp.dport == 80 { drop }": "host src dst ip ip6 ether rule",
     "a prefix is as ipv4.src in 10.0.0.0/8": "mask net",
     "a name has no sign before it": "@ $",
+    "a list is within braces, x in {1, 2}": "]",
+    "a number is missing before it": "* == != < <= >=",
     "a text is within plain double quotes": "` \u2018 \u2019 \u201c \u201d",
     "type a plain minus sign": "\u2013 \u2014 \u2212",
     RANGE: "to between ..",
@@ -72,10 +73,10 @@ SLIPS = {
 CURES |= {word: cure for cure, words in SLIPS.items() for word in words.split()} | {"\u00a0": "type a plain blank"}
 # The cures where a word is wanted, and the next one, one of this kind, or any other is in its place.
 WANTED = {
-    "{": BRACES, "{:": BRACES, "{the end of the text": BRACES, "{,": "a list is within braces: x in {1, 2}", "{number": COMPARE, "{ip": COMPARE,
-    "}": ITEMS, "}{": ITEMS, ")": "the parenthesis before it is open", "),": LIST, "(": DEF, "({": DEF, "=": ASSIGN, "={": ASSIGN, "=:": ASSIGN,
-    "from": "clone c from 1", "before": "chain h before this", "for": "length v * 4 for v:8 in 5..15", "after": "extend ipv4 after mine if mine.type == 5",
-    ":": FIELD, ":}": FIELD, ":,": FIELD,
+    "{": BRACES, "{:": BRACES, "{the end of the text": BRACES, "{,": "a list is within braces: x in {1, 2}", "{)": "no parenthesis is open here",
+    "{number": COMPARE, "{ip": COMPARE, "}": ITEMS, "}{": ITEMS, ")": "the parenthesis before it is open", "),": LIST, "(": DEF, "({": DEF,
+    "=": ASSIGN, "={": ASSIGN, "=:": ASSIGN, "from": "clone c from 1", "before": "chain h before this", "for": "length v * 4 for v:8 in 5..15",
+    "after": "extend ipv4 after mine if mine.type == 5",
 }  # fmt: skip
 # What others call the known headers, and their fields: of these the first one that a header has.
 HEADERS = {
@@ -110,10 +111,10 @@ def cure_of(word: str, known: Iterable[str] = (), wanted: str = "", kind: str = 
     return exact or CURES.get(word) or ("" if is_small else f"write {word.lower()}, in small letters") or other or of_kind
 
 
-def meant(word: str, known: Iterable[str]) -> str:
-    """The known name that may be meant by a word, or nothing."""
+def meant(word: str, known: Iterable[str], most: int = 1) -> str:
+    """The known names that may be meant by a word, or nothing."""
     names = {name.lower(): name for name in known}
-    return next((names[it] for it in get_close_matches(word.lower(), names, 1, 0.7)), "")
+    return " or ".join(names[it] for it in get_close_matches(word.lower(), names, most))
 
 
 def header_meant(word: str, known: Iterable[str]) -> str:

@@ -116,7 +116,7 @@ class Lexer:
         """The next word, which must be a name."""
         at = self.place()
         is_name, is_now = self.kind == "name" and (at.word not in RESERVED or may_be_reserved), "a reserved word" if at.word in RESERVED else "none"
-        cure = cure or ("take another name" if at.word in RESERVED else cure_of(at.word))
+        cure = cure or ("take another name" if at.word in RESERVED else cure_of(at.word) or "a name begins with a letter")
         require(is_name, at, f"the name of {what} is wanted here, and {at.word!r} is {is_now}", cure)
         return self.take()
 
@@ -129,9 +129,9 @@ class Lexer:
 
     def known_headers(self, word: str) -> str:
         """The headers, and the one that may be meant by a word, for an error."""
-        near = header_meant(word, self.headers)
+        near, is_name = header_meant(word, self.headers), word.isidentifier() and word not in RESERVED
         declared = f"; header {word} {{ a:8 }} after udp if udp.dport == 7, before it, declares one"
-        return f"{f'did you mean {near}? ' if near else ''}the known headers are {', '.join(self.headers)}{'' if near else declared}"
+        return f"{f'did you mean {near}? ' if near else ''}the known headers are {', '.join(self.headers)}{'' if near or not is_name else declared}"
 
     def field_name(self, header: str) -> str:
         """The name of a field of a header."""

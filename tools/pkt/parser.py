@@ -7,7 +7,7 @@ from dataclasses import dataclass, field, replace
 from pathlib import Path as File
 from typing import NamedTuple
 
-from .cures import CURES, FIELD, cure_of, number_meant
+from .cures import CURES, FIELD, cure_of, meant, number_meant
 from .headers import Header, Headers, Span, check
 from .lexer import RESERVED, Lexer, require_word
 from .syntax import (
@@ -50,7 +50,7 @@ NO_NUMBERS = {
 # The cures for signs where a statement is wanted.
 NO_STATEMENTS = {
     "}": "no block is open here: a { is missing before, or this } is one too many", "{": "a block comes after a condition, `else` or a `def`",
-    "(": 'no parentheses are after drop, send and count: drop "why"',
+    "(": 'no parentheses are after drop, send and count: drop "why"', ":": "a block is within braces: else { .. }",
     **dict.fromkeys(COMPARISONS, "a condition is no number: if c { x = 1 } else { x = 0 }"),
 }  # fmt: skip
 # The words that begin a declaration where a name or a text is after them; elsewhere they are names.
@@ -218,7 +218,9 @@ class Parser(Lexer):
             return number
         is_known = what not in ("table", "pool", "ring") or self.kind != "name" or self.place().word in {*self.names, *RESERVED}
         require(is_known, self.place(), f"there is no {what} {self.place().word}", f"{what} {self.place().word} = 0, before it, names one")
-        require(not self.sees("="), self.place(), f"the {what} is wanted here, and this is '='", "leave the = out")
+        cure = "leave the = out" if self.sees("=") else "write its number, as 0 for the first one; the pipeline file says what is in it"
+        is_number = self.kind != "string" and not self.sees("=", "{")
+        require(is_number, self.place(), f"the {what} is wanted here, and this is {self.place().word!r}", cure)
         at, value, limit = self.place(), constant_of(self.number(), NUMBERED.get(what, "")), limit or LIMITS[what]
         require(least <= value <= limit, at, f"the {what} is from {least} to {limit:,}, and this is {value:,}")
         return value
@@ -447,6 +449,8 @@ class Parser(Lexer):
         for at in self.unknown:
             fields = [(header, name) for header, it in self.headers.items() for name in (*it.fields, *it.wide)]
             cure = f"the `else` part has no {at.word}, and ends the program" if at.word == self.looked_up else number_meant(at.word, fields, numbers)
+            if self.active and cure.startswith("let "):
+                cure = f"a `def` sees no variables from outside: a parameter may have it; {cure}"
             raise SourceError(at, f"{at.word} is no variable here", cure)
 
     def packet(self) -> str:
@@ -472,7 +476,7 @@ class Parser(Lexer):
     def packet_first(self) -> str:
         """A packet named before a count, or the packet of the program."""
         word = self.place().word
-        is_number = word in self.constants or word in self.headers or self.names.get(word) == "a variable" or word == "length"
+        is_number = word in self.constants or word in self.headers or self.names.get(word) == "a variable" or word in RESERVED
         return self.packet_held() if not self.may(THIS) and self.kind == "name" and not is_number else THIS
 
     def packet_on(self) -> str:
@@ -549,7 +553,8 @@ class Parser(Lexer):
             self.may(",")
         self.refuse_unknown()
         wanted = ", ".join(function.parameters)
-        require(len(values) == len(function.parameters), at, f"{name}({wanted}) has {len(function.parameters)} numbers, and here are {len(values)}")
+        require(len(values) == len(function.parameters), at, f"{name}({wanted}) has {len(function.parameters)} numbers, and here are {len(values)}",
+                "each use has a number for each parameter")
         require(name not in self.active, at, f"{name} is used in itself", "`while` repeats statements")
         outside = self.next, self.names, self.constants, self.suffix
         self.inlined += 1
@@ -601,7 +606,7 @@ class Parser(Lexer):
         """A variable, for a number or what a table has."""
         at_name = self.name("a variable")
         name = at_name.word + self.suffix
-        self.take("=", f"let {at_name.word} = 0")
+        self.take("=", "a field is assigned without let: ipv4.ttl = 64" if self.sees(".") else f"let {at_name.word} = 0")
         if self.may("lookup"):
             self.looked_up, outside = name, self.looked_up
             found = Lookup(at, name, *self.slots("table number fallback"))
@@ -650,9 +655,18 @@ class Parser(Lexer):
         before = self.words[self.next - 2][1]
         if before.word == "drop" and before.line == first.line:
             return 'a reason is within double quotes: drop "why"'
+        near = meant(first.word, [*STATEMENTS, *DECLARATIONS, *self.functions, *self.names, "mend", "count"], 2)
         other = f"statements begin with {', '.join(STATEMENTS)}, mend, or are assignments"
         by_sign = {":": f"write {first.word} = ..", "(": f"def {first.word}() {{ .. }}, before it, gives a block this name"}
-        return cure_of(first.word, RESERVED) or by_sign.get(self.place().word, other)
+        return cure_of(first.word, RESERVED) or f"{f'did you mean {near}? ' if near else ''}{by_sign.get(self.place().word, other)}"
+
+    def cure_of_target(self, first: Place, target: Node) -> str:
+        """The cure for what was taken and cannot be assigned to."""
+        if not isinstance(target, Found):
+            return f"let y = {first.word} makes a variable"
+        if self.sees(*ASSIGNMENTS):
+            return f"its fields can: {', '.join(self.headers[first.word].fields)}"
+        return "write `else if`" if self.words[self.next - 2][1].word == "else" else CURES["rule"]
 
     def assignment(self, at: Place, mends: bool) -> Block:
         """An assignment to a variable or field."""
@@ -670,11 +684,11 @@ class Parser(Lexer):
             value = as_wide(self.operation(NUMBERS))
             return kind(at, target.high, value.high), kind(at, target.low, value.low)
         if not isinstance(target, Field) and (mends or not isinstance(target, Name)):
-            is_constant = not isinstance(target, Found)
-            cure = "mend ipv4.ttl = 64" if mends else f"let y = {first.word} makes a variable" if is_constant else CURES["rule"]
+            cure = "mend ipv4.ttl = 64" if mends else self.cure_of_target(first, target)
             raise SourceError(first, "`mend` assigns to a field" if mends else f"{first.word} cannot be assigned to", cure)
         sign = self.place()
-        cure = CURES.get(sign.word) or f"{f'{target.header}.{target.name}' if isinstance(target, Field) else first.word} = 1"
+        cure = f"{f'{target.header}.{target.name}' if isinstance(target, Field) else first.word} = 1"
+        cure = CURES[sign.word] if sign.word in ("+", "-", "set") else cure
         require(sign.word in ASSIGNMENTS, sign, f"an assignment is wanted here, and this is {sign.word!r}", cure)
         self.take()
         value = self.number()
@@ -739,14 +753,14 @@ class Parser(Lexer):
         self.sets[at.word] = self.listed()
         for item in self.sets[at.word]:
             number = item.number.high if isinstance(item.number, Wide) else item.number
-            constant_of(number)
+            constant_of(number, "a set has constants; x == y compares two numbers")
 
     def declare_def(self, _: Program) -> None:
         at, parameters = self.name("a def"), list[str]()
         self.declare(at, at.word, "a def")
         self.take("(")
         while not self.may(")"):
-            name = self.name("a parameter")
+            name = self.name("a parameter", cure=f"def {at.word}(a, b) {{ .. }} has two")
             is_new = name.word not in self.names and name.word not in parameters
             require(is_new, name, f"{name.word} is {self.names.get(name.word, 'a parameter')} already", "take another name")
             parameters.append(name.word)
@@ -793,6 +807,7 @@ class Parser(Lexer):
         at = self.name("a constant")
         self.declare(at, at.word, "a constant")
         self.take("=", f"const {at.word} = 1")
+        require(not self.sees("{"), self.place(), "a number is wanted here, and this is '{'", f"set {at.word} = {{1, 2}} names a list")
         value = self.operation(NUMBERS)
         if not isinstance(value, Wide) or not isinstance(value.high, Number):
             constant_of(as_number(value), f"let {at.word} = .. has a number that the packet gives")
@@ -825,7 +840,7 @@ class Parser(Lexer):
             require(is_fixed, at, "a given path begins at byte 0, and each header but the last has one length", cure)
 
     def declare_header(self, _: Program) -> None:
-        at = self.name("a header")
+        at = self.name("a header", cure="header mine { a:8 }")
         self.declare(at, at.word, "a header")
         header = Header(at.word, at)
         self.fields(header)
@@ -840,13 +855,13 @@ class Parser(Lexer):
 
     def fields(self, header: Header) -> None:
         """The fields of a header."""
-        self.take("{")
+        self.take("{", f"the fields are within braces: header {header.name} {{ a:8 }}")
         total = 0
         while not self.may("}"):
             name = self.name("a field", may_be_reserved=True, cure=FIELD)
             require(name.word not in header.fields, name, f"{name.word} is there twice", "take another name")
             alias = self.constant() if self.may("@") else None
-            self.take(":")
+            self.take(":", FIELD)
             bits, first = constant_of(self.number(), FIELD), total if alias is None else alias
             total += bits if alias is None else 0
             if bits == 128:
