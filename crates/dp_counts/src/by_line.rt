@@ -216,24 +216,6 @@ fn origin_of<'a>(
     }
 }
 
-/// The counts of an instruction, which belong to this line.
-fn counts_of<'a>(
-    counts: &Counts,
-    source: &NodeSource<'a>,
-    (label, instr): (usize, &Instr),
-    origin: Origin<'a>,
-) -> LineCounts<'a> {
-    let StepCounts { ran, taken, cut } = counts.step(source.node, label);
-    let is_sent = matches!(*instr, Instr::Tx { .. } | Instr::Enq { .. });
-    let passed = ran.wrapping_sub(taken).wrapping_sub(cut);
-    LineCounts {
-        origin,
-        came: ran,
-        sent: if is_sent { passed } else { 0 },
-        dropped: dropped_at(counts, source, label, instr),
-    }
-}
-
 /// Adds the counts of an instruction to those of its line.
 fn add_counts<'a>(lines: &mut Vec<LineCounts<'a>>, more: LineCounts<'a>) -> Result<(), AllocError> {
     for line in lines.as_mut_slice() {
@@ -266,10 +248,15 @@ pub fn lines_counted<'a>(
             && let Some(instr) = source.instrs.as_slice().get(step.label)
         {
             let origin = origin_of(source, (k.saturating_add(1), line.text), before);
-            let mut more = counts_of(counts, source, (step.label, instr), origin);
-            if Some(origin) == before {
-                more.came = 0;
-            }
+            let StepCounts { ran, taken, cut } = counts.step(source.node, step.label);
+            let passed = ran.wrapping_sub(taken).wrapping_sub(cut);
+            let is_sent = matches!(*instr, Instr::Tx { .. } | Instr::Enq { .. });
+            let more = LineCounts {
+                origin,
+                came: if Some(origin) == before { 0 } else { ran },
+                sent: if is_sent { passed } else { 0 },
+                dropped: dropped_at(counts, source, step.label, instr),
+            };
             add_counts(&mut lines, more)?;
             before = Some(origin);
         }

@@ -40,16 +40,6 @@ fn number_of(line: Option<usize>) -> Item<'static> {
     }
 }
 
-/// How often the jump of an instruction was taken, and what ended there; each `null` where it cannot be.
-fn outcome_of(role: Role, taken: u64) -> (Item<'static>, Item<'static>) {
-    match role {
-        Role::Plain => (Item::Null, Item::Null),
-        Role::Frees => (Item::Null, Item::Text("freed")),
-        Role::Ends => (Item::Null, Item::Text("ended")),
-        _ => (Item::Number(taken), Item::Null),
-    }
-}
-
 /// The counts of a run: its programs, in UTF-8, with their counts, the sums for each table and each ring, and the least free buffers of each pool.
 #[derive(Clone, Copy)]
 pub struct CountsDocument<'p, 'a> {
@@ -73,7 +63,12 @@ impl CountsDocument<'_, '_> {
         for line in source.lines.as_slice() {
             if let Some(step) = line.step {
                 let counts = self.counts.step(source.node, step.label);
-                let (taken, ends) = outcome_of(step.role, counts.taken);
+                let (taken, ends) = match step.role {
+                    Role::Plain => (Item::Null, Item::Null),
+                    Role::Frees => (Item::Null, Item::Text("freed")),
+                    Role::Ends => (Item::Null, Item::Text("ended")),
+                    _ => (Item::Number(counts.taken), Item::Null),
+                };
                 let (comment, text) = parts_of(line.text);
                 let members = [
                     ("comment", comment),
