@@ -92,6 +92,22 @@ fn say_cause(error: PipeError, err: &mut Text) {
     err.say(words);
 }
 
+impl Because<'_> {
+    /// Adds its lines.
+    fn say(self, err: &mut Text) {
+        if let Some(file) = self.file {
+            err.say(format_args!("  file: {file}\n"));
+        }
+        match self.reason {
+            FaultReason::Read(error) => err.say(format_args!("  because: {error}\n")),
+            FaultReason::Words(words) => err.say(format_args!("  because: {words}\n")),
+        }
+        if let Some(help) = self.help {
+            err.say(format_args!("  help: {help}\n"));
+        }
+    }
+}
+
 impl<'a> Fault<'a> {
     /// The fault of a file that was not read.
     pub fn of_unread(unread: Unread<'a>) -> Fault<'a> {
@@ -124,18 +140,7 @@ impl<'a> Fault<'a> {
         err.say(format_args!("{self}\n"));
         match self {
             Fault::Memory => {}
-            Fault::File(_, Because { file, reason, help }) => {
-                if let Some(file) = file {
-                    err.say(format_args!("  file: {file}\n"));
-                }
-                match reason {
-                    FaultReason::Read(error) => err.say(format_args!("  because: {error}\n")),
-                    FaultReason::Words(words) => err.say(format_args!("  because: {words}\n")),
-                }
-                if let Some(help) = help {
-                    err.say(format_args!("  help: {help}\n"));
-                }
-            }
+            Fault::File(_, because) => because.say(err),
             Fault::Pipeline(_, Some(Unread { name, error })) => {
                 err.say(format_args!("  file: {name}\n  because: {error}\n"));
             }
