@@ -1,6 +1,6 @@
 //! Says which line of a pipeline file is at fault, and what helps.
 
-use crate::program_help::{Nearest, say_place};
+use crate::program_help::{Nearest, count_newlines, say_place};
 use crate::route_files::{RouteFile, route_in};
 use dp_console::Text;
 use dp_lang::{SourceLine, source_line};
@@ -108,11 +108,13 @@ fn key_in(line: &str) -> Option<&str> {
     Some(key.trim().trim_matches('"'))
 }
 
-/// How often a line has a text in quotes.
-fn count_quoted(line: &str, text: &str) -> usize {
-    let double = line.split('"').filter(|piece| *piece == text).count();
-    let single = line.split('\'').filter(|piece| *piece == text).count();
-    double.saturating_add(single)
+/// How often a line has a text between two quotes of this kind.
+fn count_quoted(line: &str, quote: char, text: &str) -> usize {
+    let mut count = 0usize;
+    for piece in line.split(quote) {
+        count = count.saturating_add(usize::from(piece == text));
+    }
+    count
 }
 
 /// The values of an array at a key.
@@ -277,7 +279,8 @@ impl<'a> PipelineFile<'a> {
         let first = self.line_of(Part::Table, index, "routes")?;
         let (before, mut left) = (first.number.saturating_sub(1), equal);
         for (k, line) in self.text.lines().enumerate().skip(before) {
-            let count = count_quoted(line, words);
+            let double = count_quoted(line, '"', words);
+            let count = count_quoted(line, '\'', words).saturating_add(double);
             if left < count {
                 return source_line(self.text, k.saturating_add(1));
             }
@@ -327,9 +330,9 @@ fn say_program(err: &mut Text, file: &str) -> bool {
 
 /// The line with the byte at this offset.
 fn line_of_offset(text: &str, offset: usize) -> Option<SourceLine<'_>> {
-    let before = text.as_bytes().iter().take(offset);
-    let number = before.filter(|byte| **byte == b'\n').count();
-    source_line(text, number.saturating_add(1))
+    let bytes = text.as_bytes();
+    let before = bytes.get(..offset).unwrap_or(bytes);
+    source_line(text, count_newlines(before).saturating_add(1))
 }
 
 /// Says which line of a pipeline file, or of a file with more routes, is at fault, and what helps, for a text that was refused with this error. Says
